@@ -1,0 +1,50 @@
+-- Load files, from their first line and the lines behind it.
+use Rattle.std.proofs.Common.{◌≡◌, ℕ, ◌<◌, ◌^◌, List, ◌++◌, sym, ◌∙◌, ap, arith, Ok, Err, inr}
+use Rattle.std.specs.Prelude.{flat_map, IfOk, IfErr, Result}
+use Rattle.rc_instr.specs.Rules.{Limits, IsRules}
+use Rattle.rc_instr.specs.Warrior.{Fits, IsProgram, Program, program}
+use Rattle.rc_instr.specs.LoadText.{line_text, start_text, load_text}
+use Rattle.rc_instr.specs.LoadRefusal.{AreLines, AreUnreadable, IsUnreadable}
+use Rattle.rc_instr.specs.declared.instruction.Instruction.{Instruction}
+use Rattle.rc_instr.specs.declared.loadfile.fault.LoadFault.{LoadFault}
+use Rattle.rc_instr.specs.declared.loadfile.fault.LoadFault.TheVariants.{Malformed, Warrior, OutOfMemory}
+use Rattle.rc_instr.proofs.Injective.{load_one}
+
+-- the first line and the others make the text
+pub joined : (m start : ℕ) (bytes lines : List ℕ) (code : List Instruction) → bytes ≡ start_text start ++ lines → AreLines m lines code →
+    bytes ≡ load_text m (program code start)
+unfolding load_text
+joined m start bytes lines code e h = e ∙ ap (λ x. start_text start ++ x) h.lines
+
+-- the text is made of the first line and the others
+pub parted : (m : ℕ) (bytes : List ℕ) (w : Program) → bytes ≡ load_text m w → bytes ≡ start_text w.start ++ flat_map (line_text m) w.code
+unfolding load_text
+parted m bytes w e = e
+
+-- a warrior that was read behind the first line is one whose text was read
+pub found_load : (rules : Limits) (start : ℕ) (bytes lines : List ℕ) (r : Result Program LoadFault) → bytes ≡ start_text start ++ lines →
+    IfOk r (λ w. AreLines rules.core lines w.code × (w.start ≡ start) × IsProgram w × Fits rules w) →
+    IfOk r (λ w. (bytes ≡ load_text rules.core w) × IsProgram w × Fits rules w)
+found_load rules start bytes lines (Ok w) e h =
+    (joined rules.core w.start bytes lines w.code (e ∙ ap (λ s. start_text s ++ lines) (sym h.1)) h.0, h.2, h.3)
+found_load rules start bytes lines (Err f) e h = h
+
+-- a fault of the lines behind the first is one of the text
+unreadable : (rules : Limits) (start : ℕ) (bytes lines : List ℕ) (f : LoadFault) → bytes ≡ start_text start ++ lines →
+    AreUnreadable f rules lines start → IsUnreadable f rules bytes
+unreadable rules start bytes lines (Malformed line) e h = inr (start, lines, e, h)
+unreadable rules start bytes lines (Warrior error) e h = (program h.0 start, joined rules.core start bytes lines h.0 e h.1, h.2)
+unreadable rules start bytes lines OutOfMemory e h = tt
+
+pub refused_load : (rules : Limits) (start : ℕ) (bytes lines : List ℕ) (r : Result Program LoadFault) → bytes ≡ start_text start ++ lines →
+    IfErr r (λ f. AreUnreadable f rules lines start) → IfErr r (λ f. IsUnreadable f rules bytes)
+refused_load rules start bytes lines (Ok w) e h = h
+refused_load rules start bytes lines (Err f) e h = unreadable rules start bytes lines f e h
+
+-- equal texts are texts of equal warriors
+pub load_law : (rules : Limits) (v w : Program) → IsRules rules → IsProgram v → IsProgram w → Fits rules v → Fits rules w →
+    load_text rules.core v ≡ load_text rules.core w → v ≡ w
+load_law rules v w r pv pw fv fw e =
+    let sv : v.start < 2 ^ 16 = omega (arith, pv.short, pv.inside) in
+    let sw : w.start < 2 ^ 16 = omega (arith, pw.short, pw.inside) in
+    load_one rules.core v w r.core.1 sv sw fv.numbers fw.numbers e

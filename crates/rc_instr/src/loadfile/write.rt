@@ -1,0 +1,199 @@
+//! Writing load files.
+ghost use Rattle.std.specs.Prelude.{◌≡◌, ◌<◌, ◌≤◌, ◌++◌, OnOk, OnErr, All, codes, flat_map};
+ghost use Rattle.std.specs.Fmt.{decimal};
+ghost use Rattle.rc_instr.specs.Warrior.{IsBelow, Fits};
+ghost use Rattle.rc_instr.specs.LoadText.{opcode_text, modifier_text, mode_text, number_text, operand_text, line_text, start_text, load_text};
+ghost use Rattle.rc_instr.specs.Appending.{IsFront};
+
+use crate::instruction::{Instruction, Mode, Modifier, Opcode};
+use crate::memory::OutOfMemory;
+use crate::rules::Rules;
+use crate::warrior::Warrior;
+use itoa::Buffer;
+use std::alloc::Global;
+
+/// The word of an opcode.
+fn opcode_word(opcode: Opcode) -> &'static [u8]
+    ensures { result.now ≡ opcode_text opcode }
+{
+    match opcode {
+        Opcode::Dat => b"DAT",
+        Opcode::Mov => b"MOV",
+        Opcode::Add => b"ADD",
+        Opcode::Sub => b"SUB",
+        Opcode::Mul => b"MUL",
+        Opcode::Div => b"DIV",
+        Opcode::Mod => b"MOD",
+        Opcode::Jmp => b"JMP",
+        Opcode::Jmz => b"JMZ",
+        Opcode::Jmn => b"JMN",
+        Opcode::Djn => b"DJN",
+        Opcode::Seq => b"SEQ",
+        Opcode::Sne => b"SNE",
+        Opcode::Slt => b"SLT",
+        Opcode::Spl => b"SPL",
+        Opcode::Nop => b"NOP",
+    }
+}
+
+/// The word of a modifier.
+fn modifier_word(modifier: Modifier) -> &'static [u8]
+    ensures { result.now ≡ modifier_text modifier }
+{
+    match modifier {
+        Modifier::A => b"A",
+        Modifier::B => b"B",
+        Modifier::AB => b"AB",
+        Modifier::BA => b"BA",
+        Modifier::F => b"F",
+        Modifier::X => b"X",
+        Modifier::I => b"I",
+    }
+}
+
+/// The sign of a mode.
+fn mode_sign(mode: Mode) -> &'static [u8]
+    ensures { result.now ≡ mode_text mode }
+{
+    match mode {
+        Mode::Immediate => b"#",
+        Mode::Direct => b"$",
+        Mode::AIndirect => b"*",
+        Mode::BIndirect => b"@",
+        Mode::APredecrement => b"{",
+        Mode::BPredecrement => b"<",
+        Mode::APostincrement => b"}",
+        Mode::BPostincrement => b">",
+    }
+}
+
+/// Appends bytes.
+#[tactic(auto, using(crate::proofs::Appends::appends))]
+fn append(out: &mut Vec<u8>, bytes: &[u8]) -> Result<(), OutOfMemory>
+    ensures ok { OnOk result (out.new.items ≡ out.old.items ++ bytes.now) }
+    ensures front { IsFront out.old.items out.new.items }
+{
+    out.extend_from_slice(bytes)?;
+    Ok(())
+}
+
+/// Appends a number in decimal.
+fn append_decimal(out: &mut Vec<u8>, number: u32) -> Result<(), OutOfMemory>
+    ensures ok { OnOk result (out.new.items ≡ out.old.items ++ decimal number) }
+    ensures front { IsFront out.old.items out.new.items }
+{
+    append(out, Buffer::new().format(number).as_bytes())
+}
+
+/// Appends a number of an instruction.
+#[tactic(auto, using(crate::proofs::Appends::appends), unfolding(crate::specs::LoadText::number_text))]
+fn append_number(out: &mut Vec<u8>, core: u32, number: u16) -> Result<(), OutOfMemory>
+    requires { (number < core) × (core ≤ 65535) }
+    ensures ok { OnOk result (out.new.items ≡ out.old.items ++ number_text core number) }
+    ensures front { IsFront out.old.items out.new.items }
+{
+    let number = u32::from(number);
+    if 2 * number <= core {
+        return append_decimal(out, number);
+    }
+    append(out, b"-")?;
+    append_decimal(out, core - number)
+}
+
+/// Appends an operand.
+#[tactic(auto, using(crate::proofs::Appends::appends), unfolding(crate::specs::LoadText::operand_text))]
+fn append_operand(out: &mut Vec<u8>, core: u32, mode: Mode, number: u16) -> Result<(), OutOfMemory>
+    requires { (number < core) × (core ≤ 65535) }
+    ensures ok { OnOk result (out.new.items ≡ out.old.items ++ operand_text core mode number) }
+    ensures front { IsFront out.old.items out.new.items }
+{
+    append(out, mode_sign(mode))?;
+    append_number(out, core, number)
+}
+
+/// Appends an opcode, a dot, a modifier and a space.
+#[tactic(auto, using(crate::proofs::Appends::appends))]
+fn append_head(out: &mut Vec<u8>, opcode: Opcode, modifier: Modifier) -> Result<(), OutOfMemory>
+    ensures ok { OnOk result (out.new.items ≡ out.old.items ++ opcode_text opcode ++ codes "." ++ modifier_text modifier ++ codes " ") }
+    ensures front { IsFront out.old.items out.new.items }
+{
+    append(out, opcode_word(opcode))?;
+    append(out, b".")?;
+    append(out, modifier_word(modifier))?;
+    append(out, b" ")
+}
+
+/// Appends the line of an instruction.
+#[tactic(auto, using(crate::proofs::Appends::appends), unfolding(crate::specs::LoadText::line_text))]
+fn append_line(out: &mut Vec<u8>, core: u32, instruction: &Instruction) -> Result<(), OutOfMemory>
+    requires core { core ≤ 65535 }
+    requires below { IsBelow core instruction.now }
+    ensures ok { OnOk result (out.new.items ≡ out.old.items ++ line_text core instruction.now) }
+    ensures front { IsFront out.old.items out.new.items }
+{
+    append_head(out, instruction.opcode, instruction.modifier)?;
+    append_operand(out, core, instruction.a_mode, instruction.a_number)?;
+    append(out, b", ")?;
+    append_operand(out, core, instruction.b_mode, instruction.b_number)?;
+    append(out, b"\n")
+}
+
+/// Appends the line of the start.
+#[tactic(auto, using(crate::proofs::Appends::appends), unfolding(crate::specs::LoadText::start_text))]
+fn append_start(out: &mut Vec<u8>, start: u32) -> Result<(), OutOfMemory>
+    ensures ok { OnOk result (out.new.items ≡ out.old.items ++ start_text start) }
+    ensures front { IsFront out.old.items out.new.items }
+{
+    append(out, b"ORG ")?;
+    append_decimal(out, start)?;
+    append(out, b"\n")
+}
+
+/// Appends the lines of instructions.
+#[tactic(auto, using(crate::proofs::Appends::appends))]
+fn append_lines(out: &mut Vec<u8>, core: u32, code: &[Instruction]) -> Result<(), OutOfMemory>
+    requires core { core ≤ 65535 }
+    requires below { All (IsBelow core) code.now }
+    ensures ok { OnOk result (out.new.items ≡ out.old.items ++ flat_map (line_text core) code.now) }
+    ensures front { IsFront out.old.items out.new.items }
+{
+    for instruction in code {
+        append_line(out, core, instruction)?;
+    }
+    Ok(())
+}
+
+/// Appends the load text of a warrior.
+#[tactic(auto, using(crate::proofs::Appends::appends), unfolding(crate::specs::LoadText::load_text))]
+fn append_warrior(out: &mut Vec<u8>, core: u32, warrior: &Warrior) -> Result<(), OutOfMemory>
+    requires core { core ≤ 65535 }
+    requires below { All (IsBelow core) warrior.now.code }
+    ensures ok { OnOk result (out.new.items ≡ out.old.items ++ load_text core warrior.now) }
+    ensures front { IsFront out.old.items out.new.items }
+{
+    append_start(out, warrior.start())?;
+    append_lines(out, core, warrior.code())
+}
+
+/// Appends the load text of a warrior to `out`. The warrior keeps the rules.
+///
+/// Only want of memory refuses it, and then `out` is as it was. The format is this project's own.
+#[tactic(auto, using(crate::proofs::Appends::cut_back))]
+pub fn write_loadfile(
+    alloc: Global,
+    warrior: &Warrior,
+    rules: &Rules,
+    out: &mut Vec<u8>,
+) -> Result<(), OutOfMemory>
+    requires { Fits rules.now warrior.now }
+    ensures ok { OnOk result (out.new.items ≡ out.old.items ++ load_text rules.now.core warrior.now) }
+    ensures err { OnErr result (out.new.items ≡ out.old.items) }
+{
+    let _ = alloc;
+    let length = out.len();
+    let written = append_warrior(out, rules.core(), warrior);
+    if written.is_err() {
+        out.truncate(length);
+    }
+    written
+}

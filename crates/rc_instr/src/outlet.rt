@@ -1,0 +1,82 @@
+//! Outlets for bytes: writers that give up at the first failure, and remember it.
+ghost use Rattle.std.specs.Prelude.{◌≡◌, ◌<◌, ◌≤◌, false, take, length, IfOk, IsErr, IsTrue, is_err};
+ghost use Rattle.std.specs.Io.KnownBytes.{Appends};
+
+use std::io::Write;
+use std::marker::Model;
+use thiserror::Error;
+
+/// A writer with a memory of its first failure. After it the writer is not called again.
+#[derive(Drop)]
+pub struct Outlet<X: Write> {
+    inner: X,
+    has_failed: bool,
+}
+
+impl<X: Write> Model for Outlet<X> {
+    ghost use Rattle.rc_instr.specs.Outlet.{OutletView};
+
+    ghost Value = { OutletView };
+
+    ghost view = { λ o. record { bytes = X.contents o.inner; failed = o.has_failed } };
+}
+
+/// A write failed, now or earlier.
+#[derive(Clone, Copy, Debug, PartialEq, Eq, Error)]
+#[error("a write failed")]
+pub struct WriteFailed;
+
+impl<X: Write> Outlet<X> {
+    /// An outlet over a writer, which has not failed yet.
+    pub fn new(inner: X) -> Outlet<X>
+        ensures bytes { result.bytes ≡ X.contents inner }
+        ensures failed { result.failed ≡ false }
+    {
+        Outlet {
+            inner,
+            has_failed: false,
+        }
+    }
+
+    /// Writes some of the first bytes of a piece, and answers how many: at least one, where the piece is not empty.
+    ///
+    /// Where the writer fails, or takes no byte of a piece that is not empty, the outlet has failed for good:
+    /// this call and every later one answer `WriteFailed`, the later ones without a call of the writer.
+    pub fn write(&mut self, piece: &[u8]) -> Result<usize, WriteFailed>
+        ensures count { IfOk result (λ n. n ≤ length piece.now) }
+        ensures some { IfOk result (λ n. 0 < length piece.now → 0 < n) }
+        ensures bytes { IfOk result (λ n. Appends self.old.bytes self.new.bytes (take n piece.now)) }
+        ensures failed { self.new.failed ≡ is_err result }
+        ensures again { IsTrue self.old.failed → IsErr result }
+        ensures unchanged { IsTrue self.old.failed → self.new ≡ self.old }
+    {
+        if self.has_failed {
+            return Err(WriteFailed);
+        }
+        match self.inner.write(piece) {
+            Ok(count) if count > 0 || piece.is_empty() => Ok(count),
+            _ => {
+                self.has_failed = true;
+                Err(WriteFailed)
+            }
+        }
+    }
+
+    /// Whether a write has failed.
+    pub fn failed(&self) -> bool
+        ensures { result ≡ self.now.failed }
+    {
+        self.has_failed
+    }
+
+    /// The writer, with what it was given.
+    pub fn into_inner(self) -> X
+        ensures { X.contents result ≡ self.bytes }
+    {
+        let Outlet {
+            inner,
+            has_failed: _,
+        } = self;
+        inner
+    }
+}
