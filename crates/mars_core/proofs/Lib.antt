@@ -1,0 +1,7 @@
+pub mod Below
+pub mod Sums
+pub mod Queues
+pub mod Least
+pub mod Placing
+pub mod Going
+pub mod Outcomes

@@ -1,0 +1,11 @@
+-- Code that is written into a core, one instruction after another.
+use Rattle.std.proofs.Common.{◌≡◌, ℕ, ◌+◌, ◌≤◌, List, length, sym, ◌∙◌}
+use Rattle.std.proofs.lemmas.List.Edits.{sets, sets-eq}
+use Rattle.rc_instr.specs.declared.instruction.Instruction.{Instruction}
+use Rattle.mars_core.specs.Core.{placed_at}
+
+-- all of it is written
+pub placed : (core result : List Instruction) (at : ℕ) (code : List Instruction) → at + length code ≤ length core →
+    result ≡ sets core at code → result ≡ placed_at core at code
+unfolding placed_at
+placed core result at code room e = e ∙ sets-eq code core at room

@@ -1,0 +1,29 @@
+-- Queues of tasks.
+use Rattle.std.proofs.Common.{◌≡◌, ℕ, ◌<◌, List, [], ◌∷◌, ◌++◌, length, drop, true, false, refl, subst}
+use Rattle.std.specs.Prelude.{Some, slice_get, nat_lt, if◌then◌else◌}
+use Rattle.std.proofs.lemmas.List.Elements.{All-tail, All-drop, All-push, All-head}
+use Rattle.mars_core.specs.Core.{AreTasks}
+use Rattle.mars_core.specs.State.{appended}
+
+-- a list whose first item is x
+pub first_is : (xs : List ℕ) (x : ℕ) → Some x ≡ slice_get xs 0 → xs ≡ x ∷ drop 1 xs
+first_is [] x e = absurd (cc)
+first_is (y ∷ ys) x e = let h : x ≡ y = cc in rw h refl
+
+pub first_below : (m : ℕ) (xs : List ℕ) (x : ℕ) → Some x ≡ slice_get xs 0 → AreTasks m xs → x < m
+first_below m xs x e h =
+    let k : AreTasks m (x ∷ drop 1 xs) = subst (λ (ys : List ℕ). AreTasks m ys) (first_is xs x e) h in
+    All-head (λ t. t < m) x (drop 1 xs) k.each
+
+pub rest_below : (m : ℕ) (xs : List ℕ) → AreTasks m xs → AreTasks m (drop 1 xs)
+rest_below m xs h = record { each = All-drop (λ t. t < m) 1 xs h.each }
+
+pub appended_below : (m limit : ℕ) (queued tasks : List ℕ) → AreTasks m tasks → AreTasks m queued → AreTasks m (appended limit tasks queued)
+appended_below m limit [] tasks h k = h
+appended_below m limit (t ∷ ts) tasks h k =
+    appended_below m limit ts (if nat_lt (length tasks) limit then tasks ++ t ∷ [] else tasks)
+    (elim (nat_lt (length tasks) limit) as (λ b. AreTasks m (if b then tasks ++ t ∷ [] else tasks))
+    [ true ↦ record { each = All-push (λ t. t < m) tasks t h.each (All-head (λ t. t < m) t ts k.each) } | false ↦ h ])
+    (record { each = All-tail (λ t. t < m) t ts k.each })
+
+pub ruleset queues = (first_is, first_below, rest_below, appended_below)

@@ -1,0 +1,28 @@
+-- How the code's values stand for those of the definitions.
+use Rattle.std.specs.Prelude.{ℕ, List, [], ◌∷◌}
+use Rattle.rc_instr.specs.declared.instruction.Instruction.{Instruction}
+use Rattle.mars_core.specs.Numbers.{sum_of}
+use Rattle.mars_core.specs.Operand.{Operand}
+use Rattle.mars_core.specs.declared.effect.Queued.{Queued}
+use Rattle.mars_core.specs.declared.effect.Queued.TheVariants.{Nothing, Next, Skip, Jump, Split}
+
+-- an operand by the address to which it points, in place of the pointer
+pub record Located : Type 0 where
+  pub address : ℕ
+  pub copy : Instruction
+  pub core : List Instruction
+
+abbrev pub located : ℕ → Instruction → List Instruction → Located
+located address copy core = record { address = address; copy = copy; core = core }
+
+-- of the task at pc
+abbrev pub located_from : ℕ → ℕ → Operand → Located
+located_from m pc o = located (sum_of m pc o.pointer) o.copy o.core
+
+-- the addresses that are queued by the task at pc, where the A-operand points to `jump`
+abbrev pub addresses : ℕ → ℕ → ℕ → Queued → List ℕ
+addresses m pc jump Nothing = []
+addresses m pc jump Next = sum_of m pc 1 ∷ []
+addresses m pc jump Skip = sum_of m pc 2 ∷ []
+addresses m pc jump Jump = jump ∷ []
+addresses m pc jump Split = sum_of m pc 1 ∷ jump ∷ []

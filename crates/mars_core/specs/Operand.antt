@@ -1,0 +1,43 @@
+-- The evaluation of an operand (1994 draft): where it points, a copy of the cell there, and what becomes of the core.
+use Rattle.std.specs.Prelude.{ℕ, List}
+use Rattle.rc_instr.specs.declared.instruction.Instruction.{Instruction}
+use Rattle.rc_instr.specs.declared.instruction.Mode.{Mode}
+use Rattle.rc_instr.specs.declared.instruction.Mode.TheVariants.{Immediate, Direct, AIndirect, BIndirect, APredecrement, BPredecrement, APostincrement, BPostincrement}
+use Rattle.mars_core.specs.Numbers.{sum_of, difference_of, number_of}
+use Rattle.mars_core.specs.Core.{cell_at, changed_at}
+use Rattle.mars_core.specs.declared.number.Field.{Field}
+use Rattle.mars_core.specs.declared.number.Field.TheVariants.{ANumber, BNumber}
+
+-- the pointer, relative to the task's place; a copy of the cell that it leads to; the core afterwards
+pub record Operand : Type 0 where
+  pub pointer : ℕ
+  pub copy : Instruction
+  pub core : List Instruction
+
+-- the operand of the task at pc that has this pointer, in a core that stays as it is
+abbrev pub pointing : ℕ → List Instruction → ℕ → ℕ → Operand
+pointing m core pc pointer = record { pointer = pointer; copy = cell_at core (sum_of m pc pointer); core = core }
+
+-- n and the number that the cell at pc + n holds
+abbrev pub indirect : ℕ → List Instruction → ℕ → ℕ → Field → Operand
+indirect m core pc n field = pointing m core pc (sum_of m n (number_of field (cell_at core (sum_of m pc n))))
+
+-- the same, after that number is lowered by 1
+abbrev pub predecrement : ℕ → List Instruction → ℕ → ℕ → Field → Operand
+predecrement m core pc n field = indirect m (changed_at core (sum_of m pc n) field (λ x. difference_of m x 1)) pc n field
+
+-- the same as indirect; after the copy is taken, that number is raised by 1
+abbrev pub postincrement : ℕ → List Instruction → ℕ → ℕ → Field → Operand
+postincrement m core pc n field =
+    record (indirect m core pc n field) { core = changed_at core (sum_of m pc n) field (λ x. sum_of m x 1) }
+
+-- in a core of m cells, of the task at pc, by the mode and the number n
+unfoldable pub operand_of : ℕ → List Instruction → ℕ → Mode → ℕ → Operand
+operand_of m core pc Immediate n = pointing m core pc 0
+operand_of m core pc Direct n = pointing m core pc n
+operand_of m core pc AIndirect n = indirect m core pc n ANumber
+operand_of m core pc BIndirect n = indirect m core pc n BNumber
+operand_of m core pc APredecrement n = predecrement m core pc n ANumber
+operand_of m core pc BPredecrement n = predecrement m core pc n BNumber
+operand_of m core pc APostincrement n = postincrement m core pc n ANumber
+operand_of m core pc BPostincrement n = postincrement m core pc n BNumber

@@ -1,0 +1,210 @@
+//! The arena: a core, the tasks of two warriors, and fights in it.
+ghost use Rattle.std.specs.Prelude.{◌≡◌, ◌+◌, ◌*◌, ◌<◌, ◌≤◌, length, slice_index, IfOk};
+ghost use Rattle.rc_instr.specs.Warrior.{Fits};
+ghost use Rattle.mars_core.specs.Core.{cell_at};
+ghost use Rattle.mars_core.specs.State.{blank_of, start_of, turn_of, play_of, tasks_of};
+
+use crate::cells::{Cells, PlainCells};
+use crate::fight::{alternate, place};
+use crate::side::Side;
+use crate::turn::{append, take_turn};
+use circular_buffer::HeapCircularBuffer;
+use rc_instr::instruction::Instruction;
+use rc_instr::memory::OutOfMemory;
+use rc_instr::rules::Rules;
+use rc_instr::warrior::Warrior;
+use std::alloc::Global;
+use std::marker::Model;
+
+/// How a fight ended.
+#[derive(Clone, Copy, Debug, PartialEq, Eq)]
+pub struct Outcome {
+    /// The candidate's points: 3 for a win, 1 for a tie, 0 for a loss.
+    pub points: u8,
+    /// How many turns were made, those of both sides counted.
+    pub turns: u32,
+}
+
+/// A core and the tasks of two warriors. Contracts see the rules, the state, the turns made since the load, and the marks.
+#[derive(Drop)]
+pub struct Arena<C: Cells> {
+    cells: C,
+    candidate: HeapCircularBuffer<u16>,
+    opponent: HeapCircularBuffer<u16>,
+    turns: u32,
+    rules: Rules,
+}
+
+impl<C: Cells> Model for Arena<C> {
+    ghost use Rattle.mars_core.specs.Arena.{ArenaView, arena, IsArena};
+
+    ghost Value = { ArenaView };
+
+    ghost view = { λ a. arena a.rules (C.items a.cells) a.candidate.items a.opponent.items a.turns (C.marks a.cells) };
+
+    ghost invariant = { λ a. IsArena a.rules (C.items a.cells) a.candidate a.opponent a.turns };
+}
+
+impl<C: Cells> Arena<C> {
+    ghost use Rattle.mars_core.specs.Fight.{outcome_of, points_in};
+
+    /// Loads the candidate from address 0 and the opponent from address `at`, and gives each one task at its start.
+    ///
+    /// The arena is blank, both warriors keep its rules, and `at` is at least the distance of the rules and at most the
+    /// core size less the distance. The marks grow by at most the two code lengths. That the candidate stands at 0 is this project's own.
+    #[tactic(auto, unfolding(crate::specs::State::start_of))]
+    pub fn load(&mut self, candidate: &Warrior, opponent: &Warrior, at: u32)
+        requires blank { (self.old.state ≡ blank_of self.old.rules.core) × (self.old.turns ≡ 0) }
+        requires candidate { Fits self.old.rules candidate.now }
+        requires opponent { Fits self.old.rules opponent.now }
+        requires at { (self.old.rules.distance ≤ at) × (at + self.old.rules.distance ≤ self.old.rules.core) }
+        ensures state { self.new.state ≡ start_of self.old.rules.core candidate.now opponent.now at }
+        ensures turns { self.new.turns ≡ 0 }
+        ensures rules { self.new.rules ≡ self.old.rules }
+        ensures marks { self.new.marks ≤ self.old.marks + length candidate.now.code + length opponent.now.code }
+    {
+        let size = self.rules.core();
+        place(&mut self.cells, size, 0, candidate.code());
+        place(&mut self.cells, size, at, opponent.code());
+        append(&mut self.candidate, candidate.start());
+        append(&mut self.opponent, at + opponent.start());
+    }
+
+    /// Makes one turn of a side: its first task is taken out and makes a step, and what that queues is appended while
+    /// there is room (1994 draft). A side without tasks leaves the state as it is, and the turn is counted.
+    ///
+    /// Fewer than two turns a cycle of the rules were made since the load. The marks grow by at most 3.
+    pub fn step(&mut self, side: Side)
+        requires { self.old.turns < 2 * self.old.rules.cycles }
+        ensures state { self.new.state ≡ turn_of self.old.rules.tasks self.old.state side }
+        ensures turns { self.new.turns ≡ self.old.turns + 1 }
+        ensures rules { self.new.rules ≡ self.old.rules }
+        ensures marks { self.new.marks ≤ self.old.marks + 3 }
+    {
+        let size = self.rules.core();
+        match side {
+            Side::Candidate => take_turn(&mut self.cells, &mut self.candidate, size),
+            Side::Opponent => take_turn(&mut self.cells, &mut self.opponent, size),
+        }
+        self.turns += 1;
+    }
+
+    /// Notes how many turns a fight took, and answers its outcome, which the tasks that are left show.
+    fn end(&mut self, turns: u32) -> Outcome
+        requires { turns ≤ 2 * self.old.rules.cycles }
+        ensures points { result.points ≡ points_in self.old.state }
+        ensures result { result.turns ≡ turns }
+        ensures arena { self.new ≡ record self.old { turns = turns } }
+    {
+        self.turns = turns;
+        let points = if self.opponent.is_empty() {
+            3
+        } else if self.candidate.is_empty() {
+            0
+        } else {
+            1
+        };
+        Outcome { points, turns }
+    }
+
+    /// Fights to the end: turns alternate from the first mover, until a side has no task, and at most for the cycles of the rules,
+    /// in each of which both sides have a turn.
+    ///
+    /// No turn was made since the load. The candidate gets 3 points where the opponent has no task left, 0 where it has none
+    /// itself, and 1 where both have tasks after all cycles (pMARS's points for two warriors). The marks grow by at most 3 a turn.
+    pub fn run(&mut self, first: Side) -> Outcome
+        requires { self.old.turns ≡ 0 }
+        ensures outcome { result ≡ outcome_of self.old.rules.tasks self.old.state first self.old.rules.cycles }
+        ensures state { self.new.state ≡ play_of self.old.rules.tasks self.old.state first result.turns }
+        ensures turns { self.new.turns ≡ result.turns }
+        ensures rules { self.new.rules ≡ self.old.rules }
+        ensures marks { self.new.marks ≤ self.old.marks + 3 * result.turns }
+    {
+        let size = self.rules.core();
+        let cycles = self.rules.cycles();
+        match first {
+            Side::Candidate => {
+                let (mine, theirs) = (&mut self.candidate, &mut self.opponent);
+                let turns = alternate(&mut self.cells, mine, theirs, size, cycles);
+                self.end(turns)
+            }
+            Side::Opponent => {
+                let (mine, theirs) = (&mut self.opponent, &mut self.candidate);
+                let turns = alternate(&mut self.cells, mine, theirs, size, cycles);
+                self.end(turns)
+            }
+        }
+    }
+
+    /// Makes the arena blank again, and answers how many cells that set: the marks.
+    pub fn reset(&mut self) -> u32
+        ensures count { result ≡ self.old.marks }
+        ensures state { self.new.state ≡ blank_of self.old.rules.core }
+        ensures turns { self.new.turns ≡ 0 }
+        ensures rules { self.new.rules ≡ self.old.rules }
+        ensures marks { self.new.marks ≡ C.new_marks self.old.rules.core }
+    {
+        self.candidate.clear();
+        self.opponent.clear();
+        self.turns = 0;
+        self.cells.restore()
+    }
+
+    /// The cell at an address below the core size.
+    pub fn cell(&self, at: u32) -> Instruction
+        requires { at < self.now.rules.core }
+        ensures { result ≡ cell_at self.now.state.core at }
+    {
+        self.cells.get(at)
+    }
+
+    /// How many tasks a side has.
+    pub fn task_count(&self, side: Side) -> u32
+        ensures { result ≡ length (tasks_of side self.now.state) }
+    {
+        match side {
+            Side::Candidate => self.candidate.len() as u32,
+            Side::Opponent => self.opponent.len() as u32,
+        }
+    }
+
+    /// The address of a side's task of that number, counted from 0, which makes the side's next step. The number is below the count of its tasks.
+    pub fn task(&self, side: Side, number: u32) -> u32
+        requires { number < length (tasks_of side self.now.state) }
+        ensures { result ≡ slice_index (tasks_of side self.now.state) number }
+    {
+        let task = match side {
+            Side::Candidate => self.candidate.get(number as usize),
+            Side::Opponent => self.opponent.get(number as usize),
+        };
+        task.copied().map_or(0, u32::from)
+    }
+
+    /// How many turns were made since the load, those of both sides counted.
+    pub fn turns(&self) -> u32
+        ensures { result ≡ self.now.turns }
+    {
+        self.turns
+    }
+}
+
+impl Arena<PlainCells> {
+    ghost use Rattle.mars_core.specs.Arena.{blank_arena};
+
+    /// A blank arena over plain cells. It takes all the memory that fights in it will need: the cells, and a queue for
+    /// each side of as many tasks as the rules allow. Only want of memory refuses it.
+    pub fn try_new(alloc: Global, rules: &Rules) -> Result<Arena<PlainCells>, OutOfMemory>
+        ensures { IfOk result (λ a. a ≡ blank_arena rules.now rules.now.core) }
+    {
+        let cells = PlainCells::try_new(alloc, rules.core())?;
+        let candidate = HeapCircularBuffer::with_capacity(alloc, rules.tasks() as usize)?;
+        let opponent = HeapCircularBuffer::with_capacity(alloc, rules.tasks() as usize)?;
+        Ok(Arena {
+            cells,
+            candidate,
+            opponent,
+            turns: 0,
+            rules: *rules,
+        })
+    }
+}

@@ -1,0 +1,168 @@
+//! What opcodes do.
+ghost use Rattle.std.specs.Prelude.{◌≡◌, ◌<◌, ◌≤◌, ◌+◌, slice_set, if◌then◌else◌};
+ghost use Rattle.rc_instr.specs.Warrior.{IsBelow};
+ghost use Rattle.mars_core.specs.Core.{cell_at, IsCore};
+ghost use Rattle.mars_core.specs.Pairs.{computed, counted_down};
+ghost use Rattle.mars_core.specs.Step.{leaves, effect_of};
+ghost use Rattle.mars_core.specs.Evaluated.{addresses};
+
+use crate::cells::Cells;
+use crate::operand::{Evaluated, read, write};
+use crate::pairs::{all_equal, all_less, all_tested_are, compute, count_down, divides_by_zero};
+use rc_instr::instruction::{Instruction, Modifier, Opcode};
+
+/// What a step queues.
+#[derive(Clone, Copy)]
+pub(crate) enum Queued {
+    /// Nothing: the task ends.
+    Nothing,
+    /// The next address.
+    Next,
+    /// The address after the next.
+    Skip,
+    /// The address to which the A-operand points.
+    Jump,
+    /// The next address, and then the one to which the A-operand points.
+    Split,
+}
+
+/// Queues one of two, by a test.
+#[inline(always)]
+fn choose(test: bool, yes: Queued, no: Queued) -> Queued
+    ensures { result ≡ (if test then yes else no) }
+{
+    if test { yes } else { no }
+}
+
+/// Writes what MOV, ADD, SUB, MUL, DIV or MOD makes of the cell at an address.
+#[inline(always)]
+fn apply<C: Cells>(
+    cells: &mut C,
+    size: u32,
+    opcode: Opcode,
+    modifier: Modifier,
+    a: Instruction,
+    b: Evaluated,
+)
+    requires core { IsCore size (C.items cells.old) }
+    requires a { IsBelow size a }
+    requires b { IsBelow size b.copy × (b.address < size) }
+    ensures items { C.items cells.new ≡ slice_set (C.items cells.old) b.address
+        (computed opcode modifier size a b.copy (cell_at (C.items cells.old) b.address)) }
+    ensures core { IsCore size (C.items cells.new) }
+    ensures marks { C.marks cells.new ≤ C.marks cells.old + 1 }
+{
+    let target = read(cells, size, b.address);
+    write(
+        cells,
+        size,
+        b.address,
+        compute(opcode, modifier, size, a, b.copy, target),
+    );
+}
+
+/// Lowers the tested numbers of the cell at an address.
+#[inline(always)]
+fn apply_count_down<C: Cells>(cells: &mut C, size: u32, modifier: Modifier, at: u32)
+    requires core { IsCore size (C.items cells.old) }
+    requires at { at < size }
+    ensures items { C.items cells.new ≡ slice_set (C.items cells.old) at (counted_down modifier size (cell_at (C.items cells.old) at)) }
+    ensures core { IsCore size (C.items cells.new) }
+    ensures marks { C.marks cells.new ≤ C.marks cells.old + 1 }
+{
+    let target = read(cells, size, at);
+    write(cells, size, at, count_down(modifier, size, target));
+}
+
+/// Lets the opcode of an instruction act, for the task at `pc`, by its two operands.
+#[tactic(auto, unfolding(crate::specs::Step::effect_of))]
+#[inline(always)]
+pub(crate) fn act<C: Cells>(
+    cells: &mut C,
+    size: u32,
+    pc: u32,
+    opcode: Opcode,
+    modifier: Modifier,
+    a: Evaluated,
+    b: Evaluated,
+) -> Queued
+    requires core { IsCore size (C.items cells.old) }
+    requires a { IsBelow size a.copy × (a.address < size) }
+    requires b { IsBelow size b.copy × (b.address < size) }
+    ensures value { leaves (C.items cells.new) (addresses size pc a.address result)
+        ≡ effect_of opcode modifier size (C.items cells.old) pc a.address a.copy b.copy b.address }
+    ensures core { IsCore size (C.items cells.new) }
+    ensures marks { C.marks cells.new ≤ C.marks cells.old + 1 }
+{
+    match opcode {
+        Opcode::Dat => Queued::Nothing,
+        Opcode::Nop => Queued::Next,
+        Opcode::Mov => {
+            apply(cells, size, Opcode::Mov, modifier, a.copy, b);
+            Queued::Next
+        }
+        Opcode::Add => {
+            apply(cells, size, Opcode::Add, modifier, a.copy, b);
+            Queued::Next
+        }
+        Opcode::Sub => {
+            apply(cells, size, Opcode::Sub, modifier, a.copy, b);
+            Queued::Next
+        }
+        Opcode::Mul => {
+            apply(cells, size, Opcode::Mul, modifier, a.copy, b);
+            Queued::Next
+        }
+        Opcode::Div => {
+            apply(cells, size, Opcode::Div, modifier, a.copy, b);
+            choose(
+                divides_by_zero(modifier, a.copy),
+                Queued::Nothing,
+                Queued::Next,
+            )
+        }
+        Opcode::Mod => {
+            apply(cells, size, Opcode::Mod, modifier, a.copy, b);
+            choose(
+                divides_by_zero(modifier, a.copy),
+                Queued::Nothing,
+                Queued::Next,
+            )
+        }
+        Opcode::Jmp => Queued::Jump,
+        Opcode::Jmz => choose(
+            all_tested_are(modifier, 0, b.copy),
+            Queued::Jump,
+            Queued::Next,
+        ),
+        Opcode::Jmn => choose(
+            all_tested_are(modifier, 0, b.copy),
+            Queued::Next,
+            Queued::Jump,
+        ),
+        Opcode::Djn => {
+            apply_count_down(cells, size, modifier, b.address);
+            choose(
+                all_tested_are(modifier, 1, b.copy),
+                Queued::Next,
+                Queued::Jump,
+            )
+        }
+        Opcode::Seq => choose(
+            all_equal(modifier, a.copy, b.copy),
+            Queued::Skip,
+            Queued::Next,
+        ),
+        Opcode::Sne => choose(
+            all_equal(modifier, a.copy, b.copy),
+            Queued::Next,
+            Queued::Skip,
+        ),
+        Opcode::Slt => choose(
+            all_less(modifier, a.copy, b.copy),
+            Queued::Skip,
+            Queued::Next,
+        ),
+        Opcode::Spl => Queued::Split,
+    }
+}
