@@ -75,7 +75,7 @@ fn apply_count_down<C: Cells>(cells: &mut C, size: u32, modifier: Modifier, at: 
 }
 
 /// Lets the opcode of an instruction act, for the task at `pc`, by its two operands.
-#[tactic(auto, unfolding(crate::specs::Step::effect_of))]
+#[tactic(auto, unfolding(crate::specs::Step::effect_of, crate::specs::Pairs::computed))]
 #[inline(always)]
 pub(crate) fn act<C: Cells>(
     cells: &mut C,
@@ -94,37 +94,18 @@ pub(crate) fn act<C: Cells>(
     ensures core { IsCore size (C.items cells.new) }
     ensures marks { C.marks cells.new ≤ C.marks cells.old + 1 }
 {
+    if opcode == Opcode::Mov && modifier == Modifier::I {
+        write(cells, size, b.address, a.copy);
+        return Queued::Next;
+    }
     match opcode {
         Opcode::Dat => Queued::Nothing,
         Opcode::Nop => Queued::Next,
-        Opcode::Mov => {
-            apply(cells, size, Opcode::Mov, modifier, a.copy, b);
-            Queued::Next
-        }
-        Opcode::Add => {
-            apply(cells, size, Opcode::Add, modifier, a.copy, b);
-            Queued::Next
-        }
-        Opcode::Sub => {
-            apply(cells, size, Opcode::Sub, modifier, a.copy, b);
-            Queued::Next
-        }
-        Opcode::Mul => {
-            apply(cells, size, Opcode::Mul, modifier, a.copy, b);
-            Queued::Next
-        }
-        Opcode::Div => {
-            apply(cells, size, Opcode::Div, modifier, a.copy, b);
+        Opcode::Mov | Opcode::Add | Opcode::Sub | Opcode::Mul | Opcode::Div | Opcode::Mod => {
+            apply(cells, size, opcode, modifier, a.copy, b);
+            let divides = opcode == Opcode::Div || opcode == Opcode::Mod;
             choose(
-                divides_by_zero(modifier, a.copy),
-                Queued::Nothing,
-                Queued::Next,
-            )
-        }
-        Opcode::Mod => {
-            apply(cells, size, Opcode::Mod, modifier, a.copy, b);
-            choose(
-                divides_by_zero(modifier, a.copy),
+                divides && divides_by_zero(modifier, a.copy),
                 Queued::Nothing,
                 Queued::Next,
             )

@@ -22,8 +22,8 @@ fn value(opcode: Opcode, size: u32, a: u16, b: u16) -> Option<u16>
         Opcode::Add => Some(sum(size, u32::from(b), u32::from(a)) as u16),
         Opcode::Sub => Some(difference(size, u32::from(b), u32::from(a)) as u16),
         Opcode::Mul => Some(product(size, u32::from(b), u32::from(a)) as u16),
-        Opcode::Div => if a == 0 { None } else { Some(b / a) },
-        Opcode::Mod => if a == 0 { None } else { Some(b % a) },
+        Opcode::Div => b.checked_div(a),
+        Opcode::Mod => b.checked_rem(a),
         _ => None,
     }
 }
