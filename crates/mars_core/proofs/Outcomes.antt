@@ -1,7 +1,9 @@
 -- The outcome of a fight, from the turns that it took and the state that they left.
-use Rattle.std.proofs.Common.{◌≡◌, ℕ, sym, ◌∙◌, ap, refl}
+use Rattle.std.proofs.Common.{◌≡◌, ℕ, suc, ◌*◌, ◌<◌, ◌≤◌, false, true, sym, ◌∙◌, ap, refl, subst, arith, inl, inr}
+use Rattle.std.specs.Prelude.{◌↔◌}
 use Rattle.mars_core.specs.State.{State, play_of}
-use Rattle.mars_core.specs.Fight.{turns_of, points_in, outcome_of}
+use Rattle.mars_core.specs.Fight.{is_over, turns_of, points_in, outcome_of, IsOutcome}
+use Rattle.mars_core.proofs.Least.{split, IsLeast, least_is_least, turns_are}
 use Rattle.mars_core.specs.declared.side.Side.{Side}
 use Rattle.mars_core.specs.declared.arena.Outcome.{Outcome}
 
@@ -28,3 +30,36 @@ pub left_is : (limit limit' : ℕ) (start start' left left' : State) (first firs
     limit' ≡ limit → start' ≡ start → first ≡ first' → turns' ≡ turns → left' ≡ left →
     left ≡ play_of limit' start' first' turns → left' ≡ play_of limit start first turns'
 left_is limit limit' start start' left left' first first' turns turns' el es ef et e h = rw (← el, ← es, ef, et) (e ∙ h)
+
+-- the turns of a fight are the least number after which it is over
+turns_least : (limit : ℕ) (start : State) (first : Side) (cycles : ℕ) →
+    IsLeast (λ k. is_over (play_of limit start first k)) (2 * cycles) (turns_of limit start first cycles)
+unfolding turns_of
+turns_least limit start first cycles = least_is_least (λ k. is_over (play_of limit start first k)) (2 * cycles)
+
+-- the computed outcome is one
+is_outcome : (limit : ℕ) (start : State) (first : Side) (cycles : ℕ) → IsOutcome limit start first cycles (outcome_of limit start first cycles)
+unfolding outcome_of
+is_outcome limit start first cycles =
+    let h = turns_least limit start first cycles in
+    record {
+      goes_on = h.before;
+      within = h.within;
+      ends = elim (split (suc (turns_of limit start first cycles)) (2 * cycles) (omega (arith, h.within))) [
+        | inl p ↦ inl (h.here (omega arith))
+        | inr q ↦ inr (omega arith)
+      ];
+      points = refl;
+    }
+
+-- an outcome is the computed one
+no_other : (limit : ℕ) (start : State) (first : Side) (cycles : ℕ) (o : Outcome) → IsOutcome limit start first cycles o → o ≡ outcome_of limit start first cycles
+no_other limit start first cycles o h =
+    let over : o.turns < 2 * cycles → is_over (play_of limit start first o.turns) ≡ true =
+    λ l. elim h.ends [ inl e ↦ e | inr e ↦ absurd (omega arith) ] in
+    from_parts o limit start first cycles (sym (turns_are limit start first cycles o.turns h.within h.goes_on over)) h.points
+
+pub one_outcome : (limit : ℕ) (start : State) (first : Side) (cycles : ℕ) (o : Outcome) →
+    (IsOutcome limit start first cycles o) ↔ (o ≡ outcome_of limit start first cycles)
+one_outcome limit start first cycles o =
+    (no_other limit start first cycles o, λ e. subst (λ (x : Outcome). IsOutcome limit start first cycles x) (sym e) (is_outcome limit start first cycles))

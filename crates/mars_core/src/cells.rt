@@ -84,6 +84,6 @@ impl Cells for PlainCells {
 
     fn restore(&mut self) -> u32 {
         self.cells.fill(Instruction::empty());
-        self.cells.len() as u32
+        self.size()
     }
 }

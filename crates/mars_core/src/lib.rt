@@ -8,10 +8,13 @@ pub mod arena;
 pub mod cells;
 pub(crate) mod effect;
 pub(crate) mod fight;
+pub mod laws;
 pub(crate) mod number;
 pub(crate) mod operand;
 pub(crate) mod pairs;
 pub mod side;
+#[cfg(test)]
+mod tests;
 pub(crate) mod turn;
 
 pub use arena::{Arena, Outcome};
