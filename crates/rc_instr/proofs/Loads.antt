@@ -30,16 +30,17 @@ found_load rules start bytes lines (Ok w) e h =
 found_load rules start bytes lines (Err f) e h = h
 
 -- a fault of the lines behind the first is one of the text
-unreadable : (rules : Limits) (start : ℕ) (bytes lines : List ℕ) (f : LoadFault) → bytes ≡ start_text start ++ lines →
+unreadable : (rules : Limits) (start : ℕ) (bytes lines : List ℕ) (f : LoadFault) → start < 2 ^ 16 → bytes ≡ start_text start ++ lines →
     AreUnreadable f rules lines start → IsUnreadable f rules bytes
-unreadable rules start bytes lines (Malformed line) e h = inr (start, lines, e, h)
-unreadable rules start bytes lines (Warrior error) e h = (program h.0 start, joined rules.core start bytes lines h.0 e h.1, h.2)
-unreadable rules start bytes lines OutOfMemory e h = tt
+unreadable rules start bytes lines (Malformed line) s e h = inr (start, lines, s, e, h)
+unreadable rules start bytes lines (Warrior error) s e h =
+    (program h.0 start, record { text = joined rules.core start bytes lines h.0 e h.1; below = h.1.below; start = s }, h.2)
+unreadable rules start bytes lines OutOfMemory s e h = tt
 
-pub refused_load : (rules : Limits) (start : ℕ) (bytes lines : List ℕ) (r : Result Program LoadFault) → bytes ≡ start_text start ++ lines →
+pub refused_load : (rules : Limits) (start : ℕ) (bytes lines : List ℕ) (r : Result Program LoadFault) → start < 2 ^ 16 → bytes ≡ start_text start ++ lines →
     IfErr r (λ f. AreUnreadable f rules lines start) → IfErr r (λ f. IsUnreadable f rules bytes)
-refused_load rules start bytes lines (Ok w) e h = h
-refused_load rules start bytes lines (Err f) e h = unreadable rules start bytes lines f e h
+refused_load rules start bytes lines (Ok w) s e h = h
+refused_load rules start bytes lines (Err f) s e h = unreadable rules start bytes lines f s e h
 
 -- equal texts are texts of equal warriors
 pub load_law : (rules : Limits) (v w : Program) → IsRules rules → IsProgram v → IsProgram w → Fits rules v → Fits rules w →

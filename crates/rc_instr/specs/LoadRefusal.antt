@@ -36,7 +36,13 @@ pub record IsFirstBadLine (m : ℕ) (bytes : List ℕ) (line : ℕ) : Type 0 whe
 abbrev pub IsMalformedAt : ℕ → List ℕ → ℕ → Type 0
 IsMalformedAt m bytes line =
     ((line ≡ 1) × NoStartFirst bytes)
-    ⊎ ((n : ℕ) × (rest : List ℕ) × (bytes ≡ start_text n ++ rest) × IsFirstBadLine m rest line)
+    ⊎ ((n : ℕ) × (rest : List ℕ) × (n < 2 ^ 16) × (bytes ≡ start_text n ++ rest) × IsFirstBadLine m rest line)
+
+-- all lines are of the form, and spell this code and this start
+pub record AreAllLines (m : ℕ) (bytes : List ℕ) (p : Program) : Type 0 where
+  pub text : bytes ≡ load_text m p
+  pub below : All (IsBelow m) p.code
+  pub start : p.start < 2 ^ 16
 
 -- why bytes are no lines of instructions; want of memory says nothing of the bytes
 abbrev pub IsBadLine : LoadFault → ℕ → List ℕ → Type 0
@@ -44,10 +50,10 @@ IsBadLine (Malformed line) m bytes = IsFirstBadLine m bytes line
 IsBadLine (Warrior e) m bytes = ⊥
 IsBadLine OutOfMemory m bytes = Unit {0}
 
--- why bytes are no load file: a malformed line, or else what refuses the warrior that they spell
+-- why bytes are no load file: a malformed line; or, where all lines are of the form, what refuses the warrior that they spell
 abbrev pub IsUnreadable : LoadFault → Limits → List ℕ → Type 0
 IsUnreadable (Malformed line) rules bytes = IsMalformedAt rules.core bytes line
-IsUnreadable (Warrior e) rules bytes = (p : Program) × (bytes ≡ load_text rules.core p) × IsRefused e rules p
+IsUnreadable (Warrior e) rules bytes = (p : Program) × AreAllLines rules.core bytes p × IsRefused e rules p
 IsUnreadable OutOfMemory rules bytes = Unit {0}
 
 -- the same of the lines behind the first one, at which the warrior starts

@@ -1,6 +1,6 @@
 //! Outlets for bytes: writers that give up at the first failure, and remember it.
-ghost use Rattle.std.specs.Prelude.{◌≡◌, ◌<◌, ◌≤◌, false, take, length, IfOk, IsErr, IsTrue, is_err};
-ghost use Rattle.std.specs.Io.KnownBytes.{Appends};
+ghost use Rattle.std.specs.Prelude.{◌≡◌, ◌<◌, ◌≤◌, false, take, length, IfOk, OnErr, IsErr, IsTrue, is_err};
+ghost use Rattle.std.specs.Io.KnownBytes.{Appends, Keeps};
 
 use std::io::Write;
 use std::marker::Model;
@@ -46,6 +46,7 @@ impl<X: Write> Outlet<X> {
         ensures count { IfOk result (λ n. n ≤ length piece.now) }
         ensures some { IfOk result (λ n. 0 < length piece.now → 0 < n) }
         ensures bytes { IfOk result (λ n. Appends self.old.bytes self.new.bytes (take n piece.now)) }
+        ensures kept { OnErr result (Keeps self.old.bytes self.new.bytes) }
         ensures failed { self.new.failed ≡ is_err result }
         ensures again { IsTrue self.old.failed → IsErr result }
         ensures unchanged { IsTrue self.old.failed → self.new ≡ self.old }

@@ -87,7 +87,7 @@ pub(crate) fn instruction_at(core: u32, bytes: &[u8]) -> Option<(Instruction, &[
 /// The line of the start at the front, and what follows it.
 #[tactic(auto, using(crate::proofs::Lines::start_parts), unfolding(crate::specs::LoadText::start_text))]
 pub(crate) fn start_at(bytes: &[u8]) -> Option<(u16, &[u8])>
-    ensures found { IfSome result (λ x. bytes.now ≡ start_text x.0 ++ x.1.now) }
+    ensures found { IfSome result (λ x. (bytes.now ≡ start_text x.0 ++ x.1.now) × (x.0 < 2 ^ 16)) }
     ensures only { (n : ℕ) (rest : List ℕ) → n < 2 ^ 16 → bytes.now ≡ start_text n ++ rest
         → IsSomeAnd result (λ x. (x.0 ≡ n) × (x.1.now ≡ rest)) }
 {

@@ -35,7 +35,7 @@ fn number_of(digits: &[u8]) -> u32
 #[tactic(auto, using(crate::proofs::Decimal::decimals))]
 fn decimal_of(digits: &[u8]) -> Option<u16>
     requires { all_ascii_digits digits.now ≡ true }
-    ensures found { IfSome result (λ n. digits.now ≡ decimal n) }
+    ensures found { IfSome result (λ n. (digits.now ≡ decimal n) × (n < 2 ^ 16)) }
     ensures only { (n : ℕ) → n < 2 ^ 16 → digits.now ≡ decimal n → result ≡ Some n }
 {
     if digits.is_empty() || digits.len() > 5 {
@@ -53,7 +53,7 @@ fn decimal_of(digits: &[u8]) -> Option<u16>
 
 /// The number up to 65535 at the front, in decimal with no leading zero, and what follows it.
 pub(crate) fn decimal_at(bytes: &[u8]) -> Option<(u16, &[u8])>
-    ensures found { IfSome result (λ x. bytes.now ≡ decimal x.0 ++ x.1.now) }
+    ensures found { IfSome result (λ x. (bytes.now ≡ decimal x.0 ++ x.1.now) × (x.0 < 2 ^ 16)) }
     ensures only { (n : ℕ) (rest : List ℕ) → n < 2 ^ 16 → NoDigitFirst rest → bytes.now ≡ decimal n ++ rest
         → IsSomeAnd result (λ x. (x.0 ≡ n) × (x.1.now ≡ rest)) }
 {

@@ -8,10 +8,12 @@ use Rattle.rc_instr.proofs.Loads.{parted, found_load, refused_load}
 use Rattle.rc_instr.proofs.loadfile.read.read_loadfile.Goals as goal
 
 pub returns-in-Some-clause-found : goal.returns-in-Some-clause-found
-returns-in-Some-clause-found c = found_load _ _ _ _ _ c.in-Some.ensures.found c.read_warrior.ensures.found
+returns-in-Some-clause-found c = found_load _ _ _ _ _ c.in-Some.ensures.found.0 c.read_warrior.ensures.found
 
 pub returns-in-Some-clause-refused : goal.returns-in-Some-clause-refused
-returns-in-Some-clause-refused c = refused_load _ _ _ _ _ c.in-Some.ensures.found c.read_warrior.ensures.refused
+returns-in-Some-clause-refused c =
+    let first = c.in-Some.ensures.found in
+    refused_load _ _ _ _ _ first.1 first.0 c.read_warrior.ensures.refused
 
 pub returns-in-Some-clause-only : goal.returns-in-Some-clause-only
 returns-in-Some-clause-only c w h f e =
