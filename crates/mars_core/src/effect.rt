@@ -7,6 +7,7 @@ ghost use Rattle.mars_core.specs.Step.{leaves, effect_of};
 ghost use Rattle.mars_core.specs.Evaluated.{addresses};
 
 use crate::cells::Cells;
+use crate::effect::Queued::{Jump, Next, Nothing, Skip, Split};
 use crate::operand::{Evaluated, read, write};
 use crate::pairs::{all_equal, all_less, all_tested_are, compute, count_down, divides_by_zero};
 use rc_instr::instruction::{Instruction, Modifier, Opcode};
@@ -96,54 +97,26 @@ pub(crate) fn act<C: Cells>(
 {
     if opcode == Opcode::Mov && modifier == Modifier::I {
         write(cells, size, b.address, a.copy);
-        return Queued::Next;
+        return Next;
     }
     match opcode {
-        Opcode::Dat => Queued::Nothing,
-        Opcode::Nop => Queued::Next,
+        Opcode::Dat => Nothing,
+        Opcode::Nop => Next,
         Opcode::Mov | Opcode::Add | Opcode::Sub | Opcode::Mul | Opcode::Div | Opcode::Mod => {
             apply(cells, size, opcode, modifier, a.copy, b);
             let divides = opcode == Opcode::Div || opcode == Opcode::Mod;
-            choose(
-                divides && divides_by_zero(modifier, a.copy),
-                Queued::Nothing,
-                Queued::Next,
-            )
+            choose(divides && divides_by_zero(modifier, a.copy), Nothing, Next)
         }
-        Opcode::Jmp => Queued::Jump,
-        Opcode::Jmz => choose(
-            all_tested_are(modifier, 0, b.copy),
-            Queued::Jump,
-            Queued::Next,
-        ),
-        Opcode::Jmn => choose(
-            all_tested_are(modifier, 0, b.copy),
-            Queued::Next,
-            Queued::Jump,
-        ),
+        Opcode::Jmp => Jump,
+        Opcode::Jmz => choose(all_tested_are(modifier, 0, b.copy), Jump, Next),
+        Opcode::Jmn => choose(all_tested_are(modifier, 0, b.copy), Next, Jump),
         Opcode::Djn => {
             apply_count_down(cells, size, modifier, b.address);
-            choose(
-                all_tested_are(modifier, 1, b.copy),
-                Queued::Next,
-                Queued::Jump,
-            )
+            choose(all_tested_are(modifier, 1, b.copy), Next, Jump)
         }
-        Opcode::Seq => choose(
-            all_equal(modifier, a.copy, b.copy),
-            Queued::Skip,
-            Queued::Next,
-        ),
-        Opcode::Sne => choose(
-            all_equal(modifier, a.copy, b.copy),
-            Queued::Next,
-            Queued::Skip,
-        ),
-        Opcode::Slt => choose(
-            all_less(modifier, a.copy, b.copy),
-            Queued::Skip,
-            Queued::Next,
-        ),
-        Opcode::Spl => Queued::Split,
+        Opcode::Seq => choose(all_equal(modifier, a.copy, b.copy), Skip, Next),
+        Opcode::Sne => choose(all_equal(modifier, a.copy, b.copy), Next, Skip),
+        Opcode::Slt => choose(all_less(modifier, a.copy, b.copy), Skip, Next),
+        Opcode::Spl => Split,
     }
 }

@@ -59,96 +59,97 @@ fn fight(
     Ok(arena.run(first))
 }
 
+/// Code, an address, the cell there after one step, and the task then.
+const CHANGES: [(&[u8], u32, &[u8], Option<u32>); 14] = [
+    (
+        b"ORG 0\nADD.AB #5, >1\nDAT.F $0, $0\n",
+        1,
+        b"ORG 0\nDAT.F $0, $5\n",
+        Some(1),
+    ),
+    (
+        b"ORG 0\nMOV.I $0, <1\nDAT.F $0, $4\n",
+        1,
+        b"ORG 0\nDAT.F $0, $3\n",
+        Some(1),
+    ),
+    (
+        b"ORG 0\nMOV.I $0, <1\nDAT.F $0, $4\n",
+        4,
+        b"ORG 0\nMOV.I $0, <1\n",
+        Some(1),
+    ),
+    (
+        b"ORG 0\nADD.A {0, #0\n",
+        0,
+        b"ORG 0\nADD.A {-1, #0\n",
+        Some(1),
+    ),
+    (
+        b"ORG 0\nDJN.B $0, $1\nDAT.F $0, $0\n",
+        1,
+        b"ORG 0\nDAT.F $0, $-1\n",
+        Some(0),
+    ),
+    (
+        b"ORG 0\nDJN.B $0, $1\nDAT.F $0, $1\n",
+        1,
+        b"ORG 0\nDAT.F $0, $0\n",
+        Some(1),
+    ),
+    (
+        b"ORG 0\nDIV.F #0, $2\nDAT.F $0, $0\nDAT.F #6, #6\n",
+        2,
+        b"ORG 0\nDAT.F #6, #3\n",
+        None,
+    ),
+    (
+        b"ORG 0\nDJN.I $0, >0\n",
+        0,
+        b"ORG 0\nDJN.I $-1, >0\n",
+        Some(0),
+    ),
+    (
+        b"ORG 0\nDJN.BA $0, $0\n",
+        0,
+        b"ORG 0\nDJN.BA $-1, $0\n",
+        Some(0),
+    ),
+    (
+        b"ORG 0\nSUB.X $0, $1\n",
+        1,
+        b"ORG 0\nDAT.F $-1, $0\n",
+        Some(1),
+    ),
+    (
+        b"ORG 0\nSUB.B $0, $1\n",
+        1,
+        b"ORG 0\nDAT.F $0, $-1\n",
+        Some(1),
+    ),
+    (
+        b"ORG 0\nMOV.AB $0, }0\n",
+        0,
+        b"ORG 0\nMOV.AB $1, }0\n",
+        Some(1),
+    ),
+    (
+        b"ORG 0\nSPL.B $2, $0\n",
+        0,
+        b"ORG 0\nSPL.B $2, $0\n",
+        Some(1),
+    ),
+    (
+        b"ORG 0\nNOP.F $0, >1\n",
+        1,
+        b"ORG 0\nDAT.F $0, $1\n",
+        Some(1),
+    ),
+];
+
 #[test]
 fn one_step_changes_a_cell(rt: HostRuntime) -> Result<(), Fail> {
-    // code, address, the cell there afterwards, the task afterwards
-    let table: [(&[u8], u32, &[u8], Option<u32>); 14] = [
-        (
-            b"ORG 0\nADD.AB #5, >1\nDAT.F $0, $0\n",
-            1,
-            b"ORG 0\nDAT.F $0, $5\n",
-            Some(1),
-        ),
-        (
-            b"ORG 0\nMOV.I $0, <1\nDAT.F $0, $4\n",
-            1,
-            b"ORG 0\nDAT.F $0, $3\n",
-            Some(1),
-        ),
-        (
-            b"ORG 0\nMOV.I $0, <1\nDAT.F $0, $4\n",
-            4,
-            b"ORG 0\nMOV.I $0, <1\n",
-            Some(1),
-        ),
-        (
-            b"ORG 0\nADD.A {0, #0\n",
-            0,
-            b"ORG 0\nADD.A {-1, #0\n",
-            Some(1),
-        ),
-        (
-            b"ORG 0\nDJN.B $0, $1\nDAT.F $0, $0\n",
-            1,
-            b"ORG 0\nDAT.F $0, $-1\n",
-            Some(0),
-        ),
-        (
-            b"ORG 0\nDJN.B $0, $1\nDAT.F $0, $1\n",
-            1,
-            b"ORG 0\nDAT.F $0, $0\n",
-            Some(1),
-        ),
-        (
-            b"ORG 0\nDIV.F #0, $2\nDAT.F $0, $0\nDAT.F #6, #6\n",
-            2,
-            b"ORG 0\nDAT.F #6, #3\n",
-            None,
-        ),
-        (
-            b"ORG 0\nDJN.I $0, >0\n",
-            0,
-            b"ORG 0\nDJN.I $-1, >0\n",
-            Some(0),
-        ),
-        (
-            b"ORG 0\nDJN.BA $0, $0\n",
-            0,
-            b"ORG 0\nDJN.BA $-1, $0\n",
-            Some(0),
-        ),
-        (
-            b"ORG 0\nSUB.X $0, $1\n",
-            1,
-            b"ORG 0\nDAT.F $-1, $0\n",
-            Some(1),
-        ),
-        (
-            b"ORG 0\nSUB.B $0, $1\n",
-            1,
-            b"ORG 0\nDAT.F $0, $-1\n",
-            Some(1),
-        ),
-        (
-            b"ORG 0\nMOV.AB $0, }0\n",
-            0,
-            b"ORG 0\nMOV.AB $1, }0\n",
-            Some(1),
-        ),
-        (
-            b"ORG 0\nSPL.B $2, $0\n",
-            0,
-            b"ORG 0\nSPL.B $2, $0\n",
-            Some(1),
-        ),
-        (
-            b"ORG 0\nNOP.F $0, >1\n",
-            1,
-            b"ORG 0\nDAT.F $0, $1\n",
-            Some(1),
-        ),
-    ];
-    for (code, at, cell, task) in table {
+    for (code, at, cell, task) in CHANGES {
         if at < 16 {
             let (got, first) = after_step(&rt, 16, code, at)?;
             assert_eq!(rt;
@@ -165,23 +166,24 @@ fn one_step_changes_a_cell(rt: HostRuntime) -> Result<(), Fail> {
     Ok(())
 }
 
+/// Code, and the task after one step.
+const PLACES: [(&[u8], u32); 11] = [
+    (b"ORG 0\nDJN.AB $0, >0\n", 0),
+    (b"ORG 0\nDJN.F >0, $0\n", 0),
+    (b"ORG 0\nJMN.F $2, $0\n", 2),
+    (b"ORG 0\nJMZ.I $2, $0\n", 1),
+    (b"ORG 0\nSLT.X $1, $0\n", 1),
+    (b"ORG 0\nSNE.F $1, $0\n", 2),
+    (b"ORG 0\nSEQ.I $0, {0\n", 1),
+    (b"ORG 0\nSNE.F }0, $0\n", 2),
+    (b"ORG 0\nJMP.BA {0, $0\n", 15),
+    (b"ORG 0\nSEQ.I $1, $2\n", 2),
+    (b"ORG 0\nSLT.AB #1, $1\nDAT.F $0, $2\n", 2),
+];
+
 #[test]
 fn one_step_leads_to_a_place(rt: HostRuntime) -> Result<(), Fail> {
-    // code, and the task afterwards
-    let table: [(&[u8], u32); 11] = [
-        (b"ORG 0\nDJN.AB $0, >0\n", 0),
-        (b"ORG 0\nDJN.F >0, $0\n", 0),
-        (b"ORG 0\nJMN.F $2, $0\n", 2),
-        (b"ORG 0\nJMZ.I $2, $0\n", 1),
-        (b"ORG 0\nSLT.X $1, $0\n", 1),
-        (b"ORG 0\nSNE.F $1, $0\n", 2),
-        (b"ORG 0\nSEQ.I $0, {0\n", 1),
-        (b"ORG 0\nSNE.F }0, $0\n", 2),
-        (b"ORG 0\nJMP.BA {0, $0\n", 15),
-        (b"ORG 0\nSEQ.I $1, $2\n", 2),
-        (b"ORG 0\nSLT.AB #1, $1\nDAT.F $0, $2\n", 2),
-    ];
-    for (code, task) in table {
+    for (code, task) in PLACES {
         let (_, first) = after_step(&rt, 16, code, 0)?;
         assert_eq!(rt; first, Some(task), "task after {code:?}");
     }

@@ -1,0 +1,166 @@
+-- What lies ahead at a place, by what stands there.
+use Rattle.std.proofs.Common.{drop-drop, ◌≡◌, ◌≢◌, ℕ, suc, zero, ◌+◌, ◌-◌, ◌≤◌, ◌<◌, Bool, true, false, List, [], ◌∷◌, get_or, take, drop, length, refl, sym, subst, arith, ap, ◌∙◌, add-zero, length-drop}
+use Rattle.std.specs.Prelude.{Option, Some, None, Ok}
+use Rattle.std.specs.Prelude.{if◌then◌else◌, not, ◌&&◌, ◌==◌, ◌^◌, nat_lt, codes}
+use Rattle.std.specs.List.{prefix_len}
+use Rattle.std.proofs.lemmas.Slice.{between_to_end}
+use Rattle.std.proofs.lemmas.List.Sums.{prefix_len-le-length}
+use Rattle.std.specs.Char.{is_ascii_digit}
+use Rattle.rc_text.specs.Bytes.{is_blank, LINE_FEED, SEMICOLON, begins_name, continues_name, decimal_value, begins_with_word}
+use Rattle.rc_text.specs.Signs.{long_sign, short_sign}
+use Rattle.rc_text.proofs.WordSteps.{begins_le}
+use Rattle.rc_text.specs.declared.token.Sign.{Sign}
+use Rattle.rc_text.specs.declared.token.Kind.{Kind}
+use Rattle.rc_text.specs.declared.fault.LexFault.{LexFault}
+use Rattle.rc_text.specs.declared.lexeme.Lexeme.{Lexeme}
+use Rattle.rc_text.specs.declared.lexeme.Lexeme.TheVariants.{Trivia, LineFeed, Word, Fault}
+use Rattle.rc_text.specs.declared.token.Kind.TheVariants.{LineEnd}
+use Rattle.rc_text.specs.Tokens.{lexeme_of, is_assert, sign_lexeme, tokens_after, with_token, token_of, tokens_from, line_after, ahead, ahead_at, Ahead, TakesToken}
+
+-- the rest of a piece is passed over
+skipped : (bs : List ℕ) (k : ℕ) (first : Bool) (at line : ℕ) → k ≤ length bs → tokens_from bs k first at line ≡ tokens_from (drop k bs) 0 first (at + k) line
+skipped [] zero first at line h = refl
+skipped [] (suc k) first at line h = absurd (omega arith)
+skipped (b ∷ bs) zero first at line h = rw add-zero
+skipped (b ∷ bs) (suc k) first at line h = let e : at + 1 + k ≡ at + suc k = omega arith in rw (← e) (skipped bs k first (at + 1) line (omega arith))
+
+-- what is read at the front
+at_front : (bs : List ℕ) (first : Bool) (at line : ℕ) → 0 < length bs → tokens_from bs 0 first at line ≡ tokens_after (lexeme_of first bs) (tokens_from (drop 1 bs)) first at line
+at_front [] first at line h = absurd (omega arith)
+at_front (b ∷ bs) first at line h = refl
+
+-- the length of a piece is within the text
+abbrev pub FitsIn : List ℕ → Lexeme → Type 0
+FitsIn bs (Trivia len) = (0 < len) × (len ≤ length bs)
+FitsIn bs LineFeed = 0 < length bs
+FitsIn bs (Word len kind) = (0 < len) × (len ≤ length bs) × ((line : ℕ) → line_after kind line ≡ line)
+FitsIn bs (Fault f) = Unit {0}
+
+-- what holds of both branches
+pub if_both : {A : Type 0} (P : A → Type 0) (b : Bool) (x y : A) → (b ≡ true → P x) → (b ≡ false → P y) → P (if b then x else y)
+if_both P true x y f g = f refl
+if_both P false x y f g = g refl
+
+-- a front that begins is not empty
+pub front_fits : (p : ℕ → Bool) (bs : List ℕ) → 0 < length bs → p (get_or bs 0 0) ≡ true → (0 < prefix_len p bs) × (prefix_len p bs ≤ length bs)
+front_fits p [] h e = absurd (omega arith)
+front_fits p (b ∷ bs) h e = let le = prefix_len-le-length p bs in rw e (omega arith, omega arith)
+
+-- a test and a false one
+pub and_false : (b : Bool) → (b && false) ≡ false
+and_false true = refl
+and_false false = refl
+
+-- both tests hold
+pub and_left : (a b : Bool) → (a && b) ≡ true → a ≡ true
+and_left true b h = refl
+and_left false b h = h
+
+-- both tests hold
+pub and_right : (a b : Bool) → (a && b) ≡ true → b ≡ true
+and_right true b h = h
+and_right false b h = cc
+
+-- no sign of two ends in a zero byte
+pub long_sign_zero : (a : ℕ) → long_sign a 0 ≡ None
+long_sign_zero a = simp and_false
+
+-- a sign is within the text, if one of two bytes has two
+sign_lexeme_fits : (bs : List ℕ) (long short : Option Sign) → (long ≢ None → 2 ≤ length bs) → 0 < length bs → FitsIn bs (sign_lexeme long short)
+sign_lexeme_fits bs (Some s) short two h = (omega arith, two (λ e. cc), λ l. refl)
+sign_lexeme_fits bs None (Some s) two h = (omega arith, omega arith, λ l. refl)
+sign_lexeme_fits bs None None two h = tt
+
+-- the sign at the front is within the text
+sign_fits : (bs : List ℕ) (b : ℕ) → b ≡ get_or bs 1 0 → 0 < length bs → FitsIn bs (sign_lexeme (long_sign (get_or bs 0 0) b) (short_sign (get_or bs 0 0)))
+sign_fits bs b e h = sign_lexeme_fits bs (long_sign (get_or bs 0 0) b) (short_sign (get_or bs 0 0)) (second bs b e h) h where
+  second : (bs : List ℕ) (b : ℕ) → b ≡ get_or bs 1 0 → 0 < length bs → long_sign (get_or bs 0 0) b ≢ None → 2 ≤ length bs
+  second [] b e h n = absurd (omega arith)
+  second (a ∷ []) b e h n = absurd (n (rw e (long_sign_zero a)))
+  second (a ∷ c ∷ bs) b e h n = omega arith
+
+-- what stands at the front is within the text
+pub lexeme_fits : (bs : List ℕ) (first : Bool) → 0 < length bs → FitsIn bs (lexeme_of first bs)
+lexeme_fits bs first h =
+    let b = get_or bs 0 0 in
+    if_both (FitsIn bs) (is_blank b) _ _ (λ _. (omega arith, omega arith)) (λ _.
+    if_both (FitsIn bs) (b == LINE_FEED) _ _ (λ _. h) (λ not_feed.
+    if_both (FitsIn bs) (b == SEMICOLON) _ _
+    (λ semicolon. if_both (FitsIn bs) (first && is_assert bs) _ _ (λ is. (omega arith, begins_le (codes ";assert") bs (and_left (begins_with_word (codes ";assert") bs) (is_blank (get_or bs 7 0)) (and_right first (is_assert bs) is)), λ l. refl)) (λ _. front_fits (λ b. not (b == LINE_FEED)) bs h (rw not_feed))) (λ _.
+    if_both (FitsIn bs) (begins_name b) _ _ (λ begins. let f = front_fits continues_name bs h (rw begins) in (f.0, f.1, λ l. refl)) (λ _.
+    if_both (FitsIn bs) (is_ascii_digit b) _ _
+    (λ digit. if_both (FitsIn bs) (nat_lt (decimal_value (take (prefix_len is_ascii_digit bs) bs)) (2 ^ 32)) _ _ (λ _. let f = front_fits is_ascii_digit bs h digit in (f.0, f.1, λ l. refl)) (λ _. tt))
+    (λ _. sign_fits bs (get_or bs 1 0) refl h)))))
+
+-- by what stands at the front
+abbrev pub LiesAhead : List ℕ → Bool → ℕ → ℕ → Lexeme → Type 0
+LiesAhead bs first at line (Trivia len) = tokens_from bs 0 first at line ≡ tokens_from (drop len bs) 0 first (at + len) line
+LiesAhead bs first at line LineFeed = tokens_from bs 0 first at line ≡ with_token (token_of LineEnd at 1 line) (tokens_from (drop 1 bs) 0 true (at + 1) (line + 1))
+LiesAhead bs first at line (Word len kind) = tokens_from bs 0 first at line ≡ with_token (token_of kind at len line) (tokens_from (drop len bs) 0 false (at + len) line)
+LiesAhead bs first at line (Fault f) = tokens_from bs 0 first at line ≡ record { tokens = []; ending = Some f }
+
+-- behind the first byte the rest of the lexeme is passed over
+rest_skipped : (bs : List ℕ) (len : ℕ) (first : Bool) (at line : ℕ) → 0 < len → len ≤ length bs → tokens_from (drop 1 bs) (len - 1) first (at + 1) line ≡ tokens_from (drop len bs) 0 first (at + len) line
+rest_skipped [] len first at line pos h = absurd (omega arith)
+rest_skipped (b ∷ bs) zero first at line pos h = absurd (omega arith)
+rest_skipped (b ∷ bs) (suc k) first at line pos h = let e : suc k - 1 ≡ k = omega arith in let f : at + 1 + k ≡ at + suc k = omega arith in rw (e, ← f) (skipped bs k first (at + 1) line (omega arith))
+
+-- what lies ahead of a lexeme that fits
+lies_ahead_by : (bs : List ℕ) (first : Bool) (at line : ℕ) (p : Lexeme) → FitsIn bs p → tokens_from bs 0 first at line ≡ tokens_after p (tokens_from (drop 1 bs)) first at line → LiesAhead bs first at line p
+lies_ahead_by bs first at line (Trivia len) fits e = e ∙ rest_skipped bs len first at line fits.0 fits.1
+lies_ahead_by bs first at line LineFeed fits e = e
+lies_ahead_by bs first at line (Word len kind) fits e = e ∙ ap (with_token (token_of kind at len line)) (rest_skipped bs len false at line fits.0 fits.1)
+lies_ahead_by bs first at line (Fault f) fits e = e
+
+-- what lies ahead of the lexeme at the front
+pub lies_ahead : (bs : List ℕ) (first : Bool) (at line : ℕ) → 0 < length bs → LiesAhead bs first at line (lexeme_of first bs)
+lies_ahead bs first at line h = lies_ahead_by bs first at line (lexeme_of first bs) (lexeme_fits bs first h) (at_front bs first at line h)
+
+-- the same at a place of a source, for what lies ahead there
+module _ (source : List ℕ) (first : Bool) (at line : ℕ) (v : Ahead) (inside : at < length source) (is : ahead_at source first at line ≡ v) where
+  -- a byte is left
+  some_left : 0 < length (drop at source)
+  some_left = simp length-drop (omega arith)
+
+  -- what lies ahead at the place
+  front : LiesAhead (drop at source) first at line (lexeme_of first (drop at source))
+  front = lies_ahead (drop at source) first at line some_left
+
+  -- what stands there is within the source
+  fits : FitsIn (drop at source) (lexeme_of first (drop at source))
+  fits = lexeme_fits (drop at source) first some_left
+
+  -- `&source[at..]`
+  tail : take (length source - at) (drop at source) ≡ drop at source
+  tail = between_to_end source at (length source) (omega arith)
+
+  -- past what is no token
+  pub trivia_at : (len : ℕ) → Trivia len ≡ lexeme_of first (take (length source - at) (drop at source)) → (0 < len) × (at + len ≤ length source) × (ahead_at source first (at + len) line ≡ v)
+  trivia_at len e =
+      let f = subst (FitsIn (drop at source)) (sym (e ∙ ap (lexeme_of first) tail)) fits in
+      let l = subst (LiesAhead (drop at source) first at line) (sym (e ∙ ap (lexeme_of first) tail)) front in
+      let d : drop len (drop at source) ≡ drop (at + len) source = rw drop-drop in
+      (f.0, omega (arith, f.1, length-drop at source), ap (λ bs. ahead (tokens_from bs 0 first (at + len) line) line) (sym d) ∙ (ap (λ x. ahead x line) (sym l) ∙ is))
+
+  -- past a line feed
+  pub line_feed_at : LineFeed ≡ lexeme_of first (take (length source - at) (drop at source)) → TakesToken v (Ok (Some (token_of LineEnd at 1 line))) (ahead_at source true (at + 1) (line + 1))
+  line_feed_at e =
+      let l = subst (LiesAhead (drop at source) first at line) (sym (e ∙ ap (lexeme_of first) tail)) front in
+      let d : drop 1 (drop at source) ≡ drop (at + 1) source = rw drop-drop in
+      let m = l ∙ ap (λ bs. with_token (token_of LineEnd at 1 line) (tokens_from bs 0 true (at + 1) (line + 1))) d in
+      (sym (ap (λ x. x.tokens) is) ∙ ap (λ x. x.tokens) m, sym (ap (λ x. x.ending) m) ∙ ap (λ x. x.ending) is, ap (λ x. x.line) is, refl)
+
+  -- past a token
+  pub word_at : (len : ℕ) (kind : Kind) → Word len kind ≡ lexeme_of first (take (length source - at) (drop at source)) → (0 < len) × (at + len ≤ length source) × TakesToken v (Ok (Some (token_of kind at len line))) (ahead_at source false (at + len) line)
+  word_at len kind e =
+      let f = subst (FitsIn (drop at source)) (sym (e ∙ ap (lexeme_of first) tail)) fits in
+      let l = subst (LiesAhead (drop at source) first at line) (sym (e ∙ ap (lexeme_of first) tail)) front in
+      let d : drop len (drop at source) ≡ drop (at + len) source = rw drop-drop in
+      let m = l ∙ ap (λ bs. with_token (token_of kind at len line) (tokens_from bs 0 false (at + len) line)) d in
+      (f.0, omega (arith, f.1, length-drop at source), (sym (ap (λ x. x.tokens) is) ∙ ap (λ x. x.tokens) m, sym (ap (λ x. x.ending) m) ∙ ap (λ x. x.ending) is, ap (λ x. x.line) is, sym (f.2 line)))
+
+  -- at a fault nothing is left
+  pub fault_at : (fault : LexFault) → Fault fault ≡ lexeme_of first (take (length source - at) (drop at source)) → (v.tokens ≡ []) × (v.ending ≡ Some fault)
+  fault_at fault e =
+      let l = subst (LiesAhead (drop at source) first at line) (sym (e ∙ ap (lexeme_of first) tail)) front in
+      (sym (ap (λ x. x.tokens) is) ∙ ap (λ x. x.tokens) l, sym (ap (λ x. x.ending) is) ∙ ap (λ x. x.ending) l)

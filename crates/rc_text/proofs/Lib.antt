@@ -1,0 +1,16 @@
+pub mod ReadTrees
+pub mod OneTree
+pub mod TreesRead
+pub mod Faults
+pub mod Evaluation
+pub mod RunSteps
+pub mod ReadingSteps
+pub mod WholeReading
+pub mod NumberSteps
+pub mod WordSteps
+pub mod LexemeSteps
+pub mod HeaderSteps
+pub mod Spans
+pub mod LongestTokens
+pub mod SpelledTokens
+pub mod StandingTokens

@@ -1,0 +1,26 @@
+-- The lines that are ignored at the head of a text: those up to and with the first that begins with `;redcode` in any case, if one does
+-- (pMARS; that the line counts wherever it stands, and that its word may go on, is this project's own).
+use Rattle.std.specs.Prelude.{ℕ, Bool, true, false, ◌&&◌, ◌||◌, ◌==◌, ◌+◌, List, [], ◌∷◌, Option, Some, None, if◌then◌else◌, codes, unwrap_or}
+use Rattle.rc_text.specs.declared.header.Extent.{Extent}
+use Rattle.rc_text.specs.Bytes.{LINE_FEED, begins_with_word}
+
+abbrev pub extent : ℕ → ℕ → Extent
+extent bytes lines = record { bytes = bytes; lines = lines }
+
+-- with so many bytes and lines before it
+abbrev pub preceded : ℕ → ℕ → Option Extent → Option Extent
+preceded bytes lines None = None
+preceded bytes lines (Some e) = Some (extent (bytes + e.bytes) (lines + e.lines))
+
+-- the header in what is left of a text, if there is one; `begins` says that a line begins here, `found` that this line is the one
+abbrev pub header_from : List ℕ → (begins found : Bool) → Option Extent
+header_from [] begins false = None
+header_from [] begins true = Some (extent 0 0)
+header_from (b ∷ rest) begins found =
+    let here = found || (begins && begins_with_word (codes ";redcode") (b ∷ rest)) in
+    if b == LINE_FEED then (if here then Some (extent 1 1) else preceded 1 1 (header_from rest true false))
+    else preceded 1 0 (header_from rest false here)
+
+-- how many bytes and lines of the text are ignored
+abbrev pub header_of : List ℕ → Extent
+header_of text = unwrap_or (header_from text true false) (extent 0 0)

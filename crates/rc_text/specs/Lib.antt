@@ -1,0 +1,14 @@
+-- Tokens and expressions of Redcode, the language of Core War warriors. A text is a list of tokens, each the longest at its place, and
+-- what ends them. An expression is the list of its symbols; it means the value of the one tree that the grammar gives to the whole list.
+-- A name is reserved, predefined or free by two tables.
+pub mod Bytes
+pub mod Signs
+pub mod Headers
+pub mod Tokens
+pub mod Symbols
+pub mod Grammar
+pub mod Values
+pub mod Reading
+pub mod NameClasses
+pub mod TokenTexts
+pub mod Examples

@@ -1,0 +1,44 @@
+-- Which words are names, and which names are taken.
+use Rattle.std.specs.Prelude.{ℕ, Bool, false, ◌&&◌, ◌||◌, List, [], ◌∷◌, if◌then◌else◌, codes}
+use Rattle.std.specs.List.{list_any, list_all}
+use Rattle.std.specs.Str.{bytes_eq}
+use Rattle.rc_text.specs.declared.class.NameClass.{NameClass}
+use Rattle.rc_text.specs.declared.class.NameClass.TheVariants.{NoName, Reserved, Predefined, Free}
+use Rattle.rc_text.specs.Bytes.{begins_name, continues_name, is_same_word}
+
+-- a letter or an underscore, then letters, digits and underscores
+abbrev pub is_name : List ℕ → Bool
+is_name [] = false
+is_name (b ∷ rest) = begins_name b && list_all continues_name rest
+
+-- the opcodes of the 1994 draft
+abbrev pub draft_opcodes : List (List ℕ)
+draft_opcodes = codes "DAT" ∷ codes "MOV" ∷ codes "ADD" ∷ codes "SUB" ∷ codes "MUL" ∷ codes "DIV" ∷ codes "MOD" ∷ codes "JMP" ∷ codes "JMZ" ∷ codes "JMN" ∷ codes "DJN" ∷ codes "CMP" ∷ codes "SLT" ∷ codes "SPL" ∷ []
+
+-- the opcodes that pMARS adds
+abbrev pub added_opcodes : List (List ℕ)
+added_opcodes = codes "SEQ" ∷ codes "SNE" ∷ codes "NOP" ∷ []
+
+-- the directives: ORG and END of the 1994 draft, EQU, FOR and ROF of pMARS
+abbrev pub directives : List (List ℕ)
+directives = codes "ORG" ∷ codes "END" ∷ codes "EQU" ∷ codes "FOR" ∷ codes "ROF" ∷ []
+
+-- one of the words in any case
+abbrev pub is_one_of : List (List ℕ) → List ℕ → Bool
+is_one_of words name = list_any (λ word. is_same_word word name) words
+
+abbrev pub is_reserved : List ℕ → Bool
+is_reserved name = is_one_of draft_opcodes name || (is_one_of added_opcodes name || is_one_of directives name)
+
+-- the names that stand for rules, in capitals (pMARS; WARRIORS, VERSION and CURLINE as they are here are this project's own)
+abbrev pub predefined_names : List (List ℕ)
+predefined_names = codes "CORESIZE" ∷ codes "MAXPROCESSES" ∷ codes "MAXCYCLES" ∷ codes "MAXLENGTH" ∷ codes "MINDISTANCE" ∷ codes "WARRIORS" ∷ codes "VERSION" ∷ codes "CURLINE" ∷ []
+
+abbrev pub is_predefined : List ℕ → Bool
+is_predefined name = list_any (λ word. bytes_eq name word) predefined_names
+
+-- what these bytes are as a name
+abbrev pub class_of : List ℕ → NameClass
+class_of bytes =
+    if is_name bytes then (if is_reserved bytes then Reserved else if is_predefined bytes then Predefined else Free)
+    else NoName

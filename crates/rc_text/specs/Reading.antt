@@ -1,0 +1,147 @@
+-- How an expression is read from the left, for any meaning of its parts. Contracts of private functions, and laws, speak of this; what an
+-- expression means is said in Grammar and Values.
+use Rattle.std.specs.Prelude.{◌≡◌, ℕ, suc, ◌≤◌, ◌<◌, Bool, true, false, nat_lt, nat_le, List, [], ◌∷◌, Result, Ok, Err, if◌then◌else◌, pos}
+use Rattle.std.specs.Result.{result_flatten}
+use Rattle.rc_text.specs.declared.token.Sign.{Sign}
+use Rattle.rc_text.specs.declared.token.Sign.TheVariants.{Open, Close}
+use Rattle.rc_text.specs.declared.token.Kind.{Kind}
+use Rattle.rc_text.specs.declared.token.Kind.TheVariants.{Sign as SignOf}
+use Rattle.rc_text.specs.declared.token.Token.{Token}
+use Rattle.rc_text.specs.declared.fault.EvalFault.{EvalFault}
+use Rattle.rc_text.specs.declared.fault.EvalFault.TheVariants.{Syntax, TooDeep}
+use Rattle.rc_text.specs.Symbols.{Symbol, Numeral, Identifier, Mark, Foreign}
+use Rattle.rc_text.specs.Grammar.{level_of, is_prefix}
+use Rattle.rc_text.specs.Values.{Meaning, Outcome, name_outcome, prefix_outcome, infix_outcome, DEEPEST}
+
+-- what the parts of an expression mean, and how many parentheses may be open
+pub record Algebra (A : Type 0) : Type 0 where
+  pub limit : ℕ
+  pub literal : ℕ → A
+  pub named : List ℕ → A
+  pub group : A → A
+  pub prefix : Sign → A → A
+  pub infix' : A → Sign → A → A
+
+-- what waits for an operand: an open parenthesis, a sign, or a left side with its operator
+pub data Frame (A : Type 0) : Type 0 where
+  Paren : Frame A
+  Before : (s : Sign) → Frame A
+  Left : (left : A) → (s : Sign) → Frame A
+
+-- how many parentheses are open
+abbrev pub open_count : {A : Type 0} → List (Frame A) → ℕ
+open_count [] = 0
+open_count (Paren ∷ frames) = suc (open_count frames)
+open_count (Before s ∷ frames) = open_count frames
+open_count (Left x s ∷ frames) = open_count frames
+
+-- what is read, or the fault that ends the reading: Syntax or TooDeep
+abbrev pub Read : Type 0 → Type 0
+Read A = Result A EvalFault
+
+-- what happens to an operand on the frames below it
+abbrev pub Continuation : Type 0 → Type 0
+Continuation A = A → List (Frame A) → Read A
+
+-- the frames that bind at least as tight as the level are closed over the operand
+abbrev pub reduction : {A : Type 0} → Algebra A → ℕ → Continuation A → Continuation A
+reduction m level next x [] = next x []
+reduction m level next x (Paren ∷ frames) = next x (Paren ∷ frames)
+reduction m level next x (Before s ∷ frames) = reduction m level next (m.prefix s x) frames
+reduction m level next x (Left l s ∷ frames) = if nat_le level (level_of s) then reduction m level next (m.infix' l s x) frames else next x (Left l s ∷ frames)
+
+-- at the end no frame is left
+abbrev pub at_bottom : {A : Type 0} → Continuation A
+at_bottom x [] = Ok x
+at_bottom x (f ∷ frames) = Err Syntax
+
+-- at a closing parenthesis one is open
+abbrev pub at_paren : {A : Type 0} → Algebra A → Continuation A → Continuation A
+at_paren m next x [] = Err Syntax
+at_paren m next x (Paren ∷ frames) = next (m.group x) frames
+at_paren m next x (Before s ∷ frames) = Err Syntax
+at_paren m next x (Left l s ∷ frames) = Err Syntax
+
+abbrev pub is_close : Sign → Bool
+is_close Close = true
+is_close _ = false
+
+abbrev pub is_open : Sign → Bool
+is_open Open = true
+is_open _ = false
+
+-- the symbols are read where an operand has to come, and where one has come
+unfoldable mutual
+  pub before_operand : {A : Type 0} → Algebra A → List Symbol → List (Frame A) → Read A
+  before_operand m [] frames = Err Syntax
+  before_operand m (Numeral n ∷ rest) frames = after_operand m rest (m.literal n) frames
+  before_operand m (Identifier name ∷ rest) frames = after_operand m rest (m.named name) frames
+  before_operand m (Mark s ∷ rest) frames =
+      if is_open s then (if nat_lt (open_count frames) m.limit then before_operand m rest (Paren ∷ frames) else Err TooDeep) else
+      if is_prefix s then before_operand m rest (Before s ∷ frames) else Err Syntax
+  before_operand m (Foreign ∷ rest) frames = Err Syntax
+
+  pub after_operand : {A : Type 0} → Algebra A → List Symbol → A → List (Frame A) → Read A
+  after_operand m [] x frames = reduction m 1 at_bottom x frames
+  after_operand m (Mark s ∷ rest) x frames =
+      if is_close s then reduction m 1 (at_paren m (after_operand m rest)) x frames else
+      if nat_lt 0 (level_of s) then reduction m (level_of s) (λ y others. before_operand m rest (Left y s ∷ others)) x frames else Err Syntax
+  after_operand m (_ ∷ rest) x frames = Err Syntax
+
+-- parts that mean their values
+abbrev pub values : Meaning → ℕ → Algebra Outcome
+values names limit = record {
+  limit = limit;
+  literal = λ n. Ok (pos n);
+  named = λ name. name_outcome (names name);
+  group = λ x. x;
+  prefix = prefix_outcome;
+  infix' = infix_outcome;
+}
+
+-- the value of an expression or its fault, as it is found from the left: a fault of the grammar comes first
+abbrev pub evaluation_of : Meaning → List Symbol → Outcome
+evaluation_of names symbols = result_flatten (before_operand (values names DEEPEST) symbols [])
+
+-- an operand of this tightness may stand on these frames
+abbrev pub IsBelow : {A : Type 0} → ℕ → List (Frame A) → Type 0
+IsBelow n [] = Unit {0}
+IsBelow n (Paren ∷ frames) = Unit {0}
+IsBelow n (Before s ∷ frames) = 7 ≤ n
+IsBelow n (Left x s ∷ frames) = level_of s < n
+
+-- no operator of this level or a tighter one comes next
+abbrev pub Stops : ℕ → List Symbol → Type 0
+Stops n [] = Unit {0}
+Stops n (Mark s ∷ rest) = level_of s < n
+Stops n (_ ∷ rest) = Unit {0}
+
+-- from these symbols on an operand is read up to the rest, whatever looser frames wait for it
+abbrev pub IsRead : Meaning → (level waiting : ℕ) → List Symbol → Outcome → List Symbol → Type 0
+IsRead names level waiting symbols x rest = (frames : List (Frame Outcome)) → IsBelow level frames → open_count frames ≡ waiting
+    → before_operand (values names DEEPEST) symbols frames ≡ after_operand (values names DEEPEST) rest x frames
+
+-- no operand is read, and this fault ends the reading
+abbrev pub IsRefused : Meaning → (level waiting : ℕ) → List Symbol → EvalFault → Type 0
+IsRefused names level waiting symbols e = (frames : List (Frame Outcome)) → IsBelow level frames → open_count frames ≡ waiting
+    → before_operand (values names DEEPEST) symbols frames ≡ Err e
+
+-- no closing parenthesis comes next
+abbrev pub BeginsWithoutClose : List Symbol → Type 0
+BeginsWithoutClose [] = Unit {0}
+BeginsWithoutClose (Mark s ∷ rest) = is_close s ≡ false
+BeginsWithoutClose (_ ∷ rest) = Unit {0}
+
+-- the signs that stand before an operand
+abbrev pub is_prefix_kind : Kind → Bool
+is_prefix_kind (SignOf s) = is_prefix s
+is_prefix_kind _ = false
+
+-- a run of signs before an operand acts from the right
+abbrev pub signed_by : Kind → Outcome → Outcome
+signed_by (SignOf s) x = prefix_outcome s x
+signed_by _ x = x
+
+abbrev pub signed_outcome : List Token → Outcome → Outcome
+signed_outcome [] x = x
+signed_outcome (t ∷ ts) x = signed_by t.kind (signed_outcome ts x)

@@ -1,0 +1,134 @@
+//! Which names are taken.
+ghost use Rattle.std.specs.Prelude.{◌≡◌};
+ghost use Rattle.std.specs.List.{list_all};
+ghost use Rattle.std.specs.Str.{bytes_eq};
+ghost use Rattle.rc_text.specs.Bytes.{continues_name, is_same_word};
+ghost use Rattle.rc_text.specs.NameClasses.{is_name, draft_opcodes, added_opcodes, directives, is_one_of, is_reserved, is_predefined, class_of};
+
+use crate::bytes::{begins_name, continues_name};
+
+/// What bytes are as a name.
+#[derive(Clone, Copy, Debug, PartialEq, Eq)]
+pub enum NameClass {
+    /// No name: not a letter or `_` and then letters, digits and `_`.
+    NoName,
+    /// An opcode word or a directive, in any case.
+    Reserved,
+    /// A name that stands for a rule, in capitals.
+    Predefined,
+    /// Any other name.
+    Free,
+}
+
+// Letters, digits and `_`.
+fn continues(rest: &[u8]) -> bool
+    ensures { result ≡ list_all continues_name rest.now }
+{
+    rest.iter().all(|byte| continues_name(*byte))
+}
+
+// A letter or `_`, then letters, digits and `_`.
+#[tactic(auto, using(crate::proofs::WordSteps::name_of_more, crate::proofs::WordSteps::name_of_none))]
+fn is_name(bytes: &[u8]) -> bool
+    ensures { result ≡ is_name bytes.now }
+{
+    match bytes {
+        [] => false,
+        [first, rest @ ..] => begins_name(*first) && continues(rest),
+    }
+}
+
+// Whether the two words have the same letters in any case.
+fn is_same_word(word: &[u8], name: &[u8]) -> bool
+    ensures { result ≡ is_same_word word.now name.now }
+{
+    word.eq_ignore_ascii_case(name)
+}
+
+// Whether the two words are the same, letter by letter.
+fn is_exactly(word: &[u8], name: &[u8]) -> bool
+    ensures { result ≡ bytes_eq name.now word.now }
+{
+    name == word
+}
+
+// An opcode of the 1994 draft.
+fn is_draft_opcode(name: &[u8]) -> bool
+    ensures { result ≡ is_one_of draft_opcodes name.now }
+{
+    is_same_word(b"DAT", name)
+        || is_same_word(b"MOV", name)
+        || is_same_word(b"ADD", name)
+        || is_same_word(b"SUB", name)
+        || is_same_word(b"MUL", name)
+        || is_same_word(b"DIV", name)
+        || is_same_word(b"MOD", name)
+        || is_same_word(b"JMP", name)
+        || is_same_word(b"JMZ", name)
+        || is_same_word(b"JMN", name)
+        || is_same_word(b"DJN", name)
+        || is_same_word(b"CMP", name)
+        || is_same_word(b"SLT", name)
+        || is_same_word(b"SPL", name)
+}
+
+// An opcode that pMARS adds.
+fn is_added_opcode(name: &[u8]) -> bool
+    ensures { result ≡ is_one_of added_opcodes name.now }
+{
+    is_same_word(b"SEQ", name) || is_same_word(b"SNE", name) || is_same_word(b"NOP", name)
+}
+
+// A directive.
+fn is_directive(name: &[u8]) -> bool
+    ensures { result ≡ is_one_of directives name.now }
+{
+    is_same_word(b"ORG", name)
+        || is_same_word(b"END", name)
+        || is_same_word(b"EQU", name)
+        || is_same_word(b"FOR", name)
+        || is_same_word(b"ROF", name)
+}
+
+// An opcode word or a directive.
+fn is_reserved(name: &[u8]) -> bool
+    ensures { result ≡ is_reserved name.now }
+{
+    is_draft_opcode(name) || is_added_opcode(name) || is_directive(name)
+}
+
+// A name that stands for a rule.
+fn is_predefined(name: &[u8]) -> bool
+    ensures { result ≡ is_predefined name.now }
+{
+    is_exactly(b"CORESIZE", name)
+        || is_exactly(b"MAXPROCESSES", name)
+        || is_exactly(b"MAXCYCLES", name)
+        || is_exactly(b"MAXLENGTH", name)
+        || is_exactly(b"MINDISTANCE", name)
+        || is_exactly(b"WARRIORS", name)
+        || is_exactly(b"VERSION", name)
+        || is_exactly(b"CURLINE", name)
+}
+
+/// What these bytes are as a name.
+///
+/// - No name: anything but a letter or `_` and then letters, digits and `_`.
+/// - Reserved, in any case: the opcodes (the 1994 draft's with CMP; SEQ, SNE and NOP of pMARS), and
+///   ORG, END, EQU, FOR and ROF.
+/// - Predefined, in capitals: CORESIZE, MAXPROCESSES, MAXCYCLES, MAXLENGTH, MINDISTANCE, WARRIORS,
+///   VERSION and CURLINE (pMARS).
+/// - Free: any other name.
+pub fn name_class(bytes: &[u8]) -> NameClass
+    ensures { result ≡ class_of bytes.now }
+{
+    if !is_name(bytes) {
+        NameClass::NoName
+    } else if is_reserved(bytes) {
+        NameClass::Reserved
+    } else if is_predefined(bytes) {
+        NameClass::Predefined
+    } else {
+        NameClass::Free
+    }
+}

@@ -1,0 +1,179 @@
+//! The value of an expression.
+ghost use Rattle.std.specs.Prelude.{true, ◌≡◌, ℤ, ◌<◌, ◌≤◌, [], ◌∷◌, length, IfOk, IfErr, IfSome, IfNone, All, MatchResult, Result};
+ghost use Rattle.std.specs.List.{prefix_len};
+ghost use Rattle.rc_text.specs.declared.fault.EvalFault.{EvalFault};
+ghost use Rattle.rc_text.specs.Values.{IsValue, IsFault, HasOutcome, DEEPEST};
+ghost use Rattle.rc_text.specs.Symbols.{LiesIn, symbols_of, Mark};
+ghost use Rattle.rc_text.specs.Reading.{IsRead, IsRefused, Stops, is_prefix_kind, signed_by, signed_outcome};
+
+use crate::fault::EvalFault;
+use crate::front::{after_close, first_of, operator, split_signs};
+use crate::names::Names;
+use crate::operator::{
+    Outcome, infix_outcome, level_of, name_outcome, number_outcome, prefix_outcome,
+};
+use crate::token::{Kind, Sign, Token};
+
+// How many parentheses may be open at once.
+const MAX_OPEN: u8 = 64;
+
+// What a sign before an operand makes of it.
+fn signed_by(kind: Kind, operand: Outcome) -> Outcome
+    ensures { result ≡ signed_by kind operand }
+{
+    match kind {
+        Kind::Sign(sign) => prefix_outcome(sign, operand),
+        _ => operand,
+    }
+}
+
+// What all signs before an operand make of it, the last one first.
+#[tactic(auto, using(crate::proofs::RunSteps::last_first))]
+fn signed_outcome(signs: &[Token], operand: Outcome) -> Outcome
+    ensures { result ≡ signed_outcome signs.now operand }
+{
+    let mut outcome = operand;
+    let mut waiting = signs;
+    while let Some((last, others)) = waiting.split_last() {
+        outcome = signed_by(last.kind, outcome);
+        waiting = others;
+    }
+    outcome
+}
+
+// What follows an open parenthesis: an expression and the closing parenthesis.
+#[cycle(expression)]
+fn group<'a, N: Names>(
+    source: &[u8],
+    tokens: &'a [Token],
+    names: &N,
+    waiting: u8,
+) -> Result<(Outcome, &'a [Token]), EvalFault>
+    requires inside { All (LiesIn source.now) tokens.now }
+    requires room { waiting ≤ DEEPEST }
+    ensures read { MatchResult result
+        (λ r. IsRead (N.meaning names.now) 8 waiting
+        (Mark Sign.Open ∷ symbols_of source.now tokens.now) r.0 (symbols_of source.now r.1.now))
+        (IsRefused (N.meaning names.now) 8 waiting (Mark Sign.Open ∷ symbols_of source.now tokens.now)) }
+    ensures inside { IfOk result (λ r. All (LiesIn source.now) r.1.now) }
+    ensures shorter { IfOk result (λ r. length r.1.now < length tokens.now) }
+{
+    if waiting == MAX_OPEN {
+        return Err(EvalFault::TooDeep);
+    }
+    let (outcome, after) = climb(source, tokens, names, 1, waiting + 1)?;
+    match after_close(source, after) {
+        None => Err(EvalFault::Syntax),
+        Some(rest) => Ok((outcome, rest)),
+    }
+}
+
+// A number, a name or a group.
+#[cycle(expression)]
+fn primary<'a, N: Names>(
+    source: &[u8],
+    tokens: &'a [Token],
+    names: &N,
+    waiting: u8,
+) -> Result<(Outcome, &'a [Token]), EvalFault>
+    requires inside { All (LiesIn source.now) tokens.now }
+    requires room { waiting ≤ DEEPEST }
+    requires unsigned { prefix_len (λ t. is_prefix_kind t.kind) tokens.now ≡ 0 }
+    ensures read { MatchResult result
+        (λ r. IsRead (N.meaning names.now) 8 waiting
+        (symbols_of source.now tokens.now) r.0 (symbols_of source.now r.1.now))
+        (IsRefused (N.meaning names.now) 8 waiting (symbols_of source.now tokens.now)) }
+    ensures inside { IfOk result (λ r. All (LiesIn source.now) r.1.now) }
+    ensures shorter { IfOk result (λ r. length r.1.now < length tokens.now) }
+{
+    match first_of(source, tokens) {
+        None => Err(EvalFault::Syntax),
+        Some((token, rest)) => match token.kind {
+            Kind::Number(n) => Ok((number_outcome(n), rest)),
+            Kind::Name => Ok((name_outcome(names.value(source, token)), rest)),
+            Kind::Sign(sign) => match sign {
+                Sign::Open => group(source, rest, names, waiting),
+                _ => Err(EvalFault::Syntax),
+            },
+            Kind::Assert | Kind::LineEnd => Err(EvalFault::Syntax),
+        },
+    }
+}
+
+// An operand: any signs, and a number, a name or a group.
+#[cycle(expression)]
+fn operand<'a, N: Names>(
+    source: &[u8],
+    tokens: &'a [Token],
+    names: &N,
+    waiting: u8,
+) -> Result<(Outcome, &'a [Token]), EvalFault>
+    requires inside { All (LiesIn source.now) tokens.now }
+    requires room { waiting ≤ DEEPEST }
+    ensures read { MatchResult result
+        (λ r. IsRead (N.meaning names.now) 8 waiting
+        (symbols_of source.now tokens.now) r.0 (symbols_of source.now r.1.now))
+        (IsRefused (N.meaning names.now) 8 waiting (symbols_of source.now tokens.now)) }
+    ensures inside { IfOk result (λ r. All (LiesIn source.now) r.1.now) }
+    ensures shorter { IfOk result (λ r. length r.1.now < length tokens.now) }
+{
+    let (signs, unsigned) = split_signs(source, tokens);
+    let (outcome, rest) = primary(source, unsigned, names, waiting)?;
+    Ok((signed_outcome(signs, outcome), rest))
+}
+
+// An operand and, from the left, each operator of this level or a tighter one with its right side.
+#[cycle(expression)]
+fn climb<'a, N: Names>(
+    source: &[u8],
+    tokens: &'a [Token],
+    names: &N,
+    level: u8,
+    waiting: u8,
+) -> Result<(Outcome, &'a [Token]), EvalFault>
+    requires inside { All (LiesIn source.now) tokens.now }
+    requires room { waiting ≤ DEEPEST }
+    requires level { 0 < level }
+    requires tightest { level ≤ 7 }
+    ensures read { MatchResult result
+        (λ r. IsRead (N.meaning names.now) level waiting
+        (symbols_of source.now tokens.now) r.0 (symbols_of source.now r.1.now))
+        (IsRefused (N.meaning names.now) level waiting (symbols_of source.now tokens.now)) }
+    ensures stops { IfOk result (λ r. Stops level (symbols_of source.now r.1.now)) }
+    ensures inside { IfOk result (λ r. All (LiesIn source.now) r.1.now) }
+    ensures shorter { IfOk result (λ r. length r.1.now < length tokens.now) }
+{
+    let (mut left, mut rest) = operand(source, tokens, names, waiting)?;
+    while let Some((sign, after)) = operator(source, rest, level) {
+        let (right, next) = climb(source, after, names, level_of(sign) + 1, waiting)?;
+        left = infix_outcome(left, sign, right);
+        rest = next;
+    }
+    Ok((left, rest))
+}
+
+/// The value of the expression that the tokens are, all of them. Each token's span has to lie in the source.
+///
+/// From the tightest: numbers, names and parentheses; `+ - !` before an operand; `* / %`; `+ -`;
+/// `< > <= >=`; `== !=`; `&&`; `||`. Each level groups to the left. Values have 64 bits with a sign,
+/// division goes toward zero, and a remainder has the sign of the dividend. Truth is 1 or 0; both sides
+/// of `&&` and `||` are evaluated. (The operators are those of pMARS; all else is this project's own.)
+///
+/// Refuses what is no expression (`Syntax`) and a 65th open parenthesis (`TooDeep`), whichever comes
+/// first from the left. Where the whole is an expression it refuses, whichever comes first from the
+/// left, a name that stands for nothing (`UnknownName`), a zero divisor (`DivisionByZero`) and a result
+/// that does not fit (`Overflow`).
+pub fn eval<N: Names>(source: &[u8], tokens: &[Token], names: &N) -> Result<i64, EvalFault>
+    requires { All (LiesIn source.now) tokens.now }
+    ensures value { IfOk result (IsValue (N.meaning names.now) (symbols_of source.now tokens.now)) }
+    ensures fault { IfErr result (IsFault (N.meaning names.now) (symbols_of source.now tokens.now)) }
+    ensures only { (r : Result ℤ EvalFault) →
+        HasOutcome (N.meaning names.now) (symbols_of source.now tokens.now) r → result ≡ r }
+{
+    let (outcome, rest) = climb(source, tokens, names, 1, 0)?;
+    if rest.is_empty() {
+        outcome
+    } else {
+        Err(EvalFault::Syntax)
+    }
+}

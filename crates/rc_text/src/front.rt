@@ -1,0 +1,94 @@
+//! What stands at the front of the tokens of an expression.
+ghost use Rattle.std.specs.Prelude.{◌≡◌, ◌<◌, ◌≤◌, [], ◌∷◌, length, take, drop, IfSome, IfNone, All};
+ghost use Rattle.std.specs.List.{prefix_len};
+ghost use Rattle.rc_text.specs.Grammar.{level_of};
+ghost use Rattle.rc_text.specs.Symbols.{LiesIn, symbol_of, symbols_of, Mark};
+ghost use Rattle.rc_text.specs.Reading.{Stops, BeginsWithoutClose, is_prefix_kind};
+
+use crate::operator::{is_prefix, level_of};
+use crate::token::{Kind, Sign, Token};
+
+/// The first token and the others.
+pub(crate) fn first_of<'a>(source: &[u8], tokens: &'a [Token]) -> Option<(&'a Token, &'a [Token])>
+    requires { All (LiesIn source.now) tokens.now }
+    ensures tokens { IfSome result (λ p. tokens.now ≡ p.0.now ∷ p.1.now) }
+    ensures symbols { IfSome result (λ p.
+        symbols_of source.now tokens.now ≡ symbol_of source.now p.0.now ∷ symbols_of source.now p.1.now) }
+    ensures first { IfSome result (λ p. LiesIn source.now p.0.now) }
+    ensures inside { IfSome result (λ p. All (LiesIn source.now) p.1.now) }
+    ensures shorter { IfSome result (λ p. length p.1.now < length tokens.now) }
+    ensures none { IfNone result (symbols_of source.now tokens.now ≡ []) }
+{
+    tokens.split_first()
+}
+
+/// The first token where it is an operator of this level or a tighter one, and what follows it.
+pub(crate) fn operator<'a>(
+    source: &[u8],
+    tokens: &'a [Token],
+    level: u8,
+) -> Option<(Sign, &'a [Token])>
+    requires inside { All (LiesIn source.now) tokens.now }
+    requires level { 0 < level }
+    ensures symbols { IfSome result (λ p.
+        symbols_of source.now tokens.now ≡ Mark p.0 ∷ symbols_of source.now p.1.now) }
+    ensures inside { IfSome result (λ p. All (LiesIn source.now) p.1.now) }
+    ensures shorter { IfSome result (λ p. length p.1.now < length tokens.now) }
+    ensures tight { IfSome result (λ p. level ≤ level_of p.0) }
+    ensures stops { IfNone result (Stops level (symbols_of source.now tokens.now)) }
+{
+    let (token, rest) = first_of(source, tokens)?;
+    match token.kind {
+        Kind::Sign(sign) if level <= level_of(sign) => Some((sign, rest)),
+        _ => None,
+    }
+}
+
+/// The tokens after a closing parenthesis, if one comes first.
+pub(crate) fn after_close<'a>(source: &[u8], tokens: &'a [Token]) -> Option<&'a [Token]>
+    requires { All (LiesIn source.now) tokens.now }
+    ensures symbols { IfSome result (λ rest.
+        symbols_of source.now tokens.now ≡ Mark Sign.Close ∷ symbols_of source.now rest.now) }
+    ensures inside { IfSome result (λ rest. All (LiesIn source.now) rest.now) }
+    ensures shorter { IfSome result (λ rest. length rest.now < length tokens.now) }
+    ensures none { IfNone result (BeginsWithoutClose (symbols_of source.now tokens.now)) }
+{
+    let (token, rest) = first_of(source, tokens)?;
+    match token.kind {
+        Kind::Sign(Sign::Close) => Some(rest),
+        _ => None,
+    }
+}
+
+// Whether a token is a sign that may stand before an operand.
+fn is_prefix_kind(kind: Kind) -> bool
+    ensures { result ≡ is_prefix_kind kind }
+{
+    match kind {
+        Kind::Sign(sign) => is_prefix(sign),
+        _ => false,
+    }
+}
+
+// How many signs stand before the operand.
+fn sign_count(tokens: &[Token]) -> usize
+    ensures { result ≡ prefix_len (λ t. is_prefix_kind t.kind) tokens.now }
+{
+    tokens
+        .iter()
+        .take_while(|token| is_prefix_kind(token.kind))
+        .count()
+}
+
+/// The signs before the operand, and the tokens behind them.
+#[tactic(auto, using(crate::proofs::RunSteps::within, crate::proofs::RunSteps::rest_inside, crate::proofs::RunSteps::unsigned))]
+pub(crate) fn split_signs<'a>(source: &[u8], tokens: &'a [Token]) -> (&'a [Token], &'a [Token])
+    requires { All (LiesIn source.now) tokens.now }
+    ensures signs { result.0.now ≡ take (prefix_len (λ t. is_prefix_kind t.kind) tokens.now) tokens.now }
+    ensures rest { result.1.now ≡ drop (prefix_len (λ t. is_prefix_kind t.kind) tokens.now) tokens.now }
+    ensures unsigned { prefix_len (λ t. is_prefix_kind t.kind) result.1.now ≡ 0 }
+    ensures inside { All (LiesIn source.now) result.1.now }
+    ensures shorter { length result.1.now ≤ length tokens.now }
+{
+    tokens.split_at(sign_count(tokens))
+}

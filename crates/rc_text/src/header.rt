@@ -1,0 +1,53 @@
+//! The lines at the head of a text that are ignored.
+ghost use Rattle.std.specs.Prelude.{◌≡◌, ◌≤◌, ◌&&◌, ◌||◌, codes, length};
+ghost use Rattle.rc_text.specs.Bytes.{begins_with_word};
+ghost use Rattle.rc_text.specs.Headers.{header_of};
+
+use crate::bytes::begins_with_word;
+
+/// How many bytes and how many lines the head of a text has.
+#[derive(Clone, Copy, Debug, PartialEq, Eq)]
+pub struct Extent {
+    pub bytes: usize,
+    pub lines: u64,
+}
+
+// Whether this line begins with `;redcode`, now that this is left of the text.
+fn is_header_line(rest: &[u8], begins: bool, found: bool) -> bool
+    ensures { result ≡ (found || (begins && begins_with_word (codes ";redcode") rest.now)) }
+{
+    found || (begins && begins_with_word(b";redcode", rest))
+}
+
+/// The lines up to and with the first that begins with `;redcode`, in any case; none where no line does.
+pub(crate) fn header_of(text: &[u8]) -> Extent
+    ensures value { result ≡ header_of text.now }
+    ensures within { result.bytes ≤ length text.now }
+    ensures lines { result.lines ≤ result.bytes }
+{
+    let mut begins = true;
+    let mut found = false;
+    let mut lines = 0;
+    for i in 0..text.len() {
+        let here = is_header_line(&text[i..], begins, found);
+        begins = text[i] == b'\n';
+        found = here && !begins;
+        if begins {
+            lines += 1;
+            if here {
+                return Extent {
+                    bytes: i + 1,
+                    lines,
+                };
+            }
+        }
+    }
+    if found {
+        Extent {
+            bytes: text.len(),
+            lines,
+        }
+    } else {
+        Extent { bytes: 0, lines: 0 }
+    }
+}

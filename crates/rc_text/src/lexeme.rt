@@ -1,0 +1,139 @@
+//! What stands at the front of a text.
+ghost use Rattle.std.specs.Prelude.{◌≡◌, ◌^◌, ◌<◌, take, length, slice_index, min};
+ghost use Rattle.std.specs.Char.{is_ascii_digit};
+ghost use Rattle.std.specs.List.{prefix_len};
+ghost use Rattle.rc_text.specs.Bytes.{decimal_value};
+ghost use Rattle.rc_text.specs.Signs.{long_sign, short_sign};
+ghost use Rattle.rc_text.specs.Tokens.{sign_lexeme, number_lexeme, is_assert, lexeme_of};
+
+use crate::bytes::{begins_name, begins_with_word, comment_len, digits_len, is_blank, name_len};
+use crate::fault::LexFault;
+use crate::token::{Kind, Sign};
+
+/// What stands at a place: bytes that are passed over, a line feed, a token with its length, or a fault.
+#[derive(Clone, Copy, Debug, PartialEq, Eq)]
+pub enum Lexeme {
+    Trivia(usize),
+    LineFeed,
+    Word(usize, Kind),
+    Fault(LexFault),
+}
+
+// The sign of these two bytes.
+fn long_sign(first: u8, second: u8) -> Option<Sign>
+    ensures { result ≡ long_sign first second }
+{
+    match (first, second) {
+        (b'<', b'=') => Some(Sign::LessEqual),
+        (b'>', b'=') => Some(Sign::GreaterEqual),
+        (b'=', b'=') => Some(Sign::Equal),
+        (b'!', b'=') => Some(Sign::NotEqual),
+        (b'&', b'&') => Some(Sign::And),
+        (b'|', b'|') => Some(Sign::Or),
+        _ => None,
+    }
+}
+
+// The sign of this byte.
+fn short_sign(byte: u8) -> Option<Sign>
+    ensures { result ≡ short_sign byte }
+{
+    match byte {
+        b'.' => Some(Sign::Dot),
+        b',' => Some(Sign::Comma),
+        b':' => Some(Sign::Colon),
+        b'&' => Some(Sign::Ampersand),
+        b'#' => Some(Sign::Hash),
+        b'$' => Some(Sign::Dollar),
+        b'@' => Some(Sign::At),
+        b'{' => Some(Sign::OpenBrace),
+        b'}' => Some(Sign::CloseBrace),
+        b'(' => Some(Sign::Open),
+        b')' => Some(Sign::Close),
+        b'+' => Some(Sign::Plus),
+        b'-' => Some(Sign::Minus),
+        b'*' => Some(Sign::Star),
+        b'/' => Some(Sign::Slash),
+        b'%' => Some(Sign::Percent),
+        b'!' => Some(Sign::Bang),
+        b'<' => Some(Sign::Less),
+        b'>' => Some(Sign::Greater),
+        _ => None,
+    }
+}
+
+// The number that the digits spell, or 2 ^ 32 where it is greater.
+#[tactic(auto, using(crate::proofs::NumberSteps::digit_at, crate::proofs::NumberSteps::decimal_more))]
+fn decimal(digits: &[u8]) -> u64
+    requires { prefix_len is_ascii_digit digits.now ≡ length digits.now }
+    ensures { result ≡ min (decimal_value digits.now) (2 ^ 32) }
+{
+    let mut value: u64 = 0;
+    for digit in digits {
+        value = (value * 10 + u64::from(*digit - b'0')).min(1 << 32);
+    }
+    value
+}
+
+// Whether `;assert` and a blank stand at the front.
+fn is_assert(text: &[u8]) -> bool
+    ensures { result ≡ is_assert text.now }
+{
+    begins_with_word(b";assert", text) && text.len() > 7 && is_blank(text[7])
+}
+
+// The number whose digits stand at the front.
+#[tactic(auto, using(crate::proofs::NumberSteps::all_digits))]
+fn number(text: &[u8]) -> Lexeme
+    ensures { let len = prefix_len is_ascii_digit text.now in
+        result ≡ number_lexeme len (decimal_value (take len text.now)) }
+{
+    let len = digits_len(text);
+    let value = decimal(&text[..len]);
+    if value < 1 << 32 {
+        Lexeme::Word(len, Kind::Number(value as u32))
+    } else {
+        Lexeme::Fault(LexFault::NumberTooLarge)
+    }
+}
+
+// The longest sign at the front.
+fn sign(text: &[u8]) -> Lexeme
+    requires { 0 < length text.now }
+    ensures { let first = slice_index text.now 0 in
+        result ≡ sign_lexeme (long_sign first (slice_index text.now 1)) (short_sign first) }
+{
+    let second = if text.len() > 1 { text[1] } else { 0 };
+    match long_sign(text[0], second) {
+        Some(sign) => Lexeme::Word(2, Kind::Sign(sign)),
+        None => match short_sign(text[0]) {
+            Some(sign) => Lexeme::Word(1, Kind::Sign(sign)),
+            None => Lexeme::Fault(LexFault::BadByte),
+        },
+    }
+}
+
+/// What stands at the front of a text, where `first` says that only blanks stand before it on its line.
+pub(crate) fn lexeme_of(text: &[u8], first: bool) -> Lexeme
+    requires { 0 < length text.now }
+    ensures { result ≡ lexeme_of first text.now }
+{
+    let byte = text[0];
+    if is_blank(byte) {
+        Lexeme::Trivia(1)
+    } else if byte == b'\n' {
+        Lexeme::LineFeed
+    } else if byte == b';' {
+        if first && is_assert(text) {
+            Lexeme::Word(7, Kind::Assert)
+        } else {
+            Lexeme::Trivia(comment_len(text))
+        }
+    } else if begins_name(byte) {
+        Lexeme::Word(name_len(text), Kind::Name)
+    } else if byte.is_ascii_digit() {
+        number(text)
+    } else {
+        sign(text)
+    }
+}

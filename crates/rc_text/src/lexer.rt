@@ -1,0 +1,104 @@
+//! From bytes to tokens.
+ghost use Rattle.std.specs.Prelude.{◌≡◌, ◌+◌, ◌^◌, ◌<◌, length};
+ghost use Rattle.rc_text.specs.Tokens.{token_of};
+
+use crate::fault::LexFault;
+use crate::header::header_of;
+use crate::lexeme::{Lexeme, lexeme_of};
+use crate::token::{Joined, Kind, Token};
+use std::marker::Model;
+
+/// Gives the tokens of a text, one after the other.
+///
+/// A token is the longest one at its place. Blanks and comments are passed over, and so are all lines
+/// up to and with the first that begins with `;redcode`, if one does (pMARS; in detail this project's
+/// own). Each line feed is a token; the end of the text gives none.
+#[derive(Drop)]
+pub struct Lexer<'a> {
+    source: &'a [u8],
+    at: usize,
+    line: u64,
+    first: bool,
+}
+
+impl<'a> Model for Lexer<'a> {
+    ghost use Rattle.std.specs.Prelude.{◌≤◌, ◌+◌, length};
+    ghost use Rattle.rc_text.specs.Tokens.{Ahead, ahead_at};
+
+    ghost Value = { Ahead };
+
+    ghost view = { λ l. ahead_at l.source.now l.first l.at l.line };
+
+    ghost invariant = { λ l. (l.at ≤ length l.source.now) × (l.line ≤ l.at + 1) };
+}
+
+impl<'a> Lexer<'a> {
+    ghost use Rattle.rc_text.specs.Tokens.{ahead_of, InOrder, TakesToken};
+
+    /// The lexer of a text, before its first token.
+    #[tactic(auto, using(crate::proofs::Spans::in_order_from))]
+    pub fn new(source: &'a [u8]) -> Self
+        ensures tokens { result ≡ ahead_of source.now }
+        ensures spans { InOrder 0 (length source.now) result.tokens }
+    {
+        let header = header_of(source);
+        Lexer {
+            source,
+            at: header.bytes,
+            line: 1 + header.lines,
+            first: true,
+        }
+    }
+
+    /// The line at which the lexer stands, from 1: that of the last token, the next one behind a line
+    /// end, and after a fault the fault's.
+    pub fn line(&self) -> u64
+        ensures { result ≡ self.now.line }
+    {
+        self.line
+    }
+
+    /// Takes the next token, or answers `None` at the end of the text.
+    ///
+    /// Refuses a byte that begins no token (`BadByte`) and a number above 4294967295
+    /// (`NumberTooLarge`). At the end and at a fault nothing changes, so that every later call gives the
+    /// same answer.
+    pub fn next_token(&mut self) -> Result<Option<Token>, LexFault>
+        ensures { TakesToken self.old result self.new }
+    {
+        while self.at < self.source.len() {
+            match lexeme_of(&self.source[self.at..], self.first) {
+                Lexeme::Trivia(len) => self.at += len,
+                Lexeme::LineFeed => {
+                    let token = token_of(Kind::LineEnd, self.at, 1, self.line);
+                    self.at += 1;
+                    self.line += 1;
+                    self.first = true;
+                    return Ok(Some(token));
+                }
+                Lexeme::Word(len, kind) => {
+                    let token = token_of(kind, self.at, len, self.line);
+                    self.at += len;
+                    self.first = false;
+                    return Ok(Some(token));
+                }
+                Lexeme::Fault(fault) => return Err(fault),
+            }
+        }
+        Ok(None)
+    }
+}
+
+// A token as it stands in the text.
+fn token_of(kind: Kind, lo: usize, len: usize, line: u64) -> Token
+    requires { lo + len < 2 ^ 64 }
+    ensures { result ≡ token_of kind lo len line }
+{
+    Token {
+        kind,
+        lo,
+        hi: lo + len,
+        line,
+        joined: Joined::new(),
+    }
+}
