@@ -1,5 +1,19 @@
-.PHONY: test
+.PHONY: test build demo bench
+
+PROGRAM = crates/cwtune/out/cwtune
 
 # The whole gate: every proof from nothing, every test, every edit that must be refused. Ends with the gate's last line.
 test:
 	@rt ci
+
+# Proves and builds the program, and runs it once on its stored input.
+build:
+	@cd crates/cwtune && rt run < stdin > /dev/null
+
+# Plays the example fights, and fails where a result is not the expected one.
+demo: build
+	@sh examples/play.sh $(PROGRAM)
+
+# Measures turns per second; PMARS=PATH measures a pMARS server build beside it, RUNS=N plays more often.
+bench: build
+	@python3 bench/run.py --bin $(PROGRAM) $(if $(PMARS),--pmars $(PMARS)) $(if $(RUNS),--runs $(RUNS))

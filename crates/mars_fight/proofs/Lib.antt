@@ -1,0 +1,8 @@
+pub mod Reading
+pub mod Fields
+pub mod Powers
+pub mod Meant
+pub mod Faults
+pub mod Walking
+pub mod Placed
+pub mod Points

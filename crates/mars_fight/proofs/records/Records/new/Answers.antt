@@ -1,0 +1,9 @@
+use Rattle.std.proofs.Common.{refl}
+use Rattle.mars_fight.specs.Records.{records_of, records_left}
+use Rattle.mars_fight.proofs.records.Records.new.Goals as goal
+
+pub returns : goal.returns
+unfolding records_of records_left
+returns c =
+    let made = c.from_reader-reader.ensures in
+    rw (made.state, made.source) refl

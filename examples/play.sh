@@ -1,0 +1,33 @@
+#!/bin/sh
+# Plays the fights that expected.txt lists and compares each result line with the line that stands there.
+# One line of output per fight: its name and its result. Ends with status 0 where all are as expected, else with 1.
+# Use: examples/play.sh [PROGRAM]
+
+here=$(dirname "$0")
+program=${1:-$here/../crates/cwtune/out/cwtune}
+wrong=0
+
+if [ ! -x "$program" ]; then
+    echo "play.sh: no program at $program" >&2
+    exit 1
+fi
+
+for fight in "$here"/*.fight; do
+    if ! grep -q "^$(basename "$fight" .fight) " "$here/expected.txt"; then
+        echo "play.sh: expected.txt has no line for $fight" >&2
+        wrong=1
+    fi
+done
+
+while read -r name expected || [ -n "$name" ]; do
+    result=$("$program" <"$here/$name.fight")
+    status=$?
+    if [ "$status" -eq 0 ] && [ "$result" = "$expected" ]; then
+        printf '%-28s %s\n' "$name" "$result"
+    else
+        printf '%-28s %s (status %d; expected: %s)\n' "$name" "$result" "$status" "$expected"
+        wrong=1
+    fi
+done <"$here/expected.txt"
+
+exit "$wrong"
