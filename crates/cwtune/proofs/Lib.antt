@@ -1,2 +1,3 @@
 pub mod Parting
 pub mod Pieces
+pub mod Limits

@@ -1,5 +1,5 @@
 -- What a run over the text of a fight answers (this project's own).
-use Rattle.std.specs.Prelude.{◌≡◌, ◌≢◌, ℕ, ◌+◌, ◌≤◌, List, Option, Result, Ok, Err}
+use Rattle.std.specs.Prelude.{◌≡◌, ◌≢◌, ℕ, ◌+◌, ◌≤◌, List, Option, IfSome, Ok, Err}
 use Rattle.std.specs.Io.KnownBytes.{Appends}
 use Rattle.rc_instr.specs.Rules.{Limits, IsRules}
 use Rattle.rc_instr.specs.RulesRefusal.{IsFirstBroken}
@@ -66,18 +66,15 @@ IsLoadRefusal (Load s fault) side rules bytes = (s ≡ side) × IsRefusedLoad fa
 IsLoadRefusal OutOfMemory side rules bytes = Unit {0}
 IsLoadRefusal _ side rules bytes = ⊥
 
--- the result line of the fight that some text names was written
-abbrev pub TellsFight : Option (List ℕ) → Option (List ℕ) → Type 0
-TellsFight old new =
-    (text : List ℕ) × (w : FightWords) × (c : Program) × (o : Program) × NamesFight text w c o
-    × Appends old new (result_line (outcome_for w c o))
+-- the result line of the fight that the text names was written
+abbrev pub TellsFight : List ℕ → Option (List ℕ) → Option (List ℕ) → Type 0
+TellsFight text old new =
+    (w : FightWords) × (c : Program) × (o : Program) × NamesFight text w c o × Appends old new (result_line (outcome_for w c o))
 
--- the exit status of a run: 0 done, 1 refused, 3 where a write failed or memory was refused
-abbrev pub exit_status : Result (Unit {0}) RunFault → ℕ
-exit_status (Ok u) = 0
-exit_status (Err (FightText line)) = 1
-exit_status (Err (Rules e)) = 1
-exit_status (Err (Load side fault)) = 1
-exit_status (Err Position) = 1
-exit_status (Err Write) = 3
-exit_status (Err OutOfMemory) = 3
+-- the text is refused, for a reason that is not want of memory
+abbrev pub IsRefusedText : List ℕ → Type 0
+IsRefusedText text = (e : RunFault) × (e ≢ OutOfMemory) × IsRefusal e text
+
+-- the text is what an input had, where that is known
+abbrev pub IsInput : Option (List ℕ) → List ℕ → Type 0
+IsInput known text = IfSome known (λ bytes. text ≡ bytes)
