@@ -1,0 +1,16 @@
+pub mod ReplaceSteps
+pub mod NameSteps
+pub mod Copies
+pub mod Each
+pub mod EquSteps
+pub mod UnrollSteps
+pub mod SettingSteps
+pub mod TableSteps
+pub mod CountSteps
+pub mod OpeningSteps
+pub mod ReadSteps
+pub mod HeadSteps
+pub mod Distinct
+pub mod EquLines
+pub mod LineSteps
+pub mod Labelled

@@ -1,0 +1,6 @@
+use Rattle.std.proofs.Common.{◌≡◌, ◌≤◌, drop}
+use Rattle.rc_expand.specs.Heads.{nests}
+use Rattle.rc_expand.proofs.blocks.check_blocks.Given as goal
+
+abbrev pub invariant-loop-i : goal.invariant-loop-i
+invariant-loop-i l = (nests 0 l.heads ≡ nests l.opened (drop l.i l.heads)) × (l.opened ≤ 8)

@@ -1,0 +1,20 @@
+use Rattle.std.proofs.Common.{sym, ◌∙◌, ap, slice_range}
+use Rattle.std.specs.Prelude.{flat_map}
+use Rattle.std.specs.Str.{bytes_eq}
+use Rattle.rc_text.specs.Symbols.{counter_text}
+use Rattle.rc_expand.proofs.NameSteps.{peeled, counter_peeled, counter_differs}
+use Rattle.rc_expand.proofs.names.spells.Goals as goal
+
+pub loop-counter-init : goal.loop-counter-init
+loop-counter-init c =
+    peeled (slice_range c.args.source.now c.args.token.now.lo c.args.token.now.hi) (flat_map counter_text c.args.token.now.joined) c.args.name.now c.in-Some.after.now c.in-Some.ensures
+    ∙ ap (λ ks. bytes_eq (flat_map counter_text ks) c.in-Some.after.now) (sym c.as_slice-counter-items.ensures)
+
+pub returns-in-None-after_counter : goal.returns-in-None-after_counter
+returns-in-None-after_counter c =
+    sym (c.loop-counter.invariant ∙ counter_differs c.as_slice-counter-items.result.now c.loop-counter.rest.now c.loop-counter.counter-index c.loop-counter-test.true c.in-None-after_counter.ensures)
+
+pub loop-counter-preserved : goal.loop-counter-preserved
+loop-counter-preserved c =
+    c.loop-counter.invariant
+    ∙ counter_peeled c.as_slice-counter-items.result.now c.loop-counter.rest.now c.in-Some-after_counter.after.now c.loop-counter.counter-index c.loop-counter-test.true c.in-Some-after_counter.ensures

@@ -1,0 +1,40 @@
+-- Opcode words, and what names stand for outside of a text.
+use Rattle.std.specs.Prelude.{ℕ, Bool, ◌||◌, List, [], ◌∷◌, Option, Some, None, if◌then◌else◌, codes, ℤ, pos}
+use Rattle.std.specs.Global.{Vec}
+use Rattle.std.specs.List.{list_any}
+use Rattle.std.specs.Str.{bytes_eq}
+use Rattle.rc_text.specs.NameClasses.{draft_opcodes, added_opcodes, is_one_of}
+use Rattle.rc_instr.specs.Rules.{Limits}
+
+abbrev pub is_among : List (List ℕ) → List ℕ → Bool
+is_among names name = list_any (λ n. bytes_eq n name) names
+
+-- an opcode of the 1994 draft or one that pMARS adds, in any case
+unfoldable pub is_opcode_word : List ℕ → Bool
+is_opcode_word name = is_one_of draft_opcodes name || is_one_of added_opcodes name
+
+-- names with values
+abbrev pub Table : Type 0
+Table = List (List ℕ × ℤ)
+
+-- names and their values, one by one
+abbrev pub table_of : List (Vec ℕ) → List ℤ → Table
+table_of (n ∷ names) (v ∷ values) = (n.items, v) ∷ table_of names values
+table_of _ _ = []
+
+-- the predefined names but CURLINE, which has no value before the lines are counted
+-- (pMARS; WARRIORS and VERSION with these values are this project's own)
+abbrev pub predefined : Limits → Table
+predefined r = (codes "CORESIZE", pos r.core) ∷ (codes "MAXPROCESSES", pos r.tasks) ∷ (codes "MAXCYCLES", pos r.cycles) ∷ (codes "MAXLENGTH", pos r.length) ∷ (codes "MINDISTANCE", pos r.distance) ∷ (codes "WARRIORS", pos 2) ∷ (codes "VERSION", pos 92) ∷ []
+
+abbrev pub CURLINE : List ℕ
+CURLINE = codes "CURLINE"
+
+-- the value of the first entry with this name
+abbrev pub found : Table → List ℕ → Option ℤ
+found [] name = None
+found (e ∷ table) name = if bytes_eq name e.0 then Some e.1 else found table name
+
+abbrev pub or_else : {A : Type 0} → Option A → Option A → Option A
+or_else (Some x) o = Some x
+or_else None o = o

@@ -1,0 +1,283 @@
+-- The second part of the expansion: FOR blocks give way to their copies (FOR, ROF and `&` are pMARS's in outline; in detail this is this project's own).
+use Rattle.std.specs.Prelude.{ℕ, zero, suc, Bool, true, false, ◌&&◌, ◌||◌, not, ◌+◌, nat_le, nat_lt, ℤ, pos, negsuc, List, [], ◌∷◌, ◌++◌, length, map, Option, Some, None, if◌then◌else◌, option_and_then, option_map, is_some, ◌≡◌, ◌≤◌, ◌<◌, Result, Ok, Err, IfSome, IfNone, ◌≢◌}
+use Rattle.std.specs.Global.{Vec}
+use Rattle.std.specs.Result.{result_ok}
+use Rattle.std.specs.Str.{bytes_eq}
+use Rattle.rc_text.specs.declared.token.Kind.TheVariants.{Number}
+use Rattle.rc_text.specs.declared.token.Token.{Token}
+use Rattle.rc_text.specs.Symbols.{name_of, symbols_of}
+use Rattle.rc_text.specs.Reading.{evaluation_of}
+use Rattle.rc_expand.specs.declared.head.Head.{Head}
+use Rattle.rc_expand.specs.declared.head.HeadWord.{HeadWord}
+use Rattle.rc_expand.specs.declared.head.HeadWord.TheVariants as word
+use Rattle.rc_expand.specs.declared.head.Opening.{Opening}
+use Rattle.rc_expand.specs.declared.fault.ExpandFault.{ExpandFault}
+use Rattle.rc_expand.specs.declared.fault.ExpandKind.{ExpandKind}
+use Rattle.rc_expand.specs.declared.fault.ExpandKind.TheVariants.{OutOfMemory, EquTooDeep, TooManyTokens}
+use Rattle.rc_expand.specs.declared.replace.ReplaceFault.{ReplaceFault}
+use Rattle.rc_expand.specs.declared.replace.ReplaceFault.TheVariants as replace
+use Rattle.rc_instr.specs.Rules.{Limits}
+use Rattle.rc_expand.specs.Names.{Table, found, or_else, predefined, CURLINE}
+use Rattle.rc_expand.specs.Lines.{choose, is_name, is_ampersand, is_colon, is_free, has_modifier, is_unjoined, bare_line}
+use Rattle.rc_expand.specs.Replace.{Equs, equ_of, replaced_tokens}
+
+-- the lines of a part of a text, and how many copies of blocks they have
+pub record Unrolled : Type 0 where
+  pub lines : List Head
+  pub copies : ℕ
+
+abbrev pub nothing : Unrolled
+nothing = record { lines = []; copies = 0 }
+
+-- one after the other, where both are there
+abbrev pub followed_by : Option Unrolled → Option Unrolled → Option Unrolled
+followed_by (Some a) (Some b) = Some (record { lines = a.lines ++ b.lines; copies = a.copies + b.copies })
+followed_by (Some a) None = None
+followed_by None o = None
+
+abbrev pub one_more_copy : Unrolled → Unrolled
+one_more_copy u = record { lines = u.lines; copies = suc u.copies }
+
+-- so many copies, one after the other, the first of which is for the counter k
+abbrev pub copies_from : (ℕ → Option Unrolled) → ℕ → ℕ → Option Unrolled
+copies_from f zero k = Some nothing
+copies_from f (suc n) k = followed_by (option_map one_more_copy (f k)) (copies_from f n (k + 1))
+
+-- every item by itself, where there is one for each
+abbrev pub all_of : {A B : Type 0} → (A → Option B) → List A → Option (List B)
+all_of f [] = Some []
+all_of f (x ∷ xs) = option_and_then (λ y. option_map (λ ys. y ∷ ys) (all_of f xs)) (f x)
+
+-- the labels before a counter stand on a line of their own
+abbrev pub earlier_line : ℕ → List (List Token) → List Head
+earlier_line number [] = []
+earlier_line number (l ∷ ls) = bare_line number (l ∷ ls) ∷ []
+
+-- all labels but the last
+abbrev pub earlier_of : List (List Token) → List (List Token)
+earlier_of [] = []
+earlier_of (l ∷ []) = []
+earlier_of (l ∷ m ∷ ls) = l ∷ earlier_of (m ∷ ls)
+
+abbrev pub is_bare : List (List Token) → List Token → Bool
+is_bare [] [] = true
+is_bare _ _ = false
+
+-- nothing stands before ROF or behind it
+abbrev pub is_bare_rof : Head → Bool
+is_bare_rof h = not h.spoiled && is_bare h.labels h.rest
+
+-- a count below 1 makes no copy, and one above 4096 is refused
+abbrev pub small_count : ℤ → Option ℕ
+small_count (negsuc n) = Some 0
+small_count (pos n) = if nat_le n 4096 then Some n else None
+
+module _ (constants : Table) (limits : Limits) where
+  -- what a name stands for in a count: a constant or a predefined name
+  unfoldable pub count_names : List ℕ → Option ℤ
+  count_names name = or_else (found constants name) (found (predefined limits) name)
+
+  unfoldable pub is_taken : List ℕ → Bool
+  is_taken name = is_some (count_names name) || bytes_eq name CURLINE
+
+  -- an EQU name, a constant or a predefined name
+  abbrev pub is_known : Equs → List ℕ → Bool
+  is_known equs name = is_taken name || is_some (equ_of equs name)
+
+module _ (source : List ℕ) where
+  abbrev pub is_use : List ℕ → Token → Bool
+  is_use counter t = is_name t && bytes_eq (name_of source t) counter
+
+  -- a use of the counter that is not joined becomes its number
+  abbrev pub numbered : List ℕ → ℕ → Token → Token
+  numbered counter k t = if is_use counter t then record t { kind = Number k } else t
+
+  -- at most eight counters are joined to a name
+  abbrev pub joined : ℕ → Token → Option Token
+  joined k t = if nat_lt (length t.joined) 8 then Some (record t { joined = t.joined ++ (k ∷ []) }) else None
+
+  -- the tokens behind a name begin with `&` and the counter
+  abbrev pub joins : List ℕ → Token → List Token → Bool
+  joins counter t (u ∷ v ∷ ts) = is_name t && (is_ampersand u && is_use counter v)
+  joins counter t _ = false
+
+  -- the tokens in the copy for k: `t` is the name that may yet be joined, and stands before the others
+  abbrev pub copied_from : List ℕ → ℕ → Token → List Token → Option (List Token)
+  copied_from counter k t [] = Some (numbered counter k t ∷ [])
+  copied_from counter k t (u ∷ []) = option_map (λ r. numbered counter k t ∷ r) (copied_from counter k u [])
+  copied_from counter k t (u ∷ v ∷ ts) =
+      choose (is_name t && (is_ampersand u && is_use counter v)) (λ i. option_and_then (λ j. copied_from counter k j ts) (joined k t))
+      (λ i. option_map (λ r. numbered counter k t ∷ r) (copied_from counter k u (v ∷ ts)))
+
+  abbrev pub copied_tokens : List ℕ → ℕ → List Token → Option (List Token)
+  copied_tokens counter k [] = Some []
+  copied_tokens counter k (t ∷ ts) = copied_from counter k t ts
+
+  -- behind an opcode word and a dot the modifier is left alone
+  abbrev pub copied_code : List ℕ → ℕ → List Token → Option (List Token)
+  copied_code counter k (t ∷ u ∷ v ∷ ts) =
+      choose (has_modifier source t u v) (λ i. option_map (λ r. t ∷ u ∷ v ∷ r) (copied_tokens counter k ts)) (λ i. copied_tokens counter k (t ∷ u ∷ v ∷ ts))
+  copied_code counter k ts = copied_tokens counter k ts
+
+  abbrev pub copied_rest : List ℕ → ℕ → HeadWord → List Token → Option (List Token)
+  copied_rest counter k word.Code ts = copied_code counter k ts
+  copied_rest counter k _ ts = copied_tokens counter k ts
+
+  -- a line to which a ninth counter would be joined is spoiled: nothing is left of it but its word
+  abbrev pub or_spoiled : Head → Option (List (List Token)) → Option (List Token) → Head
+  or_spoiled h (Some labels) (Some rest) = record h { labels = labels; rest = rest }
+  or_spoiled h _ _ = record h { labels = []; rest = []; spoiled = true }
+
+  -- the line in the copy for k
+  unfoldable pub copied_line : List ℕ → ℕ → Head → Head
+  copied_line counter k h = or_spoiled h (all_of (copied_tokens counter k) h.labels) (copied_rest counter k h.word h.rest)
+
+  -- the block in the copy for k
+  abbrev pub copied_block : Option (List ℕ) → ℕ → List Head → List Head
+  copied_block None k hs = hs
+  copied_block (Some counter) k hs = map (copied_line counter k) hs
+
+  -- the token of a label that is one name, with or without its colon
+  abbrev pub label_token : List Token → Option Token
+  label_token (t ∷ []) = if is_free source t then Some t else None
+  label_token (t ∷ u ∷ []) = if is_free source t && is_colon u then Some t else None
+  label_token _ = None
+
+  abbrev pub if_unjoined : Token → Option Token
+  if_unjoined t = if is_unjoined t.joined then Some t else None
+
+  -- a label that is one name, written without `&`
+  abbrev pub plain_token : List Token → Option Token
+  plain_token l = option_and_then if_unjoined (label_token l)
+
+  abbrev pub plain_name : List Token → Option (List ℕ)
+  plain_name l = option_map (name_of source) (plain_token l)
+
+  -- the last label, if any: none where it is not plain
+  abbrev pub counter_token : List (List Token) → Option (Option Token)
+  counter_token [] = Some None
+  counter_token (l ∷ []) = option_map (λ t. Some t) (plain_token l)
+  counter_token (l ∷ m ∷ ls) = counter_token (m ∷ ls)
+
+  module _ (constants : Table) (limits : Limits) where
+    module _ (equs : Equs) where
+      -- the count of a block
+      unfoldable pub count_of : List Token → Option ℕ
+      count_of ts = option_and_then (λ r. option_and_then small_count (result_ok (evaluation_of (count_names constants limits) (symbols_of source r)))) (replaced_tokens source equs ts)
+
+      -- a counter is no EQU name, no constant and no predefined name; that it is no enclosing counter shows in that it did not become a number
+      abbrev pub is_new_counter : Option (List ℕ) → Bool
+      is_new_counter None = true
+      is_new_counter (Some name) = not (is_known constants limits equs name)
+
+      -- the lines of a block, one level deeper
+      abbrev pub Deeper : Type 0
+      Deeper = List Head → Option Unrolled
+
+      abbrev pub copies_of : Deeper → Option (List ℕ) → List Head → ℕ → Option Unrolled
+      copies_of deeper counter block count = copies_from (λ k. deeper (copied_block counter k block)) count 1
+
+      -- the earlier labels, and then the copies
+      abbrev pub opened : Deeper → Head → List Head → Opening → Option Unrolled
+      opened deeper f block o = followed_by (Some (record { lines = earlier_line f.number o.earlier; copies = 0 })) (copies_of deeper o.counter block o.count)
+
+      abbrev pub counted : Head → Option Token → Option Opening
+      counted f counter =
+          if is_new_counter (option_map (name_of source) counter) then
+          option_map (λ n. record { counter = option_map (name_of source) counter; earlier = earlier_of f.labels; count = n }) (count_of f.rest)
+          else None
+
+      -- what the FOR and the ROF of a block say: the counter, the labels before it and the count
+      unfoldable pub opening : Head → Head → Option Opening
+      opening f rof = if not f.spoiled && is_bare_rof rof then option_and_then (counted f) (counter_token f.labels) else None
+
+      -- a whole block: its FOR, the lines in it, and its ROF
+      unfoldable pub block_of : Deeper → Head → List Head → Head → Option Unrolled
+      block_of deeper f block rof = option_and_then (opened deeper f block) (opening f rof)
+
+      -- a line that is no FOR; EQU stands outside blocks alone
+      abbrev pub by_word : HeadWord → (in_block spoiled : Bool) → Head → Option Unrolled
+      by_word word.Rof b s h = None
+      by_word word.Equ true s h = None
+      by_word _ b true h = None
+      by_word _ b false h = Some (record { lines = h ∷ []; copies = 0 })
+
+      unfoldable pub one_line : (in_block : Bool) → Head → Option Unrolled
+      one_line b h = by_word h.word b h.spoiled h
+
+      -- a line outside a block: a FOR begins one
+      abbrev pub line_outside : HeadWord → (Unit {0} → Option Unrolled) → (Unit {0} → Option Unrolled) → Option Unrolled
+      line_outside word.For begins goes_on = begins tt
+      line_outside _ begins goes_on = goes_on tt
+
+      -- a line in a block in which so many are open: how many are open behind it, or the end of the block
+      abbrev pub line_inside : HeadWord → ℕ → (ℕ → Option Unrolled) → (Unit {0} → Option Unrolled) → Option Unrolled
+      line_inside word.For n goes_on ends = goes_on (suc n)
+      line_inside word.Rof zero goes_on ends = ends tt
+      line_inside word.Rof (suc n) goes_on ends = goes_on n
+      line_inside _ n goes_on ends = goes_on n
+
+      -- the lines from here on: outside a block, or in one whose FOR was read, with so many blocks open in it
+      abbrev mutual
+        pub outside : (in_block : Bool) → Deeper → List Head → Option Unrolled
+        outside b deeper [] = Some nothing
+        outside b deeper (h ∷ hs) = line_outside h.word (λ u. inside b deeper h 0 [] hs) (λ u. followed_by (one_line b h) (outside b deeper hs))
+
+        pub inside : (in_block : Bool) → Deeper → Head → ℕ → List Head → List Head → Option Unrolled
+        inside b deeper f opened block [] = None
+        inside b deeper f opened block (h ∷ hs) =
+            line_inside h.word opened (λ n. inside b deeper f n (block ++ (h ∷ [])) hs)
+            (λ u. followed_by (block_of deeper f block h) (outside b deeper hs))
+
+      -- what stands for the lines of a block, where blocks may nest so deep in it
+      abbrev pub deeper_at : ℕ → Deeper
+      deeper_at zero = λ hs. None
+      deeper_at (suc levels) = outside true (deeper_at levels)
+
+      -- the lines of a text, with the lines and copies of blocks at most 4096
+      abbrev pub within_limit : Unrolled → Option (List Head)
+      within_limit u = if nat_le (length u.lines + u.copies) 4096 then Some u.lines else None
+
+      -- blocks nest at most 8 deep
+      unfoldable pub unrolled : List Head → Option (List Head)
+      unrolled hs = option_and_then within_limit (outside false (deeper_at 8) hs)
+
+-- the lines of a block in which so many are open, its ROF, and what follows
+pub record Cut : Type 0 where
+  pub block : List Head
+  pub rof : Head
+  pub after : List Head
+
+abbrev pub longer : List Head → Cut → Cut
+longer front c = record { block = front ++ c.block; rof = c.rof; after = c.after }
+
+abbrev pub cut_by : HeadWord → ℕ → (ℕ → Option Cut) → Cut → Option Cut
+cut_by word.For n goes_on ends = goes_on (suc n)
+cut_by word.Rof zero goes_on ends = Some ends
+cut_by word.Rof (suc n) goes_on ends = goes_on n
+cut_by _ n goes_on ends = goes_on n
+
+abbrev pub cut : ℕ → List Head → Option Cut
+cut n [] = None
+cut n (h ∷ hs) = cut_by h.word n (λ m. option_map (longer (h ∷ [])) (cut m hs)) (record { block = []; rof = h; after = hs })
+
+-- The lines and the copies so far, and what a call makes of them: on Ok it adds what the definition gives, within the limit, and
+-- but for want of memory a fault comes only where the definition gives nothing, or too much.
+abbrev pub Appends : List Head → ℕ → Result (Unit {0}) ExpandFault → Option Unrolled → List Head → ℕ → Type 0
+Appends old n (Ok u) r new m = IfNone r ⊥ × IfSome r (λ a. (new ≡ old ++ a.lines) × (m ≡ n + a.copies)) × (length new + m ≤ 4096)
+Appends old n (Err e) r new m = (e.kind ≢ OutOfMemory) → IfSome r (λ a. 4096 < length old + length a.lines + (n + a.copies))
+
+-- a result is what the definition gives, or but for want of memory a fault where it gives nothing
+abbrev pub Gives : {A : Type 0} → Result A ExpandFault → Option A → Type 0
+Gives (Ok x) o = o ≡ Some x
+Gives (Err e) o = (e.kind ≢ OutOfMemory) → o ≡ None
+
+-- the same of a vector
+abbrev pub GivesItems : {A : Type 0} → Result (Vec A) ExpandFault → Option (List A) → Type 0
+GivesItems (Ok v) o = o ≡ Some v.items
+GivesItems (Err e) o = (e.kind ≢ OutOfMemory) → o ≡ None
+
+abbrev pub IsReplaceFault : ReplaceFault → ExpandKind → Type 0
+IsReplaceFault replace.TooDeep k = k ≡ EquTooDeep
+IsReplaceFault replace.TooMany k = k ≡ TooManyTokens
+IsReplaceFault replace.OutOfMemory k = k ≡ OutOfMemory

@@ -1,0 +1,88 @@
+//! EQU lines.
+ghost use Rattle.std.specs.Prelude.{◌≡◌, [], All, IfOk, MatchResult, Some, None};
+ghost use Rattle.rc_text.specs.Symbols.{LiesIn};
+ghost use Rattle.rc_expand.specs.Lines.{HeadLies};
+ghost use Rattle.rc_expand.specs.Heads.{equ_token, equ_of_line, equs_of};
+ghost use Rattle.rc_expand.specs.Names.{table_of};
+ghost use Rattle.rc_expand.specs.Replace.{EqusLie};
+ghost use Rattle.rc_expand.specs.Steps.{new_equ};
+ghost use Rattle.rc_expand.specs.Unroll.{Gives, GivesItems};
+
+use crate::copy::with_front;
+use crate::fault::{ExpandFault, ExpandKind, fault};
+use crate::head::{Head, HeadWord};
+use crate::labels::{plain_name, plain_token};
+use crate::names::{CountNames, is_taken};
+use crate::replace::{Equ, equ_line};
+use rc_text::Token;
+use std::alloc::Global;
+
+// The one label of an EQU line.
+fn equ_token<'a>(source: &[u8], head: &'a Head) -> Result<&'a Token, ExpandFault>
+    requires { HeadLies source.now head.now }
+    ensures token { MatchResult result (λ t. equ_token source.now head.now.labels ≡ Some t.now) (λ e. equ_token source.now head.now.labels ≡ None) }
+    ensures inside { IfOk result (λ t. LiesIn source.now t.now) }
+    ensures written { IfOk result (λ t. t.now.joined ≡ []) }
+{
+    let plain = match head.labels.as_slice() {
+        [label] => plain_token(source, label.as_slice()),
+        _ => None,
+    };
+    match plain {
+        Some(token) => Ok(token),
+        None => Err(fault(head.number, ExpandKind::BadDirective)),
+    }
+}
+
+// The EQU name of a line, which is new beside those so far.
+fn read_equ(
+    alloc: Global,
+    source: &[u8],
+    names: &CountNames,
+    equs: &[Equ],
+    head: &Head,
+) -> Result<Equ, ExpandFault>
+    requires head { HeadLies source.now head.now }
+    ensures equ { Gives result (new_equ source.now (table_of names.now.constants.now.names.now names.now.constants.now.values.now) names.now.rules.now equs.now head.now) }
+    ensures inside { IfOk result (λ e. All (LiesIn source.now) e.1) }
+{
+    let token = equ_token(source, head)?;
+    if is_taken(names, source, token) || equ_line(equs, source, token).is_some() {
+        return Err(fault(head.number, ExpandKind::DuplicateName));
+    }
+    let name = plain_name(alloc, source, token)?;
+    let tokens = with_front(alloc, head.rest.as_slice(), Vec::new(alloc))?;
+    Ok(Equ::new(name, tokens, head.number))
+}
+
+/// The EQU names outside blocks with their tokens.
+///
+/// Refuses, line by line, a line without exactly one plain name before EQU (`BadDirective`) and a name that is an earlier EQU name, a
+/// constant or a predefined name (`DuplicateName`).
+pub(crate) fn collect_equs(
+    alloc: Global,
+    source: &[u8],
+    names: &CountNames,
+    heads: &[Head],
+) -> Result<Vec<Equ>, ExpandFault>
+    requires { All (HeadLies source.now) heads.now }
+    ensures equs { GivesItems result (equs_of source.now (table_of names.now.constants.now.names.now names.now.constants.now.values.now) names.now.rules.now heads.now) }
+    ensures inside { IfOk result (λ v. EqusLie source.now v.items) }
+{
+    let mut opened: usize = 0;
+    let mut equs = Vec::new(alloc);
+    let mut rest = heads;
+    while let Some((head, after)) = rest.split_first() {
+        match head.word {
+            HeadWord::For => opened += 1,
+            HeadWord::Rof => opened = opened.saturating_sub(1),
+            HeadWord::Equ => if opened == 0 {
+                let equ = read_equ(alloc, source, names, &equs, head)?;
+                equs.push(equ)?;
+            },
+            _ => {}
+        }
+        rest = after;
+    }
+    Ok(equs)
+}

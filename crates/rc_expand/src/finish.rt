@@ -1,0 +1,220 @@
+//! Unrolled lines become the lines of the expansion.
+ghost use Rattle.std.specs.Prelude.{◌≡◌, ◌++◌, ◌≤◌, length, flat_map, All, IfOk, IfSome, OnOk};
+ghost use Rattle.rc_text.specs.Symbols.{LiesIn};
+ghost use Rattle.rc_expand.specs.Lines.{HeadLies};
+ghost use Rattle.rc_expand.specs.Replace.{EqusLie, exempt_len_of_code, line_tokens, Replaces};
+ghost use Rattle.rc_expand.specs.Unroll.{Gives, GivesItems, all_of};
+ghost use Rattle.rc_expand.specs.Setting.{IsSetting};
+ghost use Rattle.rc_expand.specs.Expansion.{LineLies, as_list, line_word, kept_lines, own_labels, other_labels, made_line, line_of};
+
+use crate::copy::with_front;
+use crate::fault::{ExpandFault, ExpandKind, fault};
+use crate::head::{Head, HeadWord};
+use crate::labels::label_token;
+use crate::line::{Line, LineWord, Tokens};
+use crate::opening::replace_fault;
+use crate::replace::{Equ, ReplaceFault, replace_tokens};
+use crate::setting::Setting;
+use crate::words::{clone_token, has_modifier};
+use rc_text::Token;
+use std::alloc::{AllocError, Global};
+
+/// The labels before the first that is no single name, and the labels from there on.
+pub(crate) fn split_labels<'a>(
+    alloc: Global,
+    source: &[u8],
+    labels: &'a [Tokens],
+) -> Result<(Tokens, &'a [Tokens]), AllocError>
+    requires { All (All (LiesIn source.now)) labels.now }
+    ensures own { IfOk result (λ p. p.0 ≡ own_labels source.now labels.now) }
+    ensures others { IfOk result (λ p. p.1.now ≡ other_labels source.now labels.now) }
+    ensures own_inside { IfOk result (λ p. All (LiesIn source.now) p.0) }
+    ensures others_inside { IfOk result (λ p. All (All (LiesIn source.now)) p.1.now) }
+{
+    let mut own = Vec::new(alloc);
+    let mut rest = labels;
+    while let Some((label, after)) = rest.split_first() {
+        match label_token(source, label.as_slice()) {
+            None => return Ok((Tokens::from_vec(own), rest)),
+            Some(token) => own.push(clone_token(token)?)?,
+        }
+        rest = after;
+    }
+    Ok((Tokens::from_vec(own), rest))
+}
+
+// Appends tokens.
+fn push_tokens(all: &mut Vec<Token>, source: &[u8], tokens: &[Token]) -> Result<(), AllocError>
+    requires before { All (LiesIn source.now) all.old.items }
+    requires inside { All (LiesIn source.now) tokens.now }
+    ensures tokens { OnOk result (all.new.items ≡ all.old.items ++ tokens.now) }
+    ensures after { OnOk result (All (LiesIn source.now) all.new.items) }
+{
+    for token in tokens {
+        all.push(clone_token(token)?)?;
+    }
+    Ok(())
+}
+
+// Appends the token of a directive, if there is one.
+fn push_directive(
+    all: &mut Vec<Token>,
+    source: &[u8],
+    directive: &Option<Token>,
+) -> Result<(), AllocError>
+    requires before { All (LiesIn source.now) all.old.items }
+    requires inside { IfSome directive.now (LiesIn source.now) }
+    ensures tokens { OnOk result (all.new.items ≡ all.old.items ++ as_list directive.now) }
+    ensures after { OnOk result (All (LiesIn source.now) all.new.items) }
+{
+    match directive {
+        Some(token) => all.push(clone_token(token)?)?,
+        None => {}
+    }
+    Ok(())
+}
+
+// The tokens of a line whose labels are none from some place on: those of the labels, the directive and what follows.
+fn joined_tokens(
+    alloc: Global,
+    source: &[u8],
+    others: &[Tokens],
+    directive: &Option<Token>,
+    rest: &[Token],
+) -> Result<Vec<Token>, AllocError>
+    requires others { All (All (LiesIn source.now)) others.now }
+    requires directive { IfSome directive.now (LiesIn source.now) }
+    requires rest { All (LiesIn source.now) rest.now }
+    ensures inside { IfOk result (λ v. All (LiesIn source.now) v.items) }
+    ensures tokens { IfOk result (λ v. v.items ≡ flat_map (λ x. x) others.now ++ (as_list directive.now ++ rest.now)) }
+{
+    let mut all = Vec::new(alloc);
+    for label in others {
+        push_tokens(&mut all, source, label.as_slice())?;
+    }
+    push_directive(&mut all, source, directive)?;
+    push_tokens(&mut all, source, rest)?;
+    Ok(all)
+}
+
+// How many tokens at the front of a line of code are left alone: its first, and a modifier behind an opcode word and a dot.
+fn exempt_len_of_code(source: &[u8], tokens: &[Token]) -> usize
+    requires { All (LiesIn source.now) tokens.now }
+    ensures exempt { result ≡ exempt_len_of_code source.now tokens.now }
+    ensures room { result ≤ length tokens.now }
+{
+    match tokens {
+        [] => 0,
+        [first, dot, modifier, ..] => if has_modifier(source, first, dot, modifier) {
+            3
+        } else {
+            1
+        },
+        _ => 1,
+    }
+}
+
+// The tokens of a line with their EQU names replaced.
+fn line_tokens(
+    alloc: Global,
+    source: &[u8],
+    equs: &[Equ],
+    word: HeadWord,
+    tokens: &[Token],
+) -> Result<Tokens, ReplaceFault>
+    requires inside { All (LiesIn source.now) tokens.now }
+    requires lies { EqusLie source.now equs.now }
+    ensures tokens { Replaces result (line_tokens source.now equs.now word tokens.now) }
+    ensures inside { IfOk result (All (LiesIn source.now)) }
+{
+    let exempt = match word {
+        HeadWord::Code => exempt_len_of_code(source, tokens),
+        _ => 0,
+    };
+    let replaced = replace_tokens(alloc, source, &tokens[exempt..], equs)?;
+    Ok(with_front(alloc, &tokens[..exempt], replaced.into_vec())?)
+}
+
+// The word of a line of the expansion.
+fn line_word(word: HeadWord) -> LineWord
+    ensures { result ≡ line_word word }
+{
+    match word {
+        HeadWord::Bare => LineWord::Bare,
+        HeadWord::Org => LineWord::Org,
+        HeadWord::End => LineWord::End,
+        HeadWord::Assert => LineWord::Assert,
+        _ => LineWord::Code,
+    }
+}
+
+// The line of these tokens with their EQU names replaced.
+fn make_line(
+    setting: &Setting,
+    head: &Head,
+    labels: Tokens,
+    word: HeadWord,
+    tokens: &[Token],
+) -> Result<Line, ExpandFault>
+    requires setting { IsSetting setting.now }
+    requires labels { labels ≡ own_labels setting.now.source.now head.now.labels }
+    requires labels_inside { All (LiesIn setting.now.source.now) labels }
+    requires inside { All (LiesIn setting.now.source.now) tokens.now }
+    ensures line { Gives result (made_line setting.now.source.now setting.now.equs.now head.now word tokens.now) }
+    ensures inside { IfOk result (LineLies setting.now.source.now) }
+{
+    let tokens = match line_tokens(setting.alloc, setting.source, setting.equs, word, tokens) {
+        Ok(tokens) => tokens,
+        Err(cause) => return Err(replace_fault(head.number, cause)),
+    };
+    if tokens.as_slice().len() > 4096 {
+        return Err(fault(head.number, ExpandKind::TooManyTokens));
+    }
+    Ok(Line {
+        number: head.number,
+        labels,
+        word: line_word(word),
+        tokens,
+    })
+}
+
+/// The line of the expansion for an unrolled line.
+#[tactic(auto, unfolding(crate::specs::Expansion::line_of))]
+pub(crate) fn line_of(setting: &Setting, head: &Head) -> Result<Line, ExpandFault>
+    requires setting { IsSetting setting.now }
+    requires head { HeadLies setting.now.source.now head.now }
+    ensures line { Gives result (line_of setting.now.source.now setting.now.equs.now head.now) }
+    ensures inside { IfOk result (LineLies setting.now.source.now) }
+{
+    let (labels, others) = split_labels(setting.alloc, setting.source, head.labels.as_slice())?;
+    if others.is_empty() {
+        return make_line(setting, head, labels, head.word, head.rest.as_slice());
+    }
+    let tokens = joined_tokens(
+        setting.alloc,
+        setting.source,
+        others,
+        &head.directive,
+        head.rest.as_slice(),
+    )?;
+    make_line(setting, head, labels, HeadWord::Code, &tokens)
+}
+
+/// The lines of the expansion, before their labels are tested.
+pub(crate) fn make_lines(setting: &Setting, heads: &[Head]) -> Result<Vec<Line>, ExpandFault>
+    requires setting { IsSetting setting.now }
+    requires heads { All (HeadLies setting.now.source.now) heads.now }
+    ensures lines { GivesItems result (all_of (line_of setting.now.source.now setting.now.equs.now) (kept_lines heads.now)) }
+    ensures inside { IfOk result (λ v. All (LineLies setting.now.source.now) v.items) }
+{
+    let mut lines = Vec::new(setting.alloc);
+    let mut rest = heads;
+    while let Some((head, after)) = rest.split_first() {
+        match head.word {
+            HeadWord::Equ => {}
+            _ => lines.push(line_of(setting, head)?)?,
+        }
+        rest = after;
+    }
+    Ok(lines)
+}

@@ -1,0 +1,100 @@
+//! The lines of an expansion.
+ghost use Rattle.std.specs.Prelude.{◌≡◌};
+
+use rc_text::Token;
+use std::marker::Model;
+
+/// Tokens in order.
+#[derive(Debug, Drop)]
+pub struct Tokens {
+    items: Vec<Token>,
+}
+
+impl Model for Tokens {
+    ghost use Rattle.std.specs.Prelude.{List};
+    ghost use Rattle.rc_text.specs.declared.token.Token.{Token};
+
+    ghost Value = { List Token };
+
+    ghost view = { λ t. t.items.items };
+}
+
+impl Tokens {
+    /// The tokens of a vector.
+    pub(crate) fn from_vec(items: Vec<Token>) -> Self
+        ensures { result ≡ items.items }
+    {
+        Tokens { items }
+    }
+
+    /// The vector of the tokens.
+    pub(crate) fn into_vec(self) -> Vec<Token>
+        ensures { result.items ≡ self }
+    {
+        self.items
+    }
+
+    /// The tokens.
+    pub fn as_slice(&self) -> &[Token]
+        ensures { result.now ≡ self.now }
+    {
+        self.items.as_slice()
+    }
+}
+
+/// What a line of an expansion is.
+#[derive(Clone, Copy, Debug, PartialEq, Eq)]
+pub enum LineWord {
+    Bare,
+    Code,
+    Org,
+    End,
+    Assert,
+}
+
+/// A line of an expansion.
+#[derive(Debug, Drop)]
+pub struct Line {
+    pub number: u64,
+    pub labels: Tokens,
+    pub word: LineWord,
+    pub tokens: Tokens,
+}
+
+/// Lines in order.
+#[derive(Debug, Drop)]
+pub struct Lines {
+    lines: Vec<Line>,
+}
+
+impl Model for Lines {
+    ghost use Rattle.std.specs.Prelude.{List};
+    ghost use Rattle.rc_expand.specs.declared.line.Line.{Line};
+
+    ghost Value = { List Line };
+
+    ghost view = { λ l. l.lines.items };
+}
+
+impl Lines {
+    /// The lines of a vector.
+    pub(crate) fn from_vec(lines: Vec<Line>) -> Self
+        ensures { result ≡ lines.items }
+    {
+        Lines { lines }
+    }
+
+    /// The lines.
+    pub fn as_slice(&self) -> &[Line]
+        ensures { result.now ≡ self.now }
+    {
+        self.lines.as_slice()
+    }
+}
+
+/// What a text expands to.
+#[derive(Debug, Drop)]
+pub struct Expanded {
+    /// The lines, in order.
+    pub lines: Lines,
+}

@@ -1,0 +1,183 @@
+//! Names of a text and what they stand for.
+ghost use Rattle.std.specs.Prelude.{◌≡◌, ◌≢◌, List, ℕ, ◌++◌, ◌∷◌, map, ◌+◌, ◌<◌, ◌^◌, MatchOption, OnOk, IfOk};
+ghost use Rattle.std.specs.Str.{bytes_eq};
+ghost use Rattle.std.specs.Int.Digits.{digits_of};
+ghost use Rattle.rc_expand.specs.Names.{found, predefined, table_of};
+ghost use Rattle.rc_expand.specs.Unroll.{is_taken};
+ghost use Rattle.rc_text.specs.Symbols.{LiesIn, name_of, counter_text};
+
+use crate::constants::Constants;
+use rc_instr::Rules;
+use rc_text::{Names, Token};
+use std::alloc::{AllocError, Global};
+
+// What follows this byte, where it stands first.
+fn after_byte<'a>(byte: u8, bytes: &'a [u8]) -> Option<&'a [u8]>
+    ensures { MatchOption result ((rest : List ℕ) → bytes.now ≢ byte ∷ rest) (λ x. bytes.now ≡ byte ∷ x.now) }
+{
+    match bytes {
+        [first, rest @ ..] => if *first == byte { Some(rest) } else { None },
+        [] => None,
+    }
+}
+
+// What follows the decimal digits of a number, where they stand first; 0 has none.
+fn after_digits<'a>(value: u16, bytes: &'a [u8]) -> Option<&'a [u8]>
+    ensures { MatchOption result ((rest : List ℕ) → bytes.now ≢ map (λ d. 48 + d) (digits_of 10 value) ++ rest) (λ x. bytes.now ≡ map (λ d. 48 + d) (digits_of 10 value) ++ x.now) }
+{
+    if value == 0 {
+        return Some(bytes);
+    }
+    let rest = after_digits(value / 10, bytes)?;
+    after_byte(b'0' + (value % 10) as u8, rest)
+}
+
+// What follows a counter as it is joined to a name, where it stands first.
+fn after_counter<'a>(counter: u16, bytes: &'a [u8]) -> Option<&'a [u8]>
+    ensures { MatchOption result ((rest : List ℕ) → bytes.now ≢ counter_text counter ++ rest) (λ x. bytes.now ≡ counter_text counter ++ x.now) }
+{
+    if counter < 10 {
+        let rest = after_byte(b'0', bytes)?;
+        return after_byte(b'0' + counter as u8, rest);
+    }
+    after_digits(counter, bytes)
+}
+
+// What follows these bytes, where they stand first.
+fn after_bytes<'a>(front: &[u8], bytes: &'a [u8]) -> Option<&'a [u8]>
+    ensures { MatchOption result ((rest : List ℕ) → bytes.now ≢ front.now ++ rest) (λ x. bytes.now ≡ front.now ++ x.now) }
+{
+    bytes.strip_prefix(front)
+}
+
+/// Whether the name of a token, with the counters joined to it, is this one.
+pub(crate) fn spells(source: &[u8], token: &Token, name: &[u8]) -> bool
+    requires { LiesIn source.now token.now }
+    ensures { result ≡ bytes_eq (name_of source.now token.now) name.now }
+{
+    let mut rest = match after_bytes(&source[token.lo..token.hi], name) {
+        Some(after) => after,
+        None => return false,
+    };
+    for counter in token.joined.as_slice() {
+        match after_counter(*counter, rest) {
+            Some(after) => rest = after,
+            None => return false,
+        }
+    }
+    rest.is_empty()
+}
+
+// The value of a constant.
+#[tactic(auto, using(crate::proofs::TableSteps::found_ends, crate::proofs::TableSteps::found_passed))]
+fn constant_value(constants: &Constants, source: &[u8], token: &Token) -> Option<i64>
+    requires { LiesIn source.now token.now }
+    ensures { result ≡ found (table_of constants.now.names.now constants.now.values.now) (name_of source.now token.now) }
+{
+    for i in 0..constants.names.len() {
+        if i >= constants.values.len() {
+            return None;
+        }
+        if spells(source, token, &constants.names[i]) {
+            return Some(constants.values[i]);
+        }
+    }
+    None
+}
+
+// The value of a predefined name.
+fn predefined_value(rules: &Rules, source: &[u8], token: &Token) -> Option<i64>
+    requires { LiesIn source.now token.now }
+    ensures { result ≡ found (predefined rules.now) (name_of source.now token.now) }
+{
+    if spells(source, token, b"CORESIZE") {
+        return Some(i64::from(rules.core()));
+    }
+    if spells(source, token, b"MAXPROCESSES") {
+        return Some(i64::from(rules.tasks()));
+    }
+    if spells(source, token, b"MAXCYCLES") {
+        return Some(i64::from(rules.cycles()));
+    }
+    if spells(source, token, b"MAXLENGTH") {
+        return Some(i64::from(rules.length()));
+    }
+    if spells(source, token, b"MINDISTANCE") {
+        return Some(i64::from(rules.distance()));
+    }
+    if spells(source, token, b"WARRIORS") {
+        return Some(2);
+    }
+    if spells(source, token, b"VERSION") {
+        return Some(92);
+    }
+    None
+}
+
+/// The names that a count may have: constants and predefined names.
+#[derive(Drop)]
+pub(crate) struct CountNames<'a> {
+    pub constants: &'a Constants<'a>,
+    pub rules: &'a Rules,
+}
+
+impl<'a> Names for CountNames<'a> {
+    ghost use Rattle.rc_expand.specs.Names.{table_of};
+    ghost use Rattle.rc_expand.specs.Unroll.{count_names};
+
+    ghost meaning = { λ s. count_names (table_of s.constants.now.names.now s.constants.now.values.now) s.rules.now };
+
+    #[tactic(auto, unfolding(crate::specs::Unroll::count_names))]
+    fn value(&self, source: &[u8], name: &Token) -> Option<i64> {
+        match constant_value(self.constants, source, name) {
+            Some(value) => Some(value),
+            None => predefined_value(self.rules, source, name),
+        }
+    }
+}
+
+/// Whether a name is a constant or a predefined name.
+#[tactic(auto, unfolding(crate::specs::Unroll::is_taken))]
+pub(crate) fn is_taken(names: &CountNames, source: &[u8], token: &Token) -> bool
+    requires { LiesIn source.now token.now }
+    ensures { result ≡ is_taken (table_of names.now.constants.now.names.now names.now.constants.now.values.now) names.now.rules.now (name_of source.now token.now) }
+{
+    names.value(source, token).is_some() || spells(source, token, b"CURLINE")
+}
+
+// Appends the decimal digits of a number; 0 has none.
+#[tactic(auto, using(crate::proofs::NameSteps::digits_behind))]
+fn push_digits(text: &mut Vec<u8>, number: u16) -> Result<(), AllocError>
+    ensures { OnOk result (text.new.items ≡ text.old.items ++ map (λ d. 48 + d) (digits_of 10 number)) }
+{
+    if number == 0 {
+        return Ok(());
+    }
+    push_digits(text, number / 10)?;
+    text.push(b'0' + (number % 10) as u8)?;
+    Ok(())
+}
+
+// Appends a counter as it is joined to a name.
+fn push_counter(text: &mut Vec<u8>, counter: u16) -> Result<(), AllocError>
+    ensures { OnOk result (text.new.items ≡ text.old.items ++ counter_text counter) }
+{
+    if counter < 10 {
+        text.push(b'0')?;
+        text.push(b'0' + counter as u8)?;
+        return Ok(());
+    }
+    push_digits(text, counter)
+}
+
+/// The bytes of a name, with the counters joined to it.
+pub(crate) fn name_of(alloc: Global, source: &[u8], token: &Token) -> Result<Vec<u8>, AllocError>
+    requires { LiesIn source.now token.now }
+    ensures { IfOk result (λ name. name.items ≡ name_of source.now token.now) }
+{
+    let mut name = source[token.lo..token.hi].to_vec(alloc)?;
+    for counter in token.joined.as_slice() {
+        push_counter(&mut name, *counter)?;
+    }
+    Ok(name)
+}

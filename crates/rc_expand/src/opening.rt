@@ -1,0 +1,189 @@
+//! What a FOR block begins with.
+ghost use Rattle.std.specs.Prelude.{◌≡◌, [], true, false, Some, None, All, IfOk, IfSome, MatchResult, option_map};
+ghost use Rattle.rc_text.specs.Symbols.{LiesIn, name_of};
+ghost use Rattle.rc_expand.specs.Lines.{HeadLies};
+ghost use Rattle.rc_expand.specs.Unroll.{Gives, counter_token, small_count, earlier_of, is_bare_rof, IsReplaceFault};
+ghost use Rattle.rc_expand.specs.Setting.{IsSetting, opening_by, count_by, is_new_by};
+
+use crate::copy::clone_labels;
+use crate::fault::{ExpandFault, ExpandKind, fault};
+use crate::head::{Head, Labels, Name, Opening};
+use crate::labels::{plain_name, plain_token};
+use crate::line::Tokens;
+use crate::names::CountNames;
+use crate::replace::{ReplaceFault, replace_tokens};
+use crate::setting::{Setting, known_line};
+use rc_text::{Kind, Token, eval};
+use std::alloc::{AllocError, Global};
+
+// Why a label before FOR is no counter: where it became a number, it is the counter of an enclosing block.
+fn counter_fault(line: u64, label: &[Token]) -> ExpandFault {
+    match label {
+        [token, ..] => match token.kind {
+            Kind::Number(_) => fault(line, ExpandKind::DuplicateName),
+            _ => fault(line, ExpandKind::BadDirective),
+        },
+        [] => fault(line, ExpandKind::BadDirective),
+    }
+}
+
+// The last label before FOR, if there is one.
+fn counter_token<'a>(source: &[u8], first: &'a Head) -> Result<Option<&'a Token>, ExpandFault>
+    requires { HeadLies source.now first.now }
+    ensures token { MatchResult result (λ o. counter_token source.now first.now.labels ≡ Some (option_map (λ t. t.now) o)) (λ e. counter_token source.now first.now.labels ≡ None) }
+    ensures inside { IfOk result (λ o. IfSome o (λ t. LiesIn source.now t.now)) }
+    ensures written { IfOk result (λ o. IfSome o (λ t. t.now.joined ≡ [])) }
+{
+    let labels = first.labels.as_slice();
+    if labels.len() == 0 {
+        return Ok(None);
+    }
+    let label = labels[labels.len() - 1].as_slice();
+    match plain_token(source, label) {
+        Some(token) => Ok(Some(token)),
+        None => Err(counter_fault(first.number, label)),
+    }
+}
+
+/// The fault of a line whose EQU names can not be replaced.
+pub(crate) fn replace_fault(line: u64, cause: ReplaceFault) -> ExpandFault
+    ensures { IsReplaceFault cause result.kind }
+{
+    let kind = match cause {
+        ReplaceFault::TooDeep => ExpandKind::EquTooDeep,
+        ReplaceFault::TooMany => ExpandKind::TooManyTokens,
+        ReplaceFault::OutOfMemory => ExpandKind::OutOfMemory,
+    };
+    ExpandFault { line, kind }
+}
+
+// The count that a value stands for.
+fn small_count(value: i64) -> Option<u16>
+    ensures { result ≡ small_count value }
+{
+    if value < 0 {
+        return Some(0);
+    }
+    if value <= 4096 {
+        Some(value as u16)
+    } else {
+        None
+    }
+}
+
+// The count of a block.
+#[tactic(auto, unfolding(crate::specs::Unroll::count_of))]
+fn count_of(setting: &Setting, first: &Head) -> Result<u16, ExpandFault>
+    requires setting { IsSetting setting.now }
+    requires first { HeadLies setting.now.source.now first.now }
+    ensures { Gives result (count_by setting.now first.now.rest) }
+{
+    let tokens = match replace_tokens(
+        setting.alloc,
+        setting.source,
+        first.rest.as_slice(),
+        setting.equs,
+    ) {
+        Ok(tokens) => tokens,
+        Err(cause) => return Err(replace_fault(first.number, cause)),
+    };
+    let names = CountNames {
+        constants: setting.constants,
+        rules: setting.rules,
+    };
+    match eval(setting.source, tokens.as_slice(), &names) {
+        Ok(value) => match small_count(value) {
+            Some(count) => Ok(count),
+            None => Err(fault(first.number, ExpandKind::CountRefused)),
+        },
+        Err(_) => Err(fault(first.number, ExpandKind::CountRefused)),
+    }
+}
+
+// Whether nothing stands before ROF or behind it.
+fn is_bare_rof(rof: &Head) -> bool
+    ensures { result ≡ is_bare_rof rof.now }
+{
+    if rof.spoiled {
+        return false;
+    }
+    match rof.labels.as_slice() {
+        [] => match rof.rest.as_slice() {
+            [] => true,
+            _ => false,
+        },
+        _ => false,
+    }
+}
+
+// The bytes of a counter.
+fn counter_name(setting: &Setting, counter: Option<&Token>) -> Result<Option<Name>, AllocError>
+    requires inside { IfSome counter (λ t. LiesIn setting.now.source.now t.now) }
+    requires written { IfSome counter (λ t. t.now.joined ≡ []) }
+    ensures { IfOk result (λ o. o ≡ option_map (λ t. name_of setting.now.source.now t.now) counter.entry) }
+{
+    match counter {
+        None => Ok(None),
+        Some(token) => {
+            let bytes = plain_name(setting.alloc, setting.source, token)?;
+            Ok(Some(Name::from_vec(bytes)))
+        }
+    }
+}
+
+// All labels but the last.
+fn earlier_labels(alloc: Global, source: &[u8], labels: &[Tokens]) -> Result<Labels, AllocError>
+    requires { All (All (LiesIn source.now)) labels.now }
+    ensures earlier { IfOk result (λ l. l ≡ earlier_of labels.now) }
+    ensures inside { IfOk result (All (All (LiesIn source.now))) }
+{
+    if labels.len() == 0 {
+        return Ok(Labels::from_vec(Vec::new(alloc)));
+    }
+    clone_labels(alloc, &labels[..labels.len() - 1])
+}
+
+// Refuses a counter that is known.
+fn check_counter(setting: &Setting, counter: Option<&Token>, line: u64) -> Result<(), ExpandFault>
+    requires setting { IsSetting setting.now }
+    requires inside { IfSome counter (λ t. LiesIn setting.now.source.now t.now) }
+    ensures { MatchResult result (λ u. is_new_by setting.now (option_map (λ t. t.now) counter.entry) ≡ true) (λ e. is_new_by setting.now (option_map (λ t. t.now) counter.entry) ≡ false) }
+{
+    match counter {
+        None => Ok(()),
+        Some(token) => match known_line(setting, token, line) {
+            Some(later) => Err(fault(later, ExpandKind::DuplicateName)),
+            None => Ok(()),
+        },
+    }
+}
+
+/// What the FOR and the ROF of a block say.
+pub(crate) fn begin_block(
+    setting: &Setting,
+    first: &Head,
+    rof: &Head,
+) -> Result<Opening, ExpandFault>
+    requires setting { IsSetting setting.now }
+    requires first { HeadLies setting.now.source.now first.now }
+    requires rof { HeadLies setting.now.source.now rof.now }
+    ensures opening { Gives result (opening_by setting.now first.now rof.now) }
+    ensures inside { IfOk result (λ o. All (All (LiesIn setting.now.source.now)) o.earlier) }
+{
+    if first.spoiled {
+        return Err(fault(first.number, ExpandKind::BadDirective));
+    }
+    if !is_bare_rof(rof) {
+        return Err(fault(rof.number, ExpandKind::BadDirective));
+    }
+    let token = counter_token(setting.source, first)?;
+    check_counter(setting, token, first.number)?;
+    let count = count_of(setting, first)?;
+    let counter = counter_name(setting, token)?;
+    let earlier = earlier_labels(setting.alloc, setting.source, first.labels.as_slice())?;
+    Ok(Opening {
+        counter,
+        earlier,
+        count,
+    })
+}

@@ -1,0 +1,342 @@
+//! Texts, and the lines to which they expand or the faults that they have.
+ghost use Rattle.std.specs.Prelude.{All};
+ghost use Rattle.rc_text.specs.Symbols.{LiesIn};
+ghost use Rattle.rc_expand.specs.Expansion.{LineLies};
+
+use crate::constants::Constants;
+use crate::expander::expand;
+use crate::fault::{ExpandFault, ExpandKind};
+use crate::line::{Line, LineWord};
+use crate::names::name_of;
+use rc_instr::Rules;
+use rc_text::{Kind, LexFault, Token};
+use std::alloc::Global;
+use std::test::Fail;
+
+// Appends tokens with a blank before each: a number by its value, a name with its counters.
+fn push_tokens(
+    alloc: Global,
+    out: &mut Vec<u8>,
+    source: &[u8],
+    tokens: &[Token],
+) -> Result<(), Fail>
+    requires { All (LiesIn source.now) tokens.now }
+{
+    for token in tokens {
+        out.push(b' ')?;
+        match token.kind {
+            Kind::Number(value) => {
+                out.extend_from_slice(format!(in alloc; "{}", value)?.as_bytes())?;
+            }
+            _ => out.extend_from_slice(&name_of(alloc, source, token)?)?,
+        }
+    }
+    Ok(())
+}
+
+// What stands for a word.
+fn word_text(word: LineWord) -> &'static [u8] {
+    match word {
+        LineWord::Bare => b"",
+        LineWord::Code => b" -",
+        LineWord::Org => b" ORG",
+        LineWord::End => b" END",
+        LineWord::Assert => b" ;assert",
+    }
+}
+
+// Appends a line: its number, its labels, a colon, its word (a minus for code), and its tokens.
+fn push_line(alloc: Global, out: &mut Vec<u8>, source: &[u8], line: &Line) -> Result<(), Fail>
+    requires { LineLies source.now line.now }
+{
+    out.extend_from_slice(format!(in alloc; "{}", line.number)?.as_bytes())?;
+    push_tokens(alloc, out, source, line.labels.as_slice())?;
+    out.push(b':')?;
+    out.extend_from_slice(word_text(line.word))?;
+    push_tokens(alloc, out, source, line.tokens.as_slice())?;
+    out.push(b'\n')?;
+    Ok(())
+}
+
+// The lines as text.
+fn text_of(alloc: Global, source: &[u8], lines: &[Line]) -> Result<Vec<u8>, Fail>
+    requires { All (LineLies source.now) lines.now }
+{
+    let mut out = Vec::new(alloc);
+    for line in lines {
+        push_line(alloc, &mut out, source, line)?;
+    }
+    Ok(out)
+}
+
+// The lines of a text, under the standard rules and with a constant K that is 7.
+fn lines_of(alloc: Global, source: &[u8]) -> Result<Result<Vec<u8>, ExpandFault>, Fail> {
+    let mut names = Vec::new(alloc);
+    names.push(b"K".to_vec(alloc)?)?;
+    let constants = Constants {
+        names: &names,
+        values: &[7],
+    };
+    match expand(alloc, source, &constants, &Rules::standard()) {
+        Err(found) => Ok(Err(found)),
+        Ok(expanded) => Ok(Ok(text_of(alloc, source, expanded.lines.as_slice())?)),
+    }
+}
+
+// Texts and their lines.
+const LINES: [(&[u8], &[u8]); 10] = [
+    (b"", b""),
+    (b"a: b DAT a, b\nc", b"1 a b: - DAT a , b\n2 c:\n"),
+    (b"s EQU 2+3\nDAT #0, #s*2", b"2: - DAT # 0 , # 2 + 3 * 2\n"),
+    (
+        b"i FOR 2\nx&i DAT #i\nROF\nJMP x01",
+        b"2 x01: - DAT # 1\n2 x02: - DAT # 2\n4: - JMP x01\n",
+    ),
+    (
+        b"i FOR 2\nj FOR 2\nDAT i, j\nROF\nROF",
+        b"3: - DAT 1 , 1\n3: - DAT 1 , 2\n3: - DAT 2 , 1\n3: - DAT 2 , 2\n",
+    ),
+    (
+        b"i FOR 2\nFOR i\nDAT i\nROF\nROF",
+        b"3: - DAT 1\n3: - DAT 2\n3: - DAT 2\n",
+    ),
+    (b"FOR 0\none two 9\nROF\nDAT 1", b"4: - DAT 1\n"),
+    (
+        b"NOP\nDAT CURLINE, CORESIZE-1",
+        b"1: - NOP\n2: - DAT CURLINE , CORESIZE - 1\n",
+    ),
+    (b"DAT x\nx EQU y\ny EQU 3", b"1: - DAT 3\n"),
+    (
+        b"From: x\n;redcode-94\n;name Dwarf\n;assert CORESIZE % 4 == 0\nstep EQU 4\n  ORG start\nbomb DAT #0, #0\nstart ADD #step, bomb\n  JMP start\n  END\n?",
+        b"4: ;assert CORESIZE % 4 == 0\n6: ORG start\n7 bomb: - DAT # 0 , # 0\n8 start: - ADD # 4 , bomb\n9: - JMP start\n10: END\n",
+    ),
+];
+
+#[test]
+fn texts_have_lines(rt: HostRuntime) -> Result<(), Fail> {
+    for (text, lines) in LINES {
+        match lines_of(rt.alloc(), text)? {
+            Ok(found) => assert_eq!(rt; found.as_slice(), lines),
+            Err(_) => assert!(rt; false, "{text:?} is refused"),
+        }
+    }
+    Ok(())
+}
+
+// Labels, joined names, dropped lines, and what EQU leaves alone.
+const NAMES: [(&[u8], &[u8]); 18] = [
+    (b"x&NOP 1", b"1 x: - & NOP 1\n"),
+    (b"i FOR 1\nmov&i 0\nROF", b"2: - mov01 0\n"),
+    (b"i FOR 1\ni&i NOP\nROF", b"2 i01: - NOP\n"),
+    (b"i: FOR 1\nDAT i\nROF", b"2: - DAT 1\n"),
+    (
+        b"i FOR 1\nx01 FOR 3\nDAT x&i\nROF\nROF",
+        b"3: - DAT 1\n3: - DAT 2\n3: - DAT 3\n",
+    ),
+    (
+        b"i FOR 1\nj FOR 1\nx&i&j y&j&i NOP\nROF\nROF",
+        b"3 x0101: - y & j01 NOP\n",
+    ),
+    (b"i FOR 1\na i b NOP\nROF", b"2 a: - 1 b NOP\n"),
+    (
+        b"i FOR 12\nx&i\nROF\nEND",
+        b"2 x01:\n2 x02:\n2 x03:\n2 x04:\n2 x05:\n2 x06:\n2 x07:\n2 x08:\n2 x09:\n2 x10:\n2 x11:\n2 x12:\n4: END\n",
+    ),
+    (b"m EQU .A\nMOV m 0, 1", b"2: - MOV . A 0 , 1\n"),
+    (b"A EQU 1\nm EQU A\nMOV.A A, m", b"3: - MOV . A 1 , 1\n"),
+    (b"s EQU\nEND s", b"2: END\n"),
+    (b"a b FOR 0\nROF\nDAT 1", b"1 a:\n3: - DAT 1\n"),
+    (b"FOR 0\ns EQU 1\nROF\nDAT s", b"4: - DAT s\n"),
+    (b"FOR 0\nFOR x\na ROF 1\nROF\nNOP", b"5: - NOP\n"),
+    (
+        b"i FOR 1\nDAT i\nROF\ni FOR 1\nNOP\nROF",
+        b"2: - DAT 1\n5: - NOP\n",
+    ),
+    (b"n EQU K-5\nFOR n\nNOP\nROF", b"3: - NOP\n3: - NOP\n"),
+    (b"FOR -1\nNOP\nROF", b""),
+    (b"i FOR 1\nFOR 0\nx&i&i&i&i&i&i&i&i&i NOP\nROF\nROF", b""),
+];
+
+#[test]
+fn names_are_joined_and_replaced(rt: HostRuntime) -> Result<(), Fail> {
+    for (text, lines) in NAMES {
+        match lines_of(rt.alloc(), text)? {
+            Ok(found) => assert_eq!(rt; found.as_slice(), lines),
+            Err(_) => assert!(rt; false, "{text:?} is refused"),
+        }
+    }
+    Ok(())
+}
+
+// Texts, and the line and kind of their fault.
+const FAULTS: [(&[u8], u64, ExpandKind); 35] = [
+    (
+        b"DAT 4294967296",
+        1,
+        ExpandKind::Text(LexFault::NumberTooLarge),
+    ),
+    (b"NOP\nEND ?", 2, ExpandKind::Text(LexFault::BadByte)),
+    (b"x NOP\nx NOP", 2, ExpandKind::DuplicateName),
+    (b"NOP\nK NOP", 2, ExpandKind::DuplicateName),
+    (b"CURLINE", 1, ExpandKind::DuplicateName),
+    (b"a NOP\nNOP\na EQU 1", 3, ExpandKind::DuplicateName),
+    (b"a EQU 1\na EQU 2", 2, ExpandKind::DuplicateName),
+    (b"MAXCYCLES EQU 1", 1, ExpandKind::DuplicateName),
+    (b"a FOR 1\nROF\na EQU 1", 3, ExpandKind::DuplicateName),
+    (b"K FOR 1\nROF", 1, ExpandKind::DuplicateName),
+    (b"i FOR 2\ni FOR 2\nROF\nROF", 2, ExpandKind::DuplicateName),
+    (
+        b"i FOR 1\nx&i NOP\nROF\nx01 NOP",
+        4,
+        ExpandKind::DuplicateName,
+    ),
+    (b"FOR 3", 1, ExpandKind::ForWithoutRof),
+    (b"NOP\nFOR 1\nFOR 1\nROF", 2, ExpandKind::ForWithoutRof),
+    (b"FOR 1\nEND\nROF", 1, ExpandKind::ForWithoutRof),
+    (b"ROF", 1, ExpandKind::RofWithoutFor),
+    (b"a EQU a\nDAT a", 2, ExpandKind::EquTooDeep),
+    (b"a EQU a\nNOP\nFOR a\nROF", 3, ExpandKind::EquTooDeep),
+    (b"FOR 4097\nROF", 1, ExpandKind::CountRefused),
+    (b"FOR\nROF", 1, ExpandKind::CountRefused),
+    (b"FOR CURLINE\nROF", 1, ExpandKind::CountRefused),
+    (b"FOR 1/0\nROF", 1, ExpandKind::CountRefused),
+    (b"FOR 1\ns EQU 2\nROF", 2, ExpandKind::BadDirective),
+    (b"EQU 1", 1, ExpandKind::BadDirective),
+    (b"a b EQU 1", 1, ExpandKind::BadDirective),
+    (b"x&i EQU 1", 1, ExpandKind::BadDirective),
+    (b"FOR 0\na ROF", 2, ExpandKind::BadDirective),
+    (b"FOR 0\nROF 1", 2, ExpandKind::BadDirective),
+    (b"i FOR 1\nx&i FOR 2\nROF\nROF", 2, ExpandKind::BadDirective),
+    (
+        b"i FOR 1\nx&i&i&i&i&i&i&i&i&i NOP\nROF",
+        2,
+        ExpandKind::BadDirective,
+    ),
+    (
+        b"a EQU a\nFOR 2\ny NOP\nDAT a\nROF",
+        3,
+        ExpandKind::DuplicateName,
+    ),
+    (b"a EQU a\nx NOP\nx DAT a", 3, ExpandKind::DuplicateName),
+    (b"ROF\n?", 2, ExpandKind::Text(LexFault::BadByte)),
+    (b"EQU 1\nROF", 2, ExpandKind::RofWithoutFor),
+    (b"FOR x\nROF\nEQU 1", 3, ExpandKind::BadDirective),
+];
+
+#[test]
+fn bad_texts_have_faults(rt: HostRuntime) -> Result<(), Fail> {
+    for (text, line, kind) in FAULTS {
+        match lines_of(rt.alloc(), text)? {
+            Ok(_) => assert!(rt; false, "{text:?} has lines"),
+            Err(found) => assert_eq!(rt; found, ExpandFault { line, kind }, "{text:?}"),
+        }
+    }
+    Ok(())
+}
+
+// Appends a piece of text so many times.
+fn push_times(text: &mut Vec<u8>, piece: &[u8], count: usize) -> Result<(), Fail> {
+    for _ in 0..count {
+        text.extend_from_slice(piece)?;
+    }
+    Ok(())
+}
+
+// A piece so many times, another as often, and an end have this fault, or none where it is want of memory.
+const LIMITS: [(&[u8], usize, &[u8], &[u8], u64, ExpandKind); 10] = [
+    (b"FOR 1\n", 8, b"ROF\n", b"", 0, ExpandKind::OutOfMemory),
+    (b"FOR 1\n", 9, b"ROF\n", b"", 9, ExpandKind::ForTooDeep),
+    (b"NOP\n", 4096, b"", b"", 0, ExpandKind::OutOfMemory),
+    (b"NOP\n", 4096, b"", b"NOP", 4097, ExpandKind::TooManyLines),
+    (
+        b"NOP\n",
+        1,
+        b"",
+        b"FOR 4095\nROF",
+        0,
+        ExpandKind::OutOfMemory,
+    ),
+    (
+        b"NOP\n",
+        1,
+        b"",
+        b"FOR 4096\nROF",
+        2,
+        ExpandKind::TooManyLines,
+    ),
+    (b"1 ", 4096, b"", b"", 0, ExpandKind::OutOfMemory),
+    (b"1 ", 4097, b"", b"", 1, ExpandKind::TooManyTokens),
+    (b"1 e ", 2048, b"", b"\ne EQU", 0, ExpandKind::OutOfMemory),
+    (
+        b"1 e e e ",
+        1367,
+        b"",
+        b"\ne EQU",
+        1,
+        ExpandKind::TooManyTokens,
+    ),
+];
+
+#[test]
+fn limits_hold(rt: HostRuntime) -> Result<(), Fail> {
+    let none = ExpandFault {
+        line: 0,
+        kind: ExpandKind::OutOfMemory,
+    };
+    for (piece, count, other, back, line, kind) in LIMITS {
+        let mut text = Vec::new(rt.alloc());
+        push_times(&mut text, piece, count)?;
+        push_times(&mut text, other, count)?;
+        text.extend_from_slice(back)?;
+        let found = match lines_of(rt.alloc(), &text)? {
+            Ok(_) => none,
+            Err(fault) => fault,
+        };
+        assert_eq!(rt; found, ExpandFault { line, kind });
+    }
+    Ok(())
+}
+
+// A chain of 16 EQU names passes, and one of 17 does not where it is used.
+#[test]
+fn chains_of_names_end(rt: HostRuntime) -> Result<(), Fail> {
+    let chain =
+        b"b EQU c\nc EQU d\nd EQU e\ne EQU f\nf EQU g\ng EQU h\nh EQU i\ni EQU j\nj EQU k\nk EQU l\nl EQU m\nm EQU n\nn EQU o\no EQU p\np EQU q\nq EQU 5\n".as_slice();
+    for (use_of_it, lines) in [
+        (b"DAT b".as_slice(), b"17: - DAT 5\n".as_slice()),
+        (b"a EQU b\nDAT b", b"18: - DAT 5\n"),
+    ] {
+        let mut text = chain.to_vec(rt.alloc())?;
+        text.extend_from_slice(use_of_it)?;
+        match lines_of(rt.alloc(), &text)? {
+            Ok(found) => assert_eq!(rt; found.as_slice(), lines),
+            Err(_) => assert!(rt; false),
+        }
+    }
+    let mut text = chain.to_vec(rt.alloc())?;
+    text.extend_from_slice(b"a EQU b\nDAT a")?;
+    match lines_of(rt.alloc(), &text)? {
+        Ok(_) => assert!(rt; false),
+        Err(found) => assert_eq!(rt;
+            found,
+            ExpandFault {
+                line: 18,
+                kind: ExpandKind::EquTooDeep
+            }
+        ),
+    }
+    Ok(())
+}
+
+#[test]
+fn faults_have_texts(rt: HostRuntime) -> Result<(), Fail> {
+    let found = ExpandFault {
+        line: 3,
+        kind: ExpandKind::Text(LexFault::BadByte),
+    };
+    assert_eq!(rt;
+        format!(in rt.alloc(); "{}", found)?.as_str(),
+        "line 3: a byte that begins no token"
+    );
+    Ok(())
+}
