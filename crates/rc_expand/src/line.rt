@@ -45,19 +45,28 @@ impl Tokens {
 /// What a line of an expansion is.
 #[derive(Clone, Copy, Debug, PartialEq, Eq)]
 pub enum LineWord {
+    /// Labels alone.
     Bare,
+    /// An instruction, or what will be refused as one.
     Code,
+    /// ORG.
     Org,
+    /// END.
     End,
+    /// `;assert`.
     Assert,
 }
 
 /// A line of an expansion.
 #[derive(Debug, Drop)]
 pub struct Line {
+    /// The line in the source, from 1; for a line of a copy the line that was copied.
     pub number: u64,
+    /// The labels before the line's word, each one name, joined counters included.
     pub labels: Tokens,
+    /// What the line is.
     pub word: LineWord,
+    /// What follows the labels, or the word ORG, END or `;assert`, without the line end.
     pub tokens: Tokens,
 }
 
