@@ -10,7 +10,8 @@ use Rattle.rc_text.specs.Reading.{evaluation_of}
 use Rattle.rc_text.proofs.Evaluation.{value_of_evaluation, evaluation_of_outcome}
 use Rattle.rc_expand.specs.declared.setting.Setting.{Setting}
 use Rattle.rc_expand.specs.Replace.{replaced_tokens}
-use Rattle.rc_expand.specs.Unroll.{plain_token, counter_token, earlier_of, small_count, count_names, count_of}
+use Rattle.rc_expand.specs.Unroll.{plain_token, counter_token, earlier_of, small_count, count_of}
+use Rattle.rc_expand.specs.Names.{given_names}
 use Rattle.rc_expand.specs.Setting.{table, count_by}
 
 -- the counter is the last label
@@ -33,7 +34,7 @@ no_value names symbols result e r h = by_cases (evaluation_of names symbols) ref
 
 module _ (s : Setting) (ts r : List Token) where
   abbrev names : Meaning
-  names = count_names (table s) s.rules.now
+  names = given_names (table s) s.rules.now
 
   -- a count with a value
   pub count_made : (x : ℤ) → replaced_tokens s.source.now s.equs.now ts ≡ Some r → IsValue names (symbols_of s.source.now r) x → count_by s ts ≡ small_count x

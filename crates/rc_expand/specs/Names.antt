@@ -30,11 +30,15 @@ predefined r = (codes "CORESIZE", pos r.core) ∷ (codes "MAXPROCESSES", pos r.t
 abbrev pub CURLINE : List ℕ
 CURLINE = codes "CURLINE"
 
--- the value of the first entry with this name
-abbrev pub found : Table → List ℕ → Option ℤ
+-- what the first entry with this name has
+abbrev pub found : {A : Type 0} → List (List ℕ × A) → List ℕ → Option A
 found [] name = None
 found (e ∷ table) name = if bytes_eq name e.0 then Some e.1 else found table name
 
 abbrev pub or_else : {A : Type 0} → Option A → Option A → Option A
 or_else (Some x) o = Some x
 or_else None o = o
+
+-- what a name stands for outside of a text, as in a count: a constant or a predefined name
+unfoldable pub given_names : Table → Limits → List ℕ → Option ℤ
+given_names constants limits name = or_else (found constants name) (found (predefined limits) name)

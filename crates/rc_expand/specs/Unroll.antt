@@ -17,7 +17,7 @@ use Rattle.rc_expand.specs.declared.fault.ExpandKind.TheVariants.{OutOfMemory, E
 use Rattle.rc_expand.specs.declared.replace.ReplaceFault.{ReplaceFault}
 use Rattle.rc_expand.specs.declared.replace.ReplaceFault.TheVariants as replace
 use Rattle.rc_instr.specs.Rules.{Limits}
-use Rattle.rc_expand.specs.Names.{Table, found, or_else, predefined, CURLINE}
+use Rattle.rc_expand.specs.Names.{Table, given_names, CURLINE}
 use Rattle.rc_expand.specs.Lines.{choose, is_name, is_ampersand, is_colon, is_free, has_modifier, is_unjoined, bare_line}
 use Rattle.rc_expand.specs.Replace.{Equs, equ_of, replaced_tokens}
 
@@ -73,12 +73,8 @@ small_count (negsuc n) = Some 0
 small_count (pos n) = if nat_le n 4096 then Some n else None
 
 module _ (constants : Table) (limits : Limits) where
-  -- what a name stands for in a count: a constant or a predefined name
-  unfoldable pub count_names : List ℕ → Option ℤ
-  count_names name = or_else (found constants name) (found (predefined limits) name)
-
   unfoldable pub is_taken : List ℕ → Bool
-  is_taken name = is_some (count_names name) || bytes_eq name CURLINE
+  is_taken name = is_some (given_names constants limits name) || bytes_eq name CURLINE
 
   -- an EQU name, a constant or a predefined name
   abbrev pub is_known : Equs → List ℕ → Bool
@@ -163,7 +159,7 @@ module _ (source : List ℕ) where
     module _ (equs : Equs) where
       -- the count of a block
       unfoldable pub count_of : List Token → Option ℕ
-      count_of ts = option_and_then (λ r. option_and_then small_count (result_ok (evaluation_of (count_names constants limits) (symbols_of source r)))) (replaced_tokens source equs ts)
+      count_of ts = option_and_then (λ r. option_and_then small_count (result_ok (evaluation_of (given_names constants limits) (symbols_of source r)))) (replaced_tokens source equs ts)
 
       -- a counter is no EQU name, no constant and no predefined name; that it is no enclosing counter shows in that it did not become a number
       abbrev pub is_new_counter : Option (List ℕ) → Bool

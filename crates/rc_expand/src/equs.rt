@@ -12,7 +12,7 @@ use crate::copy::with_front;
 use crate::fault::{ExpandFault, ExpandKind, fault};
 use crate::head::{Head, HeadWord};
 use crate::labels::{plain_name, plain_token};
-use crate::names::{CountNames, is_taken};
+use crate::names::{GivenNames, is_taken};
 use crate::replace::{Equ, equ_line};
 use rc_text::Token;
 use std::alloc::Global;
@@ -38,7 +38,7 @@ fn equ_token<'a>(source: &[u8], head: &'a Head) -> Result<&'a Token, ExpandFault
 fn read_equ(
     alloc: Global,
     source: &[u8],
-    names: &CountNames,
+    names: &GivenNames,
     equs: &[Equ],
     head: &Head,
 ) -> Result<Equ, ExpandFault>
@@ -62,7 +62,7 @@ fn read_equ(
 pub(crate) fn collect_equs(
     alloc: Global,
     source: &[u8],
-    names: &CountNames,
+    names: &GivenNames,
     heads: &[Head],
 ) -> Result<Vec<Equ>, ExpandFault>
     requires { All (HeadLies source.now) heads.now }

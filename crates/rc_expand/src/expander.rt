@@ -16,7 +16,7 @@ use crate::fault::{ExpandFault, placed};
 use crate::head::Head;
 use crate::labelling::replace_lines;
 use crate::line::{Expanded, Lines};
-use crate::names::CountNames;
+use crate::names::GivenNames;
 use crate::read::read_lines;
 use crate::replace::Equ;
 use crate::setting::Setting;
@@ -29,7 +29,7 @@ use std::alloc::Global;
 fn read_heads(
     alloc: Global,
     source: &[u8],
-    names: &CountNames,
+    names: &GivenNames,
 ) -> Result<(Vec<Head>, Vec<Equ>), ExpandFault>
     ensures heads { GivesHeads result (heads_of source.now (table_of names.now.constants.now.names.now names.now.constants.now.values.now) names.now.rules.now) }
     ensures lines { IfOk result (λ p. All (HeadLies source.now) p.0.items) }
@@ -52,7 +52,7 @@ fn expand_text(
     ensures spans { IfOk result (λ e. All (LineLies source.now) e.lines) }
     ensures refused { IfErr result (λ f. f.kind ≢ OutOfMemory → (lines : List Line) → IsExpansion source.now (table_of constants.now.names.now constants.now.values.now) rules.now lines → ⊥) }
 {
-    let names = CountNames { constants, rules };
+    let names = GivenNames { constants, rules };
     let (heads, equs) = read_heads(alloc, source, &names)?;
     let setting = Setting {
         alloc,

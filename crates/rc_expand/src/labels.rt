@@ -7,7 +7,7 @@ use crate::words::{is_colon, is_free, is_unjoined};
 use rc_text::Token;
 use std::alloc::{AllocError, Global};
 
-//// The token of a label that is one name, with or without its colon.
+/// The token of a label that is one name, with or without its colon.
 pub(crate) fn label_token<'a>(source: &[u8], label: &'a [Token]) -> Option<&'a Token>
     requires { All (LiesIn source.now) label.now }
     ensures token { option_map (λ t. t.now) result ≡ label_token source.now label.now }
@@ -28,7 +28,7 @@ pub(crate) fn label_token<'a>(source: &[u8], label: &'a [Token]) -> Option<&'a T
     }
 }
 
-//// The token of a label that is one name, written without `&`.
+/// The token of a label that is one name, written without `&`.
 pub(crate) fn plain_token<'a>(source: &[u8], label: &'a [Token]) -> Option<&'a Token>
     requires { All (LiesIn source.now) label.now }
     ensures token { option_map (λ t. t.now) result ≡ plain_token source.now label.now }

@@ -50,8 +50,8 @@ fn after_bytes<'a>(front: &[u8], bytes: &'a [u8]) -> Option<&'a [u8]>
     bytes.strip_prefix(front)
 }
 
-/// Whether the name of a token, with the counters joined to it, is this one.
-pub(crate) fn spells(source: &[u8], token: &Token, name: &[u8]) -> bool
+/// Whether the name of a token, with the counters joined to it, is this one. The token's span has to lie in the source.
+pub fn spells(source: &[u8], token: &Token, name: &[u8]) -> bool
     requires { LiesIn source.now token.now }
     ensures { result ≡ bytes_eq (name_of source.now token.now) name.now }
 {
@@ -114,20 +114,22 @@ fn predefined_value(rules: &Rules, source: &[u8], token: &Token) -> Option<i64>
     None
 }
 
-/// The names that a count may have: constants and predefined names.
+/// The names that are given from outside of a text: constants, and the predefined names but `CURLINE`.
 #[derive(Drop)]
-pub(crate) struct CountNames<'a> {
+pub struct GivenNames<'a> {
+    /// The constants.
     pub constants: &'a Constants<'a>,
+    /// The rules for which the predefined names stand.
     pub rules: &'a Rules,
 }
 
-impl<'a> Names for CountNames<'a> {
+impl<'a> Names for GivenNames<'a> {
     ghost use Rattle.rc_expand.specs.Names.{table_of};
-    ghost use Rattle.rc_expand.specs.Unroll.{count_names};
+    ghost use Rattle.rc_expand.specs.Names.{given_names};
 
-    ghost meaning = { λ s. count_names (table_of s.constants.now.names.now s.constants.now.values.now) s.rules.now };
+    ghost meaning = { λ s. given_names (table_of s.constants.now.names.now s.constants.now.values.now) s.rules.now };
 
-    #[tactic(auto, unfolding(crate::specs::Unroll::count_names))]
+    #[tactic(auto, unfolding(crate::specs::Names::given_names))]
     fn value(&self, source: &[u8], name: &Token) -> Option<i64> {
         match constant_value(self.constants, source, name) {
             Some(value) => Some(value),
@@ -138,7 +140,7 @@ impl<'a> Names for CountNames<'a> {
 
 /// Whether a name is a constant or a predefined name.
 #[tactic(auto, unfolding(crate::specs::Unroll::is_taken))]
-pub(crate) fn is_taken(names: &CountNames, source: &[u8], token: &Token) -> bool
+pub(crate) fn is_taken(names: &GivenNames, source: &[u8], token: &Token) -> bool
     requires { LiesIn source.now token.now }
     ensures { result ≡ is_taken (table_of names.now.constants.now.names.now names.now.constants.now.values.now) names.now.rules.now (name_of source.now token.now) }
 {
@@ -170,8 +172,9 @@ fn push_counter(text: &mut Vec<u8>, counter: u16) -> Result<(), AllocError>
     push_digits(text, counter)
 }
 
-/// The bytes of a name, with the counters joined to it.
-pub(crate) fn name_of(alloc: Global, source: &[u8], token: &Token) -> Result<Vec<u8>, AllocError>
+/// The bytes of a token's name, with the counters joined to it. The token's span has to lie in the source. Refused only where
+/// memory was.
+pub fn name_of(alloc: Global, source: &[u8], token: &Token) -> Result<Vec<u8>, AllocError>
     requires { LiesIn source.now token.now }
     ensures { IfOk result (λ name. name.items ≡ name_of source.now token.now) }
 {

@@ -10,7 +10,7 @@ use crate::fault::{ExpandFault, ExpandKind, fault};
 use crate::head::{Head, Labels, Name, Opening};
 use crate::labels::{plain_name, plain_token};
 use crate::line::Tokens;
-use crate::names::CountNames;
+use crate::names::GivenNames;
 use crate::replace::{ReplaceFault, replace_tokens};
 use crate::setting::{Setting, known_line};
 use rc_text::{Kind, Token, eval};
@@ -87,7 +87,7 @@ fn count_of(setting: &Setting, first: &Head) -> Result<u16, ExpandFault>
         Ok(tokens) => tokens,
         Err(cause) => return Err(replace_fault(first.number, cause)),
     };
-    let names = CountNames {
+    let names = GivenNames {
         constants: setting.constants,
         rules: setting.rules,
     };

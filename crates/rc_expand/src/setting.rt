@@ -4,7 +4,7 @@ ghost use Rattle.rc_text.specs.Symbols.{LiesIn, name_of};
 ghost use Rattle.rc_expand.specs.Setting.{is_known_by};
 
 use crate::constants::Constants;
-use crate::names::{CountNames, is_taken};
+use crate::names::{GivenNames, is_taken};
 use crate::replace::{Equ, equ_line};
 use rc_instr::Rules;
 use rc_text::Token;
@@ -26,7 +26,7 @@ pub(crate) fn known_line(setting: &Setting, token: &Token, line: u64) -> Option<
     requires { LiesIn setting.now.source.now token.now }
     ensures { is_some result ≡ is_known_by setting.now (name_of setting.now.source.now token.now) }
 {
-    let names = CountNames {
+    let names = GivenNames {
         constants: setting.constants,
         rules: setting.rules,
     };

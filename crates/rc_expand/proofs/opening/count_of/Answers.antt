@@ -2,7 +2,8 @@ use Rattle.std.proofs.Common.{rules, FitsSigned, w64, ◌≡◌, sym, ◌∙◌,
 use Rattle.std.proofs.lemmas.Int.{to_z-of_z}
 use Rattle.rc_text.specs.Symbols.{symbols_of}
 use Rattle.rc_expand.specs.Replace.{replaced_tokens}
-use Rattle.rc_expand.specs.Unroll.{count_names, small_count}
+use Rattle.rc_expand.specs.Names.{given_names}
+use Rattle.rc_expand.specs.Unroll.{small_count}
 use Rattle.rc_expand.specs.Setting.{table}
 use Rattle.rc_expand.proofs.CountSteps.{count_made, count_none, no_value}
 use Rattle.rc_expand.proofs.opening.count_of.Goals as goal
@@ -29,4 +30,4 @@ returns c =
     let fed : replaced_tokens s.source.now s.equs.now c.args.first.now.rest ≡ Some c.as_slice-2.result.now =
     ap (replaced_tokens s.source.now s.equs.now) (sym c.as_slice.ensures) ∙ (c.in-Ok.ensures.tokens ∙ ap Some (sym c.as_slice-2.ensures)) in
     λ h. count_none s c.args.first.now.rest c.as_slice-2.result.now fed
-    (no_value (count_names (table s) s.rules.now) (symbols_of s.source.now c.as_slice-2.result.now) c.eval.result c.in-Err-eval.field-0 c.in-Err-eval.is c.eval.ensures.only)
+    (no_value (given_names (table s) s.rules.now) (symbols_of s.source.now c.as_slice-2.result.now) c.eval.result c.in-Err-eval.field-0 c.in-Err-eval.is c.eval.ensures.only)
