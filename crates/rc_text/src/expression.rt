@@ -4,7 +4,7 @@ ghost use Rattle.std.specs.List.{prefix_len};
 ghost use Rattle.rc_text.specs.declared.fault.EvalFault.{EvalFault};
 ghost use Rattle.rc_text.specs.Values.{IsValue, IsFault, HasOutcome, DEEPEST};
 ghost use Rattle.rc_text.specs.Symbols.{LiesIn, symbols_of, Mark};
-ghost use Rattle.rc_text.specs.Reading.{IsRead, IsRefused, Stops, is_prefix_kind, signed_by, signed_outcome};
+ghost use Rattle.rc_text.specs.Reading.{IsRead, IsRefused, Stops, is_prefix_kind, signed_by, signed_outcome, evaluation_of};
 
 use crate::fault::EvalFault;
 use crate::front::{after_close, first_of, operator, split_signs};
@@ -169,6 +169,7 @@ pub fn eval<N: Names>(source: &[u8], tokens: &[Token], names: &N) -> Result<i64,
     ensures fault { IfErr result (IsFault (N.meaning names.now) (symbols_of source.now tokens.now)) }
     ensures only { (r : Result ℤ EvalFault) →
         HasOutcome (N.meaning names.now) (symbols_of source.now tokens.now) r → result ≡ r }
+    ensures reading { result ≡ evaluation_of (N.meaning names.now) (symbols_of source.now tokens.now) }
 {
     let (outcome, rest) = climb(source, tokens, names, 1, 0)?;
     if rest.is_empty() {

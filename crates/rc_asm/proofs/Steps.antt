@@ -1,0 +1,221 @@
+-- One line at a time.
+use Rattle.std.proofs.Common.{◌≡◌, ℕ, ◌+◌, ◌≤◌, map, true, false, List, [], ◌∷◌, ◌++◌, length, Option, Some, None, refl, sym, ◌∙◌, ap, arith, append_assoc, length-append}
+use Rattle.std.specs.Prelude.{◌&&◌, not, ℤ, All, option_map, option_and_then, Result, Ok, Err, if◌then◌else◌, Bool}
+use Rattle.std.specs.Result.{result_err}
+use Rattle.std.proofs.lemmas.List.{append-nil}
+use Rattle.std.proofs.lemmas.Bool.{both_ways, and_parts}
+use Rattle.rc_text.specs.declared.token.Token.{Token}
+use Rattle.rc_text.specs.declared.fault.EvalFault.{EvalFault}
+use Rattle.rc_text.specs.declared.fault.EvalFault.TheVariants.{Syntax}
+use Rattle.rc_text.specs.Values.{is_zero}
+use Rattle.rc_text.specs.Reading.{before_operand}
+use Rattle.rc_instr.specs.declared.instruction.Instruction.{Instruction}
+use Rattle.rc_instr.specs.Warrior.{IsBelow}
+use Rattle.rc_expand.specs.declared.line.LineWord.{LineWord}
+use Rattle.rc_expand.specs.declared.line.LineWord.TheVariants.{Bare, Code, Org, End, Assert}
+use Rattle.rc_expand.specs.declared.line.Line.{Line}
+use Rattle.rc_expand.specs.Names.{or_else}
+use Rattle.rc_asm.specs.declared.fault.AsmKind.{AsmKind}
+use Rattle.rc_asm.specs.declared.fault.AsmKind.TheVariants.{AssertFailed, Value}
+use Rattle.rc_asm.specs.declared.fault.AsmFault.{AsmFault}
+use Rattle.rc_asm.specs.declared.starts.Starts.{Starts}
+use Rattle.rc_asm.specs.Results.{and_then, with_fault}
+use Rattle.rc_asm.specs.Shape.{Shape, shape_of}
+use Rattle.rc_text.specs.Symbols.{name_of}
+use Rattle.rc_asm.specs.Names.{Names, Labels, behind, labels_from, value_at}
+use Rattle.rc_asm.specs.Instructions.{instruction_at, shaped}
+use Rattle.rc_asm.specs.Assembly.{next_instruction, line_holds, is_true, starts_after, instructions_from, holds_from, starts_from, no_starts}
+use Rattle.rc_asm.specs.Faults.{at_line, form_fault, forms_fault, assertion_fault, end_fault, value_fault, values_fault, lines_fault}
+use Rattle.rc_asm.specs.Steps.{code_after, IsRead, fault_at, IsRefused, AreRead, Progress}
+
+some_is : {A : Type 0} (x y : A) → Some x ≡ Some y → x ≡ y
+some_is x y h = cc
+
+none_some : {A : Type 0} (o : Option A) (x : A) → o ≡ None → o ≡ Some x → ⊥
+none_some o x h k = let e = sym h ∙ k in cc
+
+map_twice : (before : List Instruction) (x : Instruction) (o : Option (List Instruction)) → option_map (λ is. before ++ is) (option_map (λ is. x ∷ is) o) ≡ option_map (λ is. (before ++ (x ∷ [])) ++ is) o
+map_twice before x None = refl
+map_twice before x (Some is) = ap Some (sym (append_assoc before (x ∷ []) is))
+
+map_same : (o : Option (List Instruction)) → o ≡ option_map (λ is. [] ++ is) o
+map_same None = refl
+map_same (Some is) = refl
+
+length_next : (w : LineWord) (i : Result Instruction AsmKind) (before after : List Instruction) → code_after w i before ≡ Some after → behind w (length before) ≡ length after
+length_next Code (Ok x) before after h = sym (length-append before (x ∷ [])) ∙ ap length (some_is (before ++ (x ∷ [])) after h)
+length_next Code (Err e) before after h = absurd (cc)
+length_next Bare i before after h = ap length (some_is before after h)
+length_next Org i before after h = ap length (some_is before after h)
+length_next End i before after h = ap length (some_is before after h)
+length_next Assert i before after h = ap length (some_is before after h)
+
+code_next : (w : LineWord) (i : Result Instruction AsmKind) (before after : List Instruction) (rest : Option (List Instruction)) → code_after w i before ≡ Some after
+    → option_map (λ is. before ++ is) (next_instruction w i rest) ≡ option_map (λ is. after ++ is) rest
+code_next Code (Ok x) before after rest h = map_twice before x rest ∙ ap (λ c. option_map (λ is. c ++ is) rest) (some_is (before ++ (x ∷ [])) after h)
+code_next Code (Err e) before after rest h = absurd (cc)
+code_next Bare i before after rest h = ap (λ c. option_map (λ is. c ++ is) rest) (some_is before after h)
+code_next Org i before after rest h = ap (λ c. option_map (λ is. c ++ is) rest) (some_is before after h)
+code_next End i before after rest h = ap (λ c. option_map (λ is. c ++ is) rest) (some_is before after h)
+code_next Assert i before after rest h = ap (λ c. option_map (λ is. c ++ is) rest) (some_is before after h)
+
+-- a line without a fault leaves it to the others
+fault_passed : (n : ℕ) (k : Option AsmKind) (rest : Option AsmFault) → k ≡ None → or_else (option_map (at_line n) k) rest ≡ rest
+fault_passed n None rest h = refl
+fault_passed n (Some e) rest h = absurd (cc)
+
+-- and one with a fault has the first
+fault_found : (n : ℕ) (k : Option AsmKind) (e : AsmKind) (rest : Option AsmFault) → k ≡ Some e → or_else (option_map (at_line n) k) rest ≡ Some (at_line n e)
+fault_found n None e rest h = absurd (cc)
+fault_found n (Some d) e rest h = ap (λ x. Some (at_line n x)) (some_is d e h)
+
+module _ (source : List ℕ) (names : Names) where
+  -- where a line was read, the others make the whole
+  pub progress_next : (lines rest others : List Line) (l : Line) (before after : List Instruction) (s r : Starts) → rest ≡ l ∷ others → IsRead source names l before s after r
+      → fault_at source names (length before) l ≡ None → All (IsBelow names.limits.core) after → Progress source names lines rest before s → Progress source names lines others after r
+  progress_next lines rest others l before after s r e h f b p =
+      let n : behind l.word (length before) ≡ length after = length_next l.word _ before after h.code in
+      record {
+        code = p.code ∙ (ap (λ ls. option_map (λ is. before ++ is) (instructions_from source names (length before) ls)) e ∙ (code_next l.word _ before after _ h.code ∙ ap (λ k. option_map (λ is. after ++ is) (instructions_from source names k others)) n));
+        holds = p.holds ∙ (ap (holds_from source names (length before)) e ∙ (ap (λ t. t && holds_from source names (behind l.word (length before)) others) h.holds ∙ ap (λ k. holds_from source names k others) n));
+        starts = p.starts ∙ (ap (starts_from source names (length before) s) e ∙ (ap (option_and_then (λ x. starts_from source names (behind l.word (length before)) x others)) h.starts ∙ ap (λ k. starts_from source names k r others) n));
+        faults = p.faults ∙ (ap (values_fault source names (length before)) e ∙ (fault_passed l.number _ _ f ∙ ap (λ k. values_fault source names k others) n));
+        below = b;
+      }
+
+  -- the fault of a line is the first
+  pub progress_stops : (lines rest others : List Line) (l : Line) (before : List Instruction) (s : Starts) (k : AsmKind) → rest ≡ l ∷ others → fault_at source names (length before) l ≡ Some k
+      → Progress source names lines rest before s → values_fault source names 0 lines ≡ Some (at_line l.number k)
+  progress_stops lines rest others l before s k e f p = p.faults ∙ (ap (values_fault source names (length before)) e ∙ fault_found l.number _ k _ f)
+
+  pub progress_starts : (lines : List Line) → Progress source names lines lines [] no_starts
+  progress_starts lines = record {
+    code = map_same (instructions_from source names 0 lines);
+    holds = refl;
+    starts = refl;
+    faults = refl;
+    below = λ k d h. absurd (omega (arith, h));
+  }
+
+  pub progress_ends : (lines rest : List Line) (all : List Instruction) (s : Starts) → rest ≡ [] → Progress source names lines rest all s → AreRead source names lines all s
+  progress_ends lines rest all s e p = record {
+    code = p.code ∙ (ap (λ ls. option_map (λ is. all ++ is) (instructions_from source names (length all) ls)) e ∙ ap Some (append-nil all));
+    holds = p.holds ∙ ap (holds_from source names (length all)) e;
+    starts = p.starts ∙ ap (starts_from source names (length all) s) e;
+    faultless = p.faults ∙ ap (values_fault source names (length all)) e;
+    below = p.below;
+  }
+
+-- a line of its form leaves it to the others
+pub form_passed : (source : List ℕ) (rest others : List Line) (l : Line) → rest ≡ l ∷ others → form_fault source l.word l.tokens ≡ None → forms_fault source rest ≡ forms_fault source others
+form_passed source rest others l e f = ap (forms_fault source) e ∙ fault_passed l.number _ _ f
+
+pub form_found : (source : List ℕ) (rest others : List Line) (l : Line) (k : AsmKind) → rest ≡ l ∷ others → form_fault source l.word l.tokens ≡ Some k → forms_fault source rest ≡ Some (at_line l.number k)
+form_found source rest others l k e f = ap (forms_fault source) e ∙ fault_found l.number _ k _ f
+
+-- ---- lines with a fault make no warrior
+
+rest_some : (w : LineWord) (i : Result Instruction AsmKind) (rest : Option (List Instruction)) (code : List Instruction) → next_instruction w i rest ≡ Some code → (c : List Instruction) × (rest ≡ Some c)
+rest_some Code (Ok x) (Some is) code h = (is, refl)
+rest_some Code (Ok x) None code h = absurd (cc)
+rest_some Code (Err e) rest code h = absurd (cc)
+rest_some Bare i rest code h = (code, h)
+rest_some Org i rest code h = (code, h)
+rest_some End i rest code h = (code, h)
+rest_some Assert i rest code h = (code, h)
+
+then_some : {A B : Type 0} (f : A → Option B) (o : Option A) (y : B) → option_and_then f o ≡ Some y → (x : A) × (o ≡ Some x) × (f x ≡ Some y)
+then_some f None y h = absurd (cc)
+then_some f (Some x) y h = (x, refl, h)
+
+-- the line itself makes the code, the assertions and the starts
+abbrev LineMakes : LineWord → List Token → Result Instruction AsmKind → Result ℤ EvalFault → Option (List Instruction) → List Instruction → Starts → Starts → Type 0
+LineMakes w ts i v rest code s r = (next_instruction w i rest ≡ Some code) × (line_holds w v ≡ true) × (starts_after w ts v s ≡ Some r)
+
+value_stops : (w : LineWord) (ts : List Token) (i : Result Instruction AsmKind) (v : Result ℤ EvalFault) (k : AsmKind) (rest : Option (List Instruction)) (code : List Instruction) (s r : Starts)
+    → value_fault w ts i v ≡ Some k → LineMakes w ts i v rest code s r → ⊥
+value_stops Code ts (Ok x) v k rest code s r f m = cc
+value_stops Code ts (Err e) v k rest code s r f m = none_some None code refl m.0
+value_stops Org ts i (Ok x) k rest code s r f m = cc
+value_stops Org ts i (Err e) k rest code s r f m = none_some None r refl m.2
+value_stops End [] i v k rest code s r f m = cc
+value_stops End (t ∷ ts) i (Ok x) k rest code s r f m = cc
+value_stops End (t ∷ ts) i (Err e) k rest code s r f m = none_some None r refl m.2
+value_stops Assert ts i (Err e) k rest code s r f m = both_ways false refl m.1
+value_stops Assert ts i (Ok x) k rest code s r f m = zero_or_not (is_zero x) f m.1 where
+  zero_or_not : (z : Bool) → (if z then Some AssertFailed else None) ≡ Some k → not z ≡ true → ⊥
+  zero_or_not true f h = both_ways false refl h
+  zero_or_not false f h = none_some None k refl f
+value_stops Bare ts i v k rest code s r f m = cc
+
+module _ (source : List ℕ) (names : Names) where
+  value_refuses : (l : Line) (ls : List Line) (at : ℕ) (s : Starts) (k : AsmKind) → fault_at source names at l ≡ Some k → IsRefused source names at s (l ∷ ls)
+  value_refuses l ls at s k f code r hc hh hs =
+      let t = then_some _ (starts_after l.word l.tokens (value_at source names at 0 l.tokens) s) r hs in
+      value_stops l.word l.tokens _ _ k _ code s t.0 f (hc, (and_parts _ _ hh).0, t.1)
+
+  others_refuse : (l : Line) (ls : List Line) (at : ℕ) (s : Starts) → ((r : Starts) → IsRefused source names (behind l.word at) r ls) → IsRefused source names at s (l ∷ ls)
+  others_refuse l ls at s next code r hc hh hs =
+      let i = rest_some l.word (instruction_at source names at l.tokens) _ code hc in
+      let t = then_some _ (starts_after l.word l.tokens (value_at source names at 0 l.tokens) s) r hs in
+      next t.0 i.0 r i.1 (and_parts _ _ hh).1 t.2
+
+  -- a line without a value makes no warrior
+  pub valueless : (lines : List Line) (at : ℕ) (s : Starts) (f : AsmFault) → values_fault source names at lines ≡ Some f → IsRefused source names at s lines
+  valueless [] at s f h = absurd (none_some None f refl h)
+  valueless (l ∷ ls) at s f h = by_fault (fault_at source names at l) refl h (λ k r. valueless ls (behind l.word at) r f k) where
+    by_fault : (k : Option AsmKind) → fault_at source names at l ≡ k → or_else (option_map (at_line l.number) k) (values_fault source names (behind l.word at) ls) ≡ Some f
+        → (values_fault source names (behind l.word at) ls ≡ Some f → (r : Starts) → IsRefused source names (behind l.word at) r ls) → IsRefused source names at s (l ∷ ls)
+    by_fault (Some k) e h next = value_refuses l ls at s k e
+    by_fault None e h next = others_refuse l ls at s (next h)
+
+  no_value : (at : ℕ) → value_at source names at 0 [] ≡ Err Syntax
+  unfolding before_operand
+  no_value at = refl
+
+  no_shape : (at : ℕ) (ts : List Token) (k : AsmKind) (r : Result Shape AsmKind) → shape_of source ts ≡ r → result_err r ≡ Some k → result_err (and_then (λ s. with_fault Value (shaped source names at s)) r) ≡ Some k
+  no_shape at ts k (Ok x) e h = absurd (cc)
+  no_shape at ts k (Err d) e h = h
+
+  -- a line that is not of its form has no value
+  no_form : (w : LineWord) (ts : List Token) (at : ℕ) (k : AsmKind) → form_fault source w ts ≡ Some k
+      → (j : AsmKind) × (value_fault w ts (instruction_at source names at ts) (value_at source names at 0 ts) ≡ Some j)
+  unfolding instruction_at
+  no_form Code ts at k h = (k, no_shape at ts k (shape_of source ts) refl h)
+  no_form Org [] at k h = (Value Syntax, ap (λ v. option_map Value (result_err v)) (no_value at))
+  no_form Org (t ∷ ts) at k h = absurd (cc)
+  no_form End ts at k h = absurd (cc)
+  no_form Assert ts at k h = absurd (cc)
+  no_form Bare ts at k h = absurd (cc)
+
+  -- nor does it make a warrior
+  pub formless : (lines : List Line) (at : ℕ) (s : Starts) (f : AsmFault) → forms_fault source lines ≡ Some f → IsRefused source names at s lines
+  formless [] at s f h = absurd (none_some None f refl h)
+  formless (l ∷ ls) at s f h = by_fault (form_fault source l.word l.tokens) refl h (λ k r. formless ls (behind l.word at) r f k) where
+    by_fault : (k : Option AsmKind) → form_fault source l.word l.tokens ≡ k → or_else (option_map (at_line l.number) k) (forms_fault source ls) ≡ Some f
+        → (forms_fault source ls ≡ Some f → (r : Starts) → IsRefused source names (behind l.word at) r ls) → IsRefused source names at s (l ∷ ls)
+    by_fault (Some k) e h next = let j = no_form l.word l.tokens at k e in value_refuses l ls at s j.0 j.1
+    by_fault None e h next = others_refuse l ls at s (next h)
+
+  -- lines with a fault make no warrior
+  pub faulty : (lines : List Line) (f : AsmFault) → lines_fault source names lines ≡ Some f → IsRefused source names 0 no_starts lines
+  faulty lines f h = by_form (forms_fault source lines) refl h where
+    by_form : (k : Option AsmFault) → forms_fault source lines ≡ k → or_else k (values_fault source names 0 lines) ≡ Some f → IsRefused source names 0 no_starts lines
+    by_form (Some g) e h = formless lines 0 no_starts g e
+    by_form None e h = valueless lines 0 no_starts f h
+
+-- ---- labels
+
+pub behind_most : (w : LineWord) (at next : ℕ) → next ≡ behind w at → next ≤ at + 1
+behind_most Bare at next h = omega (arith, h)
+behind_most Code at next h = omega (arith, h)
+behind_most Org at next h = omega (arith, h)
+behind_most End at next h = omega (arith, h)
+behind_most Assert at next h = omega (arith, h)
+
+pub labels_next : (source : List ℕ) (rest others : List Line) (l : Line) (old new whole : Labels) (at next : ℕ) → rest ≡ l ∷ others → new ≡ old ++ map (λ t. (name_of source t, at)) l.labels → next ≡ behind l.word at
+    → old ++ labels_from source at rest ≡ whole → new ++ labels_from source next others ≡ whole
+labels_next source rest others l old new whole at next e n b w =
+    let added : Labels = map (λ t. (name_of source t, at)) l.labels in
+    ap (λ k. new ++ labels_from source k others) b
+    ∙ (ap (λ x. x ++ labels_from source (behind l.word at) others) n ∙ (append_assoc old added (labels_from source (behind l.word at) others) ∙ (ap (λ ls. old ++ labels_from source at ls) (sym e) ∙ w)))

@@ -1,0 +1,89 @@
+-- The warrior that a text assembles to (1994 draft; END without ORG, `;assert` and the limits as they are here are pMARS's in outline and this
+-- project's own in detail).
+use Rattle.std.specs.Prelude.{◌≡◌, ◌≤◌, ◌<◌, ℕ, Bool, true, false, ◌&&◌, not, ℤ, pos, List, [], ◌∷◌, length, Option, Some, None, option_and_then, option_map, Result, Ok, Err}
+use Rattle.rc_text.specs.declared.token.Token.{Token}
+use Rattle.rc_text.specs.declared.fault.EvalFault.{EvalFault}
+use Rattle.rc_text.specs.Values.{is_zero}
+use Rattle.rc_instr.specs.Rules.{Limits}
+use Rattle.rc_instr.specs.Warrior.{Program}
+use Rattle.rc_instr.specs.declared.instruction.Instruction.{Instruction}
+use Rattle.rc_expand.specs.declared.line.LineWord.{LineWord}
+use Rattle.rc_expand.specs.declared.line.LineWord.TheVariants.{Code, Org, End, Assert}
+use Rattle.rc_expand.specs.declared.line.Line.{Line}
+use Rattle.rc_expand.specs.Names.{Table}
+use Rattle.rc_expand.specs.Expansion.{IsExpansion}
+use Rattle.rc_asm.specs.declared.fault.AsmKind.{AsmKind}
+use Rattle.rc_asm.specs.declared.starts.Starts.{Starts}
+use Rattle.rc_asm.specs.Names.{Names, behind, labels_of, value_at}
+use Rattle.rc_asm.specs.Instructions.{instruction_at}
+
+-- a line of code adds its instruction
+abbrev pub next_instruction : LineWord → Result Instruction AsmKind → Option (List Instruction) → Option (List Instruction)
+next_instruction Code (Ok i) rest = option_map (λ is. i ∷ is) rest
+next_instruction Code (Err e) rest = None
+next_instruction _ i rest = rest
+
+-- an assertion has a value other than 0
+abbrev pub is_true : Result ℤ EvalFault → Bool
+is_true (Ok v) = not (is_zero v)
+is_true (Err e) = false
+
+abbrev pub line_holds : LineWord → Result ℤ EvalFault → Bool
+line_holds Assert v = is_true v
+line_holds _ v = true
+
+abbrev pub no_starts : Starts
+no_starts = record { org = None; end = None }
+
+-- the value of the last ORG; without ORG that of END; without either 0
+abbrev pub start_by : Option ℤ → Option ℤ → ℤ
+start_by (Some v) e = v
+start_by None (Some v) = v
+start_by None None = pos 0
+
+abbrev pub start_of : Starts → ℤ
+start_of s = start_by s.org s.end
+
+-- what a line adds to them: ORG has an expression, END may have one, and each expression has a value
+abbrev pub starts_after : LineWord → List Token → Result ℤ EvalFault → Starts → Option Starts
+starts_after Org ts (Ok v) s = Some (record s { org = Some v })
+starts_after Org ts (Err e) s = None
+starts_after End [] v s = Some s
+starts_after End (t ∷ ts) (Ok v) s = Some (record s { end = Some v })
+starts_after End (t ∷ ts) (Err e) s = None
+starts_after _ ts v s = Some s
+
+module _ (source : List ℕ) (names : Names) where
+  -- the instructions of the lines, before the first of which so many stand
+  abbrev pub instructions_from : ℕ → List Line → Option (List Instruction)
+  instructions_from at [] = Some []
+  instructions_from at (l ∷ ls) = next_instruction l.word (instruction_at source names at l.tokens) (instructions_from (behind l.word at) ls)
+
+  -- every assertion holds; a label stands for its address there
+  abbrev pub holds_from : ℕ → List Line → Bool
+  holds_from at [] = true
+  holds_from at (l ∷ ls) = line_holds l.word (value_at source names at 0 l.tokens) && holds_from (behind l.word at) ls
+
+  -- the values of ORG and END behind the lines; a label stands for its address there
+  abbrev pub starts_from : ℕ → Starts → List Line → Option Starts
+  starts_from at s [] = Some s
+  starts_from at s (l ∷ ls) = option_and_then (λ r. starts_from (behind l.word at) r ls) (starts_after l.word l.tokens (value_at source names at 0 l.tokens) s)
+
+abbrev pub names_of : List ℕ → Table → Limits → List Line → Names
+names_of source constants limits lines = record { constants = constants; limits = limits; labels = labels_of source lines }
+
+-- the lines of a text make this warrior: its instructions, the start, and every assertion
+pub record IsMadeOf (source : List ℕ) (names : Names) (lines : List Line) (warrior : Program) : Type 0 where
+  pub code : instructions_from source names 0 lines ≡ Some warrior.code
+  pub holds : holds_from source names 0 lines ≡ true
+  pub start : option_map start_of (starts_from source names 0 no_starts lines) ≡ Some (pos warrior.start)
+  pub some : 0 < length warrior.code
+  pub within : length warrior.code ≤ names.limits.length
+  pub inside : warrior.start < length warrior.code
+
+-- the text assembles to this warrior: it has at most 65536 bytes, and the lines to which it expands make the warrior
+pub record Assembles (source : List ℕ) (constants : Table) (limits : Limits) (warrior : Program) : Type 0 where
+  pub short : length source ≤ 65536
+  pub lines : List Line
+  pub expands : IsExpansion source constants limits lines
+  pub made : IsMadeOf source (names_of source constants limits lines) lines warrior

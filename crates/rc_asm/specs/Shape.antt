@@ -1,0 +1,89 @@
+-- The form of a line of code: an opcode word, perhaps a dot and a modifier, and operands parted by commas (1994 draft; which operands may be left
+-- out, and what is refused how, is this project's own).
+use Rattle.std.specs.Prelude.{ℕ, List, [], ◌∷◌, Option, Some, None, if◌then◌else◌, Result, Ok, Err}
+use Rattle.std.specs.Option.{ok_or}
+use Rattle.rc_text.specs.declared.token.Token.{Token}
+use Rattle.rc_expand.specs.Lines.{is_dot}
+use Rattle.rc_instr.specs.declared.instruction.Opcode.{Opcode}
+use Rattle.rc_instr.specs.declared.instruction.Opcode.TheVariants.{Dat, Jmp, Spl, Nop}
+use Rattle.rc_instr.specs.declared.instruction.Modifier.{Modifier}
+use Rattle.rc_asm.specs.declared.fault.AsmKind.{AsmKind}
+use Rattle.rc_asm.specs.declared.fault.AsmKind.TheVariants.{UnknownOpcode, MissingOperand, ExtraText}
+use Rattle.rc_asm.specs.Results.{mapped, and_then}
+use Rattle.rc_asm.specs.Words.{is_comma, opcode_at, modifier_at}
+
+-- a token begins the first of the parts
+abbrev pub begun : Token → List (List Token) → List (List Token)
+begun t [] = (t ∷ []) ∷ []
+begun t (p ∷ ps) = (t ∷ p) ∷ ps
+
+abbrev pub parts_from : List Token → List (List Token)
+parts_from [] = [] ∷ []
+parts_from (t ∷ ts) = if is_comma t then [] ∷ parts_from ts else begun t (parts_from ts)
+
+-- the parts between commas; no tokens have no part
+unfoldable pub parts : List Token → List (List Token)
+parts [] = []
+parts (t ∷ ts) = parts_from (t ∷ ts)
+
+-- the tokens of the A-operand and of the B-operand, where they are written
+pub record Sides : Type 0 where
+  pub a : Option (List Token)
+  pub b : Option (List Token)
+
+abbrev pub sides : Option (List Token) → Option (List Token) → Sides
+sides a b = record { a = a; b = b }
+
+-- DAT and NOP need no operand
+abbrev pub no_side : Opcode → Option Sides
+no_side Dat = Some (sides None None)
+no_side Nop = Some (sides None None)
+no_side _ = None
+
+-- DAT takes one operand as its B-operand; JMP, SPL and NOP take it as their A-operand
+abbrev pub one_side : Opcode → List Token → Option Sides
+one_side Dat p = Some (sides None (Some p))
+one_side Jmp p = Some (sides (Some p) None)
+one_side Spl p = Some (sides (Some p) None)
+one_side Nop p = Some (sides (Some p) None)
+one_side _ p = None
+
+-- neither part beside a comma is empty
+abbrev pub two_sides : List Token → List Token → Option Sides
+two_sides [] b = None
+two_sides (t ∷ a) [] = None
+two_sides (t ∷ a) (u ∷ b) = Some (sides (Some (t ∷ a)) (Some (u ∷ b)))
+
+-- the operands of an opcode; two commas are too many
+abbrev pub sides_of : Opcode → List (List Token) → Result Sides AsmKind
+sides_of o [] = ok_or (no_side o) MissingOperand
+sides_of o (p ∷ []) = ok_or (one_side o p) MissingOperand
+sides_of o (p ∷ q ∷ []) = ok_or (two_sides p q) MissingOperand
+sides_of o (p ∷ q ∷ r ∷ ps) = Err ExtraText
+
+-- an opcode, perhaps a modifier, and the operands
+pub record Shape : Type 0 where
+  pub opcode : Opcode
+  pub modifier : Option Modifier
+  pub sides : Sides
+
+abbrev pub shape : Opcode → Option Modifier → Sides → Shape
+shape o m s = record { opcode = o; modifier = m; sides = s }
+
+unfoldable pub with_operands : Opcode → Option Modifier → List Token → Result Shape AsmKind
+with_operands o m ts = mapped (shape o m) (sides_of o (parts ts))
+
+-- what follows an opcode and a dot
+unfoldable pub with_modifier : List ℕ → Opcode → List Token → Result Shape AsmKind
+with_modifier source o [] = Err UnknownOpcode
+with_modifier source o (t ∷ ts) = and_then (λ m. with_operands o (Some m) ts) (ok_or (modifier_at source t) UnknownOpcode)
+
+-- what follows an opcode
+unfoldable pub behind_opcode : List ℕ → Opcode → List Token → Result Shape AsmKind
+behind_opcode source o [] = with_operands o None []
+behind_opcode source o (t ∷ ts) = if is_dot t then with_modifier source o ts else with_operands o None (t ∷ ts)
+
+-- the form of a line of code
+unfoldable pub shape_of : List ℕ → List Token → Result Shape AsmKind
+shape_of source [] = Err UnknownOpcode
+shape_of source (t ∷ ts) = and_then (λ o. behind_opcode source o ts) (ok_or (opcode_at source t) UnknownOpcode)

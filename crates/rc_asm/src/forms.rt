@@ -1,0 +1,50 @@
+//! The first pass: whether each line is of its form.
+ghost use Rattle.std.specs.Prelude.{◌≡◌, ◌≢◌, All, IfErr};
+ghost use Rattle.rc_asm.specs.declared.fault.AsmKind.TheVariants.{OutOfMemory};
+ghost use Rattle.std.specs.Result.{result_err};
+ghost use Rattle.rc_expand.specs.Expansion.{LineLies};
+ghost use Rattle.rc_asm.specs.Faults.{form_fault, forms_fault};
+
+use crate::fault::{AsmFault, AsmKind};
+use crate::shape::shape_of;
+use rc_expand::{Line, LineWord};
+
+// Refuses a line of code that is not of its form, and ORG without an expression.
+fn check_form(source: &[u8], line: &Line) -> Result<(), AsmKind>
+    requires { LineLies source.now line.now }
+    ensures form { result_err result ≡ form_fault source.now line.now.word line.now.tokens }
+    ensures room { IfErr result (λ e. e ≢ OutOfMemory) }
+{
+    let tokens = line.tokens.as_slice();
+    match line.word {
+        LineWord::Code => {
+            shape_of(source, tokens)?;
+            Ok(())
+        }
+        LineWord::Org => match tokens {
+            [] => Err(AsmKind::MissingOperand),
+            _ => Ok(()),
+        },
+        _ => Ok(()),
+    }
+}
+
+/// Refuses the first line that is not of its form.
+pub(crate) fn check_forms(source: &[u8], lines: &[Line]) -> Result<(), AsmFault>
+    requires { All (LineLies source.now) lines.now }
+    ensures forms { result_err result ≡ forms_fault source.now lines.now }
+    ensures room { IfErr result (λ f. f.kind ≢ OutOfMemory) }
+{
+    let mut rest = lines;
+    while let Some((line, after)) = rest.split_first() {
+        match check_form(source, line) {
+            Ok(()) => {}
+            Err(kind) => return Err(AsmFault {
+                line: line.number,
+                kind,
+            }),
+        }
+        rest = after;
+    }
+    Ok(())
+}

@@ -1,0 +1,181 @@
+//! The form of a line of code.
+ghost use Rattle.std.specs.Prelude.{◌≡◌, ◌≢◌, ℕ, ◌∷◌, [], ◌<◌, length, take, drop, ◌+◌, option_map, List, Some, None, All, IfSome, IfNone, IfOk, IfErr};
+ghost use Rattle.rc_asm.specs.declared.fault.AsmKind.TheVariants.{OutOfMemory};
+ghost use Rattle.rc_text.specs.Symbols.{LiesIn};
+ghost use Rattle.rc_asm.specs.Results.{mapped};
+ghost use Rattle.rc_asm.specs.Shape.{parts, parts_from, no_side, one_side, two_sides, sides_of, with_operands, with_modifier, behind_opcode, shape_of};
+ghost use Rattle.rc_asm.specs.Seen.{seen_sides, seen_shape, SidesLie};
+
+use crate::fault::AsmKind;
+use crate::word::{is_comma, is_dot, modifier_at, opcode_at};
+use rc_instr::{Modifier, Opcode};
+use rc_text::Token;
+
+/// The tokens of the operands, where they are written.
+#[derive(Clone, Copy)]
+pub(crate) struct Sides<'a> {
+    pub(crate) a: Option<&'a [Token]>,
+    pub(crate) b: Option<&'a [Token]>,
+}
+
+/// An opcode, perhaps a modifier, and the operands.
+#[derive(Clone, Copy)]
+pub(crate) struct Shape<'a> {
+    pub(crate) opcode: Opcode,
+    pub(crate) modifier: Option<Modifier>,
+    pub(crate) sides: Sides<'a>,
+}
+
+// Where the first comma stands.
+#[tactic(auto, using(crate::proofs::Parts::parts_whole, crate::proofs::Parts::parts_comma))]
+fn first_comma(tokens: &[Token]) -> Option<usize>
+    ensures found { IfSome result (λ at. (at < length tokens.now) × (parts_from tokens.now ≡ take at tokens.now ∷ parts_from (drop (at + 1) tokens.now))) }
+    ensures none { IfNone result (parts_from tokens.now ≡ tokens.now ∷ []) }
+{
+    for i in 0..tokens.len() {
+        if is_comma(&tokens[i]) {
+            return Some(i);
+        }
+    }
+    None
+}
+
+// The operands of an opcode without any.
+fn no_side(opcode: Opcode) -> Option<Sides<'static>>
+    ensures sides { option_map seen_sides result ≡ no_side opcode }
+    ensures inside { (source : List ℕ) → IfSome result (SidesLie source) }
+{
+    match opcode {
+        Opcode::Dat | Opcode::Nop => Some(Sides { a: None, b: None }),
+        _ => None,
+    }
+}
+
+// The operands of an opcode with one.
+fn one_side(opcode: Opcode, part: &[Token]) -> Option<Sides<'_>>
+    ensures sides { option_map seen_sides result ≡ one_side opcode part.now }
+    ensures inside { (source : List ℕ) → All (LiesIn source) part.now → IfSome result (SidesLie source) }
+{
+    match opcode {
+        Opcode::Dat => Some(Sides {
+            a: None,
+            b: Some(part),
+        }),
+        Opcode::Jmp | Opcode::Spl | Opcode::Nop => Some(Sides {
+            a: Some(part),
+            b: None,
+        }),
+        _ => None,
+    }
+}
+
+// The operands of an opcode with two.
+fn two_sides<'a>(first: &'a [Token], second: &'a [Token]) -> Option<Sides<'a>>
+    ensures sides { option_map seen_sides result ≡ two_sides first.now second.now }
+    ensures inside { (source : List ℕ) → All (LiesIn source) first.now → All (LiesIn source) second.now → IfSome result (SidesLie source) }
+{
+    if first.is_empty() || second.is_empty() {
+        return None;
+    }
+    Some(Sides {
+        a: Some(first),
+        b: Some(second),
+    })
+}
+
+// The operands of an opcode.
+#[tactic(auto, unfolding(crate::specs::Shape::parts))]
+fn sides_of(opcode: Opcode, tokens: &[Token]) -> Result<Sides<'_>, AsmKind>
+    ensures sides { mapped seen_sides result ≡ sides_of opcode (parts tokens.now) }
+    ensures inside { (source : List ℕ) → All (LiesIn source) tokens.now → IfOk result (SidesLie source) }
+    ensures room { IfErr result (λ e. e ≢ OutOfMemory) }
+{
+    if tokens.is_empty() {
+        return no_side(opcode).ok_or(AsmKind::MissingOperand);
+    }
+    match first_comma(tokens) {
+        None => one_side(opcode, tokens).ok_or(AsmKind::MissingOperand),
+        Some(at) => {
+            let second = &tokens[at + 1..];
+            match first_comma(second) {
+                None => two_sides(&tokens[..at], second).ok_or(AsmKind::MissingOperand),
+                Some(_) => Err(AsmKind::ExtraText),
+            }
+        }
+    }
+}
+
+// An opcode, perhaps a modifier, and the operands.
+#[tactic(auto, unfolding(crate::specs::Shape::with_operands))]
+fn with_operands(
+    opcode: Opcode,
+    modifier: Option<Modifier>,
+    tokens: &[Token],
+) -> Result<Shape<'_>, AsmKind>
+    ensures shape { mapped seen_shape result ≡ with_operands opcode modifier tokens.now }
+    ensures inside { (source : List ℕ) → All (LiesIn source) tokens.now → IfOk result (λ s. SidesLie source s.sides) }
+    ensures room { IfErr result (λ e. e ≢ OutOfMemory) }
+{
+    let sides = sides_of(opcode, tokens)?;
+    Ok(Shape {
+        opcode,
+        modifier,
+        sides,
+    })
+}
+
+// What follows an opcode and a dot.
+#[tactic(auto, unfolding(crate::specs::Shape::with_modifier))]
+fn with_modifier<'a>(
+    source: &[u8],
+    opcode: Opcode,
+    tokens: &'a [Token],
+) -> Result<Shape<'a>, AsmKind>
+    requires { All (LiesIn source.now) tokens.now }
+    ensures shape { mapped seen_shape result ≡ with_modifier source.now opcode tokens.now }
+    ensures inside { IfOk result (λ s. SidesLie source.now s.sides) }
+    ensures room { IfErr result (λ e. e ≢ OutOfMemory) }
+{
+    match tokens {
+        [] => Err(AsmKind::UnknownOpcode),
+        [first, rest @ ..] => match modifier_at(source, first) {
+            Some(modifier) => with_operands(opcode, Some(modifier), rest),
+            None => Err(AsmKind::UnknownOpcode),
+        },
+    }
+}
+
+// What follows an opcode.
+#[tactic(auto, unfolding(crate::specs::Shape::behind_opcode))]
+fn behind_opcode<'a>(
+    source: &[u8],
+    opcode: Opcode,
+    tokens: &'a [Token],
+) -> Result<Shape<'a>, AsmKind>
+    requires { All (LiesIn source.now) tokens.now }
+    ensures shape { mapped seen_shape result ≡ behind_opcode source.now opcode tokens.now }
+    ensures inside { IfOk result (λ s. SidesLie source.now s.sides) }
+    ensures room { IfErr result (λ e. e ≢ OutOfMemory) }
+{
+    match tokens {
+        [first, rest @ ..] if is_dot(first) => with_modifier(source, opcode, rest),
+        _ => with_operands(opcode, None, tokens),
+    }
+}
+
+/// The form of a line of code.
+#[tactic(auto, unfolding(crate::specs::Shape::shape_of))]
+pub(crate) fn shape_of<'a>(source: &[u8], tokens: &'a [Token]) -> Result<Shape<'a>, AsmKind>
+    requires { All (LiesIn source.now) tokens.now }
+    ensures shape { mapped seen_shape result ≡ shape_of source.now tokens.now }
+    ensures inside { IfOk result (λ s. SidesLie source.now s.sides) }
+    ensures room { IfErr result (λ e. e ≢ OutOfMemory) }
+{
+    match tokens {
+        [] => Err(AsmKind::UnknownOpcode),
+        [first, rest @ ..] => match opcode_at(source, first) {
+            Some(opcode) => behind_opcode(source, opcode, rest),
+            None => Err(AsmKind::UnknownOpcode),
+        },
+    }
+}

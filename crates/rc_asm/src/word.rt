@@ -1,0 +1,167 @@
+//! Opcode words, modifiers and modes, as they are written.
+ghost use Rattle.std.specs.Prelude.{◌≡◌, ◌∷◌, [], map, ◌&&◌, option_map, None};
+ghost use Rattle.std.specs.Char.{to_ascii_lowercase};
+ghost use Rattle.rc_text.specs.Symbols.{LiesIn};
+ghost use Rattle.rc_expand.specs.Lines.{is_dot, bytes_of};
+ghost use Rattle.rc_asm.specs.Words.{entry, named, opcodes, modifiers, mode_at, is_comma, is_plain, opcode_at, modifier_at};
+
+use rc_instr::{Mode, Modifier, Opcode};
+use rc_text::{Kind, Sign, Token};
+
+// The opcode of three small letters.
+fn opcode_of(first: u8, second: u8, third: u8) -> Option<Opcode>
+    ensures { result ≡ entry opcodes (first ∷ second ∷ third ∷ []) }
+{
+    match (first, second, third) {
+        (b'd', b'a', b't') => Some(Opcode::Dat),
+        (b'm', b'o', b'v') => Some(Opcode::Mov),
+        (b'a', b'd', b'd') => Some(Opcode::Add),
+        (b's', b'u', b'b') => Some(Opcode::Sub),
+        (b'm', b'u', b'l') => Some(Opcode::Mul),
+        (b'd', b'i', b'v') => Some(Opcode::Div),
+        (b'm', b'o', b'd') => Some(Opcode::Mod),
+        (b'j', b'm', b'p') => Some(Opcode::Jmp),
+        (b'j', b'm', b'z') => Some(Opcode::Jmz),
+        (b'j', b'm', b'n') => Some(Opcode::Jmn),
+        (b'd', b'j', b'n') => Some(Opcode::Djn),
+        (b's', b'e', b'q') => Some(Opcode::Seq),
+        (b'c', b'm', b'p') => Some(Opcode::Seq),
+        (b's', b'n', b'e') => Some(Opcode::Sne),
+        (b's', b'l', b't') => Some(Opcode::Slt),
+        (b's', b'p', b'l') => Some(Opcode::Spl),
+        (b'n', b'o', b'p') => Some(Opcode::Nop),
+        _ => None,
+    }
+}
+
+// The opcode of a name, in any case.
+fn opcode_named(name: &[u8]) -> Option<Opcode>
+    ensures { result ≡ named opcodes name.now }
+{
+    match name {
+        [first, second, third] => opcode_of(
+            first.to_ascii_lowercase(),
+            second.to_ascii_lowercase(),
+            third.to_ascii_lowercase(),
+        ),
+        _ => None,
+    }
+}
+
+// The modifier of one small letter.
+fn one_letter(letter: u8) -> Option<Modifier>
+    ensures { result ≡ entry modifiers (letter ∷ []) }
+{
+    match letter {
+        b'a' => Some(Modifier::A),
+        b'b' => Some(Modifier::B),
+        b'f' => Some(Modifier::F),
+        b'x' => Some(Modifier::X),
+        b'i' => Some(Modifier::I),
+        _ => None,
+    }
+}
+
+// The modifier of two small letters.
+fn two_letters(first: u8, second: u8) -> Option<Modifier>
+    ensures { result ≡ entry modifiers (first ∷ second ∷ []) }
+{
+    match (first, second) {
+        (b'a', b'b') => Some(Modifier::AB),
+        (b'b', b'a') => Some(Modifier::BA),
+        _ => None,
+    }
+}
+
+// The modifier of a name, in any case.
+fn modifier_named(name: &[u8]) -> Option<Modifier>
+    ensures { result ≡ named modifiers name.now }
+{
+    match name {
+        [letter] => one_letter(letter.to_ascii_lowercase()),
+        [first, second] => two_letters(first.to_ascii_lowercase(), second.to_ascii_lowercase()),
+        _ => None,
+    }
+}
+
+// Whether a token is a name to which no counter is joined.
+fn is_plain(token: &Token) -> bool
+    ensures { result ≡ is_plain token.now }
+{
+    match token.kind {
+        Kind::Name => token.joined.is_empty(),
+        _ => false,
+    }
+}
+
+/// The opcode that a token names.
+#[tactic(auto, unfolding(crate::specs::Words::opcode_at))]
+pub(crate) fn opcode_at(source: &[u8], token: &Token) -> Option<Opcode>
+    requires { LiesIn source.now token.now }
+    ensures { result ≡ opcode_at source.now token.now }
+{
+    if is_plain(token) {
+        opcode_named(&source[token.lo..token.hi])
+    } else {
+        None
+    }
+}
+
+/// The modifier that a token names.
+#[tactic(auto, unfolding(crate::specs::Words::modifier_at))]
+pub(crate) fn modifier_at(source: &[u8], token: &Token) -> Option<Modifier>
+    requires { LiesIn source.now token.now }
+    ensures { result ≡ modifier_at source.now token.now }
+{
+    if is_plain(token) {
+        modifier_named(&source[token.lo..token.hi])
+    } else {
+        None
+    }
+}
+
+/// The mode that a token stands for.
+pub(crate) fn mode_at(token: &Token) -> Option<Mode>
+    ensures { result ≡ mode_at token.now }
+{
+    match token.kind {
+        Kind::Sign(sign) => match sign {
+            Sign::Hash => Some(Mode::Immediate),
+            Sign::Dollar => Some(Mode::Direct),
+            Sign::Star => Some(Mode::AIndirect),
+            Sign::At => Some(Mode::BIndirect),
+            Sign::OpenBrace => Some(Mode::APredecrement),
+            Sign::Less => Some(Mode::BPredecrement),
+            Sign::CloseBrace => Some(Mode::APostincrement),
+            Sign::Greater => Some(Mode::BPostincrement),
+            _ => None,
+        },
+        _ => None,
+    }
+}
+
+/// Whether a token is a comma.
+pub(crate) fn is_comma(token: &Token) -> bool
+    ensures { result ≡ is_comma token.now }
+{
+    match token.kind {
+        Kind::Sign(sign) => match sign {
+            Sign::Comma => true,
+            _ => false,
+        },
+        _ => false,
+    }
+}
+
+/// Whether a token is a dot.
+pub(crate) fn is_dot(token: &Token) -> bool
+    ensures { result ≡ is_dot token.now }
+{
+    match token.kind {
+        Kind::Sign(sign) => match sign {
+            Sign::Dot => true,
+            _ => false,
+        },
+        _ => false,
+    }
+}
