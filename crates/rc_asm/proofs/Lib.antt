@@ -2,3 +2,4 @@ pub mod Entries
 pub mod Parts
 pub mod Steps
 pub mod Whole
+pub mod Computed

@@ -1,17 +1,17 @@
 -- The warrior that a text assembles to (1994 draft; END without ORG, `;assert` and the limits as they are here are pMARS's in outline and this
 -- project's own in detail).
-use Rattle.std.specs.Prelude.{◌≡◌, ◌≤◌, ◌<◌, ℕ, Bool, true, false, ◌&&◌, not, ℤ, pos, List, [], ◌∷◌, length, Option, Some, None, option_and_then, option_map, Result, Ok, Err}
+use Rattle.std.specs.Prelude.{◌≡◌, ◌≤◌, ◌<◌, ℕ, nat_le, nat_lt, if◌then◌else◌, Bool, true, false, ◌&&◌, not, ℤ, pos, negsuc, List, [], ◌∷◌, length, Option, Some, None, option_and_then, option_map, Result, Ok, Err}
 use Rattle.rc_text.specs.declared.token.Token.{Token}
 use Rattle.rc_text.specs.declared.fault.EvalFault.{EvalFault}
 use Rattle.rc_text.specs.Values.{is_zero}
 use Rattle.rc_instr.specs.Rules.{Limits}
-use Rattle.rc_instr.specs.Warrior.{Program}
+use Rattle.rc_instr.specs.Warrior.{Program, program}
 use Rattle.rc_instr.specs.declared.instruction.Instruction.{Instruction}
 use Rattle.rc_expand.specs.declared.line.LineWord.{LineWord}
 use Rattle.rc_expand.specs.declared.line.LineWord.TheVariants.{Code, Org, End, Assert}
 use Rattle.rc_expand.specs.declared.line.Line.{Line}
 use Rattle.rc_expand.specs.Names.{Table}
-use Rattle.rc_expand.specs.Expansion.{IsExpansion}
+use Rattle.rc_expand.specs.Expansion.{IsExpansion, expansion_of}
 use Rattle.rc_asm.specs.declared.fault.AsmKind.{AsmKind}
 use Rattle.rc_asm.specs.declared.starts.Starts.{Starts}
 use Rattle.rc_asm.specs.Names.{Names, behind, labels_of, value_at}
@@ -87,3 +87,20 @@ pub record Assembles (source : List ℕ) (constants : Table) (limits : Limits) (
   pub lines : List Line
   pub expands : IsExpansion source constants limits lines
   pub made : IsMadeOf source (names_of source constants limits lines) lines warrior
+
+-- the code with its start, where they are a warrior under the rules
+abbrev pub fitting : Limits → List Instruction → ℤ → Option Program
+fitting limits code (negsuc n) = None
+fitting limits code (pos n) = if nat_lt 0 (length code) && (nat_le (length code) limits.length && nat_lt n (length code)) then Some (program code n) else None
+
+abbrev pub made_by : Limits → Option (List Instruction) → Bool → Option Starts → Option Program
+made_by limits (Some code) true (Some s) = fitting limits code (start_of s)
+made_by limits code holds s = None
+
+abbrev pub made_of : List ℕ → Names → List Line → Option Program
+made_of source names lines = made_by names.limits (instructions_from source names 0 lines) (holds_from source names 0 lines) (starts_from source names 0 no_starts lines)
+
+-- the warrior to which a text assembles, computed
+unfoldable pub assembled : List ℕ → Table → Limits → Option Program
+assembled source constants limits =
+    if nat_le (length source) 65536 then option_and_then (λ lines. made_of source (names_of source constants limits lines) lines) (expansion_of source constants limits) else None
