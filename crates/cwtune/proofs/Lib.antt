@@ -1,3 +1,4 @@
 pub mod Parting
 pub mod Pieces
 pub mod Limits
+pub mod Refusals

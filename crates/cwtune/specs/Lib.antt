@@ -5,3 +5,4 @@ pub mod FightText
 pub mod FightWords
 pub mod ResultLine
 pub mod FightRun
+pub mod AsmRun

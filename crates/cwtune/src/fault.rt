@@ -2,10 +2,11 @@
 ghost use Rattle.std.specs.Prelude.{◌≡◌};
 
 use mars_core::Side;
+use rc_asm::AsmFault;
 use rc_instr::{LoadFault, OutOfMemory as MemoryRefused, RulesError, WriteFailed};
 use thiserror::Error;
 
-/// Why a run is refused: the first reason in this order.
+/// Why a run is refused: the first reason in this order. Each kind of run has its own: a fight the first four, an assembly `Asm`.
 #[derive(Clone, Copy, Debug, PartialEq, Eq, Error)]
 pub enum RunFault {
     /// The text is no fight text, which shows at this line, counted from 1.
@@ -20,6 +21,9 @@ pub enum RunFault {
     /// The position is nearer to 0 than the distance of the rules.
     #[error("the position is nearer to the candidate than the distance of the rules")]
     Position,
+    /// The text assembles to no warrior. The fault is never want of memory.
+    #[error("{0}")]
+    Asm(AsmFault),
     /// A writer failed.
     #[error("a write failed")]
     Write,

@@ -1,6 +1,7 @@
 //! `cwtune`: fights between Core War warriors.
 #![tactic(auto)]
 
+pub mod asm;
 pub mod fault;
 pub mod fight;
 pub(crate) mod fight_text;
@@ -12,6 +13,7 @@ mod tests;
 
 ghost use Rattle.std.specs.Prelude.{◌<◌, ◌≤◌};
 
+pub use asm::asm_run;
 pub use fault::RunFault;
 pub use fight::fight_run;
 use rc_instr::Outlet;
