@@ -6,3 +6,4 @@ pub mod FightWords
 pub mod ResultLine
 pub mod FightRun
 pub mod AsmRun
+pub mod CommandLine

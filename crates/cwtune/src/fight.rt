@@ -10,6 +10,7 @@ ghost use Rattle.cwtune.specs.ResultLine.{result_line};
 
 use crate::fault::RunFault;
 use crate::fight_text::read_fight_text;
+use crate::numbers::rules_of;
 use crate::result_line::line_of;
 use crate::sending::send;
 use mars_core::{Arena, Outcome, PlainCells, Side};
@@ -58,14 +59,7 @@ fn read_fight(alloc: Global, text: &[u8]) -> Result<NamedFight, RunFault>
         Ok(words) => words,
         Err(line) => return Err(RunFault::FightText { line }),
     };
-    let numbers = words.rules;
-    let rules = match Rules::try_new(
-        numbers.core,
-        numbers.cycles,
-        numbers.tasks,
-        numbers.length,
-        numbers.distance,
-    ) {
+    let rules = match rules_of(words.rules) {
         Ok(rules) => rules,
         Err(error) => return Err(RunFault::Rules(error)),
     };

@@ -5,18 +5,9 @@ ghost use Rattle.rc_instr.specs.Rules.{limits};
 ghost use Rattle.cwtune.specs.FightText.{cut_at, number_before, behind, five_numbers, rules_line, mover_line, fight_line, parted, fight_words};
 ghost use Rattle.cwtune.specs.FightWords.{words_of};
 
+use crate::numbers::FiveNumbers;
 use mars_core::Side;
 use mars_fight::number::number_of;
-
-/// The five numbers of the first line, which may be no rules.
-#[derive(Clone, Copy)]
-pub(crate) struct FiveNumbers {
-    pub(crate) core: u32,
-    pub(crate) cycles: u32,
-    pub(crate) tasks: u32,
-    pub(crate) length: u32,
-    pub(crate) distance: u32,
-}
 
 /// What a fight text says. The load files are slices of the text.
 #[derive(Clone, Copy)]

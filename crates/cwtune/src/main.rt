@@ -2,16 +2,18 @@
 #![tactic(auto)]
 
 pub mod asm;
+pub(crate) mod command_line;
 pub mod fault;
+pub(crate) mod fault_line;
 pub mod fight;
 pub(crate) mod fight_text;
+pub(crate) mod numbers;
 pub mod program;
+pub(crate) mod reading;
 pub(crate) mod result_line;
 pub(crate) mod sending;
 #[cfg(test)]
 mod tests;
-
-ghost use Rattle.std.specs.Prelude.{◌<◌, ◌≤◌};
 
 pub use asm::asm_run;
 pub use fault::RunFault;
@@ -20,29 +22,25 @@ use rc_instr::Outlet;
 use std::process::ExitCode;
 use std::{env, io};
 
-/// The exit status where the words cannot be had: 2 where one of them is no text, 3 where memory was refused.
-fn status_without_words(error: &io::Error) -> u8
-    ensures { (1 < result) × (result ≤ 3) }
-{
-    if error.kind() == io::ErrorKind::InvalidData {
-        2
-    } else {
-        3
-    }
+/// The words behind the program's name.
+fn words_of(rt: &HostRuntime) -> io::Result<Vec<String>> {
+    Ok(env::args(rt)?.skip(1).collect(rt.alloc())?)
 }
 
 fn main(rt: HostRuntime) -> ExitCode {
-    let alloc = rt.alloc();
-    let words: Vec<String> = match env::args(&rt) {
-        Ok(args) => match args.skip(1).collect(alloc) {
-            Ok(words) => words,
-            Err(_) => return ExitCode::from(3),
-        },
-        Err(error) => return ExitCode::from(status_without_words(&error)),
-    };
     let mut input = rt.stdin();
     let mut out = Outlet::new(rt.stdout());
     let mut err = Outlet::new(rt.stderr());
-    let status = program::program(&rt, alloc, words.as_slice(), &mut input, &mut out, &mut err);
+    let status = match words_of(&rt) {
+        Ok(words) => program::program(
+            &rt,
+            rt.alloc(),
+            words.as_slice(),
+            &mut input,
+            &mut out,
+            &mut err,
+        ),
+        Err(error) => program::end_without_words(&mut err, &error),
+    };
     ExitCode::from(status)
 }

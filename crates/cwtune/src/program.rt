@@ -1,93 +1,204 @@
 //! What the program does, once it has its words and its three streams.
-ghost use Rattle.std.specs.Prelude.{◌≡◌, ◌≢◌, ◌<◌, ◌≤◌, ℕ, List, false, length, IfOk};
+ghost use Rattle.std.specs.Prelude.{◌≡◌, ◌≢◌, ◌⊎◌, ◌≤◌, ℕ, List, map, false, string_bytes};
+ghost use Rattle.std.specs.Io.KnownBytes.{Appends};
+ghost use Rattle.rc_instr.specs.Rules.{limits};
 ghost use Rattle.cwtune.specs.FightRun.{TellsFight, IsRefusedText, IsInput};
+ghost use Rattle.cwtune.specs.AsmRun.{TellsWarrior};
+ghost use Rattle.cwtune.specs.CommandLine.{AskForFight};
 
+use crate::asm::asm_run;
+use crate::command_line::{Request, request_of};
 use crate::fault::RunFault;
+use crate::fault_line::{tell_run, tell_unread};
 use crate::fight::fight_run;
+use crate::numbers::{FiveNumbers, rules_of};
+use crate::reading::{read_file, read_text};
+use crate::sending::send;
+use clap::error::ErrorKind;
 use rc_instr::Outlet;
 use std::alloc::Global;
 use std::io;
 use std::io::{Read, Write};
 use std::rt::Files;
 
-/// How many bytes a text may have.
-const TEXT_LIMIT: u64 = 1_073_741_824;
+/// The exit status where all was done.
+const DONE: u8 = 0;
 
-/// The exit status for words that are no command.
+/// The exit status where the input is refused.
+const REFUSED: u8 = 1;
+
+/// The exit status for words that are no command line.
 const MISUSED: u8 = 2;
 
 /// The exit status where memory, a read or a write failed.
 const FAILED: u8 = 3;
 
-/// Reads a text to its end. A longer one than a text may be cannot be read.
-fn read_text<R: Read>(alloc: Global, input: &mut R) -> io::Result<Vec<u8>>
-    ensures short { IfOk result (λ text. length text.items ≤ TEXT_LIMIT) }
-    ensures bytes { IfOk result (λ text. IsInput (R.remaining input.old) text.items) }
+/// Names the fault of a run on standard error, and answers the exit status.
+fn end_run<V: Write>(err: &mut Outlet<V>, fault: RunFault) -> u8
+    requires { err.old.failed ≡ false }
+    ensures refused { result ≡ 1 → (fault ≢ RunFault.Write) × (fault ≢ RunFault.OutOfMemory) }
+    ensures status { (result ≡ 1) ⊎ (result ≡ 3) }
 {
-    let mut text = Vec::new(alloc);
-    input.take(TEXT_LIMIT + 1).read_to_end(&mut text)?;
-    if text.len() as u64 > TEXT_LIMIT {
-        return Err(io::Error::from(io::ErrorKind::FileTooLarge));
+    let _ = tell_run(err, fault);
+    match fault {
+        RunFault::Write | RunFault::OutOfMemory => FAILED,
+        _ => REFUSED,
     }
-    Ok(text)
 }
 
-/// Plays the fight that a text names, and answers the exit status.
-fn fight<W: Write>(alloc: Global, text: &[u8], out: &mut Outlet<W>) -> u8
-    requires { out.old.failed ≡ false }
-    ensures done { result ≡ 0 → TellsFight text.now out.old.bytes out.new.bytes }
-    ensures refused { result ≡ 1 → IsRefusedText text.now × (out.new ≡ out.old) }
-    ensures status { (result ≤ 3) × (result ≢ 2) }
+/// Names want of memory on standard error, and answers the exit status.
+fn end_without_memory<V: Write>(err: &mut Outlet<V>) -> u8
+    requires { err.old.failed ≡ false }
+    ensures { result ≡ 3 }
 {
-    match fight_run(alloc, text, out) {
-        Ok(()) => 0,
-        Err(fault) => match fault {
-            RunFault::Write | RunFault::OutOfMemory => FAILED,
-            _ => 1,
-        },
+    let _ = tell_run(err, RunFault::OutOfMemory);
+    FAILED
+}
+
+/// Names a text that was not read on standard error, and answers the exit status.
+fn end_unread<V: Write>(err: &mut Outlet<V>, error: &io::Error, name: &str) -> u8
+    requires { err.old.failed ≡ false }
+    ensures { result ≡ 3 }
+{
+    if error.kind() == io::ErrorKind::OutOfMemory {
+        return end_without_memory(err);
     }
+    let _ = tell_unread(err, name);
+    FAILED
+}
+
+/// Tells on standard error why the words cannot be had, and answers the exit status: 2 where one of them is no text, 3 where memory
+/// was refused. The outlet has not failed. This is this project's own.
+pub fn end_without_words<V: Write>(err: &mut Outlet<V>, error: &io::Error) -> u8
+    requires { err.old.failed ≡ false }
+    ensures { (result ≡ 2) ⊎ (result ≡ 3) }
+{
+    if error.kind() != io::ErrorKind::InvalidData {
+        return end_without_memory(err);
+    }
+    let _ = send(err, b"error: a word of the command line is not UTF-8\n");
+    MISUSED
 }
 
 /// Plays the fight of the text on the input, and answers the exit status.
-fn fight_of_input<R: Read, W: Write>(alloc: Global, input: &mut R, out: &mut Outlet<W>) -> u8
-    requires { out.old.failed ≡ false }
+fn fight<R: Read, W: Write, V: Write>(
+    alloc: Global,
+    input: &mut R,
+    out: &mut Outlet<W>,
+    err: &mut Outlet<V>,
+) -> u8
+    requires out { out.old.failed ≡ false }
+    requires err { err.old.failed ≡ false }
     ensures done { result ≡ 0 → (text : List ℕ) × IsInput (R.remaining input.old) text × TellsFight text out.old.bytes out.new.bytes }
     ensures refused { result ≡ 1 → (text : List ℕ) × IsInput (R.remaining input.old) text × IsRefusedText text × (out.new ≡ out.old) }
     ensures status { (result ≤ 3) × (result ≢ 2) }
 {
-    match read_text(alloc, input) {
-        Ok(text) => fight(alloc, text.as_slice(), out),
-        Err(_) => FAILED,
+    let text = match read_text(alloc, input) {
+        Ok(text) => text,
+        Err(error) => return end_unread(err, &error, "-"),
+    };
+    match fight_run(alloc, text.as_slice(), out) {
+        Ok(()) => DONE,
+        Err(fault) => end_run(err, fault),
     }
 }
 
-/// Does what the words after the program's name ask for, and answers the exit status: 0 done, 1 refused, 2 words that are
-/// no command, 3 where memory, a read or a write failed.
+/// Assembles a file under the rules of five numbers, and answers the exit status.
+fn asm<F: Files, W: Write, V: Write>(
+    rt: &F,
+    alloc: Global,
+    numbers: FiveNumbers,
+    file: &str,
+    out: &mut Outlet<W>,
+    err: &mut Outlet<V>,
+) -> u8
+    requires out { out.old.failed ≡ false }
+    requires err { err.old.failed ≡ false }
+    ensures done { result ≡ 0 → (source : List ℕ) × TellsWarrior source (limits numbers.core numbers.cycles numbers.tasks numbers.length numbers.distance) out.old.bytes out.new.bytes }
+    ensures refused { result ≡ 1 → out.new ≡ out.old }
+    ensures status { (result ≤ 3) × (result ≢ 2) }
+{
+    let rules = match rules_of(numbers) {
+        Ok(rules) => rules,
+        Err(error) => return end_run(err, RunFault::Rules(error)),
+    };
+    let source = match read_file(rt, alloc, file) {
+        Ok(source) => source,
+        Err(error) => return end_unread(err, &error, file),
+    };
+    match asm_run(alloc, source.as_slice(), &rules, out) {
+        Ok(()) => DONE,
+        Err(fault) => end_run(err, fault),
+    }
+}
+
+/// Shows what `clap` answered: help on standard output, or else what is wrong with the words; and answers the exit status.
+fn show<W: Write, V: Write>(
+    alloc: Global,
+    answer: &clap::Error,
+    out: &mut Outlet<W>,
+    err: &mut Outlet<V>,
+) -> u8
+    requires out { out.old.failed ≡ false }
+    requires err { err.old.failed ≡ false }
+    ensures misused { result ≡ 2 → out.new ≡ out.old }
+    ensures status { (result ≤ 3) × (result ≢ 1) }
+{
+    if answer.kind() == ErrorKind::OutOfMemory {
+        return end_without_memory(err);
+    }
+    let Ok(text) = answer.to_string(alloc) else {
+        return end_without_memory(err);
+    };
+    if answer.use_stderr() {
+        let _ = send(err, text.as_bytes());
+        return MISUSED;
+    }
+    match send(out, text.as_bytes()) {
+        Ok(()) => DONE,
+        Err(_) => {
+            let _ = tell_run(err, RunFault::Write);
+            FAILED
+        }
+    }
+}
+
+/// Does what the words behind the program's name ask for, and answers the exit status: 0 done, 1 refused, 2 words that `clap`
+/// refuses for another cause than memory, 3 where a write failed, memory was refused, or a text cannot be read.
 ///
-/// Without words, or with the word `fight`, it reads a fight text of at most 1073741824 bytes from the input, and writes one result
-/// line. Neither outlet has failed. The words and statuses are this project's own.
+/// Without words, or with the word `fight`, it reads a fight text from the input and writes one result line. `asm` assembles the
+/// Redcode text of a file under the rules that its options give, and writes the load file of its warrior; the rules are made before
+/// the file is read. A text has at most 1073741824 bytes; a longer one cannot be read. `--help` and `help` write `clap`'s text and are done.
+///
+/// Standard error gets a line that begins with `refused: ` where the status is 1, `clap`'s text where it is 2, and a line that begins
+/// with `failed: ` where it is 3; that such a write fails changes nothing. Neither outlet has failed. The command line, the lines and the
+/// statuses are this project's own.
 pub fn program<F: Files, R: Read, W: Write, V: Write>(
-    _rt: &F,
+    rt: &F,
     alloc: Global,
     words: &[String],
     input: &mut R,
     out: &mut Outlet<W>,
-    _err: &mut Outlet<V>,
+    err: &mut Outlet<V>,
 ) -> u8
     requires out { out.old.failed ≡ false }
-    requires err { _err.old.failed ≡ false }
+    requires err { err.old.failed ≡ false }
 
-    // Status 0 is answered only where the result line of the fight that the input names was written, and status 1 only
-    // where the input is refused, and then nothing was written.
-    ensures done { result ≡ 0 → (text : List ℕ) × IsInput (R.remaining input.old) text × TellsFight text out.old.bytes out.new.bytes }
-    ensures refused { result ≡ 1 → (text : List ℕ) × IsInput (R.remaining input.old) text × IsRefusedText text × (out.new ≡ out.old) }
+    // Where the words ask for the fight, status 0 is answered only where the result line of the fight that the input names was
+    // written, and status 1 only where the input is refused, and then nothing was written.
+    ensures done { AskForFight (map string_bytes words.now) → result ≡ 0
+        → (text : List ℕ) × IsInput (R.remaining input.old) text × TellsFight text out.old.bytes out.new.bytes }
+    ensures refused { AskForFight (map string_bytes words.now) → result ≡ 1
+        → (text : List ℕ) × IsInput (R.remaining input.old) text × IsRefusedText text × (out.new ≡ out.old) }
+    ensures understood { AskForFight (map string_bytes words.now) → result ≢ 2 }
 
-    ensures misused { 1 < length words.now → (result ≡ 2) × (out.new ≡ out.old) }
+    // Whatever the words are, nothing is written where they or a text are refused.
+    ensures unwritten { (result ≡ 1) ⊎ (result ≡ 2) → out.new ≡ out.old }
     ensures status { result ≤ 3 }
 {
-    match words {
-        [] => fight_of_input(alloc, input, out),
-        [word] if word.as_str() == "fight" => fight_of_input(alloc, input, out),
-        _ => MISUSED,
+    match request_of(alloc, words) {
+        Ok(Request::Fight) => fight(alloc, input, out, err),
+        Ok(Request::Asm { numbers, file }) => asm(rt, alloc, numbers, file, out, err),
+        Err(answer) => show(alloc, &answer, out, err),
     }
 }

@@ -1,0 +1,138 @@
+//! The words of the command line, as the library `clap` reads them.
+ghost use Rattle.std.specs.Prelude.{◌≡◌, ◌↔◌, map, IsTrue, IfOk, string_bytes};
+ghost use Rattle.cwtune.specs.CommandLine.{AskForFight};
+
+use crate::numbers::FiveNumbers;
+use clap::{Arg, ArgAction, ArgMatches, Command, Error, value_parser};
+use rc_instr::Rules;
+use std::alloc::{AllocError, Global};
+
+/// What the words ask for.
+#[derive(Clone, Copy)]
+pub(crate) enum Request<'a> {
+    /// To play the fight whose text is on standard input.
+    Fight,
+    /// To assemble a file under the rules of these numbers.
+    Asm { numbers: FiveNumbers, file: &'a str },
+}
+
+/// An option with a number, which is any that 32 bits hold.
+fn number<'a>(alloc: Global, name: &'a str, help: &'a str) -> Arg<'a> {
+    Arg::new(alloc, name)
+        .long(name)
+        .value_name("NUMBER")
+        .action(ArgAction::Set)
+        .value_parser(value_parser!(u32))
+        .help(help)
+}
+
+/// A command with the five options of rules.
+fn with_rules<'a>(alloc: Global, command: Command<'a>) -> Result<Command<'a>, AllocError> {
+    command
+        .next_help_heading("Rules")
+        .arg(number(
+            alloc,
+            "core",
+            "Cells of the core, 8 to 65535 [default: 8000]",
+        ))?
+        .arg(number(
+            alloc,
+            "cycles",
+            "Cycles until a tie, 1 to 1000000, a turn of each warrior in each [default: 80000]",
+        ))?
+        .arg(number(
+            alloc,
+            "tasks",
+            "Tasks that a warrior may have, 1 to 8000 [default: 8000]",
+        ))?
+        .arg(number(
+            alloc,
+            "length",
+            "Instructions that a warrior may have, 1 to 200 [default: 100]",
+        ))?
+        .arg(number(
+            alloc,
+            "distance",
+            "Cells between two warriors, from the length to half of the core [default: 100]",
+        ))
+}
+
+/// The number of an option, or the default where it is left out.
+fn number_or(found: &ArgMatches<'_>, name: &str, default: u32) -> u32 {
+    found.get_one::<u32>(name).unwrap_or(default)
+}
+
+/// The five numbers that the options of rules give.
+fn numbers_of(found: &ArgMatches<'_>) -> FiveNumbers {
+    let standard = Rules::standard();
+    FiveNumbers {
+        core: number_or(found, "core", standard.core()),
+        cycles: number_or(found, "cycles", standard.cycles()),
+        tasks: number_or(found, "tasks", standard.tasks()),
+        length: number_or(found, "length", standard.length()),
+        distance: number_or(found, "distance", standard.distance()),
+    }
+}
+
+/// The command `fight`.
+fn fight<'a>(alloc: Global) -> Command<'a> {
+    Command::new(alloc, "fight").about(
+        "Plays the fight whose text is on standard input, and prints its result line",
+    )
+}
+
+/// The command `asm`.
+fn asm<'a>(alloc: Global) -> Result<Command<'a>, AllocError> {
+    let file = Arg::new(alloc, "FILE")
+        .required(true)
+        .action(ArgAction::Set)
+        .help("The Redcode text of a warrior, at most 65536 bytes; `-` is a file of that name");
+    let command = Command::new(alloc, "asm")
+        .about("Assembles the Redcode text in FILE, and prints the load file of its warrior")
+        .arg(file)?;
+    with_rules(alloc, command)
+}
+
+/// The program's commands.
+fn commands<'a>(alloc: Global) -> Result<Command<'a>, AllocError> {
+    Command::new(alloc, "cwtune")
+        .no_binary_name(true)
+        .bin_name("cwtune")?
+        .about("Fights between Core War warriors. Without a command it does what `fight` does.")
+        .after_help(
+            "Exit status: 0 done, 1 refused, 2 a command line that is none, 3 a read, a write or memory failed.",
+        )
+        .subcommand(fight(alloc))?
+        .subcommand(asm(alloc)?)
+}
+
+/// Whether the words ask for the fight in the plainest way: no word, or `fight` alone.
+fn ask_for_fight(words: &[String]) -> bool
+    ensures { IsTrue result ↔ AskForFight (map string_bytes words.now) }
+{
+    match words {
+        [] => true,
+        [word] => word.as_str() == "fight",
+        _ => false,
+    }
+}
+
+/// What the words behind the program's name ask for, or `clap`'s answer: its help, or what is wrong with the words.
+///
+/// The plainest words for a fight are known without `clap`, which would read them so too, and take no memory.
+pub(crate) fn request_of<'a>(alloc: Global, words: &'a [String]) -> Result<Request<'a>, Error>
+    ensures fight { AskForFight (map string_bytes words.entry.now) → result ≡ Ok Request.Fight }
+{
+    if ask_for_fight(words) {
+        return Ok(Request::Fight);
+    }
+    let matches = commands(alloc)?.try_get_matches_from(words)?;
+    match matches.subcommand() {
+        Some(("asm", found)) => Ok(Request::Asm {
+            numbers: numbers_of(found),
+            // `clap` requires the file
+            file: found.get_str("FILE").unwrap_or(""),
+        }),
+        _ => Ok(Request::Fight),
+    }
+}

@@ -1,0 +1,207 @@
+//! The lines on standard error that name a fault: `refused: `, and the names of the variants from outside in, or `failed: `, and what failed.
+//!
+//! A line goes out in pieces and takes no memory, so that it can tell want of memory too.
+ghost use Rattle.std.specs.Prelude.{◌≡◌, false, is_err};
+
+use crate::fault::RunFault;
+use crate::sending::send;
+use itoa::Buffer;
+use mars_core::Side;
+use rc_asm::{AsmFault, AsmKind};
+use rc_expand::ExpandKind;
+use rc_instr::{LoadFault, Outlet, RulesError, WarriorError, WriteFailed};
+use rc_text::{EvalFault, LexFault};
+use std::io::Write;
+
+/// The name of a fault of tokens.
+fn lex_name(fault: LexFault) -> &'static str {
+    match fault {
+        LexFault::BadByte => "BadByte",
+        LexFault::NumberTooLarge => "NumberTooLarge",
+    }
+}
+
+/// The name of a fault of an expression.
+fn eval_name(fault: EvalFault) -> &'static str {
+    match fault {
+        EvalFault::Syntax => "Syntax",
+        EvalFault::UnknownName => "UnknownName",
+        EvalFault::DivisionByZero => "DivisionByZero",
+        EvalFault::Overflow => "Overflow",
+        EvalFault::TooDeep => "TooDeep",
+    }
+}
+
+/// The outer name of a fault of the expansion.
+fn expand_name(kind: ExpandKind) -> &'static str {
+    match kind {
+        ExpandKind::Text(_) => "Text",
+        ExpandKind::DuplicateName => "DuplicateName",
+        ExpandKind::ForWithoutRof => "ForWithoutRof",
+        ExpandKind::RofWithoutFor => "RofWithoutFor",
+        ExpandKind::ForTooDeep => "ForTooDeep",
+        ExpandKind::EquTooDeep => "EquTooDeep",
+        ExpandKind::CountRefused => "CountRefused",
+        ExpandKind::TooManyLines => "TooManyLines",
+        ExpandKind::OutOfMemory => "OutOfMemory",
+        ExpandKind::BadDirective => "BadDirective",
+        ExpandKind::TooManyTokens => "TooManyTokens",
+    }
+}
+
+/// The name of a fault of a warrior.
+fn warrior_name(error: WarriorError) -> &'static str {
+    match error {
+        WarriorError::Empty => "Empty",
+        WarriorError::TooLong => "TooLong",
+        WarriorError::BadStart => "BadStart",
+        WarriorError::NumberTooLarge => "NumberTooLarge",
+    }
+}
+
+/// The name of a fault of rules.
+fn rules_name(error: RulesError) -> &'static str {
+    match error {
+        RulesError::Core => "Core",
+        RulesError::Cycles => "Cycles",
+        RulesError::Tasks => "Tasks",
+        RulesError::Length => "Length",
+        RulesError::Distance => "Distance",
+    }
+}
+
+/// The name of a side.
+fn side_name(side: Side) -> &'static str {
+    match side {
+        Side::Candidate => "candidate",
+        Side::Opponent => "opponent",
+    }
+}
+
+/// The outer name of a fault of an assembly.
+fn asm_name(kind: AsmKind) -> &'static str {
+    match kind {
+        AsmKind::Expand(_) => "Expand",
+        AsmKind::UnknownOpcode => "UnknownOpcode",
+        AsmKind::MissingOperand => "MissingOperand",
+        AsmKind::ExtraText => "ExtraText",
+        AsmKind::Value(_) => "Value",
+        AsmKind::AssertFailed => "AssertFailed",
+        AsmKind::Warrior(_) => "Warrior",
+        AsmKind::TextTooLong => "TextTooLong",
+        AsmKind::OutOfMemory => "OutOfMemory",
+    }
+}
+
+/// Writes a space and a word.
+fn say<V: Write>(err: &mut Outlet<V>, word: &str) -> Result<(), WriteFailed>
+    requires { err.old.failed ≡ false }
+    ensures { err.new.failed ≡ is_err result }
+{
+    send(err, b" ")?;
+    send(err, word.as_bytes())
+}
+
+/// Writes ` line N`.
+fn say_line<V: Write>(err: &mut Outlet<V>, line: u64) -> Result<(), WriteFailed>
+    requires { err.old.failed ≡ false }
+    ensures { err.new.failed ≡ is_err result }
+{
+    say(err, "line")?;
+    say(err, Buffer::new().format(line))
+}
+
+/// Writes the names of a fault of the expansion.
+fn say_expand<V: Write>(err: &mut Outlet<V>, kind: ExpandKind) -> Result<(), WriteFailed>
+    requires { err.old.failed ≡ false }
+    ensures { err.new.failed ≡ is_err result }
+{
+    say(err, expand_name(kind))?;
+    match kind {
+        ExpandKind::Text(fault) => say(err, lex_name(fault)),
+        _ => Ok(()),
+    }
+}
+
+/// Writes the line and the names of a fault of an assembly.
+fn say_asm<V: Write>(err: &mut Outlet<V>, fault: AsmFault) -> Result<(), WriteFailed>
+    requires { err.old.failed ≡ false }
+    ensures { err.new.failed ≡ is_err result }
+{
+    say_line(err, fault.line)?;
+    say(err, asm_name(fault.kind))?;
+    match fault.kind {
+        AsmKind::Expand(kind) => say_expand(err, kind),
+        AsmKind::Value(fault) => say(err, eval_name(fault)),
+        AsmKind::Warrior(error) => say(err, warrior_name(error)),
+        _ => Ok(()),
+    }
+}
+
+/// Writes the names of a fault of a load file.
+fn say_load<V: Write>(err: &mut Outlet<V>, fault: LoadFault) -> Result<(), WriteFailed>
+    requires { err.old.failed ≡ false }
+    ensures { err.new.failed ≡ is_err result }
+{
+    match fault {
+        LoadFault::Malformed { line } => {
+            say(err, "Malformed")?;
+            say_line(err, line)
+        }
+        LoadFault::Warrior(error) => {
+            say(err, "Warrior")?;
+            say(err, warrior_name(error))
+        }
+        LoadFault::OutOfMemory => say(err, "OutOfMemory"),
+    }
+}
+
+/// Writes the names of a fault of a run.
+fn say_run<V: Write>(err: &mut Outlet<V>, fault: RunFault) -> Result<(), WriteFailed>
+    requires { err.old.failed ≡ false }
+    ensures { err.new.failed ≡ is_err result }
+{
+    match fault {
+        RunFault::FightText { line } => {
+            say(err, "FightText")?;
+            say_line(err, line)
+        }
+        RunFault::Rules(error) => {
+            say(err, "Rules")?;
+            say(err, rules_name(error))
+        }
+        RunFault::Load { side, fault } => {
+            say(err, "Load")?;
+            say(err, side_name(side))?;
+            say_load(err, fault)
+        }
+        RunFault::Position => say(err, "Position"),
+        RunFault::Asm(fault) => {
+            say(err, "Asm")?;
+            say_asm(err, fault)
+        }
+        RunFault::Write => say(err, "Write"),
+        RunFault::OutOfMemory => say(err, "OutOfMemory"),
+    }
+}
+
+/// Writes the line of a fault of a run: `failed: Write`, `failed: OutOfMemory`, or `refused: ` and the names of any other.
+pub(crate) fn tell_run<V: Write>(err: &mut Outlet<V>, fault: RunFault) -> Result<(), WriteFailed>
+    requires { err.old.failed ≡ false }
+{
+    match fault {
+        RunFault::Write | RunFault::OutOfMemory => send(err, b"failed:")?,
+        _ => send(err, b"refused:")?,
+    }
+    say_run(err, fault)?;
+    send(err, b"\n")
+}
+
+/// Writes the line of a file that cannot be read: `failed: read NAME`.
+pub(crate) fn tell_unread<V: Write>(err: &mut Outlet<V>, name: &str) -> Result<(), WriteFailed>
+    requires { err.old.failed ≡ false }
+{
+    send(err, b"failed: read")?;
+    say(err, name)?;
+    send(err, b"\n")
+}
