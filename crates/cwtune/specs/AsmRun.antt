@@ -5,6 +5,7 @@ use Rattle.rc_instr.specs.Rules.{Limits}
 use Rattle.rc_instr.specs.Warrior.{Program}
 use Rattle.rc_instr.specs.LoadText.{load_text}
 use Rattle.rc_asm.specs.Assembly.{Assembles}
+use Rattle.rc_asm.specs.Faults.{IsFault}
 use Rattle.rc_asm.specs.declared.fault.AsmKind.TheVariants.{OutOfMemory as MemoryKind}
 use Rattle.cwtune.specs.declared.fault.RunFault.{RunFault}
 use Rattle.cwtune.specs.declared.fault.RunFault.TheVariants.{Asm, OutOfMemory}
@@ -13,9 +14,10 @@ use Rattle.cwtune.specs.declared.fault.RunFault.TheVariants.{Asm, OutOfMemory}
 abbrev pub HasNoWarrior : List ℕ → Limits → Type 0
 HasNoWarrior source rules = (w : Program) → Assembles source [] rules w → ⊥
 
--- Why a text is refused: it assembles to no warrior. Want of memory is no reason, and says nothing of the text.
+-- Why a text is refused: it assembles to no warrior, and the fault is the one that comes first. Want of memory is no reason, and says
+-- nothing of the text.
 abbrev pub IsAsmRefusal : RunFault → List ℕ → Limits → Type 0
-IsAsmRefusal (Asm fault) source rules = (fault.kind ≢ MemoryKind) × HasNoWarrior source rules
+IsAsmRefusal (Asm fault) source rules = (fault.kind ≢ MemoryKind) × HasNoWarrior source rules × IsFault source [] rules fault
 IsAsmRefusal OutOfMemory source rules = Unit {0}
 IsAsmRefusal _ source rules = ⊥
 
