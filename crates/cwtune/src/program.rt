@@ -1,5 +1,5 @@
 //! What the program does, once it has its words and its three streams.
-ghost use Rattle.std.specs.Prelude.{◌≡◌, ◌≢◌, ◌⊎◌, ◌≤◌, ℕ, List, map, false, string_bytes};
+ghost use Rattle.std.specs.Prelude.{◌≡◌, ◌≢◌, ◌⊎◌, ◌≤◌, ℕ, List, map, false, string_bytes, IsTrue};
 ghost use Rattle.std.specs.Io.KnownBytes.{Appends};
 ghost use Rattle.rc_instr.specs.Rules.{limits};
 ghost use Rattle.cwtune.specs.FightRun.{TellsFight, IsRefusedText, IsInput};
@@ -91,6 +91,7 @@ fn fight<R: Read, W: Write, V: Write>(
     requires err { err.old.failed ≡ false }
     ensures done { result ≡ 0 → (text : List ℕ) × IsInput (R.remaining input.old) text × TellsFight text out.old.bytes out.new.bytes }
     ensures refused { result ≡ 1 → (text : List ℕ) × IsInput (R.remaining input.old) text × IsRefusedText text × (out.new ≡ out.old) }
+    ensures failed { IsTrue out.new.failed → result ≡ 3 }
     ensures status { (result ≤ 3) × (result ≢ 2) }
 {
     let text = match read_text(alloc, input) {
@@ -116,6 +117,7 @@ fn asm<F: Files, W: Write, V: Write>(
     requires err { err.old.failed ≡ false }
     ensures done { result ≡ 0 → (source : List ℕ) × TellsWarrior source (limits numbers.core numbers.cycles numbers.tasks numbers.length numbers.distance) out.old.bytes out.new.bytes }
     ensures refused { result ≡ 1 → out.new ≡ out.old }
+    ensures failed { IsTrue out.new.failed → result ≡ 3 }
     ensures status { (result ≤ 3) × (result ≢ 2) }
 {
     let rules = match rules_of(numbers) {
@@ -142,6 +144,7 @@ fn show<W: Write, V: Write>(
     requires out { out.old.failed ≡ false }
     requires err { err.old.failed ≡ false }
     ensures misused { result ≡ 2 → out.new ≡ out.old }
+    ensures failed { IsTrue out.new.failed → result ≡ 3 }
     ensures status { (result ≤ 3) × (result ≢ 1) }
 {
     if answer.kind() == ErrorKind::OutOfMemory {
@@ -192,8 +195,9 @@ pub fn program<F: Files, R: Read, W: Write, V: Write>(
         → (text : List ℕ) × IsInput (R.remaining input.old) text × IsRefusedText text × (out.new ≡ out.old) }
     ensures understood { AskForFight (map string_bytes words.now) → result ≢ 2 }
 
-    // Whatever the words are, nothing is written where they or a text are refused.
+    // Whatever the words are, nothing is written where they or an input are refused, and a write that fails is told.
     ensures unwritten { (result ≡ 1) ⊎ (result ≡ 2) → out.new ≡ out.old }
+    ensures failed { IsTrue out.new.failed → result ≡ 3 }
     ensures status { result ≤ 3 }
 {
     match request_of(alloc, words) {

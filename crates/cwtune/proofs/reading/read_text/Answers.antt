@@ -1,4 +1,4 @@
-use Rattle.std.proofs.Common.{◌≡◌, ◌≤◌, length, arith, sym, ap, subst}
+use Rattle.std.proofs.Common.{◌≡◌, ◌≤◌, length, arith, ap, subst}
 use Rattle.std.specs.Prelude.{IfSome}
 use Rattle.cwtune.proofs.Limits.{whole_text}
 use Rattle.cwtune.proofs.reading.read_text.Goals as goal
