@@ -95,13 +95,17 @@ fn a_writer_that_fails_is_told(rt: HostRuntime) {
 const SHELF: Shelf<'static> = Shelf(&[
     ("-", Some(b"DAT -1\n")),
     ("core.red", Some(b"DAT CORESIZE-1, MAXLENGTH\n")),
+    (
+        "rules.red",
+        Some(b"DAT CORESIZE/8, MAXCYCLES/100\nDAT MAXPROCESSES/4, MAXLENGTH\nDAT MINDISTANCE\n"),
+    ),
     ("bad.red", Some(b"NOP\nDAT 1/0\n")),
     ("", Some(b"NOP\n")),
     ("folder", None),
 ]);
 
 /// Words, and the status, the standard output and the standard error that they lead to.
-const ROWS: [(&[&str], u8, &str, &str); 9] = [
+const ROWS: [(&[&str], u8, &str, &str); 11] = [
     (&["asm", "-"], 0, "ORG 0\nDAT.F $0, $-1\n", ""),
     (&["asm", "core.red"], 0, "ORG 0\nDAT.F $-1, $100\n", ""),
     (
@@ -123,6 +127,32 @@ const ROWS: [(&[&str], u8, &str, &str); 9] = [
         &["asm", "core.red", "--distance=8", "--length=4", "--core=16"],
         0,
         "ORG 0\nDAT.F $-1, $4\n",
+        "",
+    ),
+    // the defaults
+    (
+        &["asm", "rules.red"],
+        0,
+        "ORG 0\nDAT.F $1000, $800\nDAT.F $2000, $100\nDAT.F $0, $100\n",
+        "",
+    ),
+    (
+        &[
+            "asm",
+            "--core",
+            "80",
+            "--cycles",
+            "1100",
+            "--tasks",
+            "12",
+            "--length",
+            "13",
+            "--distance",
+            "14",
+            "rules.red",
+        ],
+        0,
+        "ORG 0\nDAT.F $10, $11\nDAT.F $3, $13\nDAT.F $0, $14\n",
         "",
     ),
     (&["asm", ""], 0, "ORG 0\nNOP.F $0, $0\n", ""),
