@@ -1,5 +1,5 @@
 //! A warrior from a text to its load file.
-ghost use Rattle.std.specs.Prelude.{◌≡◌, ◌≢◌, ◌↔◌, ◌⊎◌, [], ◌++◌, false, IfOk, IfErr, OnOk, IsErrOf, IsTrue};
+ghost use Rattle.std.specs.Prelude.{◌≡◌, ◌≢◌, ◌↔◌, ◌⊎◌, [], false, IfOk, IfErr, OnOk, IsErrOf, IsTrue};
 ghost use Rattle.rc_instr.specs.Warrior.{Program, Fits};
 ghost use Rattle.rc_instr.specs.LoadText.{load_text};
 ghost use Rattle.rc_asm.specs.Assembly.{Assembles};

@@ -1,5 +1,5 @@
 //! The words of the command line, as the library `clap` reads them.
-ghost use Rattle.std.specs.Prelude.{◌≡◌, ◌↔◌, map, IsTrue, IfOk, string_bytes};
+ghost use Rattle.std.specs.Prelude.{◌≡◌, ◌↔◌, map, IsTrue, string_bytes};
 ghost use Rattle.cwtune.specs.CommandLine.{AskForFight};
 
 use crate::numbers::FiveNumbers;

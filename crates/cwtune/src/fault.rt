@@ -6,13 +6,13 @@ use rc_asm::AsmFault;
 use rc_instr::{LoadFault, OutOfMemory as MemoryRefused, RulesError, WriteFailed};
 use thiserror::Error;
 
-/// Why a run is refused: the first reason in this order. Each kind of run has its own: a fight the first four, an assembly `Asm`.
+/// Why a run is refused: the first reason in this order. The first four refuse a fight, `Rules` and `Asm` an assembly.
 #[derive(Clone, Copy, Debug, PartialEq, Eq, Error)]
 pub enum RunFault {
     /// The text is no fight text, which shows at this line, counted from 1.
     #[error("line {line} is not a line of a fight text")]
     FightText { line: u64 },
-    /// The numbers of the text are no rules.
+    /// The numbers of the text, or of the options, are no rules.
     #[error("{0}")]
     Rules(RulesError),
     /// A load file of the text is none, or is no warrior under the rules. Its lines are counted from 1 within it.

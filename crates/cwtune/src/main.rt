@@ -1,4 +1,4 @@
-//! `cwtune`: fights between Core War warriors.
+//! `cwtune`: fights between Core War warriors, and the assembly of warriors.
 #![tactic(auto)]
 
 pub mod asm;

@@ -1,6 +1,5 @@
 //! What the program does, once it has its words and its three streams.
 ghost use Rattle.std.specs.Prelude.{◌≡◌, ◌≢◌, ◌⊎◌, ◌≤◌, ℕ, List, map, false, string_bytes, IsTrue};
-ghost use Rattle.std.specs.Io.KnownBytes.{Appends};
 ghost use Rattle.rc_instr.specs.Rules.{limits};
 ghost use Rattle.cwtune.specs.FightRun.{TellsFight, IsRefusedText, IsInput};
 ghost use Rattle.cwtune.specs.AsmRun.{TellsWarrior};
@@ -68,8 +67,8 @@ fn end_unread<V: Write>(err: &mut Outlet<V>, error: &io::Error, name: &str) -> u
 }
 
 /// Tells on standard error why the words cannot be had, and answers the exit status: 2 where one of them is no text, 3 where memory
-/// was refused. The outlet has not failed. This is this project's own.
-pub fn end_without_words<V: Write>(err: &mut Outlet<V>, error: &io::Error) -> u8
+/// was refused.
+pub(crate) fn end_without_words<V: Write>(err: &mut Outlet<V>, error: &io::Error) -> u8
     requires { err.old.failed ≡ false }
     ensures { (result ≡ 2) ⊎ (result ≡ 3) }
 {
