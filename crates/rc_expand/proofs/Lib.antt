@@ -14,3 +14,4 @@ pub mod Distinct
 pub mod EquLines
 pub mod LineSteps
 pub mod Labelled
+pub mod TableFound

@@ -9,10 +9,10 @@ use Rattle.std.proofs.lemmas.Slice.Eq.{bytes_eq-Decides}
 use Rattle.std.proofs.lemmas.Int.Digits.{digits_of_step}
 use Rattle.rc_text.specs.Symbols.{counter_text}
 
-abbrev number_text : ℕ → List ℕ
+abbrev pub number_text : ℕ → List ℕ
 number_text v = map (λ d. 48 + d) (digits_of 10 v)
 
-number_text_step : (v : ℕ) → 0 < v → number_text v ≡ number_text (v / 10) ++ ((48 + v % 10) ∷ [])
+pub number_text_step : (v : ℕ) → 0 < v → number_text v ≡ number_text (v / 10) ++ ((48 + v % 10) ∷ [])
 number_text_step v h = ap (map (λ d. 48 + d)) (digits_of_step 10 v (omega arith) h) ∙ map-append (λ d. 48 + d) (digits_of 10 (v / 10)) ((v % 10) ∷ [])
 
 text_step : (v : ℕ) (rest : List ℕ) → 0 < v → number_text v ++ rest ≡ number_text (v / 10) ++ ((48 + v % 10) ∷ rest)
@@ -46,7 +46,7 @@ pub differs : (a r b : List ℕ) → ((rest : List ℕ) → b ≢ a ++ rest) →
 differs a r b h = not_true (bytes_eq (a ++ r) b) (λ e. h r (sym ((bytes_eq-Decides (a ++ r) b).0 e)))
 
 -- the first of the counters and the others
-counters_step : (ks : List ℕ) (i : ℕ) → i < length ks → flat_map counter_text (drop i ks) ≡ counter_text (get_or ks i 0) ++ flat_map counter_text (drop (i + 1) ks)
+pub counters_step : (ks : List ℕ) (i : ℕ) → i < length ks → flat_map counter_text (drop i ks) ≡ counter_text (get_or ks i 0) ++ flat_map counter_text (drop (i + 1) ks)
 counters_step ks i h = let d : drop i ks ≡ get_or ks i 0 ∷ drop (i + 1) ks = rw add-one (drop-cons ks i 0 h) in ap (flat_map counter_text) d
 
 -- a counter is taken off

@@ -9,4 +9,5 @@ pub mod Heads
 pub mod Expansion
 pub mod Steps
 pub mod Setting
+pub mod NameTables
 pub mod Examples

@@ -18,6 +18,7 @@ mod opening;
 mod read;
 mod replace;
 mod setting;
+pub mod table;
 #[cfg(test)]
 mod tests;
 mod unroll;
@@ -28,3 +29,4 @@ pub use expander::expand;
 pub use fault::{ExpandFault, ExpandKind};
 pub use line::{Expanded, Line, LineWord, Lines, Tokens};
 pub use names::{GivenNames, name_of, spells};
+pub use table::NameTable;

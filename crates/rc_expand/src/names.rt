@@ -5,6 +5,7 @@ ghost use Rattle.std.specs.Int.Digits.{digits_of};
 ghost use Rattle.rc_expand.specs.Names.{found, predefined, table_of};
 ghost use Rattle.rc_expand.specs.Unroll.{is_taken};
 ghost use Rattle.rc_text.specs.Symbols.{LiesIn, name_of, counter_text};
+ghost use Rattle.rc_expand.specs.NameTables.{joined_name};
 
 use crate::constants::Constants;
 use rc_instr::Rules;
@@ -50,22 +51,29 @@ fn after_bytes<'a>(front: &[u8], bytes: &'a [u8]) -> Option<&'a [u8]>
     bytes.strip_prefix(front)
 }
 
-/// Whether the name of a token, with the counters joined to it, is this one. The token's span has to lie in the source.
-pub fn spells(source: &[u8], token: &Token, name: &[u8]) -> bool
-    requires { LiesIn source.now token.now }
-    ensures { result ≡ bytes_eq (name_of source.now token.now) name.now }
+/// Whether the bytes with the counters joined to them are this name.
+pub(crate) fn is_joined_name(bytes: &[u8], counters: &[u16], name: &[u8]) -> bool
+    ensures { result ≡ bytes_eq (joined_name bytes.now counters.now) name.now }
 {
-    let mut rest = match after_bytes(&source[token.lo..token.hi], name) {
+    let mut rest = match after_bytes(bytes, name) {
         Some(after) => after,
         None => return false,
     };
-    for counter in token.joined.as_slice() {
+    for counter in counters {
         match after_counter(*counter, rest) {
             Some(after) => rest = after,
             None => return false,
         }
     }
     rest.is_empty()
+}
+
+/// Whether the name of a token, with the counters joined to it, is this one. The token's span has to lie in the source.
+pub fn spells(source: &[u8], token: &Token, name: &[u8]) -> bool
+    requires { LiesIn source.now token.now }
+    ensures { result ≡ bytes_eq (name_of source.now token.now) name.now }
+{
+    is_joined_name(&source[token.lo..token.hi], token.joined.as_slice(), name)
 }
 
 // The value of a constant.

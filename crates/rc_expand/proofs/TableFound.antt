@@ -1,0 +1,51 @@
+-- What a table of names finds, and what is fed for a name.
+use Rattle.std.proofs.Common.{◌≡◌, ℕ, ◌+◌, ◌<◌, ◌/◌, ◌%◌, true, false, cond, List, [], ◌∷◌, ◌++◌, Option, None, Some, refl, sym, ◌∙◌, ap}
+use Rattle.std.specs.Prelude.{is_some, flat_map, fold}
+use Rattle.std.specs.Hash as fed
+use Rattle.std.specs.Hash.{fed_then}
+use Rattle.std.specs.Str.{bytes_eq}
+use Rattle.std.specs.Map.{lookup}
+use Rattle.std.proofs.lemmas.List.Concat.{flat_map-append}
+use Rattle.rc_expand.specs.Names.{found}
+use Rattle.rc_expand.specs.NameTables.{with_name}
+use Rattle.rc_expand.proofs.NameSteps.{number_text, number_text_step}
+
+none_there : {A : Type 0} (o : Option A) → is_some o ≡ false → o ≡ None
+none_there None h = refl
+none_there (Some x) h = cc
+
+module _ {A : Type 0} (name : List ℕ) where
+  -- the first entry with the name
+  pub lookup_finds : (table : List (List ℕ × A)) → lookup (bytes_eq name) table ≡ found table name
+  lookup_finds [] = refl
+  lookup_finds (e ∷ es) = ap (λ o. cond (bytes_eq name e.0) (Some e.1) o) (lookup_finds es)
+
+  -- whether a look-up in the entries finds the name
+  pub sees : (entries table : List (List ℕ × A)) → entries ≡ table → is_some (lookup (bytes_eq name) entries) ≡ is_some (found table name)
+  sees entries table e = ap is_some (lookup_finds entries ∙ ap (λ t. found t name) e)
+
+  -- what a look-up for a name finds
+  pub finds : (entries table : List (List ℕ × A)) (spelled : List ℕ) → entries ≡ table → spelled ≡ name → lookup (bytes_eq spelled) entries ≡ found table name
+  finds entries table spelled e n = ap (λ s. lookup (bytes_eq s) entries) n ∙ (lookup_finds entries ∙ ap (λ t. found t name) e)
+
+  -- and whether it does not
+  pub sees_none : (entries table : List (List ℕ × A)) → entries ≡ table → is_some (found table name) ≡ false → lookup (bytes_eq name) entries ≡ None
+  sees_none entries table e h = none_there (lookup (bytes_eq name) entries) (sees entries table e ∙ h)
+
+  -- a name that is there leaves the table as it is
+  pub name_there : (table : List (List ℕ × A)) (value : A) → is_some (found table name) ≡ true → with_name table name value ≡ table
+  name_there table value h = rw h
+
+  -- a name that is not there is one more
+  pub name_new : (table : List (List ℕ × A)) (value : A) → is_some (found table name) ≡ false → with_name table name value ≡ table ++ ((name, value) ∷ [])
+  name_new table value h = rw h
+
+module _ {S : Type 0} (write : S → List ℕ → S) where
+  -- one list of bytes after another
+  pub fed_more : (s t u : S) (a b : List ℕ) → t ≡ fold write s (flat_map fed.u8 a) → u ≡ fold write t (flat_map fed.u8 b) → u ≡ fold write s (flat_map fed.u8 (a ++ b))
+  fed_more s t u a b p q = fed_then write s t u (flat_map fed.u8 a) (flat_map fed.u8 b) p q ∙ ap (fold write s) (sym (flat_map-append fed.u8 a b))
+
+  -- the last digit behind the others
+  pub fed_digit : (s t u : S) (n : ℕ) → 0 < n → t ≡ fold write s (flat_map fed.u8 (number_text (n / 10))) → u ≡ fold write t (fed.u8 (48 + n % 10))
+      → u ≡ fold write s (flat_map fed.u8 (number_text n))
+  fed_digit s t u n h p q = fed_more s t u (number_text (n / 10)) ((48 + n % 10) ∷ []) p q ∙ ap (λ x. fold write s (flat_map fed.u8 x)) (sym (number_text_step n h))

@@ -1,0 +1,193 @@
+//! Tables of names: the value of a name is found by a token that spells it.
+ghost use Rattle.std.specs.Prelude.{◌≡◌, [], not, is_some, option_map, fold, flat_map, map, ◌+◌, IfOk, OnOk, OnErr};
+ghost use Rattle.std.specs.Hash as fed;
+ghost use Rattle.std.specs.Str.{bytes_eq};
+ghost use Rattle.std.specs.Int.Digits.{digits_of};
+ghost use Rattle.rc_text.specs.Symbols.{LiesIn, name_of, counter_text};
+ghost use Rattle.rc_expand.specs.Names.{found};
+ghost use Rattle.rc_expand.specs.NameTables.{joined_name, with_name};
+
+use crate::names::is_joined_name;
+use indexmap::{Equivalent, IndexMap};
+use rc_text::Token;
+use std::alloc::{AllocError, Global};
+use std::hash::{Hash, Hasher};
+use std::marker::Model;
+
+/// A name that a table has, by its bytes.
+#[doc(hidden)]
+#[derive(Debug, Drop)]
+pub struct KeptName {
+    bytes: Vec<u8>,
+}
+
+impl Model for KeptName {
+    ghost use Rattle.std.specs.Prelude.{List, ℕ};
+
+    ghost Value = { List ℕ };
+
+    ghost view = { λ n. n.bytes.items };
+}
+
+impl PartialEq for KeptName {
+    ghost use Rattle.std.specs.Str.{bytes_eq};
+    ghost use Rattle.std.specs.Cmp.{partial_equiv_from_equiv};
+    ghost use Rattle.std.specs.Cmp.Lexicographic.{nat_list_eq_equiv};
+
+    ghost eq = { bytes_eq };
+
+    ghost laws = { partial_equiv_from_equiv nat_list_eq_equiv };
+
+    fn eq(&self, other: &KeptName) -> bool {
+        self.bytes.as_slice() == other.bytes.as_slice()
+    }
+}
+
+impl Eq for KeptName {
+    ghost use Rattle.std.specs.Cmp.Lexicographic.{nat_list_eq_equiv};
+
+    ghost laws = { nat_list_eq_equiv };
+}
+
+impl Hash for KeptName {
+    ghost use Rattle.std.specs.Prelude.{flat_map};
+    ghost use Rattle.std.specs.Hash as fed;
+    ghost use Rattle.std.proofs.Common.{ap};
+    ghost use Rattle.std.specs.Cmp.Lexicographic.{bytes_decides};
+
+    ghost hash_input = { flat_map fed.u8 };
+
+    ghost respects_eq = { λ x y h. ap (flat_map fed.u8) ((bytes_decides x y).0 h) };
+
+    fn hash<H: Hasher>(&self, state: &mut H) {
+        feed_bytes(self.bytes.as_slice(), state);
+    }
+}
+
+// Feeds bytes one by one.
+fn feed_bytes<H: Hasher>(bytes: &[u8], state: &mut H)
+    ensures { state.new ≡ fold H.write state.old (flat_map fed.u8 bytes.now) }
+{
+    Hash::hash_slice(bytes, state);
+}
+
+// Feeds the decimal digits of a number; 0 has none.
+fn feed_digits<H: Hasher>(number: u16, state: &mut H)
+    ensures { state.new ≡ fold H.write state.old (flat_map fed.u8 (map (λ d. 48 + d) (digits_of 10 number))) }
+{
+    if number == 0 {
+        return;
+    }
+    feed_digits(number / 10, state);
+    state.write_u8(b'0' + (number % 10) as u8);
+}
+
+// Feeds a counter as it is joined to a name.
+fn feed_counter<H: Hasher>(counter: u16, state: &mut H)
+    ensures { state.new ≡ fold H.write state.old (flat_map fed.u8 (counter_text counter)) }
+{
+    if counter < 10 {
+        state.write_u8(b'0');
+        state.write_u8(b'0' + counter as u8);
+        return;
+    }
+    feed_digits(counter, state);
+}
+
+/// The bytes of a name, and the counters joined to it.
+#[derive(Clone, Copy, Debug, PartialEq, Eq)]
+struct JoinedName<'a> {
+    bytes: &'a [u8],
+    counters: &'a [u16],
+}
+
+impl<'a> Hash for JoinedName<'a> {
+    ghost use Rattle.std.specs.Prelude.{flat_map};
+    ghost use Rattle.std.specs.Hash as fed;
+    ghost use Rattle.std.specs.Cmp.Rules.{comparing, hashing};
+    ghost use Rattle.std.proofs.Common.{rules};
+    ghost use Rattle.rc_expand.specs.NameTables.{joined_name};
+
+    ghost hash_input = { λ n. flat_map fed.u8 (joined_name n.bytes.now n.counters.now) };
+
+    ghost respects_eq = { Prim.search (hashing, rules) };
+
+    fn hash<H: Hasher>(&self, state: &mut H) {
+        feed_bytes(self.bytes, state);
+        for counter in self.counters {
+            feed_counter(*counter, state);
+        }
+    }
+}
+
+impl<'a> Equivalent<KeptName> for JoinedName<'a> {
+    ghost use Rattle.std.specs.Prelude.{flat_map};
+    ghost use Rattle.std.specs.Str.{bytes_eq};
+    ghost use Rattle.std.specs.Hash as fed;
+    ghost use Rattle.std.proofs.Common.{ap};
+    ghost use Rattle.std.specs.Cmp.Lexicographic.{bytes_decides, nat_list_eq_equiv};
+    ghost use Rattle.rc_expand.specs.NameTables.{joined_name};
+
+    ghost equivalent = { λ n k. bytes_eq (joined_name n.bytes.now n.counters.now) k };
+
+    ghost respects_hash = { λ n k h. ap (flat_map fed.u8) ((bytes_decides (joined_name n.bytes.now n.counters.now) k).0 h) };
+
+    ghost respects_eq = { λ n x y. nat_list_eq_equiv.congr (joined_name n.bytes.now n.counters.now) x y };
+
+    fn equivalent(&self, key: &KeptName) -> bool {
+        is_joined_name(self.bytes, self.counters, key.bytes.as_slice())
+    }
+}
+
+/// Names with values, each name once, in the order in which they came.
+#[derive(Drop)]
+pub struct NameTable<V> {
+    entries: IndexMap<KeptName, V>,
+}
+
+impl<V> Model for NameTable<V> {
+    ghost use Rattle.std.specs.Prelude.{List, ℕ};
+
+    ghost Value = { List (List ℕ × V) };
+
+    ghost view = { λ t. t.entries.entries };
+}
+
+impl<V: Drop> NameTable<V> {
+    /// No names, for which nothing is allocated.
+    pub fn new(alloc: Global) -> Self
+        ensures { result ≡ [] }
+    {
+        NameTable {
+            entries: IndexMap::new(alloc),
+        }
+    }
+
+    /// Takes up a name with its value, where the name is not there yet; else the table stays as it is, and the value is dropped. Says
+    /// whether the name is new.
+    ///
+    /// Refused only where memory was, and then the table stays as it is.
+    pub fn insert(&mut self, name: Vec<u8>, value: V) -> Result<bool, AllocError>
+        ensures added { IfOk result (λ added. added ≡ not (is_some (found self.old name.items))) }
+        ensures table { OnOk result (self.new ≡ with_name self.old name.items value) }
+        ensures refused { OnErr result (self.new ≡ self.old) }
+    {
+        let name = KeptName { bytes: name };
+        if self.entries.contains_key(&name) {
+            return Ok(false);
+        }
+        self.entries.insert(name, value)?;
+        Ok(true)
+    }
+
+    /// The value of the name that a token spells, with the counters joined to it. The token's span has to lie in the source.
+    pub fn get(&self, source: &[u8], token: &Token) -> Option<&V>
+        requires { LiesIn source.now token.now }
+        ensures { option_map (λ v. v.now) result ≡ found self.now (name_of source.now token.now) }
+    {
+        self.entries.get(JoinedName {
+            bytes: &source[token.lo..token.hi],
+            counters: token.joined.as_slice(),
+        })
+    }
+}
