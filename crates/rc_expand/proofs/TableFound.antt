@@ -40,6 +40,11 @@ module _ {A : Type 0} (name : List ℕ) where
   pub name_new : (table : List (List ℕ × A)) (value : A) → is_some (found table name) ≡ false → with_name table name value ≡ table ++ ((name, value) ∷ [])
   name_new table value h = rw h
 
+  -- and so where its bytes are those of the name
+  pub name_pushed : (table new : List (List ℕ × A)) (bytes : List ℕ) (value : A) → new ≡ with_name table bytes value → bytes ≡ name → is_some (found table name) ≡ false
+      → new ≡ table ++ ((name, value) ∷ [])
+  name_pushed table new bytes value e b h = e ∙ (ap (λ n. with_name table n value) b ∙ name_new table value h)
+
 module _ {S : Type 0} (write : S → List ℕ → S) where
   -- one list of bytes after another
   pub fed_more : (s t u : S) (a b : List ℕ) → t ≡ fold write s (flat_map fed.u8 a) → u ≡ fold write t (flat_map fed.u8 b) → u ≡ fold write s (flat_map fed.u8 (a ++ b))

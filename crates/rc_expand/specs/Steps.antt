@@ -41,6 +41,6 @@ module _ (source : List ℕ) (constants : Table) (limits : Limits) where
   collected equs (h ∷ hs) = option_and_then (λ e. collected (equs ++ (e ∷ [])) hs) (new_equ equs h)
 
 -- the lines and the EQU names are those of the definition, or but for want of memory a fault comes where it gives none
-abbrev pub GivesHeads : Result (Vec Head × Vec (List ℕ × List Token)) ExpandFault → Option Heads → Type 0
-GivesHeads (Ok p) o = o ≡ Some (record { lines = p.0.items; equs = p.1.items })
+abbrev pub GivesHeads : Result (Vec Head × Equs) ExpandFault → Option Heads → Type 0
+GivesHeads (Ok p) o = o ≡ Some (record { lines = p.0.items; equs = p.1 })
 GivesHeads (Err e) o = (e.kind ≢ OutOfMemory) → o ≡ None

@@ -1,19 +1,20 @@
 //! EQU lines.
-ghost use Rattle.std.specs.Prelude.{◌≡◌, [], All, IfOk, MatchResult, Some, None};
+ghost use Rattle.std.specs.Prelude.{◌≡◌, [], false, is_some, All, IfOk, MatchResult, Some, None};
 ghost use Rattle.rc_text.specs.Symbols.{LiesIn};
 ghost use Rattle.rc_expand.specs.Lines.{HeadLies};
 ghost use Rattle.rc_expand.specs.Heads.{equ_token, equ_of_line, equs_of};
-ghost use Rattle.rc_expand.specs.Names.{table_of};
+ghost use Rattle.rc_expand.specs.Names.{table_of, found};
 ghost use Rattle.rc_expand.specs.Replace.{EqusLie};
 ghost use Rattle.rc_expand.specs.Steps.{new_equ};
-ghost use Rattle.rc_expand.specs.Unroll.{Gives, GivesItems};
+ghost use Rattle.rc_expand.specs.Unroll.{Gives};
 
 use crate::copy::with_front;
 use crate::fault::{ExpandFault, ExpandKind, fault};
-use crate::head::{Head, HeadWord};
+use crate::head::{Head, HeadWord, Name};
 use crate::labels::{plain_name, plain_token};
 use crate::names::{GivenNames, is_taken};
 use crate::replace::{Equ, equ_line};
+use crate::table::NameTable;
 use rc_text::Token;
 use std::alloc::Global;
 
@@ -39,11 +40,12 @@ fn read_equ(
     alloc: Global,
     source: &[u8],
     names: &GivenNames,
-    equs: &[Equ],
+    equs: &NameTable<Equ>,
     head: &Head,
-) -> Result<Equ, ExpandFault>
+) -> Result<(Name, Equ), ExpandFault>
     requires head { HeadLies source.now head.now }
     ensures equ { Gives result (new_equ source.now (table_of names.now.constants.now.names.now names.now.constants.now.values.now) names.now.rules.now equs.now head.now) }
+    ensures new { IfOk result (λ e. is_some (found equs.now e.0) ≡ false) }
     ensures inside { IfOk result (λ e. All (LiesIn source.now) e.1) }
 {
     let token = equ_token(source, head)?;
@@ -52,7 +54,7 @@ fn read_equ(
     }
     let name = plain_name(alloc, source, token)?;
     let tokens = with_front(alloc, head.rest.as_slice(), Vec::new(alloc))?;
-    Ok(Equ::new(name, tokens, head.number))
+    Ok((Name::from_vec(name), Equ::new(tokens, head.number)))
 }
 
 /// The EQU names outside blocks with their tokens.
@@ -64,21 +66,21 @@ pub(crate) fn collect_equs(
     source: &[u8],
     names: &GivenNames,
     heads: &[Head],
-) -> Result<Vec<Equ>, ExpandFault>
+) -> Result<NameTable<Equ>, ExpandFault>
     requires { All (HeadLies source.now) heads.now }
-    ensures equs { GivesItems result (equs_of source.now (table_of names.now.constants.now.names.now names.now.constants.now.values.now) names.now.rules.now heads.now) }
-    ensures inside { IfOk result (λ v. EqusLie source.now v.items) }
+    ensures equs { Gives result (equs_of source.now (table_of names.now.constants.now.names.now names.now.constants.now.values.now) names.now.rules.now heads.now) }
+    ensures inside { IfOk result (EqusLie source.now) }
 {
     let mut opened: usize = 0;
-    let mut equs = Vec::new(alloc);
+    let mut equs = NameTable::new(alloc);
     let mut rest = heads;
     while let Some((head, after)) = rest.split_first() {
         match head.word {
             HeadWord::For => opened += 1,
             HeadWord::Rof => opened = opened.saturating_sub(1),
             HeadWord::Equ => if opened == 0 {
-                let equ = read_equ(alloc, source, names, &equs, head)?;
-                equs.push(equ)?;
+                let (name, equ) = read_equ(alloc, source, names, &equs, head)?;
+                equs.insert(name.into_vec(), equ)?;
             },
             _ => {}
         }

@@ -20,6 +20,7 @@ use crate::names::GivenNames;
 use crate::read::read_lines;
 use crate::replace::Equ;
 use crate::setting::Setting;
+use crate::table::NameTable;
 use crate::unroll::unroll;
 use rc_instr::Rules;
 use std::alloc::Global;
@@ -30,10 +31,10 @@ fn read_heads(
     alloc: Global,
     source: &[u8],
     names: &GivenNames,
-) -> Result<(Vec<Head>, Vec<Equ>), ExpandFault>
+) -> Result<(Vec<Head>, NameTable<Equ>), ExpandFault>
     ensures heads { GivesHeads result (heads_of source.now (table_of names.now.constants.now.names.now names.now.constants.now.values.now) names.now.rules.now) }
     ensures lines { IfOk result (λ p. All (HeadLies source.now) p.0.items) }
-    ensures equs { IfOk result (λ p. EqusLie source.now p.1.items) }
+    ensures equs { IfOk result (λ p. EqusLie source.now p.1) }
 {
     let heads = read_lines(alloc, source)?;
     check_blocks(&heads)?;

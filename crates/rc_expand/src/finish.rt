@@ -15,6 +15,7 @@ use crate::line::{Line, LineWord, Tokens};
 use crate::opening::replace_fault;
 use crate::replace::{Equ, ReplaceFault, replace_tokens};
 use crate::setting::Setting;
+use crate::table::NameTable;
 use crate::words::{clone_token, has_modifier};
 use rc_text::Token;
 use std::alloc::{AllocError, Global};
@@ -118,7 +119,7 @@ fn exempt_len_of_code(source: &[u8], tokens: &[Token]) -> usize
 fn line_tokens(
     alloc: Global,
     source: &[u8],
-    equs: &[Equ],
+    equs: &NameTable<Equ>,
     word: HeadWord,
     tokens: &[Token],
 ) -> Result<Tokens, ReplaceFault>

@@ -83,6 +83,13 @@ impl Name {
         Name { bytes }
     }
 
+    /// The vector of the bytes.
+    pub(crate) fn into_vec(self) -> Vec<u8>
+        ensures { result.items ≡ self }
+    {
+        self.bytes
+    }
+
     /// The bytes.
     pub(crate) fn as_slice(&self) -> &[u8]
         ensures { result.now ≡ self.now }

@@ -4,7 +4,7 @@ ghost use Rattle.rc_text.specs.Symbols.{LiesIn, name_of};
 ghost use Rattle.rc_expand.specs.Replace.{EqusLie, one, equ_at, equ_of, inner_at, replaced_within, replaced_tokens, Adds, Replaces};
 
 use crate::line::Tokens;
-use crate::names::spells;
+use crate::table::NameTable;
 use crate::words::{clone_token, is_name};
 use rc_text::Token;
 use std::alloc::{AllocError, AllocFailed, Global};
@@ -40,52 +40,40 @@ impl<T: Drop> From<AllocFailed<T>> for ReplaceFault {
     }
 }
 
-/// An EQU name with its tokens.
+/// What an EQU name stands for: its tokens, from a line of the source.
 #[derive(Debug, Drop)]
 pub(crate) struct Equ {
-    name: Vec<u8>,
     tokens: Tokens,
     line: u64,
 }
 
 impl Model for Equ {
-    ghost use Rattle.std.specs.Prelude.{List, ℕ};
+    ghost use Rattle.std.specs.Prelude.{List};
     ghost use Rattle.rc_text.specs.declared.token.Token.{Token};
 
-    ghost Value = { List ℕ × List Token };
+    ghost Value = { List Token };
 
-    ghost view = { λ e. (e.name.items, e.tokens) };
+    ghost view = { λ e. e.tokens };
 }
 
 impl Equ {
-    ghost use Rattle.std.specs.Str.{bytes_eq};
-    ghost use Rattle.rc_text.specs.Symbols.{name_of};
-
-    /// The EQU name of these bytes that stands for these tokens, from this line of the source.
-    pub(crate) fn new(name: Vec<u8>, tokens: Tokens, line: u64) -> Self
-        ensures { result ≡ (name.items, tokens) }
+    /// These tokens, from this line.
+    pub(crate) fn new(tokens: Tokens, line: u64) -> Self
+        ensures { result ≡ tokens }
     {
-        Equ { name, tokens, line }
+        Equ { tokens, line }
     }
 
-    /// Whether this is the name of a token, with the counters joined to it.
-    pub(crate) fn is_named(&self, source: &[u8], token: &Token) -> bool
-        requires { LiesIn source.now token.now }
-        ensures { result ≡ bytes_eq (name_of source.now token.now) self.now.0 }
-    {
-        spells(source, token, &self.name)
-    }
-
-    /// The tokens for which the name stands.
+    /// The tokens.
     pub(crate) fn tokens(&self) -> &[Token]
-        ensures { result.now ≡ self.now.1 }
+        ensures { result.now ≡ self.now }
     {
         self.tokens.as_slice()
     }
 }
 
 // The tokens of the EQU name that a token is, if it is one.
-fn equ_at<'a>(equs: &'a [Equ], source: &[u8], token: &Token) -> Option<&'a [Token]>
+fn equ_at<'a>(equs: &'a NameTable<Equ>, source: &[u8], token: &Token) -> Option<&'a [Token]>
     requires inside { LiesIn source.now token.now }
     requires lies { EqusLie source.now equs.now }
     ensures tokens { option_map (λ ts. ts.now) result ≡ equ_at source.now equs.now token.now }
@@ -94,25 +82,21 @@ fn equ_at<'a>(equs: &'a [Equ], source: &[u8], token: &Token) -> Option<&'a [Toke
     if !is_name(token) {
         return None;
     }
-    for equ in equs {
-        if equ.is_named(source, token) {
-            return Some(equ.tokens());
-        }
+    match equs.get(source, token) {
+        Some(equ) => Some(equ.tokens()),
+        None => None,
     }
-    None
 }
 
 /// The line of the EQU name that a token is, if it is one.
-pub(crate) fn equ_line(equs: &[Equ], source: &[u8], token: &Token) -> Option<u64>
+pub(crate) fn equ_line(equs: &NameTable<Equ>, source: &[u8], token: &Token) -> Option<u64>
     requires { LiesIn source.now token.now }
     ensures { is_some result ≡ is_some (equ_of equs.now (name_of source.now token.now)) }
 {
-    for equ in equs {
-        if equ.is_named(source, token) {
-            return Some(equ.line);
-        }
+    match equs.get(source, token) {
+        Some(equ) => Some(equ.line),
+        None => None,
     }
-    None
 }
 
 /// The tokens so far, and how many names were replaced in them.
@@ -128,7 +112,7 @@ fn append_one(
     out: &mut Output,
     source: &[u8],
     token: &Token,
-    equs: &[Equ],
+    equs: &NameTable<Equ>,
     levels: u8,
 ) -> Result<(), ReplaceFault>
     requires inside { LiesIn source.now token.now }
@@ -167,7 +151,7 @@ fn append_replaced(
     out: &mut Output,
     source: &[u8],
     tokens: &[Token],
-    equs: &[Equ],
+    equs: &NameTable<Equ>,
     levels: u8,
 ) -> Result<(), ReplaceFault>
     requires inside { All (LiesIn source.now) tokens.now }
@@ -190,7 +174,7 @@ pub(crate) fn replace_tokens(
     alloc: Global,
     source: &[u8],
     tokens: &[Token],
-    equs: &[Equ],
+    equs: &NameTable<Equ>,
 ) -> Result<Tokens, ReplaceFault>
     requires inside { All (LiesIn source.now) tokens.now }
     requires lies { EqusLie source.now equs.now }

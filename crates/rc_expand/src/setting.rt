@@ -6,6 +6,7 @@ ghost use Rattle.rc_expand.specs.Setting.{is_known_by};
 use crate::constants::Constants;
 use crate::names::{GivenNames, is_taken};
 use crate::replace::{Equ, equ_line};
+use crate::table::NameTable;
 use rc_instr::Rules;
 use rc_text::Token;
 use std::alloc::Global;
@@ -17,7 +18,7 @@ pub(crate) struct Setting<'a> {
     pub(crate) source: &'a [u8],
     pub(crate) constants: &'a Constants<'a>,
     pub(crate) rules: &'a Rules,
-    pub(crate) equs: &'a [Equ],
+    pub(crate) equs: &'a NameTable<Equ>,
 }
 
 /// The line at which a name that stands at this line is there again, where it is a constant or a predefined name (this line) or an EQU

@@ -14,5 +14,5 @@ decreases-loop-head l = length l.rest
 abbrev pub invariant-loop-head : goal.invariant-loop-head
 invariant-loop-head l =
     (equs_of l.source (table_of l.names.constants.now.names.now l.names.constants.now.values.now) l.names.rules.now l.heads
-    ≡ collected l.source (table_of l.names.constants.now.names.now l.names.constants.now.values.now) l.names.rules.now l.equs.items (equ_lines l.opened l.rest))
-    × (l.opened + length l.rest ≤ length l.heads) × All (HeadLies l.source) l.rest × EqusLie l.source l.equs.items
+    ≡ collected l.source (table_of l.names.constants.now.names.now l.names.constants.now.values.now) l.names.rules.now l.equs (equ_lines l.opened l.rest))
+    × (l.opened + length l.rest ≤ length l.heads) × All (HeadLies l.source) l.rest × EqusLie l.source l.equs
