@@ -1,14 +1,20 @@
 -- What a table of names finds, and what is fed for a name.
-use Rattle.std.proofs.Common.{◌≡◌, ℕ, ◌+◌, ◌<◌, ◌/◌, ◌%◌, true, false, cond, List, [], ◌∷◌, ◌++◌, Option, None, Some, refl, sym, ◌∙◌, ap}
-use Rattle.std.specs.Prelude.{is_some, flat_map, fold}
+use Rattle.std.proofs.Common.{◌≡◌, ℕ, ◌+◌, ◌<◌, ◌/◌, ◌%◌, Bool, true, false, cond, ◌&&◌, ◌||◌, not, List, [], ◌∷◌, ◌++◌, Option, None, Some, refl, sym, ◌∙◌, ap}
+use Rattle.std.specs.Prelude.{is_some, if◌then◌else◌, flat_map, fold}
 use Rattle.std.specs.Hash as fed
 use Rattle.std.specs.Hash.{fed_then}
 use Rattle.std.specs.Str.{bytes_eq}
 use Rattle.std.specs.Map.{lookup}
 use Rattle.std.proofs.lemmas.List.Concat.{flat_map-append}
 use Rattle.rc_expand.specs.Names.{found}
+use Rattle.rc_expand.specs.Steps.{is_seen, names_in}
 use Rattle.rc_expand.specs.NameTables.{with_name}
 use Rattle.rc_expand.proofs.NameSteps.{number_text, number_text_step}
+
+unseen : (a b : Bool) → true ≡ (a && not b) → b ≡ false
+unseen true false h = refl
+unseen true true h = cc
+unseen false b h = cc
 
 none_there : {A : Type 0} (o : Option A) → is_some o ≡ false → o ≡ None
 none_there None h = refl
@@ -44,6 +50,24 @@ module _ {A : Type 0} (name : List ℕ) where
   pub name_pushed : (table new : List (List ℕ × A)) (bytes : List ℕ) (value : A) → new ≡ with_name table bytes value → bytes ≡ name → is_some (found table name) ≡ false
       → new ≡ table ++ ((name, value) ∷ [])
   name_pushed table new bytes value e b h = e ∙ (ap (λ n. with_name table n value) b ∙ name_new table value h)
+
+  -- it is found where it is among the names
+  pub seen_found : (table : List (List ℕ × A)) → is_some (found table name) ≡ is_seen (names_in table) name
+  seen_found [] = refl
+  seen_found (e ∷ es) = by_name (bytes_eq name e.0) (seen_found es) where
+    by_name : (b : Bool) → is_some (found es name) ≡ is_seen (names_in es) name → is_some (if b then Some e.1 else found es name) ≡ (b || is_seen (names_in es) name)
+    by_name true h = refl
+    by_name false h = h
+
+  names_push : (table : List (List ℕ × A)) (value : A) → names_in (table ++ ((name, value) ∷ [])) ≡ names_in table ++ (name ∷ [])
+  names_push [] value = refl
+  names_push (e ∷ es) value = ap (λ ns. e.0 ∷ ns) (names_push es value)
+
+  -- a fresh name is one more of the names
+  pub fresh_pushed : (table new : List (List ℕ × A)) (bytes : List ℕ) (value : A) (test : Bool) → new ≡ with_name table bytes value → bytes ≡ name → true ≡ (test && not (is_seen (names_in table) name))
+      → names_in new ≡ names_in table ++ (name ∷ [])
+  fresh_pushed table new bytes value test e b h =
+      ap names_in (name_pushed table new bytes value e b (seen_found table ∙ unseen test (is_seen (names_in table) name) h)) ∙ names_push table value
 
 module _ {S : Type 0} (write : S → List ℕ → S) where
   -- one list of bytes after another

@@ -1,11 +1,13 @@
 -- Names that are tested one after the other. Contracts of private functions speak of this; what has to hold is said in Heads and Expansion.
-use Rattle.std.specs.Prelude.{◌≡◌, ◌≢◌, ℕ, Bool, true, false, ◌&&◌, not, List, [], ◌∷◌, ◌++◌, Option, Some, None, if◌then◌else◌, option_and_then, Result, Ok, Err}
+use Rattle.std.specs.Prelude.{◌≡◌, ◌≢◌, ℕ, Bool, true, false, ◌&&◌, not, List, [], ◌∷◌, ◌++◌, Option, Some, None, if◌then◌else◌, option_and_then, Result, Ok, Err, IfSome, map}
 use Rattle.std.specs.Global.{Vec}
 use Rattle.std.specs.List.{list_any}
 use Rattle.std.specs.Str.{bytes_eq}
 use Rattle.rc_text.specs.declared.token.Token.{Token}
+use Rattle.rc_text.specs.Symbols.{name_of}
 use Rattle.rc_instr.specs.Rules.{Limits}
 use Rattle.rc_expand.specs.declared.head.Head.{Head}
+use Rattle.rc_expand.specs.declared.line.Line.{Line}
 use Rattle.rc_expand.specs.declared.fault.ExpandFault.{ExpandFault}
 use Rattle.rc_expand.specs.declared.fault.ExpandKind.TheVariants.{OutOfMemory}
 use Rattle.rc_expand.specs.Names.{Table}
@@ -26,6 +28,16 @@ are_fresh test seen (n ∷ ns) = test n && (not (is_seen seen n) && are_fresh te
 abbrev pub Freshens : (List ℕ → Bool) → List (List ℕ) → Result (Unit {0}) ExpandFault → List (List ℕ) → List (List ℕ) → Type 0
 Freshens test old (Ok u) names new = (rest : List (List ℕ)) → are_fresh test old (names ++ rest) ≡ are_fresh test new rest
 Freshens test old (Err e) names new = (e.kind ≢ OutOfMemory) → (rest : List (List ℕ)) → are_fresh test old (names ++ rest) ≡ false
+
+-- the names of a table
+abbrev pub names_in : {A : Type 0} → List (List ℕ × A) → List (List ℕ)
+names_in table = map (λ e. e.0) table
+
+-- a line is made and its labels are taken up behind the names so far, or but for want of memory a fault comes where no line can be made
+-- or one of its labels is not fresh
+abbrev pub Takes : (List ℕ → Bool) → List ℕ → List (List ℕ) → Result Line ExpandFault → Option Line → List (List ℕ) → Type 0
+Takes test source old (Ok l) o new = (o ≡ Some l) × ((rest : List (List ℕ)) → are_fresh test old (map (name_of source) l.labels ++ rest) ≡ are_fresh test new rest)
+Takes test source old (Err e) o new = (e.kind ≢ OutOfMemory) → IfSome o (λ l. (rest : List (List ℕ)) → are_fresh test old (map (name_of source) l.labels ++ rest) ≡ false)
 
 module _ (source : List ℕ) (constants : Table) (limits : Limits) where
   abbrev pub if_unknown : Equs → List ℕ × List Token → Option (List ℕ × List Token)

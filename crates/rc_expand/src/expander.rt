@@ -63,7 +63,7 @@ fn expand_text(
         equs: &equs,
     };
     let unrolled = unroll(&setting, &heads)?;
-    let lines = replace_lines(&setting, &unrolled)?;
+    let lines = replace_lines(&setting, unrolled)?;
     Ok(Expanded {
         lines: Lines::from_vec(lines),
     })

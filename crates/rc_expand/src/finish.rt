@@ -3,9 +3,9 @@ ghost use Rattle.std.specs.Prelude.{◌≡◌, ◌++◌, ◌≤◌, length, flat
 ghost use Rattle.rc_text.specs.Symbols.{LiesIn};
 ghost use Rattle.rc_expand.specs.Lines.{HeadLies};
 ghost use Rattle.rc_expand.specs.Replace.{EqusLie, exempt_len_of_code, line_tokens, Replaces};
-ghost use Rattle.rc_expand.specs.Unroll.{Gives, GivesItems, all_of};
+ghost use Rattle.rc_expand.specs.Unroll.{Gives};
 ghost use Rattle.rc_expand.specs.Setting.{IsSetting};
-ghost use Rattle.rc_expand.specs.Expansion.{LineLies, as_list, line_word, kept_lines, own_labels, other_labels, made_line, line_of};
+ghost use Rattle.rc_expand.specs.Expansion.{LineLies, as_list, line_word, own_labels, other_labels, made_line, line_of};
 
 use crate::copy::with_front;
 use crate::fault::{ExpandFault, ExpandKind, fault};
@@ -199,23 +199,4 @@ pub(crate) fn line_of(setting: &Setting, head: &Head) -> Result<Line, ExpandFaul
         head.rest.as_slice(),
     )?;
     make_line(setting, head, labels, HeadWord::Code, &tokens)
-}
-
-/// The lines of the expansion, before their labels are tested.
-pub(crate) fn make_lines(setting: &Setting, heads: &[Head]) -> Result<Vec<Line>, ExpandFault>
-    requires setting { IsSetting setting.now }
-    requires heads { All (HeadLies setting.now.source.now) heads.now }
-    ensures lines { GivesItems result (all_of (line_of setting.now.source.now setting.now.equs.now) (kept_lines heads.now)) }
-    ensures inside { IfOk result (λ v. All (LineLies setting.now.source.now) v.items) }
-{
-    let mut lines = Vec::new(setting.alloc);
-    let mut rest = heads;
-    while let Some((head, after)) = rest.split_first() {
-        match head.word {
-            HeadWord::Equ => {}
-            _ => lines.push(line_of(setting, head)?)?,
-        }
-        rest = after;
-    }
-    Ok(lines)
 }
