@@ -13,6 +13,8 @@ use rc_text::{Kind, LexFault, Token};
 use std::alloc::Global;
 use std::test::Fail;
 
+mod table;
+
 // Appends tokens with a blank before each: a number by its value, a name with its counters.
 fn push_tokens(
     alloc: Global,

@@ -1,0 +1,84 @@
+//! Tables of names, by the tokens that spell them.
+ghost use Rattle.std.specs.Prelude.{◌≤◌, length};
+ghost use Rattle.rc_text.specs.Symbols.{LiesIn};
+
+use crate::table::NameTable;
+use rc_text::{Joined, Kind, Token};
+use std::test::Fail;
+
+// The token of a name from the first byte up to this place, with no counter.
+fn name_token(source: &[u8], hi: usize) -> Token
+    requires { hi ≤ length source.now }
+    ensures { LiesIn source.now result }
+{
+    Token {
+        kind: Kind::Name,
+        lo: 0,
+        hi,
+        line: 1,
+        joined: Joined::new(),
+    }
+}
+
+// The token with one more counter, where there is room for it.
+fn joined(source: &[u8], token: Token, counter: u16) -> Token
+    requires { LiesIn source.now token }
+    ensures { LiesIn source.now result }
+{
+    let mut token = token;
+    if token.joined.len() < 8 {
+        token.joined.push(counter);
+    }
+    token
+}
+
+#[test]
+fn names_are_found_by_their_tokens(rt: HostRuntime) -> Result<(), Fail> {
+    let alloc = rt.alloc();
+    let mut table = NameTable::new(alloc);
+    assert!(rt; table.insert(b"x".to_vec(alloc)?, 7_u64)?);
+    assert!(rt; table.insert(b"x01".to_vec(alloc)?, 8)?);
+    assert!(rt; table.insert(b"x014096".to_vec(alloc)?, 9)?);
+    let source = b"x01y".as_slice();
+    let token = name_token(source, 1);
+    assert_eq!(rt; table.get(source, &token).copied(), Some(7));
+    let token = joined(source, token, 1);
+    assert_eq!(rt; table.get(source, &token).copied(), Some(8));
+    let token = joined(source, token, 4096);
+    assert_eq!(rt; table.get(source, &token).copied(), Some(9));
+    let token = joined(source, token, 0);
+    assert_eq!(rt; table.get(source, &token).copied(), None);
+    assert_eq!(rt; table.get(source, &name_token(source, 3)).copied(), Some(8));
+    assert_eq!(rt; table.get(source, &name_token(source, 2)).copied(), None);
+    assert_eq!(rt; table.get(source, &name_token(source, 4)).copied(), None);
+    Ok(())
+}
+
+#[test]
+fn a_name_keeps_its_first_value(rt: HostRuntime) -> Result<(), Fail> {
+    let alloc = rt.alloc();
+    let mut table = NameTable::new(alloc);
+    let source = b"step".as_slice();
+    let token = name_token(source, 4);
+    assert_eq!(rt; table.get(source, &token).copied(), None);
+    assert!(rt; table.insert(b"step".to_vec(alloc)?, 1_u64)?);
+    assert!(rt; table.insert(b"Step".to_vec(alloc)?, 2)?);
+    assert!(rt; !table.insert(b"step".to_vec(alloc)?, 3)?);
+    assert_eq!(rt; table.get(source, &token).copied(), Some(1));
+    Ok(())
+}
+
+#[test]
+fn many_names_are_found(rt: HostRuntime) -> Result<(), Fail> {
+    let alloc = rt.alloc();
+    let mut table = NameTable::new(alloc);
+    for i in 0..1000 {
+        table.insert(format!(in alloc; "x{:02}", i)?.into_bytes(), i)?;
+    }
+    let source = b"x".as_slice();
+    for i in 0..1000_u16 {
+        let token = joined(source, name_token(source, 1), i);
+        assert_eq!(rt; table.get(source, &token).copied(), Some(u64::from(i)));
+    }
+    Ok(())
+}
