@@ -15,3 +15,4 @@ pub mod EquLines
 pub mod LineSteps
 pub mod Labelled
 pub mod TableFound
+pub mod TablePlaces

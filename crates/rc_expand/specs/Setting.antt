@@ -7,15 +7,17 @@ use Rattle.rc_expand.specs.declared.head.Opening.{Opening}
 use Rattle.rc_expand.specs.declared.setting.Setting.{Setting}
 use Rattle.rc_expand.specs.Names.{Table, table_of}
 use Rattle.rc_expand.specs.Replace.{EqusLie}
+use Rattle.rc_expand.specs.NameTables.{AreLinks}
 use Rattle.rc_expand.specs.Expansion.{is_new_label}
 use Rattle.rc_expand.specs.Unroll.{Unrolled, outside, block_of, opening, count_of, is_known, is_new_counter, copies_of, copies_from, deeper_at, one_line, one_more_copy, copied_block}
 
 abbrev pub table : Setting → Table
 table s = table_of s.constants.now.names.now s.constants.now.values.now
 
--- the spans of the EQU names' tokens lie in the source
+-- the spans of the EQU names' tokens lie in the source, and their links are theirs
 pub record IsSetting (s : Setting) : Type 0 where
   pub equs : EqusLie s.source.now s.equs.now
+  pub links : AreLinks s.source.now s.equs.now s.links.now
 
 -- what stands for lines, where blocks may nest so deep in them
 abbrev pub lines_of : Setting → Bool → ℕ → List Head → Option Unrolled

@@ -16,6 +16,7 @@ use crate::fault::{ExpandFault, placed};
 use crate::head::Head;
 use crate::labelling::replace_lines;
 use crate::line::{Expanded, Lines};
+use crate::links::link_equs;
 use crate::names::GivenNames;
 use crate::read::read_lines;
 use crate::replace::Equ;
@@ -55,12 +56,14 @@ fn expand_text(
 {
     let names = GivenNames { constants, rules };
     let (heads, equs) = read_heads(alloc, source, &names)?;
+    let links = link_equs(alloc, source, &equs)?;
     let setting = Setting {
         alloc,
         source,
         constants,
         rules,
         equs: &equs,
+        links: &links,
     };
     let unrolled = unroll(&setting, &heads)?;
     let lines = replace_lines(&setting, unrolled)?;

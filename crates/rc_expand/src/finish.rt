@@ -2,6 +2,7 @@
 ghost use Rattle.std.specs.Prelude.{◌≡◌, ◌++◌, ◌≤◌, length, flat_map, All, IfOk, IfSome, OnOk};
 ghost use Rattle.rc_text.specs.Symbols.{LiesIn};
 ghost use Rattle.rc_expand.specs.Lines.{HeadLies};
+ghost use Rattle.rc_expand.specs.NameTables.{AreLinks};
 ghost use Rattle.rc_expand.specs.Replace.{EqusLie, exempt_len_of_code, line_tokens, Replaces};
 ghost use Rattle.rc_expand.specs.Unroll.{Gives};
 ghost use Rattle.rc_expand.specs.Setting.{IsSetting};
@@ -12,6 +13,7 @@ use crate::fault::{ExpandFault, ExpandKind, fault};
 use crate::head::{Head, HeadWord};
 use crate::labels::label_token;
 use crate::line::{Line, LineWord, Tokens};
+use crate::links::Links;
 use crate::opening::replace_fault;
 use crate::replace::{Equ, ReplaceFault, replace_tokens};
 use crate::setting::Setting;
@@ -120,11 +122,13 @@ fn line_tokens(
     alloc: Global,
     source: &[u8],
     equs: &NameTable<Equ>,
+    links: &[Links],
     word: HeadWord,
     tokens: &[Token],
 ) -> Result<Tokens, ReplaceFault>
     requires inside { All (LiesIn source.now) tokens.now }
     requires lies { EqusLie source.now equs.now }
+    requires links { AreLinks source.now equs.now links.now }
     ensures tokens { Replaces result (line_tokens source.now equs.now word tokens.now) }
     ensures inside { IfOk result (All (LiesIn source.now)) }
 {
@@ -132,7 +136,7 @@ fn line_tokens(
         HeadWord::Code => exempt_len_of_code(source, tokens),
         _ => 0,
     };
-    let replaced = replace_tokens(alloc, source, &tokens[exempt..], equs)?;
+    let replaced = replace_tokens(alloc, source, &tokens[exempt..], equs, links)?;
     Ok(with_front(alloc, &tokens[..exempt], replaced.into_vec())?)
 }
 
@@ -164,7 +168,14 @@ fn make_line(
     ensures line { Gives result (made_line setting.now.source.now setting.now.equs.now head.now word tokens.now) }
     ensures inside { IfOk result (LineLies setting.now.source.now) }
 {
-    let tokens = match line_tokens(setting.alloc, setting.source, setting.equs, word, tokens) {
+    let tokens = match line_tokens(
+        setting.alloc,
+        setting.source,
+        setting.equs,
+        setting.links,
+        word,
+        tokens,
+    ) {
         Ok(tokens) => tokens,
         Err(cause) => return Err(replace_fault(head.number, cause)),
     };

@@ -13,6 +13,7 @@ mod labelling;
 mod labels;
 pub mod laws;
 pub mod line;
+mod links;
 pub mod names;
 mod opening;
 mod read;

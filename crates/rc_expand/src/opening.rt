@@ -83,6 +83,7 @@ fn count_of(setting: &Setting, first: &Head) -> Result<u16, ExpandFault>
         setting.source,
         first.rest.as_slice(),
         setting.equs,
+        setting.links,
     ) {
         Ok(tokens) => tokens,
         Err(cause) => return Err(replace_fault(first.number, cause)),

@@ -1,11 +1,13 @@
 //! EQU names give way to their tokens.
 ghost use Rattle.std.specs.Prelude.{◌≡◌, ℕ, List, [], ◌∷◌, ◌++◌, ◌+◌, ◌≤◌, ◌<◌, length, MatchResult, Some, None, option_map, All, IfSome, IfOk, OnOk, is_some};
 ghost use Rattle.rc_text.specs.Symbols.{LiesIn, name_of};
+ghost use Rattle.rc_expand.specs.NameTables.{at_place, ArePlaces, AreLinks};
 ghost use Rattle.rc_expand.specs.Replace.{EqusLie, one, equ_at, equ_of, inner_at, replaced_within, replaced_tokens, Adds, Replaces};
 
 use crate::line::Tokens;
+use crate::links::{Links, link_tokens};
 use crate::table::NameTable;
-use crate::words::{clone_token, is_name};
+use crate::words::clone_token;
 use rc_text::Token;
 use std::alloc::{AllocError, AllocFailed, Global};
 use std::marker::Model;
@@ -72,18 +74,24 @@ impl Equ {
     }
 }
 
-// The tokens of the EQU name that a token is, if it is one.
-fn equ_at<'a>(equs: &'a NameTable<Equ>, source: &[u8], token: &Token) -> Option<&'a [Token]>
-    requires inside { LiesIn source.now token.now }
+// The tokens of the EQU name at a place, and the places of the EQU names that they are.
+fn body_at<'a>(
+    source: &[u8],
+    equs: &'a NameTable<Equ>,
+    links: &'a [Links],
+    place: Option<usize>,
+) -> Option<(&'a [Token], &'a [Option<usize>])>
     requires lies { EqusLie source.now equs.now }
-    ensures tokens { option_map (λ ts. ts.now) result ≡ equ_at source.now equs.now token.now }
-    ensures inside { IfSome result (λ ts. All (LiesIn source.now) ts.now) }
+    requires links { AreLinks source.now equs.now links.now }
+    ensures tokens { option_map (λ p. p.0.now) result ≡ at_place equs.now place }
+    ensures places { IfSome result (λ p. ArePlaces source.now equs.now p.0.now p.1.now) }
+    ensures inside { IfSome result (λ p. All (LiesIn source.now) p.0.now) }
 {
-    if !is_name(token) {
-        return None;
-    }
-    match equs.get(source, token) {
-        Some(equ) => Some(equ.tokens()),
+    match place {
+        Some(i) => match equs.at(i) {
+            Some(equ) => Some((equ.tokens(), links[i].as_slice())),
+            None => None,
+        },
         None => None,
     }
 }
@@ -112,11 +120,15 @@ fn append_one(
     out: &mut Output,
     source: &[u8],
     token: &Token,
+    place: Option<usize>,
     equs: &NameTable<Equ>,
+    links: &[Links],
     levels: u8,
 ) -> Result<(), ReplaceFault>
     requires inside { LiesIn source.now token.now }
+    requires place { at_place equs.now place ≡ equ_at source.now equs.now token.now }
     requires lies { EqusLie source.now equs.now }
+    requires links { AreLinks source.now equs.now links.now }
     requires room { length out.old.tokens.items ≤ 4096 }
     requires replacements { out.old.replacements ≤ 4096 }
     requires before { All (LiesIn source.now) out.old.tokens.items }
@@ -124,7 +136,7 @@ fn append_one(
     ensures adds { Adds out.old.tokens.items out.old.replacements result
         (one (inner_at source.now equs.now levels) token.now (equ_at source.now equs.now token.now)) out.new.tokens.items out.new.replacements }
 {
-    match equ_at(equs, source, token) {
+    match body_at(source, equs, links, place) {
         None => {
             if out.tokens.len() == 4096 {
                 return Err(ReplaceFault::TooMany);
@@ -132,7 +144,7 @@ fn append_one(
             out.tokens.push(clone_token(token)?)?;
             Ok(())
         }
-        Some(body) => {
+        Some((body, places)) => {
             if levels == 0 {
                 return Err(ReplaceFault::TooDeep);
             }
@@ -140,7 +152,7 @@ fn append_one(
                 return Err(ReplaceFault::TooMany);
             }
             out.replacements += 1;
-            append_replaced(out, source, body, equs, levels - 1)
+            append_replaced(out, source, body, places, equs, links, levels - 1)
         }
     }
 }
@@ -151,19 +163,23 @@ fn append_replaced(
     out: &mut Output,
     source: &[u8],
     tokens: &[Token],
+    places: &[Option<usize>],
     equs: &NameTable<Equ>,
+    links: &[Links],
     levels: u8,
 ) -> Result<(), ReplaceFault>
     requires inside { All (LiesIn source.now) tokens.now }
+    requires places { ArePlaces source.now equs.now tokens.now places.now }
     requires lies { EqusLie source.now equs.now }
+    requires links { AreLinks source.now equs.now links.now }
     requires room { length out.old.tokens.items ≤ 4096 }
     requires replacements { out.old.replacements ≤ 4096 }
     requires before { All (LiesIn source.now) out.old.tokens.items }
     ensures after { OnOk result (All (LiesIn source.now) out.new.tokens.items) }
     ensures adds { Adds out.old.tokens.items out.old.replacements result (replaced_within source.now equs.now levels tokens.now) out.new.tokens.items out.new.replacements }
 {
-    for token in tokens {
-        append_one(out, source, token, equs, levels)?;
+    for i in 0..tokens.len() {
+        append_one(out, source, &tokens[i], places[i], equs, links, levels)?;
     }
     Ok(())
 }
@@ -175,9 +191,11 @@ pub(crate) fn replace_tokens(
     source: &[u8],
     tokens: &[Token],
     equs: &NameTable<Equ>,
+    links: &[Links],
 ) -> Result<Tokens, ReplaceFault>
     requires inside { All (LiesIn source.now) tokens.now }
     requires lies { EqusLie source.now equs.now }
+    requires links { AreLinks source.now equs.now links.now }
     ensures inside { IfOk result (All (LiesIn source.now)) }
     ensures tokens { Replaces result (replaced_tokens source.now equs.now tokens.now) }
 {
@@ -185,6 +203,7 @@ pub(crate) fn replace_tokens(
         tokens: Vec::new(alloc),
         replacements: 0,
     };
-    append_replaced(&mut out, source, tokens, equs, 16)?;
+    let places = link_tokens(alloc, source, tokens, equs)?;
+    append_replaced(&mut out, source, tokens, places.as_slice(), equs, links, 16)?;
     Ok(Tokens::from_vec(out.tokens))
 }

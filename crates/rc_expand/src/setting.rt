@@ -4,6 +4,7 @@ ghost use Rattle.rc_text.specs.Symbols.{LiesIn, name_of};
 ghost use Rattle.rc_expand.specs.Setting.{is_known_by};
 
 use crate::constants::Constants;
+use crate::links::Links;
 use crate::names::{GivenNames, is_taken};
 use crate::replace::{Equ, equ_line};
 use crate::table::NameTable;
@@ -19,6 +20,7 @@ pub(crate) struct Setting<'a> {
     pub(crate) constants: &'a Constants<'a>,
     pub(crate) rules: &'a Rules,
     pub(crate) equs: &'a NameTable<Equ>,
+    pub(crate) links: &'a [Links],
 }
 
 /// The line at which a name that stands at this line is there again, where it is a constant or a predefined name (this line) or an EQU

@@ -1,11 +1,11 @@
 //! Tables of names: the value of a name is found by a token that spells it.
-ghost use Rattle.std.specs.Prelude.{◌≡◌, [], not, is_some, option_map, fold, flat_map, map, ◌+◌, IfOk, OnOk, OnErr};
+ghost use Rattle.std.specs.Prelude.{◌≡◌, [], Some, not, is_some, option_map, fold, flat_map, map, ◌+◌, IfOk, OnOk, OnErr};
 ghost use Rattle.std.specs.Hash as fed;
 ghost use Rattle.std.specs.Str.{bytes_eq};
 ghost use Rattle.std.specs.Int.Digits.{digits_of};
 ghost use Rattle.rc_text.specs.Symbols.{LiesIn, name_of, counter_text};
 ghost use Rattle.rc_expand.specs.Names.{found};
-ghost use Rattle.rc_expand.specs.NameTables.{joined_name, with_name};
+ghost use Rattle.rc_expand.specs.NameTables.{joined_name, with_name, at_place};
 
 use crate::names::is_joined_name;
 use indexmap::{Equivalent, IndexMap};
@@ -139,6 +139,17 @@ impl<'a> Equivalent<KeptName> for JoinedName<'a> {
     }
 }
 
+// The name of a token, with the counters joined to it.
+fn spelled<'a>(source: &'a [u8], token: &'a Token) -> JoinedName<'a>
+    requires { LiesIn source.now token.now }
+    ensures { joined_name result.bytes.now result.counters.now ≡ name_of source.now token.now }
+{
+    JoinedName {
+        bytes: &source[token.lo..token.hi],
+        counters: token.joined.as_slice(),
+    }
+}
+
 /// Names with values, each name once, in the order in which they came.
 #[derive(Drop)]
 pub struct NameTable<V> {
@@ -185,9 +196,24 @@ impl<V: Drop> NameTable<V> {
         requires { LiesIn source.now token.now }
         ensures { option_map (λ v. v.now) result ≡ found self.now (name_of source.now token.now) }
     {
-        self.entries.get(JoinedName {
-            bytes: &source[token.lo..token.hi],
-            counters: token.joined.as_slice(),
-        })
+        self.entries.get(spelled(source, token))
+    }
+
+    /// Where the name that a token spells is in the table, if it is there. The token's span has to lie in the source.
+    pub(crate) fn place(&self, source: &[u8], token: &Token) -> Option<usize>
+        requires { LiesIn source.now token.now }
+        ensures { at_place self.now result ≡ found self.now (name_of source.now token.now) }
+    {
+        self.entries.get_index_of(spelled(source, token))
+    }
+
+    /// The value at a place of the table.
+    pub(crate) fn at(&self, place: usize) -> Option<&V>
+        ensures { option_map (λ v. v.now) result ≡ at_place self.now (Some place) }
+    {
+        match self.entries.get_index(place) {
+            Some((_, value)) => Some(value),
+            None => None,
+        }
     }
 }

@@ -14,10 +14,10 @@ abbrev pub decreases-append_one : goal.decreases-append_one
 decreases-append_one l = 2 * l.levels
 
 -- whatever the rest adds, the whole adds
-abbrev pub invariant-append_replaced-loop-token : goal.invariant-append_replaced-loop-token
-invariant-append_replaced-loop-token l =
+abbrev pub invariant-append_replaced-loop-i : goal.invariant-append_replaced-loop-i
+invariant-append_replaced-loop-i l =
     (length l.out.tokens.items ≤ 4096) × (l.out.replacements ≤ 4096)
     × ((result : Result (Unit {0}) ReplaceFault) (new : List Token) (m : ℕ)
-    → Adds l.out.tokens.items l.out.replacements result (replaced_within l.source l.equs l.levels (drop l.token-index l.tokens)) new m
+    → Adds l.out.tokens.items l.out.replacements result (replaced_within l.source l.equs l.levels (drop l.i l.tokens)) new m
     → Adds l.fn.out.tokens.items l.fn.out.replacements result (replaced_within l.source l.equs l.levels l.tokens) new m)
     × All (LiesIn l.source) l.out.tokens.items

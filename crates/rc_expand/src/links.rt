@@ -1,0 +1,82 @@
+//! Which EQU names the tokens of EQU names are.
+ghost use Rattle.std.specs.Prelude.{◌≡◌, All, IfOk, IfSome, option_map, map};
+ghost use Rattle.rc_text.specs.Symbols.{LiesIn};
+ghost use Rattle.rc_expand.specs.Replace.{EqusLie, equ_at};
+ghost use Rattle.rc_expand.specs.NameTables.{at_place, ArePlaces, AreLinks};
+
+use crate::replace::Equ;
+use crate::table::NameTable;
+use crate::words::is_name;
+use rc_text::Token;
+use std::alloc::{AllocError, Global};
+use std::marker::Model;
+
+/// For each token of a list the place of the EQU name that it is, if it is one.
+#[derive(Drop)]
+pub(crate) struct Links {
+    places: Vec<Option<usize>>,
+}
+
+impl Model for Links {
+    ghost use Rattle.std.specs.Prelude.{List, Option, ℕ};
+
+    ghost Value = { List (Option ℕ) };
+
+    ghost view = { λ l. l.places.items };
+}
+
+impl Links {
+    /// The places.
+    pub(crate) fn as_slice(&self) -> &[Option<usize>]
+        ensures { result.now ≡ self.now }
+    {
+        self.places.as_slice()
+    }
+}
+
+// The place of the EQU name that a token is, if it is one.
+fn equ_place(source: &[u8], token: &Token, equs: &NameTable<Equ>) -> Option<usize>
+    requires { LiesIn source.now token.now }
+    ensures { at_place equs.now result ≡ equ_at source.now equs.now token.now }
+{
+    if is_name(token) {
+        equs.place(source, token)
+    } else {
+        None
+    }
+}
+
+/// The places of the EQU names that tokens are.
+pub(crate) fn link_tokens(
+    alloc: Global,
+    source: &[u8],
+    tokens: &[Token],
+    equs: &NameTable<Equ>,
+) -> Result<Links, AllocError>
+    requires { All (LiesIn source.now) tokens.now }
+    ensures { IfOk result (ArePlaces source.now equs.now tokens.now) }
+{
+    let mut places = Vec::new(alloc);
+    for token in tokens {
+        places.push(equ_place(source, token, equs))?;
+    }
+    Ok(Links { places })
+}
+
+/// The places of the EQU names that the tokens of EQU names are.
+pub(crate) fn link_equs(
+    alloc: Global,
+    source: &[u8],
+    equs: &NameTable<Equ>,
+) -> Result<Vec<Links>, AllocError>
+    requires { EqusLie source.now equs.now }
+    ensures { IfOk result (λ v. AreLinks source.now equs.now v.items) }
+{
+    let mut links = Vec::new(alloc);
+    let mut place = 0;
+    while let Some(equ) = equs.at(place) {
+        links.push(link_tokens(alloc, source, equ.tokens(), equs)?)?;
+        place += 1;
+    }
+    Ok(links)
+}
