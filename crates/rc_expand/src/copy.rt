@@ -65,7 +65,7 @@ pub(crate) fn copy_tokens(
     ensures copied { IfOk result (λ o. o ≡ copied_tokens source.now counter.now number tokens.now) }
     ensures inside { IfOk result (λ o. IfSome o (All (LiesIn source.now))) }
 {
-    let mut copied = Vec::new(alloc);
+    let mut copied = Vec::with_capacity(alloc, tokens.len())?;
     if tokens.len() == 0 {
         return Ok(Some(Tokens::from_vec(copied)));
     }
@@ -96,7 +96,7 @@ pub(crate) fn with_front(
 ) -> Result<Tokens, AllocError>
     ensures { IfOk result (λ all. all ≡ front.now ++ tokens.items) }
 {
-    let mut all = Vec::new(alloc);
+    let mut all = Vec::with_capacity(alloc, front.len())?;
     for token in front {
         all.push(clone_token(token)?)?;
     }

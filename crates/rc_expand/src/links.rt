@@ -56,7 +56,7 @@ pub(crate) fn link_tokens(
     requires { All (LiesIn source.now) tokens.now }
     ensures { IfOk result (ArePlaces source.now equs.now tokens.now) }
 {
-    let mut places = Vec::new(alloc);
+    let mut places = Vec::with_capacity(alloc, tokens.len())?;
     for token in tokens {
         places.push(equ_place(source, token, equs))?;
     }

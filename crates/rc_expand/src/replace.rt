@@ -199,11 +199,11 @@ pub(crate) fn replace_tokens(
     ensures inside { IfOk result (All (LiesIn source.now)) }
     ensures tokens { Replaces result (replaced_tokens source.now equs.now tokens.now) }
 {
+    let places = link_tokens(alloc, source, tokens, equs)?;
     let mut out = Output {
-        tokens: Vec::new(alloc),
+        tokens: Vec::with_capacity(alloc, tokens.len())?,
         replacements: 0,
     };
-    let places = link_tokens(alloc, source, tokens, equs)?;
     append_replaced(&mut out, source, tokens, places.as_slice(), equs, links, 16)?;
     Ok(Tokens::from_vec(out.tokens))
 }

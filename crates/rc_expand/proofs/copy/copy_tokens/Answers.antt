@@ -9,7 +9,7 @@ loop-at-init c =
     let h : 0 < length c.args.tokens.now = omega arith in
     let is : c.in_ok-token.token ≡ get_or c.args.tokens.now 0 c.in_ok-token.token =
     same_read c.args.tokens.now 0 c.in_ok-token.token c.index-tokens-0.result c.in_ok-token.ensures c.index-tokens-0.is in
-    rw c.new-copied.ensures.items (
+    rw c.in_ok-copied.ensures.items (
       rest_first c.args.source.now c.args.counter.now c.args.number c.args.tokens.now c.in_ok-token.token h is,
       item_lies c.args.source.now c.args.tokens.now 0 c.in_ok-token.token h is c.requires,
       All-nil (LiesIn c.args.source.now),
