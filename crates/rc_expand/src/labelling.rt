@@ -92,14 +92,13 @@ fn take_line(setting: &Setting, seen: &mut NameTable<u64>, head: &Head) -> Resul
     Ok(line)
 }
 
-// The fault of an unrolled line: of its labels, or else of its tokens.
-fn line_fault(
+// The fault of the labels of an unrolled line.
+fn label_fault(
     setting: &Setting,
     seen: &mut NameTable<u64>,
     head: &Head,
 ) -> Result<Option<ExpandFault>, AllocError>
-    requires setting { IsSetting setting.now }
-    requires head { HeadLies setting.now.source.now head.now }
+    requires { HeadLies setting.now.source.now head.now }
 {
     let (labels, _) = split_labels(setting.alloc, setting.source, head.labels.as_slice())?;
     for token in labels.as_slice() {
@@ -108,10 +107,7 @@ fn line_fault(
             Err(found) => return Ok(Some(found)),
         }
     }
-    match line_of(setting, head) {
-        Ok(_) => Ok(None),
-        Err(found) => Ok(Some(found)),
-    }
+    Ok(None)
 }
 
 // Whether the first fault comes before the second: at an earlier line, or as a name that is taken on the same one.
@@ -122,7 +118,16 @@ fn comes_before(first: &ExpandFault, second: &ExpandFault) -> bool {
             && second.kind != ExpandKind::DuplicateName
 }
 
-// The lesser of a fault and that of a line, if it has one.
+// That of two faults which comes first.
+fn first_of(other: ExpandFault, least: ExpandFault) -> ExpandFault {
+    if comes_before(&other, &least) {
+        other
+    } else {
+        least
+    }
+}
+
+// The first of a fault and those of an unrolled line, of its labels and of its tokens.
 fn lesser_fault(
     setting: &Setting,
     seen: &mut NameTable<u64>,
@@ -135,13 +140,13 @@ fn lesser_fault(
     if head.word == HeadWord::Equ {
         return Ok(least);
     }
-    match line_fault(setting, seen, head)? {
-        Some(other) => if comes_before(&other, &least) {
-            Ok(other)
-        } else {
-            Ok(least)
-        },
-        None => Ok(least),
+    let least = match label_fault(setting, seen, head)? {
+        Some(other) => first_of(other, least),
+        None => least,
+    };
+    match line_of(setting, head) {
+        Ok(_) => Ok(least),
+        Err(other) => Ok(first_of(other, least)),
     }
 }
 

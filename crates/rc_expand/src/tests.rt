@@ -171,7 +171,7 @@ fn names_are_joined_and_replaced(rt: HostRuntime) -> Result<(), Fail> {
 }
 
 // Texts, and the line and kind of their fault.
-const FAULTS: [(&[u8], u64, ExpandKind); 35] = [
+const FAULTS: [(&[u8], u64, ExpandKind); 36] = [
     (
         b"DAT 4294967296",
         1,
@@ -197,6 +197,11 @@ const FAULTS: [(&[u8], u64, ExpandKind); 35] = [
     (b"FOR 1\nEND\nROF", 1, ExpandKind::ForWithoutRof),
     (b"ROF", 1, ExpandKind::RofWithoutFor),
     (b"a EQU a\nDAT a", 2, ExpandKind::EquTooDeep),
+    (
+        b"b MOV 0\nDAT 1\nc: JMP c\nc EQU b\nb EQU c",
+        3,
+        ExpandKind::EquTooDeep,
+    ),
     (b"a EQU a\nNOP\nFOR a\nROF", 3, ExpandKind::EquTooDeep),
     (b"FOR 4097\nROF", 1, ExpandKind::CountRefused),
     (b"FOR\nROF", 1, ExpandKind::CountRefused),
