@@ -1,9 +1,9 @@
 -- One line at a time.
-use Rattle.std.proofs.Common.{◌≡◌, ℕ, ◌+◌, ◌≤◌, map, true, false, List, [], ◌∷◌, ◌++◌, length, Option, Some, None, refl, sym, ◌∙◌, ap, arith, append_assoc, length-append}
-use Rattle.std.specs.Prelude.{◌&&◌, not, ℤ, All, option_map, option_and_then, Result, Ok, Err, if◌then◌else◌, Bool}
+use Rattle.std.proofs.Common.{◌≡◌, ℕ, ◌+◌, ◌≤◌, map, true, false, List, [], ◌∷◌, ◌++◌, length, Option, Some, None, refl, sym, ◌∙◌, ap, arith, append_assoc, length-append, inl, inr}
+use Rattle.std.specs.Prelude.{◌&&◌, not, ℤ, All, option_map, option_and_then, is_some, ◌⊎◌, Result, Ok, Err, if◌then◌else◌, Bool}
 use Rattle.std.specs.Result.{result_err}
-use Rattle.std.proofs.lemmas.List.{append-nil}
-use Rattle.std.proofs.lemmas.Bool.{both_ways, and_parts}
+use Rattle.std.proofs.lemmas.List.{append-nil, map-append}
+use Rattle.std.proofs.lemmas.Bool.{both_ways, and_parts, cases_Bool}
 use Rattle.rc_text.specs.declared.token.Token.{Token}
 use Rattle.rc_text.specs.declared.fault.EvalFault.{EvalFault}
 use Rattle.rc_text.specs.declared.fault.EvalFault.TheVariants.{Syntax}
@@ -14,7 +14,10 @@ use Rattle.rc_instr.specs.Warrior.{IsBelow}
 use Rattle.rc_expand.specs.declared.line.LineWord.{LineWord}
 use Rattle.rc_expand.specs.declared.line.LineWord.TheVariants.{Bare, Code, Org, End, Assert}
 use Rattle.rc_expand.specs.declared.line.Line.{Line}
-use Rattle.rc_expand.specs.Names.{or_else}
+use Rattle.rc_expand.specs.Names.{or_else, found}
+use Rattle.rc_expand.specs.NameTables.{with_name}
+use Rattle.std.specs.Str.{bytes_eq}
+use Rattle.std.proofs.lemmas.Slice.Eq.{bytes_eq-Decides}
 use Rattle.rc_asm.specs.declared.fault.AsmKind.{AsmKind}
 use Rattle.rc_asm.specs.declared.fault.AsmKind.TheVariants.{AssertFailed, Value}
 use Rattle.rc_asm.specs.declared.fault.AsmFault.{AsmFault}
@@ -26,7 +29,7 @@ use Rattle.rc_asm.specs.Names.{Names, Labels, behind, labels_from, value_at}
 use Rattle.rc_asm.specs.Instructions.{instruction_at, shaped}
 use Rattle.rc_asm.specs.Assembly.{next_instruction, line_holds, is_true, starts_after, instructions_from, holds_from, starts_from, no_starts}
 use Rattle.rc_asm.specs.Faults.{at_line, form_fault, forms_fault, assertion_fault, end_fault, value_fault, values_fault, lines_fault}
-use Rattle.rc_asm.specs.Steps.{code_after, IsRead, fault_at, IsRefused, AreRead, Progress}
+use Rattle.rc_asm.specs.Steps.{code_after, IsRead, fault_at, IsRefused, AreRead, Progress, Agree}
 
 some_is : {A : Type 0} (x y : A) → Some x ≡ Some y → x ≡ y
 some_is x y h = cc
@@ -213,9 +216,70 @@ behind_most Org at next h = omega (arith, h)
 behind_most End at next h = omega (arith, h)
 behind_most Assert at next h = omega (arith, h)
 
-pub labels_next : (source : List ℕ) (rest others : List Line) (l : Line) (old new whole : Labels) (at next : ℕ) → rest ≡ l ∷ others → new ≡ old ++ map (λ t. (name_of source t, at)) l.labels → next ≡ behind l.word at
-    → old ++ labels_from source at rest ≡ whole → new ++ labels_from source next others ≡ whole
-labels_next source rest others l old new whole at next e n b w =
-    let added : Labels = map (λ t. (name_of source t, at)) l.labels in
-    ap (λ k. new ++ labels_from source k others) b
-    ∙ (ap (λ x. x ++ labels_from source (behind l.word at) others) n ∙ (append_assoc old added (labels_from source (behind l.word at) others) ∙ (ap (λ ls. old ++ labels_from source at ls) (sym e) ∙ w)))
+-- what is found in two lists one behind the other
+found_both : {A : Type 0} (a b : List (List ℕ × A)) (name : List ℕ) → found (a ++ b) name ≡ or_else (found a name) (found b name)
+found_both [] b name = refl
+found_both (e ∷ a) b name = by_name (bytes_eq name e.0) (found_both a b name) where
+  by_name : (t : Bool) → found (a ++ b) name ≡ or_else (found a name) (found b name) → (if t then Some e.1 else found (a ++ b) name) ≡ or_else (if t then Some e.1 else found a name) (found b name)
+  by_name true h = refl
+  by_name false h = h
+
+-- what is found among other values
+found_among : {A B : Type 0} (f : A → B) (t : List (List ℕ × A)) (name : List ℕ) → found (map (λ e. (e.0, f e.1)) t) name ≡ option_map f (found t name)
+found_among f [] name = refl
+found_among f (e ∷ t) name = by_name (bytes_eq name e.0) (found_among f t name) where
+  by_name : (b : Bool) → found (map (λ e. (e.0, f e.1)) t) name ≡ option_map f (found t name) → (if b then Some (f e.1) else found (map (λ e. (e.0, f e.1)) t) name) ≡ option_map f (if b then Some e.1 else found t name)
+  by_name true h = refl
+  by_name false h = h
+
+-- a label that is there already is found as before
+kept_label : {A : Type 0} (f : A → ℕ) (t : List (List ℕ × A)) (n : List ℕ) (k : ℕ) (r : Labels) → is_some (found t n) ≡ true → Agree (map (λ e. (e.0, f e.1)) t ++ r) (map (λ e. (e.0, f e.1)) t ++ ((n, k) ∷ r))
+kept_label f t n k r h name =
+    found_both (map (λ e. (e.0, f e.1)) t) r name
+    ∙ (by_name (cases_Bool (bytes_eq name n)) ∙ sym (found_both (map (λ e. (e.0, f e.1)) t) ((n, k) ∷ r) name))
+  where
+    some_first : (o : Option ℕ) (x y : Option ℕ) → is_some o ≡ true → or_else o x ≡ or_else o y
+    some_first (Some z) x y h = refl
+    some_first None x y h = absurd (both_ways false refl h)
+
+    some_still : {B : Type 0} (o : Option B) (g : B → ℕ) → is_some (option_map g o) ≡ is_some o
+    some_still None g = refl
+    some_still (Some z) g = refl
+
+    by_name : ((bytes_eq name n ≡ true) ⊎ (bytes_eq name n ≡ false)) → or_else (found (map (λ e. (e.0, f e.1)) t) name) (found r name) ≡ or_else (found (map (λ e. (e.0, f e.1)) t) name) (if bytes_eq name n then Some k else found r name)
+    by_name (inl e) =
+        let same : name ≡ n = (bytes_eq-Decides name n).0 e in
+        some_first (found (map (λ e. (e.0, f e.1)) t) name) _ _ (ap is_some (found_among f t name) ∙ (some_still (found t name) f ∙ (ap (λ x. is_some (found t x)) same ∙ h)))
+    by_name (inr e) = rw e refl
+
+-- a label is taken up where it is new, and else found as before
+pub label_taken : {A : Type 0} (f : A → ℕ) (t : List (List ℕ × A)) (n : List ℕ) (v : A) (r : Labels) → Agree (map (λ e. (e.0, f e.1)) (with_name t n v) ++ r) (map (λ e. (e.0, f e.1)) t ++ ((n, f v) ∷ r))
+label_taken f t n v r = by_found (is_some (found t n)) refl where
+  by_found : (b : Bool) → is_some (found t n) ≡ b → Agree (map (λ e. (e.0, f e.1)) (if b then t else t ++ ((n, v) ∷ [])) ++ r) (map (λ e. (e.0, f e.1)) t ++ ((n, f v) ∷ r))
+  by_found true h = kept_label f t n (f v) r h
+  by_found false h = λ name. ap (λ l. found (l ++ r) name) (map-append (λ e. (e.0, f e.1)) t ((n, v) ∷ [])) ∙ ap (λ l. found l name) (append_assoc (map (λ e. (e.0, f e.1)) t) ((n, f v) ∷ []) r)
+
+-- a token's label is taken up
+pub label_inserted : {A : Type 0} (f : A → ℕ) (source : List ℕ) (address : ℕ) (old new : List (List ℕ × A)) (rest after : List Token) (t : Token) (n : List ℕ) (v : A) → rest ≡ t ∷ after → n ≡ name_of source t → f v ≡ address
+    → new ≡ with_name old n v → (r : Labels)
+    → Agree (map (λ e. (e.0, f e.1)) new ++ (map (λ t. (name_of source t, address)) after ++ r)) (map (λ e. (e.0, f e.1)) old ++ (map (λ t. (name_of source t, address)) rest ++ r))
+label_inserted f source address old new rest after t n v er en ev e r name =
+    let more : Labels = map (λ t. (name_of source t, address)) after ++ r in
+    ap (λ x. found (map (λ e. (e.0, f e.1)) x ++ more) name) e
+    ∙ (label_taken f old n v more name
+    ∙ (ap (λ x. found (map (λ e. (e.0, f e.1)) old ++ ((x, f v) ∷ more)) name) en
+    ∙ (ap (λ x. found (map (λ e. (e.0, f e.1)) old ++ ((name_of source t, x) ∷ more)) name) ev
+    ∙ ap (λ ts. found (map (λ e. (e.0, f e.1)) old ++ (map (λ t. (name_of source t, address)) ts ++ r)) name) (sym er))))
+
+-- what is found among addresses
+pub address_found : {A : Type 0} (f : A → ℕ) (t : List (List ℕ × A)) (o : Option A) (all : Labels) (name : List ℕ) → o ≡ found t name → map (λ e. (e.0, f e.1)) t ≡ all → option_map f o ≡ found all name
+address_found f t o all name e m = ap (option_map f) e ∙ (sym (found_among f t name) ∙ ap (λ l. found l name) m)
+
+-- the labels of a line are taken up
+pub labels_next : (source : List ℕ) (rest others : List Line) (l : Line) (old new whole : Labels) (at next : ℕ) → rest ≡ l ∷ others
+    → ((r : Labels) → Agree (new ++ r) (old ++ (map (λ t. (name_of source t, at)) l.labels ++ r))) → next ≡ behind l.word at
+    → Agree (old ++ labels_from source at rest) whole → Agree (new ++ labels_from source next others) whole
+labels_next source rest others l old new whole at next e n b w name =
+    ap (λ k. found (new ++ labels_from source k others) name) b
+    ∙ (n (labels_from source (behind l.word at) others) name
+    ∙ (ap (λ ls. found (old ++ labels_from source at ls) name) (sym e) ∙ w name))

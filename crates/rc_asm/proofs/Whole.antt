@@ -9,15 +9,15 @@ use Rattle.rc_instr.specs.Rules.{Limits, IsRules}
 use Rattle.rc_instr.specs.Warrior.{Program, program, IsProgram, IsBelow, Fits}
 use Rattle.rc_instr.specs.WarriorRefusal.{IsRefused as IsNoWarrior}
 use Rattle.rc_expand.specs.declared.line.Line.{Line}
-use Rattle.rc_expand.specs.Names.{Table, or_else}
+use Rattle.rc_expand.specs.Names.{Table, or_else, found}
 use Rattle.rc_expand.specs.Expansion.{IsExpansion}
 use Rattle.rc_asm.specs.declared.fault.AsmKind.TheVariants.{Warrior, OutOfMemory}
 use Rattle.rc_asm.specs.declared.starts.Starts.{Starts}
 use Rattle.rc_asm.specs.declared.fault.AsmFault.{AsmFault}
-use Rattle.rc_asm.specs.Names.{Names}
+use Rattle.rc_asm.specs.Names.{Names, Labels, labels_of}
 use Rattle.rc_asm.specs.Assembly.{start_of, no_starts, starts_from, names_of, IsMadeOf, Assembles}
 use Rattle.rc_asm.specs.Faults.{forms_fault, values_fault, lines_fault, at_line, IsWarriorFault, IsFaultOfCode, IsFaultOfLines, IsFault}
-use Rattle.rc_asm.specs.Steps.{IsRefused, AreRead, IsStarted}
+use Rattle.rc_asm.specs.Steps.{IsRefused, AreRead, IsStarted, Agree}
 use Rattle.rc_asm.proofs.Steps.{faulty}
 
 some_is : {A : Type 0} (x y : A) → Some x ≡ Some y → x ≡ y
@@ -118,6 +118,9 @@ text_stops source constants limits f (inr (inl h)) p a = h.1 a.lines a.expands
 text_stops source constants limits f (inr (inr h)) p a =
     lines_stop source (names_of source constants limits h.1) h.1 f h.3 p (made_of_these source constants limits h.1 p h.2 a)
 
+abbrev pub names_with : Table → Limits → (List ℕ → Option ℕ) → Names
+names_with constants limits address = record { constants = constants; limits = limits; address = address }
+
 abbrev natural_of : ℤ → ℕ
 natural_of (pos n) = n
 natural_of (negsuc n) = 0
@@ -142,3 +145,8 @@ pub lines_refused : {A : Type 0} (source : List ℕ) (constants : Table) (limits
     → IfErr r (λ f. f.kind ≢ OutOfMemory → IsFaultOfLines source (names_of source constants limits lines) lines f) → IfErr r (λ f. f.kind ≢ OutOfMemory → IsFault source constants limits f)
 lines_refused source constants limits lines (Ok x) s e h = h
 lines_refused source constants limits lines (Err f) s e h = λ m. inr (inr (s, lines, e, h m))
+
+-- names with the same labels are the same
+pub same_names : (source : List ℕ) (constants : Table) (limits : Limits) (lines : List Line) (labels : Labels) → Agree labels (labels_of source lines)
+    → names_with constants limits (found labels) ≡ names_of source constants limits lines
+same_names source constants limits lines labels h = λ x. record { constants = constants; limits = limits; address = λ name. h name x }

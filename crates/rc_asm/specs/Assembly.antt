@@ -10,7 +10,7 @@ use Rattle.rc_instr.specs.declared.instruction.Instruction.{Instruction}
 use Rattle.rc_expand.specs.declared.line.LineWord.{LineWord}
 use Rattle.rc_expand.specs.declared.line.LineWord.TheVariants.{Code, Org, End, Assert}
 use Rattle.rc_expand.specs.declared.line.Line.{Line}
-use Rattle.rc_expand.specs.Names.{Table}
+use Rattle.rc_expand.specs.Names.{Table, found}
 use Rattle.rc_expand.specs.Expansion.{IsExpansion, expansion_of}
 use Rattle.rc_asm.specs.declared.fault.AsmKind.{AsmKind}
 use Rattle.rc_asm.specs.declared.starts.Starts.{Starts}
@@ -70,7 +70,7 @@ module _ (source : List ℕ) (names : Names) where
   starts_from at s (l ∷ ls) = option_and_then (λ r. starts_from (behind l.word at) r ls) (starts_after l.word l.tokens (value_at source names at 0 l.tokens) s)
 
 abbrev pub names_of : List ℕ → Table → Limits → List Line → Names
-names_of source constants limits lines = record { constants = constants; limits = limits; labels = labels_of source lines }
+names_of source constants limits lines = record { constants = constants; limits = limits; address = found (labels_of source lines) }
 
 -- the lines of a text make this warrior: its instructions, the start, and every assertion
 pub record IsMadeOf (source : List ℕ) (names : Names) (lines : List Line) (warrior : Program) : Type 0 where

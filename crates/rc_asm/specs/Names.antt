@@ -28,18 +28,18 @@ labels_from source at (l ∷ ls) = map (λ t. (name_of source t, at)) l.labels +
 abbrev pub labels_of : List ℕ → List Line → Labels
 labels_of source lines = labels_from source 0 lines
 
--- the names of a text
+-- the names of a text: constants, rules, and a map from labels to addresses
 pub record Names : Type 0 where
   pub constants : Table
   pub limits : Limits
-  pub labels : Labels
+  pub address : List ℕ → Option ℕ
 
 -- what a name stands for at a line with so many lines of code before it, where labels count from a base: a constant, a predefined name,
 -- CURLINE, which is that number, or a label
 unfoldable pub stands_for : Names → (at base : ℕ) → List ℕ → Option ℤ
 stands_for names at base name =
     or_else (given_names names.constants names.limits name)
-    (if bytes_eq name CURLINE then Some (pos at) else option_map (λ a. pos a -ℤ pos base) (found names.labels name))
+    (if bytes_eq name CURLINE then Some (pos at) else option_map (λ a. pos a -ℤ pos base) (names.address name))
 
 -- the value of an expression there, or the fault that comes first
 abbrev pub value_at : List ℕ → Names → (at base : ℕ) → List Token → Result ℤ EvalFault

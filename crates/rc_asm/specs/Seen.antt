@@ -1,7 +1,7 @@
 -- What contracts see of the parts of a line. Contracts of private functions speak of this.
 use Rattle.std.specs.Prelude.{Result, Ok, Err, Some, None, ℕ, List, Option, option_map, IfSome, All}
 use Rattle.rc_text.specs.Symbols.{LiesIn}
-use Rattle.rc_expand.specs.Names.{table_of}
+use Rattle.rc_expand.specs.Names.{table_of, found}
 use Rattle.rc_asm.specs.declared.shape.Sides.{Sides as Borrowed}
 use Rattle.rc_asm.specs.declared.shape.Shape.{Shape as BorrowedShape}
 use Rattle.rc_asm.specs.declared.scope.Known.{Known}
@@ -20,4 +20,4 @@ pub record SidesLie (source : List ℕ) (s : Borrowed) : Type 0 where
   pub b : IfSome s.b (λ p. All (LiesIn source) p.now)
 
 abbrev pub seen_names : Known → Names
-seen_names k = record { constants = table_of k.constants.now.names.now k.constants.now.values.now; limits = k.rules.now; labels = k.labels.now }
+seen_names k = record { constants = table_of k.constants.now.names.now k.constants.now.values.now; limits = k.rules.now; address = found k.labels.now }

@@ -9,7 +9,8 @@ use Rattle.rc_expand.specs.declared.line.LineWord.TheVariants.{Code}
 use Rattle.rc_expand.specs.declared.line.Line.{Line}
 use Rattle.rc_asm.specs.declared.fault.AsmKind.{AsmKind}
 use Rattle.rc_asm.specs.declared.starts.Starts.{Starts}
-use Rattle.rc_asm.specs.Names.{Names, value_at}
+use Rattle.rc_expand.specs.Names.{found}
+use Rattle.rc_asm.specs.Names.{Names, Labels, value_at}
 use Rattle.rc_asm.specs.Instructions.{instruction_at}
 use Rattle.rc_asm.specs.Assembly.{line_holds, starts_after, instructions_from, holds_from, starts_from, no_starts, start_of}
 use Rattle.rc_asm.specs.Faults.{value_fault, values_fault}
@@ -58,3 +59,7 @@ pub record IsStarted (limits : Limits) (all : List Instruction) (s : Starts) (wa
   pub some : 0 < length warrior.code
   pub within : length warrior.code ≤ limits.length
   pub inside : warrior.start < length warrior.code
+
+-- the same is found in two lists of labels
+abbrev pub Agree : Labels → Labels → Type 0
+Agree a b = (name : List ℕ) → found a name ≡ found b name

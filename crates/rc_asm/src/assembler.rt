@@ -6,7 +6,8 @@ ghost use Rattle.rc_instr.specs.Warrior.{IsBelow, Program, IsProgram, Fits};
 ghost use Rattle.rc_instr.specs.Rules.{IsRules};
 ghost use Rattle.rc_asm.specs.Steps.{IsStarted};
 ghost use Rattle.rc_asm.specs.Assembly.{start_of, names_of, IsMadeOf, Assembles};
-ghost use Rattle.rc_asm.specs.Faults.{IsWarriorFault, IsFaultOfLines, IsFault};
+ghost use Rattle.rc_asm.specs.Faults.{forms_fault, IsWarriorFault, IsFaultOfLines, IsFault};
+ghost use Rattle.rc_asm.specs.Seen.{seen_names};
 ghost use Rattle.rc_asm.specs.declared.fault.AsmKind.TheVariants.{OutOfMemory};
 
 use crate::fault::{AsmFault, AsmKind, of_expansion};
@@ -48,6 +49,32 @@ fn warrior_of(reading: Reading, rules: &Rules) -> Result<Warrior, WarriorError>
     }
 }
 
+// The warrior of lines that are of their form, where the names are known.
+fn assemble_known(
+    alloc: Global,
+    source: &[u8],
+    known: &Known,
+    lines: &[Line],
+) -> Result<Warrior, AsmFault>
+    requires lines { All (LineLies source.now) lines.now }
+    requires forms { forms_fault source.now lines.now ≡ None }
+    ensures made { IfOk result (IsMadeOf source.now (seen_names known.now) lines.now) }
+    ensures warrior { IfOk result IsProgram }
+    ensures fits { IfOk result (Fits known.now.rules.now) }
+    ensures refused { IfErr result (λ f. f.kind ≢ OutOfMemory → IsFaultOfLines source.now (seen_names known.now) lines.now f) }
+    ensures memory { IfErr result (λ f. f.kind ≡ OutOfMemory → f.line ≡ 0) }
+{
+    prove!(0 < known.rules.core());
+    let reading = read_lines(alloc, source, known, lines)?;
+    match warrior_of(reading, known.rules) {
+        Ok(warrior) => Ok(warrior),
+        Err(error) => Err(AsmFault {
+            line: 0,
+            kind: AsmKind::Warrior(error),
+        }),
+    }
+}
+
 // The warrior of the lines.
 fn assemble_lines(
     alloc: Global,
@@ -57,7 +84,7 @@ fn assemble_lines(
     lines: &[Line],
 ) -> Result<Warrior, AsmFault>
     requires lines { All (LineLies source.now) lines.now }
-    ensures made { IfOk result (λ w. IsMadeOf source.now (names_of source.now (table_of constants.now.names.now constants.now.values.now) rules.now lines.now) lines.now w) }
+    ensures made { IfOk result (IsMadeOf source.now (names_of source.now (table_of constants.now.names.now constants.now.values.now) rules.now lines.now) lines.now) }
     ensures warrior { IfOk result IsProgram }
     ensures fits { IfOk result (Fits rules.now) }
     ensures refused { IfErr result (λ f. f.kind ≢ OutOfMemory →
@@ -71,15 +98,7 @@ fn assemble_lines(
         rules,
         labels: &labels,
     };
-    prove!(0 < rules.core());
-    let reading = read_lines(alloc, source, &known, lines)?;
-    match warrior_of(reading, rules) {
-        Ok(warrior) => Ok(warrior),
-        Err(error) => Err(AsmFault {
-            line: 0,
-            kind: AsmKind::Warrior(error),
-        }),
-    }
+    assemble_known(alloc, source, &known, lines)
 }
 
 /// The warrior to which a text assembles under the rules, where some names are constants.

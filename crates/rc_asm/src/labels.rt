@@ -1,27 +1,27 @@
 //! Labels and their addresses.
-ghost use Rattle.std.specs.Prelude.{◌≡◌, ◌<◌, ◌≤◌, ◌+◌, ◌^◌, ◌++◌, ◌∷◌, [], List, ℕ, length, map, All, IfOk, IfSome, OnOk};
+ghost use Rattle.std.specs.Prelude.{◌≡◌, ◌<◌, ◌≤◌, ◌+◌, ◌^◌, [], List, ℕ, length, All, IfOk, IfSome, OnOk, Some};
 ghost use Rattle.rc_text.specs.Symbols.{LiesIn, name_of};
 ghost use Rattle.rc_expand.specs.Names.{found};
+ghost use Rattle.rc_expand.specs.NameTables.{with_name};
 ghost use Rattle.rc_expand.specs.Expansion.{LineLies};
 ghost use Rattle.rc_asm.specs.Names.{behind, labels_from, labels_of};
 
-use rc_expand::{Line, LineWord, name_of, spells};
+use rc_expand::{Line, LineWord, NameTable, name_of};
 use rc_text::Token;
 use std::alloc::{AllocError, Global};
 use std::marker::Model;
 
-/// A label and the number of lines of code before it.
-#[derive(Drop)]
-struct Label {
-    name: Vec<u8>,
-    address: usize,
-    ghost small: { address < 2 ^ 63 },
+/// The number of lines of code before a label.
+#[derive(Debug, Drop)]
+struct Address {
+    number: usize,
+    ghost small: { number < 2 ^ 63 },
 }
 
-/// The labels of a text.
+/// The labels of a text with their addresses.
 #[derive(Drop)]
 pub(crate) struct Labels {
-    entries: Vec<Label>,
+    table: NameTable<Address>,
 }
 
 impl Model for Labels {
@@ -30,7 +30,7 @@ impl Model for Labels {
 
     ghost Value = { Labels };
 
-    ghost view = { λ l. map (λ e. (e.name.items, e.address)) l.entries.items };
+    ghost view = { λ l. map (λ e. (e.0, e.1.number)) l.table };
 }
 
 /// How many lines of code stand before the line behind this one.
@@ -45,8 +45,12 @@ pub(crate) fn behind(word: LineWord, at: usize) -> usize
 }
 
 impl Labels {
-    // Adds labels at an address.
-    fn push_all(
+    ghost use Rattle.std.specs.Prelude.{map, ◌++◌};
+    ghost use Rattle.rc_asm.specs.Names.{Labels as LabelList};
+    ghost use Rattle.rc_asm.specs.Steps.{Agree};
+
+    // Adds labels at an address; a name that is there already keeps its own.
+    fn insert_all(
         &mut self,
         alloc: Global,
         source: &[u8],
@@ -55,13 +59,13 @@ impl Labels {
     ) -> Result<(), AllocError>
         requires tokens { All (LiesIn source.now) tokens.now }
         requires small { address < 2 ^ 63 }
-        ensures { OnOk result (self.new ≡ self.old ++ map (λ t. (name_of source.now t, address)) tokens.now) }
+        ensures { OnOk result ((rest : LabelList) → Agree (self.new ++ rest) (self.old ++ (map (λ t. (name_of source.now t, address)) tokens.now ++ rest))) }
     {
-        for token in tokens {
+        let mut rest = tokens;
+        while let Some((token, after)) = rest.split_first() {
             let name = name_of(alloc, source, token)?;
-            self.entries
-                .push(Label { name, address })
-                .map_err(|_refused| AllocError)?;
+            self.table.insert(name, Address { number: address })?;
+            rest = after;
         }
         Ok(())
     }
@@ -73,15 +77,15 @@ impl Labels {
         lines: &[Line],
     ) -> Result<Labels, AllocError>
         requires { All (LineLies source.now) lines.now }
-        ensures { IfOk result (λ labels. labels ≡ labels_of source.now lines.now) }
+        ensures { IfOk result (λ labels. Agree labels (labels_of source.now lines.now)) }
     {
         let mut labels = Labels {
-            entries: Vec::new(alloc),
+            table: NameTable::new(alloc),
         };
         let mut at: usize = 0;
         let mut rest = lines;
         while let Some((line, after)) = rest.split_first() {
-            labels.push_all(alloc, source, line.labels.as_slice(), at)?;
+            labels.insert_all(alloc, source, line.labels.as_slice(), at)?;
             at = behind(line.word, at);
             rest = after;
         }
@@ -94,11 +98,9 @@ impl Labels {
         ensures address { result ≡ found self.now (name_of source.now token.now) }
         ensures small { IfSome result (λ at. at < 2 ^ 63) }
     {
-        for label in &self.entries {
-            if spells(source, token, &label.name) {
-                return Some(label.address);
-            }
+        match self.table.get(source, token) {
+            Some(address) => Some(address.number),
+            None => None,
         }
-        None
     }
 }
