@@ -19,13 +19,13 @@ use rc_text::Token;
 use std::alloc::AllocError;
 use std::collections::VecDeque;
 
-// The line of a label of this name, if there is one.
-fn seen_line(seen: &NameTable<u64>, source: &[u8], token: &Token) -> Option<u64>
+// The later of this line and that of an earlier label of the same name, if there is one.
+fn seen_line(seen: &NameTable<u64>, source: &[u8], token: &Token, line: u64) -> Option<u64>
     requires { LiesIn source.now token.now }
     ensures { is_some result ≡ is_seen (names_in seen.now) (name_of source.now token.now) }
 {
     match seen.get(source, token) {
-        Some(line) => Some(*line),
+        Some(other) => Some(line.max(*other)),
         None => None,
     }
 }
@@ -37,10 +37,7 @@ fn twice_line(setting: &Setting, seen: &NameTable<u64>, token: &Token, line: u64
 {
     match known_line(setting, token, line) {
         Some(known) => Some(known),
-        None => match seen_line(seen, setting.source, token) {
-            Some(other) => Some(line.max(other)),
-            None => None,
-        },
+        None => seen_line(seen, setting.source, token, line),
     }
 }
 
@@ -67,6 +64,54 @@ fn check_label(
     }
 }
 
+// The lesser of two lines.
+fn lesser_line(first: Option<u64>, second: Option<u64>) -> Option<u64> {
+    match (first, second) {
+        (Some(one), Some(other)) => Some(one.min(other)),
+        (Some(one), None) => Some(one),
+        (None, line) => line,
+    }
+}
+
+// The least line at which one of the labels of a line is there twice. All are taken up.
+fn least_line(
+    setting: &Setting,
+    seen: &mut NameTable<u64>,
+    labels: &[Token],
+    line: u64,
+) -> Result<Option<u64>, AllocError>
+    requires { All (LiesIn setting.now.source.now) labels.now }
+{
+    let mut least = None;
+    for token in labels {
+        least = lesser_line(least, known_line(setting, token, line));
+        least = lesser_line(least, seen_line(seen, setting.source, token, line));
+        let name = name_of(setting.alloc, setting.source, token)?;
+        seen.insert(name, line)?;
+    }
+    Ok(least)
+}
+
+// The fault of the labels of a line at its least line, where one is found at the first of these; want of memory stays what it is.
+fn least_of_labels(
+    setting: &Setting,
+    seen: &mut NameTable<u64>,
+    found: ExpandFault,
+    labels: &[Token],
+    line: u64,
+) -> Result<ExpandFault, AllocError>
+    requires { All (LiesIn setting.now.source.now) labels.now }
+    ensures { IfOk result (λ f. found.kind ≡ OutOfMemory → f.kind ≡ OutOfMemory) }
+{
+    if found.kind == ExpandKind::OutOfMemory {
+        return Ok(found);
+    }
+    match least_line(setting, seen, labels, line)? {
+        Some(least) => Ok(fault(least, ExpandKind::DuplicateName)),
+        None => Ok(found),
+    }
+}
+
 // Takes up the labels of a line.
 fn check_line(setting: &Setting, seen: &mut NameTable<u64>, line: &Line) -> Result<(), ExpandFault>
     requires { LineLies setting.now.source.now line.now }
@@ -74,7 +119,10 @@ fn check_line(setting: &Setting, seen: &mut NameTable<u64>, line: &Line) -> Resu
 {
     let mut rest = line.labels.as_slice();
     while let Some((token, after)) = rest.split_first() {
-        check_label(setting, seen, token, line.number)?;
+        match check_label(setting, seen, token, line.number) {
+            Ok(()) => {}
+            Err(found) => return Err(least_of_labels(setting, seen, found, rest, line.number)?),
+        }
         rest = after;
     }
     Ok(())
@@ -101,13 +149,10 @@ fn label_fault(
     requires { HeadLies setting.now.source.now head.now }
 {
     let (labels, _) = split_labels(setting.alloc, setting.source, head.labels.as_slice())?;
-    for token in labels.as_slice() {
-        match check_label(setting, seen, token, head.number) {
-            Ok(()) => {}
-            Err(found) => return Ok(Some(found)),
-        }
+    match least_line(setting, seen, labels.as_slice(), head.number)? {
+        Some(least) => Ok(Some(fault(least, ExpandKind::DuplicateName))),
+        None => Ok(None),
     }
-    Ok(None)
 }
 
 // Whether the first fault comes before the second: at an earlier line, or as a name that is taken on the same one.

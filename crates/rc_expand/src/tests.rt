@@ -171,7 +171,10 @@ fn names_are_joined_and_replaced(rt: HostRuntime) -> Result<(), Fail> {
 }
 
 // Texts, and the line and kind of their fault.
-const FAULTS: [(&[u8], u64, ExpandKind); 36] = [
+const FAULTS: [(&[u8], u64, ExpandKind); 39] = [
+    (b"a a\na EQU", 1, ExpandKind::DuplicateName),
+    (b"a\na\na EQU", 2, ExpandKind::DuplicateName),
+    (b"b a\na\na EQU\nb EQU", 2, ExpandKind::DuplicateName),
     (
         b"DAT 4294967296",
         1,
