@@ -3,3 +3,5 @@ pub mod Parts
 pub mod Steps
 pub mod Whole
 pub mod Computed
+pub mod PrintedLine
+pub mod PrintedLines

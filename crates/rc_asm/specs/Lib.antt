@@ -10,4 +10,5 @@ pub mod Assembly
 pub mod Faults
 pub mod Seen
 pub mod Steps
+pub mod Printed
 pub mod Examples

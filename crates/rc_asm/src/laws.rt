@@ -1,9 +1,11 @@
 //! Laws of the definitions.
-ghost use Rattle.std.specs.Prelude.{◌≡◌, ◌↔◌, List, ℕ, Some};
+ghost use Rattle.std.specs.Prelude.{◌≡◌, ◌≤◌, ◌↔◌, List, ℕ, Some};
 ghost use Rattle.rc_instr.specs.Rules.{Limits};
-ghost use Rattle.rc_instr.specs.Warrior.{Program};
+ghost use Rattle.rc_instr.specs.Warrior.{Program, IsProgram, Fits};
 ghost use Rattle.rc_expand.specs.Names.{Table};
-ghost use Rattle.rc_asm.specs.Assembly.{Assembles, assembled};
+ghost use Rattle.rc_asm.specs.Names.{Names};
+ghost use Rattle.rc_asm.specs.Assembly.{IsMadeOf, Assembles, assembled};
+ghost use Rattle.rc_asm.specs.Printed.{Printed, IsPrint, printed_lines};
 
 /// A text assembles to at most one warrior.
 pub fn one_warrior()
@@ -13,4 +15,10 @@ pub fn one_warrior()
 /// The warrior to which a text assembles is the computed one.
 pub fn assembly_is_computed()
     ensures { (source : List ℕ) (constants : Table) (rules : Limits) (w : Program) → Assembles source constants rules w ↔ (assembled source constants rules ≡ Some w) }
+{}
+
+/// The lines of a load file make its warrior.
+pub fn printed_lines_make_their_warrior()
+    ensures { (source : List ℕ) (names : Names) (w : Program) (p : Printed) → names.limits.core ≤ 65535 → IsProgram w → Fits names.limits w →
+        IsPrint source names.limits.core w p → IsMadeOf source names (printed_lines p) w }
 {}
