@@ -5,3 +5,7 @@ pub mod Whole
 pub mod Computed
 pub mod PrintedLine
 pub mod PrintedLines
+pub mod PieceTokens
+pub mod RowTokens
+pub mod NoHeader
+pub mod FileTokens
