@@ -3,9 +3,4 @@ pub mod Parts
 pub mod Steps
 pub mod Whole
 pub mod Computed
-pub mod PrintedLine
-pub mod PrintedLines
-pub mod PieceTokens
-pub mod RowTokens
-pub mod NoHeader
-pub mod FileTokens
+pub mod LoadFile

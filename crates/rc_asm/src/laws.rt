@@ -1,13 +1,10 @@
 //! Laws of the definitions.
-ghost use Rattle.std.specs.Prelude.{◌≡◌, ◌≤◌, ◌<◌, ◌^◌, ◌↔◌, List, ℕ, Some, All};
-ghost use Rattle.rc_instr.specs.Rules.{Limits};
-ghost use Rattle.rc_instr.specs.Warrior.{Program, IsProgram, IsBelow, Fits};
+ghost use Rattle.std.specs.Prelude.{◌≡◌, ◌↔◌, List, [], ℕ, Some};
+ghost use Rattle.rc_instr.specs.Rules.{Limits, IsRules};
+ghost use Rattle.rc_instr.specs.Warrior.{Program, IsProgram, Fits};
 ghost use Rattle.rc_instr.specs.LoadText.{load_text};
-ghost use Rattle.rc_text.specs.Tokens.{tokens_of};
 ghost use Rattle.rc_expand.specs.Names.{Table};
-ghost use Rattle.rc_asm.specs.Names.{Names};
-ghost use Rattle.rc_asm.specs.Assembly.{IsMadeOf, Assembles, assembled};
-ghost use Rattle.rc_asm.specs.Printed.{Printed, IsPrint, printed_tokens, printed_lines};
+ghost use Rattle.rc_asm.specs.Assembly.{Assembles, assembled};
 
 /// A text assembles to at most one warrior.
 pub fn one_warrior()
@@ -19,14 +16,7 @@ pub fn assembly_is_computed()
     ensures { (source : List ℕ) (constants : Table) (rules : Limits) (w : Program) → Assembles source constants rules w ↔ (assembled source constants rules ≡ Some w) }
 {}
 
-/// The lines of a load file make its warrior.
-pub fn printed_lines_make_their_warrior()
-    ensures { (source : List ℕ) (names : Names) (w : Program) (p : Printed) → names.limits.core ≤ 65535 → IsProgram w → Fits names.limits w →
-        IsPrint source names.limits.core w p → IsMadeOf source names (printed_lines p) w }
-{}
-
-/// The tokens of a load text print its warrior.
-pub fn a_load_text_has_these_tokens()
-    ensures { (m : ℕ) (w : Program) → w.start < 2 ^ 16 → All (IsBelow m) w.code → m ≤ 65535 →
-        (p : Printed) × IsPrint (load_text m w) m w p × (tokens_of (load_text m w) ≡ printed_tokens p) }
+/// The load file of a warrior that keeps the rules, taken as a Redcode text without constants, assembles to that warrior.
+pub fn a_load_file_assembles_to_its_warrior()
+    ensures { (rules : Limits) (w : Program) → IsRules rules → IsProgram w → Fits rules w → Assembles (load_text rules.core w) [] rules w }
 {}

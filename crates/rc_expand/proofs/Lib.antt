@@ -16,3 +16,5 @@ pub mod LineSteps
 pub mod Labelled
 pub mod TableFound
 pub mod TablePlaces
+pub mod PlainHeads
+pub mod PlainLines

@@ -1,18 +1,18 @@
 -- The tokens of a printed instruction spell it.
-use Rattle.std.proofs.Common.{◌≡◌, ℕ, suc, ◌+◌, ◌^◌, ◌<◌, ◌≤◌, Bool, true, false, List, [], ◌∷◌, ◌++◌, Some, None, refl, ◌∙◌, ap, arith}
-use Rattle.std.specs.Prelude.{ℤ, pos, negsuc, ◌%◌, ◌&&◌, Option, Ok, if◌then◌else◌}
+use Rattle.std.proofs.Common.{◌≡◌, ℕ, suc, ◌+◌, ◌^◌, ◌<◌, ◌≤◌, true, false, List, [], ◌∷◌, ◌++◌, Some, None, refl, ◌∙◌, ap, arith}
+use Rattle.std.specs.Prelude.{ℤ, pos, negsuc, ◌%◌, ◌&&◌, Ok, if◌then◌else◌}
 use Rattle.std.specs.Option.{ok_or}
 use Rattle.std.specs.Int.{int_rem_euclid}
 use Rattle.std.proofs.lemmas.Int.{int_rem_euclid_is, ints}
 use Rattle.std.proofs.Math.Nat.{mod-eq_of_lt}
 use Rattle.std.proofs.lemmas.Bool.{lt-ltb}
-use Rattle.rc_text.specs.declared.token.Sign.TheVariants.{Dot, Comma, Minus}
-use Rattle.rc_text.specs.declared.token.Kind.TheVariants.{Name, Sign as SignOf}
+use Rattle.rc_text.specs.declared.token.Sign.TheVariants.{Minus}
+use Rattle.rc_text.specs.declared.token.Kind.TheVariants.{Sign as SignOf}
 use Rattle.rc_text.specs.declared.token.Token.{Token}
 use Rattle.rc_text.specs.Values.{Meaning}
 use Rattle.rc_text.specs.Reading.{evaluation_of, before_operand, after_operand}
 use Rattle.rc_text.specs.Symbols.{Symbol, Numeral, Mark, symbol_of_kind, name_of, symbols_of}
-use Rattle.rc_expand.specs.Lines.{is_name, is_name_kind, is_dot, is_dot_kind, is_unjoined, bytes_of}
+use Rattle.rc_expand.specs.Lines.{is_name_kind, is_dot, is_dot_kind, is_unjoined, bytes_of}
 use Rattle.rc_instr.specs.LoadText.{opcode_text, modifier_text}
 use Rattle.rc_instr.specs.declared.instruction.Opcode.{Opcode}
 use Rattle.rc_instr.specs.declared.instruction.Opcode.TheVariants as op
@@ -21,7 +21,7 @@ use Rattle.rc_instr.specs.declared.instruction.Modifier.TheVariants as mod'
 use Rattle.rc_instr.specs.declared.instruction.Mode.{Mode}
 use Rattle.rc_instr.specs.declared.instruction.Mode.TheVariants as mode
 use Rattle.rc_instr.specs.declared.instruction.Instruction.{Instruction}
-use Rattle.rc_asm.specs.declared.fault.AsmKind.TheVariants.{UnknownOpcode, MissingOperand, Value}
+use Rattle.rc_asm.specs.declared.fault.AsmKind.TheVariants.{UnknownOpcode, Value}
 use Rattle.rc_asm.specs.declared.operand.Operand.{Operand}
 use Rattle.rc_asm.specs.Results.{mapped, and_then, with_fault}
 use Rattle.rc_asm.specs.Words.{named, opcodes, modifiers, is_plain, opcode_at, modifier_at, mode_of, mode_of_kind, mode_at, is_comma, is_comma_kind}

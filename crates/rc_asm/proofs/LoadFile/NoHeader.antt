@@ -21,8 +21,8 @@ use Rattle.rc_instr.specs.declared.instruction.Mode.TheVariants as mode
 use Rattle.rc_instr.specs.declared.instruction.Instruction.{Instruction}
 use Rattle.rc_instr.proofs.Decimal.{decimal_all}
 use Rattle.rc_instr.proofs.Same.{both}
-use Rattle.rc_asm.proofs.PieceTokens.{digit_bounds}
-use Rattle.rc_asm.proofs.RowTokens.{parts_of_line}
+use Rattle.rc_asm.proofs.LoadFile.Pieces.{digit_bounds}
+use Rattle.rc_asm.proofs.LoadFile.Rows.{parts_of_line}
 
 -- the first line is its parts
 pub parts_of_start : (n : ℕ) (rest : List ℕ) → start_text n ++ rest ≡ codes "ORG" ++ (32 ∷ (decimal n ++ (10 ∷ rest)))

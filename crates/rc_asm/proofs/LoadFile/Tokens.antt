@@ -10,9 +10,9 @@ use Rattle.rc_instr.specs.Warrior.{IsBelow, Program}
 use Rattle.rc_instr.specs.declared.instruction.Instruction.{Instruction}
 use Rattle.rc_instr.proofs.Decimal.{decimal_some}
 use Rattle.rc_asm.specs.Printed.{Row, Opening, Printed, ArePrinted, IsStart, IsPrint, row_tokens, rows_tokens, printed_tokens}
-use Rattle.rc_asm.proofs.PieceTokens.{front, number_word}
-use Rattle.rc_asm.proofs.RowTokens.{onto, IsAt, further, word_there, row_scan}
-use Rattle.rc_asm.proofs.NoHeader.{parts_of_start, tokens_of_load}
+use Rattle.rc_asm.proofs.LoadFile.Pieces.{front, number_word}
+use Rattle.rc_asm.proofs.LoadFile.Rows.{onto, IsAt, further, word_there, row_scan}
+use Rattle.rc_asm.proofs.LoadFile.NoHeader.{parts_of_start, tokens_of_load}
 
 -- the tokens of the first line, and where they end
 record StartScan (source : List ℕ) (n : ℕ) (rest : List ℕ) (at line : ℕ) : Type 0 where

@@ -1,6 +1,6 @@
 -- The lines of a load file make its warrior.
 use Rattle.std.proofs.Common.{◌≡◌, ℕ, suc, ◌+◌, ◌≤◌, true, List, [], ◌∷◌, Some, None, refl, ◌∙◌, ap, arith}
-use Rattle.std.specs.Prelude.{pos, All, option_and_then, option_map, ◌&&◌, Ok}
+use Rattle.std.specs.Prelude.{pos, All, option_and_then, option_map, Ok}
 use Rattle.rc_text.specs.Symbols.{name_of, symbol_of_kind}
 use Rattle.rc_text.specs.Reading.{evaluation_of}
 use Rattle.rc_instr.specs.declared.instruction.Instruction.{Instruction}
@@ -9,8 +9,8 @@ use Rattle.rc_expand.specs.declared.line.LineWord.TheVariants.{Code, Org}
 use Rattle.rc_asm.specs.declared.starts.Starts.{Starts}
 use Rattle.rc_asm.specs.Names.{Names, stands_for, value_at}
 use Rattle.rc_asm.specs.Assembly.{next_instruction, starts_after, no_starts, start_of, instructions_from, holds_from, starts_from, IsMadeOf}
-use Rattle.rc_asm.specs.Printed.{Row, Opening, Printed, ArePrinted, IsStart, IsPrint, start_line, code_lines, printed_lines}
-use Rattle.rc_asm.proofs.PrintedLine.{instruction_there, plain_value}
+use Rattle.rc_asm.specs.Printed.{Row, Opening, Printed, ArePrinted, IsStart, IsPrint, code_lines, printed_lines}
+use Rattle.rc_asm.proofs.LoadFile.Instructions.{instruction_there, plain_value}
 
 module _ (source : List ℕ) (names : Names) where
   -- the rows' lines are the instructions

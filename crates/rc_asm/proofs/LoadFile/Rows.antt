@@ -23,7 +23,7 @@ use Rattle.rc_instr.specs.declared.instruction.Instruction.{Instruction}
 use Rattle.rc_instr.proofs.Decimal.{decimal_some, decimal_all}
 use Rattle.rc_instr.proofs.Same.{both}
 use Rattle.rc_asm.specs.Printed.{mode_sign, IsWord, AreNumber, Plain, Below, Row, row_tokens, IsPrinted}
-use Rattle.rc_asm.proofs.PieceTokens.{front, number_word, digit_bounds}
+use Rattle.rc_asm.proofs.LoadFile.Pieces.{front, number_word, digit_bounds}
 
 -- tokens before others
 abbrev pub onto : List Token → TokenList → TokenList
@@ -89,7 +89,8 @@ number_scan m k rest at line l s h =
     (λ e. subst (λ t. NumberScan m k t rest at line) (sym (ap (λ b. if b then decimal k else codes "-" ++ decimal (m - k)) e)) (below_scan m k (m - k) rest at line (omega arith) (omega arith) (omega arith) h))
     (cases_Bool (nat_le (2 * k) m))
 
-mode_len : (m : Mode) → length (mode_text m) ≡ 1
+-- a mode is one sign
+pub mode_len : (m : Mode) → length (mode_text m) ≡ 1
 mode_len mode.Immediate = refl
 mode_len mode.Direct = refl
 mode_len mode.AIndirect = refl
@@ -161,26 +162,27 @@ modifier_word mod'.F first rest = refl
 modifier_word mod'.X first rest = refl
 modifier_word mod'.I first rest = refl
 
+-- an opcode has three letters
+pub opcode_length : (o : Opcode) → length (opcode_text o) ≡ 3
+opcode_length op.Dat = refl
+opcode_length op.Mov = refl
+opcode_length op.Add = refl
+opcode_length op.Sub = refl
+opcode_length op.Mul = refl
+opcode_length op.Div = refl
+opcode_length op.Mod = refl
+opcode_length op.Jmp = refl
+opcode_length op.Jmz = refl
+opcode_length op.Jmn = refl
+opcode_length op.Djn = refl
+opcode_length op.Seq = refl
+opcode_length op.Sne = refl
+opcode_length op.Slt = refl
+opcode_length op.Spl = refl
+opcode_length op.Nop = refl
+
 opcode_some : (o : Opcode) → 0 < length (opcode_text o)
-opcode_some o = omega (arith, three o)
-  where
-    three : (o : Opcode) → length (opcode_text o) ≡ 3
-    three op.Dat = refl
-    three op.Mov = refl
-    three op.Add = refl
-    three op.Sub = refl
-    three op.Mul = refl
-    three op.Div = refl
-    three op.Mod = refl
-    three op.Jmp = refl
-    three op.Jmz = refl
-    three op.Jmn = refl
-    three op.Djn = refl
-    three op.Seq = refl
-    three op.Sne = refl
-    three op.Slt = refl
-    three op.Spl = refl
-    three op.Nop = refl
+opcode_some o = omega (arith, opcode_length o)
 
 modifier_some : (f : Modifier) → 0 < length (modifier_text f)
 modifier_some mod'.A = omega arith

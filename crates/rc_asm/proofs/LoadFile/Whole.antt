@@ -1,0 +1,26 @@
+-- A load text assembles to its warrior.
+use Rattle.std.proofs.Common.{◌^◌, ◌<◌, ◌≤◌, [], length, arith}
+use Rattle.rc_instr.specs.Rules.{Limits, IsRules}
+use Rattle.rc_instr.specs.Warrior.{Program, IsProgram, Fits}
+use Rattle.rc_instr.specs.LoadText.{load_text}
+use Rattle.rc_asm.specs.Assembly.{Assembles, names_of}
+use Rattle.rc_asm.specs.Printed.{printed_lines}
+use Rattle.rc_asm.proofs.LoadFile.Tokens.{load_tokens}
+use Rattle.rc_asm.proofs.LoadFile.Expansion.{print_expands}
+use Rattle.rc_asm.proofs.LoadFile.Lines.{made_of_printed}
+use Rattle.rc_asm.proofs.LoadFile.Length.{load_short}
+
+pub load_assembles : (rules : Limits) (w : Program) → IsRules rules → IsProgram w → Fits rules w → Assembles (load_text rules.core w) [] rules w
+load_assembles rules w r g f =
+    let text = load_text rules.core w in
+    let m : rules.core ≤ 65535 = r.core.1 in
+    let n : length w.code ≤ 200 = g.short in
+    let l : w.start < 2 ^ 16 = omega (arith, g.inside, n) in
+    let t = load_tokens rules.core w l f.numbers m in
+    let ls = printed_lines t.0 in
+    record {
+      short = load_short rules.core w l f.numbers m n;
+      lines = ls;
+      expands = print_expands text rules rules.core w t.0 t.1 n t.2;
+      made = made_of_printed text (names_of text [] rules ls) w t.0 m g f t.1;
+    }

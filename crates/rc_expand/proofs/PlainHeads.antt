@@ -1,0 +1,218 @@
+-- Texts of plain lines: each begins with an opcode word or with ORG. Their heads, from their tokens.
+use Rattle.std.proofs.Common.{◌≡◌, ℕ, suc, ◌<◌, true, false, List, [], ◌∷◌, ◌++◌, length, Some, None, refl, sym, ◌∙◌, ap, append_assoc}
+use Rattle.std.specs.Prelude.{◌&&◌, not, Option, option_map, option_and_then, if◌then◌else◌, codes}
+use Rattle.std.proofs.lemmas.List.{append-nil}
+use Rattle.rc_text.specs.declared.token.Kind.TheVariants.{Name}
+use Rattle.rc_text.specs.declared.token.Token.{Token}
+use Rattle.rc_text.specs.declared.fault.LexFault.{LexFault}
+use Rattle.rc_text.specs.NameClasses.{class_of}
+use Rattle.rc_text.specs.Tokens.{tokens_of}
+use Rattle.rc_instr.specs.Rules.{Limits}
+use Rattle.rc_instr.specs.LoadText.{opcode_text}
+use Rattle.rc_instr.specs.declared.instruction.Opcode.{Opcode}
+use Rattle.rc_instr.specs.declared.instruction.Opcode.TheVariants as op
+use Rattle.rc_expand.specs.declared.head.Head.{Head}
+use Rattle.rc_expand.specs.declared.head.HeadWord.TheVariants as word
+use Rattle.rc_expand.specs.declared.line.Line.{Line}
+use Rattle.rc_expand.specs.declared.line.LineWord.TheVariants as line
+use Rattle.rc_expand.specs.Lines.{is_name_kind, is_line_end_kind, is_reserved_class, is_unjoined, bytes_of, is_free, word_of_name, word_of_kind, unlabelled, labelled, with_word, headed, head_of, line_of_tokens, line_then, lines_from, lines_read}
+use Rattle.rc_expand.specs.Heads.{nests, equ_lines, named_once, equ_of_line, equs_of, with_equs, heads_of}
+use Rattle.rc_expand.specs.Unroll.{all_of}
+
+-- ---- plain lines
+
+-- what a plain line begins with
+pub data PlainWord : Type 0 where
+  AnOpcode : Opcode → PlainWord
+  AStart : PlainWord
+
+abbrev pub text_of : PlainWord → List ℕ
+text_of (AnOpcode o) = opcode_text o
+text_of AStart = codes "ORG"
+
+-- the tokens of a plain line: the first, the others and its end
+pub record PlainLine : Type 0 where
+  pub word : PlainWord
+  pub first : Token
+  pub others : List Token
+  pub end : Token
+
+-- no line ends among them
+abbrev pub HaveNoEnd : List Token → Type 0
+HaveNoEnd [] = Unit {0}
+HaveNoEnd (t ∷ ts) = (is_line_end_kind t.kind ≡ false) × HaveNoEnd ts
+
+-- the first token is the line's word
+pub record IsPlain (source : List ℕ) (p : PlainLine) : Type 0 where
+  pub kind : p.first.kind ≡ Name
+  pub joined : p.first.joined ≡ []
+  pub bytes : bytes_of source p.first ≡ text_of p.word
+  pub others : HaveNoEnd p.others
+  pub end : is_line_end_kind p.end.kind ≡ true
+  pub short : length p.others < 4096
+
+abbrev pub ArePlain : List ℕ → List PlainLine → Type 0
+ArePlain source [] = Unit {0}
+ArePlain source (p ∷ ps) = IsPlain source p × ArePlain source ps
+
+-- their tokens
+abbrev pub plain_tokens : List PlainLine → List Token
+plain_tokens [] = []
+plain_tokens (p ∷ ps) = (p.first ∷ p.others) ++ (p.end ∷ plain_tokens ps)
+
+abbrev pub head_by : PlainWord → Token → List Token → Head
+head_by (AnOpcode o) t ts = record { number = t.line; labels = []; word = word.Code; directive = None; rest = t ∷ ts; spoiled = false }
+head_by AStart t ts = record { number = t.line; labels = []; word = word.Org; directive = Some t; rest = ts; spoiled = false }
+
+-- their heads
+abbrev pub plain_head : PlainLine → Head
+plain_head p = head_by p.word p.first p.others
+
+abbrev pub plain_heads : List PlainLine → List Head
+plain_heads [] = []
+plain_heads (p ∷ ps) = plain_head p ∷ plain_heads ps
+
+abbrev pub line_by : PlainWord → Token → List Token → Line
+line_by (AnOpcode o) t ts = record { number = t.line; labels = []; word = line.Code; tokens = t ∷ ts }
+line_by AStart t ts = record { number = t.line; labels = []; word = line.Org; tokens = ts }
+
+-- the lines that they stand for
+abbrev pub plain_line : PlainLine → Line
+plain_line p = line_by p.word p.first p.others
+
+abbrev pub plain_lines : List PlainLine → List Line
+plain_lines [] = []
+plain_lines (p ∷ ps) = plain_line p ∷ plain_lines ps
+
+-- ---- the head of one
+
+-- an opcode word and ORG are reserved
+text_reserved : (w : PlainWord) → is_reserved_class (class_of (text_of w)) ≡ true
+text_reserved (AnOpcode op.Dat) = refl
+text_reserved (AnOpcode op.Mov) = refl
+text_reserved (AnOpcode op.Add) = refl
+text_reserved (AnOpcode op.Sub) = refl
+text_reserved (AnOpcode op.Mul) = refl
+text_reserved (AnOpcode op.Div) = refl
+text_reserved (AnOpcode op.Mod) = refl
+text_reserved (AnOpcode op.Jmp) = refl
+text_reserved (AnOpcode op.Jmz) = refl
+text_reserved (AnOpcode op.Jmn) = refl
+text_reserved (AnOpcode op.Djn) = refl
+text_reserved (AnOpcode op.Seq) = refl
+text_reserved (AnOpcode op.Sne) = refl
+text_reserved (AnOpcode op.Slt) = refl
+text_reserved (AnOpcode op.Spl) = refl
+text_reserved (AnOpcode op.Nop) = refl
+text_reserved AStart = refl
+
+-- an opcode word is no directive
+opcode_word : (o : Opcode) → word_of_name (opcode_text o) ≡ word.Code
+unfolding word_of_name
+opcode_word op.Dat = refl
+opcode_word op.Mov = refl
+opcode_word op.Add = refl
+opcode_word op.Sub = refl
+opcode_word op.Mul = refl
+opcode_word op.Div = refl
+opcode_word op.Mod = refl
+opcode_word op.Jmp = refl
+opcode_word op.Jmz = refl
+opcode_word op.Jmn = refl
+opcode_word op.Djn = refl
+opcode_word op.Seq = refl
+opcode_word op.Sne = refl
+opcode_word op.Slt = refl
+opcode_word op.Spl = refl
+opcode_word op.Nop = refl
+
+-- a line's head by its word
+head_is : (w : PlainWord) (t : Token) (ts : List Token) → with_word (word_of_name (text_of w)) t.line [] t ts ≡ head_by w t ts
+unfolding word_of_name
+head_is (AnOpcode o) t ts = ap (λ w. with_word w t.line [] t ts) (opcode_word o)
+head_is AStart t ts = refl
+
+module _ (source : List ℕ) where
+  -- the word of a plain line is no label
+  not_free : (p : PlainLine) → IsPlain source p → is_free source p.first ≡ false
+  unfolding is_free
+  not_free p h = (λ x. is_name_kind (h.kind x) && not (is_unjoined (h.joined x) && is_reserved_class (class_of (h.bytes x)))) ∙ ap not (text_reserved p.word)
+
+  -- and so no label stands before it
+  no_label : (t : Token) (ts : List Token) → is_free source t ≡ false → labelled source (t ∷ ts) ≡ unlabelled (t ∷ ts)
+  no_label t [] f = rw f refl
+  no_label t (u ∷ []) f = rw f refl
+  no_label t (u ∷ v ∷ ts) f = rw f refl
+
+  head_there : (p : PlainLine) → IsPlain source p → head_of source p.first.line (p.first ∷ p.others) ≡ plain_head p
+  unfolding head_of
+  head_there p h =
+      ap (λ l. headed source p.first.line l.labels l.after) (no_label p.first p.others (not_free p h))
+      ∙ (λ x. with_word (word_of_kind (h.kind x) (h.bytes x)) p.first.line [] p.first p.others)
+      ∙ head_is p.word p.first p.others
+
+  -- ---- the heads of all
+
+  -- the tokens up to a line's end are its line
+  line_there : (ending : Option LexFault) (front ts : List Token) (e : Token) (others : List Token) → HaveNoEnd ts → is_line_end_kind e.kind ≡ true
+      → lines_from source ending front (ts ++ (e ∷ others)) ≡ line_then (line_of_tokens source (front ++ ts)) (lines_from source ending [] others)
+  line_there ending front [] e others h k = rw k (ap (λ f. line_then (line_of_tokens source f) (lines_from source ending [] others)) (sym (append-nil front)))
+  line_there ending front (t ∷ ts) e others h k =
+      rw h.0 (line_there ending (front ++ (t ∷ [])) ts e others h.1 k ∙ ap (λ f. line_then (line_of_tokens source f) (lines_from source ending [] others)) (append_assoc front (t ∷ []) ts))
+
+  first_no_end : (p : PlainLine) → IsPlain source p → is_line_end_kind p.first.kind ≡ false
+  first_no_end p h = ap is_line_end_kind h.kind
+
+  -- no line is the last by END
+  then_more : (p : PlainLine) (later : Option (List Head)) → line_then (plain_head p ∷ []) later ≡ option_map (λ hs. plain_head p ∷ hs) later
+  then_more p later = by_word p.word where
+    by_word : (w : PlainWord) → line_then (head_by w p.first p.others ∷ []) later ≡ option_map (λ hs. head_by w p.first p.others ∷ hs) later
+    by_word (AnOpcode o) = refl
+    by_word AStart = refl
+
+  heads_from : (ps : List PlainLine) → ArePlain source ps → lines_from source None [] (plain_tokens ps) ≡ Some (plain_heads ps)
+  heads_from [] a = refl
+  heads_from (p ∷ ps) a =
+      line_there None [] (p.first ∷ p.others) p.end (plain_tokens ps) (first_no_end p a.0, a.0.others) a.0.end
+      ∙ ap (λ h. line_then (h ∷ []) (lines_from source None [] (plain_tokens ps))) (head_there p a.0)
+      ∙ then_more p (lines_from source None [] (plain_tokens ps))
+      ∙ ap (option_map (λ hs. plain_head p ∷ hs)) (heads_from ps a.1)
+
+  lines_there : (ps : List PlainLine) → ArePlain source ps → lines_read source (record { tokens = plain_tokens ps; ending = None }) ≡ Some (plain_heads ps)
+  unfolding lines_read
+  lines_there ps a = heads_from ps a
+
+  -- ---- no FOR, ROF or EQU is among them
+
+  plain_nests : (ps : List PlainLine) → nests 0 (plain_heads ps) ≡ true
+  plain_nests [] = refl
+  plain_nests (p ∷ ps) = by_word p.word (plain_nests ps) where
+    by_word : (w : PlainWord) → nests 0 (plain_heads ps) ≡ true → nests 0 (head_by w p.first p.others ∷ plain_heads ps) ≡ true
+    by_word (AnOpcode o) h = h
+    by_word AStart h = h
+
+  plain_equs : (ps : List PlainLine) → equ_lines 0 (plain_heads ps) ≡ []
+  plain_equs [] = refl
+  plain_equs (p ∷ ps) = by_word p.word (plain_equs ps) where
+    by_word : (w : PlainWord) → equ_lines 0 (plain_heads ps) ≡ [] → equ_lines 0 (head_by w p.first p.others ∷ plain_heads ps) ≡ []
+    by_word (AnOpcode o) h = h
+    by_word AStart h = h
+
+  module _ (limits : Limits) where
+    no_equs : (ps : List PlainLine) → equs_of source [] limits (plain_heads ps) ≡ Some []
+    unfolding equs_of
+    no_equs ps = ap (λ hs. option_and_then (named_once [] limits) (all_of (equ_of_line source) hs)) (plain_equs ps)
+
+    -- the first part of the expansion
+    pub heads_there : (ps : List PlainLine) → ArePlain source ps → tokens_of source ≡ record { tokens = plain_tokens ps; ending = None }
+        → heads_of source [] limits ≡ Some (record { lines = plain_heads ps; equs = [] })
+    unfolding heads_of
+    heads_there ps a e =
+        ap (λ l. option_and_then (with_equs source [] limits) (lines_read source l)) e
+        ∙ ap (option_and_then (with_equs source [] limits)) (lines_there ps a)
+        ∙ ap (λ b. if b then option_map (λ equs. record { lines = plain_heads ps; equs = equs }) (equs_of source [] limits (plain_heads ps)) else None) (plain_nests ps)
+        ∙ ap (option_map (λ equs. record { lines = plain_heads ps; equs = equs })) (no_equs ps)
+
+pub heads_length : (ps : List PlainLine) → length (plain_heads ps) ≡ length ps
+heads_length [] = refl
+heads_length (p ∷ ps) = ap suc (heads_length ps)
