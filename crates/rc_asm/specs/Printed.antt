@@ -1,4 +1,4 @@
--- The tokens of a load file's lines. Laws speak of this.
+-- The tokens of a load file's lines, and the lines of an expansion that they make. The proof that a load file assembles to its warrior speaks of this.
 use Rattle.std.specs.Prelude.{◌≡◌, ℕ, suc, ◌+◌, List, [], ◌∷◌, ◌++◌, codes, None}
 use Rattle.rc_text.specs.declared.token.Sign.{Sign}
 use Rattle.rc_text.specs.declared.token.Sign.TheVariants.{Dot, Comma, Hash, Dollar, Star, At, OpenBrace, CloseBrace, Less, Greater, Minus}
@@ -48,9 +48,11 @@ pub record Row : Type 0 where
   pub b_number : List Token
   pub end : Token
 
+-- those of the A-operand
 abbrev pub a_tokens : Row → List Token
 a_tokens r = r.a_sign ∷ r.a_number
 
+-- those of the B-operand
 abbrev pub b_tokens : Row → List Token
 b_tokens r = r.b_sign ∷ r.b_number
 
@@ -112,12 +114,15 @@ printed_tokens p = record { tokens = p.opening.word ∷ p.opening.number ∷ p.o
 abbrev pub start_line : Opening → Line
 start_line o = record { number = o.word.line; labels = []; word = Org; tokens = o.number ∷ [] }
 
+-- an instruction's
 abbrev pub code_line : Row → Line
 code_line r = record { number = r.opcode.line; labels = []; word = Code; tokens = row_tokens r }
 
+-- those of the code
 abbrev pub code_lines : List Row → List Line
 code_lines [] = []
 code_lines (r ∷ rs) = code_line r ∷ code_lines rs
 
+-- all of them
 abbrev pub printed_lines : Printed → List Line
 printed_lines p = start_line p.opening ∷ code_lines p.rows

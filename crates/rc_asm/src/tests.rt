@@ -1,6 +1,7 @@
 //! Texts, and the warriors to which they assemble or the faults that they have.
 mod faults;
 mod limits;
+mod printed;
 mod warriors;
 
 ghost use Rattle.rc_instr.specs.Rules.{IsRules};

@@ -26,6 +26,7 @@ pub data PlainWord : Type 0 where
   AnOpcode : Opcode → PlainWord
   AStart : PlainWord
 
+-- the text of the word
 abbrev pub text_of : PlainWord → List ℕ
 text_of (AnOpcode o) = opcode_text o
 text_of AStart = codes "ORG"
@@ -51,6 +52,7 @@ pub record IsPlain (source : List ℕ) (p : PlainLine) : Type 0 where
   pub end : is_line_end_kind p.end.kind ≡ true
   pub short : length p.others < 4096
 
+-- each of the lines is plain
 abbrev pub ArePlain : List ℕ → List PlainLine → Type 0
 ArePlain source [] = Unit {0}
 ArePlain source (p ∷ ps) = IsPlain source p × ArePlain source ps
@@ -60,6 +62,7 @@ abbrev pub plain_tokens : List PlainLine → List Token
 plain_tokens [] = []
 plain_tokens (p ∷ ps) = (p.first ∷ p.others) ++ (p.end ∷ plain_tokens ps)
 
+-- the head of a line by its word
 abbrev pub head_by : PlainWord → Token → List Token → Head
 head_by (AnOpcode o) t ts = record { number = t.line; labels = []; word = word.Code; directive = None; rest = t ∷ ts; spoiled = false }
 head_by AStart t ts = record { number = t.line; labels = []; word = word.Org; directive = Some t; rest = ts; spoiled = false }
@@ -68,10 +71,12 @@ head_by AStart t ts = record { number = t.line; labels = []; word = word.Org; di
 abbrev pub plain_head : PlainLine → Head
 plain_head p = head_by p.word p.first p.others
 
+-- those of all
 abbrev pub plain_heads : List PlainLine → List Head
 plain_heads [] = []
 plain_heads (p ∷ ps) = plain_head p ∷ plain_heads ps
 
+-- a line by its word
 abbrev pub line_by : PlainWord → Token → List Token → Line
 line_by (AnOpcode o) t ts = record { number = t.line; labels = []; word = line.Code; tokens = t ∷ ts }
 line_by AStart t ts = record { number = t.line; labels = []; word = line.Org; tokens = ts }
@@ -80,6 +85,7 @@ line_by AStart t ts = record { number = t.line; labels = []; word = line.Org; to
 abbrev pub plain_line : PlainLine → Line
 plain_line p = line_by p.word p.first p.others
 
+-- those of all
 abbrev pub plain_lines : List PlainLine → List Line
 plain_lines [] = []
 plain_lines (p ∷ ps) = plain_line p ∷ plain_lines ps
@@ -144,6 +150,7 @@ module _ (source : List ℕ) where
   no_label t (u ∷ []) f = rw f refl
   no_label t (u ∷ v ∷ ts) f = rw f refl
 
+  -- the head of a plain line's tokens
   head_there : (p : PlainLine) → IsPlain source p → head_of source p.first.line (p.first ∷ p.others) ≡ plain_head p
   unfolding head_of
   head_there p h =
@@ -160,6 +167,7 @@ module _ (source : List ℕ) where
   line_there ending front (t ∷ ts) e others h k =
       rw h.0 (line_there ending (front ++ (t ∷ [])) ts e others h.1 k ∙ ap (λ f. line_then (line_of_tokens source f) (lines_from source ending [] others)) (append_assoc front (t ∷ []) ts))
 
+  -- the first token ends no line
   first_no_end : (p : PlainLine) → IsPlain source p → is_line_end_kind p.first.kind ≡ false
   first_no_end p h = ap is_line_end_kind h.kind
 
@@ -170,6 +178,7 @@ module _ (source : List ℕ) where
     by_word (AnOpcode o) = refl
     by_word AStart = refl
 
+  -- the heads of the lines from one on
   heads_from : (ps : List PlainLine) → ArePlain source ps → lines_from source None [] (plain_tokens ps) ≡ Some (plain_heads ps)
   heads_from [] a = refl
   heads_from (p ∷ ps) a =
@@ -178,12 +187,14 @@ module _ (source : List ℕ) where
       ∙ then_more p (lines_from source None [] (plain_tokens ps))
       ∙ ap (option_map (λ hs. plain_head p ∷ hs)) (heads_from ps a.1)
 
+  -- the lines that are read
   lines_there : (ps : List PlainLine) → ArePlain source ps → lines_read source (record { tokens = plain_tokens ps; ending = None }) ≡ Some (plain_heads ps)
   unfolding lines_read
   lines_there ps a = heads_from ps a
 
   -- ---- no FOR, ROF or EQU is among them
 
+  -- no block is open at the end
   plain_nests : (ps : List PlainLine) → nests 0 (plain_heads ps) ≡ true
   plain_nests [] = refl
   plain_nests (p ∷ ps) = by_word p.word (plain_nests ps) where
@@ -191,6 +202,7 @@ module _ (source : List ℕ) where
     by_word (AnOpcode o) h = h
     by_word AStart h = h
 
+  -- no EQU line is there
   plain_equs : (ps : List PlainLine) → equ_lines 0 (plain_heads ps) ≡ []
   plain_equs [] = refl
   plain_equs (p ∷ ps) = by_word p.word (plain_equs ps) where
@@ -199,6 +211,7 @@ module _ (source : List ℕ) where
     by_word AStart h = h
 
   module _ (limits : Limits) where
+    -- and no EQU name
     no_equs : (ps : List PlainLine) → equs_of source [] limits (plain_heads ps) ≡ Some []
     unfolding equs_of
     no_equs ps = ap (λ hs. option_and_then (named_once [] limits) (all_of (equ_of_line source) hs)) (plain_equs ps)
@@ -213,6 +226,7 @@ module _ (source : List ℕ) where
         ∙ ap (λ b. if b then option_map (λ equs. record { lines = plain_heads ps; equs = equs }) (equs_of source [] limits (plain_heads ps)) else None) (plain_nests ps)
         ∙ ap (option_map (λ equs. record { lines = plain_heads ps; equs = equs })) (no_equs ps)
 
+-- there is a head for each line
 pub heads_length : (ps : List PlainLine) → length (plain_heads ps) ≡ length ps
 heads_length [] = refl
 heads_length (p ∷ ps) = ap suc (heads_length ps)

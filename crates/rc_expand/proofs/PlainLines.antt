@@ -15,23 +15,27 @@ use Rattle.rc_expand.proofs.PlainHeads.{PlainWord, AnOpcode, AStart, PlainLine, 
 
 -- ---- without EQU names nothing is replaced
 
+-- no name stands for tokens
 no_body : (b : Bool) (o : Option (List Token)) → o ≡ None → (if b then o else None) ≡ None
 no_body true o h = h
 no_body false o h = refl
 
 module _ (source : List ℕ) where
+  -- each token stays
   same_spread : (inner : List Token → Option Replaced) (ts : List Token) → spread source [] inner ts ≡ Some (record { tokens = ts; replacements = 0 })
   same_spread inner [] = refl
   same_spread inner (t ∷ ts) =
       ap (λ o. and_also (one inner t o) (spread source [] inner ts)) (no_body (is_name t) None refl)
       ∙ ap (and_also (Some (record { tokens = t ∷ []; replacements = 0 }))) (same_spread inner ts)
 
+  -- so all of them do, where they are not too many
   same_tokens : (ts : List Token) → length ts ≤ 4096 → replaced_tokens source [] ts ≡ Some ts
   unfolding replaced_tokens
   same_tokens ts h =
       ap (option_and_then (within_limits source [])) (same_spread (inner_at source [] 16) ts)
       ∙ ap (λ b. if b && true then Some ts else None) (le-leb (length ts) 4096 h)
 
+  -- and those of a line
   same_line : (w : HeadWord) (ts : List Token) → length ts ≤ 4096 → line_tokens source [] w ts ≡ Some ts
   same_line w ts h =
       let n = exempt_len source w ts in
@@ -50,6 +54,7 @@ module _ (source : List ℕ) where
       ap (option_and_then (finished source (head_by AStart t ts) word.Org)) (same_line word.Org ts l)
       ∙ ap (λ b. if b then Some (line_by AStart t ts) else None) (le-leb (length ts) 4096 l)
 
+  -- the lines of all heads
   lines_there : (ps : List PlainLine) → ArePlain source ps → all_of (line_of source []) (plain_heads ps) ≡ Some (plain_lines ps)
   lines_there [] a = refl
   lines_there (p ∷ ps) a =
@@ -83,6 +88,7 @@ module _ (source : List ℕ) where
 
     -- ---- without FOR nothing is unrolled
 
+    -- each line stays
     all_outside : (deeper : Deeper source [] limits []) (ps : List PlainLine) → outside source [] limits [] false deeper (plain_heads ps) ≡ Some (record { lines = plain_heads ps; copies = 0 })
     unfolding one_line
     all_outside deeper [] = refl

@@ -13,17 +13,21 @@ use Rattle.rc_asm.specs.Printed.{AreNumber, Plain, Below, Row, row_tokens, rows_
 
 -- ---- the lines of a load text are plain
 
+-- an instruction's line
 abbrev plain_row : Instruction → Row → PlainLine
 plain_row i r = record { word = AnOpcode i.opcode; first = r.opcode; others = r.dot ∷ r.modifier ∷ ((r.a_sign ∷ r.a_number) ++ (r.comma ∷ r.b_sign ∷ r.b_number)); end = r.end }
 
+-- those of the code
 abbrev plain_rows : List Instruction → List Row → List PlainLine
 plain_rows [] rs = []
 plain_rows (i ∷ is) [] = []
 plain_rows (i ∷ is) (r ∷ rs) = plain_row i r ∷ plain_rows is rs
 
+-- the first line
 abbrev plain_start : Opening → PlainLine
 plain_start o = record { word = AStart; first = o.word; others = o.number ∷ []; end = o.end }
 
+-- all lines
 abbrev plain_print : Program → Printed → List PlainLine
 plain_print w p = plain_start p.opening ∷ plain_rows w.code p.rows
 
@@ -32,6 +36,7 @@ number_no_end : (m n : ℕ) (ts : List Token) → AreNumber m n ts → HaveNoEnd
 number_no_end m n ts (Plain t e) = (ap is_line_end_kind e, tt)
 number_no_end m n ts (Below s t k e f g) = (ap is_line_end_kind e, (ap is_line_end_kind f, tt))
 
+-- nor among those of two parts
 both_no_end : (ts us : List Token) → HaveNoEnd ts → HaveNoEnd us → HaveNoEnd (ts ++ us)
 both_no_end [] us h k = k
 both_no_end (t ∷ ts) us h k = (h.0, both_no_end ts us h.1 k)
@@ -57,6 +62,7 @@ row_plain source m i r p =
       short = omega (arith, la, lb, length-append (r.a_sign ∷ r.a_number) (r.comma ∷ r.b_sign ∷ r.b_number));
     }
 
+-- all lines of the code are plain
 rows_plain : (source : List ℕ) (m : ℕ) (is : List Instruction) (rs : List Row) → ArePrinted source m is rs → ArePlain source (plain_rows is rs)
 rows_plain source m [] rs p = tt
 rows_plain source m (i ∷ is) [] p = absurd p
@@ -68,18 +74,21 @@ start_plain source start o h = record { kind = h.word.kind; joined = h.word.join
 
 -- ---- they have the same tokens, lines and number
 
+-- the tokens of the code's lines
 rows_tokens_same : (source : List ℕ) (m : ℕ) (is : List Instruction) (rs : List Row) → ArePrinted source m is rs → rows_tokens rs ≡ plain_tokens (plain_rows is rs)
 rows_tokens_same source m [] [] p = refl
 rows_tokens_same source m [] (r ∷ rs) p = absurd p
 rows_tokens_same source m (i ∷ is) [] p = absurd p
 rows_tokens_same source m (i ∷ is) (r ∷ rs) p = ap (λ ts. row_tokens r ++ (r.end ∷ ts)) (rows_tokens_same source m is rs p.1)
 
+-- the lines for which they stand
 rows_lines_same : (source : List ℕ) (m : ℕ) (is : List Instruction) (rs : List Row) → ArePrinted source m is rs → plain_lines (plain_rows is rs) ≡ code_lines rs
 rows_lines_same source m [] [] p = refl
 rows_lines_same source m [] (r ∷ rs) p = absurd p
 rows_lines_same source m (i ∷ is) [] p = absurd p
 rows_lines_same source m (i ∷ is) (r ∷ rs) p = ap (λ ls. code_line r ∷ ls) (rows_lines_same source m is rs p.1)
 
+-- there are no more lines than instructions
 rows_no_more : (is : List Instruction) (rs : List Row) → length (plain_rows is rs) ≤ length is
 rows_no_more [] rs = omega arith
 rows_no_more (i ∷ is) [] = omega arith

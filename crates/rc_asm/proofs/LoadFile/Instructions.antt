@@ -183,6 +183,7 @@ number_no_comma : (m n : ℕ) (ts : List Token) → AreNumber m n ts → HaveNoC
 number_no_comma m n ts (Plain t e) = (ap is_comma_kind e, tt)
 number_no_comma m n ts (Below s t k e f g) = (ap is_comma_kind e, (ap is_comma_kind f, tt))
 
+-- the sign of a mode is no comma
 sign_no_comma : (m : Mode) (t : Token) → t.kind ≡ SignOf (mode_sign m) → is_comma t ≡ false
 sign_no_comma m t e = ap is_comma_kind e ∙ mode_no_comma m
 
@@ -192,6 +193,7 @@ unfolding parts
 two_parts a as' c bs h k l = first_part (a ∷ as') c bs h k ∙ ap (λ ps. (a ∷ as') ∷ ps) (whole_part bs l)
 
 module _ (source : List ℕ) (names : Names) (at : ℕ) (i : Instruction) (r : Row) (p : IsPrinted source names.limits.core i r) where
+  -- the opcode, the modifier and both operands are written
   abbrev printed_shape : Shape
   printed_shape = shape i.opcode (Some i.modifier) (sides (Some (a_tokens r)) (Some (b_tokens r)))
 

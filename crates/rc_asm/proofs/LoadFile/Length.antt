@@ -14,6 +14,7 @@ use Rattle.rc_instr.proofs.Decimal.{decimal_short}
 use Rattle.rc_asm.proofs.LoadFile.Rows.{opcode_length, mode_len, parts_of_line}
 use Rattle.rc_asm.proofs.LoadFile.NoHeader.{parts_of_start}
 
+-- a modifier has one letter or two
 modifier_short : (f : Modifier) → length (modifier_text f) ≤ 2
 modifier_short mod'.A = omega arith
 modifier_short mod'.B = omega arith
@@ -31,6 +32,7 @@ number_short m k l s = ⊎_elim
     (λ e. let n : length (number_text m k) ≡ suc (length (decimal (m - k))) = ap (λ b. length (if b then decimal k else codes "-" ++ decimal (m - k))) e in omega (arith, n, decimal_short (m - k) (omega (arith, s))))
     (cases_Bool (nat_le (2 * k) m))
 
+-- an operand has its mode before the number
 operand_short : (m : ℕ) (mode : Mode) (k : ℕ) → k < m → m ≤ 65535 → length (operand_text m mode k) ≤ 7
 unfolding operand_text
 operand_short m mode k l s = omega (arith, length-append (mode_text mode) (number_text m k), mode_len mode, number_short m k l s)
@@ -60,6 +62,7 @@ line_short m i rest l s =
       operand_short m i.b_mode i.b_number l.b s,
     )
 
+-- the lines of the code
 lines_short : (m : ℕ) (is : List Instruction) → All (IsBelow m) is → m ≤ 65535 → length (flat_map (line_text m) is) ≤ 24 * length is
 lines_short m [] b s = omega arith
 lines_short m (i ∷ is) b s =

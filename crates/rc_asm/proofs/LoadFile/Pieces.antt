@@ -5,7 +5,7 @@ use Rattle.std.specs.List.{prefix_len}
 use Rattle.std.specs.Char.{is_ascii_digit}
 use Rattle.std.specs.Str.{all_ascii_digits}
 use Rattle.std.specs.Fmt.{decimal}
-use Rattle.std.proofs.lemmas.Bool.{and_parts, and_from, leb-true, le-leb, lt-leb, ne_eqb, lt-ltb, both_ways}
+use Rattle.std.proofs.lemmas.Bool.{and_parts, leb-true, lt-leb, ne_eqb, lt-ltb, both_ways}
 use Rattle.std.proofs.Math.Seq.{take-append_seam}
 use Rattle.rc_text.specs.declared.token.Kind.{Kind}
 use Rattle.rc_text.specs.declared.token.Kind.TheVariants.{Number}
@@ -31,17 +31,21 @@ front (b ∷ p) rest kind first at line h e =
 
 -- ---- numbers
 
+-- the byte of a digit
 pub record IsDigit (d : ℕ) : Type 0 where
   pub low : 48 ≤ d
   pub high : d ≤ 57
 
+-- what the test of std says
 pub digit_bounds : (d : ℕ) → is_ascii_digit d ≡ true → IsDigit d
 digit_bounds d h = let p = and_parts _ _ h in record { low = leb-true 48 d p.0; high = leb-true d 57 p.1 }
 
+-- the number of digits, by either definition
 fold_is : (n : ℕ) (ds : List ℕ) → fold (λ n b. n * 10 + (b - 48)) n ds ≡ read_on n ds
 fold_is n [] = refl
 fold_is n (d ∷ ds) = fold_is (n * 10 + (d - 48)) ds
 
+-- a digit is no blank
 not_blank : (d : ℕ) → IsDigit d → is_blank d ≡ false
 not_blank d h =
     let a : (d == 32) ≡ false = ne_eqb d 32 (λ e. omega (arith, e, h.low)) in
@@ -49,12 +53,15 @@ not_blank d h =
     let c : (d == 13) ≡ false = ne_eqb d 13 (λ e. omega (arith, e, h.low)) in
     rw a (rw b c)
 
+-- nor a line feed
 no_feed : (d : ℕ) → IsDigit d → (d == LINE_FEED) ≡ false
 no_feed d h = ne_eqb d 10 (λ e. omega (arith, e, h.low))
 
+-- nor a semicolon
 no_comment : (d : ℕ) → IsDigit d → (d == 59) ≡ false
 no_comment d h = ne_eqb d 59 (λ e. omega (arith, e, h.high))
 
+-- nor does it begin a name
 no_letter : (d : ℕ) → IsDigit d → begins_name d ≡ false
 no_letter d h =
     let a : nat_le 65 d ≡ false = lt-leb 65 d (omega (arith, h.high)) in
@@ -62,31 +69,29 @@ no_letter d h =
     let c : (d == 95) ≡ false = ne_eqb d 95 (λ e. omega (arith, e, h.high)) in
     rw a (rw b c)
 
-a_digit : (d : ℕ) → IsDigit d → is_ascii_digit d ≡ true
-a_digit d h = and_from _ _ (le-leb 48 d h.low) (le-leb d 57 h.high)
-
-no_digit : (d : ℕ) → is_ascii_digit d ≡ false → is_ascii_digit d ≡ false
-no_digit d h = h
-
+-- as many digits stand in front as there are
 digits_len : (ds rest : List ℕ) → all_ascii_digits ds ≡ true → NoDigitFirst rest → prefix_len is_ascii_digit (ds ++ rest) ≡ length ds
 digits_len [] [] p h = refl
-digits_len [] (c ∷ rest) p h = let e = no_digit c h in rw e refl
+digits_len [] (c ∷ rest) p h = rw h refl
 digits_len (d ∷ ds) rest p h =
     let q = both (is_ascii_digit d) (all_ascii_digits ds) p in
-    let e = a_digit d (digit_bounds d q.0) in
     let i = digits_len ds rest q.1 h in
-    rw e (omega (arith, i))
+    rw q.0 (omega (arith, i))
 
+-- and this is their number
 value_at_front : (ds rest : List ℕ) → all_ascii_digits ds ≡ true → NoDigitFirst rest → decimal_value (take (prefix_len is_ascii_digit (ds ++ rest)) (ds ++ rest)) ≡ read_on 0 ds
 value_at_front ds rest p h = ap (λ k. decimal_value (take k (ds ++ rest))) (digits_len ds rest p h) ∙ ap decimal_value (take-append_seam ds rest) ∙ fold_is 0 ds
 
+-- the first of two, where the test is true
 if_true : {A : Type 0} (b : Bool) (x y z : A) → b ≡ true → x ≡ z → (if b then x else y) ≡ z
 if_true true x y z h e = e
 if_true false x y z h e = absurd (both_ways _ refl h)
 
+-- a number below 2 ^ 32 is a token
 number_fits : (len n : ℕ) → n < 2 ^ 32 → number_lexeme len n ≡ Word len (Number n)
 number_fits len n l = let t = lt-ltb n (2 ^ 32) l in rw t refl
 
+-- digits are one token
 digits_word : (ds rest : List ℕ) (first : Bool) → 0 < length ds → all_ascii_digits ds ≡ true → NoDigitFirst rest → read_on 0 ds < 2 ^ 32 → lexeme_of first (ds ++ rest) ≡ Word (length ds) (Number (read_on 0 ds))
 digits_word [] rest first s p h l = absurd (omega (arith, s))
 digits_word (d ∷ ds) rest first s p h l =
@@ -98,10 +103,9 @@ digits_word (d ∷ ds) rest first s p h l =
     let b2 = no_feed d g in
     let b3 = no_comment d g in
     let b4 = no_letter d g in
-    let b5 = a_digit d g in
     let e : number_lexeme (prefix_len is_ascii_digit ((d ∷ ds) ++ rest)) (decimal_value (take (prefix_len is_ascii_digit ((d ∷ ds) ++ rest)) ((d ∷ ds) ++ rest))) ≡ Word (length (d ∷ ds)) (Number (read_on 0 (d ∷ ds))) =
     (λ i. number_lexeme (n i) (v i)) ∙ number_fits (length (d ∷ ds)) (read_on 0 (d ∷ ds)) l in
-    rw b1 (rw b2 (rw b3 (rw b4 (if_true (is_ascii_digit d) _ _ _ b5 e))))
+    rw b1 (rw b2 (rw b3 (rw b4 (if_true (is_ascii_digit d) _ _ _ q.0 e))))
 
 -- a number that a load file writes is one token
 pub number_word : (n : ℕ) (rest : List ℕ) (first : Bool) → n < 2 ^ 16 → NoDigitFirst rest → lexeme_of first (decimal n ++ rest) ≡ Word (length (decimal n)) (Number n)

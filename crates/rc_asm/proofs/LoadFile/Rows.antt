@@ -34,6 +34,7 @@ abbrev IsPlainNext : List ℕ → Type 0
 IsPlainNext [] = Unit {0}
 IsPlainNext (b ∷ bs) = (b == 61) ≡ false
 
+-- a mode is one token
 sign_word : (m : Mode) (first : Bool) (text : List ℕ) → 0 < length text → IsPlainNext text → lexeme_of first (mode_text m ++ text) ≡ Word 1 (SignOf (mode_sign m))
 sign_word m first [] s h = absurd (omega (arith, s))
 sign_word mode.Immediate first (b ∷ bs) s h = refl
@@ -45,6 +46,7 @@ sign_word mode.BPredecrement first (b ∷ bs) s h = rw h refl
 sign_word mode.APostincrement first (b ∷ bs) s h = refl
 sign_word mode.BPostincrement first (b ∷ bs) s h = rw h refl
 
+-- digits may follow a sign
 digits_plain : (ds rest : List ℕ) → 0 < length ds → all_ascii_digits ds ≡ true → IsPlainNext (ds ++ rest)
 digits_plain [] rest s h = absurd (omega (arith, s))
 digits_plain (d ∷ ds) rest s h =
@@ -60,6 +62,7 @@ pub record NumberScan (m k : ℕ) (text rest : List ℕ) (at line : ℕ) : Type 
   pub some : 0 < length text
   pub plain : IsPlainNext (text ++ rest)
 
+-- of one without a minus sign
 plain_scan : (m k : ℕ) (rest : List ℕ) (at line : ℕ) → k < 2 ^ 16 → NoDigitFirst rest → NumberScan m k (decimal k) rest at line
 plain_scan m k rest at line l h = record {
   tokens = token_of (Number k) at (length (decimal k)) line ∷ [];
@@ -69,6 +72,7 @@ plain_scan m k rest at line l h = record {
   plain = digits_plain (decimal k) rest (decimal_some k l) (decimal_all k l);
 }
 
+-- of one with a minus sign
 below_scan : (m k j : ℕ) (rest : List ℕ) (at line : ℕ) → j < 2 ^ 16 → 0 < j → j + k ≡ m → NoDigitFirst rest → NumberScan m k (45 ∷ decimal j) rest at line
 below_scan m k zero rest at line l s e h = absurd (omega (arith, s))
 below_scan m k (suc j) rest at line l s e h = record {
@@ -81,6 +85,7 @@ below_scan m k (suc j) rest at line l s e h = record {
   plain = refl;
 }
 
+-- of each as it is printed
 pub number_scan : (m k : ℕ) (rest : List ℕ) (at line : ℕ) → k < m → m ≤ 65535 → NoDigitFirst rest → NumberScan m k (number_text m k) rest at line
 unfolding number_text
 number_scan m k rest at line l s h =
@@ -108,9 +113,11 @@ pub record OperandScan (m : ℕ) (mode : Mode) (k : ℕ) (rest : List ℕ) (at l
   pub shown : AreNumber m k number
   pub scan : (first : Bool) → tokens_from (operand_text m mode k ++ rest) 0 first at line ≡ onto (sign ∷ number) (tokens_from rest 0 false (at + length (operand_text m mode k)) line)
 
+-- a text is not empty where its front is not
 some_append : (xs ys : List ℕ) → 0 < length xs → 0 < length (xs ++ ys)
 some_append xs ys h = omega (arith, length-append xs ys, h)
 
+-- each operand has its tokens
 pub operand_scan : (m : ℕ) (mode : Mode) (k : ℕ) (rest : List ℕ) (at line : ℕ) → k < m → m ≤ 65535 → NoDigitFirst rest → OperandScan m mode k rest at line
 unfolding operand_text
 operand_scan m mode k rest at line l s h =
@@ -135,6 +142,7 @@ operand_scan m mode k rest at line l s h =
 
 -- ---- words
 
+-- an opcode before a dot is one token
 opcode_word : (o : Opcode) (first : Bool) (rest : List ℕ) → lexeme_of first (opcode_text o ++ (46 ∷ rest)) ≡ Word (length (opcode_text o)) Name
 opcode_word op.Dat first rest = refl
 opcode_word op.Mov first rest = refl
@@ -153,6 +161,7 @@ opcode_word op.Slt first rest = refl
 opcode_word op.Spl first rest = refl
 opcode_word op.Nop first rest = refl
 
+-- a modifier before a blank is one token
 modifier_word : (f : Modifier) (first : Bool) (rest : List ℕ) → lexeme_of first (modifier_text f ++ (32 ∷ rest)) ≡ Word (length (modifier_text f)) Name
 modifier_word mod'.A first rest = refl
 modifier_word mod'.B first rest = refl
@@ -181,9 +190,11 @@ opcode_length op.Slt = refl
 opcode_length op.Spl = refl
 opcode_length op.Nop = refl
 
+-- so it is not empty
 opcode_some : (o : Opcode) → 0 < length (opcode_text o)
 opcode_some o = omega (arith, opcode_length o)
 
+-- a modifier is not empty
 modifier_some : (f : Modifier) → 0 < length (modifier_text f)
 modifier_some mod'.A = omega arith
 modifier_some mod'.B = omega arith
@@ -199,6 +210,7 @@ pub record IsAt (source rest : List ℕ) (at : ℕ) : Type 0 where
   pub whole : source ≡ before ++ rest
   pub place : at ≡ length before
 
+-- and behind a piece of the rest
 pub further : (source p rest : List ℕ) (at : ℕ) → IsAt source (p ++ rest) at → IsAt source rest (at + length p)
 further source p rest at h = record {
   before = h.before ++ p;
@@ -234,6 +246,7 @@ pub record RowScan (source : List ℕ) (m : ℕ) (i : Instruction) (rest : List 
   pub place : IsAt source rest after
   pub scan : tokens_from (line_text m i ++ rest) 0 true at line ≡ onto (row_tokens row ++ (row.end ∷ [])) (tokens_from rest 0 true after (line + 1))
 
+-- each printed line has its tokens
 pub row_scan : (source : List ℕ) (m : ℕ) (i : Instruction) (rest : List ℕ) (at line : ℕ) → i.a_number < m → i.b_number < m → m ≤ 65535 → IsAt source (line_text m i ++ rest) at → RowScan source m i rest at line
 row_scan source m i rest at line la lb s h =
     let o = opcode_text i.opcode in

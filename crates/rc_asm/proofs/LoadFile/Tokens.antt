@@ -22,6 +22,7 @@ record StartScan (source : List ℕ) (n : ℕ) (rest : List ℕ) (at line : ℕ)
   place : IsAt source rest after
   scan : tokens_from (start_text n ++ rest) 0 true at line ≡ onto (opening.word ∷ opening.number ∷ opening.end ∷ []) (tokens_from rest 0 true after (line + 1))
 
+-- each start has its tokens
 start_scan : (source : List ℕ) (n : ℕ) (rest : List ℕ) (at line : ℕ) → n < 2 ^ 16 → IsAt source (start_text n ++ rest) at → StartScan source n rest at line
 start_scan source n rest at line l h =
     let o = codes "ORG" in
@@ -54,6 +55,7 @@ record RowsScan (source : List ℕ) (m : ℕ) (is : List Instruction) (at line :
   printed : ArePrinted source m is rows
   scan : tokens_from (flat_map (line_text m) is) 0 true at line ≡ record { tokens = rows_tokens rows; ending = None }
 
+-- the code has its tokens
 rows_scan : (source : List ℕ) (m : ℕ) (is : List Instruction) (at line : ℕ) → All (IsBelow m) is → m ≤ 65535 → IsAt source (flat_map (line_text m) is) at → RowsScan source m is at line
 rows_scan source m [] at line b s h = record { rows = []; printed = tt; scan = refl }
 rows_scan source m (i ∷ is) at line b s h =

@@ -10,6 +10,7 @@ use Rattle.rc_asm.proofs.LoadFile.Expansion.{print_expands}
 use Rattle.rc_asm.proofs.LoadFile.Lines.{made_of_printed}
 use Rattle.rc_asm.proofs.LoadFile.Length.{load_short}
 
+-- its tokens print the warrior, expand to their lines, and these make the warrior
 pub load_assembles : (rules : Limits) (w : Program) → IsRules rules → IsProgram w → Fits rules w → Assembles (load_text rules.core w) [] rules w
 load_assembles rules w r g f =
     let text = load_text rules.core w in
