@@ -1,5 +1,5 @@
 -- Why a text assembles to no warrior, and at which line: faults come pass by pass, and in a pass line by line (this project's own).
-use Rattle.std.specs.Prelude.{◌≡◌, ◌⊎◌, ◌≤◌, ◌<◌, ℕ, ℤ, pos, List, [], ◌∷◌, length, Option, Some, None, option_map, Result, Ok, Err, if◌then◌else◌}
+use Rattle.std.specs.Prelude.{◌≡◌, ◌≢◌, ◌⊎◌, ◌≤◌, ◌<◌, ℕ, ℤ, pos, List, [], ◌∷◌, length, Option, Some, None, option_map, Result, Ok, Err, if◌then◌else◌}
 use Rattle.std.specs.Result.{result_err}
 use Rattle.rc_text.specs.declared.token.Token.{Token}
 use Rattle.rc_text.specs.declared.fault.EvalFault.{EvalFault}
@@ -9,6 +9,7 @@ use Rattle.rc_instr.specs.declared.instruction.Instruction.{Instruction}
 use Rattle.rc_instr.specs.declared.warrior.WarriorError.{WarriorError}
 use Rattle.rc_instr.specs.declared.warrior.WarriorError.TheVariants as warrior
 use Rattle.rc_expand.specs.declared.fault.ExpandKind.{ExpandKind}
+use Rattle.rc_expand.specs.declared.fault.ExpandKind.TheVariants.{OutOfMemory as NoRoom}
 use Rattle.rc_expand.specs.declared.line.LineWord.{LineWord}
 use Rattle.rc_expand.specs.declared.line.LineWord.TheVariants.{Code, Org, End, Assert}
 use Rattle.rc_expand.specs.declared.line.Line.{Line}
@@ -85,9 +86,9 @@ pub record IsFaultOfCode (source : List ℕ) (names : Names) (lines : List Line)
 abbrev pub IsFaultOfLines : List ℕ → Names → List Line → AsmFault → Type 0
 IsFaultOfLines source names lines f = (lines_fault source names lines ≡ Some f) ⊎ IsFaultOfCode source names lines f
 
--- this fault comes first in a text: it is too long, or has no expansion, or the lines to which it expands have the fault
+-- this fault comes first in a text: it is too long, or has no expansion for another cause than memory, or the lines to which it expands have the fault
 abbrev pub IsFault : List ℕ → Table → Limits → AsmFault → Type 0
 IsFault source constants limits f =
     ((65536 < length source) × (f ≡ at_line 0 TextTooLong))
-    ⊎ (((length source ≤ 65536) × ((lines : List Line) → ¬ IsExpansion source constants limits lines) × (k : ExpandKind) × (f.kind ≡ Expand k))
+    ⊎ (((length source ≤ 65536) × ((lines : List Line) → ¬ IsExpansion source constants limits lines) × (k : ExpandKind) × (k ≢ NoRoom) × (f.kind ≡ Expand k))
     ⊎ ((length source ≤ 65536) × (lines : List Line) × IsExpansion source constants limits lines × IsFaultOfLines source (names_of source constants limits lines) lines f))

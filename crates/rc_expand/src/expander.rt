@@ -83,8 +83,8 @@ fn expand_text(
 /// - `Text`: a byte or a number that is no token, up to the line with END.
 /// - `ForTooDeep`: more than 8 blocks in one another; `RofWithoutFor`, `ForWithoutRof`: a FOR or a ROF without its partner.
 /// - `BadDirective`, `DuplicateName`: an EQU line without exactly one plain name before EQU, or whose name is taken.
-/// - `BadDirective`, `DuplicateName`, `EquTooDeep`, `TooManyTokens`, `CountRefused` at a FOR: a counter that is no plain name or is
-///   taken, a ROF with something beside it, a count that can't be replaced, has no value or is above 4096; `BadDirective` also for an
+/// - `BadDirective`, `DuplicateName`, `EquTooDeep`, `TooManyTokens`, `CountRefused` at a block: a ROF with something beside it, looked at
+///   first, a counter that is no plain name or is taken, a count that can't be replaced, has no value or is above 4096; `BadDirective` also for an
 ///   EQU in a block and for a ninth counter joined to a name; `TooManyLines`: more than 4096 lines and copies.
 /// - `DuplicateName`: a label that is there twice, or is an EQU name, a constant or a predefined name; `EquTooDeep`: EQU names nested
 ///   more than 16 deep; `TooManyTokens`: more than 4096 tokens in a line, or as many replacements.
