@@ -1,7 +1,8 @@
 #!/usr/bin/env python3
-"""Measures how many turns per second `cwtune fight` plays, alone or beside a pMARS server build.
+"""Measures how many turns per second `cwtune fight` plays, alone or beside a pMARS server build, and how long `cwtune asm` takes.
 
-Each fight of fights/ is played several times and the fastest play counts. README.md says what is measured.
+Each fight of fights/ is played, and each text of warriors/ assembled, several times; the fastest run counts. README.md says what
+is measured.
 """
 
 import argparse
@@ -23,6 +24,12 @@ EXPECTED = {
 }
 # A fight that takes less than this many seconds is played so often in a run that the run takes as long.
 SHORTEST = 0.05
+# The texts that are assembled; beside each stands the load file that it must give.
+TEXTS = ["plain", "names", "tables"]
+# What is left of the time of a text of one line is the start of the process.
+SMALLEST = "DAT 0\n"
+# A text is told only where its time without the start is at least this part of the start.
+LEAST_PART = 0.05
 # A program that takes longer for one play than this many seconds is given up.
 LONGEST = 120
 
@@ -148,15 +155,50 @@ def rate(turns, seconds, start):
     return turns / (seconds - start)
 
 
+def fastest_texts(program, runs):
+    """The least seconds of each text and of the text of one line. All take turns, so that a busy moment meets all."""
+    with tempfile.TemporaryDirectory() as folder:
+        smallest = pathlib.Path(folder) / "smallest.red"
+        smallest.write_text(SMALLEST, encoding="ascii")
+        files = [HERE / "warriors" / f"{name}.red" for name in TEXTS]
+        expected = [file.with_suffix(".load").read_text(encoding="ascii") for file in files]
+        best = [math.inf] * len(files)
+        start = math.inf
+        for _ in range(runs):
+            start = min(start, timed([str(program), "asm", str(smallest)], "")[0])
+            for number, file in enumerate(files):
+                seconds, output = timed([str(program), "asm", str(file)], "")
+                if output != expected[number]:
+                    raise WrongResult(f"{program} asm {file} did not give {file.with_suffix('.load')}")
+                best[number] = min(best[number], seconds)
+    lines = [output.count("\n") - 1 for output in expected]
+    return best, lines, start
+
+
+def print_texts(program, runs):
+    """A line per text: its assemblies per second and microseconds per line, without the start of the process."""
+    best, lines, start = fastest_texts(program, runs)
+    print(f"{'text':<14}{'lines':>10}{'texts/s':>12}{'us/line':>10}   (start of the process {start * 1e6:.0f} us, taken off)")
+    for name, seconds, count in zip(TEXTS, best, lines):
+        rest = seconds - start
+        if rest < LEAST_PART * start:
+            print(f"{name:<14}{count:>10}   too short to tell")
+        else:
+            print(f"{name:<14}{count:>10}{1 / rest:>12.0f}{rest / count * 1e6:>10.2f}", flush=True)
+
+
 def read_options():
     options = argparse.ArgumentParser(description=__doc__.splitlines()[0])
     path = {"type": pathlib.Path, "metavar": "PATH"}
     options.add_argument("--bin", default=PROGRAM, help="the program (default: crates/cwtune/out/cwtune)", **path)
     options.add_argument("--pmars", help="a pMARS server build to compare with", **path)
     options.add_argument("--runs", type=int, default=10, metavar="N", help="runs of each fight (default: 10)")
+    options.add_argument("--texts", type=int, default=200, metavar="N", help="runs of each text (default: 200; 0: none)")
     read = options.parse_args()
     if read.runs < 1:
         options.error("--runs is at least 1")
+    if read.texts < 0:
+        options.error("--texts is at least 0")
     for program in (read.bin, read.pmars):
         if program is not None and not program.is_file():
             options.error(f"there is no program {program}")
@@ -183,6 +225,9 @@ def main():
     if ratios:
         mean = math.exp(sum(map(math.log, ratios)) / len(ratios))
         print(f"geometric mean of the ratios {mean:.2f}, least {min(ratios):.2f}")
+    if options.texts > 0:
+        print()
+        print_texts(options.bin.resolve(), options.texts)
 
 
 if __name__ == "__main__":
