@@ -1,0 +1,4 @@
+pub mod LineSteps
+pub mod Counts
+pub mod VectorSteps
+pub mod InstanceSteps

@@ -1,0 +1,33 @@
+-- What contracts of private functions see of the ranges that are being read.
+use Rattle.std.specs.Prelude.{◌≡◌, ◌≤◌, ◌<◌, ◌+◌, ℕ, map, List, length, All, Option, Some, None, Result, Ok, Err}
+use Rattle.tune_template.specs.declared.range.Reading.{Reading}
+use Rattle.tune_template.specs.declared.span.Span.{Span}
+use Rattle.tune_template.specs.declared.fault.TemplateFault.{TemplateFault}
+use Rattle.tune_template.specs.Lines.{lines_of}
+use Rattle.tune_template.specs.Ranges.{Ranges, ranges, vector_count, ranges_from}
+
+abbrev pub seen_ranges : Reading → Ranges
+seen_ranges r = ranges (map (λ n. n.items) r.names.items) r.spans.items
+
+-- a span has values, and its start is one of them
+pub record HasValues (s : Span) : Type 0 where
+  pub some : 0 < s.count
+  pub start : s.start < s.count
+
+-- as many names as spans, at most eight, and so many vectors, at most 1000000
+pub record AreCounted (r : Ranges) (count : ℕ) : Type 0 where
+  pub equal : length r.names ≡ length r.spans
+  pub few : length r.names ≤ 8
+  pub vectors : vector_count r.spans ≡ count
+  pub small : count ≤ 1000000
+  pub values : All HasValues r.spans
+
+-- the ranges of the lines of the rest of a text, if there is one, behind those so far
+abbrev pub ranges_behind : ℕ → Ranges → Option (List ℕ) → Result Ranges TemplateFault
+ranges_behind n r None = Ok r
+ranges_behind n r (Some text) = ranges_from n r (lines_of text)
+
+-- more than the lines of the rest
+abbrev pub rest_size : Option (List ℕ) → ℕ
+rest_size None = 0
+rest_size (Some text) = length text + 1

@@ -1,0 +1,168 @@
+//! Range lines.
+ghost use Rattle.std.specs.Prelude.{◌≡◌, ◌≢◌, ◌<◌, ◌≤◌, ◌*◌, ◌∷◌, ◌++◌, [], map, length, MatchOption, IfOk, IfErr, OnOk, Ok, Err};
+ghost use Rattle.std.specs.Str.{bytes_eq};
+ghost use Rattle.rc_text.specs.NameClasses.{class_of};
+ghost use Rattle.rc_expand.specs.Names.{is_among};
+ghost use Rattle.tune_template.specs.declared.fault.TemplateKind.TheVariants.{BadLine, OutOfMemory};
+ghost use Rattle.tune_template.specs.Lines.{words_of};
+ghost use Rattle.tune_template.specs.Ranges.{Ranges, ranges, worded, name_checked, span_said, signed_number, step_number, with_range, range_added};
+ghost use Rattle.tune_template.specs.Steps.{seen_ranges, HasValues, AreCounted};
+
+use crate::fault::TemplateKind;
+use crate::lines::first_word;
+use crate::numbers::{signed_number, step_number};
+use crate::span::Span;
+use rc_text::{NameClass, name_class};
+use std::alloc::Global;
+
+/// How many constants a template may have.
+const MOST_CONSTANTS: usize = 8;
+
+/// How many vectors a template may have.
+const MOST_VECTORS: u64 = 1_000_000;
+
+/// The names of the constants so far, the spans of their values, and how many vectors there are of them.
+#[derive(Debug, Drop)]
+pub(crate) struct Reading {
+    pub(crate) names: Vec<Vec<u8>>,
+    pub(crate) spans: Vec<Span>,
+    pub(crate) count: u32,
+}
+
+/// The five words of a range line.
+#[derive(Clone, Copy)]
+struct Words<'a> {
+    name: &'a [u8],
+    low: &'a [u8],
+    high: &'a [u8],
+    step: &'a [u8],
+    start: &'a [u8],
+}
+
+// The words of a line, where they are five.
+#[tactic(auto, unfolding(crate::specs::Ranges::worded))]
+fn five_words<'a>(line: &'a [u8]) -> Option<Words<'a>>
+    ensures { MatchOption result ((r : Ranges) → worded r (words_of line.now) ≡ Err BadLine)
+        (λ w. words_of line.now ≡ w.name.now ∷ w.low.now ∷ w.high.now ∷ w.step.now ∷ w.start.now ∷ []) }
+{
+    let (name, rest) = first_word(line)?;
+    let (low, rest) = first_word(rest)?;
+    let (high, rest) = first_word(rest)?;
+    let (step, rest) = first_word(rest)?;
+    let (start, rest) = first_word(rest)?;
+    match first_word(rest) {
+        None => Some(Words {
+            name,
+            low,
+            high,
+            step,
+            start,
+        }),
+        Some(_) => None,
+    }
+}
+
+// Whether a name is among others.
+fn is_among(names: &[Vec<u8>], name: &[u8]) -> bool
+    ensures { result ≡ is_among (map (λ n. n.items) names.now) name.now }
+{
+    let mut rest = names;
+    while let Some((other, after)) = rest.split_first() {
+        if other.as_slice() == name {
+            return true;
+        }
+        rest = after;
+    }
+    false
+}
+
+// Refuses a name that can be no further constant.
+fn check_name(names: &[Vec<u8>], name: &[u8]) -> Result<(), TemplateKind>
+    ensures { result ≡ name_checked (map (λ n. n.items) names.now) (class_of name.now) name.now }
+{
+    match name_class(name) {
+        NameClass::NoName => Err(TemplateKind::BadLine),
+        NameClass::Reserved => Err(TemplateKind::ReservedName),
+        NameClass::Predefined => Err(TemplateKind::ReservedName),
+        NameClass::Free => if is_among(names, name) {
+            Err(TemplateKind::DuplicateName)
+        } else {
+            Ok(())
+        },
+    }
+}
+
+// The span of a further constant.
+fn span_said(names: &[Vec<u8>], words: &Words) -> Result<Span, TemplateKind>
+    ensures span { result ≡ span_said (map (λ n. n.items) names.now) words.now.name.now (signed_number words.now.low.now) (signed_number words.now.high.now)
+        (step_number words.now.step.now) (signed_number words.now.start.now) }
+    ensures values { IfOk result HasValues }
+{
+    match (
+        signed_number(words.low),
+        signed_number(words.high),
+        step_number(words.step),
+        signed_number(words.start),
+    ) {
+        (Some(low), Some(high), Some(step), Some(start)) => {
+            check_name(names, words.name)?;
+            Span::try_new(low, high, step, start)
+        }
+        _ => Err(TemplateKind::BadLine),
+    }
+}
+
+impl Reading {
+    /// Nothing is read yet.
+    pub(crate) fn new(alloc: Global) -> Self
+        ensures read { seen_ranges result ≡ ranges [] [] }
+        ensures counted { AreCounted (seen_ranges result) result.count }
+    {
+        Reading {
+            names: Vec::new(alloc),
+            spans: Vec::new(alloc),
+            count: 1,
+        }
+    }
+
+    // Adds a constant and its span.
+    fn push(&mut self, alloc: Global, name: &[u8], span: Span) -> Result<(), TemplateKind>
+        requires counted { AreCounted (seen_ranges self.old) self.old.count }
+        requires room { length self.old.names.items < 8 }
+        requires values { HasValues span }
+        ensures added { OnOk result (with_range (seen_ranges self.old) name.now (Ok span) ≡ Ok (seen_ranges self.new)) }
+        ensures counted { OnOk result (AreCounted (seen_ranges self.new) self.new.count) }
+        ensures refused { IfErr result (λ k. k ≢ OutOfMemory → with_range (seen_ranges self.old) name.now (Ok span) ≡ Err k) }
+    {
+        let count = u64::from(self.count) * u64::from(span.count);
+        if count > MOST_VECTORS {
+            return Err(TemplateKind::TooManyVectors);
+        }
+        self.names.push(name.to_vec(alloc)?)?;
+        self.spans.push(span)?;
+        self.count = count as u32;
+        Ok(())
+    }
+
+    /// Adds the range of a range line.
+    #[tactic(auto, unfolding(crate::specs::Ranges::worded))]
+    pub(crate) fn add(&mut self, alloc: Global, line: &[u8]) -> Result<(), TemplateKind>
+        requires line { 6 ≤ length line.now }
+        requires counted { AreCounted (seen_ranges self.old) self.old.count }
+        ensures added { OnOk result (range_added (seen_ranges self.old) line.now ≡ Ok (seen_ranges self.new)) }
+        ensures counted { OnOk result (AreCounted (seen_ranges self.new) self.new.count) }
+        ensures refused { IfErr result (λ k. k ≢ OutOfMemory → range_added (seen_ranges self.old) line.now ≡ Err k) }
+    {
+        if self.names.len() >= MOST_CONSTANTS {
+            return Err(TemplateKind::TooManyConstants);
+        }
+        let (_, rest) = line.split_at(6);
+        match five_words(rest) {
+            None => Err(TemplateKind::BadLine),
+            Some(words) => {
+                let span = span_said(&self.names, &words)?;
+                self.push(alloc, words.name, span)
+            }
+        }
+    }
+}

@@ -1,0 +1,3 @@
+//! Templates, worked out by hand.
+mod instances;
+mod ranges;
