@@ -18,3 +18,4 @@ pub mod TableFound
 pub mod TablePlaces
 pub mod PlainHeads
 pub mod PlainLines
+pub mod FlatLines

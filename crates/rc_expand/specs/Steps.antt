@@ -7,6 +7,8 @@ use Rattle.rc_text.specs.declared.token.Token.{Token}
 use Rattle.rc_text.specs.Symbols.{name_of}
 use Rattle.rc_instr.specs.Rules.{Limits}
 use Rattle.rc_expand.specs.declared.head.Head.{Head}
+use Rattle.rc_expand.specs.declared.head.HeadWord.{HeadWord}
+use Rattle.rc_expand.specs.declared.head.HeadWord.TheVariants as word
 use Rattle.rc_expand.specs.declared.line.Line.{Line}
 use Rattle.rc_expand.specs.declared.fault.ExpandFault.{ExpandFault}
 use Rattle.rc_expand.specs.declared.fault.ExpandKind.TheVariants.{OutOfMemory}
@@ -56,3 +58,12 @@ module _ (source : List ℕ) (constants : Table) (limits : Limits) where
 abbrev pub GivesHeads : Result (Vec Head × Equs) ExpandFault → Option Heads → Type 0
 GivesHeads (Ok p) o = o ≡ Some (record { lines = p.0.items; equs = p.1 })
 GivesHeads (Err e) o = (e.kind ≢ OutOfMemory) → o ≡ None
+
+-- a line that stands for itself: no FOR, no ROF, and not spoiled
+abbrev pub is_flat_by : HeadWord → Bool → Bool
+is_flat_by word.For spoiled = false
+is_flat_by word.Rof spoiled = false
+is_flat_by _ spoiled = not spoiled
+
+abbrev pub is_flat_line : Head → Bool
+is_flat_line h = is_flat_by h.word h.spoiled

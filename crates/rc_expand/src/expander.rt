@@ -65,7 +65,7 @@ fn expand_text(
         equs: &equs,
         links: &links,
     };
-    let unrolled = unroll(&setting, &heads)?;
+    let unrolled = unroll(&setting, heads)?;
     let lines = replace_lines(&setting, unrolled)?;
     Ok(Expanded {
         lines: Lines::from_vec(lines),

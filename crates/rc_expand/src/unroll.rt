@@ -3,6 +3,8 @@ ghost use Rattle.std.specs.Prelude.{◌≡◌, List, ℕ, Bool, ◌++◌, ◌∷
 ghost use Rattle.rc_text.specs.Symbols.{LiesIn};
 ghost use Rattle.rc_expand.specs.Lines.{HeadLies};
 ghost use Rattle.rc_expand.specs.Unroll.{Cut, cut, Unrolled, Appends, earlier_line, unrolled, GivesItems};
+ghost use Rattle.std.specs.List.{list_all};
+ghost use Rattle.rc_expand.specs.Steps.{is_flat_line};
 ghost use Rattle.rc_expand.specs.Setting.{table, IsSetting, lines_of, block_by, copy_by, copies_by, line_by};
 
 use crate::copy::{clone_head, clone_labels, copy_block};
@@ -247,9 +249,27 @@ pub(crate) fn append_lines(
     Ok(())
 }
 
-/// The lines with the copies of their blocks in place of these.
+// Whether a line stands for itself.
+fn is_flat_line(head: &Head) -> bool
+    ensures { result ≡ is_flat_line head.now }
+{
+    match head.word {
+        HeadWord::For => false,
+        HeadWord::Rof => false,
+        _ => !head.spoiled,
+    }
+}
+
+// Whether there are no blocks, and no line is spoiled.
+fn are_flat(heads: &[Head]) -> bool
+    ensures { result ≡ list_all is_flat_line heads.now }
+{
+    heads.iter().all(|head| is_flat_line(head))
+}
+
+// The lines with the copies of their blocks in place of these.
 #[tactic(auto, unfolding(crate::specs::Unroll::unrolled))]
-pub(crate) fn unroll(setting: &Setting, heads: &[Head]) -> Result<Vec<Head>, ExpandFault>
+fn unroll_blocks(setting: &Setting, heads: &[Head]) -> Result<Vec<Head>, ExpandFault>
     requires setting { IsSetting setting.now }
     requires lies { All (HeadLies setting.now.source.now) heads.now }
     ensures lines { GivesItems result (unrolled setting.now.source.now (table setting.now) setting.now.rules.now setting.now.equs.now heads.now) }
@@ -261,4 +281,19 @@ pub(crate) fn unroll(setting: &Setting, heads: &[Head]) -> Result<Vec<Head>, Exp
     };
     append_lines(&mut out, setting, heads, false, 8)?;
     Ok(out.lines)
+}
+
+/// The lines with the copies of their blocks in place of these. Lines without blocks are handed back as they are.
+#[tactic(auto, using(crate::proofs::FlatLines::flat_unrolled))]
+pub(crate) fn unroll(setting: &Setting, heads: Vec<Head>) -> Result<Vec<Head>, ExpandFault>
+    requires setting { IsSetting setting.now }
+    requires lies { All (HeadLies setting.now.source.now) heads.items }
+    ensures lines { GivesItems result (unrolled setting.now.source.now (table setting.now) setting.now.rules.now setting.now.equs.now heads.items) }
+    ensures inside { IfOk result (λ v. All (HeadLies setting.now.source.now) v.items) }
+{
+    if heads.len() <= 4096 && are_flat(&heads) {
+        Ok(heads)
+    } else {
+        unroll_blocks(setting, &heads)
+    }
 }
