@@ -19,3 +19,4 @@ pub mod TablePlaces
 pub mod PlainHeads
 pub mod PlainLines
 pub mod FlatLines
+pub mod Settled

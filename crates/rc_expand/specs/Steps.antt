@@ -1,7 +1,7 @@
 -- Names that are tested one after the other. Contracts of private functions speak of this; what has to hold is said in Heads and Expansion.
-use Rattle.std.specs.Prelude.{◌≡◌, ◌≢◌, ℕ, Bool, true, false, ◌&&◌, not, List, [], ◌∷◌, ◌++◌, Option, Some, None, if◌then◌else◌, option_and_then, Result, Ok, Err, IfSome, map}
+use Rattle.std.specs.Prelude.{is_some, ◌≡◌, ◌≢◌, ℕ, Bool, true, false, ◌&&◌, not, List, [], ◌∷◌, ◌++◌, Option, Some, None, if◌then◌else◌, option_and_then, Result, Ok, Err, IfSome, map}
 use Rattle.std.specs.Global.{Vec}
-use Rattle.std.specs.List.{list_any}
+use Rattle.std.specs.List.{list_any, list_all}
 use Rattle.std.specs.Str.{bytes_eq}
 use Rattle.rc_text.specs.declared.token.Token.{Token}
 use Rattle.rc_text.specs.Symbols.{name_of}
@@ -13,7 +13,7 @@ use Rattle.rc_expand.specs.declared.line.Line.{Line}
 use Rattle.rc_expand.specs.declared.fault.ExpandFault.{ExpandFault}
 use Rattle.rc_expand.specs.declared.fault.ExpandKind.TheVariants.{OutOfMemory}
 use Rattle.rc_expand.specs.Names.{Table}
-use Rattle.rc_expand.specs.Replace.{Equs}
+use Rattle.rc_expand.specs.Replace.{Equs, equ_at}
 use Rattle.rc_expand.specs.Unroll.{is_known}
 use Rattle.rc_expand.specs.Heads.{equ_of_line, Heads}
 
@@ -67,3 +67,7 @@ is_flat_by _ spoiled = not spoiled
 
 abbrev pub is_flat_line : Head → Bool
 is_flat_line h = is_flat_by h.word h.spoiled
+
+-- no token is an EQU name
+abbrev pub are_settled : List ℕ → Equs → List Token → Bool
+are_settled source equs tokens = list_all (λ t. not (is_some (equ_at source equs t))) tokens

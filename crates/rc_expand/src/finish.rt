@@ -3,7 +3,7 @@ ghost use Rattle.std.specs.Prelude.{◌≡◌, ◌++◌, ◌≤◌, length, flat
 ghost use Rattle.rc_text.specs.Symbols.{LiesIn};
 ghost use Rattle.rc_expand.specs.Lines.{HeadLies};
 ghost use Rattle.rc_expand.specs.NameTables.{AreLinks};
-ghost use Rattle.rc_expand.specs.Replace.{EqusLie, exempt_len_of_code, line_tokens, Replaces};
+ghost use Rattle.rc_expand.specs.Replace.{EqusLie, exempt_len_of_code, exempt_len, line_tokens, Replaces};
 ghost use Rattle.rc_expand.specs.Unroll.{Gives};
 ghost use Rattle.rc_expand.specs.Setting.{IsSetting};
 ghost use Rattle.rc_expand.specs.Expansion.{LineLies, as_list, line_word, own_labels, other_labels, made_line, line_of};
@@ -13,7 +13,7 @@ use crate::fault::{ExpandFault, ExpandKind, fault};
 use crate::head::{Head, HeadWord};
 use crate::labels::label_token;
 use crate::line::{Line, LineWord, Tokens};
-use crate::links::Links;
+use crate::links::{Links, stay};
 use crate::opening::replace_fault;
 use crate::replace::{Equ, ReplaceFault, replace_tokens};
 use crate::setting::Setting;
@@ -117,7 +117,20 @@ fn exempt_len_of_code(source: &[u8], tokens: &[Token]) -> usize
     }
 }
 
+// How many tokens at the front of a line are left alone.
+fn exempt_len(source: &[u8], word: HeadWord, tokens: &[Token]) -> usize
+    requires { All (LiesIn source.now) tokens.now }
+    ensures exempt { result ≡ exempt_len source.now word tokens.now }
+    ensures room { result ≤ length tokens.now }
+{
+    match word {
+        HeadWord::Code => exempt_len_of_code(source, tokens),
+        _ => 0,
+    }
+}
+
 // The tokens of a line with their EQU names replaced.
+#[tactic(auto, using(crate::proofs::Settled::line_settled))]
 fn line_tokens(
     alloc: Global,
     source: &[u8],
@@ -132,12 +145,12 @@ fn line_tokens(
     ensures tokens { Replaces result (line_tokens source.now equs.now word tokens.now) }
     ensures inside { IfOk result (All (LiesIn source.now)) }
 {
-    let exempt = match word {
-        HeadWord::Code => exempt_len_of_code(source, tokens),
-        _ => 0,
-    };
-    let replaced = replace_tokens(alloc, source, &tokens[exempt..], equs, links)?;
-    Ok(with_front(alloc, &tokens[..exempt], replaced.into_vec())?)
+    let (front, back) = tokens.split_at(exempt_len(source, word, tokens));
+    if stay(source, back, equs) {
+        return Ok(with_front(alloc, tokens, Vec::new(alloc))?);
+    }
+    let replaced = replace_tokens(alloc, source, back, equs, links)?;
+    Ok(with_front(alloc, front, replaced.into_vec())?)
 }
 
 // The word of a line of the expansion.

@@ -1,7 +1,8 @@
 //! Which EQU names the tokens of EQU names are.
-ghost use Rattle.std.specs.Prelude.{◌≡◌, All, IfOk, IfSome, option_map, map};
+ghost use Rattle.std.specs.Prelude.{◌≡◌, ◌≤◌, true, length, All, IfOk, IfSome, option_map, map};
 ghost use Rattle.rc_text.specs.Symbols.{LiesIn};
 ghost use Rattle.rc_expand.specs.Replace.{EqusLie, equ_at};
+ghost use Rattle.rc_expand.specs.Steps.{are_settled};
 ghost use Rattle.rc_expand.specs.NameTables.{at_place, ArePlaces, AreLinks};
 
 use crate::replace::Equ;
@@ -44,6 +45,30 @@ fn equ_place(source: &[u8], token: &Token, equs: &NameTable<Equ>) -> Option<usiz
     } else {
         None
     }
+}
+
+// Whether no token is an EQU name.
+fn are_settled(source: &[u8], tokens: &[Token], equs: &NameTable<Equ>) -> bool
+    requires { All (LiesIn source.now) tokens.now }
+    ensures { result ≡ true → are_settled source.now equs.now tokens.now ≡ true }
+{
+    let mut rest = tokens;
+    while let Some((token, after)) = rest.split_first() {
+        if equ_place(source, token, equs).is_some() {
+            return false;
+        }
+        rest = after;
+    }
+    true
+}
+
+/// Whether tokens stay as they are when their EQU names are replaced: there is none, and they are not too many.
+pub(crate) fn stay(source: &[u8], tokens: &[Token], equs: &NameTable<Equ>) -> bool
+    requires { All (LiesIn source.now) tokens.now }
+    ensures settled { result ≡ true → are_settled source.now equs.now tokens.now ≡ true }
+    ensures few { result ≡ true → length tokens.now ≤ 4096 }
+{
+    tokens.len() <= 4096 && are_settled(source, tokens, equs)
 }
 
 /// The places of the EQU names that tokens are.

@@ -200,7 +200,7 @@ pub(crate) fn read_lines(alloc: Global, source: &[u8]) -> Result<Vec<Head>, Expa
             if push_line(alloc, source, &mut heads, &line)? {
                 return Ok(heads);
             }
-            line = Vec::new(alloc);
+            line.clear();
         } else {
             line.push(token)?;
         }
