@@ -1,0 +1,3 @@
+pub mod CapRows
+pub mod Certificates
+pub mod Scores
