@@ -1,0 +1,43 @@
+-- What was found after all vectors.
+use Rattle.std.proofs.Common.{◌≡◌, ℕ, ◌<◌, ◌≤◌, arith, List, Option, Some, None, ◌∙◌, ap, subst, map}
+use Rattle.std.specs.List.{range_with_len}
+use Rattle.tune_cert.specs.Problem.{Problem}
+use Rattle.tune_cert.specs.Optimum.{total_of, HasTotal, IsOptimum, candidates_of}
+use Rattle.tune_cert.specs.declared.row.Row.{Row}
+use Rattle.tune_search.specs.Plays.{row_of, rows_of}
+use Rattle.tune_search.specs.Progress.{IsBest, IsLead, IsProgress}
+use Rattle.tune_search.specs.declared.progress.Lead.{Lead}
+
+best_optimum : (p : Problem) (v t : ℕ) → IsBest p p.count v t → IsOptimum p v
+best_optimum p v t h =
+    let made : total_of p h.warrior ≡ t = h.scores in
+    record {
+      warrior = h.warrior;
+      inside = h.inside;
+      candidate = h.candidate;
+      greatest = λ u x l is. let le : total_of p x ≤ t = h.greatest u x l is in omega arith;
+      first = λ u x l is same. h.first u x l is (same ∙ made);
+    }
+
+module _ (p : Problem) (k : ℕ) (rows : List Row) (lead : Option Lead) (candidates fights : ℕ) (h : IsProgress p k rows lead candidates fights) (e : k ≡ p.count) where
+  pub ends_lead : IsLead p p.count lead
+  ends_lead = subst (λ (n : ℕ). IsLead p n lead) e h.lead_is
+
+  pub ends_best : (best : Lead) → lead ≡ Some best → IsBest p p.count best.vector best.total
+  ends_best best is = subst (λ (l : Option Lead). IsLead p p.count l) is ends_lead
+
+  pub ends_optimum : (best : Lead) → lead ≡ Some best → IsOptimum p best.vector
+  ends_optimum best is = best_optimum p best.vector best.total (ends_best best is)
+
+  pub ends_total : (best : Lead) → lead ≡ Some best → HasTotal p best.vector best.total
+  ends_total best is = let b = ends_best best is in (b.warrior, b.candidate, b.scores)
+
+  pub ends_none : lead ≡ None → (v : ℕ) → v < p.count → p.warrior v ≡ None
+  ends_none is = subst (λ (l : Option Lead). IsLead p p.count l) is ends_lead
+
+  pub ends_rows : rows ≡ rows_of p
+  ends_rows = h.rows_are ∙ ap (λ n. map (row_of p) (range_with_len 0 n)) e
+
+  pub ends_candidates : candidates ≡ candidates_of p
+  unfolding candidates_of
+  ends_candidates = h.count ∙ ap (λ n. candidates_of (record p { count = n })) e

@@ -1,0 +1,34 @@
+use Rattle.std.proofs.Common.{arith, ◌≡◌, ◌∙◌}
+use Rattle.tune_cert.specs.Problem.{problem_of}
+use Rattle.tune_search.proofs.Ends.{ends_optimum, ends_total, ends_none, ends_rows, ends_candidates}
+use Rattle.tune_search.proofs.tuning.search.Goals as goal
+
+pub returns-in-None-clause-none : goal.returns-in-None-clause-none
+returns-in-None-clause-none c =
+    let p = problem_of c.args.inputs.now in
+    let e : c.loop-vector.vector ≡ p.count = omega (arith, c.loop-vector-test.false, c.loop-vector.auto.vector-end, c.count_of-vector-end.ensures.count) in
+    λ f. ends_none p c.loop-vector.vector _ _ _ _ c.loop-vector.invariant.state e c.in-None.is
+
+pub returns-clause-optimum : goal.returns-clause-optimum
+returns-clause-optimum c =
+    let p = problem_of c.args.inputs.now in
+    let e : c.loop-vector.vector ≡ p.count = omega (arith, c.loop-vector-test.false, c.loop-vector.auto.vector-end, c.count_of-vector-end.ensures.count) in
+    ends_optimum p c.loop-vector.vector _ _ _ _ c.loop-vector.invariant.state e c.in-Some.lead c.in-Some.is
+
+pub returns-clause-total : goal.returns-clause-total
+returns-clause-total c =
+    let p = problem_of c.args.inputs.now in
+    let e : c.loop-vector.vector ≡ p.count = omega (arith, c.loop-vector-test.false, c.loop-vector.auto.vector-end, c.count_of-vector-end.ensures.count) in
+    ends_total p c.loop-vector.vector _ _ _ _ c.loop-vector.invariant.state e c.in-Some.lead c.in-Some.is
+
+pub returns-clause-candidates : goal.returns-clause-candidates
+returns-clause-candidates c =
+    let p = problem_of c.args.inputs.now in
+    let e : c.loop-vector.vector ≡ p.count = omega (arith, c.loop-vector-test.false, c.loop-vector.auto.vector-end, c.count_of-vector-end.ensures.count) in
+    ends_candidates p c.loop-vector.vector _ _ _ _ c.loop-vector.invariant.state e
+
+pub returns-clause-rows : goal.returns-clause-rows
+returns-clause-rows c =
+    let p = problem_of c.args.inputs.now in
+    let e : c.loop-vector.vector ≡ p.count = omega (arith, c.loop-vector-test.false, c.loop-vector.auto.vector-end, c.count_of-vector-end.ensures.count) in
+    c.from_vec.ensures ∙ ends_rows p c.loop-vector.vector _ _ _ _ c.loop-vector.invariant.state e

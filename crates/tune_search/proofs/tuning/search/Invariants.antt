@@ -1,0 +1,12 @@
+use Rattle.std.proofs.Common.{◌≡◌}
+use Rattle.mars_core.specs.Arena.{blank_arena}
+use Rattle.tune_cert.specs.Problem.{problem_of}
+use Rattle.tune_search.specs.Progress.{IsState}
+use Rattle.tune_search.proofs.tuning.search.Given as goal
+
+-- so many vectors were visited
+abbrev pub invariant-loop-vector : goal.invariant-loop-vector
+invariant-loop-vector l = record {
+  state : IsState (problem_of l.fn.inputs) l.vector l.progress;
+  blank : l.arena ≡ blank_arena l.fn.inputs.rules l.fn.inputs.rules.core;
+}

@@ -1,0 +1,95 @@
+//! What a search has found so far.
+ghost use Rattle.std.specs.Prelude.{◌≡◌, ◌+◌, ◌<◌, ◌≤◌, ℕ, None, length, OnOk, IfOk, IfErr};
+ghost use Rattle.mars_core.specs.Arena.{blank_arena};
+ghost use Rattle.tune_cert.specs.Problem.{problem_of};
+ghost use Rattle.tune_search.specs.Progress.{IsState, lead_after};
+
+use crate::fault::SearchFault;
+use crate::fights::play_all;
+use mars_core::{Arena, PlainCells};
+use rc_asm::AsmKind;
+use std::alloc::Global;
+use tune_cert::{Listing, Row};
+use tune_template::Inputs;
+
+/// The best vector so far, and its total.
+#[derive(Clone, Copy)]
+pub(crate) struct Lead {
+    pub(crate) vector: u32,
+    pub(crate) total: u32,
+}
+
+/// The rows of the vectors so far, the best of them, how many are candidates, and how many fights were played.
+#[derive(Drop)]
+pub(crate) struct Progress {
+    pub(crate) rows: Vec<Row>,
+    pub(crate) lead: Option<Lead>,
+    pub(crate) candidates: u32,
+    pub(crate) fights: u64,
+}
+
+/// The lead after a vector with a total: an earlier vector with the same total stays.
+fn lead_after(vector: u32, total: u32, lead: Option<Lead>) -> Option<Lead>
+    ensures { result ≡ lead_after vector total lead }
+{
+    match lead {
+        None => Some(Lead { vector, total }),
+        Some(best) => {
+            if best.total < total {
+                Some(Lead { vector, total })
+            } else {
+                Some(best)
+            }
+        }
+    }
+}
+
+impl Progress {
+    /// Before the first vector.
+    pub(crate) fn begin(alloc: Global, inputs: &Inputs) -> Result<Progress, SearchFault>
+        ensures state { IfOk result (IsState (problem_of inputs.now) 0) }
+        ensures err { IfErr result (λ e. e ≡ SearchFault.OutOfMemory) }
+    {
+        let rows = Vec::with_capacity(alloc, inputs.template().count() as usize)?;
+        Ok(Progress {
+            rows,
+            lead: None,
+            candidates: 0,
+            fights: 0,
+        })
+    }
+
+    /// Plays all fights of the next vector's warrior, if there is one.
+    pub(crate) fn visit(
+        &mut self,
+        alloc: Global,
+        arena: &mut Arena<PlainCells>,
+        inputs: &Inputs,
+        vector: u32,
+    ) -> Result<(), SearchFault>
+        requires blank { arena.old ≡ blank_arena inputs.now.rules inputs.now.rules.core }
+        requires inside { vector < (problem_of inputs.now).count }
+        requires few { (problem_of inputs.now).count ≤ 1000000 }
+        requires state { IsState (problem_of inputs.now) vector self.old }
+        ensures state { OnOk result (IsState (problem_of inputs.now) (vector + 1) self.new) }
+        ensures blank { arena.new ≡ blank_arena inputs.now.rules inputs.now.rules.core }
+        ensures err { IfErr result (λ e. e ≡ SearchFault.OutOfMemory) }
+    {
+        let warrior = match inputs.template().instance(alloc, vector, inputs.rules()) {
+            Ok(warrior) => warrior,
+            Err(fault) => {
+                if fault.kind == AsmKind::OutOfMemory {
+                    return Err(SearchFault::OutOfMemory);
+                }
+                self.rows.push(Row::Refused)?;
+                return Ok(());
+            }
+        };
+        let bout = play_all(alloc, arena, inputs, &warrior)?;
+        self.fights += bout.row.len() as u64;
+        self.candidates += 1;
+        self.lead = lead_after(vector, bout.total, self.lead);
+        self.rows.push(Row::Cap(Listing::from_vec(bout.row)))?;
+        Ok(())
+    }
+}

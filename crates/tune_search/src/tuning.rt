@@ -1,0 +1,63 @@
+//! The search.
+ghost use Rattle.std.specs.Prelude.{◌≡◌, ◌*◌, ◌<◌, ◌≤◌, ℕ, None, IfOk, IfErr};
+ghost use Rattle.tune_cert.specs.Problem.{problem_of};
+ghost use Rattle.tune_cert.specs.Optimum.{IsOptimum, HasTotal, candidates_of};
+ghost use Rattle.tune_cert.specs.Valid.{IsValid};
+ghost use Rattle.tune_search.specs.Plays.{rows_of};
+
+use crate::fault::SearchFault;
+use crate::progress::Progress;
+use mars_core::{Arena, PlainCells};
+use std::alloc::Global;
+use tune_cert::{Found, Rows};
+use tune_template::Inputs;
+
+/// How many vectors there are.
+fn count_of(inputs: &Inputs) -> u32
+    ensures count { result ≡ (problem_of inputs.now).count }
+    ensures few { result ≤ 1000000 }
+{
+    inputs.template().count()
+}
+
+/// Finds the vector of the template that scores most in the fights of the schedule: the first one, in the order of the vectors, whose
+/// warrior has the greatest total. All fights of every candidate are played, in one arena.
+///
+/// The row of a vector is `Refused` where no warrior is made of it, for whatever cause but want of memory, and else `Cap` with all fights
+/// by number and their points. No row is copied or refers to another one. The capacity, 1 to 65536, is how many warriors a search may
+/// remember at a time; this search remembers none, and does not use it. (This project's own.)
+///
+/// Refuses `NoCandidate` where no warrior is made of any vector, and `OutOfMemory` where memory was refused.
+pub fn search(alloc: Global, inputs: &Inputs, capacity: u32) -> Result<Found, SearchFault>
+    requires capacity { (1 ≤ capacity) × (capacity ≤ 65536) }
+    ensures optimum { IfOk result (λ f. IsOptimum (problem_of inputs.now) f.best) }
+    ensures total { IfOk result (λ f. HasTotal (problem_of inputs.now) f.best f.total) }
+    ensures candidates { IfOk result (λ f. f.candidates ≡ candidates_of (problem_of inputs.now)) }
+    ensures rows { IfOk result (λ f. f.rows ≡ rows_of (problem_of inputs.now)) }
+    ensures fights { IfOk result (λ f. f.fights ≡ f.candidates * (problem_of inputs.now).fights) }
+    ensures copied { IfOk result (λ f. f.copied ≡ None) }
+    ensures none { let p = problem_of inputs.now in IfErr result (λ e. e ≡ SearchFault.NoCandidate → (v : ℕ) → v < p.count → p.warrior v ≡ None) }
+{
+    let mut arena = Arena::<PlainCells>::try_new(alloc, inputs.rules())?;
+    let mut progress = Progress::begin(alloc, inputs)?;
+    for vector in 0..count_of(inputs) {
+        progress.visit(alloc, &mut arena, inputs, vector)?;
+    }
+    let Progress {
+        rows,
+        lead,
+        candidates,
+        fights,
+    } = progress;
+    match lead {
+        None => Err(SearchFault::NoCandidate),
+        Some(lead) => Ok(Found {
+            best: lead.vector,
+            total: lead.total,
+            rows: Rows::from_vec(rows),
+            fights,
+            candidates,
+            copied: None,
+        }),
+    }
+}
