@@ -7,6 +7,8 @@ use Rattle.tune_cert.specs.declared.row.Row.{Row}
 use Rattle.tune_search.specs.Plays.{row_of, rows_of}
 use Rattle.tune_search.specs.Progress.{IsBest, IsLead, IsProgress}
 use Rattle.tune_search.specs.declared.progress.Lead.{Lead}
+use Rattle.tune_cert.specs.Valid.{IsValid}
+use Rattle.tune_search.proofs.Rightness.{rows_valid}
 
 best_optimum : (p : Problem) (v t : ℕ) → IsBest p p.count v t → IsOptimum p v
 best_optimum p v t h =
@@ -41,3 +43,6 @@ module _ (p : Problem) (k : ℕ) (rows : List Row) (lead : Option Lead) (candida
   pub ends_candidates : candidates ≡ candidates_of p
   unfolding candidates_of
   ends_candidates = h.count ∙ ap (λ n. candidates_of (record p { count = n })) e
+
+  pub ends_valid : (best : Lead) → lead ≡ Some best → IsValid p p.count best.vector best.total rows
+  ends_valid best is = rows_valid p rows ends_rows best.vector best.total (ends_best best is)

@@ -1,3 +1,4 @@
 pub mod Ranges
 pub mod Visits
 pub mod Ends
+pub mod Rightness

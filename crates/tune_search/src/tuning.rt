@@ -32,6 +32,7 @@ pub fn search(alloc: Global, inputs: &Inputs, capacity: u32) -> Result<Found, Se
     requires capacity { (1 ≤ capacity) × (capacity ≤ 65536) }
     ensures optimum { IfOk result (λ f. IsOptimum (problem_of inputs.now) f.best) }
     ensures total { IfOk result (λ f. HasTotal (problem_of inputs.now) f.best f.total) }
+    ensures valid { let p = problem_of inputs.now in IfOk result (λ f. IsValid p p.count f.best f.total f.rows) }
     ensures candidates { IfOk result (λ f. f.candidates ≡ candidates_of (problem_of inputs.now)) }
     ensures rows { IfOk result (λ f. f.rows ≡ rows_of (problem_of inputs.now)) }
     ensures fights { IfOk result (λ f. f.fights ≡ f.candidates * (problem_of inputs.now).fights) }
