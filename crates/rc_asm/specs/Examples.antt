@@ -84,10 +84,10 @@ expressions = refl
 -- a warrior with a header, an assertion, EQU, labels, ORG and END
 dwarf : shown (limits 8000 80000 8000 100 100) (codes "From: a mail header" ∷ codes ";redcode-94" ∷ codes ";assert CORESIZE % 4 == 0" ∷ codes "step EQU 4" ∷ codes "  ORG start" ∷ codes "bomb DAT #0, #0" ∷ codes "start ADD #step, bomb" ∷ codes "  MOV bomb, @bomb" ∷ codes "  JMP start" ∷ codes "  END" ∷ [])
     ≡ Some (
-    Some (i op.Dat mod'.F mode.Immediate 0 mode.Immediate 0 ∷ i op.Add mod'.AB mode.Immediate 4 mode.Direct 7999 ∷ i op.Mov mod'.I mode.Direct 7998 mode.BIndirect 7998 ∷ i op.Jmp mod'.B mode.Direct 7998 mode.Direct 0 ∷ []),
-    true,
-    Some (pos 1),
-  )
+      Some (i op.Dat mod'.F mode.Immediate 0 mode.Immediate 0 ∷ i op.Add mod'.AB mode.Immediate 4 mode.Direct 7999 ∷ i op.Mov mod'.I mode.Direct 7998 mode.BIndirect 7998 ∷ i op.Jmp mod'.B mode.Direct 7998 mode.Direct 0 ∷ []),
+      true,
+      Some (pos 1),
+    )
 unfolding opcode_at modifier_at parts with_operands with_modifier behind_opcode shape_of stands_for given_names core_number operand_at made shaped instruction_at default_modifier_of heads_of equs_of line_of replaced unrolled is_taken count_of opening block_of one_line copied_line replaced_tokens is_free is_opcode word_of_name head_of lines_read is_opcode_word before_operand after_operand
 dwarf = refl
 
