@@ -35,7 +35,7 @@ fn play_one(arena: &mut Arena<PlainCells>, inputs: &Inputs, warrior: &Warrior, n
 }
 
 /// Plays all fights of a warrior, by number.
-#[tactic(auto, using(crate::proofs::Ranges::sum_more, crate::proofs::Ranges::map_more), unfolding(tune_cert::specs::Optimum::total_of))]
+#[tactic(auto, unfolding(tune_cert::specs::Optimum::total_of))]
 pub(crate) fn play_all(
     alloc: Global,
     arena: &mut Arena<PlainCells>,

@@ -116,3 +116,15 @@ fn equal_fights_count_as_often_as_listed(rt: HostRuntime) -> Result<(), Fail> {
     assert_eq!(rt; text.as_str(), "best 0 6, 1 and 2: cap 0-3 1-3");
     Ok(())
 }
+
+#[test]
+fn texts_of_faults(rt: HostRuntime) -> Result<(), Fail> {
+    for (fault, want) in [
+        (SearchFault::NoCandidate, "no vector makes a warrior"),
+        (SearchFault::OutOfMemory, "out of memory"),
+    ] {
+        let text = format!(in rt.alloc(); "{fault}")?;
+        assert_eq!(rt; text.as_str(), want);
+    }
+    Ok(())
+}
