@@ -3,3 +3,6 @@ pub mod Pieces
 pub mod Limits
 pub mod Refusals
 pub mod Words
+pub mod Opponents
+pub mod Constants
+pub mod Tunings

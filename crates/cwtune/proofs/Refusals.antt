@@ -5,7 +5,7 @@ use Rattle.rc_instr.specs.Warrior.{Program}
 use Rattle.rc_asm.specs.Assembly.{Assembles}
 use Rattle.cwtune.specs.AsmRun.{IsAsmRefusal}
 use Rattle.cwtune.specs.declared.fault.RunFault.{RunFault}
-use Rattle.cwtune.specs.declared.fault.RunFault.TheVariants.{FightText, Rules, Load, Position, Asm, Write, OutOfMemory}
+use Rattle.cwtune.specs.declared.fault.RunFault.TheVariants.{FightText, Rules, Load, Position, Asm, TooManyOpponents, Template, Opponent, Schedule, NoCandidate, Write, OutOfMemory}
 
 -- a text that assembles is refused for want of memory alone
 pub only_memory : (e : RunFault) (source : List ℕ) (rules : Limits) (w : Program) → IsAsmRefusal e source rules → Assembles source [] rules w →
@@ -15,5 +15,10 @@ only_memory (Rules e) source rules w r a = absurd r
 only_memory (Load side fault) source rules w r a = absurd r
 only_memory Position source rules w r a = absurd r
 only_memory (Asm fault) source rules w r a = absurd (r.1 w a)
+only_memory TooManyOpponents source rules w r a = absurd r
+only_memory (Template fault) source rules w r a = absurd r
+only_memory (Opponent index fault) source rules w r a = absurd r
+only_memory (Schedule fault) source rules w r a = absurd r
+only_memory NoCandidate source rules w r a = absurd r
 only_memory Write source rules w r a = absurd r
 only_memory OutOfMemory source rules w r a = inr refl

@@ -16,7 +16,7 @@ use Rattle.mars_core.specs.declared.side.Side.TheVariants.{Candidate, Opponent}
 use Rattle.cwtune.specs.FightText.{FightWords, fight_words}
 use Rattle.cwtune.specs.ResultLine.{result_line}
 use Rattle.cwtune.specs.declared.fault.RunFault.{RunFault}
-use Rattle.cwtune.specs.declared.fault.RunFault.TheVariants.{FightText, Rules, Load, Position, Asm, Write, OutOfMemory}
+use Rattle.cwtune.specs.declared.fault.RunFault.TheVariants.{FightText, Rules, Load, Position, OutOfMemory}
 
 -- bytes are the load file of a warrior that keeps the rules
 pub record Loads (rules : Limits) (bytes : List ℕ) (w : Program) : Type 0 where
@@ -57,9 +57,8 @@ IsRefusal (Load Opponent fault) text =
 IsRefusal Position text =
     (w : FightWords) × (c : Program) × (o : Program) × (fight_words text ≡ Ok w) × IsRules w.rules
     × Loads w.rules w.candidate c × Loads w.rules w.opponent o × (¬ IsApart w.rules w.position)
-IsRefusal (Asm fault) text = ⊥
-IsRefusal Write text = ⊥
 IsRefusal OutOfMemory text = Unit {0}
+IsRefusal _ text = ⊥
 
 -- why the load file of a side is refused, as a fault of a run
 abbrev pub IsLoadRefusal : RunFault → Side → Limits → List ℕ → Type 0

@@ -13,8 +13,8 @@ use rc_instr::{OutOfMemory, Outlet, Rules, Warrior, write_loadfile};
 use std::alloc::Global;
 use std::io::Write;
 
-/// The warrior of a text without constants.
-fn warrior_of(alloc: Global, source: &[u8], rules: &Rules) -> Result<Warrior, RunFault>
+/// The warrior of a text without constants. A fault is one of its assembly, or want of memory.
+pub(crate) fn warrior_of(alloc: Global, source: &[u8], rules: &Rules) -> Result<Warrior, RunFault>
     ensures warrior { IfOk result (Assembles source.now [] rules.now) }
     ensures fits { IfOk result (Fits rules.now) }
     ensures refused { IfErr result (λ e. IsAsmRefusal e source.now rules.now) }

@@ -1,19 +1,35 @@
 //! The words of the command line, as the library `clap` reads them.
-ghost use Rattle.std.specs.Prelude.{◌≡◌, ◌↔◌, map, IsTrue, string_bytes};
-ghost use Rattle.cwtune.specs.CommandLine.{AskForFight};
+ghost use Rattle.std.specs.Prelude.{◌≡◌, ◌↔◌, ◌≤◌, map, IfOk, IsTrue, string_bytes};
+ghost use Rattle.cwtune.specs.CommandLine.{AskForFight, IsRequest};
 
 use crate::numbers::FiveNumbers;
 use clap::{Arg, ArgAction, ArgMatches, Command, Error, value_parser};
 use rc_instr::Rules;
 use std::alloc::{AllocError, Global};
 
+/// The warriors that a search may remember, unless an option says otherwise.
+const CAPACITY: u32 = 4096;
+
+/// The words for a tuning: the rules, the capacity of the search, and the names of the files.
+#[derive(Drop)]
+pub(crate) struct TuneWords<'a> {
+    pub(crate) numbers: FiveNumbers,
+    pub(crate) capacity: u32,
+    pub(crate) template: &'a str,
+    pub(crate) schedule: &'a str,
+    pub(crate) cert: &'a str,
+    pub(crate) opponents: Vec<&'a str>,
+}
+
 /// What the words ask for.
-#[derive(Clone, Copy)]
+#[derive(Drop)]
 pub(crate) enum Request<'a> {
     /// To play the fight whose text is on standard input.
     Fight,
     /// To assemble a file under the rules of these numbers.
     Asm { numbers: FiveNumbers, file: &'a str },
+    /// To tune a template.
+    Tune(TuneWords<'a>),
 }
 
 /// An option with a number, which is any that 32 bits hold.
@@ -93,17 +109,93 @@ fn asm<'a>(alloc: Global) -> Result<Command<'a>, AllocError> {
     with_rules(alloc, command)
 }
 
+/// A file that a command needs.
+fn file<'a>(alloc: Global, name: &'a str, help: &'a str) -> Arg<'a> {
+    Arg::new(alloc, name)
+        .required(true)
+        .action(ArgAction::Set)
+        .help(help)
+}
+
+/// The command `tune`.
+fn tune<'a>(alloc: Global) -> Result<Command<'a>, AllocError> {
+    let opponents = file(
+        alloc,
+        "OPPONENT",
+        "The Redcode texts of the opponents, at most 64, in the order of their numbers from 0",
+    )
+    .num_args(1..)
+    .action(ArgAction::Append);
+    let cache = Arg::new(alloc, "cache")
+        .long("cache")
+        .value_name("NUMBER")
+        .action(ArgAction::Set)
+        .value_parser(value_parser!(u32).range(1..65_537))
+        .help("Warriors that the search may remember, 1 to 65536 [default: 4096]");
+    let command = Command::new(alloc, "tune")
+        .about("Finds the best setting of the template in TEMPLATE, and prints a report")
+        .arg(file(
+            alloc,
+            "TEMPLATE",
+            "The Redcode text with the ranges `;@tune NAME LOW HIGH STEP START`",
+        ))?
+        .arg(file(
+            alloc,
+            "SCHEDULE",
+            "The fights: a line `opponent,position,first`, and a line such as `0,4000,c` for each",
+        ))?
+        .arg(file(
+            alloc,
+            "CERT",
+            "The file of the certificate, which is created or replaced, and stays empty so far",
+        ))?
+        .arg(opponents)?
+        .arg(cache)?;
+    with_rules(alloc, command)
+}
+
 /// The program's commands.
 fn commands<'a>(alloc: Global) -> Result<Command<'a>, AllocError> {
     Command::new(alloc, "cwtune")
         .no_binary_name(true)
         .bin_name("cwtune")?
-        .about("Fights between Core War warriors. Without a command it does what `fight` does.")
+        .about(
+            "Fights between Core War warriors, and the best setting of a warrior's constants. Without a command it does what `fight` does.",
+        )
         .after_help(
             "Exit status: 0 done, 1 refused, 2 a command line that is none, 3 a read, a write or memory failed.",
         )
         .subcommand(fight(alloc))?
-        .subcommand(asm(alloc)?)
+        .subcommand(asm(alloc)?)?
+        .subcommand(tune(alloc)?)
+}
+
+/// The capacity that the option gives, which `clap` keeps to 1 to 65536, or the default where it is left out.
+fn capacity_of(found: &ArgMatches<'_>) -> u32
+    ensures { (1 ≤ result) × (result ≤ 65536) }
+{
+    match found.get_one::<u32>("cache") {
+        Some(capacity) if 1 <= capacity && capacity <= 65_536 => capacity,
+        _ => CAPACITY,
+    }
+}
+
+/// The words for a tuning. `clap` requires each of the files.
+fn tune_words<'a>(alloc: Global, found: &ArgMatches<'a>) -> Result<TuneWords<'a>, AllocError>
+    ensures { IfOk result (λ w. (1 ≤ w.capacity) × (w.capacity ≤ 65536)) }
+{
+    let mut opponents = Vec::new(alloc);
+    if let Some(names) = found.get_strs("OPPONENT") {
+        opponents.extend_from_slice(names)?;
+    }
+    Ok(TuneWords {
+        numbers: numbers_of(found),
+        capacity: capacity_of(found),
+        template: found.get_str("TEMPLATE").unwrap_or(""),
+        schedule: found.get_str("SCHEDULE").unwrap_or(""),
+        cert: found.get_str("CERT").unwrap_or(""),
+        opponents,
+    })
 }
 
 /// Whether the words ask for the fight in the plainest way: no word, or `fight` alone.
@@ -122,6 +214,7 @@ fn ask_for_fight(words: &[String]) -> bool
 /// The plainest words for a fight are known without `clap`, which would read them so too, and take no memory.
 pub(crate) fn request_of<'a>(alloc: Global, words: &'a [String]) -> Result<Request<'a>, Error>
     ensures fight { AskForFight (map string_bytes words.entry.now) → result ≡ Ok Request.Fight }
+    ensures capacity { IfOk result IsRequest }
 {
     if ask_for_fight(words) {
         return Ok(Request::Fight);
@@ -133,6 +226,7 @@ pub(crate) fn request_of<'a>(alloc: Global, words: &'a [String]) -> Result<Reque
             // `clap` requires the file
             file: found.get_str("FILE").unwrap_or(""),
         }),
+        Some(("tune", found)) => Ok(Request::Tune(tune_words(alloc, found)?)),
         _ => Ok(Request::Fight),
     }
 }

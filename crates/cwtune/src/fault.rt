@@ -2,11 +2,15 @@
 ghost use Rattle.std.specs.Prelude.{◌≡◌};
 
 use mars_core::Side;
+use mars_fight::ScheduleFault;
 use rc_asm::AsmFault;
 use rc_instr::{LoadFault, OutOfMemory as MemoryRefused, RulesError, WriteFailed};
+use std::alloc::AllocFailed;
 use thiserror::Error;
+use tune_template::TemplateFault;
 
-/// Why a run is refused: the first reason in this order. The first four refuse a fight, `Rules` and `Asm` an assembly.
+/// Why a run is refused: the first reason in this order. The first four refuse a fight, `Rules` and `Asm` an
+/// assembly, `Rules` and those from `TooManyOpponents` to `NoCandidate` a tuning.
 #[derive(Clone, Copy, Debug, PartialEq, Eq, Error)]
 pub enum RunFault {
     /// The text is no fight text, which shows at this line, counted from 1.
@@ -24,6 +28,21 @@ pub enum RunFault {
     /// The text assembles to no warrior. The fault is never want of memory.
     #[error("{0}")]
     Asm(AsmFault),
+    /// There are more than 64 opponents.
+    #[error("more than 64 opponents")]
+    TooManyOpponents,
+    /// The text of the template is none. The fault is never want of memory.
+    #[error("template: {0}")]
+    Template(TemplateFault),
+    /// The text of the opponent of this number, counted from 0, assembles to no warrior. The fault is never want of memory.
+    #[error("opponent {index}: {fault}")]
+    Opponent { index: u32, fault: AsmFault },
+    /// The text of the schedule is none. The fault is never want of memory.
+    #[error("schedule: {0}")]
+    Schedule(ScheduleFault),
+    /// No vector of the template makes a warrior.
+    #[error("no vector makes a warrior")]
+    NoCandidate,
     /// A writer failed.
     #[error("a write failed")]
     Write,
@@ -38,6 +57,16 @@ impl From<MemoryRefused> for RunFault {
     ghost from_gives = { λ _ e. e ≡ MemoryFault };
 
     fn from(_refused: MemoryRefused) -> RunFault {
+        RunFault::OutOfMemory
+    }
+}
+
+impl<T: Drop> From<AllocFailed<T>> for RunFault {
+    ghost use Rattle.cwtune.specs.declared.fault.RunFault.TheVariants.{OutOfMemory as MemoryFault};
+
+    ghost from_gives = { λ _ e. e ≡ MemoryFault };
+
+    fn from(_refused: AllocFailed<T>) -> RunFault {
         RunFault::OutOfMemory
     }
 }

@@ -7,11 +7,13 @@ use crate::fault::RunFault;
 use crate::sending::send;
 use itoa::Buffer;
 use mars_core::Side;
+use mars_fight::{ScheduleFault, ScheduleFaultKind};
 use rc_asm::{AsmFault, AsmKind};
 use rc_expand::ExpandKind;
 use rc_instr::{LoadFault, Outlet, RulesError, WarriorError, WriteFailed};
 use rc_text::{EvalFault, LexFault};
 use std::io::Write;
+use tune_template::{TemplateFault, TemplateKind};
 
 /// The name of a fault of tokens.
 fn lex_name(fault: LexFault) -> &'static str {
@@ -93,6 +95,36 @@ fn asm_name(kind: AsmKind) -> &'static str {
     }
 }
 
+/// The name of a fault of a template.
+fn template_name(kind: TemplateKind) -> &'static str {
+    match kind {
+        TemplateKind::BadLine => "BadLine",
+        TemplateKind::DuplicateName => "DuplicateName",
+        TemplateKind::ReservedName => "ReservedName",
+        TemplateKind::EmptyRange => "EmptyRange",
+        TemplateKind::StartOutside => "StartOutside",
+        TemplateKind::TooManyConstants => "TooManyConstants",
+        TemplateKind::TooManyVectors => "TooManyVectors",
+        TemplateKind::TextTooLong => "TextTooLong",
+        TemplateKind::OutOfMemory => "OutOfMemory",
+    }
+}
+
+/// The name of a fault of a schedule.
+fn schedule_name(kind: ScheduleFaultKind) -> &'static str {
+    match kind {
+        ScheduleFaultKind::Header => "Header",
+        ScheduleFaultKind::FieldCount => "FieldCount",
+        ScheduleFaultKind::BadNumber => "BadNumber",
+        ScheduleFaultKind::NoSuchOpponent => "NoSuchOpponent",
+        ScheduleFaultKind::BadPosition => "BadPosition",
+        ScheduleFaultKind::BadFirst => "BadFirst",
+        ScheduleFaultKind::Empty => "Empty",
+        ScheduleFaultKind::TooMany => "TooMany",
+        ScheduleFaultKind::OutOfMemory => "OutOfMemory",
+    }
+}
+
 /// Writes a space and a word.
 fn say<V: Write>(err: &mut Outlet<V>, word: &str) -> Result<(), WriteFailed>
     requires { err.old.failed ≡ false }
@@ -156,6 +188,27 @@ fn say_load<V: Write>(err: &mut Outlet<V>, fault: LoadFault) -> Result<(), Write
     }
 }
 
+/// Writes the names of a fault of a template, with its line.
+fn say_template<V: Write>(err: &mut Outlet<V>, fault: TemplateFault) -> Result<(), WriteFailed>
+    requires { err.old.failed ≡ false }
+    ensures { err.new.failed ≡ is_err result }
+{
+    say(err, "Template")?;
+    say_line(err, fault.line)?;
+    say(err, template_name(fault.kind))
+}
+
+/// Writes the names of a fault of a schedule, with its row.
+fn say_schedule<V: Write>(err: &mut Outlet<V>, fault: ScheduleFault) -> Result<(), WriteFailed>
+    requires { err.old.failed ≡ false }
+    ensures { err.new.failed ≡ is_err result }
+{
+    say(err, "Schedule")?;
+    say(err, "row")?;
+    say(err, Buffer::new().format(fault.row))?;
+    say(err, schedule_name(fault.kind))
+}
+
 /// Writes the names of a fault of a run.
 fn say_run<V: Write>(err: &mut Outlet<V>, fault: RunFault) -> Result<(), WriteFailed>
     requires { err.old.failed ≡ false }
@@ -180,6 +233,15 @@ fn say_run<V: Write>(err: &mut Outlet<V>, fault: RunFault) -> Result<(), WriteFa
             say(err, "Asm")?;
             say_asm(err, fault)
         }
+        RunFault::TooManyOpponents => say(err, "TooManyOpponents"),
+        RunFault::Template(fault) => say_template(err, fault),
+        RunFault::Opponent { index, fault } => {
+            say(err, "Opponent")?;
+            say(err, Buffer::new().format(index))?;
+            say_asm(err, fault)
+        }
+        RunFault::Schedule(fault) => say_schedule(err, fault),
+        RunFault::NoCandidate => say(err, "NoCandidate"),
         RunFault::Write => say(err, "Write"),
         RunFault::OutOfMemory => say(err, "OutOfMemory"),
     }
@@ -202,6 +264,15 @@ pub(crate) fn tell_unread<V: Write>(err: &mut Outlet<V>, name: &str) -> Result<(
     requires { err.old.failed ≡ false }
 {
     send(err, b"failed: read")?;
+    say(err, name)?;
+    send(err, b"\n")
+}
+
+/// Writes the line of a file that cannot be created: `failed: create NAME`.
+pub(crate) fn tell_uncreated<V: Write>(err: &mut Outlet<V>, name: &str) -> Result<(), WriteFailed>
+    requires { err.old.failed ≡ false }
+{
+    send(err, b"failed: create")?;
     say(err, name)?;
     send(err, b"\n")
 }

@@ -1,4 +1,4 @@
-//! `cwtune`: fights between Core War warriors, and the assembly of warriors.
+//! `cwtune`: fights between Core War warriors, the assembly of warriors, and the best setting of a warrior's constants.
 #![tactic(auto)]
 
 pub mod asm;
@@ -10,10 +10,13 @@ pub(crate) mod fight_text;
 pub(crate) mod numbers;
 pub mod program;
 pub(crate) mod reading;
+pub(crate) mod report;
 pub(crate) mod result_line;
 pub(crate) mod sending;
 #[cfg(test)]
 mod tests;
+pub mod tune;
+pub(crate) mod tune_inputs;
 
 pub use asm::asm_run;
 pub use fault::RunFault;
@@ -21,6 +24,7 @@ pub use fight::fight_run;
 use rc_instr::Outlet;
 use std::process::ExitCode;
 use std::{env, io};
+pub use tune::tune_run;
 
 /// The words behind the program's name.
 fn words_of(rt: &HostRuntime) -> io::Result<Vec<String>> {

@@ -3,22 +3,24 @@ ghost use Rattle.std.specs.Prelude.{◌≡◌, ◌≢◌, ◌⊎◌, ◌≤◌, 
 ghost use Rattle.rc_instr.specs.Rules.{limits};
 ghost use Rattle.cwtune.specs.FightRun.{TellsFight, IsRefusedText, IsInput};
 ghost use Rattle.cwtune.specs.AsmRun.{TellsWarrior};
+ghost use Rattle.cwtune.specs.TuneRun.{Texts, TellsTuning};
 ghost use Rattle.cwtune.specs.CommandLine.{AskForFight};
 
 use crate::asm::asm_run;
-use crate::command_line::{Request, request_of};
+use crate::command_line::{Request, TuneWords, request_of};
 use crate::fault::RunFault;
-use crate::fault_line::{tell_run, tell_unread};
+use crate::fault_line::{tell_run, tell_uncreated, tell_unread};
 use crate::fight::fight_run;
 use crate::numbers::{FiveNumbers, rules_of};
-use crate::reading::{read_file, read_text};
+use crate::reading::{read_file, read_text, read_texts};
 use crate::sending::send;
+use crate::tune::tune_run;
 use clap::error::ErrorKind;
 use rc_instr::Outlet;
 use std::alloc::Global;
-use std::io;
 use std::io::{Read, Write};
 use std::rt::Files;
+use std::{fs, io};
 
 /// The exit status where all was done.
 const DONE: u8 = 0;
@@ -63,6 +65,18 @@ fn end_unread<V: Write>(err: &mut Outlet<V>, error: &io::Error, name: &str) -> u
         return end_without_memory(err);
     }
     let _ = tell_unread(err, name);
+    FAILED
+}
+
+/// Names a file that was not created on standard error, and answers the exit status.
+fn end_uncreated<V: Write>(err: &mut Outlet<V>, error: &io::Error, name: &str) -> u8
+    requires { err.old.failed ≡ false }
+    ensures { result ≡ 3 }
+{
+    if error.kind() == io::ErrorKind::OutOfMemory {
+        return end_without_memory(err);
+    }
+    let _ = tell_uncreated(err, name);
     FAILED
 }
 
@@ -133,6 +147,49 @@ fn asm<F: Files, W: Write, V: Write>(
     }
 }
 
+/// Tunes the template that the words name, and answers the exit status.
+fn tune<F: Files, W: Write, V: Write>(
+    rt: &F,
+    alloc: Global,
+    words: &TuneWords<'_>,
+    out: &mut Outlet<W>,
+    err: &mut Outlet<V>,
+) -> u8
+    requires capacity { (1 ≤ words.now.capacity) × (words.now.capacity ≤ 65536) }
+    requires out { out.old.failed ≡ false }
+    requires err { err.old.failed ≡ false }
+    ensures done { result ≡ 0 → (t : Texts) × TellsTuning t out.old.bytes out.new.bytes }
+    ensures refused { result ≡ 1 → out.new ≡ out.old }
+    ensures failed { IsTrue out.new.failed → result ≡ 3 }
+    ensures status { (result ≤ 3) × (result ≢ 2) }
+{
+    let rules = match rules_of(words.numbers) {
+        Ok(rules) => rules,
+        Err(error) => return end_run(err, RunFault::Rules(error)),
+    };
+    let texts = match read_texts(rt, alloc, words) {
+        Ok(texts) => texts,
+        Err(unread) => return end_unread(err, &unread.error, unread.name),
+    };
+    let mut cert = match fs::create(rt, words.cert) {
+        Ok(file) => Outlet::new(file),
+        Err(error) => return end_uncreated(err, &error, words.cert),
+    };
+    match tune_run(
+        alloc,
+        texts.template.as_slice(),
+        texts.opponents.as_slice(),
+        texts.schedule.as_slice(),
+        &rules,
+        words.capacity,
+        out,
+        &mut cert,
+    ) {
+        Ok(()) => DONE,
+        Err(fault) => end_run(err, fault),
+    }
+}
+
 /// Shows what `clap` answered: help on standard output, or else what is wrong with the words; and answers the exit status.
 fn show<W: Write, V: Write>(
     alloc: Global,
@@ -170,7 +227,8 @@ fn show<W: Write, V: Write>(
 ///
 /// Without words, or with the word `fight`, it reads a fight text from the input and writes one result line. `asm` assembles the
 /// Redcode text of a file under the rules that its options give, and writes the load file of its warrior; the rules are made before
-/// the file is read. A text has at most 1073741824 bytes; a longer one cannot be read. `--help` and `help` write `clap`'s text and are done.
+/// the file is read. `tune` finds the best setting of a template against opponents, and writes the report: the rules are made first, then
+/// the template, the schedule and the opponents are read, and then the file of the certificate is created. A text has at most 1073741824 bytes; a longer one cannot be read. `--help` and `help` write `clap`'s text and are done.
 ///
 /// Standard error gets a line that begins with `refused: ` where the status is 1, `clap`'s text where it is 2, and a line that begins
 /// with `failed: ` where it is 3; that such a write fails changes nothing. Neither outlet has failed. The command line, the lines and the
@@ -202,6 +260,7 @@ pub fn program<F: Files, R: Read, W: Write, V: Write>(
     match request_of(alloc, words) {
         Ok(Request::Fight) => fight(alloc, input, out, err),
         Ok(Request::Asm { numbers, file }) => asm(rt, alloc, numbers, file, out, err),
+        Ok(Request::Tune(words)) => tune(rt, alloc, &words, out, err),
         Err(answer) => show(alloc, &answer, out, err),
     }
 }

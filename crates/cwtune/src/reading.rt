@@ -2,6 +2,7 @@
 ghost use Rattle.std.specs.Prelude.{◌≤◌, length, IfOk};
 ghost use Rattle.cwtune.specs.FightRun.{IsInput};
 
+use crate::command_line::TuneWords;
 use std::alloc::Global;
 use std::io::Read;
 use std::rt::Files;
@@ -27,4 +28,59 @@ pub(crate) fn read_text<R: Read>(alloc: Global, input: &mut R) -> io::Result<Vec
 pub(crate) fn read_file<F: Files>(rt: &F, alloc: Global, name: &str) -> io::Result<Vec<u8>> {
     let mut file = fs::open(rt, name)?;
     read_text(alloc, &mut file)
+}
+
+/// A file that was not read, and why.
+#[derive(Drop)]
+pub(crate) struct Unread<'a> {
+    pub(crate) name: &'a str,
+    pub(crate) error: io::Error,
+}
+
+/// The texts of a tuning.
+#[derive(Drop)]
+pub(crate) struct TuneTexts {
+    pub(crate) template: Vec<u8>,
+    pub(crate) schedule: Vec<u8>,
+    pub(crate) opponents: Vec<Vec<u8>>,
+}
+
+/// Reads a file to its end, and names it where it cannot be read.
+fn read_named<'a, F: Files>(rt: &F, alloc: Global, name: &'a str) -> Result<Vec<u8>, Unread<'a>> {
+    match read_file(rt, alloc, name) {
+        Ok(text) => Ok(text),
+        Err(error) => Err(Unread { name, error }),
+    }
+}
+
+/// Reads files one after another.
+fn read_files<'a, F: Files>(
+    rt: &F,
+    alloc: Global,
+    names: &[&'a str],
+) -> Result<Vec<Vec<u8>>, Unread<'a>> {
+    let mut texts = Vec::new(alloc);
+    for name in names {
+        let text = read_named(rt, alloc, *name)?;
+        if texts.push(text).is_err() {
+            return Err(Unread {
+                name: *name,
+                error: io::Error::from(io::ErrorKind::OutOfMemory),
+            });
+        }
+    }
+    Ok(texts)
+}
+
+/// Reads the files of a tuning: the template, the schedule, the opponents.
+pub(crate) fn read_texts<'a, F: Files>(
+    rt: &F,
+    alloc: Global,
+    words: &TuneWords<'a>,
+) -> Result<TuneTexts, Unread<'a>> {
+    Ok(TuneTexts {
+        template: read_named(rt, alloc, words.template)?,
+        schedule: read_named(rt, alloc, words.schedule)?,
+        opponents: read_files(rt, alloc, words.opponents.as_slice())?,
+    })
 }

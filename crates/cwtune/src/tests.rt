@@ -4,3 +4,4 @@ mod command_line;
 mod fault_lines;
 mod fights;
 mod stand_ins;
+mod tuning;

@@ -1,0 +1,98 @@
+-- Tunings that are refused.
+use Rattle.std.proofs.Common.{◌≡◌, ◌⊎◌, ℕ, zero, suc, ◌<◌, ◌≤◌, List, [], ◌∷◌, Some, None, Ok, Err, length, slice_get, inl, inr, refl, sym, ◌∙◌, ap, subst, arith}
+use Rattle.rc_instr.specs.Rules.{Limits}
+use Rattle.rc_instr.specs.Warrior.{Program}
+use Rattle.rc_asm.specs.Assembly.{Assembles}
+use Rattle.tune_template.specs.Vectors.{vectors_of}
+use Rattle.tune_template.specs.Instances.{TemplateView, InputsView, instance_of}
+use Rattle.tune_cert.specs.Problem.{problem_of}
+use Rattle.tune_cert.specs.Optimum.{IsCandidate}
+use Rattle.cwtune.specs.TuneRun.{Texts, IsTemplate, AreOpponents, Means, HasNoCandidate, IsTemplateRefusal, AreRefused, HasNoFights, IsTuneRefusal}
+use Rattle.cwtune.specs.declared.fault.RunFault.{RunFault}
+use Rattle.cwtune.specs.declared.fault.RunFault.TheVariants.{FightText, Rules, Load, Position, Asm, TooManyOpponents, Template, Opponent, Schedule, NoCandidate, Write, OutOfMemory}
+
+pub template_refused : (e : RunFault) (t : Texts) → length t.opponents ≤ 64 → IsTemplateRefusal e t.template → IsTuneRefusal e t
+template_refused (FightText line) t few r = absurd r
+template_refused (Rules error) t few r = absurd r
+template_refused (Load side fault) t few r = absurd r
+template_refused Position t few r = absurd r
+template_refused (Asm fault) t few r = absurd r
+template_refused TooManyOpponents t few r = absurd r
+template_refused (Template fault) t few r = (few, r)
+template_refused (Opponent index fault) t few r = absurd r
+template_refused (Schedule fault) t few r = absurd r
+template_refused NoCandidate t few r = absurd r
+template_refused Write t few r = absurd r
+template_refused OutOfMemory t few r = tt
+
+pub opponents_refused : (e : RunFault) (t : Texts) (view : TemplateView) → length t.opponents ≤ 64 → IsTemplate t.template view
+    → AreRefused e t.rules t.opponents → IsTuneRefusal e t
+opponents_refused (FightText line) t view few is r = absurd r
+opponents_refused (Rules error) t view few is r = absurd r
+opponents_refused (Load side fault) t view few is r = absurd r
+opponents_refused Position t view few is r = absurd r
+opponents_refused (Asm fault) t view few is r = absurd r
+opponents_refused TooManyOpponents t view few is r = absurd r
+opponents_refused (Template fault) t view few is r = absurd r
+opponents_refused (Opponent index fault) t view few is r = (view, few, is, r)
+opponents_refused (Schedule fault) t view few is r = absurd r
+opponents_refused NoCandidate t view few is r = absurd r
+opponents_refused Write t view few is r = absurd r
+opponents_refused OutOfMemory t view few is r = tt
+
+pub schedule_refused : (e : RunFault) (t : Texts) (view : TemplateView) (opponents : List Program) → length t.opponents ≤ 64 → IsTemplate t.template view
+    → AreOpponents t.rules t.opponents opponents → HasNoFights e t.rules (length t.opponents) t.schedule → IsTuneRefusal e t
+schedule_refused (FightText line) t view opponents few is are r = absurd r
+schedule_refused (Rules error) t view opponents few is are r = absurd r
+schedule_refused (Load side fault) t view opponents few is are r = absurd r
+schedule_refused Position t view opponents few is are r = absurd r
+schedule_refused (Asm fault) t view opponents few is are r = absurd r
+schedule_refused TooManyOpponents t view opponents few is are r = absurd r
+schedule_refused (Template fault) t view opponents few is are r = absurd r
+schedule_refused (Opponent index fault) t view opponents few is are r = absurd r
+schedule_refused (Schedule fault) t view opponents few is are r = (view, opponents, few, is, are, r)
+schedule_refused NoCandidate t view opponents few is are r = absurd r
+schedule_refused Write t view opponents few is are r = absurd r
+schedule_refused OutOfMemory t view opponents few is are r = tt
+
+-- each of the texts assembles
+opponent_assembles : (rules : Limits) (texts : List (List ℕ)) (ws : List Program) (k : ℕ) (text : List ℕ) → AreOpponents rules texts ws
+    → slice_get texts k ≡ Some text → (w : Program) × Assembles text [] rules w
+opponent_assembles rules [] ws k text are at = absurd (cc)
+opponent_assembles rules (x ∷ xs) [] k text are at = absurd are
+opponent_assembles rules (x ∷ xs) (w ∷ ws) zero text are at = let e : x ≡ text = cc in (w, subst (λ y. Assembles y [] rules w) e are.0)
+opponent_assembles rules (x ∷ xs) (w ∷ ws) (suc k) text are at = opponent_assembles rules xs ws k text are.1 at
+
+-- a text is one template
+template_one : (text : List ℕ) (a b : TemplateView) → IsTemplate text a → IsTemplate text b → a ≡ b
+template_one text a b p q =
+    let ranges_same : a.ranges ≡ b.ranges = cc in
+    ap (λ x. record { text = x; ranges = a.ranges }) (p.0 ∙ sym q.0) ∙ ap (λ y. record { text = b.text; ranges = y }) ranges_same
+
+-- no other inputs have a candidate, where these have none
+no_candidate : (t : Texts) (i j : InputsView) (v : ℕ) → Means t i → Means t j → HasNoCandidate j → v < (problem_of i).count → IsCandidate (problem_of i) v → ⊥
+no_candidate t i j v m n none inside c =
+    let templates : i.template ≡ j.template = template_one t.template i.template j.template m.template n.template in
+    let rules : i.rules ≡ j.rules = m.rules ∙ sym n.rules in
+    let within : v < (problem_of j).count = subst (λ x. v < length (vectors_of x.ranges.spans)) templates inside in
+    let same : instance_of i.template i.rules v ≡ instance_of j.template j.rules v =
+    ap (λ x. instance_of x i.rules v) templates ∙ ap (λ r. instance_of j.template r v) rules in
+    let found : None ≡ Some c.0 = sym (none v within) ∙ sym same ∙ c.1 in
+    cc
+
+-- texts that have a meaning and a candidate are refused for want of memory alone
+pub refused_means : (e : RunFault) (t : Texts) (i : InputsView) (v : ℕ) → IsTuneRefusal e t → Means t i → v < (problem_of i).count
+    → IsCandidate (problem_of i) v → (e ≡ Write) ⊎ (e ≡ OutOfMemory)
+refused_means (FightText line) t i v r m inside c = absurd r
+refused_means (Rules error) t i v r m inside c = absurd r
+refused_means (Load side fault) t i v r m inside c = absurd r
+refused_means Position t i v r m inside c = absurd r
+refused_means (Asm fault) t i v r m inside c = absurd r
+refused_means TooManyOpponents t i v r m inside c = let few = m.few in absurd (omega arith)
+refused_means (Template fault) t i v r m inside c = let read = m.template.1 in let wrong = r.1 in absurd (cc)
+refused_means (Opponent index fault) t i v (view, few, is, (before, text, are, at, (known, none, first))) m inside c =
+    let a = opponent_assembles t.rules t.opponents i.opponents index text m.opponents at in absurd (none a.0 a.1)
+refused_means (Schedule fault) t i v (view, opponents, few, is, are, (known, none, true)) m inside c = let read = m.schedule in absurd (cc)
+refused_means NoCandidate t i v r m inside c = absurd (no_candidate t i r.0 v m r.1 r.2 inside c)
+refused_means Write t i v r m inside c = absurd r
+refused_means OutOfMemory t i v r m inside c = inr refl

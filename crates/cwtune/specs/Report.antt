@@ -1,0 +1,69 @@
+-- The report of a tuning (this project's own): what was found, and how much of the work was needed, one line each.
+use Rattle.std.specs.Prelude.{ℕ, ℤ, ◌*◌, List, [], ◌∷◌, ◌++◌, length, codes}
+use Rattle.std.specs.Fmt.{decimal, signed_decimal}
+use Rattle.rc_expand.specs.Names.{Table}
+use Rattle.tune_template.specs.Instances.{InputsView, constants_of}
+use Rattle.tune_cert.specs.Problem.{problem_of}
+use Rattle.tune_cert.specs.Optimum.{candidates_of}
+
+-- what a report tells
+pub record Report : Type 0 where
+  pub vectors : ℕ
+  pub candidates : ℕ
+  -- the number of the best vector, and the constants with the values that it gives them
+  pub best : ℕ
+  pub constants : Table
+  -- the points of its warrior, and the most that there are
+  pub total : ℕ
+  pub most : ℕ
+  -- the fights that were played, and all fights of the candidates
+  pub fights : ℕ
+  pub all_fights : ℕ
+
+-- a word and a number
+unfoldable pub number_line : List ℕ → ℕ → List ℕ
+number_line word n = word ++ decimal n ++ 10 ∷ []
+
+-- a word, and how much of how much
+unfoldable pub share_line : List ℕ → ℕ → ℕ → List ℕ
+share_line word part whole = word ++ decimal part ++ codes " of " ++ decimal whole ++ 10 ∷ []
+
+-- as ` STEP=-3`, with the space in front
+unfoldable pub constant_text : List ℕ → ℤ → List ℕ
+constant_text name value = 32 ∷ name ++ 61 ∷ signed_decimal value
+
+-- the constants behind each other
+abbrev pub constants_text : Table → List ℕ
+constants_text [] = []
+constants_text (c ∷ cs) = constant_text c.0 c.1 ++ constants_text cs
+
+-- the same, or ` -` where there are none
+abbrev pub constants_or_none : Table → List ℕ
+constants_or_none [] = codes " -"
+constants_or_none (c ∷ cs) = constants_text (c ∷ cs)
+
+-- as `constants STEP=-3 GAP=4`, or `constants -`
+unfoldable pub constants_line : Table → List ℕ
+constants_line cs = codes "constants" ++ constants_or_none cs ++ 10 ∷ []
+
+unfoldable pub report_text : Report → List ℕ
+report_text r =
+    number_line (codes "vectors ") r.vectors
+    ++ number_line (codes "candidates ") r.candidates
+    ++ number_line (codes "best ") r.best
+    ++ constants_line r.constants
+    ++ share_line (codes "total ") r.total r.most
+    ++ share_line (codes "fights ") r.fights r.all_fights
+
+-- the report of a search that played all fights, which found this vector best, with these values and this total
+abbrev pub report_for : InputsView → ℕ → List ℤ → ℕ → Report
+report_for i best values total = record {
+  vectors = (problem_of i).count;
+  candidates = candidates_of (problem_of i);
+  best = best;
+  constants = constants_of i.template.ranges.names values;
+  total = total;
+  most = 3 * length i.schedule;
+  fights = candidates_of (problem_of i) * length i.schedule;
+  all_fights = candidates_of (problem_of i) * length i.schedule;
+}

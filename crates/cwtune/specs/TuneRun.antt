@@ -1,0 +1,107 @@
+-- What a tuning over texts means, and what its run answers (this project's own).
+use Rattle.std.specs.Prelude.{◌≡◌, ◌≢◌, ℕ, ℤ, ◌<◌, ◌≤◌, List, [], ◌∷◌, length, take, slice_get, Option, Some, None, Ok, Err}
+use Rattle.std.specs.Io.KnownBytes.{Appends}
+use Rattle.rc_instr.specs.Rules.{Limits}
+use Rattle.rc_instr.specs.Warrior.{Program}
+use Rattle.rc_asm.specs.Assembly.{Assembles}
+use Rattle.rc_asm.specs.declared.fault.AsmFault.{AsmFault}
+use Rattle.mars_fight.specs.Records.{records_of}
+use Rattle.mars_fight.specs.Schedule.{fights_of}
+use Rattle.mars_fight.specs.ScheduleRefusal.{IsFault}
+use Rattle.mars_fight.specs.declared.fault.ScheduleFault.{ScheduleFault}
+use Rattle.mars_fight.specs.declared.fault.ScheduleFaultKind.TheVariants.{OutOfMemory as MemoryKind}
+use Rattle.tune_template.specs.Ranges.{ranges_of, HasRanges}
+use Rattle.tune_template.specs.Vectors.{vectors_of}
+use Rattle.tune_template.specs.Instances.{TemplateView, InputsView}
+use Rattle.tune_cert.specs.Problem.{problem_of}
+use Rattle.tune_cert.specs.Optimum.{IsOptimum, HasTotal}
+use Rattle.cwtune.specs.AsmRun.{IsAsmRefusal}
+use Rattle.cwtune.specs.Report.{report_text, report_for}
+use Rattle.cwtune.specs.declared.fault.RunFault.{RunFault}
+use Rattle.cwtune.specs.declared.fault.RunFault.TheVariants.{Asm, TooManyOpponents, Template, Opponent, Schedule, NoCandidate, OutOfMemory}
+
+-- the texts of a tuning, and its rules
+pub record Texts : Type 0 where
+  pub template : List ℕ
+  pub opponents : List (List ℕ)
+  pub schedule : List ℕ
+  pub rules : Limits
+
+abbrev pub texts : List ℕ → List (List ℕ) → List ℕ → Limits → Texts
+texts template opponents schedule rules = record { template = template; opponents = opponents; schedule = schedule; rules = rules }
+
+-- the text of a template, with its ranges
+abbrev pub IsTemplate : List ℕ → TemplateView → Type 0
+IsTemplate text t = (t.text ≡ text) × HasRanges text t.ranges
+
+-- a warrior for each text, to which it assembles without constants
+abbrev pub AreOpponents : Limits → List (List ℕ) → List Program → Type 0
+AreOpponents rules [] [] = Unit {0}
+AreOpponents rules (text ∷ texts) (w ∷ ws) = Assembles text [] rules w × AreOpponents rules texts ws
+AreOpponents rules _ _ = ⊥
+
+-- The meaning of the texts: at most 64 opponents, a template that has ranges, a warrior for each opponent, a schedule that has fights.
+pub record Means (t : Texts) (i : InputsView) : Type 0 where
+  pub few : length t.opponents ≤ 64
+  pub template : IsTemplate t.template i.template
+  pub opponents : AreOpponents t.rules t.opponents i.opponents
+  pub schedule : fights_of t.rules (length t.opponents) t.schedule ≡ Some i.schedule
+  pub rules : i.rules ≡ t.rules
+
+-- no vector is a candidate
+abbrev pub HasNoCandidate : InputsView → Type 0
+HasNoCandidate i = (v : ℕ) → v < (problem_of i).count → (problem_of i).warrior v ≡ None
+
+-- the texts before this one assemble, this one assembles to no warrior, and the fault is the one that comes first in it
+abbrev pub IsOpponentRefusal : Limits → List (List ℕ) → ℕ → AsmFault → Type 0
+IsOpponentRefusal rules opponents index fault =
+    (before : List Program) × (text : List ℕ) × AreOpponents rules (take index opponents) before × (slice_get opponents index ≡ Some text)
+    × IsAsmRefusal (Asm fault) text rules
+
+-- the bytes mean no fights against so many opponents, and what the fault says is true of them
+abbrev pub IsScheduleRefusal : Limits → ℕ → List ℕ → ScheduleFault → Type 0
+IsScheduleRefusal rules opponents bytes fault =
+    (fault.kind ≢ MemoryKind) × (fights_of rules opponents bytes ≡ None) × IsFault rules opponents (records_of bytes) fault.row fault.kind
+
+-- why the text of a template is refused, as a fault of a run
+abbrev pub IsTemplateRefusal : RunFault → List ℕ → Type 0
+IsTemplateRefusal (Template fault) text = ranges_of text ≡ Err fault
+IsTemplateRefusal OutOfMemory text = Unit {0}
+IsTemplateRefusal _ text = ⊥
+
+-- why the opponent of a number is refused, as a fault of a run
+abbrev pub IsRefusalOf : ℕ → RunFault → Limits → List ℕ → Type 0
+IsRefusalOf number (Opponent index fault) rules text = (index ≡ number) × IsAsmRefusal (Asm fault) text rules
+IsRefusalOf number OutOfMemory rules text = Unit {0}
+IsRefusalOf number _ rules text = ⊥
+
+-- why the opponents are refused, as a fault of a run
+abbrev pub AreRefused : RunFault → Limits → List (List ℕ) → Type 0
+AreRefused (Opponent index fault) rules opponents = IsOpponentRefusal rules opponents index fault
+AreRefused OutOfMemory rules opponents = Unit {0}
+AreRefused _ rules opponents = ⊥
+
+-- why the schedule is refused, as a fault of a run
+abbrev pub HasNoFights : RunFault → Limits → ℕ → List ℕ → Type 0
+HasNoFights (Schedule fault) rules opponents bytes = IsScheduleRefusal rules opponents bytes fault
+HasNoFights OutOfMemory rules opponents bytes = Unit {0}
+HasNoFights _ rules opponents bytes = ⊥
+
+-- Why a tuning is refused: the reason holds, and those before it do not. Want of memory says nothing of the texts.
+abbrev pub IsTuneRefusal : RunFault → Texts → Type 0
+IsTuneRefusal TooManyOpponents t = 64 < length t.opponents
+IsTuneRefusal (Template fault) t = (length t.opponents ≤ 64) × (ranges_of t.template ≡ Err fault)
+IsTuneRefusal (Opponent index fault) t =
+    (view : TemplateView) × (length t.opponents ≤ 64) × IsTemplate t.template view × IsOpponentRefusal t.rules t.opponents index fault
+IsTuneRefusal (Schedule fault) t =
+    (view : TemplateView) × (opponents : List Program) × (length t.opponents ≤ 64) × IsTemplate t.template view
+    × AreOpponents t.rules t.opponents opponents × IsScheduleRefusal t.rules (length t.opponents) t.schedule fault
+IsTuneRefusal NoCandidate t = (i : InputsView) × Means t i × HasNoCandidate i
+IsTuneRefusal OutOfMemory t = Unit {0}
+IsTuneRefusal _ t = ⊥
+
+-- The report was written: that of the optimum, which is the first vector, in order, of those with the greatest total among all that assemble.
+abbrev pub TellsTuning : Texts → Option (List ℕ) → Option (List ℕ) → Type 0
+TellsTuning t old new =
+    (i : InputsView) × (best : ℕ) × (values : List ℤ) × (total : ℕ) × Means t i × IsOptimum (problem_of i) best × HasTotal (problem_of i) best total
+    × (slice_get (vectors_of i.template.ranges.spans) best ≡ Some values) × Appends old new (report_text (report_for i best values total))
