@@ -1,8 +1,9 @@
 #!/usr/bin/env python3
-"""Measures how many turns per second `cwtune fight` plays, alone or beside a pMARS server build, and how long `cwtune asm` takes.
+"""Measures how many turns per second `cwtune fight` plays, alone or beside a pMARS server build, and how long `cwtune asm` and `cwtune
+tune` take.
 
-Each fight of fights/ is played, and each text of warriors/ assembled, several times; the fastest run counts. README.md says what
-is measured.
+Each fight of fights/ is played, each text of warriors/ assembled, and the template of examples/tuning/ tuned, several times; the
+fastest run counts. README.md says what is measured.
 """
 
 import argparse
@@ -26,6 +27,10 @@ EXPECTED = {
 SHORTEST = 0.05
 # The texts that are assembled; beside each stands the load file that it must give.
 TEXTS = ["plain", "names", "tables"]
+# The template that is tuned, its opponents in the order of the schedule's numbers, and how many turns all of its fights have.
+TUNING = HERE.parent / "examples" / "tuning"
+OPPONENTS = ["dwarf", "imp-ring", "scanner", "replicator", "core-clear"]
+TUNING_TURNS = 257_433_435
 # What is left of the time of a text of one line is the start of the process.
 SMALLEST = "DAT 0\n"
 # A text is told only where its time without the start is at least this part of the start.
@@ -187,6 +192,28 @@ def print_texts(program, runs):
             print(f"{name:<14}{count:>10}{1 / rest:>12.0f}{rest / count * 1e6:>10.2f}", flush=True)
 
 
+def fastest_tuning(program, runs):
+    """The least seconds of the tuning, and how many settings it has. Its report must be the expected one."""
+    report = (TUNING / "report.txt").read_text(encoding="ascii")
+    opponents = [str(TUNING.parent / "warriors" / f"{name}.red") for name in OPPONENTS]
+    best = math.inf
+    with tempfile.TemporaryDirectory() as folder:
+        files = [str(TUNING / "stone.red"), str(TUNING / "schedule.csv"), str(pathlib.Path(folder) / "stone.cert")]
+        for _ in range(runs):
+            seconds, output = timed([str(program), "tune", *files, *opponents], "")
+            if output != report:
+                raise WrongResult(f"{program} tune did not give {TUNING / 'report.txt'}")
+            best = min(best, seconds)
+    return best, int(report.split()[1])
+
+
+def print_tuning(program, runs):
+    """One line: the tuning's settings and turns per second, the start of the process included."""
+    seconds, settings = fastest_tuning(program, runs)
+    print(f"{'tuning':<14}{'settings':>10}{'settings/s':>12}{'M turns/s':>12}")
+    print(f"{'stone':<14}{settings:>10}{settings / seconds:>12.1f}{TUNING_TURNS / seconds / 1e6:>12.1f}", flush=True)
+
+
 def read_options():
     options = argparse.ArgumentParser(description=__doc__.splitlines()[0])
     path = {"type": pathlib.Path, "metavar": "PATH"}
@@ -194,11 +221,14 @@ def read_options():
     options.add_argument("--pmars", help="a pMARS server build to compare with", **path)
     options.add_argument("--runs", type=int, default=10, metavar="N", help="runs of each fight (default: 10)")
     options.add_argument("--texts", type=int, default=200, metavar="N", help="runs of each text (default: 200; 0: none)")
+    options.add_argument("--tunings", type=int, default=3, metavar="N", help="runs of the tuning (default: 3; 0: none)")
     read = options.parse_args()
     if read.runs < 1:
         options.error("--runs is at least 1")
     if read.texts < 0:
         options.error("--texts is at least 0")
+    if read.tunings < 0:
+        options.error("--tunings is at least 0")
     for program in (read.bin, read.pmars):
         if program is not None and not program.is_file():
             options.error(f"there is no program {program}")
@@ -228,6 +258,9 @@ def main():
     if options.texts > 0:
         print()
         print_texts(options.bin.resolve(), options.texts)
+    if options.tunings > 0:
+        print()
+        print_tuning(options.bin.resolve(), options.tunings)
 
 
 if __name__ == "__main__":
