@@ -46,6 +46,7 @@ constants_or_none (c ∷ cs) = constants_text (c ∷ cs)
 unfoldable pub constants_line : Table → List ℕ
 constants_line cs = codes "constants" ++ constants_or_none cs ++ 10 ∷ []
 
+-- the six lines of a report, in this order
 unfoldable pub report_text : Report → List ℕ
 report_text r =
     number_line (codes "vectors ") r.vectors
