@@ -15,5 +15,5 @@ mod tests;
 pub use fault::{ScheduleFault, ScheduleFaultKind};
 pub use fight::{Fight, play};
 pub use number::number_of;
-pub use records::Records;
+pub use records::{Records, three_fields};
 pub use schedule::Schedule;

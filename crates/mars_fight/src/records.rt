@@ -1,5 +1,5 @@
 //! The records of a text of comma-separated values, one after another.
-ghost use Rattle.std.specs.Prelude.{◌≡◌, ◌∷◌, [], IfOk, OnErr};
+ghost use Rattle.std.specs.Prelude.{◌≡◌, ◌≢◌, ◌∷◌, [], length, IfOk, OnErr, IfSome, IfNone};
 ghost use Rattle.std.specs.Bool.{MatchBool};
 ghost use Rattle.csv.specs.Records.{fields_of};
 ghost use Rattle.mars_fight.specs.Records.{records_of};
@@ -54,4 +54,16 @@ impl<'a> Records<'a> {
             .read_byte_record(row)
             .map_err(|_refused| OutOfMemory)
     }
+}
+
+/// The fields of a record that has three.
+#[tactic(auto, using(crate::proofs::Fields::fields))]
+pub fn three_fields(row: &ByteRecord) -> Option<(&[u8], &[u8], &[u8])>
+    ensures some { IfSome result (λ x. fields_of row.now ≡ x.0.now ∷ x.1.now ∷ x.2.now ∷ []) }
+    ensures none { IfNone result (length (fields_of row.now) ≢ 3) }
+{
+    if row.len() != 3 {
+        return None;
+    }
+    Some((row.get(0)?, row.get(1)?, row.get(2)?))
 }

@@ -1,5 +1,5 @@
 //! What one record of a schedule means.
-ghost use Rattle.std.specs.Prelude.{◌≡◌, ◌≢◌, ◌∷◌, [], length, IfSome, IfNone};
+ghost use Rattle.std.specs.Prelude.{◌≡◌};
 ghost use Rattle.csv.specs.Records.{fields_of};
 ghost use Rattle.mars_fight.specs.Number.{number_of};
 ghost use Rattle.mars_fight.specs.Schedule.{opponent_of, position_of, mover_of, fight_of, is_header};
@@ -7,21 +7,10 @@ ghost use Rattle.mars_fight.specs.Schedule.{opponent_of, position_of, mover_of, 
 use crate::fault::ScheduleFaultKind;
 use crate::fight::Fight;
 use crate::number::number_of;
+use crate::records::three_fields;
 use csv::ByteRecord;
 use mars_core::Side;
 use rc_instr::Rules;
-
-/// The fields of a record that has three.
-#[tactic(auto, using(crate::proofs::Fields::fields))]
-fn three_fields(row: &ByteRecord) -> Option<(&[u8], &[u8], &[u8])>
-    ensures some { IfSome result (λ x. fields_of row.now ≡ x.0.now ∷ x.1.now ∷ x.2.now ∷ []) }
-    ensures none { IfNone result (length (fields_of row.now) ≢ 3) }
-{
-    if row.len() != 3 {
-        return None;
-    }
-    Some((row.get(0)?, row.get(1)?, row.get(2)?))
-}
 
 /// Whether a record is the header of a schedule.
 pub(crate) fn is_header(row: &ByteRecord) -> bool

@@ -2,13 +2,12 @@
 use Rattle.std.proofs.Common.{◌≡◌, ℕ, ◌<◌, ◌≤◌, ◌^◌, ◌+◌, ◌-◌, ◌*◌, List, [], ◌∷◌, ◌++◌, drop, refl, sym, ◌∙◌, ap, arith, Bool, true, false, append_assoc, inl, inr}
 use Rattle.std.specs.Prelude.{◌==◌, nat_le, if◌then◌else◌, flat_map, All}
 use Rattle.std.specs.Fmt.{decimal}
-use Rattle.std.proofs.lemmas.Fmt.{decimal_injective}
 use Rattle.std.proofs.lemmas.Bool.Decides.{leb_tells}
 use Rattle.std.proofs.lemmas.List.Elements.{All-head, All-tail}
 use Rattle.rc_instr.specs.Digits.{NoDigitFirst}
 use Rattle.rc_instr.specs.Warrior.{Program, program, IsBelow}
 use Rattle.rc_instr.specs.LoadText.{opcode_text, modifier_text, mode_text, number_text, operand_text, line_text, load_text}
-use Rattle.rc_instr.proofs.Decimal.{decimal_front, decimal_first}
+use Rattle.rc_instr.proofs.Numerals.{decimal_one, decimal_first}
 use Rattle.rc_instr.proofs.Lines.{line_parts, start_parts, line_shorter}
 use Rattle.rc_instr.proofs.Same.{record_of}
 use Rattle.rc_instr.specs.declared.instruction.Instruction.{Instruction}
@@ -81,12 +80,6 @@ modifier_is F r = (refl, refl)
 modifier_is X r = (refl, refl)
 modifier_is I r = (refl, refl)
 
-decimal_one : (n k : ℕ) (r s : List ℕ) → n < 2 ^ 16 → k < 2 ^ 16 → NoDigitFirst r → NoDigitFirst s → decimal n ++ r ≡ decimal k ++ s → (n ≡ k) × (r ≡ s)
-decimal_one n k r s ln lk hr hs e =
-    let f = decimal_front n r (decimal n ++ r) ln hr refl in
-    let g = decimal_front k s (decimal n ++ r) lk hs e in
-    (decimal_injective n k (omega arith) (omega arith) (sym f.0 ∙ g.0), sym f.1 ∙ g.1)
-
 number_by : (m n : ℕ) (b : Bool) → nat_le (2 * n) m ≡ b → number_text m n ≡ (if b then decimal n else 45 ∷ decimal (m - n))
 unfolding number_text
 number_by m n true e = rw e refl
@@ -150,6 +143,6 @@ pub load_one : (m : ℕ) (v w : Program) → m ≤ 65535 → v.start < 2 ^ 16 �
 unfolding load_text
 load_one m v w lm lv lw hv hw e =
     let f = sym (start_parts v.start (flat_map (line_text m) v.code)) ∙ e ∙ start_parts w.start (flat_map (line_text m) w.code) in
-    let d = decimal_one v.start w.start (10 ∷ flat_map (line_text m) v.code) (10 ∷ flat_map (line_text m) w.code) lv lw refl refl (ap (drop 4) f) in
+    let d = decimal_one v.start w.start (10 ∷ flat_map (line_text m) v.code) (10 ∷ flat_map (line_text m) w.code) (omega (arith, lv)) (omega (arith, lw)) refl refl (ap (drop 4) f) in
     let c = lines_one m v.code w.code lm hv hw (ap (drop 1) d.1) in
     ap (λ x. program x v.start) c ∙ ap (λ n. program w.code n) d.0

@@ -1,6 +1,7 @@
 pub mod Same
-pub mod Decimal
+pub mod Numerals
 pub mod Lines
 pub mod Injective
 pub mod Loads
 pub mod Appends
+pub mod Pieces

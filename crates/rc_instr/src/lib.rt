@@ -4,6 +4,7 @@
 //! What is written is read as the same warrior, and nothing else is read.
 #![tactic(auto)]
 
+pub mod decimal;
 pub mod instruction;
 pub mod laws;
 pub mod loadfile;

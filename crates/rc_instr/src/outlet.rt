@@ -1,5 +1,5 @@
 //! Outlets for bytes: writers that give up at the first failure, and remember it.
-ghost use Rattle.std.specs.Prelude.{◌≡◌, ◌<◌, ◌≤◌, false, take, length, IfOk, OnErr, IsErr, IsTrue, is_err};
+ghost use Rattle.std.specs.Prelude.{◌≡◌, ◌<◌, ◌≤◌, false, take, length, IfOk, OnOk, OnErr, IsErr, IsTrue, is_err};
 ghost use Rattle.std.specs.Io.KnownBytes.{Appends, Keeps};
 
 use std::io::Write;
@@ -61,6 +61,23 @@ impl<X: Write> Outlet<X> {
                 Err(WriteFailed)
             }
         }
+    }
+
+    /// Writes a whole text: in one piece where the writer takes it so, else piece by piece. The outlet has not failed.
+    ///
+    /// Where a write fails, the answer is `WriteFailed`, and an unknown part of the text may be out.
+    #[tactic(auto, using(crate::proofs::Pieces::appends_more))]
+    pub fn write_all(&mut self, text: &[u8]) -> Result<(), WriteFailed>
+        requires { self.old.failed ≡ false }
+        ensures bytes { OnOk result (Appends self.old.bytes self.new.bytes text.now) }
+        ensures failed { self.new.failed ≡ is_err result }
+    {
+        let mut sent = 0usize;
+        while sent < text.len() {
+            let count = self.write(&text[sent..])?;
+            sent += count;
+        }
+        Ok(())
     }
 
     /// Whether a write has failed.

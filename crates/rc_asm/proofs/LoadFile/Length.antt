@@ -10,7 +10,7 @@ use Rattle.rc_instr.specs.declared.instruction.Modifier.{Modifier}
 use Rattle.rc_instr.specs.declared.instruction.Modifier.TheVariants as mod'
 use Rattle.rc_instr.specs.declared.instruction.Mode.{Mode}
 use Rattle.rc_instr.specs.declared.instruction.Instruction.{Instruction}
-use Rattle.rc_instr.proofs.Decimal.{decimal_short}
+use Rattle.rc_instr.proofs.Numerals.{decimal_five}
 use Rattle.rc_asm.proofs.LoadFile.Rows.{opcode_length, mode_len, parts_of_line}
 use Rattle.rc_asm.proofs.LoadFile.NoHeader.{parts_of_start}
 
@@ -28,8 +28,8 @@ modifier_short mod'.I = omega arith
 number_short : (m k : ℕ) → k < m → m ≤ 65535 → length (number_text m k) ≤ 6
 unfolding number_text
 number_short m k l s = ⊎_elim
-    (λ e. let n : length (number_text m k) ≡ length (decimal k) = ap (λ b. length (if b then decimal k else codes "-" ++ decimal (m - k))) e in omega (arith, n, decimal_short k (omega (arith, l, s))))
-    (λ e. let n : length (number_text m k) ≡ suc (length (decimal (m - k))) = ap (λ b. length (if b then decimal k else codes "-" ++ decimal (m - k))) e in omega (arith, n, decimal_short (m - k) (omega (arith, s))))
+    (λ e. let n : length (number_text m k) ≡ length (decimal k) = ap (λ b. length (if b then decimal k else codes "-" ++ decimal (m - k))) e in omega (arith, n, decimal_five k (omega (arith, l, s))))
+    (λ e. let n : length (number_text m k) ≡ suc (length (decimal (m - k))) = ap (λ b. length (if b then decimal k else codes "-" ++ decimal (m - k))) e in omega (arith, n, decimal_five (m - k) (omega (arith, s))))
     (cases_Bool (nat_le (2 * k) m))
 
 -- an operand has its mode before the number
@@ -78,6 +78,6 @@ unfolding load_text
 load_short m w l b s n =
     let rest : List ℕ = flat_map (line_text m) w.code in
     let e : length (load_text m w) ≡ length (codes "ORG" ++ (32 ∷ (decimal w.start ++ (10 ∷ rest)))) = ap length (parts_of_start w.start rest) in
-    let d = decimal_short w.start l in
+    let d = decimal_five w.start l in
     let r = lines_short m w.code b s in
     omega (arith, e, length-append (decimal w.start) (10 ∷ rest), d, r, n)

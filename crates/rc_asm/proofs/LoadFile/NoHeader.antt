@@ -19,7 +19,7 @@ use Rattle.rc_instr.specs.declared.instruction.Modifier.TheVariants as mod'
 use Rattle.rc_instr.specs.declared.instruction.Mode.{Mode}
 use Rattle.rc_instr.specs.declared.instruction.Mode.TheVariants as mode
 use Rattle.rc_instr.specs.declared.instruction.Instruction.{Instruction}
-use Rattle.rc_instr.proofs.Decimal.{decimal_all}
+use Rattle.rc_instr.proofs.Numerals.{decimal_all}
 use Rattle.rc_instr.proofs.Same.{both}
 use Rattle.rc_asm.proofs.LoadFile.Pieces.{digit_bounds}
 use Rattle.rc_asm.proofs.LoadFile.Rows.{parts_of_line}
@@ -162,7 +162,7 @@ quiet_load : (m : ℕ) (w : Program) → w.start < 2 ^ 16 → All (IsBelow m) w.
 unfolding load_text
 quiet_load m w l b s =
     ap is_quiet (parts_of_start w.start (flat_map (line_text m) w.code))
-    ∙ quiet_append (decimal w.start) _ (quiet_digits (decimal w.start) (decimal_all w.start l)) (quiet_lines m w.code b s)
+    ∙ quiet_append (decimal w.start) _ (quiet_digits (decimal w.start) (decimal_all w.start (omega (arith, l)))) (quiet_lines m w.code b s)
 
 -- the tokens behind a header
 abbrev behind_header : List ℕ → Extent → TokenList

@@ -14,7 +14,7 @@ use Rattle.rc_text.specs.Bytes.{LINE_FEED, is_blank, begins_name, decimal_value}
 use Rattle.rc_text.specs.Tokens.{lexeme_of, number_lexeme, tokens_after, tokens_from, with_token, token_of}
 use Rattle.rc_instr.specs.Digits.{read_on, NoDigitFirst}
 use Rattle.rc_instr.proofs.Same.{both}
-use Rattle.rc_instr.proofs.Decimal.{decimal_some, decimal_all, decimal_value as decimal_is}
+use Rattle.rc_instr.proofs.Numerals.{decimal_some, decimal_all, decimal_value as decimal_is}
 
 -- the bytes that belong to a piece are passed over
 skip : (p rest : List ℕ) (first : Bool) (at line : ℕ) → tokens_from (p ++ rest) (length p) first at line ≡ tokens_from rest 0 first (at + length p) line
@@ -110,5 +110,5 @@ digits_word (d ∷ ds) rest first s p h l =
 -- a number that a load file writes is one token
 pub number_word : (n : ℕ) (rest : List ℕ) (first : Bool) → n < 2 ^ 16 → NoDigitFirst rest → lexeme_of first (decimal n ++ rest) ≡ Word (length (decimal n)) (Number n)
 number_word n rest first l h =
-    let v : read_on 0 (decimal n) ≡ n = decimal_is n l in
-    digits_word (decimal n) rest first (decimal_some n l) (decimal_all n l) h (omega (arith, v)) ∙ ap (λ k. Word (length (decimal n)) (Number k)) v
+    let v : read_on 0 (decimal n) ≡ n = decimal_is n (omega (arith, l)) in
+    digits_word (decimal n) rest first (decimal_some n (omega (arith, l))) (decimal_all n (omega (arith, l))) h (omega (arith, v)) ∙ ap (λ k. Word (length (decimal n)) (Number k)) v

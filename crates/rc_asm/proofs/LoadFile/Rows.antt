@@ -20,7 +20,7 @@ use Rattle.rc_instr.specs.declared.instruction.Modifier.TheVariants as mod'
 use Rattle.rc_instr.specs.declared.instruction.Mode.{Mode}
 use Rattle.rc_instr.specs.declared.instruction.Mode.TheVariants as mode
 use Rattle.rc_instr.specs.declared.instruction.Instruction.{Instruction}
-use Rattle.rc_instr.proofs.Decimal.{decimal_some, decimal_all}
+use Rattle.rc_instr.proofs.Numerals.{decimal_some, decimal_all}
 use Rattle.rc_instr.proofs.Same.{both}
 use Rattle.rc_asm.specs.Printed.{mode_sign, IsWord, AreNumber, Plain, Below, Row, row_tokens, IsPrinted}
 use Rattle.rc_asm.proofs.LoadFile.Pieces.{front, number_word, digit_bounds}
@@ -67,9 +67,9 @@ plain_scan : (m k : ℕ) (rest : List ℕ) (at line : ℕ) → k < 2 ^ 16 → No
 plain_scan m k rest at line l h = record {
   tokens = token_of (Number k) at (length (decimal k)) line ∷ [];
   shown = Plain _ refl;
-  scan = λ first. front (decimal k) rest (Number k) first at line (decimal_some k l) (number_word k rest first l h);
-  some = decimal_some k l;
-  plain = digits_plain (decimal k) rest (decimal_some k l) (decimal_all k l);
+  scan = λ first. front (decimal k) rest (Number k) first at line (decimal_some k (omega (arith, l))) (number_word k rest first l h);
+  some = decimal_some k (omega (arith, l));
+  plain = digits_plain (decimal k) rest (decimal_some k (omega (arith, l))) (decimal_all k (omega (arith, l)));
 }
 
 -- of one with a minus sign
@@ -79,7 +79,7 @@ below_scan m k (suc j) rest at line l s e h = record {
   tokens = token_of (SignOf Minus) at 1 line ∷ token_of (Number (suc j)) (at + 1) (length (decimal (suc j))) line ∷ [];
   shown = Below _ _ j refl refl e;
   scan = λ first.
-      ap (with_token (token_of (SignOf Minus) at 1 line)) (front (decimal (suc j)) rest (Number (suc j)) false (at + 1) line (decimal_some (suc j) l) (number_word (suc j) rest false l h)
+      ap (with_token (token_of (SignOf Minus) at 1 line)) (front (decimal (suc j)) rest (Number (suc j)) false (at + 1) line (decimal_some (suc j) (omega (arith, l))) (number_word (suc j) rest false l h)
       ∙ ap (λ n. with_token (token_of (Number (suc j)) (at + 1) (length (decimal (suc j))) line) (tokens_from rest 0 false n line)) (omega arith));
   some = omega arith;
   plain = refl;

@@ -8,7 +8,7 @@ use Rattle.rc_text.specs.Tokens.{tokens_of, tokens_from, with_token, token_of}
 use Rattle.rc_instr.specs.LoadText.{line_text, start_text, load_text}
 use Rattle.rc_instr.specs.Warrior.{IsBelow, Program}
 use Rattle.rc_instr.specs.declared.instruction.Instruction.{Instruction}
-use Rattle.rc_instr.proofs.Decimal.{decimal_some}
+use Rattle.rc_instr.proofs.Numerals.{decimal_some}
 use Rattle.rc_asm.specs.Printed.{Row, Opening, Printed, ArePrinted, IsStart, IsPrint, row_tokens, rows_tokens, printed_tokens}
 use Rattle.rc_asm.proofs.LoadFile.Pieces.{front, number_word}
 use Rattle.rc_asm.proofs.LoadFile.Rows.{onto, IsAt, further, word_there, row_scan}
@@ -46,7 +46,7 @@ start_scan source n rest at line l h =
       place = further source (10 ∷ []) rest a3 h3;
       scan = ap (λ t. tokens_from t 0 true at line) (parts_of_start n rest)
           ∙ front o (32 ∷ x1) Name true at line (omega arith) refl
-          ∙ ap (with_token t_word) (front d x2 (Number n) false a2 line (decimal_some n l) (number_word n x2 false l refl));
+          ∙ ap (with_token t_word) (front d x2 (Number n) false a2 line (decimal_some n (omega (arith, l))) (number_word n x2 false l refl));
     }
 
 -- the tokens of the lines from a place on

@@ -7,17 +7,6 @@ ghost use Rattle.rc_instr.specs.LoadText.{opcode_text, modifier_text, mode_text}
 
 use crate::instruction::{Mode, Modifier, Opcode};
 
-/// What follows a byte at the front.
-pub(crate) fn after(byte: u8, bytes: &[u8]) -> Option<&[u8]>
-    ensures found { IfSome result (λ rest. bytes.now ≡ byte ∷ rest.now) }
-    ensures only { (rest : List ℕ) → bytes.now ≡ byte ∷ rest → IsSomeAnd result (λ r. r.now ≡ rest) }
-{
-    match bytes {
-        [first, rest @ ..] if *first == byte => Some(rest),
-        _ => None,
-    }
-}
-
 /// The mode at the front, and what follows it.
 pub(crate) fn mode_at(bytes: &[u8]) -> Option<(Mode, &[u8])>
     ensures found { IfSome result (λ x. bytes.now ≡ mode_text x.0 ++ x.1.now) }

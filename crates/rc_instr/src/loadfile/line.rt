@@ -8,9 +8,10 @@ ghost use Rattle.rc_instr.specs.declared.instruction.Modifier.{Modifier};
 ghost use Rattle.rc_instr.specs.Digits.{NoDigitFirst};
 ghost use Rattle.rc_instr.specs.LoadText.{opcode_text, modifier_text, operand_text, line_text, start_text};
 
+use crate::decimal::after;
 use crate::instruction::{Instruction, Mode, Modifier, Opcode};
-use crate::loadfile::front::{after, mode_at, modifier_at, opcode_at};
-use crate::loadfile::number::{decimal_at, number_at};
+use crate::loadfile::front::{mode_at, modifier_at, opcode_at};
+use crate::loadfile::number::{number_at, short_number_at};
 
 /// A mode and a number at the front, and what follows them.
 #[tactic(auto, unfolding(crate::specs::LoadText::operand_text))]
@@ -95,7 +96,7 @@ pub(crate) fn start_at(bytes: &[u8]) -> Option<(u16, &[u8])>
     let bytes = after(b'R', bytes)?;
     let bytes = after(b'G', bytes)?;
     let bytes = after(b' ', bytes)?;
-    let (start, bytes) = decimal_at(bytes)?;
+    let (start, bytes) = short_number_at(bytes)?;
     let bytes = after(b'\n', bytes)?;
     Some((start, bytes))
 }

@@ -138,3 +138,32 @@ fn a_text_goes_out_a_few_bytes_at_a_time(rt: HostRuntime) -> Result<(), Fail> {
     assert_eq!(rt; outlet.into_inner().taken.as_slice(), text.as_slice());
     Ok(())
 }
+
+/// What a whole text leads to: the answer, and what the writer took.
+fn all_told(alloc: Global, most: usize, bad_call: u32) -> (Result<(), WriteFailed>, Vec<u8>) {
+    let mut outlet = Outlet::new(Fake {
+        taken: Vec::new(alloc),
+        most,
+        bad_call,
+        kind: io::ErrorKind::BrokenPipe,
+        calls: 0,
+    });
+    let answer = outlet.write_all(b"abcde");
+    (answer, outlet.into_inner().taken)
+}
+
+#[test]
+fn a_whole_text_is_written_piece_by_piece(rt: HostRuntime) {
+    for (most, bad_call, want, taken) in [
+        (5, 9, Ok(()), b"abcde".as_slice()),
+        (2, 9, Ok(()), b"abcde"),
+        (1, 9, Ok(()), b"abcde"),
+        (2, 3, Err(WriteFailed), b"abcd"),
+        (5, 1, Err(WriteFailed), b""),
+        (0, 9, Err(WriteFailed), b""),
+    ] {
+        let (answer, bytes) = all_told(rt.alloc(), most, bad_call);
+        assert_eq!(rt; answer, want, "{most} {bad_call}");
+        assert_eq!(rt; bytes.as_slice(), taken, "{most} {bad_call}");
+    }
+}

@@ -1,7 +1,7 @@
 use Rattle.std.proofs.Common.{◌≡◌, ◌<◌, ◌^◌, drop, true}
 use Rattle.std.specs.Str.{all_ascii_digits}
 use Rattle.rc_instr.specs.Digits.{read_on}
-use Rattle.rc_instr.proofs.loadfile.number.number_of.Given as goal
+use Rattle.rc_instr.proofs.decimal.number_of.Given as goal
 
 abbrev pub invariant-loop-digit : goal.invariant-loop-digit
 invariant-loop-digit l = record {

@@ -1,0 +1,11 @@
+-- Pieces that are written one after another.
+use Rattle.std.proofs.Common.{ℕ, ◌+◌, List, ◌++◌, take, drop, sym, ◌∙◌, ap, append_assoc, take-add}
+use Rattle.std.specs.Prelude.{Option, None, Some}
+use Rattle.std.specs.Io.KnownBytes.{Appends}
+
+-- two pieces of a text, the second behind the first, are one
+pub appends_more : (a b c : Option (List ℕ)) (xs : List ℕ) (i n : ℕ) → Appends a b (take i xs) → Appends b c (take n (drop i xs)) → Appends a c (take (i + n) xs)
+appends_more None b c xs i n p q = tt
+appends_more (Some x) None c xs i n p q = absurd p
+appends_more (Some x) (Some y) None xs i n p q = absurd q
+appends_more (Some x) (Some y) (Some z) xs i n p q = q ∙ ap (λ r. r ++ take n (drop i xs)) p ∙ append_assoc x (take i xs) (take n (drop i xs)) ∙ ap (λ r. x ++ r) (sym (take-add i n xs))
