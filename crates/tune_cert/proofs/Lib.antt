@@ -1,3 +1,13 @@
+pub mod Written
 pub mod CapRows
 pub mod Certificates
 pub mod Scores
+pub mod RowChecks
+pub mod Verdicts
+pub mod ItemText
+pub mod Spaced
+pub mod RowLists
+pub mod CertParts
+pub mod WrittenBack
+pub mod OneSpelling
+pub mod Optimal

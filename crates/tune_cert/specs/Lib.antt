@@ -4,3 +4,11 @@
 pub mod Problem
 pub mod Optimum
 pub mod Valid
+pub mod CertText
+pub mod Spelling
+pub mod ReadRefusal
+pub mod Parts
+pub mod Verdict
+pub mod Rejection
+pub mod Checks
+pub mod Writing

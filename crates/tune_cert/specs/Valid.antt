@@ -16,6 +16,16 @@ abbrev pub IsCapRow : Problem → Program → ℕ → List (ℕ × ℕ) → Type
 IsCapRow p w a [] = Unit {0}
 IsCapRow p w a (e ∷ row) = (a ≤ e.0) × (e.0 < p.fights) × (e.1 ≡ p.points w e.0) × IsCapRow p w (e.0 + 1) row
 
+-- how many fights a row lists (this project's own)
+abbrev pub fights_in : Row → ℕ
+fights_in Refused = 0
+fights_in (Same u) = 0
+fights_in (Cap row) = length row
+
+-- how many fights the rows list (this project's own)
+unfoldable pub listed_fights : List Row → ℕ
+listed_fights rows = sum_by fights_in rows
+
 -- The row of the vector v is right for the best vector w with its total t (this project's own). A refused vector is no candidate. A cap
 -- row is one of v's warrior, and unless v is the best its cap does not beat the best for v. A vector that has the same warrior as another
 -- one, u, refers to a cap row of u, whose cap does not beat the best for v.

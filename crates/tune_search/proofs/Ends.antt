@@ -1,5 +1,5 @@
 -- What was found after all vectors.
-use Rattle.std.proofs.Common.{◌≡◌, ℕ, ◌<◌, ◌≤◌, arith, List, Option, Some, None, ◌∙◌, ap, subst, map}
+use Rattle.std.proofs.Common.{◌≡◌, ℕ, ◌*◌, ◌<◌, ◌≤◌, arith, List, Option, Some, None, ◌∙◌, ap, sym, subst, map}
 use Rattle.std.specs.List.{range_with_len}
 use Rattle.tune_cert.specs.Problem.{Problem}
 use Rattle.tune_cert.specs.Optimum.{total_of, HasTotal, IsOptimum, candidates_of}
@@ -7,7 +7,8 @@ use Rattle.tune_cert.specs.declared.row.Row.{Row}
 use Rattle.tune_search.specs.Plays.{row_of, rows_of}
 use Rattle.tune_search.specs.Progress.{IsBest, IsLead, IsProgress}
 use Rattle.tune_search.specs.declared.progress.Lead.{Lead}
-use Rattle.tune_cert.specs.Valid.{IsValid}
+use Rattle.tune_cert.specs.Valid.{listed_fights, IsValid}
+use Rattle.tune_search.proofs.Listed.{listed_rows}
 use Rattle.tune_search.proofs.Rightness.{rows_valid}
 
 best_optimum : (p : Problem) (v t : ℕ) → IsBest p p.count v t → IsOptimum p v
@@ -43,6 +44,9 @@ module _ (p : Problem) (k : ℕ) (rows : List Row) (lead : Option Lead) (candida
   pub ends_candidates : candidates ≡ candidates_of p
   unfolding candidates_of
   ends_candidates = h.count ∙ ap (λ n. candidates_of (record p { count = n })) e
+
+  pub ends_listed : fights ≡ listed_fights rows
+  ends_listed = h.work ∙ ap (λ n. n * p.fights) ends_candidates ∙ sym (listed_rows p) ∙ ap listed_fights (sym ends_rows)
 
   pub ends_valid : (best : Lead) → lead ≡ Some best → IsValid p p.count best.vector best.total rows
   ends_valid best is = rows_valid p rows ends_rows best.vector best.total (ends_best best is)

@@ -2,3 +2,4 @@ pub mod Ranges
 pub mod Visits
 pub mod Ends
 pub mod Rightness
+pub mod Listed

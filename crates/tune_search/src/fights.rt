@@ -1,15 +1,15 @@
 //! The fights of one warrior.
-ghost use Rattle.std.specs.Prelude.{◌≡◌, ◌<◌, ◌≤◌, length, IfOk};
+ghost use Rattle.std.specs.Prelude.{◌≡◌, ◌≤◌, length, IfOk};
 ghost use Rattle.rc_instr.specs.Warrior.{Fits};
 ghost use Rattle.mars_core.specs.Arena.{blank_arena};
-ghost use Rattle.tune_cert.specs.Problem.{points_at, problem_of};
+ghost use Rattle.tune_cert.specs.Problem.{problem_of};
 ghost use Rattle.tune_cert.specs.Optimum.{all_fights, total_of};
 ghost use Rattle.tune_search.specs.Plays.{played};
 
 use mars_core::{Arena, PlainCells};
-use mars_fight::play;
 use rc_instr::Warrior;
 use std::alloc::{AllocError, Global};
+use tune_cert::points_in;
 use tune_template::Inputs;
 
 /// The fights of a warrior, by number, with their points, and the sum of the points.
@@ -17,21 +17,6 @@ use tune_template::Inputs;
 pub(crate) struct Bout {
     pub(crate) row: Vec<(u32, u8)>,
     pub(crate) total: u32,
-}
-
-/// The points of a warrior in the fight of a number.
-#[tactic(auto, unfolding(tune_cert::specs::Problem::points_at))]
-fn play_one(arena: &mut Arena<PlainCells>, inputs: &Inputs, warrior: &Warrior, number: u32) -> u8
-    requires blank { arena.old ≡ blank_arena inputs.now.rules inputs.now.rules.core }
-    requires fits { Fits inputs.now.rules warrior.now }
-    requires inside { number < length inputs.now.schedule }
-    ensures points { result ≡ points_at inputs.now.rules inputs.now.opponents inputs.now.schedule warrior.now number }
-    ensures few { result ≤ 3 }
-    ensures blank { arena.new ≡ blank_arena inputs.now.rules inputs.now.rules.core }
-{
-    let fight = &inputs.schedule().fights()[number as usize];
-    let opponent = &inputs.opponents()[fight.opponent as usize];
-    play(arena, warrior, opponent, fight)
 }
 
 /// Plays all fights of a warrior, by number.
@@ -53,7 +38,7 @@ pub(crate) fn play_all(
     let mut row = Vec::with_capacity(alloc, count)?;
     let mut total: u32 = 0;
     for number in 0..count as u32 {
-        let points = play_one(arena, inputs, warrior, number);
+        let points = points_in(arena, inputs, warrior, number);
         row.push((number, points))?;
         total += u32::from(points);
     }

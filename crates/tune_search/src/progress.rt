@@ -7,8 +7,8 @@ ghost use Rattle.tune_search.specs.Progress.{IsState, lead_after};
 use crate::fault::SearchFault;
 use crate::fights::play_all;
 use mars_core::{Arena, PlainCells};
-use rc_asm::AsmKind;
 use std::alloc::Global;
+use tune_cert::candidate::candidate;
 use tune_cert::{Listing, Row};
 use tune_template::Inputs;
 
@@ -75,15 +75,9 @@ impl Progress {
         ensures blank { arena.new ≡ blank_arena inputs.now.rules inputs.now.rules.core }
         ensures err { IfErr result (λ e. e ≡ SearchFault.OutOfMemory) }
     {
-        let warrior = match inputs.template().instance(alloc, vector, inputs.rules()) {
-            Ok(warrior) => warrior,
-            Err(fault) => {
-                if fault.kind == AsmKind::OutOfMemory {
-                    return Err(SearchFault::OutOfMemory);
-                }
-                self.rows.push(Row::Refused)?;
-                return Ok(());
-            }
+        let Some(warrior) = candidate(alloc, inputs, vector)? else {
+            self.rows.push(Row::Refused)?;
+            return Ok(());
         };
         let bout = play_all(alloc, arena, inputs, &warrior)?;
         self.fights += bout.row.len() as u64;

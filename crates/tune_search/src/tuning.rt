@@ -1,8 +1,8 @@
 //! The search.
-ghost use Rattle.std.specs.Prelude.{◌≡◌, ◌*◌, ◌<◌, ◌≤◌, ℕ, None, IfOk, IfErr};
+ghost use Rattle.std.specs.Prelude.{◌≡◌, ◌*◌, ◌<◌, ◌≤◌, ℕ, None, length, IfOk, IfErr};
 ghost use Rattle.tune_cert.specs.Problem.{problem_of};
 ghost use Rattle.tune_cert.specs.Optimum.{IsOptimum, HasTotal, candidates_of};
-ghost use Rattle.tune_cert.specs.Valid.{IsValid};
+ghost use Rattle.tune_cert.specs.Valid.{IsValid, listed_fights};
 ghost use Rattle.tune_search.specs.Plays.{rows_of};
 
 use crate::fault::SearchFault;
@@ -35,7 +35,9 @@ pub fn search(alloc: Global, inputs: &Inputs, capacity: u32) -> Result<Found, Se
     ensures valid { let p = problem_of inputs.now in IfOk result (λ f. IsValid p p.count f.best f.total f.rows) }
     ensures candidates { IfOk result (λ f. f.candidates ≡ candidates_of (problem_of inputs.now)) }
     ensures rows { IfOk result (λ f. f.rows ≡ rows_of (problem_of inputs.now)) }
+    ensures few { IfOk result (λ f. length f.rows ≤ 1000000) }
     ensures fights { IfOk result (λ f. f.fights ≡ f.candidates * (problem_of inputs.now).fights) }
+    ensures listed { IfOk result (λ f. f.fights ≡ listed_fights f.rows) }
     ensures copied { IfOk result (λ f. f.copied ≡ None) }
     ensures none { let p = problem_of inputs.now in IfErr result (λ e. e ≡ SearchFault.NoCandidate → (v : ℕ) → v < p.count → p.warrior v ≡ None) }
 {

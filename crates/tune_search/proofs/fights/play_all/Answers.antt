@@ -10,14 +10,14 @@ loop-number-preserved c =
     let i = c.args.inputs.now in
     let k = c.loop-number.number in
     let f = points_at i.rules i.opponents i.schedule c.args.warrior.now in
-    let points : c.play_one-points.result ≡ f k = c.play_one-points.ensures.points in
+    let points : c.points_in-points.result ≡ f k = c.points_in-points.ensures.points in
     let made : c.loop-number.total ≡ sum_by f (range_with_len 0 k) = c.loop-number.invariant.made in
     let more : sum_by f (range_with_len 0 (k + 1)) ≡ sum_by f (range_with_len 0 k) + f k = sum_more f k in
     record {
       fought = c.in_ok-push.ensures.items ∙ map_more (λ n. (n, f n)) k _ _ c.loop-number.invariant.fought (ap (λ x. (k, x)) points);
       made = omega (arith, points, made, more, c.from-total.ensures);
       few = search rules;
-      blank = c.play_one-points.ensures.blank;
+      blank = c.points_in-points.ensures.blank;
     }
 
 pub returns-clause-few : goal.returns-clause-few

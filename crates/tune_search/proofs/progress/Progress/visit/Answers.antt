@@ -1,8 +1,5 @@
 use Rattle.std.proofs.Common.{arith, rules, ◌≡◌, ◌∙◌, ap, sym, length, ◌≤◌, ◌+◌, ◌++◌, ◌∷◌, [], refl, List, ℕ, Some, None}
-use Rattle.std.specs.Prelude.{◌≢◌}
 use Rattle.std.proofs.lemmas.List.FromFn.{length-map-range_with_len}
-use Rattle.rc_asm.specs.declared.fault.AsmKind.TheVariants.{OutOfMemory}
-use Rattle.tune_template.specs.Instances.{instance_of}
 use Rattle.tune_cert.specs.Problem.{problem_of}
 use Rattle.tune_cert.specs.Optimum.{all_fights, total_of}
 use Rattle.tune_cert.specs.declared.row.Row.TheVariants.{Cap}
@@ -10,22 +7,21 @@ use Rattle.tune_search.specs.Plays.{played}
 use Rattle.tune_search.proofs.Visits.{refused_visit, fought_visit, progress_along}
 use Rattle.tune_search.proofs.progress.Progress.visit.Goals as goal
 
-pub returns-in-Err-clause-state : goal.returns-in-Err-clause-state
-returns-in-Err-clause-state c =
+pub returns-in_default-clause-state : goal.returns-in_default-clause-state
+returns-in_default-clause-state c =
     let p = problem_of c.args.inputs.now in
     let s = c.args.self.now in
-    let apart : c.in-Err.fault.kind ≢ OutOfMemory = search rules in
-    let none : p.warrior c.args.vector ≡ None = ap (λ t. instance_of t c.args.inputs.now.rules c.args.vector) (sym c.template.ensures.template) ∙ (ap (λ r. instance_of c.template.result.now r c.args.vector) (sym c.rules.ensures) ∙ c.in-Err.ensures.refused apart) in
+    let none : p.warrior c.args.vector ≡ None = sym c.in_ok-warrior.ensures.warrior ∙ c.in_default.is in
     progress_along p (c.args.vector + 1) _ _ _ _ _ _ _ _ (refused_visit p c.args.vector s.rows.items s.lead s.candidates s.fights none c.requires.state)
-    (sym c.in_ok-push-in-Err.ensures.items) refl refl refl
+    (sym c.in_ok-push.ensures.items) refl refl refl
 
 pub returns-clause-state : goal.returns-clause-state
 returns-clause-state c =
     let p = problem_of c.args.inputs.now in
     let s = c.args.self.now in
-    let w = c.in-Ok.warrior in
+    let w = c.in-Some.warrior in
     let bout = c.in_ok-bout.bout in
-    let is : p.warrior c.args.vector ≡ Some w = ap (λ t. instance_of t c.args.inputs.now.rules c.args.vector) (sym c.template.ensures.template) ∙ (ap (λ r. instance_of c.template.result.now r c.args.vector) (sym c.rules.ensures) ∙ c.in-Ok.ensures.warrior) in
+    let is : p.warrior c.args.vector ≡ Some w = sym c.in_ok-warrior.ensures.warrior ∙ c.in-Some.is in
     let made : bout.total ≡ total_of p w = c.in_ok-bout.ensures.total in
     let all : length bout.row.items ≡ p.fights = ap length c.in_ok-bout.ensures.row ∙ length-map-range_with_len (λ k. (k, p.points w k)) 0 p.fights in
     let less : length bout.row.items ≤ 10000 = c.in_ok-bout.ensures.few in
@@ -33,4 +29,4 @@ returns-clause-state c =
     let row : c.from_vec.result ≡ played p w (all_fights p) = c.from_vec.ensures ∙ c.in_ok-bout.ensures.row in
     let work : s.fights + p.fights ≡ s.fights + c.len.result = (let n : c.len.result ≡ length bout.row.items = search rules in omega (arith, n, all)) in
     progress_along p (c.args.vector + 1) _ _ _ _ _ _ _ _ (fought_visit p c.args.vector w bout.total is made s.rows.items s.lead s.candidates s.fights few c.requires.state)
-    (sym (c.in_ok-push.ensures.items ∙ ap (λ (r : List (ℕ × ℕ)). s.rows.items ++ Cap r ∷ []) row)) (sym c.lead_after-self.ensures) refl work
+    (sym (c.in_ok-push-2.ensures.items ∙ ap (λ (r : List (ℕ × ℕ)). s.rows.items ++ Cap r ∷ []) row)) (sym c.lead_after-self.ensures) refl work

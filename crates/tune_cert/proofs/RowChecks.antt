@@ -1,0 +1,63 @@
+-- What a check finds of one row.
+use Rattle.std.proofs.Common.{◌≡◌, ℕ, zero, suc, ◌+◌, ◌≤◌, arith, List, [], ◌∷◌, length, refl, sym, ◌∙◌, ap}
+use Rattle.std.specs.List.{range_with_len}
+use Rattle.std.proofs.lemmas.List.{length-map}
+use Rattle.std.proofs.lemmas.List.FromFn.{length-range_with_len}
+use Rattle.rc_instr.specs.Warrior.{Program}
+use Rattle.tune_cert.specs.Problem.{Problem, IsProblem}
+use Rattle.tune_cert.specs.Optimum.{cap_of, all_fights}
+use Rattle.tune_cert.specs.Valid.{numbers, IsCapRow}
+use Rattle.tune_cert.specs.Verdict.{Rises, HavePoints}
+use Rattle.tune_cert.specs.Checks.{AreNumbers, listed_cap}
+use Rattle.tune_cert.proofs.CapRows.{capped, row_sum}
+
+-- a cap row rises and has its points
+pub cap_row_of : (p : Problem) (w : Program) (a : ℕ) (row : List (ℕ × ℕ)) → Rises a row → HavePoints p w row → IsCapRow p w a row
+cap_row_of p w a [] r h = tt
+cap_row_of p w a (e ∷ row) r h = (r.0, h.0, h.1, cap_row_of p w (e.0 + 1) row r.1 h.2)
+
+pub cap_row_rises : (p : Problem) (w : Program) (a : ℕ) (row : List (ℕ × ℕ)) → IsCapRow p w a row → Rises a row
+cap_row_rises p w a [] h = tt
+cap_row_rises p w a (e ∷ row) h = (h.0, cap_row_rises p w (e.0 + 1) row h.3)
+
+pub cap_row_points : (p : Problem) (w : Program) (a : ℕ) (row : List (ℕ × ℕ)) → IsCapRow p w a row → HavePoints p w row
+cap_row_points p w a [] h = tt
+cap_row_points p w a (e ∷ row) h = (h.1, h.2, cap_row_points p w (e.0 + 1) row h.3)
+
+-- a cap row has at most as many fights as there are
+pub few_listed : (p : Problem) → IsProblem p → (w : Program) (row : List (ℕ × ℕ)) → IsCapRow p w 0 row → length row ≤ p.fights
+few_listed p laws w row h = (capped p laws w p.fights 0 row (omega arith) h).0
+
+-- the cap by the points that a cap row lists
+pub listed_is_cap : (p : Problem) (w : Program) (row : List (ℕ × ℕ)) → IsCapRow p w 0 row → listed_cap p.fights row ≡ cap_of p w (numbers row)
+unfolding cap_of
+listed_is_cap p w row h = omega (arith, row_sum p w 0 row h, length-map row (λ e. e.0))
+
+-- all fights by number
+up_to : (n a : ℕ) (row : List (ℕ × ℕ)) → AreNumbers n a row → n ≡ a + length row
+up_to n a [] h = omega (arith, h)
+up_to n a (e ∷ row) h = omega (arith, up_to n (a + 1) row h.1)
+
+numbers_are : (n a m : ℕ) (row : List (ℕ × ℕ)) → n ≡ a + m → AreNumbers n a row → numbers row ≡ range_with_len a m
+numbers_are n a zero [] is h = refl
+numbers_are n a zero (e ∷ row) is h = absurd (omega (arith, up_to n (a + 1) row h.1))
+numbers_are n a (suc m) [] is h = absurd (omega (arith, h))
+numbers_are n a (suc m) (e ∷ row) is h = ap (λ k. k ∷ numbers row) h.0 ∙ ap (λ ks. a ∷ ks) (numbers_are n (a + 1) m row (omega arith) h.1)
+
+are_numbers : (n a m : ℕ) (row : List (ℕ × ℕ)) → n ≡ a + m → numbers row ≡ range_with_len a m → AreNumbers n a row
+are_numbers n a zero [] is h = omega arith
+are_numbers n a zero (e ∷ row) is h = absurd (cc)
+are_numbers n a (suc m) [] is h = absurd (cc)
+are_numbers n a (suc m) (e ∷ row) is h =
+    let here : e.0 ≡ a = cc in
+    let rest : numbers row ≡ range_with_len (a + 1) m = cc in
+    (here, are_numbers n (a + 1) m row (omega arith) rest)
+
+pub all_numbers : (p : Problem) (row : List (ℕ × ℕ)) → AreNumbers p.fights 0 row → numbers row ≡ all_fights p
+all_numbers p row h = numbers_are p.fights 0 p.fights row (omega arith) h
+
+pub numbers_all : (p : Problem) (row : List (ℕ × ℕ)) → numbers row ≡ all_fights p → AreNumbers p.fights 0 row
+numbers_all p row h = are_numbers p.fights 0 p.fights row (omega arith) h
+
+pub all_listed : (p : Problem) (row : List (ℕ × ℕ)) → numbers row ≡ all_fights p → length row ≡ p.fights
+all_listed p row h = sym (length-map row (λ e. e.0)) ∙ (ap length h ∙ length-range_with_len 0 p.fights)

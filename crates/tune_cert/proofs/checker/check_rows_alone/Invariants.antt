@@ -1,0 +1,13 @@
+use Rattle.std.proofs.Common.{◌≡◌, ◌<◌, ℕ, Some, slice_get}
+use Rattle.mars_core.specs.Arena.{blank_arena}
+use Rattle.tune_cert.specs.Problem.{problem_of}
+use Rattle.tune_cert.specs.Rejection.{IsRightAlone}
+use Rattle.tune_cert.specs.declared.row.Row.{Row}
+use Rattle.tune_cert.proofs.checker.check_rows_alone.Given as goal
+
+-- the refused and the cap rows so far are right
+abbrev pub invariant-loop-vector : goal.invariant-loop-vector
+invariant-loop-vector l = record {
+  blank : l.arena ≡ blank_arena l.fn.inputs.rules l.fn.inputs.rules.core;
+  right : (v : ℕ) (row : Row) → v < l.vector → slice_get l.fn.cert.rows v ≡ Some row → IsRightAlone (problem_of l.fn.inputs) l.fn.cert v row;
+}

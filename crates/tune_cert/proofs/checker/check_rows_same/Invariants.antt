@@ -1,0 +1,11 @@
+use Rattle.std.proofs.Common.{◌≡◌, ◌<◌, ℕ, Some, slice_get}
+use Rattle.tune_cert.specs.Problem.{problem_of}
+use Rattle.tune_cert.specs.Rejection.{IsRightSame}
+use Rattle.tune_cert.specs.declared.row.Row.{Row}
+use Rattle.tune_cert.proofs.checker.check_rows_same.Given as goal
+
+-- the rows so far that refer to other vectors are right
+abbrev pub invariant-loop-vector : goal.invariant-loop-vector
+invariant-loop-vector l = record {
+  right : (v : ℕ) (row : Row) → v < l.vector → slice_get l.fn.cert.rows v ≡ Some row → IsRightSame (problem_of l.fn.inputs) l.fn.cert v row;
+}

@@ -1,0 +1,87 @@
+//! Why a certificate is not written, not read, or not checked.
+ghost use Rattle.std.specs.Prelude.{◌≡◌};
+ghost use Rattle.tune_cert.specs.declared.fault.CertFault.TheVariants.{Write as WriteFault, OutOfMemory as WriteMemory};
+ghost use Rattle.tune_cert.specs.declared.fault.ReadFault.TheVariants.{OutOfMemory as ReadMemory};
+ghost use Rattle.tune_cert.specs.declared.fault.CheckFault.TheVariants.{OutOfMemory as CheckMemory};
+
+use rc_instr::{OutOfMemory, WriteFailed};
+use std::alloc::{AllocError, AllocFailed};
+use thiserror::Error;
+
+/// Why a certificate is not written. (This project's own.)
+#[derive(Clone, Copy, Debug, PartialEq, Eq, Error)]
+pub enum CertFault {
+    /// The writer failed.
+    #[error("a write failed")]
+    Write,
+    /// Memory was refused.
+    #[error("out of memory")]
+    OutOfMemory,
+}
+
+/// Why bytes are not read as a certificate. (This project's own.)
+#[derive(Clone, Copy, Debug, PartialEq, Eq, Error)]
+pub enum ReadFault {
+    /// The record of this number, counted from 0, has not the form that a certificate's has.
+    #[error("record {row} is not one of a certificate")]
+    Malformed { row: u64 },
+    /// Memory was refused.
+    #[error("out of memory")]
+    OutOfMemory,
+}
+
+/// Why a certificate is not checked. (This project's own.)
+#[derive(Clone, Copy, Debug, PartialEq, Eq, Error)]
+pub enum CheckFault {
+    /// Memory was refused.
+    #[error("out of memory")]
+    OutOfMemory,
+}
+
+impl From<OutOfMemory> for CertFault {
+    ghost from_gives = { λ _ e. e ≡ WriteMemory };
+
+    fn from(_refused: OutOfMemory) -> CertFault {
+        CertFault::OutOfMemory
+    }
+}
+
+impl From<WriteFailed> for CertFault {
+    ghost from_gives = { λ _ e. e ≡ WriteFault };
+
+    fn from(_failed: WriteFailed) -> CertFault {
+        CertFault::Write
+    }
+}
+
+impl From<OutOfMemory> for ReadFault {
+    ghost from_gives = { λ _ e. e ≡ ReadMemory };
+
+    fn from(_refused: OutOfMemory) -> ReadFault {
+        ReadFault::OutOfMemory
+    }
+}
+
+impl<T: Drop> From<AllocFailed<T>> for ReadFault {
+    ghost from_gives = { λ _ e. e ≡ ReadMemory };
+
+    fn from(_refused: AllocFailed<T>) -> ReadFault {
+        ReadFault::OutOfMemory
+    }
+}
+
+impl From<OutOfMemory> for CheckFault {
+    ghost from_gives = { λ _ e. e ≡ CheckMemory };
+
+    fn from(_refused: OutOfMemory) -> CheckFault {
+        CheckFault::OutOfMemory
+    }
+}
+
+impl From<AllocError> for CheckFault {
+    ghost from_gives = { λ _ e. e ≡ CheckMemory };
+
+    fn from(_refused: AllocError) -> CheckFault {
+        CheckFault::OutOfMemory
+    }
+}

@@ -1,0 +1,200 @@
+//! Writing certificates.
+ghost use Rattle.std.specs.Prelude.{◌≡◌, ◌<◌, ◌↔◌, ◌^◌, ◌++◌, ◌∷◌, [], Some, false, length, flat_map, IfOk, OnOk, OnErr, IfErr, IsErrOf, IsTrue};
+ghost use Rattle.std.specs.Fmt.{decimal};
+ghost use Rattle.std.specs.Io.KnownBytes.{Appends};
+ghost use Rattle.csv.specs.Writing.{default_writer, row_text, text_written};
+ghost use Rattle.tune_cert.specs.CertText.{item_text, spaced_text, list_text, row_fields, rows_fields, count_fields, best_fields, records_text, cert_text, cert_of};
+ghost use Rattle.tune_cert.specs.Writing.{IsReady};
+
+use crate::fault::CertFault;
+use crate::found::Found;
+use crate::row::Row;
+use csv::{Writer, WriterBuilder};
+use itoa::Buffer;
+use rc_instr::{OutOfMemory, Outlet};
+use std::alloc::Global;
+use std::io::Write;
+
+/// Adds a number in decimal.
+fn add_decimal(text: &mut Vec<u8>, number: u32) -> Result<(), OutOfMemory>
+    ensures { OnOk result (text.new.items ≡ text.old.items ++ decimal number) }
+{
+    text.extend_from_slice(Buffer::new().format(number).as_bytes())?;
+    Ok(())
+}
+
+/// Adds a fight's number and its points.
+#[tactic(auto, unfolding(crate::specs::CertText::item_text))]
+fn add_item(text: &mut Vec<u8>, item: (u32, u8)) -> Result<(), OutOfMemory>
+    ensures { OnOk result (text.new.items ≡ text.old.items ++ item_text item) }
+{
+    add_decimal(text, item.0)?;
+    text.push(b':')?;
+    add_decimal(text, u32::from(item.1))
+}
+
+/// Adds the same with a space in front.
+#[tactic(auto, unfolding(crate::specs::CertText::spaced_text))]
+fn add_spaced(text: &mut Vec<u8>, item: (u32, u8)) -> Result<(), OutOfMemory>
+    ensures { OnOk result (text.new.items ≡ text.old.items ++ spaced_text item) }
+{
+    text.push(b' ')?;
+    add_item(text, item)
+}
+
+/// Adds fights with their points, each with a space in front.
+fn add_others(text: &mut Vec<u8>, items: &[(u32, u8)]) -> Result<(), OutOfMemory>
+    ensures { OnOk result (text.new.items ≡ text.old.items ++ flat_map spaced_text items.now) }
+{
+    for item in items {
+        add_spaced(text, *item)?;
+    }
+    Ok(())
+}
+
+/// Makes `text` the fights of a cap row.
+#[tactic(auto, unfolding(crate::specs::CertText::list_text))]
+fn set_list(text: &mut Vec<u8>, items: &[(u32, u8)]) -> Result<(), OutOfMemory>
+    ensures { OnOk result (text.new.items ≡ list_text items.now) }
+{
+    text.clear();
+    let Some((first, others)) = items.split_first() else {
+        text.push(b'-')?;
+        return Ok(());
+    };
+    add_item(text, *first)?;
+    add_others(text, others)
+}
+
+/// Writes a record of three fields.
+fn write_record(
+    writer: &mut Writer<Vec<u8>>,
+    first: &[u8],
+    second: &[u8],
+    third: &[u8],
+) -> Result<(), OutOfMemory>
+    requires { IsReady writer.old }
+    ensures ready { OnOk result (IsReady writer.new) }
+    ensures text { OnOk result (Appends (text_written (λ v. Some v.items) writer.old) (text_written (λ v. Some v.items) writer.new)
+        (row_text default_writer (first.now ∷ second.now ∷ third.now ∷ []))) }
+{
+    writer
+        .write_fields(&[first, second, third])
+        .map_err(|_refused| OutOfMemory)
+}
+
+/// Writes the row of a vector. The text of a list is made in `list`.
+fn write_row(
+    writer: &mut Writer<Vec<u8>>,
+    list: &mut Vec<u8>,
+    vector: u32,
+    row: &Row,
+) -> Result<(), OutOfMemory>
+    requires { IsReady writer.old }
+    ensures ready { OnOk result (IsReady writer.new) }
+    ensures text { OnOk result (Appends (text_written (λ v. Some v.items) writer.old) (text_written (λ v. Some v.items) writer.new)
+        (row_text default_writer (row_fields vector row.now))) }
+{
+    let mut buffer = Buffer::new();
+    let place = buffer.format(vector).as_bytes();
+    match row {
+        Row::Refused => write_record(writer, b"refused", place, b"-"),
+        Row::Same(other) => {
+            write_record(
+                writer,
+                b"same",
+                place,
+                Buffer::new().format(*other).as_bytes(),
+            )
+        }
+        Row::Cap(fights) => {
+            set_list(list, fights.as_slice())?;
+            write_record(writer, b"cap", place, list.as_slice())
+        }
+    }
+}
+
+/// Writes the first record.
+fn write_count(writer: &mut Writer<Vec<u8>>, count: u32) -> Result<(), OutOfMemory>
+    requires { IsReady writer.old }
+    ensures ready { OnOk result (IsReady writer.new) }
+    ensures text { OnOk result (Appends (text_written (λ v. Some v.items) writer.old) (text_written (λ v. Some v.items) writer.new)
+        (row_text default_writer (count_fields count))) }
+{
+    write_record(
+        writer,
+        b"cwcert",
+        b"1",
+        Buffer::new().format(count).as_bytes(),
+    )
+}
+
+/// Writes the second record.
+fn write_best(writer: &mut Writer<Vec<u8>>, best: u32, total: u32) -> Result<(), OutOfMemory>
+    requires { IsReady writer.old }
+    ensures ready { OnOk result (IsReady writer.new) }
+    ensures text { OnOk result (Appends (text_written (λ v. Some v.items) writer.old) (text_written (λ v. Some v.items) writer.new)
+        (row_text default_writer (best_fields best total))) }
+{
+    write_record(
+        writer,
+        b"best",
+        Buffer::new().format(best).as_bytes(),
+        Buffer::new().format(total).as_bytes(),
+    )
+}
+
+/// Writes the rows, that of the vector 0 first.
+fn write_rows(alloc: Global, writer: &mut Writer<Vec<u8>>, rows: &[Row]) -> Result<(), OutOfMemory>
+    requires ready { IsReady writer.old }
+    requires few { length rows.now < 2 ^ 32 }
+    ensures ready { OnOk result (IsReady writer.new) }
+    ensures text { OnOk result (Appends (text_written (λ v. Some v.items) writer.old) (text_written (λ v. Some v.items) writer.new)
+        (records_text (rows_fields rows.now 0))) }
+{
+    let mut list = Vec::new(alloc);
+    let mut vector = 0u32;
+    for row in rows {
+        write_row(writer, &mut list, vector, row)?;
+        vector += 1;
+    }
+    Ok(())
+}
+
+/// The bytes of the certificate of what was found.
+#[tactic(auto, using(crate::proofs::Written::whole_text))]
+fn text_of(alloc: Global, found: &Found) -> Result<Vec<u8>, OutOfMemory>
+    requires { length found.now.rows < 2 ^ 32 }
+    ensures { IfOk result (λ text. text.items ≡ cert_text (cert_of found.now)) }
+{
+    let mut writer = WriterBuilder::new().from_writer(Vec::new(alloc));
+    let rows = found.rows.as_slice();
+    write_count(&mut writer, rows.len() as u32)?;
+    write_best(&mut writer, found.best, found.total)?;
+    write_rows(alloc, &mut writer, rows)?;
+    writer.into_inner().map_err(|_refused| OutOfMemory)
+}
+
+/// Writes the certificate of what a search found: `cwcert,1,N`, `best,W,T`, and a row for each vector, each a line of its own.
+///
+/// There are fewer than 4294967296 rows, and the outlet has not failed. A row is `refused,V,-`, or `same,V,U`, or `cap,V,LIST` with the
+/// fights in the order of the row, as `0:3 1:1`, or `-` where there are none. The crate `csv` makes the records in memory, and the
+/// whole text is handed to the outlet afterwards. (This project's own.)
+///
+/// Refuses `Write` where the writer failed, and then an unknown part of the text may be out; and `OutOfMemory` where memory was
+/// refused, and then nothing was written.
+pub fn write_cert<W: Write>(
+    alloc: Global,
+    found: &Found,
+    out: &mut Outlet<W>,
+) -> Result<(), CertFault>
+    requires works { out.old.failed ≡ false }
+    requires few { length found.now.rows < 2 ^ 32 }
+    ensures bytes { OnOk result (Appends out.old.bytes out.new.bytes (cert_text (cert_of found.now))) }
+    ensures write { IsErrOf result CertFault.Write ↔ IsTrue out.new.failed }
+    ensures memory { IfErr result (λ e. e ≡ CertFault.OutOfMemory → out.new ≡ out.old) }
+{
+    let text = text_of(alloc, found)?;
+    out.write_all(text.as_slice())?;
+    Ok(())
+}
