@@ -96,3 +96,19 @@ refused_means (Schedule fault) t i v (view, opponents, few, is, are, (known, non
 refused_means NoCandidate t i v r m inside c = absurd (no_candidate t i r.0 v m r.1 r.2 inside c)
 refused_means Write t i v r m inside c = absurd r
 refused_means OutOfMemory t i v r m inside c = inr refl
+
+-- texts that have a meaning are refused for want of memory, or as a template without a candidate
+pub refused_inputs : (e : RunFault) (t : Texts) (i : InputsView) → IsTuneRefusal e t → (e ≡ NoCandidate → ⊥) → Means t i → (e ≡ Write) ⊎ (e ≡ OutOfMemory)
+refused_inputs (FightText line) t i r some m = absurd r
+refused_inputs (Rules error) t i r some m = absurd r
+refused_inputs (Load side fault) t i r some m = absurd r
+refused_inputs Position t i r some m = absurd r
+refused_inputs (Asm fault) t i r some m = absurd r
+refused_inputs TooManyOpponents t i r some m = let few = m.few in absurd (omega arith)
+refused_inputs (Template fault) t i r some m = let read = m.template.1 in let wrong = r.1 in absurd (cc)
+refused_inputs (Opponent index fault) t i (view, few, is, (before, text, are, at, (known, none, first))) some m =
+    let a = opponent_assembles t.rules t.opponents i.opponents index text m.opponents at in absurd (none a.0 a.1)
+refused_inputs (Schedule fault) t i (view, opponents, few, is, are, (known, none, true)) some m = let read = m.schedule in absurd (cc)
+refused_inputs NoCandidate t i r some m = absurd (some refl)
+refused_inputs Write t i r some m = absurd r
+refused_inputs OutOfMemory t i r some m = inr refl

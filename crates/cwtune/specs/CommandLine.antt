@@ -11,5 +11,5 @@ AskForFight (word ∷ next ∷ more) = ⊥
 
 -- the capacity of a search is 1 to 65536
 abbrev pub IsRequest : Request → Type 0
-IsRequest (Tune words) = (1 ≤ words.capacity) × (words.capacity ≤ 65536)
+IsRequest (Tune words capacity) = (1 ≤ capacity) × (capacity ≤ 65536)
 IsRequest _ = Unit {0}

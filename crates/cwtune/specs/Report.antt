@@ -5,6 +5,8 @@ use Rattle.rc_expand.specs.Names.{Table}
 use Rattle.tune_template.specs.Instances.{InputsView, constants_of}
 use Rattle.tune_cert.specs.Problem.{problem_of}
 use Rattle.tune_cert.specs.Optimum.{candidates_of}
+use Rattle.tune_cert.specs.Valid.{listed_fights}
+use Rattle.tune_cert.specs.declared.cert.Cert.{Cert}
 
 -- what a report tells
 pub record Report : Type 0 where
@@ -56,15 +58,15 @@ report_text r =
     ++ share_line (codes "total ") r.total r.most
     ++ share_line (codes "fights ") r.fights r.all_fights
 
--- the report of a search that played all fights, which found this vector best, with these values and this total
-abbrev pub report_for : InputsView → ℕ → List ℤ → ℕ → Report
-report_for i best values total = record {
+-- the report of a certificate of the inputs, whose best vector gives these values: the fights played are those that the certificate lists
+abbrev pub report_for : InputsView → Cert → List ℤ → Report
+report_for i c values = record {
   vectors = (problem_of i).count;
   candidates = candidates_of (problem_of i);
-  best = best;
+  best = c.best;
   constants = constants_of i.template.ranges.names values;
-  total = total;
+  total = c.total;
   most = 3 * length i.schedule;
-  fights = candidates_of (problem_of i) * length i.schedule;
+  fights = listed_fights c.rows;
   all_fights = candidates_of (problem_of i) * length i.schedule;
 }

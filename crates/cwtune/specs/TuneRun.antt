@@ -15,6 +15,9 @@ use Rattle.tune_template.specs.Vectors.{vectors_of}
 use Rattle.tune_template.specs.Instances.{TemplateView, InputsView}
 use Rattle.tune_cert.specs.Problem.{problem_of}
 use Rattle.tune_cert.specs.Optimum.{IsOptimum, HasTotal}
+use Rattle.tune_cert.specs.CertText.{cert_text}
+use Rattle.tune_cert.specs.Verdict.{IsValidCert}
+use Rattle.tune_cert.specs.declared.cert.Cert.{Cert}
 use Rattle.cwtune.specs.AsmRun.{IsAsmRefusal}
 use Rattle.cwtune.specs.Report.{report_text, report_for}
 use Rattle.cwtune.specs.declared.fault.RunFault.{RunFault}
@@ -100,8 +103,10 @@ IsTuneRefusal NoCandidate t = (i : InputsView) × Means t i × HasNoCandidate i
 IsTuneRefusal OutOfMemory t = Unit {0}
 IsTuneRefusal _ t = ⊥
 
--- The report was written: that of the optimum, which is the first vector, in order, of those with the greatest total among all that assemble.
-abbrev pub TellsTuning : Texts → Option (List ℕ) → Option (List ℕ) → Type 0
-TellsTuning t old new =
-    (i : InputsView) × (best : ℕ) × (values : List ℤ) × (total : ℕ) × Means t i × IsOptimum (problem_of i) best × HasTotal (problem_of i) best total
-    × (slice_get (vectors_of i.template.ranges.spans) best ≡ Some values) × Appends old new (report_text (report_for i best values total))
+-- The certificate and the report were written. The certificate is valid. The report is that of its best vector, which is the optimum: the
+-- first vector, in order, of those with the greatest total among all that assemble.
+abbrev pub TellsTuning : Texts → Option (List ℕ) → Option (List ℕ) → Option (List ℕ) → Option (List ℕ) → Type 0
+TellsTuning t report_old report_new cert_old cert_new =
+    (i : InputsView) × (c : Cert) × (values : List ℤ) × Means t i × IsOptimum (problem_of i) c.best × HasTotal (problem_of i) c.best c.total
+    × IsValidCert (problem_of i) c × (slice_get (vectors_of i.template.ranges.spans) c.best ≡ Some values)
+    × Appends cert_old cert_new (cert_text c) × Appends report_old report_new (report_text (report_for i c values))

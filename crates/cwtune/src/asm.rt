@@ -6,7 +6,6 @@ ghost use Rattle.rc_asm.specs.Assembly.{Assembles};
 ghost use Rattle.cwtune.specs.AsmRun.{IsAsmRefusal, TellsWarrior};
 
 use crate::fault::RunFault;
-use crate::sending::send;
 use rc_asm::{AsmKind, assemble};
 use rc_expand::Constants;
 use rc_instr::{OutOfMemory, Outlet, Rules, Warrior, write_loadfile};
@@ -74,6 +73,6 @@ pub fn asm_run<W: Write>(
         Err(fault) => return Err(fault),
     };
     let file = loadfile_of(alloc, &warrior, rules)?;
-    send(out, file.as_slice())?;
+    out.write_all(file.as_slice())?;
     Ok(())
 }

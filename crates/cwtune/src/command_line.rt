@@ -10,11 +10,10 @@ use std::alloc::{AllocError, Global};
 /// The warriors that a search may remember, unless an option says otherwise.
 const CAPACITY: u32 = 4096;
 
-/// The words for a tuning: the rules, the capacity of the search, and the names of the files.
+/// The words for a tuning, or for the check of its certificate: the rules, and the names of the files.
 #[derive(Drop)]
 pub(crate) struct TuneWords<'a> {
     pub(crate) numbers: FiveNumbers,
-    pub(crate) capacity: u32,
     pub(crate) template: &'a str,
     pub(crate) schedule: &'a str,
     pub(crate) cert: &'a str,
@@ -28,8 +27,10 @@ pub(crate) enum Request<'a> {
     Fight,
     /// To assemble a file under the rules of these numbers.
     Asm { numbers: FiveNumbers, file: &'a str },
-    /// To tune a template.
-    Tune(TuneWords<'a>),
+    /// To tune a template, with a search that may remember so many warriors.
+    Tune { words: TuneWords<'a>, capacity: u32 },
+    /// To check a certificate of a tuning.
+    Check(TuneWords<'a>),
 }
 
 /// An option with a number, which is any that 32 bits hold.
@@ -117,8 +118,15 @@ fn file<'a>(alloc: Global, name: &'a str, help: &'a str) -> Arg<'a> {
         .help(help)
 }
 
-/// The command `tune`.
-fn tune<'a>(alloc: Global) -> Result<Command<'a>, AllocError> {
+/// A command with the files of a tuning and the options of rules. Of CERT the help is given.
+fn with_files<'a>(
+    alloc: Global,
+    command: Command<'a>,
+    cert: &'a str,
+) -> Result<Command<'a>, AllocError> {
+    let template = "The Redcode text with the ranges `;@tune NAME LOW HIGH STEP START`";
+    let schedule =
+        "The fights: a line `opponent,position,first`, and a line such as `0,4000,c` for each";
     let opponents = file(
         alloc,
         "OPPONENT",
@@ -126,6 +134,16 @@ fn tune<'a>(alloc: Global) -> Result<Command<'a>, AllocError> {
     )
     .num_args(1..)
     .action(ArgAction::Append);
+    let command = command
+        .arg(file(alloc, "TEMPLATE", template))?
+        .arg(file(alloc, "SCHEDULE", schedule))?
+        .arg(file(alloc, "CERT", cert))?
+        .arg(opponents)?;
+    with_rules(alloc, command)
+}
+
+/// The command `tune`.
+fn tune<'a>(alloc: Global) -> Result<Command<'a>, AllocError> {
     let cache = Arg::new(alloc, "cache")
         .long("cache")
         .value_name("NUMBER")
@@ -133,25 +151,23 @@ fn tune<'a>(alloc: Global) -> Result<Command<'a>, AllocError> {
         .value_parser(value_parser!(u32).range(1..65_537))
         .help("Warriors that the search may remember, 1 to 65536 [default: 4096]");
     let command = Command::new(alloc, "tune")
-        .about("Finds the best setting of the template in TEMPLATE, and prints a report")
-        .arg(file(
-            alloc,
-            "TEMPLATE",
-            "The Redcode text with the ranges `;@tune NAME LOW HIGH STEP START`",
-        ))?
-        .arg(file(
-            alloc,
-            "SCHEDULE",
-            "The fights: a line `opponent,position,first`, and a line such as `0,4000,c` for each",
-        ))?
-        .arg(file(
-            alloc,
-            "CERT",
-            "The file of the certificate, which is created or replaced, and stays empty so far",
-        ))?
-        .arg(opponents)?
+        .about(
+            "Finds the best setting of the template in TEMPLATE, writes the certificate that it is the best into CERT, and prints a report",
+        )
         .arg(cache)?;
-    with_rules(alloc, command)
+    with_files(
+        alloc,
+        command,
+        "The file of the certificate, which is created or replaced",
+    )
+}
+
+/// The command `check`.
+fn check<'a>(alloc: Global) -> Result<Command<'a>, AllocError> {
+    let command = Command::new(alloc, "check").about(
+        "Checks a certificate of a tuning, whoever made it: prints `accepted best W total T` where it is right, else `rejected row R REASON`",
+    );
+    with_files(alloc, command, "The file of the certificate")
 }
 
 /// The program's commands.
@@ -163,11 +179,12 @@ fn commands<'a>(alloc: Global) -> Result<Command<'a>, AllocError> {
             "Fights between Core War warriors, and the best setting of a warrior's constants. Without a command it does what `fight` does.",
         )
         .after_help(
-            "Exit status: 0 done, 1 refused, 2 a command line that is none, 3 a read, a write or memory failed.",
+            "Exit status: 0 done or accepted, 1 refused or rejected, 2 a command line that is none, 3 a read, a write or memory failed.",
         )
         .subcommand(fight(alloc))?
         .subcommand(asm(alloc)?)?
-        .subcommand(tune(alloc)?)
+        .subcommand(tune(alloc)?)?
+        .subcommand(check(alloc)?)
 }
 
 /// The capacity that the option gives, which `clap` keeps to 1 to 65536, or the default where it is left out.
@@ -180,17 +197,14 @@ fn capacity_of(found: &ArgMatches<'_>) -> u32
     }
 }
 
-/// The words for a tuning. `clap` requires each of the files.
-fn tune_words<'a>(alloc: Global, found: &ArgMatches<'a>) -> Result<TuneWords<'a>, AllocError>
-    ensures { IfOk result (λ w. (1 ≤ w.capacity) × (w.capacity ≤ 65536)) }
-{
+/// The words for a tuning or the check of its certificate. `clap` requires each of the files.
+fn tune_words<'a>(alloc: Global, found: &ArgMatches<'a>) -> Result<TuneWords<'a>, AllocError> {
     let mut opponents = Vec::new(alloc);
     if let Some(names) = found.get_strs("OPPONENT") {
         opponents.extend_from_slice(names)?;
     }
     Ok(TuneWords {
         numbers: numbers_of(found),
-        capacity: capacity_of(found),
         template: found.get_str("TEMPLATE").unwrap_or(""),
         schedule: found.get_str("SCHEDULE").unwrap_or(""),
         cert: found.get_str("CERT").unwrap_or(""),
@@ -226,7 +240,11 @@ pub(crate) fn request_of<'a>(alloc: Global, words: &'a [String]) -> Result<Reque
             // `clap` requires the file
             file: found.get_str("FILE").unwrap_or(""),
         }),
-        Some(("tune", found)) => Ok(Request::Tune(tune_words(alloc, found)?)),
+        Some(("tune", found)) => Ok(Request::Tune {
+            words: tune_words(alloc, found)?,
+            capacity: capacity_of(found),
+        }),
+        Some(("check", found)) => Ok(Request::Check(tune_words(alloc, found)?)),
         _ => Ok(Request::Fight),
     }
 }

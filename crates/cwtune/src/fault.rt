@@ -10,7 +10,7 @@ use thiserror::Error;
 use tune_template::TemplateFault;
 
 /// Why a run is refused: the first reason in this order. The first four refuse a fight, `Rules` and `Asm` an
-/// assembly, `Rules` and those from `TooManyOpponents` to `NoCandidate` a tuning.
+/// assembly, `Rules` and those from `TooManyOpponents` to `NoCandidate` a tuning, and all of these but `NoCandidate` a check.
 #[derive(Clone, Copy, Debug, PartialEq, Eq, Error)]
 pub enum RunFault {
     /// The text is no fight text, which shows at this line, counted from 1.

@@ -4,7 +4,6 @@
 ghost use Rattle.std.specs.Prelude.{◌≡◌, false, is_err};
 
 use crate::fault::RunFault;
-use crate::sending::send;
 use itoa::Buffer;
 use mars_core::Side;
 use mars_fight::{ScheduleFault, ScheduleFaultKind};
@@ -130,8 +129,8 @@ fn say<V: Write>(err: &mut Outlet<V>, word: &str) -> Result<(), WriteFailed>
     requires { err.old.failed ≡ false }
     ensures { err.new.failed ≡ is_err result }
 {
-    send(err, b" ")?;
-    send(err, word.as_bytes())
+    err.write_all(b" ")?;
+    err.write_all(word.as_bytes())
 }
 
 /// Writes ` line N`.
@@ -252,27 +251,27 @@ pub(crate) fn tell_run<V: Write>(err: &mut Outlet<V>, fault: RunFault) -> Result
     requires { err.old.failed ≡ false }
 {
     match fault {
-        RunFault::Write | RunFault::OutOfMemory => send(err, b"failed:")?,
-        _ => send(err, b"refused:")?,
+        RunFault::Write | RunFault::OutOfMemory => err.write_all(b"failed:")?,
+        _ => err.write_all(b"refused:")?,
     }
     say_run(err, fault)?;
-    send(err, b"\n")
+    err.write_all(b"\n")
 }
 
 /// Writes the line of a file that cannot be read: `failed: read NAME`.
 pub(crate) fn tell_unread<V: Write>(err: &mut Outlet<V>, name: &str) -> Result<(), WriteFailed>
     requires { err.old.failed ≡ false }
 {
-    send(err, b"failed: read")?;
+    err.write_all(b"failed: read")?;
     say(err, name)?;
-    send(err, b"\n")
+    err.write_all(b"\n")
 }
 
 /// Writes the line of a file that cannot be created: `failed: create NAME`.
 pub(crate) fn tell_uncreated<V: Write>(err: &mut Outlet<V>, name: &str) -> Result<(), WriteFailed>
     requires { err.old.failed ≡ false }
 {
-    send(err, b"failed: create")?;
+    err.write_all(b"failed: create")?;
     say(err, name)?;
-    send(err, b"\n")
+    err.write_all(b"\n")
 }

@@ -12,7 +12,6 @@ use crate::fault::RunFault;
 use crate::fight_text::read_fight_text;
 use crate::numbers::rules_of;
 use crate::result_line::line_of;
-use crate::sending::send;
 use mars_core::{Arena, Outcome, PlainCells, Side};
 use rc_instr::{LoadFault, OutOfMemory, Outlet, Rules, Warrior, read_loadfile};
 use std::alloc::Global;
@@ -126,6 +125,6 @@ pub fn fight_run<W: Write>(alloc: Global, text: &[u8], out: &mut Outlet<W>) -> R
     };
     let outcome = play(alloc, &fight)?;
     let line = line_of(alloc, outcome)?;
-    send(out, line.as_slice())?;
+    out.write_all(line.as_slice())?;
     Ok(())
 }

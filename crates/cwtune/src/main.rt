@@ -1,7 +1,9 @@
-//! `cwtune`: fights between Core War warriors, the assembly of warriors, and the best setting of a warrior's constants.
+//! `cwtune`: fights between Core War warriors, the assembly of warriors, the best setting of a warrior's constants, and the check of
+//! certificates that a setting is the best.
 #![tactic(auto)]
 
 pub mod asm;
+pub mod check;
 pub(crate) mod command_line;
 pub mod fault;
 pub(crate) mod fault_line;
@@ -12,13 +14,14 @@ pub mod program;
 pub(crate) mod reading;
 pub(crate) mod report;
 pub(crate) mod result_line;
-pub(crate) mod sending;
 #[cfg(test)]
 mod tests;
 pub mod tune;
 pub(crate) mod tune_inputs;
+pub(crate) mod verdict_line;
 
 pub use asm::asm_run;
+pub use check::check_run;
 pub use fault::RunFault;
 pub use fight::fight_run;
 use rc_instr::Outlet;

@@ -72,7 +72,30 @@ fn read_files<'a, F: Files>(
     Ok(texts)
 }
 
-/// Reads the files of a tuning: the template, the schedule, the opponents.
+/// The texts of a tuning, and a certificate of it.
+#[derive(Drop)]
+pub(crate) struct CheckTexts {
+    pub(crate) template: Vec<u8>,
+    pub(crate) schedule: Vec<u8>,
+    pub(crate) cert: Vec<u8>,
+    pub(crate) opponents: Vec<Vec<u8>>,
+}
+
+/// Reads the files of a check in the order of the words: the template, the schedule, the certificate, the opponents.
+pub(crate) fn read_check_texts<'a, F: Files>(
+    rt: &F,
+    alloc: Global,
+    words: &TuneWords<'a>,
+) -> Result<CheckTexts, Unread<'a>> {
+    Ok(CheckTexts {
+        template: read_named(rt, alloc, words.template)?,
+        schedule: read_named(rt, alloc, words.schedule)?,
+        cert: read_named(rt, alloc, words.cert)?,
+        opponents: read_files(rt, alloc, words.opponents.as_slice())?,
+    })
+}
+
+/// Reads the files of a tuning in the order of the words: the template, the schedule, the opponents.
 pub(crate) fn read_texts<'a, F: Files>(
     rt: &F,
     alloc: Global,

@@ -4,6 +4,8 @@ ghost use Rattle.tune_template.specs.Instances.{constants_of};
 ghost use Rattle.tune_template.specs.Vectors.{vectors_of};
 ghost use Rattle.tune_cert.specs.Problem.{problem_of};
 ghost use Rattle.tune_cert.specs.Optimum.{candidates_of};
+ghost use Rattle.tune_cert.specs.Valid.{listed_fights};
+ghost use Rattle.tune_cert.specs.CertText.{cert_of};
 ghost use Rattle.cwtune.specs.Report.{number_line, share_line, constant_text, constants_text, constants_or_none, constants_line, report_text, report_for};
 
 use itoa::Buffer;
@@ -90,7 +92,7 @@ fn add_constants(text: &mut Vec<u8>, names: &[Vec<u8>], values: &[i64]) -> Resul
     Ok(())
 }
 
-/// The report of what a search that played all fights found in the inputs.
+/// The report of what a search found in the inputs.
 #[tactic(auto, unfolding(crate::specs::Report::report_text))]
 pub(crate) fn report_of(
     alloc: Global,
@@ -99,9 +101,9 @@ pub(crate) fn report_of(
 ) -> Result<Vec<u8>, OutOfMemory>
     requires inside { found.now.best < (problem_of inputs.now).count }
     requires candidates { found.now.candidates ≡ candidates_of (problem_of inputs.now) }
-    requires fights { found.now.fights ≡ candidates_of (problem_of inputs.now) * length inputs.now.schedule }
+    requires fights { found.now.fights ≡ listed_fights found.now.rows }
     ensures { IfOk result (λ text. (values : List ℤ) × (slice_get (vectors_of inputs.now.template.ranges.spans) found.now.best ≡ Some values)
-        × (text.items ≡ report_text (report_for inputs.now found.now.best values found.now.total))) }
+        × (text.items ≡ report_text (report_for inputs.now (cert_of found.now) values))) }
 {
     let template = inputs.template();
     let fights = inputs.schedule().fights().len() as u64;

@@ -36,10 +36,10 @@ impl Read for Broken {
     }
 }
 
-/// Files by their names. One without bytes is opened and cannot be read.
+/// Files by their names. One without bytes is opened, and can be neither read nor written.
 pub(crate) struct Shelf<'a>(pub(crate) &'a [(&'a str, Option<&'a [u8]>)]);
 
-/// An open file, which is only read.
+/// An open file. What is written into it is lost.
 #[derive(Drop)]
 pub(crate) struct Book<'a>(Option<&'a [u8]>);
 
@@ -53,8 +53,11 @@ impl Read for Book<'_> {
 }
 
 impl Write for Book<'_> {
-    fn write(&mut self, _buf: &[u8]) -> io::Result<usize> {
-        failure()
+    fn write(&mut self, buf: &[u8]) -> io::Result<usize> {
+        match self.0 {
+            Some(_) => Ok(buf.len()),
+            None => failure(),
+        }
     }
 
     fn flush(&mut self) -> io::Result<()> {

@@ -9,16 +9,16 @@ use std::test::Fail;
 use tune_template::{TemplateFault, TemplateKind};
 
 /// The opponent that dies at once.
-const DAT: &[u8] = b"DAT 0\n";
+pub(crate) const DAT: &[u8] = b"DAT 0\n";
 
 /// The opponent that moves on for ever.
-const IMP: &[u8] = b"MOV 0, 1\n";
+pub(crate) const IMP: &[u8] = b"MOV 0, 1\n";
 
 /// One fight against each of two opponents.
-const BOTH: &[u8] = b"opponent,position,first\n0,8,c\n1,8,c\n";
+pub(crate) const BOTH: &[u8] = b"opponent,position,first\n0,8,c\n1,8,c\n";
 
 /// Texts as a tuning gets them.
-fn texts_of(alloc: Global, given: &[&[u8]]) -> Result<Vec<Vec<u8>>, AllocError> {
+pub(crate) fn texts_of(alloc: Global, given: &[&[u8]]) -> Result<Vec<Vec<u8>>, AllocError> {
     let mut texts = Vec::new(alloc);
     for text in given {
         texts.push(text.to_vec(alloc)?)?;
@@ -50,43 +50,49 @@ fn tuned(
     Ok((answer, report.into_inner(), cert.into_inner()))
 }
 
-/// Templates, opponents and schedules, and the report of each.
-const REPORTS: [(&[u8], &[&[u8]], &[u8], &str); 8] = [
+/// Templates, opponents and schedules, and the report and the certificate of each.
+const REPORTS: [(&[u8], &[&[u8]], &[u8], &str, &str); 8] = [
     (
         b"MOV 0, 1",
         &[DAT, IMP],
         BOTH,
         "vectors 1\ncandidates 1\nbest 0\nconstants -\ntotal 4 of 6\nfights 2 of 2\n",
+        "cwcert,1,1\nbest,0,4\ncap,0,0:3 1:1\n",
     ),
     (
         b";@tune K 0 3 1 2\nMOV 0, 1",
         &[DAT, IMP],
         BOTH,
         "vectors 4\ncandidates 4\nbest 0\nconstants K=0\ntotal 4 of 6\nfights 8 of 8\n",
+        "cwcert,1,4\nbest,0,4\ncap,0,0:3 1:1\ncap,1,0:3 1:1\ncap,2,0:3 1:1\ncap,3,0:3 1:1\n",
     ),
     (
         b";@tune K 0 2 1 1\nMOV 0, 1\nDAT 1/K",
         &[DAT, IMP],
         BOTH,
         "vectors 3\ncandidates 2\nbest 1\nconstants K=1\ntotal 4 of 6\nfights 4 of 4\n",
+        "cwcert,1,3\nbest,1,4\nrefused,0,-\ncap,1,0:3 1:1\ncap,2,0:3 1:1\n",
     ),
     (
         b";@tune K 0 2 1 1\nMOV 0, 1\nDAT K",
         &[DAT, IMP],
         BOTH,
         "vectors 3\ncandidates 3\nbest 0\nconstants K=0\ntotal 4 of 6\nfights 6 of 6\n",
+        "cwcert,1,3\nbest,0,4\ncap,0,0:3 1:1\ncap,1,0:3 1:1\ncap,2,0:3 1:1\n",
     ),
     (
         b";@tune K 0 1 1 0\nJMP K",
         &[DAT, IMP],
         BOTH,
         "vectors 2\ncandidates 2\nbest 0\nconstants K=0\ntotal 4 of 6\nfights 4 of 4\n",
+        "cwcert,1,2\nbest,0,4\ncap,0,0:3 1:1\ncap,1,0:3 1:0\n",
     ),
     (
         b";@tune K 0 2 1 1\nMOV 0, 1\nDAT K",
         &[DAT],
         b"opponent,position,first\n0,8,c\n",
         "vectors 3\ncandidates 3\nbest 0\nconstants K=0\ntotal 3 of 3\nfights 3 of 3\n",
+        "cwcert,1,3\nbest,0,3\ncap,0,0:3\ncap,1,0:3\ncap,2,0:3\n",
     ),
     // equal fights count as often as they are listed
     (
@@ -94,6 +100,7 @@ const REPORTS: [(&[u8], &[&[u8]], &[u8], &str); 8] = [
         &[DAT],
         b"opponent,position,first\n0,8,c\n0,8,c\n",
         "vectors 1\ncandidates 1\nbest 0\nconstants -\ntotal 6 of 6\nfights 2 of 2\n",
+        "cwcert,1,1\nbest,0,6\ncap,0,0:3 1:3\n",
     ),
     // constants stand in the order of their lines; the jump is as good as the imp for LEAP 0 alone
     (
@@ -101,16 +108,17 @@ const REPORTS: [(&[u8], &[&[u8]], &[u8], &str); 8] = [
         &[DAT, IMP],
         BOTH,
         "vectors 8\ncandidates 8\nbest 0\nconstants STEP=-3 LEAP=0\ntotal 4 of 6\nfights 16 of 16\n",
+        "cwcert,1,8\nbest,0,4\ncap,0,0:3 1:1\ncap,1,0:3 1:0\ncap,2,0:3 1:1\ncap,3,0:3 1:0\ncap,4,0:3 1:1\ncap,5,0:3 1:0\ncap,6,0:3 1:1\ncap,7,0:3 1:0\n",
     ),
 ];
 
 #[test]
-fn the_report_tells_the_best_setting(rt: HostRuntime) -> Result<(), Fail> {
-    for (template, opponents, schedule, want) in REPORTS {
+fn the_report_and_the_certificate_tell_the_best_setting(rt: HostRuntime) -> Result<(), Fail> {
+    for (template, opponents, schedule, report_wanted, cert_wanted) in REPORTS {
         let (answer, report, cert) = tuned(rt.alloc(), template, opponents, schedule)?;
         assert_eq!(rt; answer, Ok(()), "{template:?}");
-        assert_eq!(rt; report.as_slice(), want.as_bytes(), "{template:?}");
-        assert!(rt; cert.is_empty(), "{template:?}");
+        assert_eq!(rt; report.as_slice(), report_wanted.as_bytes(), "{template:?}");
+        assert_eq!(rt; cert.as_slice(), cert_wanted.as_bytes(), "{template:?}");
     }
     Ok(())
 }
@@ -246,10 +254,12 @@ fn more_than_64_opponents_come_before_all(rt: HostRuntime) -> Result<(), Fail> {
 }
 
 #[test]
-fn a_report_that_cannot_be_written_is_told(rt: HostRuntime) -> Result<(), Fail> {
+fn a_certificate_that_cannot_be_written_is_told_and_no_report_begun(
+    rt: HostRuntime,
+) -> Result<(), Fail> {
     let rules = Rules::try_new(16, 20, 4, 4, 4)?;
     let opponents = texts_of(rt.alloc(), &[DAT, IMP])?;
-    let mut report = Outlet::new(Broken);
+    let mut report = Outlet::new(Vec::new(rt.alloc()));
     let mut cert = Outlet::new(Broken);
     let answer = tune_run(
         rt.alloc(),
@@ -262,8 +272,34 @@ fn a_report_that_cannot_be_written_is_told(rt: HostRuntime) -> Result<(), Fail> 
         &mut cert,
     );
     assert_eq!(rt; answer, Err(RunFault::Write));
+    assert!(rt; cert.failed());
+    assert!(rt; !report.failed());
+    assert!(rt; report.into_inner().is_empty());
+    Ok(())
+}
+
+#[test]
+fn a_report_that_cannot_be_written_is_told(rt: HostRuntime) -> Result<(), Fail> {
+    let rules = Rules::try_new(16, 20, 4, 4, 4)?;
+    let opponents = texts_of(rt.alloc(), &[DAT, IMP])?;
+    let mut report = Outlet::new(Broken);
+    let mut cert = Outlet::new(Vec::new(rt.alloc()));
+    let answer = tune_run(
+        rt.alloc(),
+        b"MOV 0, 1",
+        opponents.as_slice(),
+        BOTH,
+        &rules,
+        65_536,
+        &mut report,
+        &mut cert,
+    );
+    assert_eq!(rt; answer, Err(RunFault::Write));
     assert!(rt; report.failed());
-    assert!(rt; !cert.failed());
+    assert_eq!(rt;
+        cert.into_inner().as_slice(),
+        b"cwcert,1,1\nbest,0,4\ncap,0,0:3 1:1\n".as_slice()
+    );
     Ok(())
 }
 
@@ -298,7 +334,7 @@ const REPORT: &str =
 type Row = (&'static [&'static str], u8, &'static str, &'static str);
 
 /// Runs of the command.
-const ROWS: [Row; 12] = [
+const ROWS: [Row; 13] = [
     (
         &["step.red", "both.csv", "best.csv", "dat.red", "imp.red"],
         0,
@@ -361,6 +397,12 @@ const ROWS: [Row; 12] = [
         3,
         "",
         "failed: create no.cert\n",
+    ),
+    (
+        &["step.red", "both.csv", "folder", "dat.red", "imp.red"],
+        3,
+        "",
+        "failed: Write\n",
     ),
     (
         &["--core=7", "no.red", "no.csv", "no.cert", "no.red"],
