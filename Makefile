@@ -10,11 +10,13 @@ test:
 build:
 	@cd crates/cwtune && rt run < stdin > /dev/null
 
-# Plays the example fights, assembles the example warriors and tunes the example template, and fails where a result is not the expected one.
+# Plays the example fights, assembles the example warriors, tunes the example template and checks certificates of it, and fails where a
+# result is not the expected one.
 demo: build
 	@sh examples/play.sh $(PROGRAM)
 	@sh examples/assemble.sh $(PROGRAM)
 	@sh examples/tune.sh $(PROGRAM)
+	@sh examples/check.sh $(PROGRAM)
 
 # Measures turns and assemblies per second; PMARS=PATH measures a pMARS server build beside it, RUNS=N plays more often.
 bench: build

@@ -1,0 +1,59 @@
+#!/bin/sh
+# Tunes the template of tuning/ and has its certificate checked. Then checks one that tuning/certify.py makes in its own way, and one in
+# which a byte was changed: the first must be accepted with the same best and total as in tuning/report.txt, the second refused.
+# Prints the line of each check. Ends with status 0 where all are as expected, else with 1.
+# Use: examples/check.sh [PROGRAM]
+
+here=$(dirname "$0")
+program=${1:-$here/../crates/cwtune/out/cwtune}
+wrong=0
+
+if [ ! -x "$program" ]; then
+    echo "check.sh: no program at $program" >&2
+    exit 1
+fi
+
+work=$(mktemp -d) || exit 1
+trap 'rm -rf "$work"' EXIT
+
+template=$here/tuning/stone.red
+schedule=$here/tuning/schedule.csv
+set -- "$here/warriors/dwarf.red" "$here/warriors/imp-ring.red" "$here/warriors/scanner.red" "$here/warriors/replicator.red" \
+    "$here/warriors/core-clear.red"
+
+# Checks a certificate and compares the line and the status: one NAME CERT LINE STATUS OPPONENT..
+one() {
+    name=$1 cert=$2 expected=$3 expected_status=$4
+    shift 4
+    line=$("$program" check "$template" "$schedule" "$cert" "$@")
+    status=$?
+    if [ "$status" -eq "$expected_status" ] && [ "$line" = "$expected" ]; then
+        printf '%-24s %s\n' "$name" "$line"
+    else
+        printf '%-24s %s (status %d; expected: %s, status %d)\n' "$name" "$line" "$status" "$expected" "$expected_status"
+        wrong=1
+    fi
+}
+
+if ! "$program" tune "$template" "$schedule" "$work/tuned.cert" "$@" >"$work/report"; then
+    echo "check.sh: the tuning failed" >&2
+    exit 1
+fi
+if ! python3 "$here/tuning/certify.py" "$program" "$template" "$schedule" "$@" >"$work/own.cert"; then
+    echo "check.sh: certify.py failed" >&2
+    exit 1
+fi
+
+accepted=$(sed -n -e 's/^best \(.*\)/accepted best \1/p' -e 's/^total \(.*\) of .*/total \1/p' "$here/tuning/report.txt" | paste -s -d ' ' -)
+one "the tuner's certificate" "$work/tuned.cert" "$accepted" 0 "$@"
+one "another certificate" "$work/own.cert" "$accepted" 0 "$@"
+
+# The third line is the row of setting 0, which is not the best; it loses a fight, and here it is said to have tied it.
+sed '3s/:0/:1/' "$work/tuned.cert" >"$work/changed.cert"
+if cmp -s "$work/tuned.cert" "$work/changed.cert"; then
+    echo "check.sh: the certificate of the tuning has no lost fight to change in its third line" >&2
+    exit 1
+fi
+one "one byte changed" "$work/changed.cert" "rejected row 2 WrongPoints" 1 "$@"
+
+exit "$wrong"
