@@ -1,4 +1,4 @@
-.PHONY: test build demo bench
+.PHONY: test build demo bench memory
 
 PROGRAM = crates/cwtune/out/cwtune
 
@@ -21,3 +21,7 @@ demo: build
 # Measures turns and assemblies per second; PMARS=PATH measures a pMARS server build beside it, RUNS=N plays more often.
 bench: build
 	@python3 bench/run.py --bin $(PROGRAM) $(if $(PMARS),--pmars $(PMARS)) $(if $(RUNS),--runs $(RUNS))
+
+# Refuses each request for memory of a few runs in turn, and fails where one ends with another answer than its own or `failed: OutOfMemory`.
+memory: build
+	@python3 tools/refuse_memory.py $(PROGRAM)
