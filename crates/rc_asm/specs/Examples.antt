@@ -12,7 +12,8 @@ use Rattle.rc_instr.specs.declared.instruction.Mode.{Mode}
 use Rattle.rc_instr.specs.declared.instruction.Mode.TheVariants as mode
 use Rattle.rc_text.specs.declared.fault.EvalFault.TheVariants.{UnknownName}
 use Rattle.rc_expand.specs.declared.line.Line.{Line}
-use Rattle.rc_expand.specs.Names.{is_opcode_word, given_names}
+use Rattle.rc_text.specs.NameClasses.{is_opcode_word}
+use Rattle.rc_expand.specs.Names.{given_names}
 use Rattle.rc_expand.specs.Lines.{is_free, is_opcode, word_of_name, head_of, lines_read}
 use Rattle.rc_expand.specs.Replace.{replaced_tokens}
 use Rattle.rc_expand.specs.Unroll.{copied_line, is_taken, count_of, opening, block_of, one_line, unrolled}

@@ -5,7 +5,8 @@ use Rattle.rc_text.specs.declared.token.Sign.TheVariants.{Hash, Comma, Plus, Sta
 use Rattle.rc_text.specs.Symbols.{Symbol, Identifier, Numeral, Mark, name_of, symbols_of}
 use Rattle.rc_instr.specs.Rules.{limits}
 use Rattle.rc_expand.specs.declared.line.Line.{Line}
-use Rattle.rc_expand.specs.Names.{is_opcode_word, given_names}
+use Rattle.rc_text.specs.NameClasses.{is_opcode_word}
+use Rattle.rc_expand.specs.Names.{given_names}
 use Rattle.rc_expand.specs.Lines.{is_free, is_opcode, word_of_name, head_of, lines_read}
 use Rattle.rc_expand.specs.Replace.{replaced_tokens}
 use Rattle.rc_expand.specs.Unroll.{copied_line, is_taken, count_of, opening, block_of, one_line, unrolled}

@@ -9,13 +9,12 @@ use Rattle.rc_text.specs.declared.fault.LexFault.{LexFault}
 use Rattle.rc_text.specs.declared.class.NameClass.{NameClass}
 use Rattle.rc_text.specs.declared.class.NameClass.TheVariants.{Reserved}
 use Rattle.rc_text.specs.Bytes.{is_same_word}
-use Rattle.rc_text.specs.NameClasses.{class_of}
+use Rattle.rc_text.specs.NameClasses.{class_of, is_opcode_word}
 use Rattle.rc_text.specs.Tokens.{TokenList}
 use Rattle.rc_text.specs.Symbols.{LiesIn}
 use Rattle.rc_expand.specs.declared.head.Head.{Head}
 use Rattle.rc_expand.specs.declared.head.HeadWord.{HeadWord}
 use Rattle.rc_expand.specs.declared.head.HeadWord.TheVariants as word
-use Rattle.rc_expand.specs.Names.{is_opcode_word}
 
 -- one of two, of which only the chosen one is computed
 abbrev pub choose : {A : Type 0} → Bool → (Unit {0} → A) → (Unit {0} → A) → A

@@ -1,17 +1,12 @@
--- Opcode words, and what names stand for outside of a text.
-use Rattle.std.specs.Prelude.{ℕ, Bool, ◌||◌, List, [], ◌∷◌, Option, Some, None, if◌then◌else◌, codes, ℤ, pos}
+-- What names stand for outside of a text.
+use Rattle.std.specs.Prelude.{ℕ, Bool, List, [], ◌∷◌, Option, Some, None, if◌then◌else◌, codes, ℤ, pos}
 use Rattle.std.specs.Global.{Vec}
 use Rattle.std.specs.List.{list_any}
 use Rattle.std.specs.Str.{bytes_eq}
-use Rattle.rc_text.specs.NameClasses.{draft_opcodes, added_opcodes, is_one_of}
 use Rattle.rc_instr.specs.Rules.{Limits}
 
 abbrev pub is_among : List (List ℕ) → List ℕ → Bool
 is_among names name = list_any (λ n. bytes_eq n name) names
-
--- an opcode of the 1994 draft or one that pMARS adds, in any case
-unfoldable pub is_opcode_word : List ℕ → Bool
-is_opcode_word name = is_one_of draft_opcodes name || is_one_of added_opcodes name
 
 -- names with values
 abbrev pub Table : Type 0

@@ -2,13 +2,12 @@
 ghost use Rattle.std.specs.Prelude.{◌≡◌, map, ◌&&◌, ◌<◌, ◌≤◌, length, IfOk};
 ghost use Rattle.std.specs.Str.{bytes_eq};
 ghost use Rattle.rc_text.specs.Bytes.{is_same_word};
-ghost use Rattle.rc_text.specs.NameClasses.{draft_opcodes, added_opcodes, is_one_of, class_of};
+ghost use Rattle.rc_text.specs.NameClasses.{class_of};
 ghost use Rattle.rc_text.specs.Symbols.{LiesIn};
-ghost use Rattle.rc_expand.specs.Names.{is_opcode_word};
 ghost use Rattle.rc_expand.specs.Lines.{is_reserved_class, is_name, is_ampersand, is_colon, is_dot, is_unjoined, is_free, is_opcode, has_modifier, word_of_name, word_of};
 
 use crate::head::HeadWord;
-use rc_text::{Kind, NameClass, Sign, Token, name_class};
+use rc_text::{Kind, NameClass, Sign, Token, is_opcode_word, name_class};
 use std::alloc::AllocError;
 
 // Whether the two words have the same letters in any case.
@@ -16,41 +15,6 @@ fn is_same_word(word: &[u8], name: &[u8]) -> bool
     ensures { result ≡ is_same_word word.now name.now }
 {
     word.eq_ignore_ascii_case(name)
-}
-
-// An opcode of the 1994 draft.
-fn is_draft_opcode(name: &[u8]) -> bool
-    ensures { result ≡ is_one_of draft_opcodes name.now }
-{
-    is_same_word(b"DAT", name)
-        || is_same_word(b"MOV", name)
-        || is_same_word(b"ADD", name)
-        || is_same_word(b"SUB", name)
-        || is_same_word(b"MUL", name)
-        || is_same_word(b"DIV", name)
-        || is_same_word(b"MOD", name)
-        || is_same_word(b"JMP", name)
-        || is_same_word(b"JMZ", name)
-        || is_same_word(b"JMN", name)
-        || is_same_word(b"DJN", name)
-        || is_same_word(b"CMP", name)
-        || is_same_word(b"SLT", name)
-        || is_same_word(b"SPL", name)
-}
-
-// An opcode that pMARS adds.
-fn is_added_opcode(name: &[u8]) -> bool
-    ensures { result ≡ is_one_of added_opcodes name.now }
-{
-    is_same_word(b"SEQ", name) || is_same_word(b"SNE", name) || is_same_word(b"NOP", name)
-}
-
-// Whether the bytes are an opcode word.
-#[tactic(auto, unfolding(crate::specs::Names::is_opcode_word))]
-fn is_opcode_word(name: &[u8]) -> bool
-    ensures { result ≡ is_opcode_word name.now }
-{
-    is_draft_opcode(name) || is_added_opcode(name)
 }
 
 // Whether the bytes are a reserved word.

@@ -27,6 +27,10 @@ directives = codes "ORG" ∷ codes "END" ∷ codes "EQU" ∷ codes "FOR" ∷ cod
 abbrev pub is_one_of : List (List ℕ) → List ℕ → Bool
 is_one_of words name = list_any (λ word. is_same_word word name) words
 
+-- an opcode of the 1994 draft or one that pMARS adds, in any case
+unfoldable pub is_opcode_word : List ℕ → Bool
+is_opcode_word name = is_one_of draft_opcodes name || is_one_of added_opcodes name
+
 abbrev pub is_reserved : List ℕ → Bool
 is_reserved name = is_one_of draft_opcodes name || (is_one_of added_opcodes name || is_one_of directives name)
 

@@ -3,7 +3,7 @@ ghost use Rattle.std.specs.Prelude.{◌≡◌};
 ghost use Rattle.std.specs.List.{list_all};
 ghost use Rattle.std.specs.Str.{bytes_eq};
 ghost use Rattle.rc_text.specs.Bytes.{continues_name, is_same_word};
-ghost use Rattle.rc_text.specs.NameClasses.{is_name, draft_opcodes, added_opcodes, directives, is_one_of, is_reserved, is_predefined, class_of};
+ghost use Rattle.rc_text.specs.NameClasses.{is_name, draft_opcodes, added_opcodes, directives, is_one_of, is_opcode_word, is_reserved, is_predefined, class_of};
 
 use crate::bytes::{begins_name, continues_name};
 
@@ -90,11 +90,20 @@ fn is_directive(name: &[u8]) -> bool
         || is_same_word(b"ROF", name)
 }
 
+/// Whether a name is an opcode word, in any case: an opcode of the 1994 draft, CMP among them, or SEQ, SNE or NOP of pMARS.
+#[tactic(auto, unfolding(crate::specs::NameClasses::is_opcode_word))]
+pub fn is_opcode_word(name: &[u8]) -> bool
+    ensures { result ≡ is_opcode_word name.now }
+{
+    is_draft_opcode(name) || is_added_opcode(name)
+}
+
 // An opcode word or a directive.
+#[tactic(auto, unfolding(crate::specs::NameClasses::is_opcode_word))]
 fn is_reserved(name: &[u8]) -> bool
     ensures { result ≡ is_reserved name.now }
 {
-    is_draft_opcode(name) || is_added_opcode(name) || is_directive(name)
+    is_opcode_word(name) || is_directive(name)
 }
 
 // A name that stands for a rule.

@@ -20,7 +20,7 @@ mod operator;
 mod tests;
 pub mod token;
 
-pub use class::{NameClass, name_class};
+pub use class::{NameClass, is_opcode_word, name_class};
 pub use expression::eval;
 pub use fault::{EvalFault, LexFault};
 pub use lexer::Lexer;

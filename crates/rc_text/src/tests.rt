@@ -3,7 +3,7 @@ ghost use Rattle.std.specs.Prelude.{◌≡◌, IfOk, All};
 ghost use Rattle.rc_text.specs.Symbols.{LiesIn};
 ghost use Rattle.rc_text.specs.Tokens.{ahead_of};
 
-use crate::class::{NameClass, name_class};
+use crate::class::{NameClass, is_opcode_word, name_class};
 use crate::expression::eval;
 use crate::fault::{EvalFault, LexFault};
 use crate::lexer::Lexer;
@@ -282,6 +282,23 @@ fn names_have_classes(rt: HostRuntime) {
         (b"_x01", NameClass::Free),
     ] {
         assert_eq!(rt; name_class(name), class);
+    }
+}
+
+#[test]
+fn opcode_words_are_no_directives(rt: HostRuntime) {
+    for (name, is_one) in [
+        (b"dat".as_slice(), true),
+        (b"CMP", true),
+        (b"Sne", true),
+        (b"nop", true),
+        (b"ORG", false),
+        (b"for", false),
+        (b"PIN", false),
+        (b"movs", false),
+        (b"", false),
+    ] {
+        assert_eq!(rt; is_opcode_word(name), is_one);
     }
 }
 
