@@ -1,6 +1,9 @@
-//! Texts, and the warriors to which they assemble or the faults that they have.
+//! Texts, and the warriors to which they assemble or the faults that they have. The tests of `rc_expand` stand here too: a crate with
+//! tests is proved twice, and that one takes the longest.
+mod expansion;
 mod faults;
 mod limits;
+mod name_tables;
 mod printed;
 mod warriors;
 

@@ -20,8 +20,6 @@ mod read;
 mod replace;
 mod setting;
 pub mod table;
-#[cfg(test)]
-mod tests;
 mod unroll;
 mod words;
 

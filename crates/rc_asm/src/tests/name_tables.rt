@@ -2,7 +2,7 @@
 ghost use Rattle.std.specs.Prelude.{◌≤◌, length};
 ghost use Rattle.rc_text.specs.Symbols.{LiesIn};
 
-use crate::table::NameTable;
+use rc_expand::NameTable;
 use rc_text::{Joined, Kind, Token};
 use std::test::Fail;
 

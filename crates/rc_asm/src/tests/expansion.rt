@@ -3,17 +3,11 @@ ghost use Rattle.std.specs.Prelude.{All};
 ghost use Rattle.rc_text.specs.Symbols.{LiesIn};
 ghost use Rattle.rc_expand.specs.Expansion.{LineLies};
 
-use crate::constants::Constants;
-use crate::expander::expand;
-use crate::fault::{ExpandFault, ExpandKind};
-use crate::line::{Line, LineWord};
-use crate::names::name_of;
+use rc_expand::{Constants, ExpandFault, ExpandKind, Line, LineWord, expand, name_of};
 use rc_instr::Rules;
 use rc_text::{Kind, LexFault, Token};
 use std::alloc::Global;
 use std::test::Fail;
-
-mod table;
 
 // Appends tokens with a blank before each: a number by its value, a name with its counters.
 fn push_tokens(
