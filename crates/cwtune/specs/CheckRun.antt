@@ -7,6 +7,7 @@ use Rattle.tune_template.specs.Instances.{InputsView}
 use Rattle.tune_cert.specs.Problem.{Problem, problem_of}
 use Rattle.tune_cert.specs.Spelling.{Spells}
 use Rattle.tune_cert.specs.Verdict.{IsValidCert, IsVerdict}
+use Rattle.tune_cert.specs.Rejection.{IsFirst}
 use Rattle.tune_cert.specs.declared.cert.Cert.{Cert}
 use Rattle.tune_cert.specs.declared.verdict.Reason.{Reason}
 use Rattle.tune_cert.specs.declared.verdict.Reason.TheVariants.{Malformed, RowCount, BestRow, WrongPoints, RepeatedFight, CapTooHigh, NotSame, NotRefused}
@@ -35,9 +36,11 @@ abbrev pub accepts : Verdict → Bool
 accepts (Accepted best total) = true
 accepts (Rejected row reason) = false
 
--- the verdict on these records is right, and where they spell a valid certificate it accepts that one
+-- the verdict on these records is right, a rejection names the first record at which a check fails, and where they spell a valid certificate
+-- it is accepted
 abbrev pub IsRightVerdict : Problem → List Fields → Verdict → Type 0
-IsRightVerdict p records verdict = IsVerdict p records verdict × ((c : Cert) → Spells records c → IsValidCert p c → verdict ≡ Accepted c.best c.total)
+IsRightVerdict p records verdict =
+    IsVerdict p records verdict × IsFirst p records verdict × ((c : Cert) → Spells records c → IsValidCert p c → verdict ≡ Accepted c.best c.total)
 
 -- the line of the right verdict on the bytes was written, and the answer is whether it accepts
 abbrev pub TellsVerdict : Texts → List ℕ → Bool → Option (List ℕ) → Option (List ℕ) → Type 0
