@@ -15,6 +15,7 @@ use Rattle.rc_expand.specs.declared.line.LineWord.TheVariants.{Code, Org, End, A
 use Rattle.rc_expand.specs.declared.line.Line.{Line}
 use Rattle.rc_expand.specs.Names.{Table, or_else}
 use Rattle.rc_expand.specs.Expansion.{IsExpansion}
+use Rattle.rc_expand.specs.Faults.{IsInTurn}
 use Rattle.rc_asm.specs.declared.fault.AsmKind.{AsmKind}
 use Rattle.rc_asm.specs.declared.fault.AsmKind.TheVariants.{Expand, MissingOperand, Value, AssertFailed, Warrior, TextTooLong}
 use Rattle.rc_asm.specs.declared.fault.AsmFault.{AsmFault}
@@ -86,9 +87,11 @@ pub record IsFaultOfCode (source : List ℕ) (names : Names) (lines : List Line)
 abbrev pub IsFaultOfLines : List ℕ → Names → List Line → AsmFault → Type 0
 IsFaultOfLines source names lines f = (lines_fault source names lines ≡ Some f) ⊎ IsFaultOfCode source names lines f
 
--- this fault comes first in a text: it is too long, or has no expansion for another cause than memory, or the lines to which it expands have the fault
+-- this fault comes first in a text: it is too long; or has no expansion for another cause than memory, and the fault is that before the unrolling,
+-- where there is one; or the lines to which it expands have the fault
 abbrev pub IsFault : List ℕ → Table → Limits → AsmFault → Type 0
 IsFault source constants limits f =
     ((65536 < length source) × (f ≡ at_line 0 TextTooLong))
-    ⊎ (((length source ≤ 65536) × ((lines : List Line) → ¬ IsExpansion source constants limits lines) × (k : ExpandKind) × (k ≢ NoRoom) × (f.kind ≡ Expand k))
+    ⊎ (((length source ≤ 65536) × ((lines : List Line) → ¬ IsExpansion source constants limits lines) × (k : ExpandKind) × (k ≢ NoRoom) × (f.kind ≡ Expand k)
+    × IsInTurn source constants limits (record { line = f.line; kind = k }))
     ⊎ ((length source ≤ 65536) × (lines : List Line) × IsExpansion source constants limits lines × IsFaultOfLines source (names_of source constants limits lines) lines f))

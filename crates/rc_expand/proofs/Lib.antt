@@ -20,3 +20,6 @@ pub mod PlainHeads
 pub mod PlainLines
 pub mod FlatLines
 pub mod Settled
+pub mod FaultSteps
+pub mod TextFaults
+pub mod HeadFaults

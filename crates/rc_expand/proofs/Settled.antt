@@ -1,11 +1,10 @@
 -- Tokens of which none is an EQU name stay as they are.
-use Rattle.std.proofs.Common.{◌≡◌, ℕ, zero, suc, ◌≤◌, ◌+◌, Bool, true, false, List, [], ◌∷◌, ◌++◌, length, take, drop, Option, Some, None, refl, sym, ◌∙◌, ap, arith}
+use Rattle.std.proofs.Common.{◌≡◌, ℕ, zero, suc, ◌≤◌, true, false, List, [], ◌∷◌, ◌++◌, length, take, drop, Option, Some, None, refl, sym, ◌∙◌, ap}
 use Rattle.std.specs.Prelude.{nat_le, not, ◌&&◌, is_some, option_map, option_and_then}
-use Rattle.std.specs.List.{list_all}
 use Rattle.std.proofs.lemmas.Bool.{and_parts, both_ways, le-leb}
 use Rattle.rc_text.specs.declared.token.Token.{Token}
 use Rattle.rc_expand.specs.declared.head.HeadWord.{HeadWord}
-use Rattle.rc_expand.specs.Replace.{Equs, equ_at, Replaced, followed_by, one, spread, inner_at, replaced_within, within_limits, replaced_tokens, exempt_len, line_tokens}
+use Rattle.rc_expand.specs.Replace.{Equs, equ_at, Replaced, followed_by, one, spread, inner_at, within_limits, replaced_tokens, exempt_len, line_tokens}
 use Rattle.rc_expand.specs.NameTables.{at_place}
 use Rattle.rc_expand.specs.Steps.{are_settled}
 

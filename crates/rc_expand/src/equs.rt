@@ -1,8 +1,10 @@
 //! EQU lines.
-ghost use Rattle.std.specs.Prelude.{◌≡◌, [], false, is_some, All, IfOk, MatchResult, Some, None};
+ghost use Rattle.std.specs.Prelude.{◌≡◌, ◌≢◌, [], false, is_some, All, IfOk, IfErr, MatchResult, Some, None};
+ghost use Rattle.rc_expand.specs.declared.fault.ExpandKind.TheVariants.{OutOfMemory, BadDirective};
 ghost use Rattle.rc_text.specs.Symbols.{LiesIn};
 ghost use Rattle.rc_expand.specs.Lines.{HeadLies};
-ghost use Rattle.rc_expand.specs.Heads.{equ_token, equ_of_line, equs_of};
+ghost use Rattle.rc_expand.specs.Heads.{equ_token, equ_of_line, equs_of, equ_lines};
+ghost use Rattle.rc_expand.specs.Faults.{at_line, equ_fault, equs_fault};
 ghost use Rattle.rc_expand.specs.Names.{table_of, found};
 ghost use Rattle.rc_expand.specs.Replace.{EqusLie};
 ghost use Rattle.rc_expand.specs.Steps.{new_equ};
@@ -21,7 +23,7 @@ use std::alloc::Global;
 // The one label of an EQU line.
 fn equ_token<'a>(source: &[u8], head: &'a Head) -> Result<&'a Token, ExpandFault>
     requires { HeadLies source.now head.now }
-    ensures token { MatchResult result (λ t. equ_token source.now head.now.labels ≡ Some t.now) (λ e. equ_token source.now head.now.labels ≡ None) }
+    ensures token { MatchResult result (λ t. equ_token source.now head.now.labels ≡ Some t.now) (λ e. (equ_token source.now head.now.labels ≡ None) × (e ≡ at_line head.now.number BadDirective)) }
     ensures inside { IfOk result (λ t. LiesIn source.now t.now) }
     ensures written { IfOk result (λ t. t.now.joined ≡ []) }
 {
@@ -45,6 +47,8 @@ fn read_equ(
 ) -> Result<(Name, Equ), ExpandFault>
     requires head { HeadLies source.now head.now }
     ensures equ { Gives result (new_equ source.now (table_of names.now.constants.now.names.now names.now.constants.now.values.now) names.now.rules.now equs.now head.now) }
+    ensures fault { IfErr result (λ f. f.kind ≢ OutOfMemory
+        → equ_fault source.now (table_of names.now.constants.now.names.now names.now.constants.now.values.now) names.now.rules.now equs.now head.now ≡ Some f) }
     ensures new { IfOk result (λ e. is_some (found equs.now e.0) ≡ false) }
     ensures inside { IfOk result (λ e. All (LiesIn source.now) e.1) }
 {
@@ -69,6 +73,8 @@ pub(crate) fn collect_equs(
 ) -> Result<NameTable<Equ>, ExpandFault>
     requires { All (HeadLies source.now) heads.now }
     ensures equs { Gives result (equs_of source.now (table_of names.now.constants.now.names.now names.now.constants.now.values.now) names.now.rules.now heads.now) }
+    ensures first { IfErr result (λ f. f.kind ≢ OutOfMemory
+        → equs_fault source.now (table_of names.now.constants.now.names.now names.now.constants.now.values.now) names.now.rules.now [] (equ_lines 0 heads.now) ≡ Some f) }
     ensures inside { IfOk result (EqusLie source.now) }
 {
     let mut opened: usize = 0;

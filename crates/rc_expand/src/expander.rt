@@ -8,6 +8,7 @@ ghost use Rattle.rc_expand.specs.Replace.{EqusLie};
 ghost use Rattle.rc_expand.specs.Heads.{heads_of};
 ghost use Rattle.rc_expand.specs.Steps.{GivesHeads};
 ghost use Rattle.rc_expand.specs.Expansion.{LineLies, IsExpansion};
+ghost use Rattle.rc_expand.specs.Faults.{IsHeadFault, IsInTurn};
 
 use crate::blocks::check_blocks;
 use crate::constants::Constants;
@@ -27,13 +28,14 @@ use rc_instr::Rules;
 use std::alloc::Global;
 
 // The lines of a text with their heads, and its EQU names.
-#[tactic(auto, unfolding(crate::specs::Heads::heads_of))]
+#[tactic(auto, using(crate::proofs::FaultSteps::of_nesting, crate::proofs::FaultSteps::of_equs), unfolding(crate::specs::Heads::heads_of))]
 fn read_heads(
     alloc: Global,
     source: &[u8],
     names: &GivenNames,
 ) -> Result<(Vec<Head>, NameTable<Equ>), ExpandFault>
     ensures heads { GivesHeads result (heads_of source.now (table_of names.now.constants.now.names.now names.now.constants.now.values.now) names.now.rules.now) }
+    ensures first { IfErr result (λ f. f.kind ≢ OutOfMemory → IsHeadFault source.now (table_of names.now.constants.now.names.now names.now.constants.now.values.now) names.now.rules.now f) }
     ensures lines { IfOk result (λ p. All (HeadLies source.now) p.0.items) }
     ensures equs { IfOk result (λ p. EqusLie source.now p.1) }
 {
@@ -53,6 +55,7 @@ fn expand_text(
     ensures lines { IfOk result (λ e. IsExpansion source.now (table_of constants.now.names.now constants.now.values.now) rules.now e.lines) }
     ensures spans { IfOk result (λ e. All (LineLies source.now) e.lines) }
     ensures refused { IfErr result (λ f. f.kind ≢ OutOfMemory → (lines : List Line) → IsExpansion source.now (table_of constants.now.names.now constants.now.values.now) rules.now lines → ⊥) }
+    ensures first { IfErr result (λ f. f.kind ≢ OutOfMemory → IsInTurn source.now (table_of constants.now.names.now constants.now.values.now) rules.now f) }
 {
     let names = GivenNames { constants, rules };
     let (heads, equs) = read_heads(alloc, source, &names)?;
@@ -89,6 +92,8 @@ fn expand_text(
 /// - `DuplicateName`: a label that is there twice, or is an EQU name, a constant or a predefined name; `EquTooDeep`: EQU names nested
 ///   more than 16 deep; `TooManyTokens`: more than 4096 tokens in a line, or as many replacements.
 /// - `OutOfMemory`, at line 0, where memory was refused.
+///
+/// That a fault of the text itself, of how blocks nest or of an EQU line is the one that comes first is proved; of the others tests show it.
 pub fn expand(
     alloc: Global,
     source: &[u8],
@@ -98,6 +103,7 @@ pub fn expand(
     ensures lines { IfOk result (λ e. IsExpansion source.now (table_of constants.now.names.now constants.now.values.now) rules.now e.lines) }
     ensures spans { IfOk result (λ e. All (LineLies source.now) e.lines) }
     ensures refused { IfErr result (λ f. f.kind ≢ OutOfMemory → (lines : List Line) → IsExpansion source.now (table_of constants.now.names.now constants.now.values.now) rules.now lines → ⊥) }
+    ensures first { IfErr result (λ f. f.kind ≢ OutOfMemory → IsInTurn source.now (table_of constants.now.names.now constants.now.values.now) rules.now f) }
     ensures memory { IfErr result (λ f. f.kind ≡ OutOfMemory → f.line ≡ 0) }
 {
     match expand_text(alloc, source, constants, rules) {

@@ -1,5 +1,5 @@
 //! Why a text has no expansion, and where.
-ghost use Rattle.std.specs.Prelude.{◌≡◌};
+ghost use Rattle.std.specs.Prelude.{◌≡◌, ◌≢◌};
 ghost use Rattle.rc_expand.specs.declared.fault.ExpandKind.TheVariants.{OutOfMemory};
 
 use rc_text::LexFault;
@@ -93,6 +93,7 @@ pub(crate) fn fault(line: u64, kind: ExpandKind) -> ExpandFault
 pub(crate) fn placed(found: ExpandFault) -> ExpandFault
     ensures kind { result.kind ≡ found.kind }
     ensures memory { result.kind ≡ OutOfMemory → result.line ≡ 0 }
+    ensures fault { found.kind ≢ OutOfMemory → result ≡ found }
 {
     match found.kind {
         ExpandKind::OutOfMemory => fault(0, found.kind),

@@ -1,11 +1,21 @@
 //! Laws of the definitions.
-ghost use Rattle.std.specs.Prelude.{◌≡◌, List, ℕ};
+ghost use Rattle.std.specs.Prelude.{◌≡◌, List, ℕ, Some};
 ghost use Rattle.rc_instr.specs.Rules.{Limits};
 ghost use Rattle.rc_expand.specs.declared.line.Line.{Line};
+ghost use Rattle.rc_expand.specs.declared.fault.ExpandFault.{ExpandFault};
 ghost use Rattle.rc_expand.specs.Names.{Table};
+ghost use Rattle.rc_expand.specs.Heads.{Heads, heads_of};
 ghost use Rattle.rc_expand.specs.Expansion.{IsExpansion};
+ghost use Rattle.rc_expand.specs.Faults.{IsHeadFault};
 
 /// A text has at most one expansion.
 pub fn one_expansion()
     ensures { (source : List ℕ) (constants : Table) (rules : Limits) (a b : List Line) → IsExpansion source constants rules a → IsExpansion source constants rules b → a ≡ b }
+{}
+
+/// A text has at most one fault of itself, of how its blocks nest, or of its EQU lines; and none where its lines and EQU names can be had.
+#[tactic(auto, using(crate::proofs::HeadFaults::one_fault))]
+pub fn one_fault_before_unrolling()
+    ensures one { (source : List ℕ) (constants : Table) (rules : Limits) (f g : ExpandFault) → IsHeadFault source constants rules f → IsHeadFault source constants rules g → f ≡ g }
+    ensures none { (source : List ℕ) (constants : Table) (rules : Limits) (r : Heads) (f : ExpandFault) → heads_of source constants rules ≡ Some r → IsHeadFault source constants rules f → ⊥ }
 {}

@@ -1,9 +1,11 @@
 //! From tokens to lines.
-ghost use Rattle.std.specs.Prelude.{◌≡◌, ◌≢◌, List, ℕ, ◌++◌, [], ◌+◌, ◌≤◌, ◌&&◌, IsTrue, length, drop, All, IfOk, IfSome, MatchResult, Ok, None};
+ghost use Rattle.std.specs.Prelude.{◌≡◌, ◌≢◌, List, ℕ, ◌++◌, [], ◌+◌, ◌≤◌, ◌&&◌, IsTrue, length, drop, All, IfOk, IfErr, IfSome, MatchResult, Ok, None};
+ghost use Rattle.rc_expand.specs.declared.fault.ExpandKind.TheVariants.{OutOfMemory};
 ghost use Rattle.rc_text.specs.Tokens.{tokens_of, TakesToken};
 ghost use Rattle.rc_text.specs.Symbols.{LiesIn};
 ghost use Rattle.rc_expand.specs.Lines.{HeadLies, head_of, is_free, is_ampersand, goes_on, tail_len, begins_label, labelled, is_line_end_kind, line_of_tokens, has_end, lines_read};
 ghost use Rattle.rc_expand.specs.Unroll.{GivesItems};
+ghost use Rattle.rc_expand.specs.Faults.{IsEnding, IsTextFault};
 
 use crate::copy::with_front;
 use crate::fault::{ExpandFault, ExpandKind};
@@ -165,7 +167,7 @@ fn push_line(
 
 // The next token of a text without fault.
 fn next_token(lexer: &mut Lexer) -> Result<Option<Token>, ExpandFault>
-    ensures { MatchResult result (λ o. TakesToken lexer.old (Ok o) lexer.new) (λ e. (lexer.old.tokens ≡ []) × (lexer.old.ending ≢ None)) }
+    ensures { MatchResult result (λ o. TakesToken lexer.old (Ok o) lexer.new) (λ e. (lexer.old.tokens ≡ []) × (lexer.old.ending ≢ None) × IsEnding lexer.old e) }
 {
     match lexer.next_token() {
         Ok(token) => Ok(token),
@@ -190,6 +192,7 @@ fn is_line_end(token: &Token) -> bool
 #[tactic(auto, unfolding(crate::specs::Lines::lines_read))]
 pub(crate) fn read_lines(alloc: Global, source: &[u8]) -> Result<Vec<Head>, ExpandFault>
     ensures lines { GivesItems result (lines_read source.now (tokens_of source.now)) }
+    ensures text { IfErr result (λ f. f.kind ≢ OutOfMemory → IsTextFault source.now f) }
     ensures inside { IfOk result (λ v. All (HeadLies source.now) v.items) }
 {
     let mut lexer = Lexer::new(source);

@@ -1,7 +1,6 @@
 use Rattle.std.proofs.Common.{sym, ◌∙◌}
 use Rattle.std.proofs.lemmas.List.Elements.{All-rest}
 use Rattle.rc_text.specs.Symbols.{LiesIn}
-use Rattle.rc_expand.specs.Replace.{equ_at}
 use Rattle.rc_expand.proofs.Settled.{settled_more, no_place}
 use Rattle.rc_expand.proofs.links.are_settled.Goals as goal
 

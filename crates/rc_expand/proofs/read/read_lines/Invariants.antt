@@ -3,12 +3,14 @@ use Rattle.std.specs.Prelude.{All}
 use Rattle.rc_text.specs.Symbols.{LiesIn}
 use Rattle.rc_expand.specs.Lines.{HeadLies}
 use Rattle.rc_expand.proofs.ReadSteps.{SoFar}
+use Rattle.rc_expand.proofs.TextFaults.{Follows}
 use Rattle.rc_expand.proofs.read.read_lines.Given as goal
 
 abbrev pub invariant-loop-line : goal.invariant-loop-line
 invariant-loop-line l =
     SoFar l.source l.heads.items l.lexer.ending l.line.items l.lexer.tokens
     × All (LiesIn l.source) l.lexer.tokens × All (LiesIn l.source) l.line.items × All (HeadLies l.source) l.heads.items
+    × Follows l.source l.lexer
 
 abbrev pub decreases-loop-line : goal.decreases-loop-line
 decreases-loop-line l = length l.lexer.tokens
