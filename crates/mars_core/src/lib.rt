@@ -13,8 +13,6 @@ pub(crate) mod number;
 pub(crate) mod operand;
 pub(crate) mod pairs;
 pub mod side;
-#[cfg(test)]
-mod tests;
 pub(crate) mod turn;
 
 pub use arena::{Arena, Outcome};

@@ -9,8 +9,6 @@ pub mod number;
 pub mod records;
 pub(crate) mod row;
 pub mod schedule;
-#[cfg(test)]
-mod tests;
 
 pub use fault::{ScheduleFault, ScheduleFaultKind};
 pub use fight::{Fight, play};

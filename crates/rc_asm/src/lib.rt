@@ -12,8 +12,6 @@ mod reading;
 mod scope;
 mod shape;
 mod starts;
-#[cfg(test)]
-mod tests;
 mod word;
 
 pub use assembler::assemble;

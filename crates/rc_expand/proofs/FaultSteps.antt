@@ -8,12 +8,12 @@ use Rattle.rc_instr.specs.Rules.{Limits}
 use Rattle.rc_expand.specs.declared.head.Head.{Head}
 use Rattle.rc_expand.specs.declared.fault.ExpandFault.{ExpandFault}
 use Rattle.rc_expand.specs.declared.fault.ExpandKind.TheVariants.{DuplicateName}
-use Rattle.rc_expand.specs.Names.{Table}
+use Rattle.rc_expand.specs.Names.{Table, or_else}
 use Rattle.rc_expand.specs.Replace.{Equs}
 use Rattle.rc_expand.specs.Unroll.{is_known}
 use Rattle.rc_expand.specs.Heads.{equ_token, equ_of_line, equ_lines}
 use Rattle.rc_expand.specs.Steps.{new_equ, if_unknown, collected}
-use Rattle.rc_expand.specs.Faults.{at_line, name_fault, equ_fault, equs_fault, fault_or, first_of, nesting_fault, lines_fault}
+use Rattle.rc_expand.specs.Faults.{at_line, name_fault, equ_fault, equs_fault, fault_or, nesting_fault, lines_fault}
 
 module _ (source : List ℕ) (constants : Table) (limits : Limits) (equs : Equs) (h : Head) where
   unknown : (b : Bool) (e x : List ℕ × List Token) → (if b then None else Some e) ≡ Some x → (if b then Some (at_line h.number DuplicateName) else None) ≡ None
@@ -66,8 +66,8 @@ none_wrong source constants limits (h ∷ hs) equs found n =
 module _ (source : List ℕ) (constants : Table) (limits : Limits) (hs : List Head) (f : ExpandFault) where
   -- a fault of how blocks nest comes first
   pub of_nesting : nesting_fault 0 0 hs ≡ Some f → lines_fault source constants limits hs ≡ Some f
-  of_nesting n = ap (λ o. first_of o (equs_fault source constants limits [] (equ_lines 0 hs))) n
+  of_nesting n = ap (λ o. or_else o (equs_fault source constants limits [] (equ_lines 0 hs))) n
 
   -- and one of the EQU lines where there is none
   pub of_equs : nesting_fault 0 0 hs ≡ None → equs_fault source constants limits [] (equ_lines 0 hs) ≡ Some f → lines_fault source constants limits hs ≡ Some f
-  of_equs n e = ap (λ o. first_of o (equs_fault source constants limits [] (equ_lines 0 hs))) n ∙ e
+  of_equs n e = ap (λ o. or_else o (equs_fault source constants limits [] (equ_lines 0 hs))) n ∙ e

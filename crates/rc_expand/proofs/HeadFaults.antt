@@ -10,11 +10,11 @@ use Rattle.rc_expand.specs.declared.head.HeadWord.{HeadWord}
 use Rattle.rc_expand.specs.declared.head.HeadWord.TheVariants as word
 use Rattle.rc_expand.specs.declared.fault.ExpandFault.{ExpandFault}
 use Rattle.rc_expand.specs.declared.fault.ExpandKind.TheVariants.{Text, ForTooDeep}
-use Rattle.rc_expand.specs.Names.{Table}
+use Rattle.rc_expand.specs.Names.{Table, or_else}
 use Rattle.rc_expand.specs.Lines.{lines_read}
 use Rattle.rc_expand.specs.Replace.{Equs}
 use Rattle.rc_expand.specs.Heads.{nests, nests_by, equ_lines, equs_of, with_equs, Heads, heads_of}
-use Rattle.rc_expand.specs.Faults.{at_line, line_behind, IsTextFault, nesting_by, nesting_fault, first_of, equs_fault, lines_fault, IsHeadFault}
+use Rattle.rc_expand.specs.Faults.{at_line, line_behind, IsTextFault, nesting_by, nesting_fault, equs_fault, lines_fault, IsHeadFault}
 use Rattle.rc_expand.proofs.Distinct.{equs_collected}
 use Rattle.rc_expand.proofs.FaultSteps.{none_wrong}
 
@@ -68,7 +68,7 @@ module _ (source : List ℕ) (constants : Table) (limits : Limits) where
       → (if b then option_map (λ equs. record { lines = hs; equs = equs }) (equs_of source constants limits hs) else None) ≡ Some r → lines_fault source constants limits hs ≡ None
   faultless hs false r n m = absurd (none-some r m)
   faultless hs true r n m =
-      ap (λ o. first_of o (equs_fault source constants limits [] (equ_lines 0 hs))) (nested hs 0 0 n) ∙ with_names hs (equs_of source constants limits hs) r refl m
+      ap (λ o. or_else o (equs_fault source constants limits [] (equ_lines 0 hs))) (nested hs 0 0 n) ∙ with_names hs (equs_of source constants limits hs) r refl m
 
   -- a text that has heads has no fault before the unrolling
   pub none_with_heads : (r : Heads) (f : ExpandFault) → heads_of source constants limits ≡ Some r → IsHeadFault source constants limits f → ⊥

@@ -12,7 +12,7 @@ use Rattle.rc_expand.specs.declared.head.HeadWord.TheVariants as word
 use Rattle.rc_expand.specs.declared.fault.ExpandFault.{ExpandFault}
 use Rattle.rc_expand.specs.declared.fault.ExpandKind.{ExpandKind}
 use Rattle.rc_expand.specs.declared.fault.ExpandKind.TheVariants.{Text, DuplicateName, ForWithoutRof, RofWithoutFor, ForTooDeep, BadDirective}
-use Rattle.rc_expand.specs.Names.{Table}
+use Rattle.rc_expand.specs.Names.{Table, or_else}
 use Rattle.rc_expand.specs.Lines.{lines_read}
 use Rattle.rc_expand.specs.Replace.{Equs}
 use Rattle.rc_expand.specs.Unroll.{is_known}
@@ -49,11 +49,6 @@ abbrev pub nesting_fault : (opened outermost : ℕ) → List Head → Option Exp
 nesting_fault n outermost [] = if n == 0 then None else Some (at_line outermost ForWithoutRof)
 nesting_fault n outermost (h ∷ hs) = nesting_by h.word h.number n outermost (λ m line. nesting_fault m line hs)
 
--- the first of two, if there is one
-abbrev pub first_of : Option ExpandFault → Option ExpandFault → Option ExpandFault
-first_of (Some f) other = Some f
-first_of None other = other
-
 -- a fault, or what comes of the EQU name that is taken up
 abbrev pub fault_or : Option ExpandFault → Option (List ℕ × List Token) → (List ℕ × List Token → Option ExpandFault) → Option ExpandFault
 fault_or (Some f) equ next = Some f
@@ -76,7 +71,7 @@ module _ (source : List ℕ) (constants : Table) (limits : Limits) where
 
   -- the fault of lines that were read
   abbrev pub lines_fault : List Head → Option ExpandFault
-  lines_fault hs = first_of (nesting_fault 0 0 hs) (equs_fault [] (equ_lines 0 hs))
+  lines_fault hs = or_else (nesting_fault 0 0 hs) (equs_fault [] (equ_lines 0 hs))
 
   -- the fault that comes before all unrolling: of the text itself up to END, or else of the lines that were read
   abbrev pub IsHeadFault : ExpandFault → Type 0

@@ -12,8 +12,6 @@ pub mod memory;
 pub mod modifier;
 pub mod outlet;
 pub mod rules;
-#[cfg(test)]
-mod tests;
 pub mod warrior;
 
 pub use instruction::{Instruction, Mode, Modifier, Opcode};

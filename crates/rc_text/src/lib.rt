@@ -16,8 +16,6 @@ mod lexeme;
 pub mod lexer;
 pub mod names;
 mod operator;
-#[cfg(test)]
-mod tests;
 pub mod token;
 
 pub use class::{NameClass, is_opcode_word, name_class};

@@ -21,8 +21,6 @@ pub mod row;
 mod row_record;
 pub mod rows;
 mod same_row;
-#[cfg(test)]
-mod tests;
 pub mod verdict;
 pub mod write;
 

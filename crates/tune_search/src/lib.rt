@@ -4,8 +4,6 @@
 pub mod fault;
 mod fights;
 mod progress;
-#[cfg(test)]
-mod tests;
 pub mod tuning;
 
 pub use fault::SearchFault;

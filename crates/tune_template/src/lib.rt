@@ -8,8 +8,6 @@ mod numbers;
 mod range;
 mod span;
 pub mod template;
-#[cfg(test)]
-mod tests;
 pub mod vector;
 
 pub use fault::{TemplateFault, TemplateKind};

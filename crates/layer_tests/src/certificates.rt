@@ -1,0 +1,5 @@
+//! The tests of `tune_cert`: certificates written by hand.
+mod checking;
+mod lists;
+mod readings;
+mod writings;

@@ -1,0 +1,133 @@
+//! Load texts written by hand, read and written back.
+use rc_instr::Mode::{
+    AIndirect, APostincrement, APredecrement, BIndirect, BPostincrement, BPredecrement, Direct,
+    Immediate,
+};
+use rc_instr::Modifier::{A, AB, B, BA, F, I, X};
+use rc_instr::Opcode::{
+    Add, Dat, Div, Djn, Jmn, Jmp, Jmz, Mod, Mov, Mul, Nop, Seq, Slt, Sne, Spl, Sub,
+};
+use rc_instr::laws::{equal_load_texts_are_equal_warriors, load_text_reads_as_its_warrior};
+use rc_instr::{
+    Instruction, Mode, Modifier, Opcode, Rules, Warrior, read_loadfile, write_loadfile,
+};
+use std::test::Fail;
+
+fn cell(
+    opcode: Opcode,
+    modifier: Modifier,
+    a_mode: Mode,
+    a_number: u16,
+    b_mode: Mode,
+    b_number: u16,
+) -> Instruction {
+    Instruction {
+        opcode,
+        modifier,
+        a_mode,
+        a_number,
+        b_mode,
+        b_number,
+    }
+}
+
+/// Each opcode, modifier and mode, in a core of 8000 cells.
+const TEXT: &str = "ORG 15\n\
+    DAT.F $0, $0\n\
+    MOV.I $0, $1\n\
+    ADD.AB #4, $-1\n\
+    SUB.BA *2, @-2\n\
+    MUL.X {-3, <3\n\
+    DIV.A }4000, >-3999\n\
+    MOD.B $-1, $7\n\
+    JMP.B $-2, $0\n\
+    JMZ.F *-10, #0\n\
+    JMN.I @3999, $5\n\
+    DJN.B <-5, {5\n\
+    SEQ.X >1, }-1\n\
+    SNE.I $10, $-100\n\
+    SLT.AB #9, @99\n\
+    SPL.A $1, *1000\n\
+    NOP.BA $0, $0\n";
+
+/// What the text spells.
+fn code_of_text() -> [Instruction; 16] {
+    [
+        cell(Dat, F, Direct, 0, Direct, 0),
+        cell(Mov, I, Direct, 0, Direct, 1),
+        cell(Add, AB, Immediate, 4, Direct, 7999),
+        cell(Sub, BA, AIndirect, 2, BIndirect, 7998),
+        cell(Mul, X, APredecrement, 7997, BPredecrement, 3),
+        cell(Div, A, APostincrement, 4000, BPostincrement, 4001),
+        cell(Mod, B, Direct, 7999, Direct, 7),
+        cell(Jmp, B, Direct, 7998, Direct, 0),
+        cell(Jmz, F, AIndirect, 7990, Immediate, 0),
+        cell(Jmn, I, BIndirect, 3999, Direct, 5),
+        cell(Djn, B, BPredecrement, 7995, APredecrement, 5),
+        cell(Seq, X, BPostincrement, 1, APostincrement, 7999),
+        cell(Sne, I, Direct, 10, Direct, 7900),
+        cell(Slt, AB, Immediate, 9, BIndirect, 99),
+        cell(Spl, A, Direct, 1, AIndirect, 1000),
+        cell(Nop, BA, Direct, 0, Direct, 0),
+    ]
+}
+
+#[test]
+fn a_text_of_all_words_is_read(rt: HostRuntime) -> Result<(), Fail> {
+    let warrior = read_loadfile(rt.alloc(), TEXT.as_bytes(), &Rules::standard())?;
+    assert_eq!(rt; warrior.start(), 15);
+    assert_eq!(rt; warrior.code(), code_of_text().as_slice());
+    Ok(())
+}
+
+#[test]
+fn a_text_of_all_words_is_written_behind_what_was_there(rt: HostRuntime) -> Result<(), Fail> {
+    let rules = Rules::standard();
+    let code = Vec::from_slice(rt.alloc(), &code_of_text())?;
+    let warrior = Warrior::try_new(code, 15, &rules)?;
+    let mut out = Vec::from_slice(rt.alloc(), b"before\n")?;
+    write_loadfile(rt.alloc(), &warrior, &rules, &mut out)?;
+    let want = format!(in rt.alloc(); "before\n{TEXT}")?;
+    assert_eq!(rt; out.as_slice(), want.as_bytes());
+    Ok(())
+}
+
+#[test]
+fn a_number_above_half_of_the_core_has_a_minus(rt: HostRuntime) -> Result<(), Fail> {
+    for (core, number, spelling) in [
+        (8, 4, "4"),
+        (8, 5, "-3"),
+        (16, 8, "8"),
+        (16, 9, "-7"),
+        (16, 15, "-1"),
+        (17, 8, "8"),
+        (17, 9, "-8"),
+        (8000, 4000, "4000"),
+        (8000, 4001, "-3999"),
+        (65535, 32767, "32767"),
+        (65535, 32768, "-32767"),
+        (65535, 65534, "-1"),
+    ] {
+        let rules = Rules::try_new(core, 1, 1, 1, 1)?;
+        let text = format!(in rt.alloc(); "ORG 0\nDAT.F ${spelling}, #{spelling}\n")?;
+        let warrior = read_loadfile(rt.alloc(), text.as_bytes(), &rules)?;
+        let want = cell(Dat, F, Direct, number, Immediate, number);
+        assert_eq!(rt; warrior.code(), [want].as_slice());
+        let mut out = Vec::new(rt.alloc());
+        write_loadfile(rt.alloc(), &warrior, &rules, &mut out)?;
+        assert_eq!(rt; out.as_slice(), text.as_bytes());
+    }
+    Ok(())
+}
+
+#[test]
+fn the_laws_run(rt: HostRuntime) -> Result<(), Fail> {
+    let rules = Rules::standard();
+    let code = Vec::from_slice(rt.alloc(), &code_of_text())?;
+    let warrior = Warrior::try_new(code, 1, &rules)?;
+    let again = load_text_reads_as_its_warrior(rt.alloc(), &warrior, &rules)?;
+    assert_eq!(rt; again.start(), 1);
+    assert_eq!(rt; again.code(), code_of_text().as_slice());
+    equal_load_texts_are_equal_warriors();
+    Ok(())
+}

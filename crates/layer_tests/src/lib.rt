@@ -1,0 +1,22 @@
+//! Tests of the layers below the program: each module has those of one crate.
+//!
+//! They show what no clause says: texts written by hand and what becomes of them, the texts of errors, and that each public call can succeed.
+//! They stand by themselves because a crate with tests is proved twice, once without them and once with them.
+#![tactic(auto)]
+
+#[cfg(test)]
+mod assembly;
+#[cfg(test)]
+mod certificates;
+#[cfg(test)]
+mod fights;
+#[cfg(test)]
+mod instructions;
+#[cfg(test)]
+mod machine;
+#[cfg(test)]
+mod searches;
+#[cfg(test)]
+mod templates;
+#[cfg(test)]
+mod tokens;

@@ -1,0 +1,130 @@
+//! The tests of `tune_search`: searches over small templates, worked out by hand: a core of 16 cells, for 20 cycles, 4 tasks, 4 instructions, a distance of 4.
+ghost use Rattle.std.specs.Prelude.{◌≡◌, IfOk, length, All};
+ghost use Rattle.rc_instr.specs.Warrior.{Fits};
+
+use mars_fight::Schedule;
+use rc_instr::{LoadFault, Rules, Warrior, read_loadfile};
+use std::alloc::{AllocError, Global};
+use std::test::Fail;
+use tune_cert::{Found, Row};
+use tune_search::fault::SearchFault;
+use tune_search::tuning::search;
+use tune_template::{Inputs, Template};
+
+/// The load file of the opponent that dies at once.
+const DAT: &[u8] = b"ORG 0\nDAT.F $0, $0\n";
+
+/// The load file of the opponent that moves on for ever.
+const IMP: &[u8] = b"ORG 0\nMOV.I $0, $1\n";
+
+/// One fight against each of two opponents, which stand at address 8.
+const BOTH: &[u8] = b"opponent,position,first\n0,8,c\n1,8,c\n";
+
+/// Two fights against the first opponent.
+const TWICE: &[u8] = b"opponent,position,first\n0,8,c\n0,8,c\n";
+
+/// The opponents Dat and Imp.
+fn two_opponents(alloc: Global, rules: &Rules) -> Result<Vec<Warrior>, Fail>
+    ensures few { IfOk result (λ o. length o.items ≡ 2) }
+    ensures fit { IfOk result (λ o. All (Fits rules.now) o.items) }
+{
+    let dat = read_loadfile(alloc, DAT, rules)?;
+    let imp = read_loadfile(alloc, IMP, rules)?;
+    let mut opponents = Vec::new(alloc);
+    opponents.push(dat)?;
+    opponents.push(imp)?;
+    Ok(opponents)
+}
+
+/// What a search found, as text: the best vector, its total, how many candidates and fights, and the rows.
+fn text_of(alloc: Global, found: &Found) -> Result<String, AllocError> {
+    let mut text = format!(in alloc;
+        "best {} {}, {} and {}:",
+        found.best, found.total, found.candidates, found.fights
+    )?;
+    for row in found.rows.as_slice() {
+        match row {
+            Row::Refused => text.push_str(" refused")?,
+            Row::Same(of) => {
+                let piece = format!(in alloc; " same {}", *of)?;
+                text.push_str(&piece)?;
+            }
+            Row::Cap(fights) => {
+                text.push_str(" cap")?;
+                for (number, points) in fights.as_slice() {
+                    let piece = format!(in alloc; " {}-{}", *number, *points)?;
+                    text.push_str(&piece)?;
+                }
+            }
+        }
+    }
+    Ok(text)
+}
+
+/// The text of a search over a template and a schedule of fights against Dat and Imp.
+fn run(alloc: Global, template: &[u8], schedule: &[u8]) -> Result<String, Fail> {
+    let rules = Rules::try_new(16, 20, 4, 4, 4)?;
+    let template = Template::read(alloc, template)?;
+    let opponents = two_opponents(alloc, &rules)?;
+    let schedule = Schedule::read(alloc, schedule, 2, &rules)?;
+    let inputs = Inputs::new(template, opponents, schedule, rules);
+    match search(alloc, &inputs, 1) {
+        Ok(found) => Ok(text_of(alloc, &found)?),
+        Err(SearchFault::NoCandidate) => Ok(format!(in alloc; "no candidate")?),
+        Err(SearchFault::OutOfMemory) => Ok(format!(in alloc; "out of memory")?),
+    }
+}
+
+/// Templates, and what a search finds in one fight against each opponent.
+const TEMPLATES: [(&[u8], &str); 7] = [
+    (b"MOV 0, 1", "best 0 4, 1 and 2: cap 0-3 1-1"),
+    (
+        b";@tune K 0 3 1 2\nMOV 0, 1",
+        "best 0 4, 4 and 8: cap 0-3 1-1 cap 0-3 1-1 cap 0-3 1-1 cap 0-3 1-1",
+    ),
+    (
+        b";@tune K 0 2 1 1\nMOV 0, 1\nDAT 1/K",
+        "best 1 4, 2 and 4: refused cap 0-3 1-1 cap 0-3 1-1",
+    ),
+    (
+        b";@tune K 0 2 1 1\nMOV 0, 1\nDAT K",
+        "best 0 4, 3 and 6: cap 0-3 1-1 cap 0-3 1-1 cap 0-3 1-1",
+    ),
+    (
+        b";@tune K 0 1 1 0\nJMP K",
+        "best 0 4, 2 and 4: cap 0-3 1-1 cap 0-3 1-0",
+    ),
+    (
+        b";@tune K 0 2 1 1\n;assert K > 9\nMOV 0, 1\nDAT 1/K",
+        "no candidate",
+    ),
+    (b";@tune K 0 1 1 0\nK DAT 0", "no candidate"),
+];
+
+#[test]
+fn finds_the_first_best_vector(rt: HostRuntime) -> Result<(), Fail> {
+    for (template, want) in TEMPLATES {
+        let text = run(rt.alloc(), template, BOTH)?;
+        assert_eq!(rt; text.as_str(), want, "{template:?}");
+    }
+    Ok(())
+}
+
+#[test]
+fn equal_fights_count_as_often_as_listed(rt: HostRuntime) -> Result<(), Fail> {
+    let text = run(rt.alloc(), b"MOV 0, 1", TWICE)?;
+    assert_eq!(rt; text.as_str(), "best 0 6, 1 and 2: cap 0-3 1-3");
+    Ok(())
+}
+
+#[test]
+fn texts_of_faults(rt: HostRuntime) -> Result<(), Fail> {
+    for (fault, want) in [
+        (SearchFault::NoCandidate, "no vector makes a warrior"),
+        (SearchFault::OutOfMemory, "out of memory"),
+    ] {
+        let text = format!(in rt.alloc(); "{fault}")?;
+        assert_eq!(rt; text.as_str(), want);
+    }
+    Ok(())
+}

@@ -1,3 +1,0 @@
-//! Templates, worked out by hand.
-mod instances;
-mod ranges;
