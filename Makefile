@@ -2,9 +2,12 @@
 
 PROGRAM = crates/cwtune/out/cwtune
 
+# How many checks run side by side: one a processor, but no more than one for each 5 GB of free memory, which is what the largest takes.
+LANES = $(shell awk -v most=$$(nproc) '/MemAvailable/ { lanes = int($$2 / 5000000); print lanes < 1 ? 1 : lanes < most ? lanes : most }' /proc/meminfo)
+
 # The whole gate: every proof from nothing, every test, every edit that must be refused. Ends with the gate's last line.
 test:
-	@rt ci
+	@RT_JOBS=$(LANES) rt ci
 
 # Proves and builds the program, and runs it once on its stored input.
 build:

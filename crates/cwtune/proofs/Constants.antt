@@ -1,5 +1,5 @@
 -- Constants and how they are told.
-use Rattle.std.proofs.Common.{◌≡◌, ℕ, ℤ, suc, ◌<◌, ◌⊎◌, inl, inr, List, [], ◌∷◌, map, length, refl, arith}
+use Rattle.std.proofs.Common.{◌≡◌, ℕ, ℤ, ◌<◌, ◌⊎◌, inl, inr, List, [], ◌∷◌, map, length, refl, arith}
 use Rattle.std.specs.Prelude.{codes}
 use Rattle.tune_template.specs.Instances.{constants_of}
 use Rattle.cwtune.specs.Report.{constants_text, constants_or_none}

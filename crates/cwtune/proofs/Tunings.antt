@@ -1,5 +1,5 @@
 -- Tunings that are refused.
-use Rattle.std.proofs.Common.{◌≡◌, ◌⊎◌, ℕ, zero, suc, ◌<◌, ◌≤◌, List, [], ◌∷◌, Some, None, Ok, Err, length, slice_get, inl, inr, refl, sym, ◌∙◌, ap, subst, arith}
+use Rattle.std.proofs.Common.{◌≡◌, ◌⊎◌, ℕ, zero, suc, ◌<◌, ◌≤◌, List, [], ◌∷◌, Some, None, length, slice_get, inr, refl, sym, ◌∙◌, ap, subst, arith}
 use Rattle.rc_instr.specs.Rules.{Limits}
 use Rattle.rc_instr.specs.Warrior.{Program}
 use Rattle.rc_asm.specs.Assembly.{Assembles}

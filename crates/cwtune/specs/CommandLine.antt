@@ -1,7 +1,7 @@
 -- What words ask for (this project's own).
 use Rattle.std.specs.Prelude.{◌≡◌, ℕ, ◌≤◌, List, [], ◌∷◌, codes}
 use Rattle.cwtune.specs.declared.command_line.Request.{Request}
-use Rattle.cwtune.specs.declared.command_line.Request.TheVariants.{Fight, Asm, Tune}
+use Rattle.cwtune.specs.declared.command_line.Request.TheVariants.{Tune}
 
 -- the words that ask for the fight on standard input, as their bytes: none, or `fight` alone
 abbrev pub AskForFight : List (List ℕ) → Type 0

@@ -1,5 +1,5 @@
 -- The outcome of a fight, from the turns that it took and the state that they left.
-use Rattle.std.proofs.Common.{◌≡◌, ℕ, suc, ◌*◌, ◌<◌, ◌≤◌, false, true, sym, ◌∙◌, ap, refl, subst, arith, inl, inr}
+use Rattle.std.proofs.Common.{◌≡◌, ℕ, suc, ◌*◌, ◌<◌, true, sym, ◌∙◌, ap, refl, subst, arith, inl, inr}
 use Rattle.std.specs.Prelude.{◌↔◌}
 use Rattle.mars_core.specs.State.{State, play_of}
 use Rattle.mars_core.specs.Fight.{is_over, turns_of, points_in, outcome_of, IsOutcome}

@@ -1,5 +1,5 @@
 -- Code that is written into a core, one instruction after another.
-use Rattle.std.proofs.Common.{◌≡◌, ℕ, ◌+◌, ◌≤◌, List, length, sym, ◌∙◌}
+use Rattle.std.proofs.Common.{◌≡◌, ℕ, ◌+◌, ◌≤◌, List, length, ◌∙◌}
 use Rattle.std.proofs.lemmas.List.Edits.{sets, sets-eq}
 use Rattle.rc_instr.specs.declared.instruction.Instruction.{Instruction}
 use Rattle.mars_core.specs.Core.{placed_at}

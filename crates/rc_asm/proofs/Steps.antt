@@ -27,8 +27,8 @@ use Rattle.rc_asm.specs.Shape.{Shape, shape_of}
 use Rattle.rc_text.specs.Symbols.{name_of}
 use Rattle.rc_asm.specs.Names.{Names, Labels, behind, labels_from, value_at}
 use Rattle.rc_asm.specs.Instructions.{instruction_at, shaped}
-use Rattle.rc_asm.specs.Assembly.{next_instruction, line_holds, is_true, starts_after, instructions_from, holds_from, starts_from, no_starts}
-use Rattle.rc_asm.specs.Faults.{at_line, form_fault, forms_fault, assertion_fault, end_fault, value_fault, values_fault, lines_fault}
+use Rattle.rc_asm.specs.Assembly.{next_instruction, line_holds, starts_after, instructions_from, holds_from, starts_from, no_starts}
+use Rattle.rc_asm.specs.Faults.{at_line, form_fault, forms_fault, value_fault, values_fault, lines_fault}
 use Rattle.rc_asm.specs.Steps.{code_after, IsRead, fault_at, IsRefused, AreRead, Progress, Agree}
 
 some_is : {A : Type 0} (x y : A) → Some x ≡ Some y → x ≡ y

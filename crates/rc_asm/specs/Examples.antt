@@ -1,5 +1,5 @@
 -- The definitions at concrete texts, computed.
-use Rattle.std.specs.Prelude.{◌≡◌, refl, ℕ, ℤ, pos, Bool, true, List, [], ◌∷◌, ◌++◌, codes, Option, Some, None, option_map, option_and_then}
+use Rattle.std.specs.Prelude.{◌≡◌, refl, ℕ, ℤ, pos, Bool, true, List, [], ◌∷◌, ◌++◌, codes, Option, Some, option_map, option_and_then}
 use Rattle.rc_text.specs.Reading.{before_operand, after_operand}
 use Rattle.rc_instr.specs.Rules.{Limits, limits}
 use Rattle.rc_instr.specs.DefaultModifier.{default_modifier_of}

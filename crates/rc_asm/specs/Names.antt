@@ -9,7 +9,7 @@ use Rattle.rc_instr.specs.Rules.{Limits}
 use Rattle.rc_expand.specs.declared.line.LineWord.{LineWord}
 use Rattle.rc_expand.specs.declared.line.LineWord.TheVariants.{Code}
 use Rattle.rc_expand.specs.declared.line.Line.{Line}
-use Rattle.rc_expand.specs.Names.{Table, found, or_else, given_names, CURLINE}
+use Rattle.rc_expand.specs.Names.{Table, or_else, given_names, CURLINE}
 
 -- labels with their addresses
 abbrev pub Labels : Type 0

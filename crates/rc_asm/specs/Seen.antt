@@ -1,5 +1,5 @@
 -- What contracts see of the parts of a line. Contracts of private functions speak of this.
-use Rattle.std.specs.Prelude.{Result, Ok, Err, Some, None, ℕ, List, Option, option_map, IfSome, All}
+use Rattle.std.specs.Prelude.{ℕ, List, option_map, IfSome, All}
 use Rattle.rc_text.specs.Symbols.{LiesIn}
 use Rattle.rc_expand.specs.Names.{table_of, found}
 use Rattle.rc_asm.specs.declared.shape.Sides.{Sides as Borrowed}

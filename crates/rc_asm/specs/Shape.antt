@@ -1,6 +1,6 @@
 -- The form of a line of code: an opcode word, perhaps a dot and a modifier, and operands parted by commas (1994 draft; which operands may be left
 -- out, and what is refused how, is this project's own).
-use Rattle.std.specs.Prelude.{ℕ, List, [], ◌∷◌, Option, Some, None, if◌then◌else◌, Result, Ok, Err}
+use Rattle.std.specs.Prelude.{ℕ, List, [], ◌∷◌, Option, Some, None, if◌then◌else◌, Result, Err}
 use Rattle.std.specs.Option.{ok_or}
 use Rattle.rc_text.specs.declared.token.Token.{Token}
 use Rattle.rc_expand.specs.Lines.{is_dot}

@@ -1,6 +1,5 @@
 -- One line at a time. Contracts of private functions speak of this; what has to hold is said in Assembly and Faults.
-use Rattle.std.specs.Prelude.{◌≡◌, ◌⊎◌, ◌<◌, ◌≤◌, ℕ, pos, Bool, true, false, ◌&&◌, List, [], ◌∷◌, ◌++◌, length, Option, Some, None, option_map, All, Result, Ok, Err}
-use Rattle.rc_text.specs.declared.token.Token.{Token}
+use Rattle.std.specs.Prelude.{◌≡◌, ◌<◌, ◌≤◌, ℕ, pos, true, List, [], ◌∷◌, ◌++◌, length, Option, Some, None, option_map, All, Result, Ok, Err}
 use Rattle.rc_instr.specs.declared.instruction.Instruction.{Instruction}
 use Rattle.rc_instr.specs.Warrior.{IsBelow, Program}
 use Rattle.rc_instr.specs.Rules.{Limits}

@@ -23,3 +23,4 @@ pub mod Settled
 pub mod FaultSteps
 pub mod TextFaults
 pub mod HeadFaults
+pub mod NestingSteps

@@ -8,6 +8,7 @@ pub mod Unroll
 pub mod Heads
 pub mod Expansion
 pub mod Faults
+pub mod Nesting
 pub mod Steps
 pub mod Setting
 pub mod NameTables

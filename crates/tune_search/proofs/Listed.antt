@@ -1,5 +1,5 @@
 -- The fights that the rows of a search list are all fights of its candidates.
-use Rattle.std.proofs.Common.{◌≡◌, ℕ, ◌+◌, ◌*◌, arith, List, [], ◌∷◌, Option, Some, None, length, refl, sym, ◌∙◌, ap, map}
+use Rattle.std.proofs.Common.{◌≡◌, ℕ, ◌+◌, ◌*◌, arith, List, [], ◌∷◌, Option, Some, None, length, sym, ◌∙◌, ap, map}
 use Rattle.std.specs.Prelude.{cond}
 use Rattle.std.specs.List.{range_with_len, sum_by, count_by}
 use Rattle.std.specs.Option.{is_some}

@@ -8,7 +8,7 @@ use Rattle.std.proofs.lemmas.List.Elements.{All-rest}
 use Rattle.std.proofs.Math.Nat.{mul-div_cancel_left, mod-lt, div-lt_iff_lt-mul, mul-le-mul_right}
 use Rattle.std.proofs.lemmas.Nat.{div-add-mod'}
 use Rattle.tune_template.specs.declared.span.Span.{Span}
-use Rattle.tune_template.specs.Spans.{value_at, values_from, values_of}
+use Rattle.tune_template.specs.Spans.{value_at, values_from}
 use Rattle.tune_template.specs.Ranges.{vector_count}
 use Rattle.tune_template.specs.Vectors.{vectors_of, start_vector, start_index}
 use Rattle.tune_template.specs.Steps.{HasValues}

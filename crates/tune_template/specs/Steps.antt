@@ -1,5 +1,5 @@
 -- What contracts of private functions see of the ranges that are being read.
-use Rattle.std.specs.Prelude.{◌≡◌, ◌≤◌, ◌<◌, ◌+◌, ℕ, map, List, length, All, Option, Some, None, Result, Ok, Err}
+use Rattle.std.specs.Prelude.{◌≡◌, ◌≤◌, ◌<◌, ◌+◌, ℕ, map, List, length, All, Option, Some, None, Result, Ok}
 use Rattle.tune_template.specs.declared.range.Reading.{Reading}
 use Rattle.tune_template.specs.declared.span.Span.{Span}
 use Rattle.tune_template.specs.declared.fault.TemplateFault.{TemplateFault}

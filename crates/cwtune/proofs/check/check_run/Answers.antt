@@ -1,6 +1,5 @@
-use Rattle.std.proofs.Common.{◌≡◌, map}
-use Rattle.tune_template.specs.Instances.{InputsView}
-use Rattle.cwtune.specs.TuneRun.{texts, Means}
+use Rattle.std.proofs.Common.{map}
+use Rattle.cwtune.specs.TuneRun.{texts}
 use Rattle.cwtune.proofs.Tunings.{refused_inputs}
 use Rattle.cwtune.proofs.check.check_run.Goals as goal
 

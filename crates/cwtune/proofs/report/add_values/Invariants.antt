@@ -1,4 +1,4 @@
-use Rattle.std.proofs.Common.{◌≡◌, ◌++◌, ℕ, List, map, length}
+use Rattle.std.proofs.Common.{◌≡◌, ◌++◌, map, length}
 use Rattle.tune_template.specs.Instances.{constants_of}
 use Rattle.cwtune.specs.Report.{constants_text}
 use Rattle.cwtune.proofs.report.add_values.Given as goal

@@ -1,17 +1,10 @@
-use Rattle.std.proofs.Common.{rules, ◌≡◌, ◌≢◌, ◌≤◌, ◌<◌, ◌+◌, ℕ, List, [], length, map, take, All, IfOk, IfErr, Some, Err, ◌-◌, ◌*◌, ◌/◌, ◌%◌, Bool, true, false, nat_eq, nat_lt, ◌∷◌, ◌++◌, slice_index_or, slice_set, bit_and, bit_or, w8, w32, w64, Bor, MutBor, subst, sym, ◌∙◌, arith, refl, ap, length-append}
+use Rattle.std.proofs.Common.{◌≡◌, ◌+◌, [], length, map, take, All, Some, ◌∷◌, ◌++◌, subst, sym, arith, refl, ap, length-append}
 use Rattle.std.specs.List.{slice_get}
 use Rattle.std.proofs.lemmas.Option.{slice_get_read}
 use Rattle.std.proofs.lemmas.List.Elements.{All-append}
-use Rattle.rc_instr.specs.Warrior.{Program, Fits}
+use Rattle.rc_instr.specs.Warrior.{Fits}
 use Rattle.rc_asm.specs.Assembly.{Assembles}
-use Rattle.rc_asm.specs.declared.fault.AsmFault.{AsmFault}
-use Rattle.mars_fight.specs.declared.fault.ScheduleFault.{ScheduleFault}
-use Rattle.tune_template.specs.declared.fault.TemplateFault.{TemplateFault}
-use Rattle.mars_fight.specs.Placing.{IsPlaced}
-use Rattle.mars_fight.specs.Schedule.{fights_of}
-use Rattle.tune_template.specs.Ranges.{ranges_of}
-use Rattle.cwtune.specs.TuneRun.{texts, IsTemplate, AreOpponents, Means, IsTemplateRefusal, IsRefusalOf, AreRefused, HasNoFights, IsTuneRefusal}
-use Rattle.cwtune.specs.AsmRun.{IsAsmRefusal}
+use Rattle.cwtune.specs.TuneRun.{AreOpponents, IsRefusalOf}
 use Rattle.cwtune.proofs.Opponents.{opponents_more, opponents_end, all_one}
 use Rattle.cwtune.proofs.tune_inputs.opponents_of.Goals as goal
 

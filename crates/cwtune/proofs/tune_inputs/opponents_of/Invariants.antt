@@ -1,4 +1,4 @@
-use Rattle.std.proofs.Common.{◌≡◌, ◌≤◌, ℕ, List, map, take, length, All}
+use Rattle.std.proofs.Common.{◌≡◌, map, take, length, All}
 use Rattle.rc_instr.specs.Warrior.{Fits}
 use Rattle.cwtune.specs.TuneRun.{AreOpponents}
 use Rattle.cwtune.proofs.tune_inputs.opponents_of.Given as goal

@@ -1,4 +1,4 @@
-use Rattle.std.proofs.Common.{◌≡◌, ℕ, ◌+◌, ◌*◌, ◌≤◌, length}
+use Rattle.std.proofs.Common.{◌≡◌, ◌+◌, ◌*◌, ◌≤◌, length}
 use Rattle.mars_core.specs.Core.{IsCore, AreTasks}
 use Rattle.mars_core.specs.State.{seen_from}
 use Rattle.mars_core.specs.declared.side.Side.{Side}

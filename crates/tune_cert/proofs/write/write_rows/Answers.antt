@@ -1,5 +1,4 @@
-use Rattle.std.proofs.Common.{◌≡◌, ◌∙◌, sym, ap, arith, refl}
-use Rattle.std.proofs.lemmas.Grind.{common_steps}
+use Rattle.std.proofs.Common.{arith}
 use Rattle.tune_cert.proofs.Written.{row_written, all_written}
 use Rattle.tune_cert.proofs.write.write_rows.Goals as goal
 

@@ -1,4 +1,4 @@
-use Rattle.std.proofs.Common.{◌≡◌, ◌<◌, ◌+◌, ◌*◌, ◌/◌, ◌∙◌, sym, ap, refl, arith, length}
+use Rattle.std.proofs.Common.{◌≡◌, ◌<◌, ◌/◌, refl, arith, length}
 use Rattle.tune_template.specs.Ranges.{vector_count}
 use Rattle.tune_template.specs.Vectors.{vectors_of, start_index}
 use Rattle.tune_template.proofs.VectorSteps.{start_next, start_end, start_vector_at, vectors_len}

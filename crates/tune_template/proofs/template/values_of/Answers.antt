@@ -1,7 +1,6 @@
-use Rattle.std.proofs.Common.{rules, FitsSigned, w64, ◌∙◌, sym, ap, refl, length, [], ◌++◌, ◌∷◌}
+use Rattle.std.proofs.Common.{rules, FitsSigned, w64, ◌∙◌, ap, refl, [], ◌++◌, ◌∷◌}
 use Rattle.std.proofs.lemmas.Int.{to_z-of_z}
-use Rattle.tune_template.specs.Spans.{value_at}
-use Rattle.tune_template.proofs.VectorSteps.{value_next, values_end}
+use Rattle.tune_template.proofs.VectorSteps.{value_next}
 use Rattle.tune_template.proofs.template.values_of.Goals as goal
 
 pub loop-span-preserved : goal.loop-span-preserved

@@ -1,4 +1,4 @@
-use Rattle.std.proofs.Common.{◌∙◌, sym, ap}
+use Rattle.std.proofs.Common.{◌∙◌, ap}
 use Rattle.mars_core.specs.declared.side.Side.TheVariants.{Candidate, Opponent}
 use Rattle.mars_core.proofs.Outcomes.{outcome_is, left_is}
 use Rattle.mars_core.proofs.arena.Arena.run.Goals as goal

@@ -1,4 +1,4 @@
-use Rattle.std.proofs.Common.{◌≡◌, ◌<◌, sym, ◌∙◌, ap, arith, length}
+use Rattle.std.proofs.Common.{◌<◌, sym, ◌∙◌, ap, arith, length}
 use Rattle.tune_template.specs.Ranges.{vector_count}
 use Rattle.tune_template.specs.Vectors.{vectors_of}
 use Rattle.tune_template.proofs.VectorSteps.{vectors_len, some_vector}
