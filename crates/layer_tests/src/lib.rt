@@ -15,6 +15,8 @@ mod instructions;
 #[cfg(test)]
 mod machine;
 #[cfg(test)]
+mod opponents;
+#[cfg(test)]
 mod searches;
 #[cfg(test)]
 mod templates;

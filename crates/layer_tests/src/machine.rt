@@ -3,13 +3,10 @@ ghost use Rattle.std.specs.Prelude.{◌≡◌, ◌≤◌, ◌<◌, ◌+◌};
 ghost use Rattle.rc_instr.specs.Warrior.{Fits};
 ghost use Rattle.mars_core.specs.Arena.{blank_arena};
 
+use crate::opponents::{DAT, IMP};
 use mars_core::{Arena, Outcome, PlainCells, Side};
 use rc_instr::{Instruction, Rules, Warrior, read_loadfile};
 use std::test::Fail;
-
-const IMP: &[u8] = b"ORG 0\nMOV.I $0, $1\n";
-
-const DAT: &[u8] = b"ORG 0\nDAT.F $0, $0\n";
 
 /// The first instruction of a load file.
 fn instruction(rt: &HostRuntime, core: u32, text: &[u8]) -> Result<Instruction, Fail> {

@@ -1,9 +1,7 @@
 //! The tests of `tune_search`: searches over small templates, worked out by hand: a core of 16 cells, for 20 cycles, 4 tasks, 4 instructions, a distance of 4.
-ghost use Rattle.std.specs.Prelude.{◌≡◌, IfOk, length, All};
-ghost use Rattle.rc_instr.specs.Warrior.{Fits};
-
+use crate::opponents::{BOTH, two_opponents};
 use mars_fight::Schedule;
-use rc_instr::{LoadFault, Rules, Warrior, read_loadfile};
+use rc_instr::Rules;
 use std::alloc::{AllocError, Global};
 use std::test::Fail;
 use tune_cert::{Found, Row};
@@ -11,30 +9,8 @@ use tune_search::fault::SearchFault;
 use tune_search::tuning::search;
 use tune_template::{Inputs, Template};
 
-/// The load file of the opponent that dies at once.
-const DAT: &[u8] = b"ORG 0\nDAT.F $0, $0\n";
-
-/// The load file of the opponent that moves on for ever.
-const IMP: &[u8] = b"ORG 0\nMOV.I $0, $1\n";
-
-/// One fight against each of two opponents, which stand at address 8.
-const BOTH: &[u8] = b"opponent,position,first\n0,8,c\n1,8,c\n";
-
 /// Two fights against the first opponent.
 const TWICE: &[u8] = b"opponent,position,first\n0,8,c\n0,8,c\n";
-
-/// The opponents Dat and Imp.
-fn two_opponents(alloc: Global, rules: &Rules) -> Result<Vec<Warrior>, Fail>
-    ensures few { IfOk result (λ o. length o.items ≡ 2) }
-    ensures fit { IfOk result (λ o. All (Fits rules.now) o.items) }
-{
-    let dat = read_loadfile(alloc, DAT, rules)?;
-    let imp = read_loadfile(alloc, IMP, rules)?;
-    let mut opponents = Vec::new(alloc);
-    opponents.push(dat)?;
-    opponents.push(imp)?;
-    Ok(opponents)
-}
 
 /// What a search found, as text: the best vector, its total, how many candidates and fights, and the rows.
 fn text_of(alloc: Global, found: &Found) -> Result<String, AllocError> {

@@ -1,24 +1,13 @@
 //! Verdicts on certificates, worked out by hand: a core of 16 cells, for 20 cycles, 4 tasks, 4 instructions, a distance of 4, and one fight
 //! against each of two opponents, which stand at address 8.
-ghost use Rattle.std.specs.Prelude.{◌≡◌, IfOk, length, All};
-ghost use Rattle.rc_instr.specs.Warrior.{Fits};
-
+use crate::opponents::{BOTH, two_opponents};
 use mars_fight::Schedule;
-use rc_instr::{Rules, Warrior, read_loadfile};
+use rc_instr::Rules;
 use std::alloc::Global;
 use std::test::Fail;
 use tune_cert::checker::check;
 use tune_cert::verdict::{Reason, Verdict};
 use tune_template::{Inputs, Template};
-
-/// The load file of the opponent that dies at once.
-const DAT: &[u8] = b"ORG 0\nDAT.F $0, $0\n";
-
-/// The load file of the opponent that moves on for ever.
-const IMP: &[u8] = b"ORG 0\nMOV.I $0, $1\n";
-
-/// One fight against each opponent.
-const BOTH: &[u8] = b"opponent,position,first\n0,8,c\n1,8,c\n";
 
 /// Four vectors with one warrior, which moves on for ever: it wins against the first opponent, and ties with the second.
 const FOUR: &[u8] = b";@tune K 0 3 1 2\nMOV 0, 1";
@@ -161,19 +150,6 @@ const VERDICTS: [(&[u8], &[u8], Verdict); 18] = [
         },
     ),
 ];
-
-/// The opponents Dat and Imp.
-fn two_opponents(alloc: Global, rules: &Rules) -> Result<Vec<Warrior>, Fail>
-    ensures few { IfOk result (λ o. length o.items ≡ 2) }
-    ensures fit { IfOk result (λ o. All (Fits rules.now) o.items) }
-{
-    let dat = read_loadfile(alloc, DAT, rules)?;
-    let imp = read_loadfile(alloc, IMP, rules)?;
-    let mut opponents = Vec::new(alloc);
-    opponents.push(dat)?;
-    opponents.push(imp)?;
-    Ok(opponents)
-}
 
 /// The verdict on a certificate for a template.
 fn verdict(alloc: Global, template: &[u8], cert: &[u8]) -> Result<Verdict, Fail> {
