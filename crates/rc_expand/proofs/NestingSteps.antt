@@ -1,5 +1,5 @@
 -- The fault of how blocks nest, line by line, is what the trees of the blocks say.
-use Rattle.std.proofs.Common.{◌≡◌, ℕ, zero, suc, true, false, List, [], ◌∷◌, ◌++◌, Option, refl, sym, subst, ◌∙◌, ap, arith, append_assoc, inl, inr, ◌+◌, nat_lt}
+use Rattle.std.proofs.Common.{◌≡◌, ℕ, zero, suc, true, false, List, [], ◌∷◌, ◌++◌, Option, Some, None, refl, sym, subst, ◌∙◌, ap, arith, append_assoc, inl, inr, ◌+◌, nat_lt}
 use Rattle.std.specs.Prelude.{◌==◌}
 use Rattle.std.proofs.lemmas.List.{append-nil}
 use Rattle.std.proofs.lemmas.Bool.Decides.{nat_tests}
@@ -7,7 +7,8 @@ use Rattle.rc_expand.specs.declared.head.Head.{Head}
 use Rattle.rc_expand.specs.declared.head.HeadWord.{HeadWord}
 use Rattle.rc_expand.specs.declared.head.HeadWord.TheVariants as word
 use Rattle.rc_expand.specs.declared.fault.ExpandFault.{ExpandFault}
-use Rattle.rc_expand.specs.Faults.{nesting_by, nesting_fault}
+use Rattle.rc_expand.specs.declared.fault.ExpandKind.TheVariants.{ForTooDeep}
+use Rattle.rc_expand.specs.Faults.{at_line, nesting_by, nesting_fault}
 use Rattle.rc_expand.specs.Nesting.{Closed, NoLine, OneMore, Block, closed_lines, opens_or_closes, IsClosed, Opened, Outside, Within, opened_lines, IsOpened, outermost_or, AreNested}
 
 -- how many blocks are open
@@ -160,6 +161,91 @@ told : (hs : List Head) → Told hs
 told [] o n i = at_end o n i
 told (h ∷ hs) o n i = step h hs (told hs) h.word refl o n i
 
+-- a line that is neither FOR nor ROF is passed over
+passed : (w : HeadWord) (line n outermost : ℕ) (next : ℕ → ℕ → Option ExpandFault) → opens_or_closes w ≡ false → nesting_by w line n outermost next ≡ next n outermost
+passed word.For line n outermost next e = absurd (cc)
+passed word.Rof line n outermost next e = absurd (cc)
+passed word.Bare line n outermost next e = refl
+passed word.Code line n outermost next e = refl
+passed word.Org line n outermost next e = refl
+passed word.End line n outermost next e = refl
+passed word.Assert line n outermost next e = refl
+passed word.Equ line n outermost next e = refl
+
+-- a line whose word is known
+known : (h : Head) (w : HeadWord) (n outermost : ℕ) (hs : List Head) → h.word ≡ w
+    → nesting_fault n outermost (h ∷ hs) ≡ nesting_by w h.number n outermost (λ m line. nesting_fault m line hs)
+known h w n outermost hs e = ap (λ v. nesting_by v h.number n outermost (λ m line. nesting_fault m line hs)) e
+
+-- a FOR within open blocks, where there is room
+entered : (f : Head) (k line : ℕ) (hs : List Head) → f.word ≡ word.For → nat_lt (suc k) 8 ≡ true → nesting_fault (suc k) line (f ∷ hs) ≡ nesting_fault (suc (suc k)) line hs
+entered f k line hs w room = known f word.For (suc k) line hs w ∙ rw room refl
+
+-- closed lines are passed over
+skipped : (c : Closed) (n k line : ℕ) (rest : List Head) → IsClosed n c → k + n ≡ 8 → nesting_fault k line (closed_lines c ++ rest) ≡ nesting_fault k line rest
+skipped NoLine n k line rest i e = refl
+skipped (OneMore c h) n k line rest i e =
+    ap (nesting_fault k line) (append_assoc (closed_lines c) (h ∷ []) rest)
+    ∙ (skipped c n k line (h ∷ rest) i.0 e ∙ passed h.word h.number k line (λ m l. nesting_fault m l rest) i.1)
+skipped (Block c f inside r) zero k line rest i e = absurd i
+skipped (Block c f inside r) (suc n) zero line rest i e =
+    ap (nesting_fault 0 line) (append_assoc (closed_lines c) (f ∷ (closed_lines inside ++ (r ∷ []))) rest ∙ ap (λ t. closed_lines c ++ (f ∷ t)) (append_assoc (closed_lines inside) (r ∷ []) rest))
+    ∙ (skipped c (suc n) 0 line (f ∷ (closed_lines inside ++ (r ∷ rest))) i.0 e
+    ∙ (known f word.For 0 line (closed_lines inside ++ (r ∷ rest)) i.1
+    ∙ (skipped inside n 1 f.number (r ∷ rest) i.2 (omega arith)
+    ∙ (known r word.Rof 1 f.number rest i.3 ∙ any_outermost rest f.number line))))
+skipped (Block c f inside r) (suc n) (suc k) line rest i e =
+    let room : nat_lt (suc k) 8 ≡ true = grind (arith, nat_tests) in
+    ap (nesting_fault (suc k) line) (append_assoc (closed_lines c) (f ∷ (closed_lines inside ++ (r ∷ []))) rest ∙ ap (λ t. closed_lines c ++ (f ∷ t)) (append_assoc (closed_lines inside) (r ∷ []) rest))
+    ∙ (skipped c (suc n) (suc k) line (f ∷ (closed_lines inside ++ (r ∷ rest))) i.0 e
+    ∙ (entered f k line (closed_lines inside ++ (r ∷ rest)) i.1 room
+    ∙ (skipped inside n (suc (suc k)) line (r ∷ rest) i.2 (omega arith) ∙ known r word.Rof (suc (suc k)) line rest i.3)))
+
+-- lines of which blocks are open lead to where they are
+opened_to : (o : Opened) (n : ℕ) (rest : List Head) → IsOpened n o → nesting_fault 0 0 (opened_lines o ++ rest) ≡ nesting_fault (open_count o) (outermost_or o 0) rest
+opened_to (Outside c) n rest i = let e : n ≡ 8 = i.0 in skipped c n 0 0 rest i.1 (omega arith)
+opened_to (Within (Outside b) f c) n rest i =
+    let e : open_count (Within (Outside b) f c) + n ≡ 8 = counted (Within (Outside b) f c) n i in
+    ap (nesting_fault 0 0) (append_assoc (closed_lines b) (f ∷ closed_lines c) rest)
+    ∙ (opened_to (Outside b) (suc n) (f ∷ (closed_lines c ++ rest)) i.0
+    ∙ (known f word.For 0 0 (closed_lines c ++ rest) i.1 ∙ skipped c n 1 f.number rest i.2 (omega (arith, e))))
+opened_to (Within (Within o g b) f c) n rest i =
+    let e : open_count (Within (Within o g b) f c) + n ≡ 8 = counted (Within (Within o g b) f c) n i in
+    let room : nat_lt (suc (open_count o)) 8 ≡ true = grind (arith, nat_tests) in
+    ap (nesting_fault 0 0) (append_assoc (opened_lines (Within o g b)) (f ∷ closed_lines c) rest)
+    ∙ (opened_to (Within o g b) (suc n) (f ∷ (closed_lines c ++ rest)) i.0
+    ∙ (entered f (open_count o) (outermost_or o g.number) (closed_lines c ++ rest) i.1 room
+    ∙ skipped c n (suc (suc (open_count o))) (outermost_or o g.number) rest i.2 (omega (arith, e))))
+
+of_ninth : (o : Opened) (h : Head) (rest : List Head) → IsOpened 0 o → h.word ≡ word.For
+    → nesting_fault (open_count o) (outermost_or o 0) (h ∷ rest) ≡ Some (at_line h.number ForTooDeep)
+of_ninth (Outside c) h rest i w = let e : 0 ≡ 8 = i.0 in absurd (omega (arith, e))
+of_ninth (Within o f c) h rest i w =
+    let e : open_count (Within o f c) + 0 ≡ 8 = counted (Within o f c) 0 i in
+    let full : nat_lt (suc (open_count o)) 8 ≡ false = grind (arith, nat_tests) in
+    known h word.For (suc (open_count o)) (outermost_or o f.number) rest w ∙ rw full refl
+
+-- what the trees say is the fault that is found
+pub found : (hs : List Head) (x : Option ExpandFault) → AreNested hs x → nesting_fault 0 0 hs ≡ x
+found hs None a =
+    ap (nesting_fault 0 0) (a.2 ∙ sym (append-nil (closed_lines a.0))) ∙ skipped a.0 8 0 0 [] a.1 refl
+found hs (Some f) (inl r) =
+    ap (nesting_fault 0 0) r.lines
+    ∙ (skipped r.before 8 0 0 (r.rof ∷ r.after) r.nests refl
+    ∙ (known r.rof word.Rof 0 0 r.after r.is_rof ∙ ap (λ g. Some g) (sym r.fault)))
+found hs (Some f) (inr (inl r)) =
+    ap (nesting_fault 0 0) r.lines
+    ∙ (opened_to r.before 0 (r.ninth ∷ r.after) r.nests
+    ∙ (of_ninth r.before r.ninth r.after r.nests r.is_for ∙ ap (λ g. Some g) (sym r.fault)))
+found hs (Some f) (inr (inr r)) =
+    let open_still : (suc (open_count r.outer) == 0) ≡ false = grind (arith, nat_tests) in
+    ap (nesting_fault 0 0) (r.lines ∙ sym (append-nil (opened_lines (Within r.outer r.opens r.inside))))
+    ∙ (opened_to (Within r.outer r.opens r.inside) r.room [] r.nests
+    ∙ (rw open_still refl ∙ ap (λ g. Some g) (sym r.fault)))
+
 -- lines without a fault are closed blocks, and a fault is what its kind says
-pub nested_or_faulty : (hs : List Head) → AreNested hs (nesting_fault 0 0 hs)
+nested_or_faulty : (hs : List Head) → AreNested hs (nesting_fault 0 0 hs)
 nested_or_faulty hs = told hs (Outside NoLine) 8 (refl, tt)
+
+pub said : (hs : List Head) (x : Option ExpandFault) → nesting_fault 0 0 hs ≡ x → AreNested hs x
+said hs x e = subst (AreNested hs) e (nested_or_faulty hs)

@@ -1,5 +1,5 @@
 //! Laws of the definitions.
-ghost use Rattle.std.specs.Prelude.{◌≡◌, List, ℕ, Some};
+ghost use Rattle.std.specs.Prelude.{◌≡◌, ◌↔◌, List, ℕ, Option, Some};
 ghost use Rattle.rc_instr.specs.Rules.{Limits};
 ghost use Rattle.rc_expand.specs.declared.line.Line.{Line};
 ghost use Rattle.rc_expand.specs.declared.fault.ExpandFault.{ExpandFault};
@@ -22,9 +22,9 @@ pub fn one_fault_before_unrolling()
     ensures none { (source : List ℕ) (constants : Table) (rules : Limits) (r : Heads) (f : ExpandFault) → heads_of source constants rules ≡ Some r → IsHeadFault source constants rules f → ⊥ }
 {}
 
-/// Lines without a fault of how blocks nest are closed blocks, of which at most 8 stand in one another. A fault is at a ROF behind closed blocks, at a
-/// FOR in 8 open ones, or at the outermost FOR of those that are open at the end.
-#[tactic(auto, using(crate::proofs::NestingSteps::nested_or_faulty))]
+/// Lines have no fault of how blocks nest exactly where they are closed blocks, of which at most 8 stand in one another; and this fault exactly where it is
+/// at a ROF behind closed blocks, at a FOR in 8 open ones, or at the outermost FOR of those that are open at the end.
+#[tactic(auto, using(crate::proofs::NestingSteps::said, crate::proofs::NestingSteps::found))]
 pub fn blocks_are_closed_or_have_a_fault()
-    ensures { (hs : List Head) → AreNested hs (nesting_fault 0 0 hs) }
+    ensures { (hs : List Head) (fault : Option ExpandFault) → nesting_fault 0 0 hs ≡ fault ↔ AreNested hs fault }
 {}
