@@ -1,5 +1,5 @@
 pub mod Parting
-pub mod Limits
+pub mod ReadLimits
 pub mod Refusals
 pub mod Words
 pub mod Opponents

@@ -2,8 +2,8 @@
 use Rattle.std.proofs.Common.{◌≡◌, ℕ, zero, suc, ◌+◌, List, [], ◌∷◌, ◌++◌, take, slice_get, Some, length, map, subst, sym, ap, ◌∙◌, arith, All}
 use Rattle.std.proofs.lemmas.List.{length-map}
 use Rattle.std.proofs.Math.Seq.{take-length}
-use Rattle.rc_instr.specs.Rules.{Limits}
-use Rattle.rc_instr.specs.Warrior.{Program}
+use Rattle.rc_instr.specs.Rules.{RulesView}
+use Rattle.rc_instr.specs.Warrior.{WarriorView}
 use Rattle.rc_asm.specs.Assembly.{Assembles}
 use Rattle.cwtune.specs.TuneRun.{AreOpponents, IsRefusalOf, AreRefused}
 use Rattle.cwtune.specs.declared.fault.RunFault.{RunFault}
@@ -14,7 +14,7 @@ mapped f [] i x at = absurd (cc)
 mapped f (y ∷ xs) zero x at = let e : y ≡ x = cc in ap (λ z. Some (f z)) e
 mapped f (y ∷ xs) (suc i) x at = mapped f xs i x at
 
-behind : (rules : Limits) (i : ℕ) (texts : List (List ℕ)) (text : List ℕ) (ws : List Program) (w : Program)
+behind : (rules : RulesView) (i : ℕ) (texts : List (List ℕ)) (text : List ℕ) (ws : List WarriorView) (w : WarriorView)
     → AreOpponents rules (take i texts) ws → slice_get texts i ≡ Some text → Assembles text [] rules w
     → AreOpponents rules (take (suc i) texts) (ws ++ w ∷ [])
 behind rules zero [] text ws w are at a = absurd (cc)
@@ -25,7 +25,7 @@ behind rules (suc i) (x ∷ xs) text [] w are at a = absurd are
 behind rules (suc i) (x ∷ xs) text (v ∷ ws) w are at a = (are.0, behind rules i xs text ws w are.1 at a)
 
 -- the warrior of the next text is behind those of the texts before it
-pub opponents_more : {A : Type 0} (f : A → List ℕ) (rules : Limits) (i : ℕ) (sources : List A) (source : A) (ws : List Program) (w : Program)
+pub opponents_more : {A : Type 0} (f : A → List ℕ) (rules : RulesView) (i : ℕ) (sources : List A) (source : A) (ws : List WarriorView) (w : WarriorView)
     → AreOpponents rules (take i (map f sources)) ws → slice_get sources i ≡ Some source → Assembles (f source) [] rules w
     → AreOpponents rules (take (i + 1) (map f sources)) (ws ++ w ∷ [])
 opponents_more f rules i sources source ws w are at a =
@@ -34,7 +34,7 @@ opponents_more f rules i sources source ws w are at a =
     (behind rules i (map f sources) (f source) ws w are (mapped f sources i source at) a)
 
 -- the texts before one assemble, and it does not
-pub opponents_end : {A : Type 0} (f : A → List ℕ) (e : RunFault) (rules : Limits) (i : ℕ) (sources : List A) (source : A) (ws : List Program)
+pub opponents_end : {A : Type 0} (f : A → List ℕ) (e : RunFault) (rules : RulesView) (i : ℕ) (sources : List A) (source : A) (ws : List WarriorView)
     → AreOpponents rules (take i (map f sources)) ws → slice_get sources i ≡ Some source → IsRefusalOf i e rules (f source)
     → AreRefused e rules (map f sources)
 opponents_end f (FightText line) rules i sources source ws are at r = absurd r
@@ -57,7 +57,7 @@ opponents_end f Write rules i sources source ws are at r = absurd r
 opponents_end f OutOfMemory rules i sources source ws are at r = tt
 
 -- all texts assemble
-pub opponents_whole : {A : Type 0} (f : A → List ℕ) (rules : Limits) (sources : List A) (ws : List Program) (i : ℕ)
+pub opponents_whole : {A : Type 0} (f : A → List ℕ) (rules : RulesView) (sources : List A) (ws : List WarriorView) (i : ℕ)
     → AreOpponents rules (take i (map f sources)) ws → i ≡ length sources → AreOpponents rules (map f sources) ws
 opponents_whole f rules sources ws i are e =
     subst (λ x. AreOpponents rules x ws) (ap (λ n. take n (map f sources)) (e ∙ sym (length-map sources f)) ∙ take-length (map f sources)) are

@@ -2,7 +2,7 @@
 use Rattle.std.proofs.Common.{◌≡◌, ℕ, Bool, true, false, List, [], ◌∷◌, ◌++◌, refl, sym, ◌∙◌, ap, append_assoc, append-nil}
 use Rattle.std.specs.Prelude.{Option, Some, None, ◌==◌, if◌then◌else◌, codes}
 use Rattle.std.specs.Option.{option_map}
-use Rattle.cwtune.specs.FightText.{behind, parted, parted_or}
+use Rattle.cwtune.specs.FightText.{after_word, parted, parted_or}
 
 -- the parts of what stands behind the front, with the front before the first
 abbrev pub joined : List ℕ → Option (List ℕ × List ℕ) → Option (List ℕ × List ℕ)
@@ -20,18 +20,18 @@ unmarked : (begins : Bool) (here : Option (List ℕ)) (later : Option (List ℕ 
 unmarked true here later h = ap (λ x. parted_or x later) (h refl)
 unmarked false here later h = refl
 
-pub goes_on : (begins : Bool) (front bytes rest : List ℕ) (c : ℕ) → bytes ≡ c ∷ rest → (begins ≡ true → behind (codes "opponent\n") bytes ≡ None) →
+pub goes_on : (begins : Bool) (front bytes rest : List ℕ) (c : ℕ) → bytes ≡ c ∷ rest → (begins ≡ true → after_word (codes "opponent\n") bytes ≡ None) →
     joined front (parted begins bytes) ≡ joined (front ++ c ∷ []) (parted (c == 10) rest)
 goes_on begins front bytes rest c e h =
     ap (λ x. joined front (parted begins x)) e
-    ∙ ap (joined front) (unmarked begins (behind (codes "opponent\n") (c ∷ rest)) (option_map (λ p. (c ∷ p.0, p.1)) (parted (c == 10) rest))
-    (λ t. ap (behind (codes "opponent\n")) (sym e) ∙ h t))
+    ∙ ap (joined front) (unmarked begins (after_word (codes "opponent\n") (c ∷ rest)) (option_map (λ p. (c ∷ p.0, p.1)) (parted (c == 10) rest))
+    (λ t. ap (after_word (codes "opponent\n")) (sym e) ∙ h t))
     ∙ joined_more front c (parted (c == 10) rest)
 
 -- one does
-pub ends_here : (front bytes rest more : List ℕ) (c : ℕ) → bytes ≡ c ∷ more → behind (codes "opponent\n") bytes ≡ Some rest →
+pub ends_here : (front bytes rest more : List ℕ) (c : ℕ) → bytes ≡ c ∷ more → after_word (codes "opponent\n") bytes ≡ Some rest →
     joined front (parted true bytes) ≡ Some (front, rest)
 ends_here front bytes rest more c e h =
     ap (λ x. joined front (parted true x)) e
-    ∙ ap (λ x. joined front (parted_or x (option_map (λ p. (c ∷ p.0, p.1)) (parted (c == 10) more)))) (ap (behind (codes "opponent\n")) (sym e) ∙ h)
+    ∙ ap (λ x. joined front (parted_or x (option_map (λ p. (c ∷ p.0, p.1)) (parted (c == 10) more)))) (ap (after_word (codes "opponent\n")) (sym e) ∙ h)
     ∙ ap (λ x. Some (x, rest)) (append-nil front)

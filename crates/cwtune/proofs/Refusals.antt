@@ -1,14 +1,14 @@
 -- Texts that are refused.
 use Rattle.std.proofs.Common.{◌≡◌, ◌⊎◌, ℕ, List, [], inr, refl}
-use Rattle.rc_instr.specs.Rules.{Limits}
-use Rattle.rc_instr.specs.Warrior.{Program}
+use Rattle.rc_instr.specs.Rules.{RulesView}
+use Rattle.rc_instr.specs.Warrior.{WarriorView}
 use Rattle.rc_asm.specs.Assembly.{Assembles}
 use Rattle.cwtune.specs.AsmRun.{IsAsmRefusal}
 use Rattle.cwtune.specs.declared.fault.RunFault.{RunFault}
 use Rattle.cwtune.specs.declared.fault.RunFault.TheVariants.{FightText, Rules, Load, Position, Asm, TooManyOpponents, Template, Opponent, Schedule, NoCandidate, Write, OutOfMemory}
 
 -- a text that assembles is refused for want of memory alone
-pub only_memory : (e : RunFault) (source : List ℕ) (rules : Limits) (w : Program) → IsAsmRefusal e source rules → Assembles source [] rules w →
+pub only_memory : (e : RunFault) (source : List ℕ) (rules : RulesView) (w : WarriorView) → IsAsmRefusal e source rules → Assembles source [] rules w →
     (e ≡ Write) ⊎ (e ≡ OutOfMemory)
 only_memory (FightText line) source rules w r a = absurd r
 only_memory (Rules e) source rules w r a = absurd r

@@ -1,7 +1,7 @@
 -- Tunings that are refused.
 use Rattle.std.proofs.Common.{◌≡◌, ◌⊎◌, ℕ, zero, suc, ◌<◌, ◌≤◌, List, [], ◌∷◌, Some, None, length, slice_get, inr, refl, sym, ◌∙◌, ap, subst, arith}
-use Rattle.rc_instr.specs.Rules.{Limits}
-use Rattle.rc_instr.specs.Warrior.{Program}
+use Rattle.rc_instr.specs.Rules.{RulesView}
+use Rattle.rc_instr.specs.Warrior.{WarriorView}
 use Rattle.rc_asm.specs.Assembly.{Assembles}
 use Rattle.tune_template.specs.Vectors.{vectors_of}
 use Rattle.tune_template.specs.Instances.{TemplateView, InputsView, instance_of}
@@ -40,7 +40,7 @@ opponents_refused NoCandidate t view few is r = absurd r
 opponents_refused Write t view few is r = absurd r
 opponents_refused OutOfMemory t view few is r = tt
 
-pub schedule_refused : (e : RunFault) (t : Texts) (view : TemplateView) (opponents : List Program) → length t.opponents ≤ 64 → IsTemplate t.template view
+pub schedule_refused : (e : RunFault) (t : Texts) (view : TemplateView) (opponents : List WarriorView) → length t.opponents ≤ 64 → IsTemplate t.template view
     → AreOpponents t.rules t.opponents opponents → HasNoFights e t.rules (length t.opponents) t.schedule → IsTuneRefusal e t
 schedule_refused (FightText line) t view opponents few is are r = absurd r
 schedule_refused (Rules error) t view opponents few is are r = absurd r
@@ -56,8 +56,8 @@ schedule_refused Write t view opponents few is are r = absurd r
 schedule_refused OutOfMemory t view opponents few is are r = tt
 
 -- each of the texts assembles
-opponent_assembles : (rules : Limits) (texts : List (List ℕ)) (ws : List Program) (k : ℕ) (text : List ℕ) → AreOpponents rules texts ws
-    → slice_get texts k ≡ Some text → (w : Program) × Assembles text [] rules w
+opponent_assembles : (rules : RulesView) (texts : List (List ℕ)) (ws : List WarriorView) (k : ℕ) (text : List ℕ) → AreOpponents rules texts ws
+    → slice_get texts k ≡ Some text → (w : WarriorView) × Assembles text [] rules w
 opponent_assembles rules [] ws k text are at = absurd (cc)
 opponent_assembles rules (x ∷ xs) [] k text are at = absurd are
 opponent_assembles rules (x ∷ xs) (w ∷ ws) zero text are at = let e : x ≡ text = cc in (w, subst (λ y. Assembles y [] rules w) e are.0)

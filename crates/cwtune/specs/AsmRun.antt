@@ -1,26 +1,25 @@
--- What a run that assembles a text answers (this project's own).
+-- What the run of an assembly writes, and why it refuses.
 use Rattle.std.specs.Prelude.{◌≢◌, ℕ, List, [], Option}
 use Rattle.std.specs.Io.KnownBytes.{Appends}
-use Rattle.rc_instr.specs.Rules.{Limits}
-use Rattle.rc_instr.specs.Warrior.{Program}
+use Rattle.rc_instr.specs.Rules.{RulesView}
+use Rattle.rc_instr.specs.Warrior.{WarriorView}
 use Rattle.rc_instr.specs.LoadText.{load_text}
 use Rattle.rc_asm.specs.Assembly.{Assembles}
-use Rattle.rc_asm.specs.Faults.{IsFault}
+use Rattle.rc_asm.specs.Faults.{IsAsmFault}
 use Rattle.rc_asm.specs.declared.fault.AsmKind.TheVariants.{OutOfMemory as MemoryKind}
 use Rattle.cwtune.specs.declared.fault.RunFault.{RunFault}
 use Rattle.cwtune.specs.declared.fault.RunFault.TheVariants.{Asm, OutOfMemory}
 
--- the text assembles to no warrior
-abbrev pub HasNoWarrior : List ℕ → Limits → Type 0
-HasNoWarrior source rules = (w : Program) → Assembles source [] rules w → ⊥
+abbrev pub HasNoWarrior : List ℕ → RulesView → Type 0
+HasNoWarrior source rules = (w : WarriorView) → Assembles source [] rules w → ⊥
 
--- Why a text is refused: it assembles to no warrior, and the fault is the one that comes first. Want of memory is no reason, and says
+-- A text is refused if it does not assemble, with the fault that comes first. Out of memory says
 -- nothing of the text.
-abbrev pub IsAsmRefusal : RunFault → List ℕ → Limits → Type 0
-IsAsmRefusal (Asm fault) source rules = (fault.kind ≢ MemoryKind) × HasNoWarrior source rules × IsFault source [] rules fault
+abbrev pub IsAsmRefusal : RunFault → List ℕ → RulesView → Type 0
+IsAsmRefusal (Asm fault) source rules = (fault.kind ≢ MemoryKind) × HasNoWarrior source rules × IsAsmFault source [] rules fault
 IsAsmRefusal OutOfMemory source rules = Unit {0}
 IsAsmRefusal _ source rules = ⊥
 
--- the load file of the warrior that the text assembles to was written
-abbrev pub TellsWarrior : List ℕ → Limits → Option (List ℕ) → Option (List ℕ) → Type 0
-TellsWarrior source rules old new = (w : Program) × Assembles source [] rules w × Appends old new (load_text rules.core w)
+-- The load file of the warrior that the text assembles to was written.
+abbrev pub WritesWarrior : List ℕ → RulesView → Option (List ℕ) → Option (List ℕ) → Type 0
+WritesWarrior source rules old new = (w : WarriorView) × Assembles source [] rules w × Appends old new (load_text rules.core w)

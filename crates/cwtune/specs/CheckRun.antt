@@ -1,4 +1,4 @@
--- What the check of a certificate tells (this project's own).
+-- What the run of a check writes.
 use Rattle.std.specs.Prelude.{◌≡◌, ℕ, Bool, true, false, List, ◌∷◌, [], ◌++◌, codes, Option}
 use Rattle.std.specs.Fmt.{decimal}
 use Rattle.std.specs.Io.KnownBytes.{Appends}
@@ -6,8 +6,7 @@ use Rattle.mars_fight.specs.Records.{Fields, records_of}
 use Rattle.tune_template.specs.Instances.{InputsView}
 use Rattle.tune_cert.specs.Problem.{Problem, problem_of}
 use Rattle.tune_cert.specs.Spelling.{Spells}
-use Rattle.tune_cert.specs.Verdict.{IsValidCert, IsVerdict}
-use Rattle.tune_cert.specs.Rejection.{IsFirst}
+use Rattle.tune_cert.specs.Verdict.{IsValidCert, IsVerdict, IsFirst}
 use Rattle.tune_cert.specs.declared.cert.Cert.{Cert}
 use Rattle.tune_cert.specs.declared.verdict.Reason.{Reason}
 use Rattle.tune_cert.specs.declared.verdict.Reason.TheVariants.{Malformed, RowCount, BestRow, WrongPoints, RepeatedFight, CapTooHigh, NotSame, NotRefused}
@@ -15,7 +14,6 @@ use Rattle.tune_cert.specs.declared.verdict.Verdict.{Verdict}
 use Rattle.tune_cert.specs.declared.verdict.Verdict.TheVariants.{Accepted, Rejected}
 use Rattle.cwtune.specs.TuneRun.{Texts, Means}
 
--- the name of a reason
 abbrev pub reason_text : Reason → List ℕ
 reason_text Malformed = codes "Malformed"
 reason_text RowCount = codes "RowCount"
@@ -26,24 +24,23 @@ reason_text CapTooHigh = codes "CapTooHigh"
 reason_text NotSame = codes "NotSame"
 reason_text NotRefused = codes "NotRefused"
 
--- `accepted best W total T`, or `rejected row R REASON`
+-- `accepted best W total T`, or `rejected row R REASON`.
 abbrev pub check_line : Verdict → List ℕ
 check_line (Accepted best total) = codes "accepted best " ++ decimal best ++ codes " total " ++ decimal total ++ 10 ∷ []
 check_line (Rejected row reason) = codes "rejected row " ++ decimal row ++ 32 ∷ reason_text reason ++ 10 ∷ []
 
--- whether a verdict accepts
 abbrev pub accepts : Verdict → Bool
 accepts (Accepted best total) = true
 accepts (Rejected row reason) = false
 
--- the verdict on these records is right, a rejection names the first record at which a check fails, and where they spell a valid certificate
--- it is accepted
+-- The verdict on the records holds, a rejection names the first record at which a check fails, and
+-- a valid certificate is accepted.
 abbrev pub IsRightVerdict : Problem → List Fields → Verdict → Type 0
 IsRightVerdict p records verdict =
     IsVerdict p records verdict × IsFirst p records verdict × ((c : Cert) → Spells records c → IsValidCert p c → verdict ≡ Accepted c.best c.total)
 
--- the line of the right verdict on the bytes was written, and the answer is whether it accepts
-abbrev pub TellsVerdict : Texts → List ℕ → Bool → Option (List ℕ) → Option (List ℕ) → Type 0
-TellsVerdict t cert accepted old new =
+-- The line of the right verdict on the bytes was written; `accepted` says whether it accepts.
+abbrev pub WritesVerdict : Texts → List ℕ → Bool → Option (List ℕ) → Option (List ℕ) → Type 0
+WritesVerdict t cert accepted old new =
     (i : InputsView) × (verdict : Verdict) × Means t i × IsRightVerdict (problem_of i) (records_of cert) verdict
     × (accepted ≡ accepts verdict) × Appends old new (check_line verdict)

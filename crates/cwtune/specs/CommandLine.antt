@@ -1,15 +1,15 @@
--- What words ask for (this project's own).
+-- What the words of a command line ask for.
 use Rattle.std.specs.Prelude.{◌≡◌, ℕ, ◌≤◌, List, [], ◌∷◌, codes}
 use Rattle.cwtune.specs.declared.command_line.Request.{Request}
 use Rattle.cwtune.specs.declared.command_line.Request.TheVariants.{Tune}
 
--- the words that ask for the fight on standard input, as their bytes: none, or `fight` alone
+-- No word, or `fight` alone, asks for the fight on standard input. Words are given as their bytes.
 abbrev pub AskForFight : List (List ℕ) → Type 0
 AskForFight [] = Unit {0}
 AskForFight (word ∷ []) = word ≡ codes "fight"
 AskForFight (word ∷ next ∷ more) = ⊥
 
--- the capacity of a search is 1 to 65536
+-- The capacity of a search is 1 to 65536.
 abbrev pub IsRequest : Request → Type 0
 IsRequest (Tune words capacity) = (1 ≤ capacity) × (capacity ≤ 65536)
 IsRequest _ = Unit {0}

@@ -1,7 +1,6 @@
--- A fight text names rules, a position, a first mover and two load files; its meaning is the fight of the two warriors.
--- The result line tells the outcome of that fight from the candidate's side; a report tells the optimum of the inputs that texts mean,
--- and a check line the verdict on a certificate of them.
--- A run over bytes writes exactly the line that the definitions give, or refuses for the first reason that holds.
+-- Texts mean something: a fight text the fight of two warriors, the texts of a tuning its inputs. A
+-- result line, a report and a check line say what came of them. A run over bytes writes exactly the
+-- text that the definitions give, or refuses with the first fault that applies.
 pub mod FightText
 pub mod FightWords
 pub mod ResultLine

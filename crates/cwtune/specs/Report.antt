@@ -1,4 +1,4 @@
--- The report of a tuning (this project's own): what was found, and how much of the work was needed, one line each.
+-- The report of a tuning: what was found, and how much of the work was done.
 use Rattle.std.specs.Prelude.{ℕ, ℤ, ◌*◌, List, [], ◌∷◌, ◌++◌, length, codes}
 use Rattle.std.specs.Fmt.{decimal, signed_decimal}
 use Rattle.rc_expand.specs.Names.{Table}
@@ -8,47 +8,45 @@ use Rattle.tune_cert.specs.Optimum.{candidates_of}
 use Rattle.tune_cert.specs.Valid.{listed_fights}
 use Rattle.tune_cert.specs.declared.cert.Cert.{Cert}
 
--- what a report tells
+-- What a report says.
 pub record Report : Type 0 where
   pub vectors : ℕ
   pub candidates : ℕ
-  -- the number of the best vector, and the constants with the values that it gives them
+  -- the index of the best setting, and the values that it gives the constants
   pub best : ℕ
   pub constants : Table
-  -- the points of its warrior, and the most that there are
+  -- its total, and the most that a total can be
   pub total : ℕ
   pub most : ℕ
-  -- the fights that were played, and all fights of the candidates
+  -- the fights that were played, and all fights of all candidates
   pub fights : ℕ
   pub all_fights : ℕ
 
--- a word and a number
 unfoldable pub number_line : List ℕ → ℕ → List ℕ
 number_line word n = word ++ decimal n ++ 10 ∷ []
 
--- a word, and how much of how much
+-- `WORD PART of WHOLE`.
 unfoldable pub share_line : List ℕ → ℕ → ℕ → List ℕ
 share_line word part whole = word ++ decimal part ++ codes " of " ++ decimal whole ++ 10 ∷ []
 
--- as ` STEP=-3`, with the space in front
+-- For example ` STEP=-3`, with the space before it.
 unfoldable pub constant_text : List ℕ → ℤ → List ℕ
 constant_text name value = 32 ∷ name ++ 61 ∷ signed_decimal value
 
--- the constants behind each other
 abbrev pub constants_text : Table → List ℕ
 constants_text [] = []
 constants_text (c ∷ cs) = constant_text c.0 c.1 ++ constants_text cs
 
--- the same, or ` -` where there are none
+-- The constants, or ` -` if there are none.
 abbrev pub constants_or_none : Table → List ℕ
 constants_or_none [] = codes " -"
 constants_or_none (c ∷ cs) = constants_text (c ∷ cs)
 
--- as `constants STEP=-3 GAP=4`, or `constants -`
+-- For example `constants STEP=-3 GAP=4`, or `constants -`.
 unfoldable pub constants_line : Table → List ℕ
 constants_line cs = codes "constants" ++ constants_or_none cs ++ 10 ∷ []
 
--- the six lines of a report, in this order
+-- The six lines of a report.
 unfoldable pub report_text : Report → List ℕ
 report_text r =
     number_line (codes "vectors ") r.vectors
@@ -58,7 +56,8 @@ report_text r =
     ++ share_line (codes "total ") r.total r.most
     ++ share_line (codes "fights ") r.fights r.all_fights
 
--- the report of a certificate of the inputs, whose best vector gives these values: the fights played are those that the certificate lists
+-- The report that goes with a certificate, whose best setting gives the constants these values. The
+-- fights played are those that the certificate lists.
 abbrev pub report_for : InputsView → Cert → List ℤ → Report
 report_for i c values = record {
   vectors = (problem_of i).count;

@@ -1,13 +1,13 @@
--- What a tuning over texts means, and what its run answers (this project's own).
+-- What the texts of a tuning mean, what its run writes, and why it refuses.
 use Rattle.std.specs.Prelude.{◌≡◌, ◌≢◌, ℕ, ℤ, ◌<◌, ◌≤◌, List, [], ◌∷◌, length, take, slice_get, Option, Some, None, Err}
 use Rattle.std.specs.Io.KnownBytes.{Appends}
-use Rattle.rc_instr.specs.Rules.{Limits}
-use Rattle.rc_instr.specs.Warrior.{Program}
+use Rattle.rc_instr.specs.Rules.{RulesView}
+use Rattle.rc_instr.specs.Warrior.{WarriorView}
 use Rattle.rc_asm.specs.Assembly.{Assembles}
 use Rattle.rc_asm.specs.declared.fault.AsmFault.{AsmFault}
 use Rattle.mars_fight.specs.Records.{records_of}
 use Rattle.mars_fight.specs.Schedule.{fights_of}
-use Rattle.mars_fight.specs.ScheduleRefusal.{IsFault}
+use Rattle.mars_fight.specs.ScheduleRefusal.{IsScheduleFault}
 use Rattle.mars_fight.specs.declared.fault.ScheduleFault.{ScheduleFault}
 use Rattle.mars_fight.specs.declared.fault.ScheduleFaultKind.TheVariants.{OutOfMemory as MemoryKind}
 use Rattle.tune_template.specs.Ranges.{ranges_of, HasRanges}
@@ -23,27 +23,27 @@ use Rattle.cwtune.specs.Report.{report_text, report_for}
 use Rattle.cwtune.specs.declared.fault.RunFault.{RunFault}
 use Rattle.cwtune.specs.declared.fault.RunFault.TheVariants.{Asm, TooManyOpponents, Template, Opponent, Schedule, NoCandidate, OutOfMemory}
 
--- the texts of a tuning, and its rules
+-- The texts of a tuning, and its rules.
 pub record Texts : Type 0 where
   pub template : List ℕ
   pub opponents : List (List ℕ)
   pub schedule : List ℕ
-  pub rules : Limits
+  pub rules : RulesView
 
-abbrev pub texts : List ℕ → List (List ℕ) → List ℕ → Limits → Texts
+abbrev pub texts : List ℕ → List (List ℕ) → List ℕ → RulesView → Texts
 texts template opponents schedule rules = record { template = template; opponents = opponents; schedule = schedule; rules = rules }
 
--- the text of a template, with its ranges
 abbrev pub IsTemplate : List ℕ → TemplateView → Type 0
 IsTemplate text t = (t.text ≡ text) × HasRanges text t.ranges
 
--- a warrior for each text, to which it assembles without constants
-abbrev pub AreOpponents : Limits → List (List ℕ) → List Program → Type 0
+-- Each text assembles to its warrior.
+abbrev pub AreOpponents : RulesView → List (List ℕ) → List WarriorView → Type 0
 AreOpponents rules [] [] = Unit {0}
 AreOpponents rules (text ∷ texts) (w ∷ ws) = Assembles text [] rules w × AreOpponents rules texts ws
 AreOpponents rules _ _ = ⊥
 
--- The meaning of the texts: at most 64 opponents, a template that has ranges, a warrior for each opponent, a schedule that has fights.
+-- Texts mean inputs: at most 64 opponents that assemble, a template with ranges, and a schedule
+-- with fights.
 pub record Means (t : Texts) (i : InputsView) : Type 0 where
   pub few : length t.opponents ≤ 64
   pub template : IsTemplate t.template i.template
@@ -51,62 +51,59 @@ pub record Means (t : Texts) (i : InputsView) : Type 0 where
   pub schedule : fights_of t.rules (length t.opponents) t.schedule ≡ Some i.schedule
   pub rules : i.rules ≡ t.rules
 
--- no vector is a candidate
+-- No setting assembles.
 abbrev pub HasNoCandidate : InputsView → Type 0
 HasNoCandidate i = (v : ℕ) → v < (problem_of i).count → (problem_of i).warrior v ≡ None
 
--- the texts before this one assemble, this one assembles to no warrior, and the fault is the one that comes first in it
-abbrev pub IsOpponentRefusal : Limits → List (List ℕ) → ℕ → AsmFault → Type 0
+-- The opponents before this one assemble; this one does not, and the fault is its first.
+abbrev pub IsOpponentRefusal : RulesView → List (List ℕ) → ℕ → AsmFault → Type 0
 IsOpponentRefusal rules opponents index fault =
-    (before : List Program) × (text : List ℕ) × AreOpponents rules (take index opponents) before × (slice_get opponents index ≡ Some text)
+    (before : List WarriorView) × (text : List ℕ) × AreOpponents rules (take index opponents) before × (slice_get opponents index ≡ Some text)
     × IsAsmRefusal (Asm fault) text rules
 
--- the bytes mean no fights against so many opponents, and what the fault says is true of them
-abbrev pub IsScheduleRefusal : Limits → ℕ → List ℕ → ScheduleFault → Type 0
+-- The bytes are not a schedule against this number of opponents, and the fault says why.
+abbrev pub IsScheduleRefusal : RulesView → ℕ → List ℕ → ScheduleFault → Type 0
 IsScheduleRefusal rules opponents bytes fault =
-    (fault.kind ≢ MemoryKind) × (fights_of rules opponents bytes ≡ None) × IsFault rules opponents (records_of bytes) fault.row fault.kind
+    (fault.kind ≢ MemoryKind) × (fights_of rules opponents bytes ≡ None) × IsScheduleFault rules opponents (records_of bytes) fault.row fault.kind
 
--- why the text of a template is refused, as a fault of a run
 abbrev pub IsTemplateRefusal : RunFault → List ℕ → Type 0
 IsTemplateRefusal (Template fault) text = ranges_of text ≡ Err fault
 IsTemplateRefusal OutOfMemory text = Unit {0}
 IsTemplateRefusal _ text = ⊥
 
--- why the opponent of a number is refused, as a fault of a run
-abbrev pub IsRefusalOf : ℕ → RunFault → Limits → List ℕ → Type 0
+abbrev pub IsRefusalOf : ℕ → RunFault → RulesView → List ℕ → Type 0
 IsRefusalOf number (Opponent index fault) rules text = (index ≡ number) × IsAsmRefusal (Asm fault) text rules
 IsRefusalOf number OutOfMemory rules text = Unit {0}
 IsRefusalOf number _ rules text = ⊥
 
--- why the opponents are refused, as a fault of a run
-abbrev pub AreRefused : RunFault → Limits → List (List ℕ) → Type 0
+abbrev pub AreRefused : RunFault → RulesView → List (List ℕ) → Type 0
 AreRefused (Opponent index fault) rules opponents = IsOpponentRefusal rules opponents index fault
 AreRefused OutOfMemory rules opponents = Unit {0}
 AreRefused _ rules opponents = ⊥
 
--- why the schedule is refused, as a fault of a run
-abbrev pub HasNoFights : RunFault → Limits → ℕ → List ℕ → Type 0
+abbrev pub HasNoFights : RunFault → RulesView → ℕ → List ℕ → Type 0
 HasNoFights (Schedule fault) rules opponents bytes = IsScheduleRefusal rules opponents bytes fault
 HasNoFights OutOfMemory rules opponents bytes = Unit {0}
 HasNoFights _ rules opponents bytes = ⊥
 
--- Why a tuning is refused: the reason holds, and those before it do not. Want of memory says nothing of the texts.
+-- What each fault says of the texts: it applies, and those before it do not. Out of memory says
+-- nothing of the texts.
 abbrev pub IsTuneRefusal : RunFault → Texts → Type 0
 IsTuneRefusal TooManyOpponents t = 64 < length t.opponents
 IsTuneRefusal (Template fault) t = (length t.opponents ≤ 64) × (ranges_of t.template ≡ Err fault)
 IsTuneRefusal (Opponent index fault) t =
     (view : TemplateView) × (length t.opponents ≤ 64) × IsTemplate t.template view × IsOpponentRefusal t.rules t.opponents index fault
 IsTuneRefusal (Schedule fault) t =
-    (view : TemplateView) × (opponents : List Program) × (length t.opponents ≤ 64) × IsTemplate t.template view
+    (view : TemplateView) × (opponents : List WarriorView) × (length t.opponents ≤ 64) × IsTemplate t.template view
     × AreOpponents t.rules t.opponents opponents × IsScheduleRefusal t.rules (length t.opponents) t.schedule fault
 IsTuneRefusal NoCandidate t = (i : InputsView) × Means t i × HasNoCandidate i
 IsTuneRefusal OutOfMemory t = Unit {0}
 IsTuneRefusal _ t = ⊥
 
--- The certificate and the report were written. The certificate is valid. The report is that of its best vector, which is the optimum: the
--- first vector, in order, of those with the greatest total among all that assemble.
-abbrev pub TellsTuning : Texts → Option (List ℕ) → Option (List ℕ) → Option (List ℕ) → Option (List ℕ) → Type 0
-TellsTuning t report_old report_new cert_old cert_new =
+-- A valid certificate was written, and the report of its best setting. That setting is the optimum:
+-- the first, in order, of those with the greatest total among all that assemble.
+abbrev pub WritesTuning : Texts → Option (List ℕ) → Option (List ℕ) → Option (List ℕ) → Option (List ℕ) → Type 0
+WritesTuning t report_old report_new cert_old cert_new =
     (i : InputsView) × (c : Cert) × (values : List ℤ) × Means t i × IsOptimum (problem_of i) c.best × HasTotal (problem_of i) c.best c.total
     × IsValidCert (problem_of i) c × (slice_get (vectors_of i.template.ranges.spans) c.best ≡ Some values)
     × Appends cert_old cert_new (cert_text c) × Appends report_old report_new (report_text (report_for i c values))

@@ -1,39 +1,64 @@
-//! The words of the command line, as the library `clap` reads them.
+//! The command line, as the library `clap` reads it.
 ghost use Rattle.std.specs.Prelude.{◌≡◌, ◌↔◌, ◌≤◌, map, IfOk, IsTrue, string_bytes};
 ghost use Rattle.cwtune.specs.CommandLine.{AskForFight, IsRequest};
 
-use crate::numbers::FiveNumbers;
+use crate::raw_rules::RawRules;
 use clap::{Arg, ArgAction, ArgMatches, Command, Error, value_parser};
 use rc_instr::Rules;
 use std::alloc::{AllocError, Global};
 
-/// The warriors that a search may remember, unless an option says otherwise.
+// The default of `--cache`.
 const CAPACITY: u32 = 4096;
 
-/// The words for a tuning, or for the check of its certificate: the rules, and the names of the files.
+// The rules and the names of the files of a tuning, or of a check of its certificate.
 #[derive(Drop)]
 pub(crate) struct TuneWords<'a> {
-    pub(crate) numbers: FiveNumbers,
+    pub(crate) rules: RawRules,
     pub(crate) template: &'a str,
     pub(crate) schedule: &'a str,
     pub(crate) cert: &'a str,
     pub(crate) opponents: Vec<&'a str>,
 }
 
-/// What the words ask for.
+// What the words ask for.
 #[derive(Drop)]
 pub(crate) enum Request<'a> {
-    /// To play the fight whose text is on standard input.
+    // Plays the fight whose text is on standard input.
     Fight,
-    /// To assemble a file under the rules of these numbers.
-    Asm { numbers: FiveNumbers, file: &'a str },
-    /// To tune a template, with a search that may remember so many warriors.
+    // Assembles a file.
+    Asm { rules: RawRules, file: &'a str },
+    // Tunes a template; the search may remember `capacity` warriors.
     Tune { words: TuneWords<'a>, capacity: u32 },
-    /// To check a certificate of a tuning.
+    // Checks a certificate of a tuning.
     Check(TuneWords<'a>),
 }
 
-/// An option with a number, which is any that 32 bits hold.
+// Returns what the words after the program's name ask for, or `clap`'s answer: its help, or a usage
+// error. The plainest words for a fight are recognised without `clap`, so that they take no memory.
+pub(crate) fn request_of<'a>(alloc: Global, words: &'a [String]) -> Result<Request<'a>, Error>
+    ensures fight { AskForFight (map string_bytes words.entry.now) → result ≡ Ok Request.Fight }
+    ensures capacity { IfOk result IsRequest }
+{
+    if ask_for_fight(words) {
+        return Ok(Request::Fight);
+    }
+    let matches = commands(alloc)?.try_get_matches_from(words)?;
+    match matches.subcommand() {
+        Some(("asm", found)) => Ok(Request::Asm {
+            rules: rules_of(found),
+            // `clap` requires the file.
+            file: found.get_str("FILE").unwrap_or(""),
+        }),
+        Some(("tune", found)) => Ok(Request::Tune {
+            words: tune_words(alloc, found)?,
+            capacity: capacity_of(found),
+        }),
+        Some(("check", found)) => Ok(Request::Check(tune_words(alloc, found)?)),
+        _ => Ok(Request::Fight),
+    }
+}
+
+// Makes an option that takes a 32-bit number. Its range is checked later, with the other rules.
 fn number<'a>(alloc: Global, name: &'a str, help: &'a str) -> Arg<'a> {
     Arg::new(alloc, name)
         .long(name)
@@ -43,46 +68,45 @@ fn number<'a>(alloc: Global, name: &'a str, help: &'a str) -> Arg<'a> {
         .help(help)
 }
 
-/// A command with the five options of rules.
+// Adds the five options of the rules.
 fn with_rules<'a>(alloc: Global, command: Command<'a>) -> Result<Command<'a>, AllocError> {
     command
         .next_help_heading("Rules")
         .arg(number(
             alloc,
             "core",
-            "Cells of the core, 8 to 65535 [default: 8000]",
+            "Core size in cells, 8 to 65535 [default: 8000]",
         ))?
         .arg(number(
             alloc,
             "cycles",
-            "Cycles until a tie, 1 to 1000000, a turn of each warrior in each [default: 80000]",
+            "Cycles until a tie, one turn per warrior each, 1 to 1000000 [default: 80000]",
         ))?
         .arg(number(
             alloc,
             "tasks",
-            "Tasks that a warrior may have, 1 to 8000 [default: 8000]",
+            "Most tasks of a warrior, 1 to 8000 [default: 8000]",
         ))?
         .arg(number(
             alloc,
             "length",
-            "Instructions that a warrior may have, 1 to 200 [default: 100]",
+            "Most instructions of a warrior, 1 to 200 [default: 100]",
         ))?
         .arg(number(
             alloc,
             "distance",
-            "Cells between two warriors, from the length to half of the core [default: 100]",
+            "Least distance between warriors in cells, from the length to half the core [default: 100]",
         ))
 }
 
-/// The number of an option, or the default where it is left out.
 fn number_or(found: &ArgMatches<'_>, name: &str, default: u32) -> u32 {
     found.get_one::<u32>(name).unwrap_or(default)
 }
 
-/// The five numbers that the options of rules give.
-fn numbers_of(found: &ArgMatches<'_>) -> FiveNumbers {
+// Returns the rules of the options, with the standard rules as defaults.
+fn rules_of(found: &ArgMatches<'_>) -> RawRules {
     let standard = Rules::standard();
-    FiveNumbers {
+    RawRules {
         core: number_or(found, "core", standard.core()),
         cycles: number_or(found, "cycles", standard.cycles()),
         tasks: number_or(found, "tasks", standard.tasks()),
@@ -91,26 +115,23 @@ fn numbers_of(found: &ArgMatches<'_>) -> FiveNumbers {
     }
 }
 
-/// The command `fight`.
 fn fight<'a>(alloc: Global) -> Command<'a> {
     Command::new(alloc, "fight").about(
-        "Plays the fight whose text is on standard input, and prints its result line",
+        "Play the fight described on standard input and print its result",
     )
 }
 
-/// The command `asm`.
 fn asm<'a>(alloc: Global) -> Result<Command<'a>, AllocError> {
     let file = Arg::new(alloc, "FILE")
         .required(true)
         .action(ArgAction::Set)
-        .help("The Redcode text of a warrior, at most 65536 bytes; `-` is a file of that name");
+        .help("Redcode source of a warrior, at most 65536 bytes (`-` is a file of that name)");
     let command = Command::new(alloc, "asm")
-        .about("Assembles the Redcode text in FILE, and prints the load file of its warrior")
+        .about("Assemble a Redcode file and print the load file of its warrior")
         .arg(file)?;
     with_rules(alloc, command)
 }
 
-/// A file that a command needs.
 fn file<'a>(alloc: Global, name: &'a str, help: &'a str) -> Arg<'a> {
     Arg::new(alloc, name)
         .required(true)
@@ -118,19 +139,20 @@ fn file<'a>(alloc: Global, name: &'a str, help: &'a str) -> Arg<'a> {
         .help(help)
 }
 
-/// A command with the files of a tuning and the options of rules. Of CERT the help is given.
+// Adds the files of a tuning and the options of the rules. `cert` is the help for CERT.
 fn with_files<'a>(
     alloc: Global,
     command: Command<'a>,
     cert: &'a str,
 ) -> Result<Command<'a>, AllocError> {
-    let template = "The Redcode text with the ranges `;@tune NAME LOW HIGH STEP START`";
+    let template =
+        "Redcode source with lines `;@tune NAME LOW HIGH STEP START`, one for each open constant";
     let schedule =
-        "The fights: a line `opponent,position,first`, and a line such as `0,4000,c` for each";
+        "Table of fights: the line `opponent,position,first`, then one such as `0,4000,c` for each";
     let opponents = file(
         alloc,
         "OPPONENT",
-        "The Redcode texts of the opponents, at most 64, in the order of their numbers from 0",
+        "Redcode sources of the opponents, at most 64; the schedule counts them from 0",
     )
     .num_args(1..)
     .action(ArgAction::Append);
@@ -142,44 +164,41 @@ fn with_files<'a>(
     with_rules(alloc, command)
 }
 
-/// The command `tune`.
 fn tune<'a>(alloc: Global) -> Result<Command<'a>, AllocError> {
     let cache = Arg::new(alloc, "cache")
         .long("cache")
         .value_name("NUMBER")
         .action(ArgAction::Set)
         .value_parser(value_parser!(u32).range(1..65_537))
-        .help("Warriors that the search may remember, 1 to 65536 [default: 4096]");
+        .help("Most warriors to remember, 1 to 65536; has no effect yet [default: 4096]");
     let command = Command::new(alloc, "tune")
         .about(
-            "Finds the best setting of the template in TEMPLATE, writes the certificate that it is the best into CERT, and prints a report",
+            "Find the best setting of a template, write its certificate to CERT, and print a report",
         )
         .arg(cache)?;
     with_files(
         alloc,
         command,
-        "The file of the certificate, which is created or replaced",
+        "File to write the certificate to; an existing file is overwritten",
     )
 }
 
-/// The command `check`.
 fn check<'a>(alloc: Global) -> Result<Command<'a>, AllocError> {
     let command = Command::new(alloc, "check").about(
-        "Checks a certificate of a tuning, whoever made it: prints `accepted best W total T` where it is right, else `rejected row R REASON`",
+        "Check a certificate: print `accepted best W total T` or `rejected row R REASON`",
     );
-    with_files(alloc, command, "The file of the certificate")
+    with_files(alloc, command, "File of the certificate")
 }
 
-/// The program's commands.
 fn commands<'a>(alloc: Global) -> Result<Command<'a>, AllocError> {
     Command::new(alloc, "cwtune")
         .no_binary_name(true)
         .bin_name("cwtune")?
         .about(
-            "Fights between Core War warriors, and the best setting of a warrior's constants. Without a command it does what `fight` does.",
+            "Plays Core War fights and finds the best values for a warrior's constants. With no command, same as `fight`.",
         )
         .after_help(
-            "Exit status: 0 done or accepted, 1 refused or rejected, 2 a command line that is none, 3 a read, a write or memory failed.",
+            "Exit status: 0 success or accepted; 1 input refused or certificate rejected; 2 usage error; 3 I/O error or out of memory.",
         )
         .subcommand(fight(alloc))?
         .subcommand(asm(alloc)?)?
@@ -187,7 +206,7 @@ fn commands<'a>(alloc: Global) -> Result<Command<'a>, AllocError> {
         .subcommand(check(alloc)?)
 }
 
-/// The capacity that the option gives, which `clap` keeps to 1 to 65536, or the default where it is left out.
+// Returns the value of `--cache`, which `clap` keeps in its range, or the default.
 fn capacity_of(found: &ArgMatches<'_>) -> u32
     ensures { (1 ≤ result) × (result ≤ 65536) }
 {
@@ -197,14 +216,14 @@ fn capacity_of(found: &ArgMatches<'_>) -> u32
     }
 }
 
-/// The words for a tuning or the check of its certificate. `clap` requires each of the files.
+// `clap` requires each of the files, so the empty names are never used.
 fn tune_words<'a>(alloc: Global, found: &ArgMatches<'a>) -> Result<TuneWords<'a>, AllocError> {
     let mut opponents = Vec::new(alloc);
     if let Some(names) = found.get_strs("OPPONENT") {
         opponents.extend_from_slice(names)?;
     }
     Ok(TuneWords {
-        numbers: numbers_of(found),
+        rules: rules_of(found),
         template: found.get_str("TEMPLATE").unwrap_or(""),
         schedule: found.get_str("SCHEDULE").unwrap_or(""),
         cert: found.get_str("CERT").unwrap_or(""),
@@ -212,7 +231,7 @@ fn tune_words<'a>(alloc: Global, found: &ArgMatches<'a>) -> Result<TuneWords<'a>
     })
 }
 
-/// Whether the words ask for the fight in the plainest way: no word, or `fight` alone.
+// Checks for the plainest words of a fight: none, or `fight` alone.
 fn ask_for_fight(words: &[String]) -> bool
     ensures { IsTrue result ↔ AskForFight (map string_bytes words.now) }
 {
@@ -220,31 +239,5 @@ fn ask_for_fight(words: &[String]) -> bool
         [] => true,
         [word] => word.as_str() == "fight",
         _ => false,
-    }
-}
-
-/// What the words behind the program's name ask for, or `clap`'s answer: its help, or what is wrong with the words.
-///
-/// The plainest words for a fight are known without `clap`, which would read them so too, and take no memory.
-pub(crate) fn request_of<'a>(alloc: Global, words: &'a [String]) -> Result<Request<'a>, Error>
-    ensures fight { AskForFight (map string_bytes words.entry.now) → result ≡ Ok Request.Fight }
-    ensures capacity { IfOk result IsRequest }
-{
-    if ask_for_fight(words) {
-        return Ok(Request::Fight);
-    }
-    let matches = commands(alloc)?.try_get_matches_from(words)?;
-    match matches.subcommand() {
-        Some(("asm", found)) => Ok(Request::Asm {
-            numbers: numbers_of(found),
-            // `clap` requires the file
-            file: found.get_str("FILE").unwrap_or(""),
-        }),
-        Some(("tune", found)) => Ok(Request::Tune {
-            words: tune_words(alloc, found)?,
-            capacity: capacity_of(found),
-        }),
-        Some(("check", found)) => Ok(Request::Check(tune_words(alloc, found)?)),
-        _ => Ok(Request::Fight),
     }
 }

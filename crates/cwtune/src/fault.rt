@@ -1,4 +1,4 @@
-//! Why a run is refused.
+//! Why a run ends without its answer.
 ghost use Rattle.std.specs.Prelude.{◌≡◌};
 
 use mars_core::Side;
@@ -9,44 +9,47 @@ use std::alloc::AllocFailed;
 use thiserror::Error;
 use tune_template::TemplateFault;
 
-/// Why a run is refused: the first reason in this order. The first four refuse a fight, `Rules` and `Asm` an
-/// assembly, `Rules` and those from `TooManyOpponents` to `NoCandidate` a tuning, and all of these but `NoCandidate` a check.
+/// Why a run ends without its answer. If several faults apply, the first in this order is returned.
+///
+/// `FightText`, `Rules`, `Load` and `Position` are of fights; `Asm` is of an assembly;
+/// `TooManyOpponents` to `NoCandidate` are of tunings, and of checks except for `NoCandidate`. No
+/// fault inside another is ever its own `OutOfMemory`.
 #[derive(Clone, Copy, Debug, PartialEq, Eq, Error)]
 pub enum RunFault {
-    /// The text is no fight text, which shows at this line, counted from 1.
-    #[error("line {line} is not a line of a fight text")]
+    /// The fight text is malformed at this line, from 1.
+    #[error("line {line} of the fight text is malformed")]
     FightText { line: u64 },
-    /// The numbers of the text, or of the options, are no rules.
+    /// A number of the rules is out of range.
     #[error("{0}")]
     Rules(RulesError),
-    /// A load file of the text is none, or is no warrior under the rules. Its lines are counted from 1 within it.
+    /// A load file is malformed, or its warrior breaks the rules. Its lines count from 1 within it.
     #[error("{fault}")]
     Load { side: Side, fault: LoadFault },
-    /// The position is nearer to 0 than the distance of the rules.
-    #[error("the position is nearer to the candidate than the distance of the rules")]
+    /// The position is nearer to address 0 than the distance of the rules.
+    #[error("the warriors are nearer to each other than the distance of the rules")]
     Position,
-    /// The text assembles to no warrior. The fault is never want of memory.
+    /// The text does not assemble.
     #[error("{0}")]
     Asm(AsmFault),
     /// There are more than 64 opponents.
     #[error("more than 64 opponents")]
     TooManyOpponents,
-    /// The text of the template is none. The fault is never want of memory.
+    /// The template has a bad `;@tune` line, or is too long.
     #[error("template: {0}")]
     Template(TemplateFault),
-    /// The text of the opponent of this number, counted from 0, assembles to no warrior. The fault is never want of memory.
+    /// The opponent at this index, from 0, does not assemble.
     #[error("opponent {index}: {fault}")]
     Opponent { index: u32, fault: AsmFault },
-    /// The text of the schedule is none. The fault is never want of memory.
+    /// The schedule has a bad record.
     #[error("schedule: {0}")]
     Schedule(ScheduleFault),
-    /// No vector of the template makes a warrior.
-    #[error("no vector makes a warrior")]
+    /// No setting of the template assembles.
+    #[error("no setting of the template assembles")]
     NoCandidate,
     /// A writer failed.
-    #[error("a write failed")]
+    #[error("cannot write the output")]
     Write,
-    /// Memory was refused.
+    /// An allocation failed.
     #[error("out of memory")]
     OutOfMemory,
 }

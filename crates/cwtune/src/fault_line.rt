@@ -1,6 +1,7 @@
-//! The lines on standard error that name a fault: `refused: `, and the names of the variants from outside in, or `failed: `, and what failed.
+//! The lines on standard error: `refused: ` and the names of the fault from outside in, or
+//! `failed: ` and what failed.
 //!
-//! A line goes out in pieces and takes no memory, so that it can tell want of memory too.
+//! A line is written in pieces and takes no memory, so that it can report that memory ran out.
 ghost use Rattle.std.specs.Prelude.{◌≡◌, false, is_err};
 
 use crate::fault::RunFault;
@@ -14,7 +15,32 @@ use rc_text::{EvalFault, LexFault};
 use std::io::Write;
 use tune_template::{TemplateFault, TemplateKind};
 
-/// The name of a fault of tokens.
+// Writes the line of a fault: `failed: Write`, `failed: OutOfMemory`, or `refused: ` and its names.
+pub(crate) fn say_run<V: Write>(err: &mut Outlet<V>, fault: RunFault) -> Result<(), WriteFailed>
+    requires { err.old.failed ≡ false }
+{
+    match fault {
+        RunFault::Write | RunFault::OutOfMemory => err.write_all(b"failed:")?,
+        _ => err.write_all(b"refused:")?,
+    }
+    say_fault(err, fault)?;
+    err.write_all(b"\n")
+}
+
+// Writes the line of a file: `failed: read NAME` or `failed: create NAME`.
+pub(crate) fn say_file<V: Write>(
+    err: &mut Outlet<V>,
+    action: &str,
+    name: &str,
+) -> Result<(), WriteFailed>
+    requires { err.old.failed ≡ false }
+{
+    err.write_all(b"failed:")?;
+    say(err, action)?;
+    say(err, name)?;
+    err.write_all(b"\n")
+}
+
 fn lex_name(fault: LexFault) -> &'static str {
     match fault {
         LexFault::BadByte => "BadByte",
@@ -22,7 +48,6 @@ fn lex_name(fault: LexFault) -> &'static str {
     }
 }
 
-/// The name of a fault of an expression.
 fn eval_name(fault: EvalFault) -> &'static str {
     match fault {
         EvalFault::Syntax => "Syntax",
@@ -33,7 +58,6 @@ fn eval_name(fault: EvalFault) -> &'static str {
     }
 }
 
-/// The outer name of a fault of the expansion.
 fn expand_name(kind: ExpandKind) -> &'static str {
     match kind {
         ExpandKind::Text(_) => "Text",
@@ -50,7 +74,6 @@ fn expand_name(kind: ExpandKind) -> &'static str {
     }
 }
 
-/// The name of a fault of a warrior.
 fn warrior_name(error: WarriorError) -> &'static str {
     match error {
         WarriorError::Empty => "Empty",
@@ -60,7 +83,6 @@ fn warrior_name(error: WarriorError) -> &'static str {
     }
 }
 
-/// The name of a fault of rules.
 fn rules_name(error: RulesError) -> &'static str {
     match error {
         RulesError::Core => "Core",
@@ -71,7 +93,6 @@ fn rules_name(error: RulesError) -> &'static str {
     }
 }
 
-/// The name of a side.
 fn side_name(side: Side) -> &'static str {
     match side {
         Side::Candidate => "candidate",
@@ -79,7 +100,6 @@ fn side_name(side: Side) -> &'static str {
     }
 }
 
-/// The outer name of a fault of an assembly.
 fn asm_name(kind: AsmKind) -> &'static str {
     match kind {
         AsmKind::Expand(_) => "Expand",
@@ -94,7 +114,6 @@ fn asm_name(kind: AsmKind) -> &'static str {
     }
 }
 
-/// The name of a fault of a template.
 fn template_name(kind: TemplateKind) -> &'static str {
     match kind {
         TemplateKind::BadLine => "BadLine",
@@ -109,7 +128,6 @@ fn template_name(kind: TemplateKind) -> &'static str {
     }
 }
 
-/// The name of a fault of a schedule.
 fn schedule_name(kind: ScheduleFaultKind) -> &'static str {
     match kind {
         ScheduleFaultKind::Header => "Header",
@@ -124,7 +142,7 @@ fn schedule_name(kind: ScheduleFaultKind) -> &'static str {
     }
 }
 
-/// Writes a space and a word.
+// Writes a space, then a word.
 fn say<V: Write>(err: &mut Outlet<V>, word: &str) -> Result<(), WriteFailed>
     requires { err.old.failed ≡ false }
     ensures { err.new.failed ≡ is_err result }
@@ -133,7 +151,7 @@ fn say<V: Write>(err: &mut Outlet<V>, word: &str) -> Result<(), WriteFailed>
     err.write_all(word.as_bytes())
 }
 
-/// Writes ` line N`.
+// Writes ` line N`.
 fn say_line<V: Write>(err: &mut Outlet<V>, line: u64) -> Result<(), WriteFailed>
     requires { err.old.failed ≡ false }
     ensures { err.new.failed ≡ is_err result }
@@ -142,7 +160,6 @@ fn say_line<V: Write>(err: &mut Outlet<V>, line: u64) -> Result<(), WriteFailed>
     say(err, Buffer::new().format(line))
 }
 
-/// Writes the names of a fault of the expansion.
 fn say_expand<V: Write>(err: &mut Outlet<V>, kind: ExpandKind) -> Result<(), WriteFailed>
     requires { err.old.failed ≡ false }
     ensures { err.new.failed ≡ is_err result }
@@ -154,7 +171,7 @@ fn say_expand<V: Write>(err: &mut Outlet<V>, kind: ExpandKind) -> Result<(), Wri
     }
 }
 
-/// Writes the line and the names of a fault of an assembly.
+// Writes ` line N`, then the names of the fault.
 fn say_asm<V: Write>(err: &mut Outlet<V>, fault: AsmFault) -> Result<(), WriteFailed>
     requires { err.old.failed ≡ false }
     ensures { err.new.failed ≡ is_err result }
@@ -169,7 +186,6 @@ fn say_asm<V: Write>(err: &mut Outlet<V>, fault: AsmFault) -> Result<(), WriteFa
     }
 }
 
-/// Writes the names of a fault of a load file.
 fn say_load<V: Write>(err: &mut Outlet<V>, fault: LoadFault) -> Result<(), WriteFailed>
     requires { err.old.failed ≡ false }
     ensures { err.new.failed ≡ is_err result }
@@ -187,7 +203,6 @@ fn say_load<V: Write>(err: &mut Outlet<V>, fault: LoadFault) -> Result<(), Write
     }
 }
 
-/// Writes the names of a fault of a template, with its line.
 fn say_template<V: Write>(err: &mut Outlet<V>, fault: TemplateFault) -> Result<(), WriteFailed>
     requires { err.old.failed ≡ false }
     ensures { err.new.failed ≡ is_err result }
@@ -197,7 +212,6 @@ fn say_template<V: Write>(err: &mut Outlet<V>, fault: TemplateFault) -> Result<(
     say(err, template_name(fault.kind))
 }
 
-/// Writes the names of a fault of a schedule, with its row.
 fn say_schedule<V: Write>(err: &mut Outlet<V>, fault: ScheduleFault) -> Result<(), WriteFailed>
     requires { err.old.failed ≡ false }
     ensures { err.new.failed ≡ is_err result }
@@ -208,8 +222,7 @@ fn say_schedule<V: Write>(err: &mut Outlet<V>, fault: ScheduleFault) -> Result<(
     say(err, schedule_name(fault.kind))
 }
 
-/// Writes the names of a fault of a run.
-fn say_run<V: Write>(err: &mut Outlet<V>, fault: RunFault) -> Result<(), WriteFailed>
+fn say_fault<V: Write>(err: &mut Outlet<V>, fault: RunFault) -> Result<(), WriteFailed>
     requires { err.old.failed ≡ false }
     ensures { err.new.failed ≡ is_err result }
 {
@@ -244,34 +257,4 @@ fn say_run<V: Write>(err: &mut Outlet<V>, fault: RunFault) -> Result<(), WriteFa
         RunFault::Write => say(err, "Write"),
         RunFault::OutOfMemory => say(err, "OutOfMemory"),
     }
-}
-
-/// Writes the line of a fault of a run: `failed: Write`, `failed: OutOfMemory`, or `refused: ` and the names of any other.
-pub(crate) fn tell_run<V: Write>(err: &mut Outlet<V>, fault: RunFault) -> Result<(), WriteFailed>
-    requires { err.old.failed ≡ false }
-{
-    match fault {
-        RunFault::Write | RunFault::OutOfMemory => err.write_all(b"failed:")?,
-        _ => err.write_all(b"refused:")?,
-    }
-    say_run(err, fault)?;
-    err.write_all(b"\n")
-}
-
-/// Writes the line of a file that cannot be read: `failed: read NAME`.
-pub(crate) fn tell_unread<V: Write>(err: &mut Outlet<V>, name: &str) -> Result<(), WriteFailed>
-    requires { err.old.failed ≡ false }
-{
-    err.write_all(b"failed: read")?;
-    say(err, name)?;
-    err.write_all(b"\n")
-}
-
-/// Writes the line of a file that cannot be created: `failed: create NAME`.
-pub(crate) fn tell_uncreated<V: Write>(err: &mut Outlet<V>, name: &str) -> Result<(), WriteFailed>
-    requires { err.old.failed ≡ false }
-{
-    err.write_all(b"failed: create")?;
-    say(err, name)?;
-    err.write_all(b"\n")
 }

@@ -1,4 +1,4 @@
-//! Whole texts from readers and files.
+//! Reads whole texts from readers and files.
 ghost use Rattle.std.specs.Prelude.{◌≤◌, length, IfOk};
 ghost use Rattle.cwtune.specs.FightRun.{IsInput};
 
@@ -8,10 +8,32 @@ use std::io::Read;
 use std::rt::Files;
 use std::{fs, io};
 
-/// How many bytes a text may have.
+// The most bytes of a text that is read: 1 GiB.
 const TEXT_LIMIT: u64 = 1_073_741_824;
 
-/// Reads a text to its end. A longer one than a text may be cannot be read.
+// A file that could not be read, and why.
+#[derive(Drop)]
+pub(crate) struct Unread<'a> {
+    pub(crate) name: &'a str,
+    pub(crate) error: io::Error,
+}
+
+// The texts of a tuning.
+#[derive(Drop)]
+pub(crate) struct TuneTexts {
+    pub(crate) template: Vec<u8>,
+    pub(crate) schedule: Vec<u8>,
+    pub(crate) opponents: Vec<Vec<u8>>,
+}
+
+// The texts of a tuning, and a certificate of it.
+#[derive(Drop)]
+pub(crate) struct CheckTexts {
+    pub(crate) tuning: TuneTexts,
+    pub(crate) cert: Vec<u8>,
+}
+
+// Reads a text to its end, or fails if it is longer than the limit.
 pub(crate) fn read_text<R: Read>(alloc: Global, input: &mut R) -> io::Result<Vec<u8>>
     ensures short { IfOk result (λ text. length text.items ≤ TEXT_LIMIT) }
     ensures bytes { IfOk result (λ text. IsInput (R.remaining input.old) text.items) }
@@ -24,28 +46,45 @@ pub(crate) fn read_text<R: Read>(alloc: Global, input: &mut R) -> io::Result<Vec
     Ok(text)
 }
 
-/// Reads a file to its end.
 pub(crate) fn read_file<F: Files>(rt: &F, alloc: Global, name: &str) -> io::Result<Vec<u8>> {
     let mut file = fs::open(rt, name)?;
     read_text(alloc, &mut file)
 }
 
-/// A file that was not read, and why.
-#[derive(Drop)]
-pub(crate) struct Unread<'a> {
-    pub(crate) name: &'a str,
-    pub(crate) error: io::Error,
+// Reads the files of a check in the order of the words: template, schedule, certificate, opponents.
+pub(crate) fn read_check_texts<'a, F: Files>(
+    rt: &F,
+    alloc: Global,
+    words: &TuneWords<'a>,
+) -> Result<CheckTexts, Unread<'a>> {
+    let template = read_named(rt, alloc, words.template)?;
+    let schedule = read_named(rt, alloc, words.schedule)?;
+    let cert = read_named(rt, alloc, words.cert)?;
+    let opponents = read_files(rt, alloc, words.opponents.as_slice())?;
+    Ok(CheckTexts {
+        tuning: TuneTexts {
+            template,
+            schedule,
+            opponents,
+        },
+        cert,
+    })
 }
 
-/// The texts of a tuning.
-#[derive(Drop)]
-pub(crate) struct TuneTexts {
-    pub(crate) template: Vec<u8>,
-    pub(crate) schedule: Vec<u8>,
-    pub(crate) opponents: Vec<Vec<u8>>,
+// Reads the files of a tuning in the order of the words: template, schedule, opponents.
+pub(crate) fn read_texts<'a, F: Files>(
+    rt: &F,
+    alloc: Global,
+    words: &TuneWords<'a>,
+) -> Result<TuneTexts, Unread<'a>> {
+    Ok(TuneTexts {
+        template: read_named(rt, alloc, words.template)?,
+        schedule: read_named(rt, alloc, words.schedule)?,
+        opponents: read_files(rt, alloc, words.opponents.as_slice())?,
+    })
 }
 
-/// Reads a file to its end, and names it where it cannot be read.
+// Reads a file, and names it if that fails.
 fn read_named<'a, F: Files>(rt: &F, alloc: Global, name: &'a str) -> Result<Vec<u8>, Unread<'a>> {
     match read_file(rt, alloc, name) {
         Ok(text) => Ok(text),
@@ -53,7 +92,6 @@ fn read_named<'a, F: Files>(rt: &F, alloc: Global, name: &'a str) -> Result<Vec<
     }
 }
 
-/// Reads files one after another.
 fn read_files<'a, F: Files>(
     rt: &F,
     alloc: Global,
@@ -70,40 +108,4 @@ fn read_files<'a, F: Files>(
         }
     }
     Ok(texts)
-}
-
-/// The texts of a tuning, and a certificate of it.
-#[derive(Drop)]
-pub(crate) struct CheckTexts {
-    pub(crate) template: Vec<u8>,
-    pub(crate) schedule: Vec<u8>,
-    pub(crate) cert: Vec<u8>,
-    pub(crate) opponents: Vec<Vec<u8>>,
-}
-
-/// Reads the files of a check in the order of the words: the template, the schedule, the certificate, the opponents.
-pub(crate) fn read_check_texts<'a, F: Files>(
-    rt: &F,
-    alloc: Global,
-    words: &TuneWords<'a>,
-) -> Result<CheckTexts, Unread<'a>> {
-    Ok(CheckTexts {
-        template: read_named(rt, alloc, words.template)?,
-        schedule: read_named(rt, alloc, words.schedule)?,
-        cert: read_named(rt, alloc, words.cert)?,
-        opponents: read_files(rt, alloc, words.opponents.as_slice())?,
-    })
-}
-
-/// Reads the files of a tuning in the order of the words: the template, the schedule, the opponents.
-pub(crate) fn read_texts<'a, F: Files>(
-    rt: &F,
-    alloc: Global,
-    words: &TuneWords<'a>,
-) -> Result<TuneTexts, Unread<'a>> {
-    Ok(TuneTexts {
-        template: read_named(rt, alloc, words.template)?,
-        schedule: read_named(rt, alloc, words.schedule)?,
-        opponents: read_files(rt, alloc, words.opponents.as_slice())?,
-    })
 }

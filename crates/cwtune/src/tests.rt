@@ -1,4 +1,4 @@
-//! Tests against answers from outside of the code.
+//! Tests of the program against results worked out by hand.
 mod assembly;
 mod checking;
 mod command_line;

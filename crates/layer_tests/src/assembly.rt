@@ -1,4 +1,4 @@
-//! The tests of `rc_expand` and of `rc_asm`: texts, their lines, and the warriors to which they assemble or the faults that they have.
+//! Tests of `rc_expand` and `rc_asm`: texts, and their lines, load files or faults.
 mod expansion;
 mod faults;
 mod limits;
@@ -8,19 +8,18 @@ mod warriors;
 
 ghost use Rattle.rc_instr.specs.Rules.{IsRules};
 
-use rc_asm::assembler::assemble;
-use rc_asm::fault::AsmFault;
+use rc_asm::{AsmFault, assemble};
 use rc_expand::Constants;
 use rc_instr::{Rules, write_loadfile};
 use std::alloc::Global;
 use std::test::Fail;
 
-/// A core of 16 cells, 20 cycles, and at most 4 tasks, 4 instructions and a distance of 4.
+// Returns rules of 16 cells, 20 cycles, 4 tasks, length 4 and distance 4.
 pub(crate) fn small_rules() -> Result<Rules, Fail> {
     Ok(Rules::try_new(16, 20, 4, 4, 4)?)
 }
 
-/// The load file of the warrior to which a text assembles with the constant K, which is 7, or the fault that the text has.
+// Assembles `source` with the constant K = 7. Returns the load file of its warrior, or its fault.
 pub(crate) fn assembled(
     alloc: Global,
     source: &[u8],
@@ -40,4 +39,12 @@ pub(crate) fn assembled(
             Ok(Ok(text))
         }
     }
+}
+
+// Appends `piece` to `text`, `count` times.
+pub(crate) fn push_times(text: &mut Vec<u8>, piece: &[u8], count: usize) -> Result<(), Fail> {
+    for _ in 0..count {
+        text.extend_from_slice(piece)?;
+    }
+    Ok(())
 }

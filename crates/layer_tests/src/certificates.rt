@@ -1,4 +1,4 @@
-//! The tests of `tune_cert`: certificates written by hand.
+//! Tests of `tune_cert`: certificates written by hand.
 mod checking;
 mod lists;
 mod readings;

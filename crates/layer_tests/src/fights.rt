@@ -1,4 +1,4 @@
-//! The tests of `mars_fight`: schedules and fights written by hand, and the texts of faults.
+//! Tests of `mars_fight`: schedules and fights written by hand, and the texts of faults.
 mod plays;
 mod schedules;
 mod texts;

@@ -1,4 +1,4 @@
-//! The tests of `rc_instr`: instructions, load files and outlets written by hand, and the texts of errors.
+//! Tests of `rc_instr`: instructions, load files, outlets, and the texts of faults.
 mod decimals;
 mod instructions;
 mod loadfaults;

@@ -1,7 +1,9 @@
-//! Tests of the layers below the program: a module for each crate, but `assembly` has those of two, and `opponents` what several share.
+//! Tests of the layers below the program: one module for each crate, except that `assembly` tests
+//! both `rc_expand` and `rc_asm`. `opponents` has what several modules share.
 //!
-//! They show what no clause says: texts written by hand and what becomes of them, the texts of errors, and that each public call can succeed.
-//! They stand by themselves because a crate with tests is proved twice, once without them and once with them.
+//! They show what no clause says: what becomes of texts written by hand, the texts of faults, and
+//! that each public call can succeed. They are a crate of their own because a crate with tests is
+//! proved twice, once without its tests and once with them.
 #![tactic(auto)]
 
 #[cfg(test)]

@@ -1,4 +1,5 @@
-//! The tests of `tune_search`: searches over small templates, worked out by hand: a core of 16 cells, for 20 cycles, 4 tasks, 4 instructions, a distance of 4.
+//! Tests of `tune_search`: searches over small templates, worked out by hand, under rules of
+//! 16 cells, 20 cycles, 4 tasks, length 4 and distance 4.
 use crate::opponents::{BOTH, two_opponents};
 use mars_fight::Schedule;
 use rc_instr::Rules;
@@ -9,10 +10,11 @@ use tune_search::fault::SearchFault;
 use tune_search::tuning::search;
 use tune_template::{Inputs, Template};
 
-/// Two fights against the first opponent.
+// The same fight against the first opponent, twice.
 const TWICE: &[u8] = b"opponent,position,first\n0,8,c\n0,8,c\n";
 
-/// What a search found, as text: the best vector, its total, how many candidates and fights, and the rows.
+// Formats what a search found: the optimum, its total, the counts of candidates and of played
+// fights, and the rows.
 fn text_of(alloc: Global, found: &Found) -> Result<String, AllocError> {
     let mut text = format!(in alloc;
         "best {} {}, {} and {}:",
@@ -27,8 +29,8 @@ fn text_of(alloc: Global, found: &Found) -> Result<String, AllocError> {
             }
             Row::Cap(fights) => {
                 text.push_str(" cap")?;
-                for (number, points) in fights.as_slice() {
-                    let piece = format!(in alloc; " {}-{}", *number, *points)?;
+                for (fight, points) in fights.as_slice() {
+                    let piece = format!(in alloc; " {}-{}", *fight, *points)?;
                     text.push_str(&piece)?;
                 }
             }
@@ -37,7 +39,7 @@ fn text_of(alloc: Global, found: &Found) -> Result<String, AllocError> {
     Ok(text)
 }
 
-/// The text of a search over a template and a schedule of fights against Dat and Imp.
+// Searches `template` with `schedule` against `DAT` and `IMP`, and formats what it finds.
 fn run(alloc: Global, template: &[u8], schedule: &[u8]) -> Result<String, Fail> {
     let rules = Rules::try_new(16, 20, 4, 4, 4)?;
     let template = Template::read(alloc, template)?;
@@ -51,13 +53,14 @@ fn run(alloc: Global, template: &[u8], schedule: &[u8]) -> Result<String, Fail> 
     }
 }
 
-/// Templates, and what a search finds in one fight against each opponent.
+// Templates, and what a search finds in one fight against each opponent.
 const TEMPLATES: [(&[u8], &str); 7] = [
     (b"MOV 0, 1", "best 0 4, 1 and 2: cap 0-3 1-1"),
     (
         b";@tune K 0 3 1 2\nMOV 0, 1",
         "best 0 4, 4 and 8: cap 0-3 1-1 cap 0-3 1-1 cap 0-3 1-1 cap 0-3 1-1",
     ),
+    // the first setting does not assemble
     (
         b";@tune K 0 2 1 1\nMOV 0, 1\nDAT 1/K",
         "best 1 4, 2 and 4: refused cap 0-3 1-1 cap 0-3 1-1",
@@ -66,6 +69,7 @@ const TEMPLATES: [(&[u8], &str); 7] = [
         b";@tune K 0 2 1 1\nMOV 0, 1\nDAT K",
         "best 0 4, 3 and 6: cap 0-3 1-1 cap 0-3 1-1 cap 0-3 1-1",
     ),
+    // the jump by 1 loses to the imp
     (
         b";@tune K 0 1 1 0\nJMP K",
         "best 0 4, 2 and 4: cap 0-3 1-1 cap 0-3 1-0",
@@ -78,7 +82,7 @@ const TEMPLATES: [(&[u8], &str); 7] = [
 ];
 
 #[test]
-fn finds_the_first_best_vector(rt: HostRuntime) -> Result<(), Fail> {
+fn finds_the_optimum(rt: HostRuntime) -> Result<(), Fail> {
     for (template, want) in TEMPLATES {
         let text = run(rt.alloc(), template, BOTH)?;
         assert_eq!(rt; text.as_str(), want, "{template:?}");
@@ -96,7 +100,7 @@ fn equal_fights_count_as_often_as_listed(rt: HostRuntime) -> Result<(), Fail> {
 #[test]
 fn texts_of_faults(rt: HostRuntime) -> Result<(), Fail> {
     for (fault, want) in [
-        (SearchFault::NoCandidate, "no vector makes a warrior"),
+        (SearchFault::NoCandidate, "no setting assembles"),
         (SearchFault::OutOfMemory, "out of memory"),
     ] {
         let text = format!(in rt.alloc(); "{fault}")?;

@@ -1,3 +1,3 @@
-//! The tests of `tune_template`: templates, worked out by hand.
+//! Tests of `tune_template`: templates worked out by hand.
 mod instances;
 mod ranges;

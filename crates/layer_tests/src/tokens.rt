@@ -1,24 +1,22 @@
-//! The tests of `rc_text`: tokens, expressions and names at concrete texts.
+//! Tests of `rc_text`: the tokens, values and names of concrete texts.
 ghost use Rattle.std.specs.Prelude.{◌≡◌, IfOk, All};
 ghost use Rattle.rc_text.specs.Symbols.{LiesIn};
 ghost use Rattle.rc_text.specs.Tokens.{ahead_of};
 
-use rc_text::class::{NameClass, is_opcode_word, name_class};
-use rc_text::expression::eval;
-use rc_text::fault::{EvalFault, LexFault};
-use rc_text::lexer::Lexer;
-use rc_text::names::Names;
-use rc_text::token::{Joined, Kind, Sign, Token};
+use rc_text::{
+    EvalFault, Joined, Kind, LexFault, Lexer, NameClass, Names, Sign, Token, eval, is_opcode_word,
+    name_class,
+};
 use std::alloc::Global;
 use std::test::Fail;
 
-// Names that stand for nothing, or all for the same number.
+// Gives every name the value `number`, or none a value.
 #[derive(Drop)]
-struct Same {
+struct OneValue {
     number: Option<i64>,
 }
 
-impl Names for Same {
+impl Names for OneValue {
     ghost meaning = { λ names _. names.number };
 
     fn value(&self, _source: &[u8], _name: &Token) -> Option<i64> {
@@ -44,7 +42,7 @@ fn value_of(
     number: Option<i64>,
 ) -> Result<Result<i64, EvalFault>, Fail> {
     let tokens = tokens_of(alloc, text)?;
-    Ok(eval(text, &tokens, &Same { number }))
+    Ok(eval(text, &tokens, &OneValue { number }))
 }
 
 fn nested(alloc: Global, depth: usize, close: bool) -> Result<Vec<u8>, Fail> {
@@ -61,7 +59,7 @@ fn nested(alloc: Global, depth: usize, close: bool) -> Result<Vec<u8>, Fail> {
     Ok(text)
 }
 
-// Each sign by its bytes.
+// Each sign, and its bytes.
 const SIGNS: [(&[u8], Sign); 25] = [
     (b".", Sign::Dot),
     (b",", Sign::Comma),
@@ -102,7 +100,6 @@ fn signs_are_whole_tokens(rt: HostRuntime) -> Result<(), Fail> {
     Ok(())
 }
 
-// Texts and the kinds of all their tokens.
 #[test]
 fn texts_have_tokens(rt: HostRuntime) -> Result<(), Fail> {
     let name = Kind::Name;
@@ -137,9 +134,9 @@ fn texts_have_tokens(rt: HostRuntime) -> Result<(), Fail> {
     Ok(())
 }
 
-// Spans and lines; after a fault the same fault, at its line.
+// Also shows that a fault is returned again, at its line, by each later call.
 #[test]
-fn tokens_have_places(rt: HostRuntime) -> Result<(), Fail> {
+fn tokens_have_spans_and_lines(rt: HostRuntime) -> Result<(), Fail> {
     let mut lexer = Lexer::new(b"ignored ?\n;redcode\n DAT\n12=");
     assert_eq!(rt; lexer.line(), 3);
     for (kind, lo, hi, line, next) in [
@@ -222,7 +219,7 @@ fn expressions_have_values(rt: HostRuntime) -> Result<(), Fail> {
     Ok(())
 }
 
-// The grammar comes first, then values from the left.
+// A syntax fault comes before a fault of a value, and values are computed from the left.
 #[test]
 fn faults_come_in_order(rt: HostRuntime) -> Result<(), Fail> {
     for (text, fault) in [
@@ -285,7 +282,7 @@ fn names_have_classes(rt: HostRuntime) {
 }
 
 #[test]
-fn opcode_words_are_no_directives(rt: HostRuntime) {
+fn directives_are_not_opcode_words(rt: HostRuntime) {
     for (name, is_one) in [
         (b"dat".as_slice(), true),
         (b"CMP", true),
@@ -315,7 +312,7 @@ fn counters_are_joined(rt: HostRuntime) {
 fn faults_have_texts(rt: HostRuntime) -> Result<(), Fail> {
     assert_eq!(rt;
         format!(in rt.alloc(); "{}", LexFault::NumberTooLarge)?.as_str(),
-        "a number above 4294967295"
+        "number above 4294967295"
     );
     assert_eq!(rt;
         format!(in rt.alloc(); "{}", EvalFault::TooDeep)?.as_str(),

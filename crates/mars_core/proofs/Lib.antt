@@ -2,6 +2,6 @@ pub mod Below
 pub mod Sums
 pub mod Queues
 pub mod Least
-pub mod Placing
+pub mod Loading
 pub mod Going
 pub mod Outcomes

@@ -1,28 +1,28 @@
--- What a contract sees of an arena, and what is true of every one (this project's own).
+-- An arena as contracts see it, and what holds of every arena.
 use Rattle.std.specs.Prelude.{◌≡◌, ℕ, ◌*◌, ◌≤◌, List}
-use Rattle.rc_instr.specs.Rules.{Limits, IsRules}
+use Rattle.rc_instr.specs.Rules.{RulesView, IsRules}
 use Rattle.rc_instr.specs.declared.instruction.Instruction.{Instruction}
 use Rattle.circular_buffer.specs.Buffer.{Buffer}
 use Rattle.mars_core.specs.Core.{IsCore, AreTasks}
 use Rattle.mars_core.specs.State.{State, blank_of}
 
 pub record ArenaView : Type 0 where
-  pub rules : Limits
+  pub rules : RulesView
   pub state : State
   -- the turns made since the load
   pub turns : ℕ
-  -- how many cells a reset would set
+  -- the number of cells that a reset would set
   pub marks : ℕ
 
-abbrev pub arena : Limits → List Instruction → List ℕ → List ℕ → ℕ → ℕ → ArenaView
+abbrev pub arena : RulesView → List Instruction → List ℕ → List ℕ → ℕ → ℕ → ArenaView
 arena rules core candidate opponent turns marks =
     record { rules = rules; state = record { core = core; candidate = candidate; opponent = opponent }; turns = turns; marks = marks }
 
--- a blank arena: empty cells, no tasks, no turns made, and the marks of a new store
-abbrev pub blank_arena : Limits → ℕ → ArenaView
+-- A blank arena has empty cells, no tasks, no turns made, and the marks of a new store.
+abbrev pub blank_arena : RulesView → ℕ → ArenaView
 blank_arena rules marks = record { rules = rules; state = blank_of rules.core; turns = 0; marks = marks }
 
-pub record IsArena (rules : Limits) (core : List Instruction) (candidate opponent : Buffer ℕ) (turns : ℕ) : Type 0 where
+pub record IsArena (rules : RulesView) (core : List Instruction) (candidate opponent : Buffer ℕ) (turns : ℕ) : Type 0 where
   pub rules_hold : IsRules rules
   pub core_holds : IsCore rules.core core
   pub candidate_room : candidate.capacity ≡ rules.tasks

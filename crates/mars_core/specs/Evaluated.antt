@@ -1,4 +1,4 @@
--- How the code's values stand for those of the definitions.
+-- The values of the code, seen as those of the definitions.
 use Rattle.std.specs.Prelude.{ℕ, List, [], ◌∷◌}
 use Rattle.rc_instr.specs.declared.instruction.Instruction.{Instruction}
 use Rattle.mars_core.specs.Numbers.{sum_of}
@@ -6,7 +6,7 @@ use Rattle.mars_core.specs.Operand.{Operand}
 use Rattle.mars_core.specs.declared.effect.Queued.{Queued}
 use Rattle.mars_core.specs.declared.effect.Queued.TheVariants.{Nothing, Next, Skip, Jump, Split}
 
--- an operand by the address to which it points, in place of the pointer
+-- An operand with the address to which it points, in place of the pointer from the task's cell.
 pub record Located : Type 0 where
   pub address : ℕ
   pub copy : Instruction
@@ -15,11 +15,10 @@ pub record Located : Type 0 where
 abbrev pub located : ℕ → Instruction → List Instruction → Located
 located address copy core = record { address = address; copy = copy; core = core }
 
--- of the task at pc
 abbrev pub located_from : ℕ → ℕ → Operand → Located
 located_from m pc o = located (sum_of m pc o.pointer) o.copy o.core
 
--- the addresses that are queued by the task at pc, where the A-operand points to `jump`
+-- The addresses that the task at pc queues, in order; `jump` is where its A-operand points.
 abbrev pub addresses : ℕ → ℕ → ℕ → Queued → List ℕ
 addresses m pc jump Nothing = []
 addresses m pc jump Next = sum_of m pc 1 ∷ []

@@ -1,6 +1,6 @@
--- A core is a list of instructions, and a step of a task is a function from a core and a place to a core and the addresses that are queued.
--- A fight is turns that alternate, of a state of one core and two queues; its outcome is read at the first turn after which a side has no task.
--- An arena stands for such a state, whatever store keeps its cells.
+-- A core is a list of instructions. A step leads from a core and an address to a core and what it
+-- queues. A fight alternates turns of two sides over one core and two queues, until a side has no
+-- task. An arena is such a state, whatever keeps its cells.
 pub mod Numbers
 pub mod Core
 pub mod Operand

@@ -1,4 +1,4 @@
--- The numbers of a core of m cells are 0 to m - 1, and sums, differences and products are taken modulo m (1994 draft).
+-- Numbers in a core of m cells are 0 to m - 1; arithmetic is modulo m (1994 draft).
 use Rattle.std.specs.Prelude.{ℕ, ◌+◌, ◌-◌, ◌*◌, ◌%◌}
 use Rattle.rc_instr.specs.declared.instruction.Instruction.{Instruction}
 use Rattle.mars_core.specs.declared.number.Field.{Field}
@@ -13,12 +13,10 @@ difference_of m x y = (x + (m - y)) % m
 unfoldable pub product_of : ℕ → ℕ → ℕ → ℕ
 product_of m x y = (x * y) % m
 
--- one of the two numbers of an instruction
-abbrev pub number_of : Field → Instruction → ℕ
-number_of ANumber i = i.a_number
-number_of BNumber i = i.b_number
+abbrev pub field_of : Field → Instruction → ℕ
+field_of ANumber i = i.a_number
+field_of BNumber i = i.b_number
 
--- the instruction with that number changed
-abbrev pub with_number : Field → ℕ → Instruction → Instruction
-with_number ANumber n i = record i { a_number = n }
-with_number BNumber n i = record i { b_number = n }
+abbrev pub with_field : Field → ℕ → Instruction → Instruction
+with_field ANumber n i = record i { a_number = n }
+with_field BNumber n i = record i { b_number = n }

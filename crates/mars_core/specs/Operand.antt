@@ -1,37 +1,38 @@
--- The evaluation of an operand (1994 draft): where it points, a copy of the cell there, and what becomes of the core.
+-- Evaluating an operand: where it points, a copy of the cell there, and the core afterwards (1994
+-- draft).
 use Rattle.std.specs.Prelude.{ℕ, List}
 use Rattle.rc_instr.specs.declared.instruction.Instruction.{Instruction}
 use Rattle.rc_instr.specs.declared.instruction.Mode.{Mode}
 use Rattle.rc_instr.specs.declared.instruction.Mode.TheVariants.{Immediate, Direct, AIndirect, BIndirect, APredecrement, BPredecrement, APostincrement, BPostincrement}
-use Rattle.mars_core.specs.Numbers.{sum_of, difference_of, number_of}
+use Rattle.mars_core.specs.Numbers.{sum_of, difference_of, field_of}
 use Rattle.mars_core.specs.Core.{cell_at, changed_at}
 use Rattle.mars_core.specs.declared.number.Field.{Field}
 use Rattle.mars_core.specs.declared.number.Field.TheVariants.{ANumber, BNumber}
 
--- the pointer, relative to the task's place; a copy of the cell that it leads to; the core afterwards
+-- The pointer counts from the task's own cell.
 pub record Operand : Type 0 where
   pub pointer : ℕ
   pub copy : Instruction
   pub core : List Instruction
 
--- the operand of the task at pc that has this pointer, in a core that stays as it is
+-- The operand with a given pointer, which changes nothing in the core.
 abbrev pub pointing : ℕ → List Instruction → ℕ → ℕ → Operand
 pointing m core pc pointer = record { pointer = pointer; copy = cell_at core (sum_of m pc pointer); core = core }
 
--- n and the number that the cell at pc + n holds
+-- The pointer is n plus the number that the cell at pc + n holds.
 abbrev pub indirect : ℕ → List Instruction → ℕ → ℕ → Field → Operand
-indirect m core pc n field = pointing m core pc (sum_of m n (number_of field (cell_at core (sum_of m pc n))))
+indirect m core pc n field = pointing m core pc (sum_of m n (field_of field (cell_at core (sum_of m pc n))))
 
--- the same, after that number is lowered by 1
+-- Lowers that number by 1 first.
 abbrev pub predecrement : ℕ → List Instruction → ℕ → ℕ → Field → Operand
 predecrement m core pc n field = indirect m (changed_at core (sum_of m pc n) field (λ x. difference_of m x 1)) pc n field
 
--- the same as indirect; after the copy is taken, that number is raised by 1
+-- Raises that number by 1 after the copy is taken.
 abbrev pub postincrement : ℕ → List Instruction → ℕ → ℕ → Field → Operand
 postincrement m core pc n field =
     record (indirect m core pc n field) { core = changed_at core (sum_of m pc n) field (λ x. sum_of m x 1) }
 
--- in a core of m cells, of the task at pc, by the mode and the number n
+-- What each mode does with the number n, for the task at pc in a core of m cells.
 unfoldable pub operand_of : ℕ → List Instruction → ℕ → Mode → ℕ → Operand
 operand_of m core pc Immediate n = pointing m core pc 0
 operand_of m core pc Direct n = pointing m core pc n

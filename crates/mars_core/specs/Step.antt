@@ -1,4 +1,4 @@
--- One step of a task (1994 draft; SEQ, SNE and NOP as pMARS has them).
+-- One step of a task (1994 draft; SEQ, SNE and NOP are from pMARS).
 use Rattle.std.specs.Prelude.{ℕ, if◌then◌else◌, List, [], ◌∷◌, length, slice_set}
 use Rattle.rc_instr.specs.declared.instruction.Instruction.{Instruction}
 use Rattle.rc_instr.specs.declared.instruction.Opcode.{Opcode}
@@ -9,7 +9,7 @@ use Rattle.mars_core.specs.Core.{cell_at}
 use Rattle.mars_core.specs.Operand.{operand_of}
 use Rattle.mars_core.specs.Pairs.{computed, counted_down, has_zero_divisor, all_are, are_equal, are_less}
 
--- what a step leaves: the core, and the addresses that it queues, in order
+-- What a step leaves: the core, and the addresses that it queues, in order.
 pub record Effect : Type 0 where
   pub core : List Instruction
   pub queued : List ℕ
@@ -17,15 +17,14 @@ pub record Effect : Type 0 where
 abbrev pub leaves : List Instruction → List ℕ → Effect
 leaves core queued = record { core = core; queued = queued }
 
--- pc + 1, and pc + 2
 abbrev pub next : ℕ → ℕ → List ℕ
 next m pc = sum_of m pc 1 ∷ []
 
 abbrev pub skip : ℕ → ℕ → List ℕ
 skip m pc = sum_of m pc 2 ∷ []
 
--- What an opcode does in a core of m cells, for the task at pc: `jump` is the address to which the A-operand points,
--- `a` and `b` are the copies of the two cells, and `at` is the address to which the B-operand points.
+-- What each opcode does for the task at pc in a core of m cells. The A-operand points to address
+-- `jump`, the B-operand to address `at`; `a` and `b` are the copies of these cells.
 unfoldable pub effect_of : Opcode → Modifier → ℕ → List Instruction → ℕ → ℕ → Instruction → Instruction → ℕ → Effect
 effect_of Dat k m core pc jump a b at = leaves core []
 effect_of Nop k m core pc jump a b at = leaves core (next m pc)
@@ -47,8 +46,8 @@ effect_of Sne k m core pc jump a b at = leaves core (if are_equal k a b then nex
 effect_of Slt k m core pc jump a b at = leaves core (if are_less k a b then skip m pc else next m pc)
 effect_of Spl k m core pc jump a b at = leaves core (sum_of m pc 1 ∷ jump ∷ [])
 
--- The step of the task at pc: the instruction there is fetched, its A-operand is evaluated, then its B-operand in the core
--- that the first leaves, then the opcode acts in the core that the second leaves.
+-- The step of the task at pc: fetch the instruction, evaluate its A-operand, evaluate its B-operand
+-- in the core that the first leaves, and let the opcode act in the core that the second leaves.
 unfoldable pub step_of : List Instruction → ℕ → Effect
 step_of core pc =
     let m = length core in

@@ -1,18 +1,15 @@
-//! The arena: a core, the tasks of two warriors, and fights in it.
+//! The arena in which two warriors fight.
 ghost use Rattle.std.specs.Prelude.{◌≡◌, ◌+◌, ◌*◌, ◌<◌, ◌≤◌, length, slice_index, IfOk};
 ghost use Rattle.rc_instr.specs.Warrior.{Fits};
 ghost use Rattle.mars_core.specs.Core.{cell_at};
 ghost use Rattle.mars_core.specs.State.{blank_of, start_of, turn_of, play_of, tasks_of};
 
-use crate::cells::{Cells, PlainCells};
-use crate::fight::{alternate, place};
+use crate::cells::{Cells, PlainCells, load_code};
+use crate::fight_loop::alternate;
 use crate::side::Side;
 use crate::turn::{append, take_turn};
 use circular_buffer::HeapCircularBuffer;
-use rc_instr::instruction::Instruction;
-use rc_instr::memory::OutOfMemory;
-use rc_instr::rules::Rules;
-use rc_instr::warrior::Warrior;
+use rc_instr::{Instruction, OutOfMemory, Rules, Warrior};
 use std::alloc::Global;
 use std::marker::Model;
 
@@ -21,11 +18,13 @@ use std::marker::Model;
 pub struct Outcome {
     /// The candidate's points: 3 for a win, 1 for a tie, 0 for a loss.
     pub points: u8,
-    /// How many turns were made, those of both sides counted.
+    /// The turns of both sides together.
     pub turns: u32,
 }
 
-/// A core and the tasks of two warriors. Contracts see the rules, the state, the turns made since the load, and the marks.
+/// A core and the tasks of two warriors, under fixed rules.
+///
+/// Contracts see the rules, the state, the turns since the load, and the marks of the cells.
 #[derive(Drop)]
 pub struct Arena<C: Cells> {
     cells: C,
@@ -48,10 +47,12 @@ impl<C: Cells> Model for Arena<C> {
 impl<C: Cells> Arena<C> {
     ghost use Rattle.mars_core.specs.Fight.{outcome_of, points_in};
 
-    /// Loads the candidate from address 0 and the opponent from address `at`, and gives each one task at its start.
+    /// Loads the candidate from address 0 and the opponent from address `at`, and gives each one
+    /// task, at its start.
     ///
-    /// The arena is blank, both warriors keep its rules, and `at` is at least the distance of the rules and at most the
-    /// core size less the distance. The marks grow by at most the two code lengths. That the candidate stands at 0 is this project's own.
+    /// The arena must be blank and both warriors must keep its rules. `at` is at least the distance
+    /// of the rules, and at most the core size less that distance. The marks grow by at most the
+    /// two code lengths.
     #[tactic(auto, unfolding(crate::specs::State::start_of))]
     pub fn load(&mut self, candidate: &Warrior, opponent: &Warrior, at: u32)
         requires blank { (self.old.state ≡ blank_of self.old.rules.core) × (self.old.turns ≡ 0) }
@@ -64,16 +65,18 @@ impl<C: Cells> Arena<C> {
         ensures marks { self.new.marks ≤ self.old.marks + length candidate.now.code + length opponent.now.code }
     {
         let size = self.rules.core();
-        place(&mut self.cells, size, 0, candidate.code());
-        place(&mut self.cells, size, at, opponent.code());
+        load_code(&mut self.cells, size, 0, candidate.code());
+        load_code(&mut self.cells, size, at, opponent.code());
         append(&mut self.candidate, candidate.start());
         append(&mut self.opponent, at + opponent.start());
     }
 
-    /// Makes one turn of a side: its first task is taken out and makes a step, and what that queues is appended while
-    /// there is room (1994 draft). A side without tasks leaves the state as it is, and the turn is counted.
+    /// Runs one turn of `side`: pops its first task, executes that instruction, and appends what it
+    /// queues while there is room (1994 draft). A side without tasks changes nothing, but the turn
+    /// counts.
     ///
-    /// Fewer than two turns a cycle of the rules were made since the load. The marks grow by at most 3.
+    /// Fewer turns than two for each cycle of the rules were made since the load. The marks grow by
+    /// at most 3.
     pub fn step(&mut self, side: Side)
         requires { self.old.turns < 2 * self.old.rules.cycles }
         ensures state { self.new.state ≡ turn_of self.old.rules.tasks self.old.state side }
@@ -89,8 +92,8 @@ impl<C: Cells> Arena<C> {
         self.turns += 1;
     }
 
-    /// Notes how many turns a fight took, and answers its outcome, which the tasks that are left show.
-    fn end(&mut self, turns: u32) -> Outcome
+    // Records the turns and returns the outcome, read off the remaining tasks.
+    fn finish(&mut self, turns: u32) -> Outcome
         requires { turns ≤ 2 * self.old.rules.cycles }
         ensures points { result.points ≡ points_in self.old.state }
         ensures result { result.turns ≡ turns }
@@ -107,11 +110,12 @@ impl<C: Cells> Arena<C> {
         Outcome { points, turns }
     }
 
-    /// Fights to the end: turns alternate from the first mover, until a side has no task, and at most for the cycles of the rules,
-    /// in each of which both sides have a turn.
+    /// Plays a fight to its end: turns alternate, `first` moving first, until a side has no task or
+    /// the cycles of the rules are over. A cycle is one turn of each side.
     ///
-    /// No turn was made since the load. The candidate gets 3 points where the opponent has no task left, 0 where it has none
-    /// itself, and 1 where both have tasks after all cycles (pMARS's points for two warriors). The marks grow by at most 3 a turn.
+    /// No turn was made since the load. The candidate gets 3 points if the opponent has no task
+    /// left, 0 if it has none itself, and 1 if both still have tasks (pMARS, for two warriors). The
+    /// marks grow by at most 3 a turn.
     pub fn run(&mut self, first: Side) -> Outcome
         requires { self.old.turns ≡ 0 }
         ensures outcome { result ≡ outcome_of self.old.rules.tasks self.old.state first self.old.rules.cycles }
@@ -126,17 +130,17 @@ impl<C: Cells> Arena<C> {
             Side::Candidate => {
                 let (mine, theirs) = (&mut self.candidate, &mut self.opponent);
                 let turns = alternate(&mut self.cells, mine, theirs, size, cycles);
-                self.end(turns)
+                self.finish(turns)
             }
             Side::Opponent => {
                 let (mine, theirs) = (&mut self.opponent, &mut self.candidate);
                 let turns = alternate(&mut self.cells, mine, theirs, size, cycles);
-                self.end(turns)
+                self.finish(turns)
             }
         }
     }
 
-    /// Makes the arena blank again, and answers how many cells that set: the marks.
+    /// Makes the arena blank again. Returns the number of cells that this set, which is the marks.
     pub fn reset(&mut self) -> u32
         ensures count { result ≡ self.old.marks }
         ensures state { self.new.state ≡ blank_of self.old.rules.core }
@@ -150,7 +154,7 @@ impl<C: Cells> Arena<C> {
         self.cells.restore()
     }
 
-    /// The cell at an address below the core size.
+    /// Returns the cell at address `at`, which is below the core size.
     pub fn cell(&self, at: u32) -> Instruction
         requires { at < self.now.rules.core }
         ensures { result ≡ cell_at self.now.state.core at }
@@ -158,7 +162,7 @@ impl<C: Cells> Arena<C> {
         self.cells.get(at)
     }
 
-    /// How many tasks a side has.
+    /// Returns the number of tasks of `side`.
     pub fn task_count(&self, side: Side) -> u32
         ensures { result ≡ length (tasks_of side self.now.state) }
     {
@@ -168,19 +172,20 @@ impl<C: Cells> Arena<C> {
         }
     }
 
-    /// The address of a side's task of that number, counted from 0, which makes the side's next step. The number is below the count of its tasks.
-    pub fn task(&self, side: Side, number: u32) -> u32
-        requires { number < length (tasks_of side self.now.state) }
-        ensures { result ≡ slice_index (tasks_of side self.now.state) number }
+    /// Returns the address of the task at `index` in the queue of `side`. Index 0 moves next;
+    /// `index` is below the number of tasks.
+    pub fn task(&self, side: Side, index: u32) -> u32
+        requires { index < length (tasks_of side self.now.state) }
+        ensures { result ≡ slice_index (tasks_of side self.now.state) index }
     {
         let task = match side {
-            Side::Candidate => self.candidate.get(number as usize),
-            Side::Opponent => self.opponent.get(number as usize),
+            Side::Candidate => self.candidate.get(index as usize),
+            Side::Opponent => self.opponent.get(index as usize),
         };
         task.copied().map_or(0, u32::from)
     }
 
-    /// How many turns were made since the load, those of both sides counted.
+    /// Returns the turns of both sides since the load.
     pub fn turns(&self) -> u32
         ensures { result ≡ self.now.turns }
     {
@@ -191,8 +196,10 @@ impl<C: Cells> Arena<C> {
 impl Arena<PlainCells> {
     ghost use Rattle.mars_core.specs.Arena.{blank_arena};
 
-    /// A blank arena over plain cells. It takes all the memory that fights in it will need: the cells, and a queue for
-    /// each side of as many tasks as the rules allow. Only want of memory refuses it.
+    /// Makes a blank arena over plain cells.
+    ///
+    /// Reserves all the memory that fights in it need: the cells, and for each side a queue of as
+    /// many tasks as the rules allow. Returns `OutOfMemory` if that fails.
     pub fn try_new(alloc: Global, rules: &Rules) -> Result<Arena<PlainCells>, OutOfMemory>
         ensures { IfOk result (λ a. a ≡ blank_arena rules.now rules.now.core) }
     {

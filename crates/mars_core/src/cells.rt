@@ -1,47 +1,49 @@
-//! Stores of a core's cells.
-ghost use Rattle.std.specs.Prelude.{◌≡◌, ℕ, ◌+◌, ◌<◌, ◌≤◌, List, length, replicate, slice_set, IfOk};
+//! The cells of a core: how they are kept, read, written, and emptied again.
+ghost use Rattle.std.specs.Prelude.{◌≡◌, ℕ, ◌+◌, ◌<◌, ◌≤◌, List, length, replicate, slice_set, All, IfOk};
 ghost use Rattle.rc_instr.specs.Instruction.{empty_cell};
 ghost use Rattle.rc_instr.specs.declared.instruction.Instruction.{Instruction};
-ghost use Rattle.mars_core.specs.Core.{cell_at};
+ghost use Rattle.rc_instr.specs.Warrior.{IsBelow};
+ghost use Rattle.mars_core.specs.Core.{cell_at, loaded_at, IsCore};
 
-use rc_instr::instruction::Instruction;
-use rc_instr::memory::OutOfMemory;
+use rc_instr::{Instruction, OutOfMemory};
 use std::alloc::Global;
 
-/// A store of the cells of a core, and of marks that say how much it takes to empty them again.
+/// Keeps the cells of a core, and counts what it takes to empty them again.
 ///
-/// A contract sees a list of instructions and a number, the marks. Addresses are counted from 0.
+/// Contracts see a list of instructions and a number, the marks. Addresses count from 0.
 pub trait Cells {
-    /// The cells.
+    /// The cells, in the order of their addresses.
     ghost items: { Self → List Instruction };
-    /// How many cells `restore` would set.
+    /// The number of cells that `restore` would set.
     ghost marks: { Self → ℕ };
-    /// The marks of a new store of so many cells.
+    /// The marks of a new store, by its number of cells.
     ghost new_marks: { ℕ → ℕ };
 
-    /// How many cells there are.
+    /// Returns the number of cells.
     fn size(&self) -> u32
         ensures { result ≡ length (items self.now) };
 
-    /// The cell at an address below the size.
+    /// Returns the cell at address `at`, which is below the size.
     fn get(&self, at: u32) -> Instruction
         requires { at < length (items self.now) }
         ensures { result ≡ cell_at (items self.now) at };
 
-    /// Replaces the cell at an address below the size. It adds at most 1 to the marks.
+    /// Replaces the cell at address `at`, which is below the size. Adds at most 1 to the marks.
     fn set(&mut self, at: u32, instruction: Instruction)
         requires { at < length (items self.old) }
         ensures items { items self.new ≡ slice_set (items self.old) at instruction }
         ensures marks { marks self.new ≤ marks self.old + 1 };
 
-    /// Makes every cell empty again, and answers the marks, which are then those of a new store.
+    /// Empties every cell and returns the number of cells that this set, which is the marks.
+    ///
+    /// Afterwards the marks are as in a new store.
     fn restore(&mut self) -> u32
         ensures count { result ≡ marks self.old }
         ensures items { items self.new ≡ replicate (length (items self.old)) empty_cell }
         ensures marks { marks self.new ≡ new_marks (length (items self.old)) };
 }
 
-/// Cells kept as instructions, one after another. `restore` sets all of them, so their marks are their number.
+/// Keeps each cell as an instruction. `restore` sets all cells, so the marks are their number.
 #[derive(Drop)]
 pub struct PlainCells {
     cells: Vec<Instruction>,
@@ -49,7 +51,7 @@ pub struct PlainCells {
 }
 
 impl PlainCells {
-    /// So many empty cells, at most 65535.
+    // Makes `size` empty cells.
     pub(crate) fn try_new(alloc: Global, size: u32) -> Result<PlainCells, OutOfMemory>
         requires { size ≤ 65535 }
         ensures { IfOk result (λ c. c.cells.items ≡ replicate size empty_cell) }
@@ -85,5 +87,48 @@ impl Cells for PlainCells {
     fn restore(&mut self) -> u32 {
         self.cells.fill(Instruction::empty());
         self.size()
+    }
+}
+
+// Reads a cell of a core: its numbers are below the core size.
+#[tactic(auto, using(crate::proofs::Below::cell_below))]
+#[inline(always)]
+pub(crate) fn read<C: Cells>(cells: &C, size: u32, at: u32) -> Instruction
+    requires core { IsCore size (C.items cells.now) }
+    requires at { at < size }
+    ensures value { result ≡ cell_at (C.items cells.now) at }
+    ensures below { IsBelow size result }
+{
+    cells.get(at)
+}
+
+// Replaces a cell of a core.
+#[tactic(auto, using(crate::proofs::Below::core_set))]
+#[inline(always)]
+pub(crate) fn write<C: Cells>(cells: &mut C, size: u32, at: u32, instruction: Instruction)
+    requires core { IsCore size (C.items cells.old) }
+    requires at { at < size }
+    requires below { IsBelow size instruction }
+    ensures items { C.items cells.new ≡ slice_set (C.items cells.old) at instruction }
+    ensures core { IsCore size (C.items cells.new) }
+    ensures marks { C.marks cells.new ≤ C.marks cells.old + 1 }
+{
+    cells.set(at, instruction);
+}
+
+// Writes code into the cells from address `at` on, without wrapping round the end.
+#[tactic(auto, using(crate::proofs::Loading::loaded))]
+pub(crate) fn load_code<C: Cells>(cells: &mut C, size: u32, at: u32, code: &[Instruction])
+    requires core { IsCore size (C.items cells.old) }
+    requires room { at + length code.now ≤ size }
+    requires below { All (IsBelow size) code.now }
+    ensures items { C.items cells.new ≡ loaded_at (C.items cells.old) at code.now }
+    ensures core { IsCore size (C.items cells.new) }
+    ensures marks { C.marks cells.new ≤ C.marks cells.old + length code.now }
+{
+    let mut to = at;
+    for instruction in code {
+        write(cells, size, to, *instruction);
+        to += 1;
     }
 }

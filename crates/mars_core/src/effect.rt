@@ -1,4 +1,4 @@
-//! What opcodes do.
+//! The opcodes: what each writes, and what it queues.
 ghost use Rattle.std.specs.Prelude.{◌≡◌, ◌<◌, ◌≤◌, ◌+◌, slice_set, if◌then◌else◌};
 ghost use Rattle.rc_instr.specs.Warrior.{IsBelow};
 ghost use Rattle.mars_core.specs.Core.{cell_at, IsCore};
@@ -6,76 +6,28 @@ ghost use Rattle.mars_core.specs.Pairs.{computed, counted_down};
 ghost use Rattle.mars_core.specs.Step.{leaves, effect_of};
 ghost use Rattle.mars_core.specs.Evaluated.{addresses};
 
-use crate::cells::Cells;
+use crate::cells::{Cells, read, write};
 use crate::effect::Queued::{Jump, Next, Nothing, Skip, Split};
-use crate::operand::{Evaluated, read, write};
+use crate::operand::Evaluated;
 use crate::pairs::{all_equal, all_less, all_tested_are, compute, count_down, divides_by_zero};
-use rc_instr::instruction::{Instruction, Modifier, Opcode};
+use rc_instr::{Instruction, Modifier, Opcode};
 
-/// What a step queues.
+// Says which addresses a task queues, in order.
 #[derive(Clone, Copy)]
 pub(crate) enum Queued {
-    /// Nothing: the task ends.
+    // None: the task dies.
     Nothing,
-    /// The next address.
+    // The next address.
     Next,
-    /// The address after the next.
+    // The address after the next.
     Skip,
-    /// The address to which the A-operand points.
+    // The address to which the A-operand points.
     Jump,
-    /// The next address, and then the one to which the A-operand points.
+    // The next address, then the address to which the A-operand points.
     Split,
 }
 
-/// Queues one of two, by a test.
-#[inline(always)]
-fn choose(test: bool, yes: Queued, no: Queued) -> Queued
-    ensures { result ≡ (if test then yes else no) }
-{
-    if test { yes } else { no }
-}
-
-/// Writes what MOV, ADD, SUB, MUL, DIV or MOD makes of the cell at an address.
-#[inline(always)]
-fn apply<C: Cells>(
-    cells: &mut C,
-    size: u32,
-    opcode: Opcode,
-    modifier: Modifier,
-    a: Instruction,
-    b: Evaluated,
-)
-    requires core { IsCore size (C.items cells.old) }
-    requires a { IsBelow size a }
-    requires b { IsBelow size b.copy × (b.address < size) }
-    ensures items { C.items cells.new ≡ slice_set (C.items cells.old) b.address
-        (computed opcode modifier size a b.copy (cell_at (C.items cells.old) b.address)) }
-    ensures core { IsCore size (C.items cells.new) }
-    ensures marks { C.marks cells.new ≤ C.marks cells.old + 1 }
-{
-    let target = read(cells, size, b.address);
-    write(
-        cells,
-        size,
-        b.address,
-        compute(opcode, modifier, size, a, b.copy, target),
-    );
-}
-
-/// Lowers the tested numbers of the cell at an address.
-#[inline(always)]
-fn apply_count_down<C: Cells>(cells: &mut C, size: u32, modifier: Modifier, at: u32)
-    requires core { IsCore size (C.items cells.old) }
-    requires at { at < size }
-    ensures items { C.items cells.new ≡ slice_set (C.items cells.old) at (counted_down modifier size (cell_at (C.items cells.old) at)) }
-    ensures core { IsCore size (C.items cells.new) }
-    ensures marks { C.marks cells.new ≤ C.marks cells.old + 1 }
-{
-    let target = read(cells, size, at);
-    write(cells, size, at, count_down(modifier, size, target));
-}
-
-/// Lets the opcode of an instruction act, for the task at `pc`, by its two operands.
+// Runs an opcode on its evaluated operands, for the task at `pc`. Returns what the task queues.
 #[tactic(auto, unfolding(crate::specs::Step::effect_of, crate::specs::Pairs::computed))]
 #[inline(always)]
 pub(crate) fn act<C: Cells>(
@@ -119,4 +71,51 @@ pub(crate) fn act<C: Cells>(
         Opcode::Slt => choose(all_less(modifier, a.copy, b.copy), Skip, Next),
         Opcode::Spl => Split,
     }
+}
+
+#[inline(always)]
+fn choose(test: bool, yes: Queued, no: Queued) -> Queued
+    ensures { result ≡ (if test then yes else no) }
+{
+    if test { yes } else { no }
+}
+
+// Writes the result of MOV, ADD, SUB, MUL, DIV or MOD into the cell of the B-operand.
+#[inline(always)]
+fn apply<C: Cells>(
+    cells: &mut C,
+    size: u32,
+    opcode: Opcode,
+    modifier: Modifier,
+    a: Instruction,
+    b: Evaluated,
+)
+    requires core { IsCore size (C.items cells.old) }
+    requires a { IsBelow size a }
+    requires b { IsBelow size b.copy × (b.address < size) }
+    ensures items { C.items cells.new ≡ slice_set (C.items cells.old) b.address
+        (computed opcode modifier size a b.copy (cell_at (C.items cells.old) b.address)) }
+    ensures core { IsCore size (C.items cells.new) }
+    ensures marks { C.marks cells.new ≤ C.marks cells.old + 1 }
+{
+    let target = read(cells, size, b.address);
+    write(
+        cells,
+        size,
+        b.address,
+        compute(opcode, modifier, size, a, b.copy, target),
+    );
+}
+
+// Lowers the numbers that DJN tests, in the cell at `at`.
+#[inline(always)]
+fn apply_count_down<C: Cells>(cells: &mut C, size: u32, modifier: Modifier, at: u32)
+    requires core { IsCore size (C.items cells.old) }
+    requires at { at < size }
+    ensures items { C.items cells.new ≡ slice_set (C.items cells.old) at (counted_down modifier size (cell_at (C.items cells.old) at)) }
+    ensures core { IsCore size (C.items cells.new) }
+    ensures marks { C.marks cells.new ≤ C.marks cells.old + 1 }
+{
+    let target = read(cells, size, at);
+    write(cells, size, at, count_down(modifier, size, target));
 }

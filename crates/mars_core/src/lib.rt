@@ -1,19 +1,18 @@
-//! The machine: the 1994 draft's, with SEQ, SNE and NOP of pMARS. Cells, one step, one turn, one fight.
+//! The machine of the 1994 draft, with SEQ, SNE and NOP from pMARS: cells, turns, and fights.
 //!
-//! Addresses are counted from 0 in a ring of M cells, M being the core size of the rules. Nothing takes memory but the
-//! making of an arena.
+//! The core is a ring of cells with addresses from 0. Only making an arena takes memory.
 #![tactic(auto)]
 
-pub mod arena;
-pub mod cells;
-pub(crate) mod effect;
-pub(crate) mod fight;
+mod arena;
+mod cells;
+mod effect;
+mod fight_loop;
 pub mod laws;
-pub(crate) mod number;
-pub(crate) mod operand;
-pub(crate) mod pairs;
-pub mod side;
-pub(crate) mod turn;
+mod number;
+mod operand;
+mod pairs;
+mod side;
+mod turn;
 
 pub use arena::{Arena, Outcome};
 pub use cells::{Cells, PlainCells};

@@ -1,22 +1,22 @@
-//! Arithmetic on the numbers 0 to `size - 1` of a core of `size` cells.
+//! The numbers of a core, 0 to `size - 1`, and arithmetic on them modulo the core size.
 ghost use Rattle.std.specs.Prelude.{◌≡◌, ◌<◌, ◌≤◌};
 ghost use Rattle.rc_instr.specs.Warrior.{IsBelow};
-ghost use Rattle.mars_core.specs.Numbers.{sum_of, difference_of, product_of, number_of, with_number};
+ghost use Rattle.mars_core.specs.Numbers.{sum_of, difference_of, product_of, field_of, with_field};
 
-use rc_instr::instruction::Instruction;
+use rc_instr::Instruction;
 
-/// One of the two numbers of an instruction.
+// Names one of the two numbers of an instruction.
 #[derive(Clone, Copy)]
 pub(crate) enum Field {
     ANumber,
     BNumber,
 }
 
-/// That number of an instruction.
+// Returns the A-number or the B-number of an instruction.
 #[inline(always)]
-pub(crate) fn number(size: u32, field: Field, instruction: Instruction) -> u32
+pub(crate) fn field_of(size: u32, field: Field, instruction: Instruction) -> u32
     requires { IsBelow size instruction }
-    ensures value { result ≡ number_of field instruction }
+    ensures value { result ≡ field_of field instruction }
     ensures below { result < size }
 {
     match field {
@@ -25,13 +25,18 @@ pub(crate) fn number(size: u32, field: Field, instruction: Instruction) -> u32
     }
 }
 
-/// The instruction with that number changed.
+// Returns the instruction with one number replaced by `number`.
 #[inline(always)]
-pub(crate) fn with(size: u32, field: Field, number: u32, instruction: Instruction) -> Instruction
+pub(crate) fn with_field(
+    size: u32,
+    field: Field,
+    number: u32,
+    instruction: Instruction,
+) -> Instruction
     requires size { size ≤ 65535 }
     requires instruction { IsBelow size instruction }
     requires number { number < size }
-    ensures value { result ≡ with_number field number instruction }
+    ensures value { result ≡ with_field field number instruction }
     ensures below { IsBelow size result }
 {
     let mut changed = instruction;
@@ -42,7 +47,7 @@ pub(crate) fn with(size: u32, field: Field, number: u32, instruction: Instructio
     changed
 }
 
-/// The sum modulo `size`.
+// Adds modulo `size`. Both terms are below it, so one comparison replaces the division.
 #[tactic(auto, unfolding(crate::specs::Numbers::sum_of))]
 #[inline(always)]
 pub(crate) fn sum(size: u32, x: u32, y: u32) -> u32
@@ -56,7 +61,7 @@ pub(crate) fn sum(size: u32, x: u32, y: u32) -> u32
     if z < size { z } else { z - size }
 }
 
-/// The difference modulo `size`.
+// Subtracts modulo `size`, without a division.
 #[tactic(auto, unfolding(crate::specs::Numbers::difference_of))]
 #[inline(always)]
 pub(crate) fn difference(size: u32, x: u32, y: u32) -> u32
@@ -69,7 +74,7 @@ pub(crate) fn difference(size: u32, x: u32, y: u32) -> u32
     if y <= x { x - y } else { x + (size - y) }
 }
 
-/// The product modulo `size`. It alone divides.
+// Multiplies modulo `size`. This is the only operation that divides by the core size.
 #[tactic(auto, unfolding(crate::specs::Numbers::product_of))]
 #[inline(always)]
 pub(crate) fn product(size: u32, x: u32, y: u32) -> u32

@@ -1,34 +1,14 @@
-//! What opcodes make of the numbers that a modifier pairs.
+//! The numbers that a modifier pairs: what opcodes compute from them, and the tests of jumps and
+//! skips.
 ghost use Rattle.std.specs.Prelude.{◌≡◌, ◌<◌, ◌≤◌, IfSome};
 ghost use Rattle.rc_instr.specs.Warrior.{IsBelow};
 ghost use Rattle.mars_core.specs.Numbers.{difference_of};
-ghost use Rattle.mars_core.specs.Pairs.{value_of, computed, counted_down, has_zero_divisor, all_are, are_equal, are_less};
+ghost use Rattle.mars_core.specs.Pairs.{written_value, computed, counted_down, has_zero_divisor, all_are, are_equal, are_less};
 
 use crate::number::{difference, product, sum};
-use rc_instr::instruction::{Instruction, Modifier, Opcode};
+use rc_instr::{Instruction, Modifier, Opcode};
 
-/// What an opcode writes for a pair, by its A-value and its B-value.
-#[tactic(auto, unfolding(crate::specs::Pairs::value_of))]
-#[inline(always)]
-fn value(opcode: Opcode, size: u32, a: u16, b: u16) -> Option<u16>
-    requires size { size ≤ 65535 }
-    requires a { a < size }
-    requires b { b < size }
-    ensures value { result ≡ value_of opcode size a b }
-    ensures below { IfSome result (λ n. n < size) }
-{
-    match opcode {
-        Opcode::Mov => Some(a),
-        Opcode::Add => Some(sum(size, u32::from(b), u32::from(a)) as u16),
-        Opcode::Sub => Some(difference(size, u32::from(b), u32::from(a)) as u16),
-        Opcode::Mul => Some(product(size, u32::from(b), u32::from(a)) as u16),
-        Opcode::Div => b.checked_div(a),
-        Opcode::Mod => b.checked_rem(a),
-        _ => None,
-    }
-}
-
-/// What MOV, ADD, SUB, MUL, DIV or MOD makes of the target.
+// Returns the target as MOV, ADD, SUB, MUL, DIV or MOD leaves it.
 #[tactic(auto, unfolding(crate::specs::Pairs::computed))]
 #[inline(always)]
 pub(crate) fn compute(
@@ -52,38 +32,38 @@ pub(crate) fn compute(
     let mut changed = target;
     match modifier {
         Modifier::A => {
-            if let Some(n) = value(opcode, size, a.a_number, b.a_number) {
+            if let Some(n) = written_value(opcode, size, a.a_number, b.a_number) {
                 changed.a_number = n;
             }
         }
         Modifier::B => {
-            if let Some(n) = value(opcode, size, a.b_number, b.b_number) {
+            if let Some(n) = written_value(opcode, size, a.b_number, b.b_number) {
                 changed.b_number = n;
             }
         }
         Modifier::AB => {
-            if let Some(n) = value(opcode, size, a.a_number, b.b_number) {
+            if let Some(n) = written_value(opcode, size, a.a_number, b.b_number) {
                 changed.b_number = n;
             }
         }
         Modifier::BA => {
-            if let Some(n) = value(opcode, size, a.b_number, b.a_number) {
+            if let Some(n) = written_value(opcode, size, a.b_number, b.a_number) {
                 changed.a_number = n;
             }
         }
         Modifier::F | Modifier::I => {
-            if let Some(n) = value(opcode, size, a.a_number, b.a_number) {
+            if let Some(n) = written_value(opcode, size, a.a_number, b.a_number) {
                 changed.a_number = n;
             }
-            if let Some(n) = value(opcode, size, a.b_number, b.b_number) {
+            if let Some(n) = written_value(opcode, size, a.b_number, b.b_number) {
                 changed.b_number = n;
             }
         }
         Modifier::X => {
-            if let Some(n) = value(opcode, size, a.a_number, b.b_number) {
+            if let Some(n) = written_value(opcode, size, a.a_number, b.b_number) {
                 changed.b_number = n;
             }
-            if let Some(n) = value(opcode, size, a.b_number, b.a_number) {
+            if let Some(n) = written_value(opcode, size, a.b_number, b.a_number) {
                 changed.a_number = n;
             }
         }
@@ -91,18 +71,7 @@ pub(crate) fn compute(
     changed
 }
 
-/// A number lowered by 1.
-#[inline(always)]
-fn lowered(size: u32, number: u16) -> u16
-    requires size { (1 < size) × (size ≤ 65535) }
-    requires number { number < size }
-    ensures value { result ≡ difference_of size number 1 }
-    ensures below { result < size }
-{
-    difference(size, u32::from(number), 1) as u16
-}
-
-/// What DJN makes of the target: its tested numbers are lowered by 1.
+// Returns the target as DJN leaves it: the numbers that it tests, lowered by 1.
 #[tactic(auto, unfolding(crate::specs::Pairs::counted_down))]
 #[inline(always)]
 pub(crate) fn count_down(modifier: Modifier, size: u32, target: Instruction) -> Instruction
@@ -123,7 +92,7 @@ pub(crate) fn count_down(modifier: Modifier, size: u32, target: Instruction) -> 
     changed
 }
 
-/// Whether some A-value is 0.
+// Checks whether some A-value is 0, in which case DIV and MOD end the task.
 #[tactic(auto, unfolding(crate::specs::Pairs::has_zero_divisor))]
 #[inline(always)]
 pub(crate) fn divides_by_zero(modifier: Modifier, a: Instruction) -> bool
@@ -136,7 +105,7 @@ pub(crate) fn divides_by_zero(modifier: Modifier, a: Instruction) -> bool
     }
 }
 
-/// Whether all tested numbers are `n`.
+// Checks whether all numbers that JMZ, JMN or DJN tests are `n`.
 #[tactic(auto, unfolding(crate::specs::Pairs::all_are))]
 #[inline(always)]
 pub(crate) fn all_tested_are(modifier: Modifier, n: u16, b: Instruction) -> bool
@@ -149,7 +118,7 @@ pub(crate) fn all_tested_are(modifier: Modifier, n: u16, b: Instruction) -> bool
     }
 }
 
-/// Whether the values of every pair are equal, or with I the whole instructions.
+// Checks whether the values of every pair are equal; with I, whether the instructions are.
 #[tactic(auto, unfolding(crate::specs::Pairs::are_equal))]
 #[inline(always)]
 pub(crate) fn all_equal(modifier: Modifier, a: Instruction, b: Instruction) -> bool
@@ -166,7 +135,7 @@ pub(crate) fn all_equal(modifier: Modifier, a: Instruction, b: Instruction) -> b
     }
 }
 
-/// Whether every A-value is less than its B-value.
+// Checks whether every A-value is less than its B-value.
 #[tactic(auto, unfolding(crate::specs::Pairs::are_less))]
 #[inline(always)]
 pub(crate) fn all_less(modifier: Modifier, a: Instruction, b: Instruction) -> bool
@@ -180,4 +149,36 @@ pub(crate) fn all_less(modifier: Modifier, a: Instruction, b: Instruction) -> bo
         Modifier::F | Modifier::I => a.a_number < b.a_number && a.b_number < b.b_number,
         Modifier::X => a.a_number < b.b_number && a.b_number < b.a_number,
     }
+}
+
+// Computes what an opcode writes for one pair, from its A-value and its B-value. `None` if it
+// writes nothing, as DIV and MOD do with a zero divisor.
+#[tactic(auto, unfolding(crate::specs::Pairs::written_value))]
+#[inline(always)]
+fn written_value(opcode: Opcode, size: u32, a: u16, b: u16) -> Option<u16>
+    requires size { size ≤ 65535 }
+    requires a { a < size }
+    requires b { b < size }
+    ensures value { result ≡ written_value opcode size a b }
+    ensures below { IfSome result (λ n. n < size) }
+{
+    match opcode {
+        Opcode::Mov => Some(a),
+        Opcode::Add => Some(sum(size, u32::from(b), u32::from(a)) as u16),
+        Opcode::Sub => Some(difference(size, u32::from(b), u32::from(a)) as u16),
+        Opcode::Mul => Some(product(size, u32::from(b), u32::from(a)) as u16),
+        Opcode::Div => b.checked_div(a),
+        Opcode::Mod => b.checked_rem(a),
+        _ => None,
+    }
+}
+
+#[inline(always)]
+fn lowered(size: u32, number: u16) -> u16
+    requires size { (1 < size) × (size ≤ 65535) }
+    requires number { number < size }
+    ensures value { result ≡ difference_of size number 1 }
+    ensures below { result < size }
+{
+    difference(size, u32::from(number), 1) as u16
 }

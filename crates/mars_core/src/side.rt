@@ -4,8 +4,8 @@ ghost use Rattle.std.specs.Prelude.{◌≡◌};
 /// One of the two warriors of a fight.
 #[derive(Clone, Copy, Debug, PartialEq, Eq)]
 pub enum Side {
-    /// The warrior that is loaded from address 0, for which points are counted.
+    /// The warrior that is tuned: loaded from address 0, and points are counted for it.
     Candidate,
-    /// The warrior that it plays against.
+    /// The warrior that the candidate plays against.
     Opponent,
 }

@@ -1,4 +1,4 @@
-//! One turn: the first task of a queue makes a step.
+//! One turn of a side: its first task executes an instruction, and queues what follows.
 ghost use Rattle.std.specs.Prelude.{◌≡◌, ◌<◌, ◌≤◌, ◌+◌, ◌∷◌, [], ◌++◌, length, if◌then◌else◌, nat_lt};
 ghost use Rattle.circular_buffer.specs.Buffer.{buffer};
 ghost use Rattle.mars_core.specs.Core.{IsCore, AreTasks};
@@ -6,20 +6,49 @@ ghost use Rattle.mars_core.specs.Step.{step_of, leaves};
 ghost use Rattle.mars_core.specs.State.{appended, core_after, tasks_after};
 ghost use Rattle.mars_core.specs.Evaluated.{addresses};
 
-use crate::cells::Cells;
+use crate::cells::{Cells, read};
 use crate::effect::{Queued, act};
 use crate::number::sum;
-use crate::operand::{evaluate, read};
+use crate::operand::evaluate;
 use circular_buffer::HeapCircularBuffer;
 
-/// What the step of a task queues, and the address to which its A-operand points.
+// What a task queues, and the address to which its A-operand points.
 #[derive(Clone, Copy)]
 pub(crate) struct Executed {
     pub(crate) queued: Queued,
     pub(crate) jump: u32,
 }
 
-/// Makes one step of the task at `pc`.
+// Appends a task if there is room; else the task is lost (1994 draft).
+#[inline(always)]
+pub(crate) fn append(tasks: &mut HeapCircularBuffer<u16>, task: u32)
+    requires { task < 65536 }
+    ensures { tasks.new ≡ buffer (if nat_lt (length tasks.old.items) tasks.old.capacity then tasks.old.items ++ task ∷ [] else tasks.old.items) tasks.old.capacity }
+{
+    let _ = tasks.try_push_back(task as u16);
+}
+
+// Takes one turn of the side with these tasks. Changes nothing if there are none.
+#[tactic(auto, using(crate::proofs::Queues::queues), unfolding(crate::specs::State::core_after, crate::specs::State::tasks_after))]
+#[inline(always)]
+pub(crate) fn take_turn<C: Cells>(cells: &mut C, tasks: &mut HeapCircularBuffer<u16>, size: u32)
+    requires core { IsCore size (C.items cells.old) }
+    requires tasks { AreTasks size tasks.old.items }
+    ensures cells { C.items cells.new ≡ core_after (C.items cells.old) tasks.old.items }
+    ensures tasks { tasks.new ≡ buffer (tasks_after tasks.old.capacity (C.items cells.old) tasks.old.items) tasks.old.capacity }
+    ensures core { IsCore size (C.items cells.new) }
+    ensures below { AreTasks size tasks.new.items }
+    ensures marks { C.marks cells.new ≤ C.marks cells.old + 3 }
+{
+    if let Some(task) = tasks.pop_front() {
+        let pc = u32::from(task);
+        let executed = execute(cells, size, pc);
+        append_queued(tasks, size, pc, executed);
+    }
+}
+
+// Executes the instruction at `pc`: evaluates the A-operand, then the B-operand, then runs the
+// opcode (1994 draft).
 #[tactic(auto, unfolding(crate::specs::Step::step_of))]
 #[inline(always)]
 fn execute<C: Cells>(cells: &mut C, size: u32, pc: u32) -> Executed
@@ -60,16 +89,7 @@ fn execute<C: Cells>(cells: &mut C, size: u32, pc: u32) -> Executed
     }
 }
 
-/// Appends a task, if there is room.
-#[inline(always)]
-pub(crate) fn append(tasks: &mut HeapCircularBuffer<u16>, task: u32)
-    requires { task < 65536 }
-    ensures { tasks.new ≡ buffer (if nat_lt (length tasks.old.items) tasks.old.capacity then tasks.old.items ++ task ∷ [] else tasks.old.items) tasks.old.capacity }
-{
-    let _ = tasks.try_push_back(task as u16);
-}
-
-/// Appends what the step of the task at `pc` queues, in order, each if there is room.
+// Appends what the task at `pc` queued, in order, each address if there is room.
 #[inline(always)]
 fn append_queued(tasks: &mut HeapCircularBuffer<u16>, size: u32, pc: u32, executed: Executed)
     requires size { (2 < size) × (size ≤ 65535) }
@@ -87,24 +107,5 @@ fn append_queued(tasks: &mut HeapCircularBuffer<u16>, size: u32, pc: u32, execut
             append(tasks, sum(size, pc, 1));
             append(tasks, executed.jump);
         }
-    }
-}
-
-/// One turn of the side that has these tasks. Without tasks nothing changes.
-#[tactic(auto, using(crate::proofs::Queues::queues), unfolding(crate::specs::State::core_after, crate::specs::State::tasks_after))]
-#[inline(always)]
-pub(crate) fn take_turn<C: Cells>(cells: &mut C, tasks: &mut HeapCircularBuffer<u16>, size: u32)
-    requires core { IsCore size (C.items cells.old) }
-    requires tasks { AreTasks size tasks.old.items }
-    ensures cells { C.items cells.new ≡ core_after (C.items cells.old) tasks.old.items }
-    ensures tasks { tasks.new ≡ buffer (tasks_after tasks.old.capacity (C.items cells.old) tasks.old.items) tasks.old.capacity }
-    ensures core { IsCore size (C.items cells.new) }
-    ensures below { AreTasks size tasks.new.items }
-    ensures marks { C.marks cells.new ≤ C.marks cells.old + 3 }
-{
-    if let Some(task) = tasks.pop_front() {
-        let pc = u32::from(task);
-        let executed = execute(cells, size, pc);
-        append_queued(tasks, size, pc, executed);
     }
 }

@@ -1,14 +1,14 @@
--- Which faults there are, and that bytes with one are no schedule.
+-- The faults of schedules, and that a text with a fault is not a schedule.
 use Rattle.std.proofs.Common.{◌≡◌, ◌≢◌, ◌<◌, ◌+◌, ℕ, true, false, List, [], ◌∷◌, ◌++◌, length, drop, Some, None, Ok, Err, refl, ap, ◌∙◌, arith, subst, length-append}
 use Rattle.std.specs.Prelude.{Bool, Option, Result, option_and_then, if◌then◌else◌, nat_lt, nat_le, ◌&&◌, ◌==◌}
 use Rattle.std.specs.Str.{byte}
 use Rattle.std.proofs.lemmas.Bool.Decides.{nat_tests}
-use Rattle.rc_instr.specs.Rules.{Limits}
+use Rattle.rc_instr.specs.Rules.{RulesView}
 use Rattle.mars_core.specs.declared.side.Side.{Side}
 use Rattle.mars_fight.specs.Records.{Fields}
-use Rattle.mars_fight.specs.Number.{number_of}
-use Rattle.mars_fight.specs.Schedule.{opponent_of, position_of, mover_of, fight_made, fight_of, fights_in, within_limit, is_headed, scheduled}
-use Rattle.mars_fight.specs.ScheduleRefusal.{AreRead, IsFirstWrong, IsOneTooMany, IsFault}
+use Rattle.mars_fight.specs.Decimal.{padded_decimal}
+use Rattle.mars_fight.specs.Schedule.{opponent_of, position_of, mover_named, fight_made, fight_of, fights_in, within_limit, is_headed, scheduled}
+use Rattle.mars_fight.specs.ScheduleRefusal.{AreFightsRead, IsFirstWrong, IsOneTooMany, IsScheduleFault}
 use Rattle.mars_fight.specs.declared.fight.Fight.{Fight}
 use Rattle.mars_fight.specs.declared.fault.ScheduleFaultKind.{ScheduleFaultKind}
 use Rattle.mars_fight.specs.declared.fault.ScheduleFaultKind.TheVariants.{Header, FieldCount, BadNumber, NoSuchOpponent, BadPosition, BadFirst, Empty, TooMany, OutOfMemory}
@@ -26,7 +26,7 @@ IsRowKind NoSuchOpponent = Unit {0}
 IsRowKind BadPosition = Unit {0}
 IsRowKind BadFirst = Unit {0}
 
--- a result has no fault but such
+-- every fault of a result is one that a record can have
 abbrev IsRowResult : {A : Type 0} → Result A ScheduleFaultKind → Type 0
 IsRowResult (Ok x) = Unit {0}
 IsRowResult (Err kind) = IsRowKind kind
@@ -42,12 +42,12 @@ opponent_row n None = tt
 opponent_row n (Some number) = chosen (nat_lt number n) (Ok number) (Err NoSuchOpponent) tt tt
 
 -- a position has no other fault
-position_row : (r : Limits) (number : Option ℕ) → IsRowResult (position_of r number)
+position_row : (r : RulesView) (number : Option ℕ) → IsRowResult (position_of r number)
 position_row r None = tt
 position_row r (Some number) = chosen (nat_le r.distance number && nat_le (number + r.distance) r.core) (Ok number) (Err BadPosition) tt tt
 
 -- the mover has no other fault
-mover_row : (field : List ℕ) → IsRowResult (mover_of field)
+mover_row : (field : List ℕ) → IsRowResult (mover_named field)
 mover_row [] = tt
 mover_row (x ∷ []) = chosen (x == byte "c") _ _ tt (chosen (x == byte "o") _ (Err BadFirst) tt tt)
 mover_row (x ∷ y ∷ more) = tt
@@ -60,20 +60,20 @@ made_row (Ok o) (Ok p) (Err kind) a b c = c
 made_row (Ok o) (Ok p) (Ok f) a b c = tt
 
 -- a record has no other fault
-fight_row : (r : Limits) (n : ℕ) (fields : Fields) → IsRowResult (fight_of r n fields)
+fight_row : (r : RulesView) (n : ℕ) (fields : Fields) → IsRowResult (fight_of r n fields)
 unfolding fight_of
 fight_row r n [] = tt
 fight_row r n (a ∷ []) = tt
 fight_row r n (a ∷ b ∷ []) = tt
-fight_row r n (a ∷ b ∷ c ∷ []) = made_row (opponent_of n (number_of a)) (position_of r (number_of b)) (mover_of c) (opponent_row n (number_of a)) (position_row r (number_of b)) (mover_row c)
+fight_row r n (a ∷ b ∷ c ∷ []) = made_row (opponent_of n (padded_decimal a)) (position_of r (padded_decimal b)) (mover_named c) (opponent_row n (padded_decimal a)) (position_row r (padded_decimal b)) (mover_row c)
 fight_row r n (a ∷ b ∷ c ∷ d ∷ more) = tt
 
--- so the kind of a fault of a record is such a one
+-- the fault of a record is one that a record can have
 row_kind : (x : Result Fight ScheduleFaultKind) (kind : ScheduleFaultKind) → IsRowResult x → x ≡ Err kind → IsRowKind kind
 row_kind x kind h e = subst (λ (y : Result Fight ScheduleFaultKind). IsRowResult y) e h
 
--- the first record that is wrong in such a way is a fault of that kind
-by_kind : (r : Limits) (n : ℕ) (rows : List Fields) (row : ℕ) (kind : ScheduleFaultKind) → IsRowKind kind → IsFirstWrong r n rows row kind → IsFault r n rows row kind
+-- the first faulty record gives its fault, by the kind
+by_kind : (r : RulesView) (n : ℕ) (rows : List Fields) (row : ℕ) (kind : ScheduleFaultKind) → IsRowKind kind → IsFirstWrong r n rows row kind → IsScheduleFault r n rows row kind
 by_kind r n rows row Header h w = absurd h
 by_kind r n rows row Empty h w = absurd h
 by_kind r n rows row TooMany h w = absurd h
@@ -85,26 +85,26 @@ by_kind r n rows row BadPosition h w = w
 by_kind r n rows row BadFirst h w = w
 
 -- the first record that is wrong is a fault
-pub wrong_fault : (r : Limits) (n : ℕ) (rows : List Fields) (row : ℕ) (kind : ScheduleFaultKind) → IsFirstWrong r n rows row kind → IsFault r n rows row kind
+pub wrong_fault : (r : RulesView) (n : ℕ) (rows : List Fields) (row : ℕ) (kind : ScheduleFaultKind) → IsFirstWrong r n rows row kind → IsScheduleFault r n rows row kind
 wrong_fault r n rows row kind w = by_kind r n rows row kind (row_kind (fight_of r n w.fields) kind (fight_row r n w.fields) w.wrong) w
 
--- what is meant by all records, where some of them were read
-pub read_meant : (r : Limits) (n : ℕ) (rows : List Fields) (fights : List Fight) (left : List Fields) → AreRead r n rows fights left
+-- the fights of all records, if some of them were read
+pub read_meant : (r : RulesView) (n : ℕ) (rows : List Fields) (fights : List Fight) (left : List Fields) → AreFightsRead r n rows fights left
     → fights_in r n (drop 1 rows) ≡ joined (Some fights) (fights_in r n left)
 read_meant r n rows fights left h =
     ap (λ (l : List Fields). fights_in r n l) h.parted ∙ fights_in-append r n h.before left
     ∙ ap (λ (o : Option (List Fight)). joined o (fights_in r n left)) h.meant
 
--- records with another first one are no schedule
-not_headed : (r : Limits) (n : ℕ) (rows : List Fields) → is_headed rows ≡ false → scheduled r n rows ≡ None
+-- records without the header are not a schedule
+not_headed : (r : RulesView) (n : ℕ) (rows : List Fields) → is_headed rows ≡ false → scheduled r n rows ≡ None
 not_headed r n rows e = rw e refl
 
--- what records behind a header mean, from what each of them means
-headed_as : (r : Limits) (n : ℕ) (rows : List Fields) (o : Option (List Fight)) → is_headed rows ≡ true → fights_in r n (drop 1 rows) ≡ o → scheduled r n rows ≡ option_and_then within_limit o
+-- the schedule of a header and the records after it
+headed_as : (r : RulesView) (n : ℕ) (rows : List Fields) (o : Option (List Fight)) → is_headed rows ≡ true → fights_in r n (drop 1 rows) ≡ o → scheduled r n rows ≡ option_and_then within_limit o
 headed_as r n rows o h e = rw (h, e) refl
 
--- records of which one means no fight are no schedule
-wrong_none : (r : Limits) (n : ℕ) (rows : List Fields) (row : ℕ) (kind : ScheduleFaultKind) → IsFirstWrong r n rows row kind → scheduled r n rows ≡ None
+-- records with a faulty one are not a schedule
+wrong_none : (r : RulesView) (n : ℕ) (rows : List Fields) (row : ℕ) (kind : ScheduleFaultKind) → IsFirstWrong r n rows row kind → scheduled r n rows ≡ None
 wrong_none r n rows row kind w =
     let none : fights_in r n (w.fields ∷ w.rest) ≡ None = rw w.wrong refl in
     headed_as r n rows None w.read.headed (read_meant r n rows w.fights (w.fields ∷ w.rest) w.read ∙ rw none refl)
@@ -125,20 +125,20 @@ too_many_joined : (fights : List Fight) (o : Option (List Fight)) → length fig
 too_many_joined fights None many some = refl
 too_many_joined fights (Some more) many some = within_limit-many (fights ++ more) (omega (arith, length-append {A = Fight}, some more refl))
 
--- more than 10000 records are no schedule
-too_many_none : (r : Limits) (n : ℕ) (rows : List Fields) (row : ℕ) → IsOneTooMany r n rows row → scheduled r n rows ≡ None
+-- more than 10000 records are not a schedule
+too_many_none : (r : RulesView) (n : ℕ) (rows : List Fields) (row : ℕ) → IsOneTooMany r n rows row → scheduled r n rows ≡ None
 too_many_none r n rows row w =
     headed_as r n rows _ w.read.headed (read_meant r n rows w.fights (w.fields ∷ w.rest) w.read)
     ∙ too_many_joined w.fights (fights_in r n (w.fields ∷ w.rest)) w.many (λ more e. omega (arith, as_many r n (w.fields ∷ w.rest) more e))
 
--- nothing is behind a lone record
+-- nothing comes after a lone record
 alone : (rows : List Fields) → length rows ≡ 1 → drop 1 rows ≡ []
 alone [] e = absurd (omega arith)
 alone (a ∷ []) e = refl
 alone (a ∷ b ∷ rows) e = absurd (omega arith)
 
--- records with a fault other than want of memory are no schedule
-pub fault_none : (r : Limits) (n : ℕ) (rows : List Fields) (row : ℕ) (kind : ScheduleFaultKind) → IsFault r n rows row kind → kind ≢ OutOfMemory → scheduled r n rows ≡ None
+-- records with a fault other than out of memory are not a schedule
+pub fault_none : (r : RulesView) (n : ℕ) (rows : List Fields) (row : ℕ) (kind : ScheduleFaultKind) → IsScheduleFault r n rows row kind → kind ≢ OutOfMemory → scheduled r n rows ≡ None
 fault_none r n rows row Header w k = not_headed r n rows w.1
 fault_none r n rows row FieldCount w k = wrong_none r n rows row FieldCount w
 fault_none r n rows row BadNumber w k = wrong_none r n rows row BadNumber w

@@ -12,7 +12,7 @@ three (x ∷ y ∷ []) a b c n p q r = absurd (omega arith)
 three (x ∷ y ∷ z ∷ []) a b c n p q r = cc
 three (x ∷ y ∷ z ∷ w ∷ more) a b c n p q r = absurd (omega arith)
 
--- where there is no field at a place, the record ends before it
+-- if there is no field at an index, the record ends before it
 pub no_field : (fields : List (List ℕ)) (i : ℕ) → ◌≡◌ {A = Option (List ℕ)} None (field_at fields i) → length fields ≤ i
 unfolding field_at
 no_field [] i e = omega arith

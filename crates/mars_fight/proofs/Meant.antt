@@ -1,32 +1,32 @@
 -- What records mean, one after another.
 use Rattle.std.proofs.Common.{◌≡◌, ◌+◌, ℕ, List, [], ◌∷◌, ◌++◌, length, Some, None, Ok, Err, refl, ap, ◌∙◌, arith}
 use Rattle.std.specs.Prelude.{Option, Result}
-use Rattle.rc_instr.specs.Rules.{Limits}
+use Rattle.rc_instr.specs.Rules.{RulesView}
 use Rattle.mars_fight.specs.Records.{Fields}
 use Rattle.mars_fight.specs.Schedule.{fight_of, fights_in, with_first}
 use Rattle.mars_fight.specs.declared.fight.Fight.{Fight}
 use Rattle.mars_fight.specs.declared.fault.ScheduleFaultKind.{ScheduleFaultKind}
 
--- the fights of both, where both mean some
+-- the fights of both lists, if both are fights
 abbrev pub joined : Option (List Fight) → Option (List Fight) → Option (List Fight)
 joined None b = None
 joined (Some xs) None = None
 joined (Some xs) (Some ys) = Some (xs ++ ys)
 
--- a fight in front of two lists stands in front of the first
+-- a fight before two joined lists is before the first
 with_first_joined : (x : Result Fight ScheduleFaultKind) (a b : Option (List Fight)) → with_first x (joined a b) ≡ joined (with_first x a) b
 with_first_joined (Err k) a b = refl
 with_first_joined (Ok f) None b = refl
 with_first_joined (Ok f) (Some xs) None = refl
 with_first_joined (Ok f) (Some xs) (Some ys) = refl
 
--- no fights in front of others change nothing
+-- no fights before others change nothing
 none_joined : (b : Option (List Fight)) → b ≡ joined (Some []) b
 none_joined None = refl
 none_joined (Some ys) = refl
 
 -- records in front of others
-pub fights_in-append : (r : Limits) (n : ℕ) (a b : List Fields) → fights_in r n (a ++ b) ≡ joined (fights_in r n a) (fights_in r n b)
+pub fights_in-append : (r : RulesView) (n : ℕ) (a b : List Fields) → fights_in r n (a ++ b) ≡ joined (fights_in r n a) (fights_in r n b)
 fights_in-append r n [] b = none_joined (fights_in r n b)
 fights_in-append r n (fields ∷ a) b =
     ap (λ o. with_first (fight_of r n fields) o) (fights_in-append r n a b) ∙ with_first_joined (fight_of r n fields) (fights_in r n a) (fights_in r n b)
@@ -41,7 +41,7 @@ alike_first (Ok f) (Some more) k fights h e =
     omega (arith, h more refl, ap length same)
 
 -- there are as many fights as records
-pub as_many : (r : Limits) (n : ℕ) (rows : List Fields) (fights : List Fight) → fights_in r n rows ≡ Some fights → length rows ≡ length fights
+pub as_many : (r : RulesView) (n : ℕ) (rows : List Fields) (fights : List Fight) → fights_in r n rows ≡ Some fights → length rows ≡ length fights
 as_many r n [] fights e = let same : [] ≡ fights = cc in ap length same
 as_many r n (fields ∷ rows) fights e =
     omega (arith, alike_first (fight_of r n fields) (fights_in r n rows) (length rows) fights (λ more h. as_many r n rows more h) e)

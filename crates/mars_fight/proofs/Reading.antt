@@ -19,23 +19,23 @@ abbrev pub Shortens : ℕ → Option Read → Type 0
 Shortens k None = Unit {0}
 Shortens k (Some p) = (length p.2 < k) ⊎ ((p.1 ≡ st.StartRecord) × (p.2 ≡ []))
 
--- the same of a longer text
+-- such a read is also one of a longer text
 shortens_more : (k : ℕ) (o : Option Read) → Shortens k o → Shortens (suc k) o
 shortens_more k None h = tt
 shortens_more k (Some p) (inl l) = inl (omega arith)
 shortens_more k (Some p) (inr e) = inr e
 
--- the same at the end of a text
+-- a read of an empty text is at its end
 shortens_last : (s : State) (fields : List (List ℕ)) (b : Bool) → Shortens 0 (if b then Some (fields, st.StartRecord, []) else None)
 shortens_last s fields true = inr (refl, refl)
 shortens_last s fields false = tt
 
--- the same of one byte
+-- a read of one byte leaves fewer
 shortens_step : (k : ℕ) (b : Bool) (p : Read) (o : Option Read) → length p.2 < k → Shortens k o → Shortens k (if b then Some p else o)
 shortens_step k true p o l h = inl l
 shortens_step k false p o l h = h
 
--- each read of a record does so
+-- each read of a record is such a read
 pub shortens : (cfg : Config) (s : State) (fields : List (List ℕ)) (field text : List ℕ) → Shortens (length text) (next_record cfg s fields field text)
 unfolding next_record
 shortens cfg s fields field [] = shortens_last s (fields ++ (field ∷ [])) (ends_at_end s)
@@ -74,7 +74,7 @@ next_taken s2 found fields k rest (Some p) (inl l) n =
 next_taken s2 found fields k rest (Some p) (inr e) n =
     rw n.0 (rw (n.1, n.2, n.3, e.0, e.1) (ap (λ (t : List (List (List ℕ))). p.0 ∷ t) (none_left default_config k ∙ sym (none_left default_config 1))))
 
--- the same of the records that a state and bytes have left
+-- the first record of what a state and bytes have left, and the others
 pub taken : (s s2 : State) (text : List ℕ) (after : Option (List ℕ)) (found : Bool) (fields : List (List ℕ)) → ReadsNext default_config s (Some text) after found fields s2
     → MatchBool found (records_left s (Some text) ≡ fields ∷ records_left s2 after) (records_left s (Some text) ≡ [])
 unfolding records_left records_from
@@ -85,7 +85,7 @@ taken s s2 text (Some rest) found fields r = rw add-one (next_taken s2 found fie
 abbrev pub bytes_of : Bor (List ℕ) → Option (List ℕ)
 bytes_of s = Some s.now
 
--- whichever of two texts is left, one is
+-- one of two texts is left
 some_unread : (r : Reader (Bor (List ℕ))) (b : Bool) (x y : List ℕ) → (text : List ℕ) × (◌≡◌ {A = Option (List ℕ)} (if b then Some x else Some y) (Some text))
 some_unread r true x y = (x, refl)
 some_unread r false x y = (y, refl)
@@ -122,14 +122,14 @@ read_going a b found fields false e plain reads failed =
     let p = plain e in
     taken_off a b found fields e p (reads p.trim p.ready)
 
--- what a read answers, in terms of the records that are left
+-- what a read returns, in terms of the records that are left
 read_found : (a b : Reader (Bor (List ℕ))) (fields : List (List ℕ)) (res : Result Bool Error) → IsPlainOrFailed a
     → IfOk res (λ found. reader_trim a ≡ trim.None → Ready a → ReadRecord bytes_of a b found fields) → (a.failed ≡ true → res ≡ Ok false)
     → IfOk res (λ found. MatchBool found (left_of a ≡ fields ∷ left_of b) (left_of a ≡ []))
 read_found a b fields (Ok found) plain reads failed = read_going a b found fields a.failed refl plain reads failed
 read_found a b fields (Err e) plain reads failed = tt
 
--- where records may have any number of fields, each failure of a read of bytes stops the reader
+-- if records may have any number of fields, a failed read of bytes stops the reader
 stopped : (a b : Reader (Bor (List ℕ))) (e : ErrorKind) → a.flexible ≡ true → ExplainsRead bytes_of a b false e → b.failed ≡ stops_reader e → b.failed ≡ true
 stopped a b (kind.Io why) flexible h fails = fails
 stopped a b (kind.UnequalLengths pos expected len) flexible h fails = absurd (cc (h.0))
@@ -138,7 +138,7 @@ stopped a b kind.OutOfMemory flexible h fails = fails
 stopped a b (kind.Serialize text) flexible h fails = absurd h
 stopped a b (kind.Deserialize pos why) flexible h fails = absurd h
 
--- so after a failure nothing is left
+-- after a failure nothing is left
 stopped_after : (a b : Reader (Bor (List ℕ))) (e : Error) (failed : Bool) → a.failed ≡ failed → IsPlainOrFailed a
     → (Ready a → ExplainsRead bytes_of a b false (error_kind e)) → b.failed ≡ stops_reader (error_kind e)
     → (failed ≡ true → ◌≡◌ {A = Result Bool Error} (Err e) (Ok false)) → left_of b ≡ []
@@ -154,28 +154,28 @@ read_refused : (a b : Reader (Bor (List ℕ))) (res : Result Bool Error) → IsP
 read_refused a b (Ok found) plain why fails failed = tt
 read_refused a b (Err e) plain why fails failed = stopped_after a b e a.failed refl plain why fails failed
 
--- the same of a result with another error in place of the reader's
+-- what a read finds, with another error in place of the reader's
 still_found : {E D : Type 0} (res : Result Bool E) (out : Result Bool D) (P : E → D → Type 0) (Q : Bool → Type 0)
     → MatchResult res (λ x. out ≡ Ok x) (λ e. IsErrAnd out (P e)) → IfOk res Q → IfOk out Q
 still_found (Ok x) out P Q h q = rw h q
 still_found (Err e) (Ok y) P Q h q = absurd h
 still_found (Err e) (Err d) P Q h q = tt
 
--- the same of what holds after a failure
+-- what a failed read leaves, with another error in place of the reader's
 still_refused : {E D : Type 0} (res : Result Bool E) (out : Result Bool D) (P : E → D → Type 0) (R : Type 0)
     → MatchResult res (λ x. out ≡ Ok x) (λ e. IsErrAnd out (P e)) → OnErr res R → OnErr out R
 still_refused (Ok x) out P R h r = rw h tt
 still_refused (Err e) (Ok y) P R h r = absurd h
 still_refused (Err e) (Err d) P R h r = r
 
--- what a read answers under another error
+-- what a read returns after `map_err`
 pub answer_found : {D : Type 0} (a b : Reader (Bor (List ℕ))) (fields : List (List ℕ)) (res : Result Bool Error) (out : Result Bool D) (P : Error → D → Type 0)
     → MatchResult res (λ x. out ≡ Ok x) (λ e. IsErrAnd out (P e)) → IsPlainOrFailed a
     → IfOk res (λ found. reader_trim a ≡ trim.None → Ready a → ReadRecord bytes_of a b found fields) → (a.failed ≡ true → res ≡ Ok false)
     → IfOk out (λ found. MatchBool found (left_of a ≡ fields ∷ left_of b) (left_of a ≡ []))
 answer_found a b fields res out P h plain reads failed = still_found res out P _ h (read_found a b fields res plain reads failed)
 
--- what a read leaves after another error
+-- what a failed read leaves after `map_err`
 pub answer_refused : {D : Type 0} (a b : Reader (Bor (List ℕ))) (res : Result Bool Error) (out : Result Bool D) (P : Error → D → Type 0)
     → MatchResult res (λ x. out ≡ Ok x) (λ e. IsErrAnd out (P e)) → IsPlainOrFailed a
     → IfErr res (λ e. Ready a → ExplainsRead bytes_of a b false (error_kind e)) → IfErr res (λ e. b.failed ≡ stops_reader (error_kind e))

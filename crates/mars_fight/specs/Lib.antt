@@ -1,8 +1,8 @@
--- A schedule is a text of comma-separated records, and it means a list of 1 to 10000 fights, or none: each record behind the header is a fight.
--- What is wrong with a schedule is the first fault in order, at the number of its record.
--- A fight gives the candidate the points that the machine gives from the start, and leaves a blank arena as it was.
+-- A schedule is a text of comma-separated records: a header, then 1 to 10000 fights.
+-- A text that is not a schedule is refused for its first fault, at the record that has it.
+-- A fight gives the candidate the points of the machine's outcome, and leaves a blank arena blank.
 pub mod Records
-pub mod Number
+pub mod Decimal
 pub mod Placing
 pub mod Schedule
 pub mod ScheduleRefusal

@@ -1,30 +1,31 @@
--- The records of a text of comma-separated values, in the words of the crate `csv`, which reads them (with commas, double quotes, and LF, CR or CR LF).
+-- The records of a text of comma-separated values, as the crate `csv` reads them: parted by commas
+-- and by LF, CR or CR LF, with double quotes.
 use Rattle.std.specs.Prelude.{◌≡◌, ◌+◌, ℕ, List, [], length, Option, Some, None, true, false}
 use Rattle.csv.specs.Reading.{Ready, default_config, has_failed, is_flexible, reader_config, reader_trim, records, records_from, strip_bom}
 use Rattle.csv.specs.declared.parser.State.{State}
 use Rattle.csv.specs.declared.reader.Reader.{Reader}
 use Rattle.csv.specs.declared.reader.Trim.TheVariants as trim
 
--- a record: the list of its fields, each a list of bytes
+-- the fields of a record, each a list of bytes
 abbrev pub Fields : Type 0
 Fields = List (List ℕ)
 
--- the records of a text without the byte order mark that may stand at its front
+-- the records of a text, without a byte order mark at its front
 unfoldable pub records_of : List ℕ → List Fields
 records_of text = records default_config (strip_bom text)
 
--- the records of what a reader has left, and none where that is not known, which is so after a failure alone
+-- the records that a reader has left; none if that is not known, which is only so after a failure
 unfoldable pub records_left : State → Option (List ℕ) → List Fields
 records_left s None = []
 records_left s (Some text) = records_from default_config (length text + 1) s text
 
--- a reader with no header row, that trims nothing and takes records of any length
+-- the reader has no header row, trims nothing, and takes records of any length
 pub record IsPlain {R : Type 0} (reader : Reader R) : Type 0 where
   pub config : reader_config reader ≡ default_config
   pub trim : reader_trim reader ≡ trim.None
   pub flexible : is_flexible reader ≡ true
   pub ready : Ready reader
 
--- the same of a reader that has not failed
+-- the reader is plain, unless it has failed
 abbrev pub IsPlainOrFailed : {R : Type 0} → Reader R → Type 0
 IsPlainOrFailed reader = has_failed reader ≡ false → IsPlain reader

@@ -1,26 +1,26 @@
-//! What is wrong with a schedule.
+//! Why a schedule is refused.
 use rc_instr::OutOfMemory;
 use std::alloc::AllocFailed;
 use thiserror::Error;
 
-/// What is wrong with a schedule, or with one of its records.
+/// Why a schedule, or one of its records, is refused.
 #[derive(Clone, Copy, Debug, PartialEq, Eq, Error)]
 pub enum ScheduleFaultKind {
-    #[error("the first record is not opponent,position,first")]
+    #[error("first record must be opponent,position,first")]
     Header,
-    #[error("there are not three fields")]
+    #[error("expected three fields")]
     FieldCount,
-    #[error("a number is not 1 to 9 decimal digits")]
+    #[error("number must have 1 to 9 digits")]
     BadNumber,
-    #[error("there is no opponent of this number")]
+    #[error("no such opponent")]
     NoSuchOpponent,
-    #[error("the position is closer than the distance of the rules")]
+    #[error("position closer than the distance")]
     BadPosition,
-    #[error("who moves first is neither c nor o")]
+    #[error("first mover must be c or o")]
     BadFirst,
-    #[error("there is no fight behind the header")]
+    #[error("no fights")]
     Empty,
-    #[error("there are more than 10000 fights")]
+    #[error("more than 10000 fights")]
     TooMany,
     #[error("out of memory")]
     OutOfMemory,
@@ -30,8 +30,8 @@ pub enum ScheduleFaultKind {
 #[derive(Clone, Copy, Debug, PartialEq, Eq, Error)]
 #[error("record {row}: {kind}")]
 pub struct ScheduleFault {
-    /// The record's number. The header has the number 0, so that the record of the first fight has the number 1.
-    /// It is 0 also where there is no fight and where memory was refused.
+    /// The record. The header is record 0, so the record of the first fight is record 1. It is also
+    /// 0 for `Empty` and `OutOfMemory`.
     pub row: u64,
     pub kind: ScheduleFaultKind,
 }

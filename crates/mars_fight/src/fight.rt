@@ -8,32 +8,31 @@ ghost use Rattle.mars_fight.specs.Play.{points_of, ArePoints};
 use mars_core::{Arena, Cells, Side};
 use rc_instr::{Rules, Warrior};
 
-/// One fight: against which opponent, where that one stands, and who moves first.
+/// One fight: the opponent, where it is loaded, and who moves first.
 #[derive(Clone, Copy, Debug, PartialEq, Eq)]
 pub struct Fight {
-    /// The opponent's number, counted from 0.
+    /// The opponent's index.
     pub opponent: u32,
-    /// The address from which the opponent is loaded. The candidate is loaded from 0.
+    /// The address at which the opponent is loaded. The candidate is loaded at 0.
     pub position: u32,
-    /// Who makes the first turn.
+    /// The side that makes the first turn.
     pub first: Side,
 }
 
 impl Fight {
-    /// Whether there are so many opponents that this one is among them, and it stands where the rules let it.
+    // Checks that the opponent exists and that the position keeps the distance.
     pub(crate) fn is_placed(&self, rules: &Rules, opponents: u32) -> bool
         ensures { IsTrue result ↔ IsPlaced rules.now opponents self.now }
     {
-        self.opponent < opponents
-            && rules.distance() <= self.position
-            && self.position <= rules.core() - rules.distance()
+        self.opponent < opponents && keeps_distance(rules, self.position)
     }
 }
 
-/// Plays a fight, and answers the candidate's points: 3 for a win, 1 for a tie, 0 for a loss (pMARS's points for two warriors).
+/// Plays `fight` and returns the candidate's points: 3 for a win, 1 for a tie, 0 for a loss
+/// (pMARS).
 ///
-/// The arena is blank, before the fight and after it. Both warriors keep its rules, and the fight's position is at least the
-/// distance of the rules and at most the core size less the distance. It takes no memory.
+/// The arena must be blank, and is blank again afterwards. Both warriors must fit its rules, and
+/// the position must keep the distance, both ways round the core. Nothing is allocated.
 #[tactic(auto, unfolding(crate::specs::Play::points_of))]
 pub fn play<C: Cells>(
     arena: &mut Arena<C>,
@@ -53,4 +52,11 @@ pub fn play<C: Cells>(
     let outcome = arena.run(fight.first);
     arena.reset();
     outcome.points
+}
+
+// Checks that `position` is far enough from the candidate at 0, both ways round the core.
+pub(crate) fn keeps_distance(rules: &Rules, position: u32) -> bool
+    ensures { IsTrue result ↔ IsPosition rules.now position }
+{
+    rules.distance() <= position && position <= rules.core() - rules.distance()
 }

@@ -9,10 +9,10 @@ use rc_instr::OutOfMemory;
 use std::alloc::Global;
 use std::marker::Model;
 
-/// The records of a text that are still to be read, which contracts see as a list of lists of fields.
+/// The records of a text that are still to be read. Contracts see a list of lists of fields.
 ///
-/// The crate `csv` says what they are. Fields are parted by commas, and records by LF, CR or CR LF. A field may stand in
-/// double quotes. Empty lines are no records, and a byte order mark at the very front of the text is left out.
+/// The crate `csv` reads them: fields are parted by commas, records by LF, CR or CR LF, and a field
+/// may be in double quotes. Empty lines are skipped, and so is a byte order mark at the very front.
 #[derive(Drop)]
 pub struct Records<'a> {
     reader: Reader<&'a [u8]>,
@@ -31,7 +31,8 @@ impl<'a> Model for Records<'a> {
 }
 
 impl<'a> Records<'a> {
-    /// All records of a text, the first one too: none is taken for a header, nothing is trimmed, and each has as many fields as it has.
+    /// Takes all records of `text`, the first one included. Nothing is trimmed, and records may
+    /// have any number of fields.
     pub fn new(alloc: Global, text: &'a [u8]) -> Records<'a>
         ensures { result ≡ records_of text.now }
     {
@@ -42,28 +43,28 @@ impl<'a> Records<'a> {
         Records { reader }
     }
 
-    /// Reads the next record into `row`, and answers whether there was one.
+    /// Reads the next record into `fields`. Returns `false` if there is none.
     ///
-    /// Where memory is refused, the answer is `OutOfMemory`, and from then on no record comes. Nothing else can fail, since the
-    /// bytes are at hand and a record may have any number of fields.
-    pub fn read(&mut self, row: &mut ByteRecord) -> Result<bool, OutOfMemory>
-        ensures read { IfOk result (λ found. MatchBool found (self.old ≡ fields_of row.new ∷ self.new) (self.old ≡ [])) }
+    /// After `OutOfMemory` no more records come. Nothing else can fail: the bytes are at hand, and
+    /// a record may have any number of fields.
+    pub fn read(&mut self, fields: &mut ByteRecord) -> Result<bool, OutOfMemory>
+        ensures read { IfOk result (λ found. MatchBool found (self.old ≡ fields_of fields.new ∷ self.new) (self.old ≡ [])) }
         ensures refused { OnErr result (self.new ≡ []) }
     {
         self.reader
-            .read_byte_record(row)
+            .read_byte_record(fields)
             .map_err(|_refused| OutOfMemory)
     }
 }
 
-/// The fields of a record that has three.
+/// Returns the fields of a record that has exactly three.
 #[tactic(auto, using(crate::proofs::Fields::fields))]
-pub fn three_fields(row: &ByteRecord) -> Option<(&[u8], &[u8], &[u8])>
-    ensures some { IfSome result (λ x. fields_of row.now ≡ x.0.now ∷ x.1.now ∷ x.2.now ∷ []) }
-    ensures none { IfNone result (length (fields_of row.now) ≢ 3) }
+pub fn three_fields(fields: &ByteRecord) -> Option<(&[u8], &[u8], &[u8])>
+    ensures some { IfSome result (λ x. fields_of fields.now ≡ x.0.now ∷ x.1.now ∷ x.2.now ∷ []) }
+    ensures none { IfNone result (length (fields_of fields.now) ≢ 3) }
 {
-    if row.len() != 3 {
+    if fields.len() != 3 {
         return None;
     }
-    Some((row.get(0)?, row.get(1)?, row.get(2)?))
+    Some((fields.get(0)?, fields.get(1)?, fields.get(2)?))
 }

@@ -3,14 +3,14 @@ use Rattle.std.proofs.Common.{◌≡◌, ℕ, ◌<◌, ◌≤◌, Bool, true, fa
 use Rattle.std.specs.Prelude.{ℤ, pos, negsuc, ◌&&◌, ◌⊎◌, nat_le, nat_lt, option_map, option_and_then, if◌then◌else◌}
 use Rattle.std.proofs.lemmas.Bool.{and_parts, and_from, le-leb, lt-ltb, ltb-true, leb-true, cases_Bool}
 use Rattle.rc_instr.specs.declared.instruction.Instruction.{Instruction}
-use Rattle.rc_instr.specs.Rules.{Limits}
-use Rattle.rc_instr.specs.Warrior.{Program, program}
+use Rattle.rc_instr.specs.Rules.{RulesView}
+use Rattle.rc_instr.specs.Warrior.{WarriorView, warrior_view}
 use Rattle.rc_expand.specs.declared.line.Line.{Line}
 use Rattle.rc_expand.specs.Names.{Table}
 use Rattle.rc_expand.specs.Expansion.{expansion_of}
 use Rattle.rc_asm.specs.declared.starts.Starts.{Starts}
-use Rattle.rc_asm.specs.Names.{Names}
-use Rattle.rc_asm.specs.Assembly.{start_of, no_starts, instructions_from, holds_from, starts_from, names_of, IsMadeOf, Assembles, fitting, made_by, made_of, assembled}
+use Rattle.rc_asm.specs.Names.{NameValues}
+use Rattle.rc_asm.specs.Assembly.{start_value, no_starts, instructions_from, holds_from, starts_from, names_of, IsMadeOf, Assembles, fitting, made_by, made_of, assembled}
 
 some_is : {A : Type 0} (x y : A) → Some x ≡ Some y → x ≡ y
 some_is x y h = cc
@@ -24,68 +24,68 @@ if_some true x y h = (refl, some_is x y h)
 if_some false x y h = absurd (cc)
 
 -- what a fitting start says
-record IsFitting (limits : Limits) (code : List Instruction) (z : ℤ) (w : Program) : Type 0 where
+record IsFitting (rules : RulesView) (code : List Instruction) (z : ℤ) (w : WarriorView) : Type 0 where
   is : code ≡ w.code
   start : z ≡ pos w.start
   some : 0 < length w.code
-  within : length w.code ≤ limits.length
+  within : length w.code ≤ rules.length
   inside : w.start < length w.code
 
-fits_of : (limits : Limits) (code : List Instruction) (z : ℤ) (w : Program) → fitting limits code z ≡ Some w → IsFitting limits code z w
-fits_of limits code (negsuc n) w h = absurd (cc)
-fits_of limits code (pos n) w h =
-    let p = if_some _ (program code n) w h in
+fits_of : (rules : RulesView) (code : List Instruction) (z : ℤ) (w : WarriorView) → fitting rules code z ≡ Some w → IsFitting rules code z w
+fits_of rules code (negsuc n) w h = absurd (cc)
+fits_of rules code (pos n) w h =
+    let p = if_some _ (warrior_view code n) w h in
     let a = and_parts _ _ p.0 in
     let b = and_parts _ _ a.1 in
     let c : code ≡ w.code = ap (λ x. x.code) p.1 in
     let s : n ≡ w.start = ap (λ x. x.start) p.1 in
     let l : length code ≡ length w.code = ap length c in
     let some : 0 < length code = ltb-true 0 (length code) a.0 in
-    let within : length code ≤ limits.length = leb-true (length code) limits.length b.0 in
+    let within : length code ≤ rules.length = leb-true (length code) rules.length b.0 in
     let inside : n < length code = ltb-true n (length code) b.1 in
     record { is = c; start = ap pos s; some = omega (arith, some, l); within = omega (arith, within, l); inside = omega (arith, inside, l, s) }
 
-of_fits : (limits : Limits) (w : Program) → 0 < length w.code → length w.code ≤ limits.length → w.start < length w.code → fitting limits w.code (pos w.start) ≡ Some w
-of_fits limits w some within inside =
-    let a = and_from (nat_lt 0 (length w.code)) (nat_le (length w.code) limits.length && nat_lt w.start (length w.code)) (lt-ltb 0 (length w.code) some)
-    (and_from (nat_le (length w.code) limits.length) (nat_lt w.start (length w.code)) (le-leb (length w.code) limits.length within) (lt-ltb w.start (length w.code) inside)) in
+of_fits : (rules : RulesView) (w : WarriorView) → 0 < length w.code → length w.code ≤ rules.length → w.start < length w.code → fitting rules w.code (pos w.start) ≡ Some w
+of_fits rules w some within inside =
+    let a = and_from (nat_lt 0 (length w.code)) (nat_le (length w.code) rules.length && nat_lt w.start (length w.code)) (lt-ltb 0 (length w.code) some)
+    (and_from (nat_le (length w.code) rules.length) (nat_lt w.start (length w.code)) (le-leb (length w.code) rules.length within) (lt-ltb w.start (length w.code) inside)) in
     rw a refl
 
-module _ (source : List ℕ) (names : Names) (lines : List Line) where
-  made_fits : (w : Program) (c : Option (List Instruction)) (b : Bool) (s : Option Starts) → instructions_from source names 0 lines ≡ c → holds_from source names 0 lines ≡ b → starts_from source names 0 no_starts lines ≡ s
-      → made_by names.limits c b s ≡ Some w → IsMadeOf source names lines w
+module _ (source : List ℕ) (names : NameValues) (lines : List Line) where
+  made_fits : (w : WarriorView) (c : Option (List Instruction)) (b : Bool) (s : Option Starts) → instructions_from source names 0 lines ≡ c → holds_from source names 0 lines ≡ b → starts_from source names 0 no_starts lines ≡ s
+      → made_by names.rules c b s ≡ Some w → IsMadeOf source names lines w
   made_fits w (Some code) true (Some s) ec eb es h =
-      let f = fits_of names.limits code (start_of s) w h in
-      record { code = ec ∙ ap Some f.is; holds = eb; start = ap (option_map start_of) es ∙ ap Some f.start; some = f.some; within = f.within; inside = f.inside }
+      let f = fits_of names.rules code (start_value s) w h in
+      record { code = ec ∙ ap Some f.is; holds = eb; start = ap (option_map start_value) es ∙ ap Some f.start; some = f.some; within = f.within; inside = f.inside }
   made_fits w (Some code) true None ec eb es h = absurd (cc)
   made_fits w (Some code) false s ec eb es h = absurd (cc)
   made_fits w None b s ec eb es h = absurd (cc)
 
-  fits_made : (w : Program) → IsMadeOf source names lines w → made_of source names lines ≡ Some w
+  fits_made : (w : WarriorView) → IsMadeOf source names lines w → made_of source names lines ≡ Some w
   fits_made w m =
-      let t = map_some start_of (starts_from source names 0 no_starts lines) (pos w.start) m.start in
-      ap (λ c. made_by names.limits c (holds_from source names 0 lines) (starts_from source names 0 no_starts lines)) m.code
-      ∙ (ap (λ b. made_by names.limits (Some w.code) b (starts_from source names 0 no_starts lines)) m.holds
-      ∙ (ap (made_by names.limits (Some w.code) true) t.1
-      ∙ (ap (fitting names.limits w.code) t.2 ∙ of_fits names.limits w m.some m.within m.inside)))
+      let t = map_some start_value (starts_from source names 0 no_starts lines) (pos w.start) m.start in
+      ap (λ c. made_by names.rules c (holds_from source names 0 lines) (starts_from source names 0 no_starts lines)) m.code
+      ∙ (ap (λ b. made_by names.rules (Some w.code) b (starts_from source names 0 no_starts lines)) m.holds
+      ∙ (ap (made_by names.rules (Some w.code) true) t.1
+      ∙ (ap (fitting names.rules w.code) t.2 ∙ of_fits names.rules w m.some m.within m.inside)))
 
-module _ (source : List ℕ) (constants : Table) (limits : Limits) where
-  of_lines : (w : Program) (o : Option (List Line)) → expansion_of source constants limits ≡ o → length source ≤ 65536
-      → option_and_then (λ lines. made_of source (names_of source constants limits lines) lines) o ≡ Some w → Assembles source constants limits w
+module _ (source : List ℕ) (constants : Table) (rules : RulesView) where
+  of_lines : (w : WarriorView) (o : Option (List Line)) → expansion_of source constants rules ≡ o → length source ≤ 65536
+      → option_and_then (λ lines. made_of source (names_of source constants rules lines) lines) o ≡ Some w → Assembles source constants rules w
   of_lines w None e s h = absurd (cc)
-  of_lines w (Some lines) e s h = record { short = s; lines = lines; expands = e; made = made_fits source (names_of source constants limits lines) lines w _ _ _ refl refl refl h }
+  of_lines w (Some lines) e s h = record { short = s; lines = lines; expands = e; made = made_fits source (names_of source constants rules lines) lines w _ _ _ refl refl refl h }
 
-  pub computed : (w : Program) → Assembles source constants limits w → assembled source constants limits ≡ Some w
+  pub computed : (w : WarriorView) → Assembles source constants rules w → assembled source constants rules ≡ Some w
   unfolding assembled
   computed w a =
       let short : nat_le (length source) 65536 ≡ true = le-leb (length source) 65536 a.short in
-      rw short (ap (option_and_then (λ lines. made_of source (names_of source constants limits lines) lines)) a.expands ∙ fits_made source (names_of source constants limits a.lines) a.lines w a.made)
+      rw short (ap (option_and_then (λ lines. made_of source (names_of source constants rules lines) lines)) a.expands ∙ fits_made source (names_of source constants rules a.lines) a.lines w a.made)
 
-  pub assembles : (w : Program) → assembled source constants limits ≡ Some w → Assembles source constants limits w
+  pub assembles : (w : WarriorView) → assembled source constants rules ≡ Some w → Assembles source constants rules w
   unfolding assembled
   assembles w h = by_size (cases_Bool (nat_le (length source) 65536)) h where
     by_size : (nat_le (length source) 65536 ≡ true) ⊎ (nat_le (length source) 65536 ≡ false)
-        → (if nat_le (length source) 65536 then option_and_then (λ lines. made_of source (names_of source constants limits lines) lines) (expansion_of source constants limits) else None) ≡ Some w
-        → Assembles source constants limits w
-    by_size (inl e) h = of_lines w (expansion_of source constants limits) refl (leb-true (length source) 65536 e) (rw e at h)
+        → (if nat_le (length source) 65536 then option_and_then (λ lines. made_of source (names_of source constants rules lines) lines) (expansion_of source constants rules) else None) ≡ Some w
+        → Assembles source constants rules w
+    by_size (inl e) h = of_lines w (expansion_of source constants rules) refl (leb-true (length source) 65536 e) (rw e at h)
     by_size (inr e) h = let k = rw e at h in absurd (cc)

@@ -17,7 +17,7 @@ abbrev pub all_pass : {A : Type 0} → (List ℕ → Bool) → List (List ℕ ×
 all_pass test [] = true
 all_pass test (e ∷ es) = test e.0 && all_pass test es
 
--- a word that fails it is none of them
+-- a word that fails the test is not in the table
 entry_none : {A : Type 0} (test : List ℕ → Bool) (table : List (List ℕ × A)) (w : List ℕ) → all_pass test table ≡ true → test w ≡ false → entry table w ≡ None
 entry_none test [] w k h = refl
 entry_none test (e ∷ es) w k h =

@@ -9,7 +9,7 @@ use Rattle.std.specs.Prelude.{Err}
 use Rattle.rc_asm.specs.declared.fault.AsmKind.TheVariants.{ExtraText}
 use Rattle.rc_asm.specs.Shape.{begun, parts_from, parts, sides_of}
 
--- no comma stands before a place
+-- no comma before an index
 abbrev pub NoComma : List Token → ℕ → Type 0
 NoComma ts i = (k : ℕ) (d : Token) → k < i → is_comma (get_or ts k d) ≡ false
 
@@ -50,15 +50,15 @@ unfolding parts
 parts_of_some [] h = absurd (omega (arith, h))
 parts_of_some (t ∷ ts) h = refl
 
--- the tokens behind a place, as a slice has them
-abbrev pub behind_place : List Token → ℕ → List Token
-behind_place ts at = take (length ts - (at + 1)) (drop (at + 1) ts)
+-- the tokens after an index, as a slice has them
+abbrev pub after_place : List Token → ℕ → List Token
+after_place ts at = take (length ts - (at + 1)) (drop (at + 1) ts)
 
 -- two commas are too many
 pub two_commas : (o : Opcode) (ts : List Token) (at k : ℕ) → 0 < length ts → at < length ts → parts_from ts ≡ take at ts ∷ parts_from (drop (at + 1) ts)
-    → parts_from (behind_place ts at) ≡ take k (behind_place ts at) ∷ parts_from (drop (k + 1) (behind_place ts at)) → Err ExtraText ≡ sides_of o (parts ts)
+    → parts_from (after_place ts at) ≡ take k (after_place ts at) ∷ parts_from (drop (k + 1) (after_place ts at)) → Err ExtraText ≡ sides_of o (parts ts)
 two_commas o ts at k h l e f =
-    let s = behind_place ts at in
+    let s = after_place ts at in
     let d : s ≡ drop (at + 1) ts = between_to_end ts (at + 1) (length ts) (omega arith) in
     let g : parts_from (drop (at + 1) ts) ≡ take k s ∷ parts_from (drop (k + 1) s) = ap parts_from (sym d) ∙ f in
     too_many o (take at ts) (take k s) _ (parts_some (drop (k + 1) s)) ∙ ap (sides_of o) (sym (parts_of_some ts h ∙ e ∙ ap (λ x. take at ts ∷ x) g))

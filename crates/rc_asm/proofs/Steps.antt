@@ -2,7 +2,7 @@
 use Rattle.std.proofs.Common.{◌≡◌, ℕ, ◌+◌, ◌≤◌, map, true, false, List, [], ◌∷◌, ◌++◌, length, Option, Some, None, refl, sym, ◌∙◌, ap, arith, append_assoc, length-append, inl, inr}
 use Rattle.std.specs.Prelude.{◌&&◌, not, ℤ, All, option_map, option_and_then, is_some, ◌⊎◌, Result, Ok, Err, if◌then◌else◌, Bool}
 use Rattle.std.specs.Result.{result_err}
-use Rattle.std.proofs.lemmas.List.{append-nil, map-append}
+use Rattle.std.proofs.lemmas.List.{map-append}
 use Rattle.std.proofs.lemmas.Bool.{both_ways, and_parts, cases_Bool}
 use Rattle.rc_text.specs.declared.token.Token.{Token}
 use Rattle.rc_text.specs.declared.fault.EvalFault.{EvalFault}
@@ -14,7 +14,7 @@ use Rattle.rc_instr.specs.Warrior.{IsBelow}
 use Rattle.rc_expand.specs.declared.line.LineWord.{LineWord}
 use Rattle.rc_expand.specs.declared.line.LineWord.TheVariants.{Bare, Code, Org, End, Assert}
 use Rattle.rc_expand.specs.declared.line.Line.{Line}
-use Rattle.rc_expand.specs.Names.{or_else, found}
+use Rattle.rc_expand.specs.Names.{or_else, entry_of}
 use Rattle.rc_expand.specs.NameTables.{with_name}
 use Rattle.std.specs.Str.{bytes_eq}
 use Rattle.std.proofs.lemmas.Slice.Eq.{bytes_eq-Decides}
@@ -25,11 +25,11 @@ use Rattle.rc_asm.specs.declared.starts.Starts.{Starts}
 use Rattle.rc_asm.specs.Results.{and_then, with_fault}
 use Rattle.rc_asm.specs.Shape.{Shape, shape_of}
 use Rattle.rc_text.specs.Symbols.{name_of}
-use Rattle.rc_asm.specs.Names.{Names, Labels, behind, labels_from, value_at}
+use Rattle.rc_asm.specs.Names.{NameValues, Labels, code_lines_after, labels_from, value_at}
 use Rattle.rc_asm.specs.Instructions.{instruction_at, shaped}
 use Rattle.rc_asm.specs.Assembly.{next_instruction, line_holds, starts_after, instructions_from, holds_from, starts_from, no_starts}
 use Rattle.rc_asm.specs.Faults.{at_line, form_fault, forms_fault, value_fault, values_fault, lines_fault}
-use Rattle.rc_asm.specs.Steps.{code_after, IsRead, fault_at, IsRefused, AreRead, Progress, Agree}
+use Rattle.rc_asm.specs.Steps.{code_after, IsLineRead, fault_at, GiveNothing, Progress, Agree}
 
 some_is : {A : Type 0} (x y : A) → Some x ≡ Some y → x ≡ y
 some_is x y h = cc
@@ -41,11 +41,7 @@ map_twice : (before : List Instruction) (x : Instruction) (o : Option (List Inst
 map_twice before x None = refl
 map_twice before x (Some is) = ap Some (sym (append_assoc before (x ∷ []) is))
 
-map_same : (o : Option (List Instruction)) → o ≡ option_map (λ is. [] ++ is) o
-map_same None = refl
-map_same (Some is) = refl
-
-length_next : (w : LineWord) (i : Result Instruction AsmKind) (before after : List Instruction) → code_after w i before ≡ Some after → behind w (length before) ≡ length after
+length_next : (w : LineWord) (i : Result Instruction AsmKind) (before after : List Instruction) → code_after w i before ≡ Some after → code_lines_after w (length before) ≡ length after
 length_next Code (Ok x) before after h = sym (length-append before (x ∷ [])) ∙ ap length (some_is (before ++ (x ∷ [])) after h)
 length_next Code (Err e) before after h = absurd (cc)
 length_next Bare i before after h = ap length (some_is before after h)
@@ -62,59 +58,28 @@ code_next Org i before after rest h = ap (λ c. option_map (λ is. c ++ is) rest
 code_next End i before after rest h = ap (λ c. option_map (λ is. c ++ is) rest) (some_is before after h)
 code_next Assert i before after rest h = ap (λ c. option_map (λ is. c ++ is) rest) (some_is before after h)
 
--- a line without a fault leaves it to the others
+-- a line without a fault: the first fault is that of the later lines
 fault_passed : (n : ℕ) (k : Option AsmKind) (rest : Option AsmFault) → k ≡ None → or_else (option_map (at_line n) k) rest ≡ rest
 fault_passed n None rest h = refl
 fault_passed n (Some e) rest h = absurd (cc)
 
--- and one with a fault has the first
-fault_found : (n : ℕ) (k : Option AsmKind) (e : AsmKind) (rest : Option AsmFault) → k ≡ Some e → or_else (option_map (at_line n) k) rest ≡ Some (at_line n e)
-fault_found n None e rest h = absurd (cc)
-fault_found n (Some d) e rest h = ap (λ x. Some (at_line n x)) (some_is d e h)
-
-module _ (source : List ℕ) (names : Names) where
-  -- where a line was read, the others make the whole
-  pub progress_next : (lines rest others : List Line) (l : Line) (before after : List Instruction) (s r : Starts) → rest ≡ l ∷ others → IsRead source names l before s after r
-      → fault_at source names (length before) l ≡ None → All (IsBelow names.limits.core) after → Progress source names lines rest before s → Progress source names lines others after r
+module _ (source : List ℕ) (names : NameValues) where
+  -- after a line was read, the remaining lines decide the whole
+  pub progress_next : (lines rest others : List Line) (l : Line) (before after : List Instruction) (s r : Starts) → rest ≡ l ∷ others → IsLineRead source names l before s after r
+      → fault_at source names (length before) l ≡ None → All (IsBelow names.rules.core) after → Progress source names lines rest before s → Progress source names lines others after r
   progress_next lines rest others l before after s r e h f b p =
-      let n : behind l.word (length before) ≡ length after = length_next l.word _ before after h.code in
+      let n : code_lines_after l.word (length before) ≡ length after = length_next l.word _ before after h.code in
       record {
         code = p.code ∙ (ap (λ ls. option_map (λ is. before ++ is) (instructions_from source names (length before) ls)) e ∙ (code_next l.word _ before after _ h.code ∙ ap (λ k. option_map (λ is. after ++ is) (instructions_from source names k others)) n));
-        holds = p.holds ∙ (ap (holds_from source names (length before)) e ∙ (ap (λ t. t && holds_from source names (behind l.word (length before)) others) h.holds ∙ ap (λ k. holds_from source names k others) n));
-        starts = p.starts ∙ (ap (starts_from source names (length before) s) e ∙ (ap (option_and_then (λ x. starts_from source names (behind l.word (length before)) x others)) h.starts ∙ ap (λ k. starts_from source names k r others) n));
+        holds = p.holds ∙ (ap (holds_from source names (length before)) e ∙ (ap (λ t. t && holds_from source names (code_lines_after l.word (length before)) others) h.holds ∙ ap (λ k. holds_from source names k others) n));
+        starts = p.starts ∙ (ap (starts_from source names (length before) s) e ∙ (ap (option_and_then (λ x. starts_from source names (code_lines_after l.word (length before)) x others)) h.starts ∙ ap (λ k. starts_from source names k r others) n));
         faults = p.faults ∙ (ap (values_fault source names (length before)) e ∙ (fault_passed l.number _ _ f ∙ ap (λ k. values_fault source names k others) n));
         below = b;
       }
 
-  -- the fault of a line is the first
-  pub progress_stops : (lines rest others : List Line) (l : Line) (before : List Instruction) (s : Starts) (k : AsmKind) → rest ≡ l ∷ others → fault_at source names (length before) l ≡ Some k
-      → Progress source names lines rest before s → values_fault source names 0 lines ≡ Some (at_line l.number k)
-  progress_stops lines rest others l before s k e f p = p.faults ∙ (ap (values_fault source names (length before)) e ∙ fault_found l.number _ k _ f)
-
-  pub progress_starts : (lines : List Line) → Progress source names lines lines [] no_starts
-  progress_starts lines = record {
-    code = map_same (instructions_from source names 0 lines);
-    holds = refl;
-    starts = refl;
-    faults = refl;
-    below = λ k d h. absurd (omega (arith, h));
-  }
-
-  pub progress_ends : (lines rest : List Line) (all : List Instruction) (s : Starts) → rest ≡ [] → Progress source names lines rest all s → AreRead source names lines all s
-  progress_ends lines rest all s e p = record {
-    code = p.code ∙ (ap (λ ls. option_map (λ is. all ++ is) (instructions_from source names (length all) ls)) e ∙ ap Some (append-nil all));
-    holds = p.holds ∙ ap (holds_from source names (length all)) e;
-    starts = p.starts ∙ ap (starts_from source names (length all) s) e;
-    faultless = p.faults ∙ ap (values_fault source names (length all)) e;
-    below = p.below;
-  }
-
--- a line of its form leaves it to the others
+-- a well-formed line: the first fault is that of the later lines
 pub form_passed : (source : List ℕ) (rest others : List Line) (l : Line) → rest ≡ l ∷ others → form_fault source l.word l.tokens ≡ None → forms_fault source rest ≡ forms_fault source others
 form_passed source rest others l e f = ap (forms_fault source) e ∙ fault_passed l.number _ _ f
-
-pub form_found : (source : List ℕ) (rest others : List Line) (l : Line) (k : AsmKind) → rest ≡ l ∷ others → form_fault source l.word l.tokens ≡ Some k → forms_fault source rest ≡ Some (at_line l.number k)
-form_found source rest others l k e f = ap (forms_fault source) e ∙ fault_found l.number _ k _ f
 
 -- ---- lines with a fault make no warrior
 
@@ -151,24 +116,24 @@ value_stops Assert ts i (Ok x) k rest code s r f m = zero_or_not (is_zero x) f m
   zero_or_not false f h = none_some None k refl f
 value_stops Bare ts i v k rest code s r f m = cc
 
-module _ (source : List ℕ) (names : Names) where
-  value_refuses : (l : Line) (ls : List Line) (at : ℕ) (s : Starts) (k : AsmKind) → fault_at source names at l ≡ Some k → IsRefused source names at s (l ∷ ls)
+module _ (source : List ℕ) (names : NameValues) where
+  value_refuses : (l : Line) (ls : List Line) (at : ℕ) (s : Starts) (k : AsmKind) → fault_at source names at l ≡ Some k → GiveNothing source names at s (l ∷ ls)
   value_refuses l ls at s k f code r hc hh hs =
       let t = then_some _ (starts_after l.word l.tokens (value_at source names at 0 l.tokens) s) r hs in
       value_stops l.word l.tokens _ _ k _ code s t.0 f (hc, (and_parts _ _ hh).0, t.1)
 
-  others_refuse : (l : Line) (ls : List Line) (at : ℕ) (s : Starts) → ((r : Starts) → IsRefused source names (behind l.word at) r ls) → IsRefused source names at s (l ∷ ls)
+  others_refuse : (l : Line) (ls : List Line) (at : ℕ) (s : Starts) → ((r : Starts) → GiveNothing source names (code_lines_after l.word at) r ls) → GiveNothing source names at s (l ∷ ls)
   others_refuse l ls at s next code r hc hh hs =
       let i = rest_some l.word (instruction_at source names at l.tokens) _ code hc in
       let t = then_some _ (starts_after l.word l.tokens (value_at source names at 0 l.tokens) s) r hs in
       next t.0 i.0 r i.1 (and_parts _ _ hh).1 t.2
 
   -- a line without a value makes no warrior
-  pub valueless : (lines : List Line) (at : ℕ) (s : Starts) (f : AsmFault) → values_fault source names at lines ≡ Some f → IsRefused source names at s lines
+  pub valueless : (lines : List Line) (at : ℕ) (s : Starts) (f : AsmFault) → values_fault source names at lines ≡ Some f → GiveNothing source names at s lines
   valueless [] at s f h = absurd (none_some None f refl h)
-  valueless (l ∷ ls) at s f h = by_fault (fault_at source names at l) refl h (λ k r. valueless ls (behind l.word at) r f k) where
-    by_fault : (k : Option AsmKind) → fault_at source names at l ≡ k → or_else (option_map (at_line l.number) k) (values_fault source names (behind l.word at) ls) ≡ Some f
-        → (values_fault source names (behind l.word at) ls ≡ Some f → (r : Starts) → IsRefused source names (behind l.word at) r ls) → IsRefused source names at s (l ∷ ls)
+  valueless (l ∷ ls) at s f h = by_fault (fault_at source names at l) refl h (λ k r. valueless ls (code_lines_after l.word at) r f k) where
+    by_fault : (k : Option AsmKind) → fault_at source names at l ≡ k → or_else (option_map (at_line l.number) k) (values_fault source names (code_lines_after l.word at) ls) ≡ Some f
+        → (values_fault source names (code_lines_after l.word at) ls ≡ Some f → (r : Starts) → GiveNothing source names (code_lines_after l.word at) r ls) → GiveNothing source names at s (l ∷ ls)
     by_fault (Some k) e h next = value_refuses l ls at s k e
     by_fault None e h next = others_refuse l ls at s (next h)
 
@@ -180,7 +145,7 @@ module _ (source : List ℕ) (names : Names) where
   no_shape at ts k (Ok x) e h = absurd (cc)
   no_shape at ts k (Err d) e h = h
 
-  -- a line that is not of its form has no value
+  -- a malformed line has no instruction
   no_form : (w : LineWord) (ts : List Token) (at : ℕ) (k : AsmKind) → form_fault source w ts ≡ Some k
       → (j : AsmKind) × (value_fault w ts (instruction_at source names at ts) (value_at source names at 0 ts) ≡ Some j)
   unfolding instruction_at
@@ -191,49 +156,49 @@ module _ (source : List ℕ) (names : Names) where
   no_form Assert ts at k h = absurd (cc)
   no_form Bare ts at k h = absurd (cc)
 
-  -- nor does it make a warrior
-  pub formless : (lines : List Line) (at : ℕ) (s : Starts) (f : AsmFault) → forms_fault source lines ≡ Some f → IsRefused source names at s lines
+  -- a malformed line makes no warrior
+  pub formless : (lines : List Line) (at : ℕ) (s : Starts) (f : AsmFault) → forms_fault source lines ≡ Some f → GiveNothing source names at s lines
   formless [] at s f h = absurd (none_some None f refl h)
-  formless (l ∷ ls) at s f h = by_fault (form_fault source l.word l.tokens) refl h (λ k r. formless ls (behind l.word at) r f k) where
+  formless (l ∷ ls) at s f h = by_fault (form_fault source l.word l.tokens) refl h (λ k r. formless ls (code_lines_after l.word at) r f k) where
     by_fault : (k : Option AsmKind) → form_fault source l.word l.tokens ≡ k → or_else (option_map (at_line l.number) k) (forms_fault source ls) ≡ Some f
-        → (forms_fault source ls ≡ Some f → (r : Starts) → IsRefused source names (behind l.word at) r ls) → IsRefused source names at s (l ∷ ls)
+        → (forms_fault source ls ≡ Some f → (r : Starts) → GiveNothing source names (code_lines_after l.word at) r ls) → GiveNothing source names at s (l ∷ ls)
     by_fault (Some k) e h next = let j = no_form l.word l.tokens at k e in value_refuses l ls at s j.0 j.1
     by_fault None e h next = others_refuse l ls at s (next h)
 
   -- lines with a fault make no warrior
-  pub faulty : (lines : List Line) (f : AsmFault) → lines_fault source names lines ≡ Some f → IsRefused source names 0 no_starts lines
+  pub faulty : (lines : List Line) (f : AsmFault) → lines_fault source names lines ≡ Some f → GiveNothing source names 0 no_starts lines
   faulty lines f h = by_form (forms_fault source lines) refl h where
-    by_form : (k : Option AsmFault) → forms_fault source lines ≡ k → or_else k (values_fault source names 0 lines) ≡ Some f → IsRefused source names 0 no_starts lines
+    by_form : (k : Option AsmFault) → forms_fault source lines ≡ k → or_else k (values_fault source names 0 lines) ≡ Some f → GiveNothing source names 0 no_starts lines
     by_form (Some g) e h = formless lines 0 no_starts g e
     by_form None e h = valueless lines 0 no_starts f h
 
 -- ---- labels
 
-pub behind_most : (w : LineWord) (at next : ℕ) → next ≡ behind w at → next ≤ at + 1
-behind_most Bare at next h = omega (arith, h)
-behind_most Code at next h = omega (arith, h)
-behind_most Org at next h = omega (arith, h)
-behind_most End at next h = omega (arith, h)
-behind_most Assert at next h = omega (arith, h)
+pub after_most : (w : LineWord) (at next : ℕ) → next ≡ code_lines_after w at → next ≤ at + 1
+after_most Bare at next h = omega (arith, h)
+after_most Code at next h = omega (arith, h)
+after_most Org at next h = omega (arith, h)
+after_most End at next h = omega (arith, h)
+after_most Assert at next h = omega (arith, h)
 
--- what is found in two lists one behind the other
-found_both : {A : Type 0} (a b : List (List ℕ × A)) (name : List ℕ) → found (a ++ b) name ≡ or_else (found a name) (found b name)
+-- looking up in two lists, one after the other
+found_both : {A : Type 0} (a b : List (List ℕ × A)) (name : List ℕ) → entry_of (a ++ b) name ≡ or_else (entry_of a name) (entry_of b name)
 found_both [] b name = refl
 found_both (e ∷ a) b name = by_name (bytes_eq name e.0) (found_both a b name) where
-  by_name : (t : Bool) → found (a ++ b) name ≡ or_else (found a name) (found b name) → (if t then Some e.1 else found (a ++ b) name) ≡ or_else (if t then Some e.1 else found a name) (found b name)
+  by_name : (t : Bool) → entry_of (a ++ b) name ≡ or_else (entry_of a name) (entry_of b name) → (if t then Some e.1 else entry_of (a ++ b) name) ≡ or_else (if t then Some e.1 else entry_of a name) (entry_of b name)
   by_name true h = refl
   by_name false h = h
 
--- what is found among other values
-found_among : {A B : Type 0} (f : A → B) (t : List (List ℕ × A)) (name : List ℕ) → found (map (λ e. (e.0, f e.1)) t) name ≡ option_map f (found t name)
+-- looking up after the values have changed
+found_among : {A B : Type 0} (f : A → B) (t : List (List ℕ × A)) (name : List ℕ) → entry_of (map (λ e. (e.0, f e.1)) t) name ≡ option_map f (entry_of t name)
 found_among f [] name = refl
 found_among f (e ∷ t) name = by_name (bytes_eq name e.0) (found_among f t name) where
-  by_name : (b : Bool) → found (map (λ e. (e.0, f e.1)) t) name ≡ option_map f (found t name) → (if b then Some (f e.1) else found (map (λ e. (e.0, f e.1)) t) name) ≡ option_map f (if b then Some e.1 else found t name)
+  by_name : (b : Bool) → entry_of (map (λ e. (e.0, f e.1)) t) name ≡ option_map f (entry_of t name) → (if b then Some (f e.1) else entry_of (map (λ e. (e.0, f e.1)) t) name) ≡ option_map f (if b then Some e.1 else entry_of t name)
   by_name true h = refl
   by_name false h = h
 
 -- a label that is there already is found as before
-kept_label : {A : Type 0} (f : A → ℕ) (t : List (List ℕ × A)) (n : List ℕ) (k : ℕ) (r : Labels) → is_some (found t n) ≡ true → Agree (map (λ e. (e.0, f e.1)) t ++ r) (map (λ e. (e.0, f e.1)) t ++ ((n, k) ∷ r))
+kept_label : {A : Type 0} (f : A → ℕ) (t : List (List ℕ × A)) (n : List ℕ) (k : ℕ) (r : Labels) → is_some (entry_of t n) ≡ true → Agree (map (λ e. (e.0, f e.1)) t ++ r) (map (λ e. (e.0, f e.1)) t ++ ((n, k) ∷ r))
 kept_label f t n k r h name =
     found_both (map (λ e. (e.0, f e.1)) t) r name
     ∙ (by_name (cases_Bool (bytes_eq name n)) ∙ sym (found_both (map (λ e. (e.0, f e.1)) t) ((n, k) ∷ r) name))
@@ -246,40 +211,40 @@ kept_label f t n k r h name =
     some_still None g = refl
     some_still (Some z) g = refl
 
-    by_name : ((bytes_eq name n ≡ true) ⊎ (bytes_eq name n ≡ false)) → or_else (found (map (λ e. (e.0, f e.1)) t) name) (found r name) ≡ or_else (found (map (λ e. (e.0, f e.1)) t) name) (if bytes_eq name n then Some k else found r name)
+    by_name : ((bytes_eq name n ≡ true) ⊎ (bytes_eq name n ≡ false)) → or_else (entry_of (map (λ e. (e.0, f e.1)) t) name) (entry_of r name) ≡ or_else (entry_of (map (λ e. (e.0, f e.1)) t) name) (if bytes_eq name n then Some k else entry_of r name)
     by_name (inl e) =
         let same : name ≡ n = (bytes_eq-Decides name n).0 e in
-        some_first (found (map (λ e. (e.0, f e.1)) t) name) _ _ (ap is_some (found_among f t name) ∙ (some_still (found t name) f ∙ (ap (λ x. is_some (found t x)) same ∙ h)))
+        some_first (entry_of (map (λ e. (e.0, f e.1)) t) name) _ _ (ap is_some (found_among f t name) ∙ (some_still (entry_of t name) f ∙ (ap (λ x. is_some (entry_of t x)) same ∙ h)))
     by_name (inr e) = rw e refl
 
--- a label is taken up where it is new, and else found as before
+-- a label is added if it is new, and else found as before
 pub label_taken : {A : Type 0} (f : A → ℕ) (t : List (List ℕ × A)) (n : List ℕ) (v : A) (r : Labels) → Agree (map (λ e. (e.0, f e.1)) (with_name t n v) ++ r) (map (λ e. (e.0, f e.1)) t ++ ((n, f v) ∷ r))
-label_taken f t n v r = by_found (is_some (found t n)) refl where
-  by_found : (b : Bool) → is_some (found t n) ≡ b → Agree (map (λ e. (e.0, f e.1)) (if b then t else t ++ ((n, v) ∷ [])) ++ r) (map (λ e. (e.0, f e.1)) t ++ ((n, f v) ∷ r))
+label_taken f t n v r = by_found (is_some (entry_of t n)) refl where
+  by_found : (b : Bool) → is_some (entry_of t n) ≡ b → Agree (map (λ e. (e.0, f e.1)) (if b then t else t ++ ((n, v) ∷ [])) ++ r) (map (λ e. (e.0, f e.1)) t ++ ((n, f v) ∷ r))
   by_found true h = kept_label f t n (f v) r h
-  by_found false h = λ name. ap (λ l. found (l ++ r) name) (map-append (λ e. (e.0, f e.1)) t ((n, v) ∷ [])) ∙ ap (λ l. found l name) (append_assoc (map (λ e. (e.0, f e.1)) t) ((n, f v) ∷ []) r)
+  by_found false h = λ name. ap (λ l. entry_of (l ++ r) name) (map-append (λ e. (e.0, f e.1)) t ((n, v) ∷ [])) ∙ ap (λ l. entry_of l name) (append_assoc (map (λ e. (e.0, f e.1)) t) ((n, f v) ∷ []) r)
 
--- a token's label is taken up
+-- a token's label is added
 pub label_inserted : {A : Type 0} (f : A → ℕ) (source : List ℕ) (address : ℕ) (old new : List (List ℕ × A)) (rest after : List Token) (t : Token) (n : List ℕ) (v : A) → rest ≡ t ∷ after → n ≡ name_of source t → f v ≡ address
     → new ≡ with_name old n v → (r : Labels)
     → Agree (map (λ e. (e.0, f e.1)) new ++ (map (λ t. (name_of source t, address)) after ++ r)) (map (λ e. (e.0, f e.1)) old ++ (map (λ t. (name_of source t, address)) rest ++ r))
 label_inserted f source address old new rest after t n v er en ev e r name =
     let more : Labels = map (λ t. (name_of source t, address)) after ++ r in
-    ap (λ x. found (map (λ e. (e.0, f e.1)) x ++ more) name) e
+    ap (λ x. entry_of (map (λ e. (e.0, f e.1)) x ++ more) name) e
     ∙ (label_taken f old n v more name
-    ∙ (ap (λ x. found (map (λ e. (e.0, f e.1)) old ++ ((x, f v) ∷ more)) name) en
-    ∙ (ap (λ x. found (map (λ e. (e.0, f e.1)) old ++ ((name_of source t, x) ∷ more)) name) ev
-    ∙ ap (λ ts. found (map (λ e. (e.0, f e.1)) old ++ (map (λ t. (name_of source t, address)) ts ++ r)) name) (sym er))))
+    ∙ (ap (λ x. entry_of (map (λ e. (e.0, f e.1)) old ++ ((x, f v) ∷ more)) name) en
+    ∙ (ap (λ x. entry_of (map (λ e. (e.0, f e.1)) old ++ ((name_of source t, x) ∷ more)) name) ev
+    ∙ ap (λ ts. entry_of (map (λ e. (e.0, f e.1)) old ++ (map (λ t. (name_of source t, address)) ts ++ r)) name) (sym er))))
 
--- what is found among addresses
-pub address_found : {A : Type 0} (f : A → ℕ) (t : List (List ℕ × A)) (o : Option A) (all : Labels) (name : List ℕ) → o ≡ found t name → map (λ e. (e.0, f e.1)) t ≡ all → option_map f o ≡ found all name
-address_found f t o all name e m = ap (option_map f) e ∙ (sym (found_among f t name) ∙ ap (λ l. found l name) m)
+-- looking up an address
+pub address_found : {A : Type 0} (f : A → ℕ) (t : List (List ℕ × A)) (o : Option A) (all : Labels) (name : List ℕ) → o ≡ entry_of t name → map (λ e. (e.0, f e.1)) t ≡ all → option_map f o ≡ entry_of all name
+address_found f t o all name e m = ap (option_map f) e ∙ (sym (found_among f t name) ∙ ap (λ l. entry_of l name) m)
 
--- the labels of a line are taken up
+-- the labels of a line are added
 pub labels_next : (source : List ℕ) (rest others : List Line) (l : Line) (old new whole : Labels) (at next : ℕ) → rest ≡ l ∷ others
-    → ((r : Labels) → Agree (new ++ r) (old ++ (map (λ t. (name_of source t, at)) l.labels ++ r))) → next ≡ behind l.word at
+    → ((r : Labels) → Agree (new ++ r) (old ++ (map (λ t. (name_of source t, at)) l.labels ++ r))) → next ≡ code_lines_after l.word at
     → Agree (old ++ labels_from source at rest) whole → Agree (new ++ labels_from source next others) whole
 labels_next source rest others l old new whole at next e n b w name =
-    ap (λ k. found (new ++ labels_from source k others) name) b
-    ∙ (n (labels_from source (behind l.word at) others) name
-    ∙ (ap (λ ls. found (old ++ labels_from source at ls) name) (sym e) ∙ w name))
+    ap (λ k. entry_of (new ++ labels_from source k others) name) b
+    ∙ (n (labels_from source (code_lines_after l.word at) others) name
+    ∙ (ap (λ ls. entry_of (old ++ labels_from source at ls) name) (sym e) ∙ w name))

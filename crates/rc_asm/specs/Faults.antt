@@ -1,10 +1,10 @@
--- Why a text assembles to no warrior, and at which line: faults come pass by pass, and in a pass line by line (this project's own).
+-- The first fault of a text: pass by pass, and within a pass line by line.
 use Rattle.std.specs.Prelude.{◌≡◌, ◌≢◌, ◌⊎◌, ◌≤◌, ◌<◌, ℕ, ℤ, pos, List, [], ◌∷◌, length, Option, Some, None, option_map, Result, Ok, Err, if◌then◌else◌}
 use Rattle.std.specs.Result.{result_err}
 use Rattle.rc_text.specs.declared.token.Token.{Token}
 use Rattle.rc_text.specs.declared.fault.EvalFault.{EvalFault}
 use Rattle.rc_text.specs.Values.{is_zero}
-use Rattle.rc_instr.specs.Rules.{Limits}
+use Rattle.rc_instr.specs.Rules.{RulesView}
 use Rattle.rc_instr.specs.declared.instruction.Instruction.{Instruction}
 use Rattle.rc_instr.specs.declared.warrior.WarriorError.{WarriorError}
 use Rattle.rc_instr.specs.declared.warrior.WarriorError.TheVariants as warrior
@@ -21,32 +21,35 @@ use Rattle.rc_asm.specs.declared.fault.AsmKind.TheVariants.{Expand, MissingOpera
 use Rattle.rc_asm.specs.declared.fault.AsmFault.{AsmFault}
 use Rattle.rc_asm.specs.declared.starts.Starts.{Starts}
 use Rattle.rc_asm.specs.Shape.{shape_of}
-use Rattle.rc_asm.specs.Names.{Names, behind, value_at}
+use Rattle.rc_asm.specs.Names.{NameValues, code_lines_after, value_at}
 use Rattle.rc_asm.specs.Instructions.{instruction_at}
-use Rattle.rc_asm.specs.Assembly.{instructions_from, starts_from, start_of, no_starts, names_of}
+use Rattle.rc_asm.specs.Assembly.{instructions_from, starts_from, start_value, no_starts, names_of}
 
 abbrev pub at_line : ℕ → AsmKind → AsmFault
 at_line n k = record { line = n; kind = k }
 
--- the first pass: a line of code that is not of its form, and ORG without an expression
+-- the first pass: a line of code that does not parse, or ORG without an expression
 abbrev pub form_fault : List ℕ → LineWord → List Token → Option AsmKind
 form_fault source Code ts = result_err (shape_of source ts)
 form_fault source Org [] = Some MissingOperand
 form_fault source _ ts = None
 
+-- the first line with such a fault
 abbrev pub forms_fault : List ℕ → List Line → Option AsmFault
 forms_fault source [] = None
 forms_fault source (l ∷ ls) = or_else (option_map (at_line l.number) (form_fault source l.word l.tokens)) (forms_fault source ls)
 
+-- an assertion without a value, or with the value 0
 abbrev pub assertion_fault : Result ℤ EvalFault → Option AsmKind
 assertion_fault (Ok v) = if is_zero v then Some AssertFailed else None
 assertion_fault (Err e) = Some (Value e)
 
+-- END needs no expression
 abbrev pub end_fault : List Token → Result ℤ EvalFault → Option AsmKind
 end_fault [] v = None
 end_fault (t ∷ ts) v = option_map Value (result_err v)
 
--- the second pass: an expression without a value, and an assertion that fails
+-- the second pass: an expression without a value, or an assertion that fails
 abbrev pub value_fault : LineWord → List Token → Result Instruction AsmKind → Result ℤ EvalFault → Option AsmKind
 value_fault Code ts i v = result_err i
 value_fault Org ts i v = option_map Value (result_err v)
@@ -54,44 +57,45 @@ value_fault End ts i v = end_fault ts v
 value_fault Assert ts i v = assertion_fault v
 value_fault _ ts i v = None
 
-module _ (source : List ℕ) (names : Names) where
+module _ (source : List ℕ) (names : NameValues) where
+  -- the first line with such a fault, with `at` lines of code before the first line
   abbrev pub values_fault : ℕ → List Line → Option AsmFault
   values_fault at [] = None
   values_fault at (l ∷ ls) =
       or_else (option_map (at_line l.number) (value_fault l.word l.tokens (instruction_at source names at l.tokens) (value_at source names at 0 l.tokens)))
-      (values_fault (behind l.word at) ls)
+      (values_fault (code_lines_after l.word at) ls)
 
-  -- the fault of the lines that comes first, if there is one
+  -- the first fault of the lines, if there is one
   abbrev pub lines_fault : List Line → Option AsmFault
   lines_fault lines = or_else (forms_fault source lines) (values_fault 0 lines)
 
--- the last: no instruction, too many of them, or else a start that is none of them
-abbrev pub IsWarriorFault : WarriorError → Limits → List Instruction → Starts → Type 0
-IsWarriorFault warrior.Empty limits code s = code ≡ []
-IsWarriorFault warrior.TooLong limits code s = limits.length < length code
-IsWarriorFault warrior.BadStart limits code s = (0 < length code) × (length code ≤ limits.length) × ((k : ℕ) → start_of s ≡ pos k → length code ≤ k)
-IsWarriorFault warrior.NumberTooLarge limits code s = ⊥
+-- the last check: no instruction, too many, or a start outside the code
+abbrev pub IsWarriorFault : WarriorError → RulesView → List Instruction → Starts → Type 0
+IsWarriorFault warrior.Empty rules code s = code ≡ []
+IsWarriorFault warrior.TooLong rules code s = rules.length < length code
+IsWarriorFault warrior.BadStart rules code s = (0 < length code) × (length code ≤ rules.length) × ((k : ℕ) → start_value s ≡ pos k → length code ≤ k)
+IsWarriorFault warrior.NumberTooLarge rules code s = ⊥
 
--- every line has a meaning, but the code and its start are no warrior under the rules
-pub record IsFaultOfCode (source : List ℕ) (names : Names) (lines : List Line) (f : AsmFault) : Type 0 where
+-- every line is fine, but code and start are not a warrior under the rules
+pub record IsFaultOfCode (source : List ℕ) (names : NameValues) (lines : List Line) (f : AsmFault) : Type 0 where
   pub faultless : lines_fault source names lines ≡ None
   pub code : List Instruction
   pub made : instructions_from source names 0 lines ≡ Some code
   pub starts : Starts
   pub started : starts_from source names 0 no_starts lines ≡ Some starts
   pub error : WarriorError
-  pub reason : IsWarriorFault error names.limits code starts
+  pub reason : IsWarriorFault error names.rules code starts
   pub is : f ≡ at_line 0 (Warrior error)
 
--- this fault comes first in the lines to which a text expands
-abbrev pub IsFaultOfLines : List ℕ → Names → List Line → AsmFault → Type 0
+-- the first fault of an expanded text
+abbrev pub IsFaultOfLines : List ℕ → NameValues → List Line → AsmFault → Type 0
 IsFaultOfLines source names lines f = (lines_fault source names lines ≡ Some f) ⊎ IsFaultOfCode source names lines f
 
--- this fault comes first in a text: it is too long; or has no expansion for another cause than memory, and the fault is that before the unrolling,
--- where there is one; or the lines to which it expands have the fault
-abbrev pub IsFault : List ℕ → Table → Limits → AsmFault → Type 0
-IsFault source constants limits f =
+-- the first fault of a text: too long; or no expansion, for a reason other than memory; or the
+-- first fault of the lines to which it expands
+abbrev pub IsAsmFault : List ℕ → Table → RulesView → AsmFault → Type 0
+IsAsmFault source constants rules f =
     ((65536 < length source) × (f ≡ at_line 0 TextTooLong))
-    ⊎ (((length source ≤ 65536) × ((lines : List Line) → ¬ IsExpansion source constants limits lines) × (k : ExpandKind) × (k ≢ NoRoom) × (f.kind ≡ Expand k)
-    × IsInTurn source constants limits (record { line = f.line; kind = k }))
-    ⊎ ((length source ≤ 65536) × (lines : List Line) × IsExpansion source constants limits lines × IsFaultOfLines source (names_of source constants limits lines) lines f))
+    ⊎ (((length source ≤ 65536) × ((lines : List Line) → ¬ IsExpansion source constants rules lines) × (k : ExpandKind) × (k ≢ NoRoom) × (f.kind ≡ Expand k)
+    × IsInTurn source constants rules (record { line = f.line; kind = k }))
+    ⊎ ((length source ≤ 65536) × (lines : List Line) × IsExpansion source constants rules lines × IsFaultOfLines source (names_of source constants rules lines) lines f))

@@ -13,21 +13,22 @@ use Rattle.rc_asm.specs.declared.fault.AsmKind.TheVariants.{Value}
 use Rattle.rc_asm.specs.declared.operand.Operand.{Operand}
 use Rattle.rc_asm.specs.Results.{mapped, and_then, with_fault}
 use Rattle.rc_asm.specs.Words.{mode_at}
-use Rattle.rc_asm.specs.Names.{Names, value_at}
+use Rattle.rc_asm.specs.Names.{NameValues, value_at}
 use Rattle.rc_asm.specs.Shape.{Shape, shape_of}
 
+-- an integer that is not negative, as a natural number
 abbrev pub natural : ℤ → ℕ
 natural (pos n) = n
 natural (negsuc n) = 0
 
--- a value as a number of a core of m cells: its remainder, 0 to m - 1
+-- the remainder of a value in a core of m cells: 0 to m - 1
 unfoldable pub core_number : ℕ → ℤ → ℕ
 core_number m z = natural (int_rem_euclid z (pos m))
 
 abbrev pub operand : ℕ → Mode → ℤ → Operand
 operand m mode z = record { mode = mode; number = core_number m z }
 
--- the instruction of a form with its operands; where no modifier is written it is the default
+-- the instruction of a line and its operands; a modifier that is not written is the default one
 unfoldable pub made : Shape → Operand → Operand → Instruction
 made s a b = record {
   opcode = s.opcode;
@@ -38,22 +39,22 @@ made s a b = record {
   b_number = b.number;
 }
 
-module _ (source : List ℕ) (names : Names) (at : ℕ) where
-  -- an expression is all that follows the mode; without a mode it is direct
-  abbrev pub operand_behind : Option Mode → Token → List Token → Result Operand EvalFault
-  operand_behind (Some mode) t ts = mapped (operand names.limits.core mode) (value_at source names at at ts)
-  operand_behind None t ts = mapped (operand names.limits.core Direct) (value_at source names at at (t ∷ ts))
+module _ (source : List ℕ) (names : NameValues) (at : ℕ) where
+  -- after the mode, everything is the expression; without a mode it is direct
+  abbrev pub operand_after : Option Mode → Token → List Token → Result Operand EvalFault
+  operand_after (Some mode) t ts = mapped (operand names.rules.core mode) (value_at source names at at ts)
+  operand_after None t ts = mapped (operand names.rules.core Direct) (value_at source names at at (t ∷ ts))
 
   -- an operand that is not written is `$0`
   unfoldable pub operand_at : Option (List Token) → Result Operand EvalFault
   operand_at None = Ok (record { mode = Direct; number = 0 })
   operand_at (Some []) = Err Syntax
-  operand_at (Some (t ∷ ts)) = operand_behind (mode_at t) t ts
+  operand_at (Some (t ∷ ts)) = operand_after (mode_at t) t ts
 
-  -- the A-operand comes before the B-operand
+  -- a fault of the A-operand comes before one of the B-operand
   unfoldable pub shaped : Shape → Result Instruction EvalFault
   shaped s = and_then (λ a. mapped (made s a) (operand_at s.sides.b)) (operand_at s.sides.a)
 
-  -- the instruction that the tokens spell, or the fault that comes first
+  -- the instruction that the tokens spell, or the first fault
   unfoldable pub instruction_at : List Token → Result Instruction AsmKind
   instruction_at tokens = and_then (λ s. with_fault Value (shaped s)) (shape_of source tokens)

@@ -1,6 +1,6 @@
--- The assembler of Redcode. The lines of an expanded text become a warrior: each line of code its instruction, whose labels stand for
--- distances, and the last ORG or else END its start. A text assembles to a warrior where every line is of its form, every expression has a
--- value, every assertion holds, and the warrior keeps the rules.
+-- The assembler of Redcode: a text expands to lines, each line of code becomes an instruction whose
+-- labels are distances, and the last ORG, or else END, gives the start. Every line is well formed,
+-- every expression has a value, every assertion holds, and the warrior fits the rules.
 pub mod Results
 pub mod Words
 pub mod Shape

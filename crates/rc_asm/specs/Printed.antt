@@ -1,4 +1,4 @@
--- The tokens of a load file's lines, and the lines of an expansion that they make. The proof that a load file assembles to its warrior speaks of this.
+-- The tokens and lines of a load file, from which it is proved that it assembles to its warrior.
 use Rattle.std.specs.Prelude.{◌≡◌, ℕ, suc, ◌+◌, List, [], ◌∷◌, ◌++◌, codes, None}
 use Rattle.rc_text.specs.declared.token.Sign.{Sign}
 use Rattle.rc_text.specs.declared.token.Sign.TheVariants.{Dot, Comma, Hash, Dollar, Star, At, OpenBrace, CloseBrace, Less, Greater, Minus}
@@ -9,12 +9,11 @@ use Rattle.rc_expand.specs.declared.line.LineWord.TheVariants.{Code, Org}
 use Rattle.rc_expand.specs.declared.line.Line.{Line}
 use Rattle.rc_expand.specs.Lines.{bytes_of}
 use Rattle.rc_instr.specs.LoadText.{opcode_text, modifier_text}
-use Rattle.rc_instr.specs.Warrior.{Program}
+use Rattle.rc_instr.specs.Warrior.{WarriorView}
 use Rattle.rc_instr.specs.declared.instruction.Mode.{Mode}
 use Rattle.rc_instr.specs.declared.instruction.Mode.TheVariants as mode
 use Rattle.rc_instr.specs.declared.instruction.Instruction.{Instruction}
 
--- the sign of a mode
 abbrev pub mode_sign : Mode → Sign
 mode_sign mode.Immediate = Hash
 mode_sign mode.Direct = Dollar
@@ -25,18 +24,18 @@ mode_sign mode.BPredecrement = Less
 mode_sign mode.APostincrement = CloseBrace
 mode_sign mode.BPostincrement = Greater
 
--- a name that is this text, with no counter joined to it
+-- a name with these bytes and no joined counter
 pub record IsWord (source text : List ℕ) (t : Token) : Type 0 where
   pub kind : t.kind ≡ Name
   pub joined : t.joined ≡ []
   pub bytes : bytes_of source t ≡ text
 
--- the tokens of a number of a core of m cells: the number, or a minus sign and how far it is below m
+-- the tokens of the number n in a core of m cells: n itself, or a minus sign and m - n
 pub data AreNumber (m n : ℕ) : List Token → Type 0 where
   Plain : (t : Token) → t.kind ≡ Number n → AreNumber m n (t ∷ [])
   Below : (s t : Token) (k : ℕ) → s.kind ≡ SignOf Minus → t.kind ≡ Number (suc k) → suc k + n ≡ m → AreNumber m n (s ∷ t ∷ [])
 
--- the tokens of an instruction's line
+-- the tokens of one line of code
 pub record Row : Type 0 where
   pub opcode : Token
   pub dot : Token
@@ -48,19 +47,17 @@ pub record Row : Type 0 where
   pub b_number : List Token
   pub end : Token
 
--- those of the A-operand
 abbrev pub a_tokens : Row → List Token
 a_tokens r = r.a_sign ∷ r.a_number
 
--- those of the B-operand
 abbrev pub b_tokens : Row → List Token
 b_tokens r = r.b_sign ∷ r.b_number
 
--- those before its end
+-- all tokens of the line but its end
 abbrev pub row_tokens : Row → List Token
 row_tokens r = r.opcode ∷ r.dot ∷ r.modifier ∷ (a_tokens r ++ (r.comma ∷ b_tokens r))
 
--- they print the instruction
+-- the tokens spell the instruction
 pub record IsPrinted (source : List ℕ) (m : ℕ) (i : Instruction) (r : Row) : Type 0 where
   pub opcode : IsWord source (opcode_text i.opcode) r.opcode
   pub dot : r.dot.kind ≡ SignOf Dot
@@ -72,57 +69,54 @@ pub record IsPrinted (source : List ℕ) (m : ℕ) (i : Instruction) (r : Row) :
   pub b_number : AreNumber m i.b_number r.b_number
   pub end : r.end.kind ≡ LineEnd
 
--- a row for each instruction
+-- one line of tokens for each instruction
 abbrev pub ArePrinted : List ℕ → ℕ → List Instruction → List Row → Type 0
 ArePrinted source m [] [] = Unit {0}
 ArePrinted source m [] (r ∷ rs) = ⊥
 ArePrinted source m (i ∷ is) [] = ⊥
 ArePrinted source m (i ∷ is) (r ∷ rs) = IsPrinted source m i r × ArePrinted source m is rs
 
--- the tokens of the line that says where the warrior starts
+-- the tokens of the first line, which says the start
 pub record Opening : Type 0 where
   pub word : Token
   pub number : Token
   pub end : Token
 
--- they print the start
+-- the tokens spell the start
 pub record IsStart (source : List ℕ) (start : ℕ) (o : Opening) : Type 0 where
   pub word : IsWord source (codes "ORG") o.word
   pub number : o.number.kind ≡ Number start
   pub end : o.end.kind ≡ LineEnd
 
--- the tokens of a whole load file
+-- the tokens of a load file
 pub record Printed : Type 0 where
   pub opening : Opening
   pub rows : List Row
 
--- they print the warrior
-pub record IsPrint (source : List ℕ) (m : ℕ) (w : Program) (p : Printed) : Type 0 where
+-- the tokens spell the warrior
+pub record IsPrint (source : List ℕ) (m : ℕ) (w : WarriorView) (p : Printed) : Type 0 where
   pub start : IsStart source w.start p.opening
   pub code : ArePrinted source m w.code p.rows
 
--- all tokens of rows
 abbrev pub rows_tokens : List Row → List Token
 rows_tokens [] = []
 rows_tokens (r ∷ rs) = row_tokens r ++ (r.end ∷ rows_tokens rs)
 
--- no fault ends the tokens of a load file
+-- all tokens of the file, which ends without a fault
 abbrev pub printed_tokens : Printed → TokenList
 printed_tokens p = record { tokens = p.opening.word ∷ p.opening.number ∷ p.opening.end ∷ rows_tokens p.rows; ending = None }
 
--- the lines that these tokens make
+-- the line that the opening makes
 abbrev pub start_line : Opening → Line
 start_line o = record { number = o.word.line; labels = []; word = Org; tokens = o.number ∷ [] }
 
--- an instruction's
+-- the line that the tokens of an instruction make
 abbrev pub code_line : Row → Line
 code_line r = record { number = r.opcode.line; labels = []; word = Code; tokens = row_tokens r }
 
--- those of the code
 abbrev pub code_lines : List Row → List Line
 code_lines [] = []
 code_lines (r ∷ rs) = code_line r ∷ code_lines rs
 
--- all of them
 abbrev pub printed_lines : Printed → List Line
 printed_lines p = start_line p.opening ∷ code_lines p.rows

@@ -1,5 +1,5 @@
--- The form of a line of code: an opcode word, perhaps a dot and a modifier, and operands parted by commas (1994 draft; which operands may be left
--- out, and what is refused how, is this project's own).
+-- The form of a line of code: an opcode, a modifier after a dot, and operands parted by a comma
+-- (1994 draft).
 use Rattle.std.specs.Prelude.{ℕ, List, [], ◌∷◌, Option, Some, None, if◌then◌else◌, Result, Err}
 use Rattle.std.specs.Option.{ok_or}
 use Rattle.rc_text.specs.declared.token.Token.{Token}
@@ -12,21 +12,22 @@ use Rattle.rc_asm.specs.declared.fault.AsmKind.TheVariants.{UnknownOpcode, Missi
 use Rattle.rc_asm.specs.Results.{mapped, and_then}
 use Rattle.rc_asm.specs.Words.{is_comma, opcode_at, modifier_at}
 
--- a token begins the first of the parts
+-- the token joins the first part
 abbrev pub begun : Token → List (List Token) → List (List Token)
 begun t [] = (t ∷ []) ∷ []
 begun t (p ∷ ps) = (t ∷ p) ∷ ps
 
+-- the parts between commas; there is at least one
 abbrev pub parts_from : List Token → List (List Token)
 parts_from [] = [] ∷ []
 parts_from (t ∷ ts) = if is_comma t then [] ∷ parts_from ts else begun t (parts_from ts)
 
--- the parts between commas; no tokens have no part
+-- the parts between commas; no tokens have no parts
 unfoldable pub parts : List Token → List (List Token)
 parts [] = []
 parts (t ∷ ts) = parts_from (t ∷ ts)
 
--- the tokens of the A-operand and of the B-operand, where they are written
+-- the tokens of the operands; None for one that is not written
 pub record Sides : Type 0 where
   pub a : Option (List Token)
   pub b : Option (List Token)
@@ -48,7 +49,7 @@ one_side Spl p = Some (sides (Some p) None)
 one_side Nop p = Some (sides (Some p) None)
 one_side _ p = None
 
--- neither part beside a comma is empty
+-- neither side of the comma is empty
 abbrev pub two_sides : List Token → List Token → Option Sides
 two_sides [] b = None
 two_sides (t ∷ a) [] = None
@@ -61,7 +62,7 @@ sides_of o (p ∷ []) = ok_or (one_side o p) MissingOperand
 sides_of o (p ∷ q ∷ []) = ok_or (two_sides p q) MissingOperand
 sides_of o (p ∷ q ∷ r ∷ ps) = Err ExtraText
 
--- an opcode, perhaps a modifier, and the operands
+-- a line of code in its parts; the modifier is None if it is not written
 pub record Shape : Type 0 where
   pub opcode : Opcode
   pub modifier : Option Modifier
@@ -73,17 +74,17 @@ shape o m s = record { opcode = o; modifier = m; sides = s }
 unfoldable pub with_operands : Opcode → Option Modifier → List Token → Result Shape AsmKind
 with_operands o m ts = mapped (shape o m) (sides_of o (parts ts))
 
--- what follows an opcode and a dot
+-- what follows the opcode and a dot
 unfoldable pub with_modifier : List ℕ → Opcode → List Token → Result Shape AsmKind
 with_modifier source o [] = Err UnknownOpcode
 with_modifier source o (t ∷ ts) = and_then (λ m. with_operands o (Some m) ts) (ok_or (modifier_at source t) UnknownOpcode)
 
--- what follows an opcode
-unfoldable pub behind_opcode : List ℕ → Opcode → List Token → Result Shape AsmKind
-behind_opcode source o [] = with_operands o None []
-behind_opcode source o (t ∷ ts) = if is_dot t then with_modifier source o ts else with_operands o None (t ∷ ts)
+-- what follows the opcode
+unfoldable pub after_opcode : List ℕ → Opcode → List Token → Result Shape AsmKind
+after_opcode source o [] = with_operands o None []
+after_opcode source o (t ∷ ts) = if is_dot t then with_modifier source o ts else with_operands o None (t ∷ ts)
 
--- the form of a line of code
+-- the parts of a line of code, or what is wrong with its form
 unfoldable pub shape_of : List ℕ → List Token → Result Shape AsmKind
 shape_of source [] = Err UnknownOpcode
-shape_of source (t ∷ ts) = and_then (λ o. behind_opcode source o ts) (ok_or (opcode_at source t) UnknownOpcode)
+shape_of source (t ∷ ts) = and_then (λ o. after_opcode source o ts) (ok_or (opcode_at source t) UnknownOpcode)

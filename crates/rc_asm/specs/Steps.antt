@@ -1,64 +1,64 @@
--- One line at a time. Contracts of private functions speak of this; what has to hold is said in Assembly and Faults.
+-- One line at a time, for contracts of private functions. What must hold is in Assembly and Faults.
 use Rattle.std.specs.Prelude.{◌≡◌, ◌<◌, ◌≤◌, ℕ, pos, true, List, [], ◌∷◌, ◌++◌, length, Option, Some, None, option_map, All, Result, Ok, Err}
 use Rattle.rc_instr.specs.declared.instruction.Instruction.{Instruction}
-use Rattle.rc_instr.specs.Warrior.{IsBelow, Program}
-use Rattle.rc_instr.specs.Rules.{Limits}
+use Rattle.rc_instr.specs.Warrior.{IsBelow, WarriorView}
+use Rattle.rc_instr.specs.Rules.{RulesView}
 use Rattle.rc_expand.specs.declared.line.LineWord.{LineWord}
 use Rattle.rc_expand.specs.declared.line.LineWord.TheVariants.{Code}
 use Rattle.rc_expand.specs.declared.line.Line.{Line}
 use Rattle.rc_asm.specs.declared.fault.AsmKind.{AsmKind}
 use Rattle.rc_asm.specs.declared.starts.Starts.{Starts}
-use Rattle.rc_expand.specs.Names.{found}
-use Rattle.rc_asm.specs.Names.{Names, Labels, value_at}
+use Rattle.rc_expand.specs.Names.{entry_of}
+use Rattle.rc_asm.specs.Names.{NameValues, Labels, value_at}
 use Rattle.rc_asm.specs.Instructions.{instruction_at}
-use Rattle.rc_asm.specs.Assembly.{line_holds, starts_after, instructions_from, holds_from, starts_from, no_starts, start_of}
+use Rattle.rc_asm.specs.Assembly.{line_holds, starts_after, instructions_from, holds_from, starts_from, no_starts, start_value}
 use Rattle.rc_asm.specs.Faults.{value_fault, values_fault}
 
--- the code behind a line
+-- the code after a line, from the code before it
 abbrev pub code_after : LineWord → Result Instruction AsmKind → List Instruction → Option (List Instruction)
 code_after Code (Ok i) code = Some (code ++ (i ∷ []))
 code_after Code (Err e) code = None
 code_after _ i code = Some code
 
--- the line was read: the code and the starts before it became these
-pub record IsRead (source : List ℕ) (names : Names) (l : Line) (before : List Instruction) (s : Starts) (after : List Instruction) (r : Starts) : Type 0 where
+-- a line was read: it took `before` and `s` to `after` and `r`
+pub record IsLineRead (source : List ℕ) (names : NameValues) (l : Line) (before : List Instruction) (s : Starts) (after : List Instruction) (r : Starts) : Type 0 where
   pub code : code_after l.word (instruction_at source names (length before) l.tokens) before ≡ Some after
   pub holds : line_holds l.word (value_at source names (length before) 0 l.tokens) ≡ true
   pub starts : starts_after l.word l.tokens (value_at source names (length before) 0 l.tokens) s ≡ Some r
 
--- the fault of a line with so many lines of code before it
-abbrev pub fault_at : List ℕ → Names → ℕ → Line → Option AsmKind
+-- the fault of a line with `at` lines of code before it
+abbrev pub fault_at : List ℕ → NameValues → ℕ → Line → Option AsmKind
 fault_at source names at l = value_fault l.word l.tokens (instruction_at source names at l.tokens) (value_at source names at 0 l.tokens)
 
--- no code and no start come from the lines
-abbrev pub IsRefused : List ℕ → Names → ℕ → Starts → List Line → Type 0
-IsRefused source names at s lines =
+-- the lines do not make any code and start
+abbrev pub GiveNothing : List ℕ → NameValues → ℕ → Starts → List Line → Type 0
+GiveNothing source names at s lines =
     (code : List Instruction) (r : Starts) → instructions_from source names at lines ≡ Some code → holds_from source names at lines ≡ true → starts_from source names at s lines ≡ Some r → ⊥
 
--- all lines were read
-pub record AreRead (source : List ℕ) (names : Names) (lines : List Line) (all : List Instruction) (s : Starts) : Type 0 where
+-- all lines were read, without a fault
+pub record AreLinesRead (source : List ℕ) (names : NameValues) (lines : List Line) (all : List Instruction) (s : Starts) : Type 0 where
   pub code : instructions_from source names 0 lines ≡ Some all
   pub holds : holds_from source names 0 lines ≡ true
   pub starts : starts_from source names 0 no_starts lines ≡ Some s
   pub faultless : values_fault source names 0 lines ≡ None
-  pub below : All (IsBelow names.limits.core) all
+  pub below : All (IsBelow names.rules.core) all
 
--- so far: the lines from here on make the whole
-pub record Progress (source : List ℕ) (names : Names) (lines rest : List Line) (before : List Instruction) (s : Starts) : Type 0 where
+-- `before` and `s` are what the lines before `rest` gave, so that `rest` decides the whole
+pub record Progress (source : List ℕ) (names : NameValues) (lines rest : List Line) (before : List Instruction) (s : Starts) : Type 0 where
   pub code : instructions_from source names 0 lines ≡ option_map (λ is. before ++ is) (instructions_from source names (length before) rest)
   pub holds : holds_from source names 0 lines ≡ holds_from source names (length before) rest
   pub starts : starts_from source names 0 no_starts lines ≡ starts_from source names (length before) s rest
   pub faults : values_fault source names 0 lines ≡ values_fault source names (length before) rest
-  pub below : All (IsBelow names.limits.core) before
+  pub below : All (IsBelow names.rules.core) before
 
--- the code and the start are those of this warrior
-pub record IsStarted (limits : Limits) (all : List Instruction) (s : Starts) (warrior : Program) : Type 0 where
+-- the code and the start make this warrior under the rules
+pub record IsStarted (rules : RulesView) (all : List Instruction) (s : Starts) (warrior : WarriorView) : Type 0 where
   pub code : all ≡ warrior.code
-  pub start : start_of s ≡ pos warrior.start
+  pub start : start_value s ≡ pos warrior.start
   pub some : 0 < length warrior.code
-  pub within : length warrior.code ≤ limits.length
+  pub within : length warrior.code ≤ rules.length
   pub inside : warrior.start < length warrior.code
 
--- the same is found in two lists of labels
+-- both lists give every name the same address
 abbrev pub Agree : Labels → Labels → Type 0
-Agree a b = (name : List ℕ) → found a name ≡ found b name
+Agree a b = (name : List ℕ) → entry_of a name ≡ entry_of b name

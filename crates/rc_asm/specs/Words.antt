@@ -1,5 +1,5 @@
--- Opcode words, modifiers and modes, as they are written (opcodes, modifiers and `# $ @ < >`: 1994 draft; SEQ, SNE and NOP, and `* { }`: pMARS and
--- the draft's additions).
+-- The words and signs of a line of code. Opcodes, modifiers and `# $ @ < >` are the 1994 draft's;
+-- SEQ, SNE, NOP and `* { }` are pMARS's and the draft's additions.
 use Rattle.std.specs.Prelude.{ℕ, Bool, true, false, ◌&&◌, List, [], ◌∷◌, map, Option, Some, None, if◌then◌else◌, codes}
 use Rattle.std.specs.Char.{to_ascii_lowercase}
 use Rattle.std.specs.Str.{bytes_eq}
@@ -8,7 +8,7 @@ use Rattle.rc_text.specs.declared.token.Sign.TheVariants.{Comma, Hash, Dollar, S
 use Rattle.rc_text.specs.declared.token.Kind.{Kind}
 use Rattle.rc_text.specs.declared.token.Kind.TheVariants.{Sign as SignOf}
 use Rattle.rc_text.specs.declared.token.Token.{Token}
-use Rattle.rc_expand.specs.Lines.{is_name, is_unjoined, bytes_of}
+use Rattle.rc_expand.specs.Lines.{is_name_token, is_unjoined, bytes_of}
 use Rattle.rc_instr.specs.declared.instruction.Opcode.{Opcode}
 use Rattle.rc_instr.specs.declared.instruction.Opcode.TheVariants as op
 use Rattle.rc_instr.specs.declared.instruction.Modifier.{Modifier}
@@ -16,12 +16,12 @@ use Rattle.rc_instr.specs.declared.instruction.Modifier.TheVariants as mod'
 use Rattle.rc_instr.specs.declared.instruction.Mode.{Mode}
 use Rattle.rc_instr.specs.declared.instruction.Mode.TheVariants as mode
 
--- what the first of these words that is this one stands for
+-- the entry of the first equal word in the table
 abbrev pub entry : {A : Type 0} → List (List ℕ × A) → List ℕ → Option A
 entry [] word = None
 entry (e ∷ es) word = if bytes_eq e.0 word then Some e.1 else entry es word
 
--- the same for a name in any case, where the words are in small letters
+-- looks up a name in either case; the words of the table are lower case
 abbrev pub named : {A : Type 0} → List (List ℕ × A) → List ℕ → Option A
 named table name = entry table (map to_ascii_lowercase name)
 
@@ -36,7 +36,6 @@ abbrev pub modifiers : List (List ℕ × Modifier)
 modifiers =
     (codes "a", mod'.A) ∷ (codes "b", mod'.B) ∷ (codes "ab", mod'.AB) ∷ (codes "ba", mod'.BA) ∷ (codes "f", mod'.F) ∷ (codes "x", mod'.X) ∷ (codes "i", mod'.I) ∷ []
 
--- the mode that a sign stands for
 abbrev pub mode_of : Sign → Option Mode
 mode_of Hash = Some mode.Immediate
 mode_of Dollar = Some mode.Direct
@@ -62,14 +61,12 @@ is_comma_kind _ = false
 abbrev pub is_comma : Token → Bool
 is_comma t = is_comma_kind t.kind
 
--- a name to which no counter is joined; one with a counter ends with a digit, so it is no word of these tables
+-- a name without a joined counter. One with a counter ends with a digit, so it is in no table.
 abbrev pub is_plain : Token → Bool
-is_plain t = is_name t && is_unjoined t.joined
+is_plain t = is_name_token t && is_unjoined t.joined
 
--- the opcode that a token names
 unfoldable pub opcode_at : List ℕ → Token → Option Opcode
 opcode_at source t = if is_plain t then named opcodes (bytes_of source t) else None
 
--- the modifier that a token names
 unfoldable pub modifier_at : List ℕ → Token → Option Modifier
 modifier_at source t = if is_plain t then named modifiers (bytes_of source t) else None

@@ -1,4 +1,4 @@
-//! Why a text assembles to no warrior, and where.
+//! Why a text does not assemble, and where.
 ghost use Rattle.std.specs.Prelude.{◌≡◌, ◌≢◌};
 ghost use Rattle.rc_asm.specs.declared.fault.AsmKind.TheVariants.{OutOfMemory, Expand};
 ghost use Rattle.rc_asm.specs.Faults.{at_line};
@@ -10,45 +10,45 @@ use rc_text::EvalFault;
 use std::alloc::{AllocError, AllocFailed};
 use thiserror::Error;
 
-/// Why a text assembles to no warrior.
+/// Why a text does not assemble.
 #[derive(Clone, Copy, Debug, PartialEq, Eq, Error)]
 pub enum AsmKind {
     /// The text has no expansion.
     #[error("{0}")]
     Expand(ExpandKind),
-    /// A line of code begins with no opcode word, or what follows its dot is no modifier.
-    #[error("no opcode or no modifier")]
+    /// A line of code does not begin with an opcode, or no modifier follows its dot.
+    #[error("unknown opcode or modifier")]
     UnknownOpcode,
-    /// An operand that the opcode needs is not there, or nothing stands beside a comma, or ORG has no expression.
-    #[error("an operand is missing")]
+    /// An operand that the opcode needs is missing, one side of a comma is empty, or ORG has no
+    /// expression.
+    #[error("missing operand")]
     MissingOperand,
-    /// There are two commas.
-    #[error("more than two operands")]
+    /// A line has two commas.
+    #[error("too many operands")]
     ExtraText,
     /// An expression has no value.
     #[error("{0}")]
     Value(EvalFault),
-    /// The value of a `;assert` is 0.
-    #[error("an assertion fails")]
+    /// A `;assert` has the value 0.
+    #[error("assertion failed")]
     AssertFailed,
-    /// The code is no warrior under the rules.
+    /// The code is not a warrior under the rules.
     #[error("{0}")]
     Warrior(WarriorError),
     /// The text has more than 65536 bytes.
-    #[error("the text has more than 65536 bytes")]
+    #[error("text longer than 65536 bytes")]
     TextTooLong,
-    /// Memory was refused.
+    /// An allocation failed.
     #[error("out of memory")]
     OutOfMemory,
 }
 
-/// Why a text assembles to no warrior, and at which line.
+/// Why a text does not assemble, and at which line.
 #[derive(Clone, Copy, Debug, PartialEq, Eq, Error)]
 #[error("line {line}: {kind}")]
 pub struct AsmFault {
-    /// The line, from 1 in the whole source; 0 for `Warrior`, `TextTooLong` and `OutOfMemory`.
+    /// The line of the source, from 1; 0 for `Warrior`, `TextTooLong` and `OutOfMemory`.
     pub line: u64,
-    /// The reason.
     pub kind: AsmKind,
 }
 
@@ -99,8 +99,8 @@ impl From<AllocError> for AsmFault {
     }
 }
 
-/// The fault of a line. Want of memory belongs to no line.
-pub(crate) fn placed(line: u64, kind: AsmKind) -> AsmFault
+// Gives a fault its line. `OutOfMemory` is always at line 0.
+pub(crate) fn at_line(line: u64, kind: AsmKind) -> AsmFault
     ensures fault { kind ≢ OutOfMemory → result ≡ at_line line kind }
     ensures memory { kind ≡ OutOfMemory → result ≡ at_line 0 OutOfMemory }
 {
@@ -110,7 +110,7 @@ pub(crate) fn placed(line: u64, kind: AsmKind) -> AsmFault
     }
 }
 
-/// The fault of an expansion. Want of memory stays a kind of its own.
+// Wraps a fault of the expansion. `OutOfMemory` stays `OutOfMemory`, at line 0.
 pub(crate) fn of_expansion(fault: ExpandFault) -> AsmFault
     ensures fault { fault.kind ≢ NoRoom → result ≡ at_line fault.line (Expand fault.kind) }
     ensures memory { fault.kind ≡ NoRoom → result ≡ at_line 0 OutOfMemory }

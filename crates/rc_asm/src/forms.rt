@@ -1,4 +1,4 @@
-//! The first pass: whether each line is of its form.
+//! The first pass: checks the form of each line, before any expression gets its value.
 ghost use Rattle.std.specs.Prelude.{◌≡◌, ◌≢◌, All, IfErr};
 ghost use Rattle.rc_asm.specs.declared.fault.AsmKind.TheVariants.{OutOfMemory};
 ghost use Rattle.std.specs.Result.{result_err};
@@ -9,27 +9,7 @@ use crate::fault::{AsmFault, AsmKind};
 use crate::shape::shape_of;
 use rc_expand::{Line, LineWord};
 
-// Refuses a line of code that is not of its form, and ORG without an expression.
-fn check_form(source: &[u8], line: &Line) -> Result<(), AsmKind>
-    requires { LineLies source.now line.now }
-    ensures form { result_err result ≡ form_fault source.now line.now.word line.now.tokens }
-    ensures room { IfErr result (λ e. e ≢ OutOfMemory) }
-{
-    let tokens = line.tokens.as_slice();
-    match line.word {
-        LineWord::Code => {
-            shape_of(source, tokens)?;
-            Ok(())
-        }
-        LineWord::Org => match tokens {
-            [] => Err(AsmKind::MissingOperand),
-            _ => Ok(()),
-        },
-        _ => Ok(()),
-    }
-}
-
-/// Refuses the first line that is not of its form.
+// Refuses the first line that is malformed.
 pub(crate) fn check_forms(source: &[u8], lines: &[Line]) -> Result<(), AsmFault>
     requires { All (LineLies source.now) lines.now }
     ensures forms { result_err result ≡ forms_fault source.now lines.now }
@@ -47,4 +27,24 @@ pub(crate) fn check_forms(source: &[u8], lines: &[Line]) -> Result<(), AsmFault>
         rest = after;
     }
     Ok(())
+}
+
+// Lines of code must parse, and ORG needs an expression. Other lines have no form to check.
+fn check_form(source: &[u8], line: &Line) -> Result<(), AsmKind>
+    requires { LineLies source.now line.now }
+    ensures form { result_err result ≡ form_fault source.now line.now.word line.now.tokens }
+    ensures room { IfErr result (λ e. e ≢ OutOfMemory) }
+{
+    let tokens = line.tokens.as_slice();
+    match line.word {
+        LineWord::Code => {
+            shape_of(source, tokens)?;
+            Ok(())
+        }
+        LineWord::Org => match tokens {
+            [] => Err(AsmKind::MissingOperand),
+            _ => Ok(()),
+        },
+        _ => Ok(()),
+    }
 }

@@ -1,24 +1,24 @@
 //! Labels and their addresses.
 ghost use Rattle.std.specs.Prelude.{◌≡◌, ◌<◌, ◌≤◌, ◌+◌, ◌^◌, [], List, ℕ, length, All, IfOk, IfSome, OnOk, Some};
 ghost use Rattle.rc_text.specs.Symbols.{LiesIn, name_of};
-ghost use Rattle.rc_expand.specs.Names.{found};
+ghost use Rattle.rc_expand.specs.Names.{entry_of};
 ghost use Rattle.rc_expand.specs.NameTables.{with_name};
 ghost use Rattle.rc_expand.specs.Expansion.{LineLies};
-ghost use Rattle.rc_asm.specs.Names.{behind, labels_from, labels_of};
+ghost use Rattle.rc_asm.specs.Names.{code_lines_after, labels_from, labels_of};
 
 use rc_expand::{Line, LineWord, NameTable, name_of};
 use rc_text::Token;
 use std::alloc::{AllocError, Global};
 use std::marker::Model;
 
-/// The number of lines of code before a label.
+// The number of lines of code before a label.
 #[derive(Debug, Drop)]
 struct Address {
     number: usize,
     ghost small: { number < 2 ^ 63 },
 }
 
-/// The labels of a text with their addresses.
+// The labels of a text with their addresses.
 #[derive(Drop)]
 pub(crate) struct Labels {
     table: NameTable<Address>,
@@ -33,23 +33,12 @@ impl Model for Labels {
     ghost view = { λ l. map (λ e. (e.0, e.1.number)) l.table };
 }
 
-/// How many lines of code stand before the line behind this one.
-pub(crate) fn behind(word: LineWord, at: usize) -> usize
-    requires { at < 2 ^ 63 }
-    ensures { result ≡ behind word at }
-{
-    match word {
-        LineWord::Code => at + 1,
-        _ => at,
-    }
-}
-
 impl Labels {
     ghost use Rattle.std.specs.Prelude.{map, ◌++◌};
     ghost use Rattle.rc_asm.specs.Names.{Labels as LabelList};
     ghost use Rattle.rc_asm.specs.Steps.{Agree};
 
-    // Adds labels at an address; a name that is there already keeps its own.
+    // Adds the labels of one line. A name that is already in the table keeps its first address.
     fn insert_all(
         &mut self,
         alloc: Global,
@@ -70,7 +59,6 @@ impl Labels {
         Ok(())
     }
 
-    /// The labels of the lines.
     pub(crate) fn of_lines(
         alloc: Global,
         source: &[u8],
@@ -86,21 +74,31 @@ impl Labels {
         let mut rest = lines;
         while let Some((line, after)) = rest.split_first() {
             labels.insert_all(alloc, source, line.labels.as_slice(), at)?;
-            at = behind(line.word, at);
+            at = code_lines_after(line.word, at);
             rest = after;
         }
         Ok(labels)
     }
 
-    /// The address of the label that a token names.
     pub(crate) fn address_of(&self, source: &[u8], token: &Token) -> Option<usize>
         requires { LiesIn source.now token.now }
-        ensures address { result ≡ found self.now (name_of source.now token.now) }
+        ensures address { result ≡ entry_of self.now (name_of source.now token.now) }
         ensures small { IfSome result (λ at. at < 2 ^ 63) }
     {
         match self.table.get(source, token) {
             Some(address) => Some(address.number),
             None => None,
         }
+    }
+}
+
+// Counts the lines of code up to and including a line, from the `at` lines of code before it.
+pub(crate) fn code_lines_after(word: LineWord, at: usize) -> usize
+    requires { at < 2 ^ 63 }
+    ensures { result ≡ code_lines_after word at }
+{
+    match word {
+        LineWord::Code => at + 1,
+        _ => at,
     }
 }

@@ -1,8 +1,8 @@
-//! The assembler of Redcode: a text becomes a warrior, or the fault that comes first names its line.
+//! The assembler of Redcode: a text becomes a warrior, or its first fault is named with its line.
 #![tactic(auto)]
 
-pub mod assembler;
-pub mod fault;
+mod assembler;
+mod fault;
 mod forms;
 mod instruction;
 mod labels;

@@ -1,4 +1,4 @@
-//! Operands.
+//! Operands: a mode and an expression become a mode and a number.
 ghost use Rattle.std.specs.Prelude.{◌≡◌, ◌<◌, ◌≤◌, ◌^◌, All, IfSome, IfOk, option_map};
 ghost use Rattle.rc_text.specs.Symbols.{LiesIn};
 ghost use Rattle.rc_asm.specs.Results.{mapped};
@@ -6,61 +6,30 @@ ghost use Rattle.rc_asm.specs.Names.{value_at};
 ghost use Rattle.rc_asm.specs.Instructions.{core_number, operand, operand_at};
 ghost use Rattle.rc_asm.specs.Seen.{seen_names};
 
-use crate::scope::{Known, value_at};
+use crate::scope::{Context, value_at};
 use crate::word::mode_at;
 use rc_instr::Mode;
 use rc_text::{EvalFault, Token};
 
-/// An operand of an instruction.
 #[derive(Clone, Copy)]
 pub(crate) struct Operand {
     pub(crate) mode: Mode,
     pub(crate) number: u16,
 }
 
-// A value as a number of a core.
-#[tactic(auto, unfolding(crate::specs::Instructions::core_number))]
-fn core_number(value: i64, core: u32) -> u16
-    requires { (0 < core) × (core ≤ 65535) }
-    ensures number { result ≡ core_number core value }
-    ensures below { result < core }
-{
-    value.rem_euclid(i64::from(core)) as u16
-}
-
-// An operand with the value of an expression.
-fn with_value(
-    source: &[u8],
-    known: &Known,
-    at: usize,
-    mode: Mode,
-    tokens: &[Token],
-) -> Result<Operand, EvalFault>
-    requires tokens { All (LiesIn source.now) tokens.now }
-    requires small { at < 2 ^ 63 }
-    ensures operand { result ≡ mapped (operand known.now.rules.now.core mode) (value_at source.now (seen_names known.now) at at tokens.now) }
-    ensures below { IfOk result (λ o. o.number < known.now.rules.now.core) }
-{
-    let value = value_at(source, known, at, at, tokens)?;
-    Ok(Operand {
-        mode,
-        number: core_number(value, known.rules.core()),
-    })
-}
-
-/// The operand that the tokens spell, or `$0` where none is written.
+// Reads the operand that `part` spells, with `at` lines of code before it. `None` gives `$0`.
 #[tactic(auto, unfolding(crate::specs::Instructions::operand_at))]
 pub(crate) fn operand_at(
     source: &[u8],
-    known: &Known,
+    context: &Context,
     at: usize,
     part: Option<&[Token]>,
 ) -> Result<Operand, EvalFault>
     requires part { IfSome part (λ p. All (LiesIn source.now) p.now) }
     requires small { at < 2 ^ 63 }
-    requires core { 0 < known.now.rules.now.core }
-    ensures operand { result ≡ operand_at source.now (seen_names known.now) at (option_map (λ p. p.now) part.entry) }
-    ensures below { IfOk result (λ o. o.number < known.now.rules.now.core) }
+    requires core { 0 < context.now.rules.now.core }
+    ensures operand { result ≡ operand_at source.now (seen_names context.now) at (option_map (λ p. p.now) part.entry) }
+    ensures below { IfOk result (λ o. o.number < context.now.rules.now.core) }
 {
     match part {
         None => Ok(Operand {
@@ -70,9 +39,39 @@ pub(crate) fn operand_at(
         Some(tokens) => match tokens {
             [] => Err(EvalFault::Syntax),
             [first, rest @ ..] => match mode_at(first) {
-                Some(mode) => with_value(source, known, at, mode, rest),
-                None => with_value(source, known, at, Mode::Direct, tokens),
+                Some(mode) => with_value(source, context, at, mode, rest),
+                None => with_value(source, context, at, Mode::Direct, tokens),
             },
         },
     }
+}
+
+// Reduces a value modulo the core size.
+#[tactic(auto, unfolding(crate::specs::Instructions::core_number))]
+fn core_number(value: i64, core: u32) -> u16
+    requires { (0 < core) × (core ≤ 65535) }
+    ensures number { result ≡ core_number core value }
+    ensures below { result < core }
+{
+    value.rem_euclid(i64::from(core)) as u16
+}
+
+// Evaluates `tokens` as the number of an operand. Labels count from the line itself.
+fn with_value(
+    source: &[u8],
+    context: &Context,
+    at: usize,
+    mode: Mode,
+    tokens: &[Token],
+) -> Result<Operand, EvalFault>
+    requires tokens { All (LiesIn source.now) tokens.now }
+    requires small { at < 2 ^ 63 }
+    ensures operand { result ≡ mapped (operand context.now.rules.now.core mode) (value_at source.now (seen_names context.now) at at tokens.now) }
+    ensures below { IfOk result (λ o. o.number < context.now.rules.now.core) }
+{
+    let value = value_at(source, context, at, at, tokens)?;
+    Ok(Operand {
+        mode,
+        number: core_number(value, context.rules.core()),
+    })
 }

@@ -1,95 +1,42 @@
-//! The second pass: the lines, read in order.
+//! The second pass: evaluates the lines in order.
 ghost use Rattle.std.specs.Prelude.{◌≡◌, ◌≢◌, ◌<◌, ◌^◌, All, IfErr, IfOk, Some, None, length};
 ghost use Rattle.std.specs.Result.{result_err};
 ghost use Rattle.rc_text.specs.Symbols.{LiesIn};
 ghost use Rattle.rc_expand.specs.Expansion.{LineLies};
 ghost use Rattle.rc_instr.specs.Warrior.{IsBelow};
-ghost use Rattle.rc_asm.specs.Steps.{IsRead, AreRead, fault_at};
+ghost use Rattle.rc_asm.specs.Steps.{IsLineRead, AreLinesRead, fault_at};
 ghost use Rattle.rc_asm.specs.Faults.{assertion_fault, values_fault};
 ghost use Rattle.rc_asm.specs.Names.{value_at};
 ghost use Rattle.rc_asm.specs.Seen.{seen_names};
 ghost use Rattle.rc_asm.specs.declared.fault.AsmKind.TheVariants.{OutOfMemory};
 
-use crate::fault::{AsmFault, AsmKind, placed};
+use crate::fault::{AsmFault, AsmKind, at_line};
 use crate::instruction::instruction_at;
-use crate::scope::{Known, value_at};
+use crate::scope::{Context, value_at};
 use crate::starts::Starts;
 use rc_expand::{Line, LineWord};
 use rc_instr::Instruction;
 use rc_text::Token;
 use std::alloc::Global;
 
-/// What was read of the lines.
+// The code and the starts of the lines so far.
 #[derive(Drop)]
 pub(crate) struct Reading {
     pub(crate) code: Vec<Instruction>,
     pub(crate) starts: Starts,
 }
 
-// Refuses an assertion that has no value, or the value 0.
-fn check_assertion(source: &[u8], known: &Known, at: usize, tokens: &[Token]) -> Result<(), AsmKind>
-    requires tokens { All (LiesIn source.now) tokens.now }
-    requires small { at < 2 ^ 63 }
-    ensures { result_err result ≡ assertion_fault (value_at source.now (seen_names known.now) at 0 tokens.now) }
-{
-    let value = value_at(source, known, at, 0, tokens)?;
-    if value == 0 {
-        return Err(AsmKind::AssertFailed);
-    }
-    Ok(())
-}
-
-// Reads a line.
-fn read_line(
-    source: &[u8],
-    known: &Known,
-    line: &Line,
-    reading: &mut Reading,
-) -> Result<(), AsmKind>
-    requires line { LineLies source.now line.now }
-    requires core { 0 < known.now.rules.now.core }
-    ensures read { IfOk result (λ _. IsRead source.now (seen_names known.now) line.now reading.old.code.items reading.old.starts reading.new.code.items reading.new.starts) }
-    ensures faultless { IfOk result (λ _. fault_at source.now (seen_names known.now) (length reading.old.code.items) line.now ≡ None) }
-    ensures below { IfOk result (λ _. All (IsBelow known.now.rules.now.core) reading.old.code.items → All (IsBelow known.now.rules.now.core) reading.new.code.items) }
-    ensures refused { IfErr result (λ e. e ≢ OutOfMemory → fault_at source.now (seen_names known.now) (length reading.old.code.items) line.now ≡ Some e) }
-{
-    let tokens = line.tokens.as_slice();
-    let at = reading.code.len();
-    match line.word {
-        LineWord::Code => {
-            let instruction = instruction_at(source, known, at, tokens)?;
-            reading.code.push(instruction)?;
-            Ok(())
-        }
-        LineWord::Org => {
-            let value = value_at(source, known, at, 0, tokens)?;
-            reading.starts.org = Some(value);
-            Ok(())
-        }
-        LineWord::End => match tokens {
-            [] => Ok(()),
-            _ => {
-                let value = value_at(source, known, at, 0, tokens)?;
-                reading.starts.end = Some(value);
-                Ok(())
-            }
-        },
-        LineWord::Assert => check_assertion(source, known, at, tokens),
-        LineWord::Bare => Ok(()),
-    }
-}
-
-/// Reads the lines in order, or gives the fault of the first that has one.
+// Reads all lines, or returns the fault of the first line that has one.
 pub(crate) fn read_lines(
     alloc: Global,
     source: &[u8],
-    known: &Known,
+    context: &Context,
     lines: &[Line],
 ) -> Result<Reading, AsmFault>
     requires lines { All (LineLies source.now) lines.now }
-    requires core { 0 < known.now.rules.now.core }
-    ensures read { IfOk result (λ r. AreRead source.now (seen_names known.now) lines.now r.code.items r.starts) }
-    ensures refused { IfErr result (λ f. f.kind ≢ OutOfMemory → values_fault source.now (seen_names known.now) 0 lines.now ≡ Some f) }
+    requires core { 0 < context.now.rules.now.core }
+    ensures read { IfOk result (λ r. AreLinesRead source.now (seen_names context.now) lines.now r.code.items r.starts) }
+    ensures refused { IfErr result (λ f. f.kind ≢ OutOfMemory → values_fault source.now (seen_names context.now) 0 lines.now ≡ Some f) }
     ensures memory { IfErr result (λ f. f.kind ≡ OutOfMemory → f.line ≡ 0) }
 {
     let mut reading = Reading {
@@ -98,11 +45,68 @@ pub(crate) fn read_lines(
     };
     let mut rest = lines;
     while let Some((line, after)) = rest.split_first() {
-        match read_line(source, known, line, &mut reading) {
+        match read_line(source, context, line, &mut reading) {
             Ok(()) => {}
-            Err(kind) => return Err(placed(line.number, kind)),
+            Err(kind) => return Err(at_line(line.number, kind)),
         }
         rest = after;
     }
     Ok(reading)
+}
+
+// Refuses an assertion without a value, or with the value 0.
+fn check_assertion(
+    source: &[u8],
+    context: &Context,
+    at: usize,
+    tokens: &[Token],
+) -> Result<(), AsmKind>
+    requires tokens { All (LiesIn source.now) tokens.now }
+    requires small { at < 2 ^ 63 }
+    ensures { result_err result ≡ assertion_fault (value_at source.now (seen_names context.now) at 0 tokens.now) }
+{
+    let value = value_at(source, context, at, 0, tokens)?;
+    if value == 0 {
+        return Err(AsmKind::AssertFailed);
+    }
+    Ok(())
+}
+
+fn read_line(
+    source: &[u8],
+    context: &Context,
+    line: &Line,
+    reading: &mut Reading,
+) -> Result<(), AsmKind>
+    requires line { LineLies source.now line.now }
+    requires core { 0 < context.now.rules.now.core }
+    ensures read { IfOk result (λ _. IsLineRead source.now (seen_names context.now) line.now reading.old.code.items reading.old.starts reading.new.code.items reading.new.starts) }
+    ensures faultless { IfOk result (λ _. fault_at source.now (seen_names context.now) (length reading.old.code.items) line.now ≡ None) }
+    ensures below { IfOk result (λ _. All (IsBelow context.now.rules.now.core) reading.old.code.items → All (IsBelow context.now.rules.now.core) reading.new.code.items) }
+    ensures refused { IfErr result (λ e. e ≢ OutOfMemory → fault_at source.now (seen_names context.now) (length reading.old.code.items) line.now ≡ Some e) }
+{
+    let tokens = line.tokens.as_slice();
+    let at = reading.code.len();
+    match line.word {
+        LineWord::Code => {
+            let instruction = instruction_at(source, context, at, tokens)?;
+            reading.code.push(instruction)?;
+            Ok(())
+        }
+        LineWord::Org => {
+            let value = value_at(source, context, at, 0, tokens)?;
+            reading.starts.org = Some(value);
+            Ok(())
+        }
+        LineWord::End => match tokens {
+            [] => Ok(()),
+            _ => {
+                let value = value_at(source, context, at, 0, tokens)?;
+                reading.starts.end = Some(value);
+                Ok(())
+            }
+        },
+        LineWord::Assert => check_assertion(source, context, at, tokens),
+        LineWord::Bare => Ok(()),
+    }
 }

@@ -1,9 +1,9 @@
-//! The form of a line of code.
+//! The form of a line of code: opcode, modifier, operands.
 ghost use Rattle.std.specs.Prelude.{◌≡◌, ◌≢◌, ℕ, ◌∷◌, [], ◌<◌, length, take, drop, ◌+◌, option_map, List, Some, None, All, IfSome, IfNone, IfOk, IfErr};
 ghost use Rattle.rc_asm.specs.declared.fault.AsmKind.TheVariants.{OutOfMemory};
 ghost use Rattle.rc_text.specs.Symbols.{LiesIn};
 ghost use Rattle.rc_asm.specs.Results.{mapped};
-ghost use Rattle.rc_asm.specs.Shape.{parts, parts_from, no_side, one_side, two_sides, sides_of, with_operands, with_modifier, behind_opcode, shape_of};
+ghost use Rattle.rc_asm.specs.Shape.{parts, parts_from, no_side, one_side, two_sides, sides_of, with_operands, with_modifier, after_opcode, shape_of};
 ghost use Rattle.rc_asm.specs.Seen.{seen_sides, seen_shape, SidesLie};
 
 use crate::fault::AsmKind;
@@ -11,14 +11,14 @@ use crate::word::{is_comma, is_dot, modifier_at, opcode_at};
 use rc_instr::{Modifier, Opcode};
 use rc_text::Token;
 
-/// The tokens of the operands, where they are written.
+// The tokens of the operands; `None` for an operand that is not written.
 #[derive(Clone, Copy)]
 pub(crate) struct Sides<'a> {
     pub(crate) a: Option<&'a [Token]>,
     pub(crate) b: Option<&'a [Token]>,
 }
 
-/// An opcode, perhaps a modifier, and the operands.
+// A line of code in its parts. `modifier` is `None` if it is not written.
 #[derive(Clone, Copy)]
 pub(crate) struct Shape<'a> {
     pub(crate) opcode: Opcode,
@@ -26,7 +26,23 @@ pub(crate) struct Shape<'a> {
     pub(crate) sides: Sides<'a>,
 }
 
-// Where the first comma stands.
+// Parses the tokens of a line of code.
+#[tactic(auto, unfolding(crate::specs::Shape::shape_of))]
+pub(crate) fn shape_of<'a>(source: &[u8], tokens: &'a [Token]) -> Result<Shape<'a>, AsmKind>
+    requires { All (LiesIn source.now) tokens.now }
+    ensures shape { mapped seen_shape result ≡ shape_of source.now tokens.now }
+    ensures inside { IfOk result (λ s. SidesLie source.now s.sides) }
+    ensures room { IfErr result (λ e. e ≢ OutOfMemory) }
+{
+    match tokens {
+        [] => Err(AsmKind::UnknownOpcode),
+        [first, rest @ ..] => match opcode_at(source, first) {
+            Some(opcode) => after_opcode(source, opcode, rest),
+            None => Err(AsmKind::UnknownOpcode),
+        },
+    }
+}
+
 #[tactic(auto, using(crate::proofs::Parts::parts_whole, crate::proofs::Parts::parts_comma))]
 fn first_comma(tokens: &[Token]) -> Option<usize>
     ensures found { IfSome result (λ at. (at < length tokens.now) × (parts_from tokens.now ≡ take at tokens.now ∷ parts_from (drop (at + 1) tokens.now))) }
@@ -40,7 +56,6 @@ fn first_comma(tokens: &[Token]) -> Option<usize>
     None
 }
 
-// The operands of an opcode without any.
 fn no_side(opcode: Opcode) -> Option<Sides<'static>>
     ensures sides { option_map seen_sides result ≡ no_side opcode }
     ensures inside { (source : List ℕ) → IfSome result (SidesLie source) }
@@ -51,7 +66,7 @@ fn no_side(opcode: Opcode) -> Option<Sides<'static>>
     }
 }
 
-// The operands of an opcode with one.
+// Only DAT takes a single operand as its B-operand.
 fn one_side(opcode: Opcode, part: &[Token]) -> Option<Sides<'_>>
     ensures sides { option_map seen_sides result ≡ one_side opcode part.now }
     ensures inside { (source : List ℕ) → All (LiesIn source) part.now → IfSome result (SidesLie source) }
@@ -69,7 +84,7 @@ fn one_side(opcode: Opcode, part: &[Token]) -> Option<Sides<'_>>
     }
 }
 
-// The operands of an opcode with two.
+// Refuses an empty operand beside a comma.
 fn two_sides<'a>(first: &'a [Token], second: &'a [Token]) -> Option<Sides<'a>>
     ensures sides { option_map seen_sides result ≡ two_sides first.now second.now }
     ensures inside { (source : List ℕ) → All (LiesIn source) first.now → All (LiesIn source) second.now → IfSome result (SidesLie source) }
@@ -83,7 +98,6 @@ fn two_sides<'a>(first: &'a [Token], second: &'a [Token]) -> Option<Sides<'a>>
     })
 }
 
-// The operands of an opcode.
 #[tactic(auto, unfolding(crate::specs::Shape::parts))]
 fn sides_of(opcode: Opcode, tokens: &[Token]) -> Result<Sides<'_>, AsmKind>
     ensures sides { mapped seen_sides result ≡ sides_of opcode (parts tokens.now) }
@@ -105,7 +119,6 @@ fn sides_of(opcode: Opcode, tokens: &[Token]) -> Result<Sides<'_>, AsmKind>
     }
 }
 
-// An opcode, perhaps a modifier, and the operands.
 #[tactic(auto, unfolding(crate::specs::Shape::with_operands))]
 fn with_operands(
     opcode: Opcode,
@@ -124,7 +137,7 @@ fn with_operands(
     })
 }
 
-// What follows an opcode and a dot.
+// Parses what follows the opcode and a dot.
 #[tactic(auto, unfolding(crate::specs::Shape::with_modifier))]
 fn with_modifier<'a>(
     source: &[u8],
@@ -145,37 +158,20 @@ fn with_modifier<'a>(
     }
 }
 
-// What follows an opcode.
-#[tactic(auto, unfolding(crate::specs::Shape::behind_opcode))]
-fn behind_opcode<'a>(
+// Parses what follows the opcode.
+#[tactic(auto, unfolding(crate::specs::Shape::after_opcode))]
+fn after_opcode<'a>(
     source: &[u8],
     opcode: Opcode,
     tokens: &'a [Token],
 ) -> Result<Shape<'a>, AsmKind>
     requires { All (LiesIn source.now) tokens.now }
-    ensures shape { mapped seen_shape result ≡ behind_opcode source.now opcode tokens.now }
+    ensures shape { mapped seen_shape result ≡ after_opcode source.now opcode tokens.now }
     ensures inside { IfOk result (λ s. SidesLie source.now s.sides) }
     ensures room { IfErr result (λ e. e ≢ OutOfMemory) }
 {
     match tokens {
         [first, rest @ ..] if is_dot(first) => with_modifier(source, opcode, rest),
         _ => with_operands(opcode, None, tokens),
-    }
-}
-
-/// The form of a line of code.
-#[tactic(auto, unfolding(crate::specs::Shape::shape_of))]
-pub(crate) fn shape_of<'a>(source: &[u8], tokens: &'a [Token]) -> Result<Shape<'a>, AsmKind>
-    requires { All (LiesIn source.now) tokens.now }
-    ensures shape { mapped seen_shape result ≡ shape_of source.now tokens.now }
-    ensures inside { IfOk result (λ s. SidesLie source.now s.sides) }
-    ensures room { IfErr result (λ e. e ≢ OutOfMemory) }
-{
-    match tokens {
-        [] => Err(AsmKind::UnknownOpcode),
-        [first, rest @ ..] => match opcode_at(source, first) {
-            Some(opcode) => behind_opcode(source, opcode, rest),
-            None => Err(AsmKind::UnknownOpcode),
-        },
     }
 }

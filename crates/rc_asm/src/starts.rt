@@ -1,8 +1,8 @@
 //! Where a warrior starts.
 ghost use Rattle.std.specs.Prelude.{◌≡◌};
-ghost use Rattle.rc_asm.specs.Assembly.{start_of, no_starts};
+ghost use Rattle.rc_asm.specs.Assembly.{start_value, no_starts};
 
-/// The values of the last ORG and of END, as far as they were read.
+// The values of the last ORG and of END, as far as they have been read.
 #[derive(Clone, Copy)]
 pub(crate) struct Starts {
     pub(crate) org: Option<i64>,
@@ -10,7 +10,6 @@ pub(crate) struct Starts {
 }
 
 impl Starts {
-    /// Neither ORG nor END was read.
     pub(crate) fn none() -> Starts
         ensures { result ≡ no_starts }
     {
@@ -20,9 +19,9 @@ impl Starts {
         }
     }
 
-    /// The value of the last ORG; without ORG that of END; without either 0.
+    // Returns the value of the last ORG; without ORG, the value after END; without either, 0.
     pub(crate) fn value(&self) -> i64
-        ensures { result ≡ start_of self.now }
+        ensures { result ≡ start_value self.now }
     {
         match self.org {
             Some(value) => value,

@@ -1,4 +1,4 @@
-//! Opcode words, modifiers and modes, as they are written.
+//! The words and signs of a line of code: opcodes, modifiers, modes.
 ghost use Rattle.std.specs.Prelude.{◌≡◌, ◌∷◌, [], map, ◌&&◌, option_map, None};
 ghost use Rattle.std.specs.Char.{to_ascii_lowercase};
 ghost use Rattle.rc_text.specs.Symbols.{LiesIn};
@@ -8,7 +8,74 @@ ghost use Rattle.rc_asm.specs.Words.{entry, named, opcodes, modifiers, mode_at, 
 use rc_instr::{Mode, Modifier, Opcode};
 use rc_text::{Kind, Sign, Token};
 
-// The opcode of three small letters.
+#[tactic(auto, unfolding(crate::specs::Words::opcode_at))]
+pub(crate) fn opcode_at(source: &[u8], token: &Token) -> Option<Opcode>
+    requires { LiesIn source.now token.now }
+    ensures { result ≡ opcode_at source.now token.now }
+{
+    if is_plain(token) {
+        opcode_named(&source[token.lo..token.hi])
+    } else {
+        None
+    }
+}
+
+#[tactic(auto, unfolding(crate::specs::Words::modifier_at))]
+pub(crate) fn modifier_at(source: &[u8], token: &Token) -> Option<Modifier>
+    requires { LiesIn source.now token.now }
+    ensures { result ≡ modifier_at source.now token.now }
+{
+    if is_plain(token) {
+        modifier_named(&source[token.lo..token.hi])
+    } else {
+        None
+    }
+}
+
+pub(crate) fn mode_at(token: &Token) -> Option<Mode>
+    ensures { result ≡ mode_at token.now }
+{
+    match token.kind {
+        Kind::Sign(sign) => match sign {
+            Sign::Hash => Some(Mode::Immediate),
+            Sign::Dollar => Some(Mode::Direct),
+            Sign::Star => Some(Mode::AIndirect),
+            Sign::At => Some(Mode::BIndirect),
+            Sign::OpenBrace => Some(Mode::APredecrement),
+            Sign::Less => Some(Mode::BPredecrement),
+            Sign::CloseBrace => Some(Mode::APostincrement),
+            Sign::Greater => Some(Mode::BPostincrement),
+            _ => None,
+        },
+        _ => None,
+    }
+}
+
+pub(crate) fn is_comma(token: &Token) -> bool
+    ensures { result ≡ is_comma token.now }
+{
+    match token.kind {
+        Kind::Sign(sign) => match sign {
+            Sign::Comma => true,
+            _ => false,
+        },
+        _ => false,
+    }
+}
+
+pub(crate) fn is_dot(token: &Token) -> bool
+    ensures { result ≡ is_dot token.now }
+{
+    match token.kind {
+        Kind::Sign(sign) => match sign {
+            Sign::Dot => true,
+            _ => false,
+        },
+        _ => false,
+    }
+}
+
+// The letters are lower case. CMP is another spelling of SEQ.
 fn opcode_of(first: u8, second: u8, third: u8) -> Option<Opcode>
     ensures { result ≡ entry opcodes (first ∷ second ∷ third ∷ []) }
 {
@@ -34,7 +101,7 @@ fn opcode_of(first: u8, second: u8, third: u8) -> Option<Opcode>
     }
 }
 
-// The opcode of a name, in any case.
+// Looks up `name` in either case.
 fn opcode_named(name: &[u8]) -> Option<Opcode>
     ensures { result ≡ named opcodes name.now }
 {
@@ -48,7 +115,7 @@ fn opcode_named(name: &[u8]) -> Option<Opcode>
     }
 }
 
-// The modifier of one small letter.
+// The letter is lower case.
 fn one_letter(letter: u8) -> Option<Modifier>
     ensures { result ≡ entry modifiers (letter ∷ []) }
 {
@@ -62,7 +129,7 @@ fn one_letter(letter: u8) -> Option<Modifier>
     }
 }
 
-// The modifier of two small letters.
+// The letters are lower case.
 fn two_letters(first: u8, second: u8) -> Option<Modifier>
     ensures { result ≡ entry modifiers (first ∷ second ∷ []) }
 {
@@ -73,7 +140,7 @@ fn two_letters(first: u8, second: u8) -> Option<Modifier>
     }
 }
 
-// The modifier of a name, in any case.
+// Looks up `name` in either case.
 fn modifier_named(name: &[u8]) -> Option<Modifier>
     ensures { result ≡ named modifiers name.now }
 {
@@ -84,84 +151,12 @@ fn modifier_named(name: &[u8]) -> Option<Modifier>
     }
 }
 
-// Whether a token is a name to which no counter is joined.
+// Checks for a name without a joined counter.
 fn is_plain(token: &Token) -> bool
     ensures { result ≡ is_plain token.now }
 {
     match token.kind {
         Kind::Name => token.joined.is_empty(),
-        _ => false,
-    }
-}
-
-/// The opcode that a token names.
-#[tactic(auto, unfolding(crate::specs::Words::opcode_at))]
-pub(crate) fn opcode_at(source: &[u8], token: &Token) -> Option<Opcode>
-    requires { LiesIn source.now token.now }
-    ensures { result ≡ opcode_at source.now token.now }
-{
-    if is_plain(token) {
-        opcode_named(&source[token.lo..token.hi])
-    } else {
-        None
-    }
-}
-
-/// The modifier that a token names.
-#[tactic(auto, unfolding(crate::specs::Words::modifier_at))]
-pub(crate) fn modifier_at(source: &[u8], token: &Token) -> Option<Modifier>
-    requires { LiesIn source.now token.now }
-    ensures { result ≡ modifier_at source.now token.now }
-{
-    if is_plain(token) {
-        modifier_named(&source[token.lo..token.hi])
-    } else {
-        None
-    }
-}
-
-/// The mode that a token stands for.
-pub(crate) fn mode_at(token: &Token) -> Option<Mode>
-    ensures { result ≡ mode_at token.now }
-{
-    match token.kind {
-        Kind::Sign(sign) => match sign {
-            Sign::Hash => Some(Mode::Immediate),
-            Sign::Dollar => Some(Mode::Direct),
-            Sign::Star => Some(Mode::AIndirect),
-            Sign::At => Some(Mode::BIndirect),
-            Sign::OpenBrace => Some(Mode::APredecrement),
-            Sign::Less => Some(Mode::BPredecrement),
-            Sign::CloseBrace => Some(Mode::APostincrement),
-            Sign::Greater => Some(Mode::BPostincrement),
-            _ => None,
-        },
-        _ => None,
-    }
-}
-
-/// Whether a token is a comma.
-pub(crate) fn is_comma(token: &Token) -> bool
-    ensures { result ≡ is_comma token.now }
-{
-    match token.kind {
-        Kind::Sign(sign) => match sign {
-            Sign::Comma => true,
-            _ => false,
-        },
-        _ => false,
-    }
-}
-
-/// Whether a token is a dot.
-pub(crate) fn is_dot(token: &Token) -> bool
-    ensures { result ≡ is_dot token.now }
-{
-    match token.kind {
-        Kind::Sign(sign) => match sign {
-            Sign::Dot => true,
-            _ => false,
-        },
         _ => false,
     }
 }

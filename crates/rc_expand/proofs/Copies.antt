@@ -6,7 +6,7 @@ use Rattle.std.proofs.lemmas.Bool.Decides.{nat_tests}
 use Rattle.rc_text.specs.declared.token.Token.{Token}
 use Rattle.rc_text.specs.declared.token.Kind.TheVariants.{Number}
 use Rattle.rc_text.specs.Symbols.{LiesIn}
-use Rattle.rc_expand.specs.Lines.{is_name, is_ampersand, has_modifier}
+use Rattle.rc_expand.specs.Lines.{is_name_token, is_ampersand, has_modifier}
 use Rattle.rc_expand.specs.Unroll.{is_use, numbered, joins, joined, copied_from, copied_tokens, copied_code}
 
 -- an item and what follows it
@@ -45,13 +45,13 @@ module _ (source : List ℕ) (counter : List ℕ) where
   joins_short_list t (u ∷ []) h = refl
   joins_short_list t (u ∷ v ∷ ts) h = absurd (omega arith)
 
-  -- the last token has nothing behind it to join
+  -- the last token has nothing after it to join
   pub joins_short : (t : Token) (ts : List Token) (i : ℕ) → length ts ≤ i + 1 → joins source counter t (drop i ts) ≡ false
   joins_short t ts i h = joins_short_list t (drop i ts) (omega (arith, length-drop i ts))
 
   -- whether the next two tokens join, by what they are
   pub joins_at : (t : Token) (ts : List Token) (i : ℕ) (u v : Token) → i + 1 < length ts → u ≡ get_or ts i u → v ≡ get_or ts (i + 1) v
-      → joins source counter t (drop i ts) ≡ (is_name t && (is_ampersand u && is_use source counter v))
+      → joins source counter t (drop i ts) ≡ (is_name_token t && (is_ampersand u && is_use source counter v))
   joins_at t ts i u v h e f = ap (joins source counter t) (split_two ts i u v h e f)
 
   module _ (k : ℕ) where
@@ -81,7 +81,7 @@ module _ (source : List ℕ) (counter : List ℕ) where
     more copied t None = refl
     more copied t (Some r) = ap Some (sym (append_assoc copied (t ∷ []) r))
 
-    -- the copy goes on behind a token
+    -- the copy goes on after a token
     pub rest_passed : (tokens copied : List Token) (t u : Token) (i : ℕ) → i < length tokens → u ≡ get_or tokens i u → false ≡ joins source counter t (drop i tokens)
         → Rest tokens copied (copied_from source counter k t (drop i tokens)) → Rest tokens (copied ++ (numbered source counter k t ∷ [])) (copied_from source counter k u (drop (i + 1) tokens))
     rest_passed tokens copied t u i h e j r = r ∙ (ap (option_map (λ r. copied ++ r)) (is_passed t u tokens i h e (sym j)) ∙ more copied (numbered source counter k t) (copied_from source counter k u (drop (i + 1) tokens)))
@@ -96,25 +96,11 @@ module _ (source : List ℕ) (counter : List ℕ) where
     room : (t : Token) → length t.joined < 8 → joined source k t ≡ Some (record t { joined = t.joined ++ (k ∷ []) })
     room t h = let e : nat_lt (length t.joined) 8 ≡ true = grind (arith, nat_tests) in rw e
 
-    no_room : (t : Token) → 8 ≤ length t.joined → joined source k t ≡ None
-    no_room t h = let e : nat_lt (length t.joined) 8 ≡ false = grind (arith, nat_tests) in rw e
-
-    -- the copy goes on behind a counter that is joined
+    -- the copy goes on after a counter that is joined
     pub rest_joined : (tokens copied : List Token) (t : Token) (i : ℕ) → length t.joined < 8 → true ≡ joins source counter t (drop i tokens)
         → Rest tokens copied (copied_from source counter k t (drop i tokens)) → Rest tokens copied (copied_from source counter k (record t { joined = t.joined ++ (k ∷ []) }) (drop (i + 2) tokens))
     rest_joined tokens copied t i h j r =
         r ∙ ap (option_map (λ r. copied ++ r)) (joined_at t tokens i j ∙ ap (option_and_then (λ n. copied_from source counter k n (drop (i + 2) tokens))) (room t h))
-
-    -- a ninth counter ends the copy
-    pub rest_full : (tokens copied : List Token) (t : Token) (i : ℕ) → 8 ≤ length t.joined → true ≡ joins source counter t (drop i tokens)
-        → Rest tokens copied (copied_from source counter k t (drop i tokens)) → copied_tokens source counter k tokens ≡ None
-    rest_full tokens copied t i h j r =
-        r ∙ ap (option_map (λ r. copied ++ r)) (joined_at t tokens i j ∙ ap (option_and_then (λ n. copied_from source counter k n (drop (i + 2) tokens))) (no_room t h))
-
-    -- the last token ends the copy
-    pub rest_done : (tokens copied : List Token) (t : Token) (i : ℕ) → length tokens ≤ i → Rest tokens copied (copied_from source counter k t (drop i tokens))
-        → copied_tokens source counter k tokens ≡ Some (copied ++ (numbered source counter k t ∷ []))
-    rest_done tokens copied t i h r = r ∙ ap (λ ts. option_map (λ r. copied ++ r) (copied_from source counter k t ts)) (drop_all i tokens h)
 
     -- the copy begins with the first token
     pub rest_first : (tokens : List Token) (t : Token) → 0 < length tokens → t ≡ get_or tokens 0 t → Rest tokens [] (copied_from source counter k t (drop 1 tokens))
@@ -129,7 +115,7 @@ same_read xs i x y e h = subst (λ z. z ≡ get_or xs i z) (sym e) h
 pub item_lies : (source : List ℕ) (ts : List Token) (i : ℕ) (t : Token) → i < length ts → t ≡ get_or ts i t → All (LiesIn source) ts → LiesIn source t
 item_lies source ts i t h e all = subst (LiesIn source) (sym e) (all i t h)
 
--- behind an opcode word and a dot the modifier is left alone
+-- after an opcode word and a dot the modifier is left alone
 module _ (source : List ℕ) (counter : List ℕ) (k : ℕ) where
   -- a line of one or two tokens has no modifier
   pub code_short : (ts : List Token) → length ts < 3 → copied_code source counter k ts ≡ copied_tokens source counter k ts

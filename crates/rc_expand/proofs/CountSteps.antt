@@ -8,11 +8,11 @@ use Rattle.rc_text.specs.Symbols.{Symbol, symbols_of}
 use Rattle.rc_text.specs.Values.{Meaning, IsValue, HasOutcome}
 use Rattle.rc_text.specs.Reading.{evaluation_of}
 use Rattle.rc_text.proofs.Evaluation.{value_of_evaluation, evaluation_of_outcome}
-use Rattle.rc_expand.specs.declared.setting.Setting.{Setting}
+use Rattle.rc_expand.specs.declared.context.Context.{Context}
 use Rattle.rc_expand.specs.Replace.{replaced_tokens}
 use Rattle.rc_expand.specs.Unroll.{plain_token, counter_token, earlier_of, small_count, count_of}
 use Rattle.rc_expand.specs.Names.{given_names}
-use Rattle.rc_expand.specs.Setting.{table, count_by}
+use Rattle.rc_expand.specs.Context.{table, count_by}
 
 -- the counter is the last label
 pub counter_at : (source : List ℕ) (ls : List (List Token)) (i : ℕ) (l : List Token) → suc i ≡ length ls → l ≡ get_or ls i l → counter_token source ls ≡ option_map (λ t. Some t) (plain_token source l)
@@ -22,7 +22,7 @@ counter_at source (m ∷ []) (suc i) l h e = absurd (omega arith)
 counter_at source (m ∷ n ∷ ls) zero l h e = absurd (omega arith)
 counter_at source (m ∷ n ∷ ls) (suc i) l h e = counter_at source (n ∷ ls) i l (omega arith) e
 
--- where evaluation ends with a fault, there is no value
+-- where evaluation ends with a fault, there is not a value
 pub no_value : (names : Meaning) (symbols : List Symbol) (result : Result ℤ EvalFault) (e : EvalFault) → result ≡ Err e → ((r : Result ℤ EvalFault) → HasOutcome names symbols r → result ≡ r) → result_ok (evaluation_of names symbols) ≡ None
 no_value names symbols result e r h = by_cases (evaluation_of names symbols) refl where
   refuted : (x : ℤ) → evaluation_of names symbols ≡ Ok x → ⊥
@@ -32,7 +32,7 @@ no_value names symbols result e r h = by_cases (evaluation_of names symbols) ref
   by_cases (Err f) k = ap result_ok k
   by_cases (Ok x) k = absurd (refuted x k)
 
-module _ (s : Setting) (ts r : List Token) where
+module _ (s : Context) (ts r : List Token) where
   abbrev names : Meaning
   names = given_names (table s) s.rules.now
 

@@ -1,7 +1,6 @@
 -- Lists that are made item by item.
-use Rattle.std.proofs.Common.{◌≡◌, ℕ, ◌+◌, ◌≤◌, ◌<◌, List, [], ◌∷◌, ◌++◌, get_or, drop, drop-cons, length, refl, sym, ◌∙◌, ap, append_assoc, add-one, Option, Some, None}
+use Rattle.std.proofs.Common.{◌≡◌, ℕ, ◌+◌, ◌<◌, List, [], ◌∷◌, ◌++◌, get_or, drop, drop-cons, length, refl, sym, ◌∙◌, ap, append_assoc, add-one, Option, Some, None}
 use Rattle.std.specs.Prelude.{option_map, option_and_then}
-use Rattle.std.proofs.lemmas.List.{drop_all, append-nil}
 use Rattle.rc_expand.specs.Unroll.{all_of}
 
 -- an item and what follows it
@@ -9,10 +8,6 @@ pub split_at : {A : Type 0} (xs : List A) (i : ℕ) (x : A) → i < length xs �
 split_at xs i x h e =
     let d : drop i xs ≡ get_or xs i x ∷ drop (i + 1) xs = rw add-one (drop-cons xs i x h) in
     d ∙ ap (λ y. y ∷ drop (i + 1) xs) (sym e)
-
-same_option : {A : Type 0} (o : Option (List A)) → o ≡ option_map (λ r. [] ++ r) o
-same_option None = refl
-same_option (Some r) = refl
 
 -- one more item is made
 pub more : {A : Type 0} (ys : List A) (y : A) (o : Option (List A)) → option_map (λ r. ys ++ r) (option_map (λ r. y ∷ r) o) ≡ option_map (λ r. (ys ++ (y ∷ [])) ++ r) o
@@ -24,21 +19,9 @@ abbrev pub SoFar : {A B : Type 0} → (A → Option B) → List A → List B →
 SoFar f xs ys i = all_of f xs ≡ option_map (λ r. ys ++ r) (all_of f (drop i xs))
 
 module _ {A B : Type 0} (f : A → Option B) (xs : List A) where
-  -- before the first item
-  pub so_far_first : SoFar f xs [] 0
-  so_far_first = same_option (all_of f xs)
-
   step : (x : A) (o : Option B) (i : ℕ) → i < length xs → x ≡ get_or xs i x → o ≡ f x → all_of f (drop i xs) ≡ option_and_then (λ y. option_map (λ ys. y ∷ ys) (all_of f (drop (i + 1) xs))) o
   step x o i h e s = ap (all_of f) (split_at xs i x h e) ∙ ap (option_and_then (λ y. option_map (λ ys. y ∷ ys) (all_of f (drop (i + 1) xs)))) (sym s)
 
   -- an item is made
   pub so_far_more : (ys : List B) (x : A) (y : B) (i : ℕ) → i < length xs → x ≡ get_or xs i x → Some y ≡ f x → SoFar f xs ys i → SoFar f xs (ys ++ (y ∷ [])) (i + 1)
   so_far_more ys x y i h e s r = r ∙ (ap (option_map (λ r. ys ++ r)) (step x (Some y) i h e s) ∙ more ys y (all_of f (drop (i + 1) xs)))
-
-  -- an item can not be made
-  pub so_far_none : (ys : List B) (x : A) (i : ℕ) → i < length xs → x ≡ get_or xs i x → None ≡ f x → SoFar f xs ys i → all_of f xs ≡ None
-  so_far_none ys x i h e s r = r ∙ ap (option_map (λ r. ys ++ r)) (step x None i h e s)
-
-  -- all items are made
-  pub so_far_done : (ys : List B) (i : ℕ) → length xs ≤ i → SoFar f xs ys i → all_of f xs ≡ Some ys
-  so_far_done ys i h r = r ∙ (ap (λ zs. option_map (λ r. ys ++ r) (all_of f zs)) (drop_all i xs h) ∙ ap Some (append-nil ys))

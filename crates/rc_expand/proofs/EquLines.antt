@@ -2,7 +2,7 @@
 use Rattle.std.proofs.Common.{◌≡◌, ◌≢◌, ℕ, zero, suc, ◌+◌, ◌-◌, ◌<◌, List, [], ◌∷◌, ◌++◌, Some, None, refl, sym, ◌∙◌, ap, arith, add-one}
 use Rattle.std.specs.Prelude.{option_and_then}
 use Rattle.rc_text.specs.declared.token.Token.{Token}
-use Rattle.rc_instr.specs.Rules.{Limits}
+use Rattle.rc_instr.specs.Rules.{RulesView}
 use Rattle.rc_expand.specs.declared.head.Head.{Head}
 use Rattle.rc_expand.specs.declared.head.HeadWord.{HeadWord}
 use Rattle.rc_expand.specs.declared.head.HeadWord.TheVariants as word
@@ -39,11 +39,11 @@ at_other lines h hs n l e f r = ap (equ_lines n) l ∙ by_word h.word n e f r wh
   by_word word.Rof n e f r = absurd (r refl)
   by_word _ n e f r = refl
 
-module _ (source : List ℕ) (constants : Table) (limits : Limits) (equs : Equs) (h : Head) (hs : List Head) where
+module _ (source : List ℕ) (constants : Table) (rules : RulesView) (equs : Equs) (h : Head) (hs : List Head) where
   -- a new EQU name is taken up
-  pub one_more : (e : List ℕ × List Token) → new_equ source constants limits equs h ≡ Some e → collected source constants limits equs (h ∷ hs) ≡ collected source constants limits (equs ++ (e ∷ [])) hs
-  one_more e n = ap (option_and_then (λ e. collected source constants limits (equs ++ (e ∷ [])) hs)) n
+  pub one_more : (e : List ℕ × List Token) → new_equ source constants rules equs h ≡ Some e → collected source constants rules equs (h ∷ hs) ≡ collected source constants rules (equs ++ (e ∷ [])) hs
+  one_more e n = ap (option_and_then (λ e. collected source constants rules (equs ++ (e ∷ [])) hs)) n
 
   -- one that is taken ends the reading
-  pub refused : new_equ source constants limits equs h ≡ None → collected source constants limits equs (h ∷ hs) ≡ None
-  refused n = ap (option_and_then (λ e. collected source constants limits (equs ++ (e ∷ [])) hs)) n
+  pub refused : new_equ source constants rules equs h ≡ None → collected source constants rules equs (h ∷ hs) ≡ None
+  refused n = ap (option_and_then (λ e. collected source constants rules (equs ++ (e ∷ [])) hs)) n

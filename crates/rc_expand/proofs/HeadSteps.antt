@@ -110,8 +110,8 @@ module _ (source : List ℕ) where
   label_step [] b = cc
   label_step (t ∷ ts) b = first_label t ts (sym b)
 
-  behind_more : (labels : List (List Token)) (x label : List Token) (l m : Labelled) → l ≡ m → x ≡ label → behind labels (record { labels = x ∷ l.labels; after = l.after }) ≡ behind (labels ++ (label ∷ [])) m
-  behind_more labels x label l m e f =
+  after_more : (labels : List (List Token)) (x label : List Token) (l m : Labelled) → l ≡ m → x ≡ label → behind labels (record { labels = x ∷ l.labels; after = l.after }) ≡ behind (labels ++ (label ∷ [])) m
+  after_more labels x label l m e f =
       ap (λ l. behind labels (record { labels = x ∷ l.labels; after = l.after })) e
       ∙ (ap (λ x. behind labels (record { labels = x ∷ m.labels; after = m.after })) f
       ∙ ap (λ ls. record { labels = ls; after = m.after }) (sym (append_assoc labels (label ∷ []) m.labels)))
@@ -129,7 +129,7 @@ module _ (source : List ℕ) where
       ap (drop (tail_len source (drop 1 (drop at tokens)))) d ∙ (drop-drop (tail_len source (drop 1 (drop at tokens))) (at + 1) tokens ∙ ap (λ i. drop i tokens) p) in
       let front : take (suc (tail_len source (drop 1 (drop at tokens)))) (drop at tokens) ≡ label =
       ap (λ i. take i (drop at tokens)) (sym q) ∙ (sym (append-nil (take (end - at) (drop at tokens))) ∙ sym l) in
-      r ∙ (ap (behind labels) (label_step (drop at tokens) b) ∙ behind_more labels (take (suc (tail_len source (drop 1 (drop at tokens)))) (drop at tokens)) label _ (labelled source (drop end tokens)) (ap (labelled source) tail) front)
+      r ∙ (ap (behind labels) (label_step (drop at tokens) b) ∙ after_more labels (take (suc (tail_len source (drop 1 (drop at tokens)))) (drop at tokens)) label _ (labelled source (drop end tokens)) (ap (labelled source) tail) front)
 
   -- no label begins here
   pub labels_done : (tokens : List Token) (labels : List (List Token)) (at : ℕ) → false ≡ begins_label source (drop at tokens) → labelled source tokens ≡ behind labels (labelled source (drop at tokens))

@@ -4,7 +4,7 @@ pub mod Copies
 pub mod Each
 pub mod EquSteps
 pub mod UnrollSteps
-pub mod SettingSteps
+pub mod ContextSteps
 pub mod TableSteps
 pub mod CountSteps
 pub mod OpeningSteps

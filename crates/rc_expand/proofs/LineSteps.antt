@@ -1,5 +1,5 @@
 -- The lines of the expansion, line by line, and their labels.
-use Rattle.std.proofs.Common.{◌≡◌, ◌≢◌, false, List, [], ◌∷◌, ◌++◌, Some, None, ℕ, refl, sym, ◌∙◌, ap, append_assoc}
+use Rattle.std.proofs.Common.{◌≡◌, ◌≢◌, false, List, [], ◌∷◌, ◌++◌, Some, ℕ, refl, sym, ◌∙◌, ap, append_assoc}
 use Rattle.std.specs.Prelude.{option_map, option_and_then}
 use Rattle.rc_text.specs.declared.token.Token.{Token}
 use Rattle.rc_expand.specs.declared.head.Head.{Head}
@@ -45,9 +45,3 @@ module _ (source : List ℕ) (equs : Equs) (lines : List Head) (h : Head) (hs : 
       ap (λ ks. option_map (λ r. made ++ r) (all_of (line_of source equs) ks)) kept
       ∙ (ap (λ o. option_map (λ r. made ++ r) (option_and_then (λ y. option_map (λ ys. y ∷ ys) (all_of (line_of source equs) (kept_lines hs))) o)) e
       ∙ more made l (all_of (line_of source equs) (kept_lines hs)))
-
-  -- a line can not be made
-  pub lines_none : (made : List Line) → line_of source equs h ≡ None → option_map (λ r. made ++ r) (all_of (line_of source equs) (kept_lines lines)) ≡ None
-  lines_none made e =
-      ap (λ ks. option_map (λ r. made ++ r) (all_of (line_of source equs) ks)) kept
-      ∙ ap (λ o. option_map (λ r. made ++ r) (option_and_then (λ y. option_map (λ ys. y ∷ ys) (all_of (line_of source equs) (kept_lines hs))) o)) e

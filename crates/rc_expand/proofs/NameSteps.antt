@@ -1,9 +1,9 @@
 -- Names, byte by byte.
-use Rattle.std.proofs.Common.{◌≡◌, ◌≢◌, ℕ, ◌+◌, ◌≤◌, ◌<◌, ◌/◌, ◌%◌, Bool, true, false, List, [], ◌∷◌, ◌++◌, get_or, drop, drop-cons, length, map, refl, arith, sym, ◌∙◌, ap, append_assoc, add-one, Option, Some, None, MatchOption, Bor}
+use Rattle.std.proofs.Common.{◌≡◌, ◌≢◌, ℕ, ◌+◌, ◌<◌, ◌/◌, ◌%◌, Bool, true, false, List, [], ◌∷◌, ◌++◌, get_or, drop, drop-cons, length, map, refl, arith, sym, ◌∙◌, ap, append_assoc, add-one, Option, Some, None, MatchOption, Bor}
 use Rattle.std.specs.Prelude.{flat_map}
 use Rattle.std.specs.Str.{bytes_eq}
 use Rattle.std.specs.Int.Digits.{digits_of}
-use Rattle.std.proofs.lemmas.List.{map-append, append_cancel_left, drop_all}
+use Rattle.std.proofs.lemmas.List.{map-append, append_cancel_left}
 use Rattle.std.proofs.lemmas.Bool.{eq-eqb}
 use Rattle.std.proofs.lemmas.Slice.Eq.{bytes_eq-Decides}
 use Rattle.std.proofs.lemmas.Int.Digits.{digits_of_step}
@@ -18,7 +18,7 @@ number_text_step v h = ap (map (λ d. 48 + d)) (digits_of_step 10 v (omega arith
 text_step : (v : ℕ) (rest : List ℕ) → 0 < v → number_text v ++ rest ≡ number_text (v / 10) ++ ((48 + v % 10) ∷ rest)
 text_step v rest h = ap (λ t. t ++ rest) (number_text_step v h) ∙ append_assoc (number_text (v / 10)) ((48 + v % 10) ∷ []) rest
 
--- without its first digits a number does not stand there
+-- bytes that do not begin with the first digits of a number do not begin with the number
 pub no_digits : (v : ℕ) (bs : List ℕ) → 0 < v → ((rest : List ℕ) → bs ≢ number_text (v / 10) ++ rest) → (rest : List ℕ) → bs ≢ number_text v ++ rest
 no_digits v bs p h rest e = h ((48 + v % 10) ∷ rest) (e ∙ text_step v rest p)
 
@@ -37,11 +37,11 @@ not_true : (b : Bool) → (b ≡ true → ⊥) → b ≡ false
 not_true true h = absurd (h refl)
 not_true false h = refl
 
--- a front that stands there is taken off
+-- a prefix of both is stripped
 pub peeled : (a r b x : List ℕ) → b ≡ a ++ x → bytes_eq (a ++ r) b ≡ bytes_eq r x
 peeled a r b x e = ap (bytes_eq (a ++ r)) e ∙ same_front a r x
 
--- a front that does not stand there makes a difference
+-- bytes without the prefix differ
 pub differs : (a r b : List ℕ) → ((rest : List ℕ) → b ≢ a ++ rest) → bytes_eq (a ++ r) b ≡ false
 differs a r b h = not_true (bytes_eq (a ++ r) b) (λ e. h r (sym ((bytes_eq-Decides (a ++ r) b).0 e)))
 
@@ -57,10 +57,6 @@ counter_peeled ks bs x i h e = ap (λ t. bytes_eq t bs) (counters_step ks i h) �
 pub counter_differs : (ks bs : List ℕ) (i : ℕ) → i < length ks → ((rest : List ℕ) → bs ≢ counter_text (get_or ks i 0) ++ rest) → bytes_eq (flat_map counter_text (drop i ks)) bs ≡ false
 counter_differs ks bs i h d = ap (λ t. bytes_eq t bs) (counters_step ks i h) ∙ differs (counter_text (get_or ks i 0)) (flat_map counter_text (drop (i + 1) ks)) bs d
 
--- no counter is left
-pub no_counters : (ks : List ℕ) (i : ℕ) → length ks ≤ i → flat_map counter_text (drop i ks) ≡ []
-no_counters ks i h = ap (flat_map counter_text) (drop_all i ks h)
-
--- the last digit stands behind the others, and a text before them
-pub digits_behind : (text : List ℕ) (n : ℕ) → 0 < n → text ++ map (λ d. 48 + d) (digits_of 10 n) ≡ (text ++ map (λ d. 48 + d) (digits_of 10 (n / 10))) ++ ((48 + n % 10) ∷ [])
-digits_behind text n h = ap (λ x. text ++ x) (number_text_step n h) ∙ sym (append_assoc text (number_text (n / 10)) ((48 + n % 10) ∷ []))
+-- the last digit comes after the others, and a text before them
+pub digits_after : (text : List ℕ) (n : ℕ) → 0 < n → text ++ map (λ d. 48 + d) (digits_of 10 n) ≡ (text ++ map (λ d. 48 + d) (digits_of 10 (n / 10))) ++ ((48 + n % 10) ∷ [])
+digits_after text n h = ap (λ x. text ++ x) (number_text_step n h) ∙ sym (append_assoc text (number_text (n / 10)) ((48 + n % 10) ∷ []))

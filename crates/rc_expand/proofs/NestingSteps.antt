@@ -8,8 +8,7 @@ use Rattle.rc_expand.specs.declared.head.HeadWord.{HeadWord}
 use Rattle.rc_expand.specs.declared.head.HeadWord.TheVariants as word
 use Rattle.rc_expand.specs.declared.fault.ExpandFault.{ExpandFault}
 use Rattle.rc_expand.specs.declared.fault.ExpandKind.TheVariants.{ForTooDeep}
-use Rattle.rc_expand.specs.Faults.{at_line, nesting_by, nesting_fault}
-use Rattle.rc_expand.specs.Nesting.{Closed, NoLine, OneMore, Block, closed_lines, opens_or_closes, IsClosed, Opened, Outside, Within, opened_lines, IsOpened, outermost_or, AreNested}
+use Rattle.rc_expand.specs.Nesting.{at_line, nesting_by, nesting_fault, Closed, NoLine, OneMore, Block, closed_lines, opens_or_closes, IsClosed, Opened, Outside, Within, opened_lines, IsOpened, outermost_or, AreNested}
 
 -- how many blocks are open
 abbrev open_count : Opened → ℕ
@@ -201,7 +200,7 @@ skipped (Block c f inside r) (suc n) (suc k) line rest i e =
     ∙ (entered f k line (closed_lines inside ++ (r ∷ rest)) i.1 room
     ∙ (skipped inside n (suc (suc k)) line (r ∷ rest) i.2 (omega arith) ∙ known r word.Rof (suc (suc k)) line rest i.3)))
 
--- lines of which blocks are open lead to where they are
+-- lines with open blocks lead to the state that counts them
 opened_to : (o : Opened) (n : ℕ) (rest : List Head) → IsOpened n o → nesting_fault 0 0 (opened_lines o ++ rest) ≡ nesting_fault (open_count o) (outermost_or o 0) rest
 opened_to (Outside c) n rest i = let e : n ≡ 8 = i.0 in skipped c n 0 0 rest i.1 (omega arith)
 opened_to (Within (Outside b) f c) n rest i =

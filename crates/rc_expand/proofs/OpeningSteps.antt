@@ -4,9 +4,9 @@ use Rattle.std.specs.Prelude.{◌&&◌, not, option_map, option_and_then}
 use Rattle.rc_text.specs.declared.token.Token.{Token}
 use Rattle.rc_text.specs.Symbols.{name_of}
 use Rattle.rc_expand.specs.declared.head.Head.{Head}
-use Rattle.rc_expand.specs.declared.setting.Setting.{Setting}
+use Rattle.rc_expand.specs.declared.context.Context.{Context}
 use Rattle.rc_expand.specs.Unroll.{counter_token, earlier_of, is_bare_rof, counted, opening}
-use Rattle.rc_expand.specs.Setting.{table, count_by, is_new_by, opening_by}
+use Rattle.rc_expand.specs.Context.{table, count_by, is_new_by, opening_by}
 
 and_false : (b : Bool) → b && false ≡ false
 and_false true = refl
@@ -17,7 +17,7 @@ pub names_are : (source : List ℕ) (o : Option (Bor Token)) → option_map (λ 
 names_are source None = refl
 names_are source (Some t) = refl
 
-module _ (s : Setting) (f rof : Head) where
+module _ (s : Context) (f rof : Head) where
   -- a spoiled FOR opens nothing
   pub opening_spoiled : f.spoiled ≡ true → opening_by s f rof ≡ None
   unfolding opening

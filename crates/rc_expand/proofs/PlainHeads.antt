@@ -1,13 +1,14 @@
--- Texts of plain lines: each begins with an opcode word or with ORG. Their heads, from their tokens.
+-- Texts of plain lines: each begins with an opcode word or with ORG. Their heads, from their
+-- tokens.
 use Rattle.std.proofs.Common.{◌≡◌, ℕ, suc, ◌<◌, true, false, List, [], ◌∷◌, ◌++◌, length, Some, None, refl, sym, ◌∙◌, ap, append_assoc}
-use Rattle.std.specs.Prelude.{◌&&◌, not, Option, option_map, option_and_then, if◌then◌else◌, codes}
+use Rattle.std.specs.Prelude.{◌&&◌, not, Option, option_map, option_and_then, if◌then◌else◌, is_none, codes}
 use Rattle.std.proofs.lemmas.List.{append-nil}
 use Rattle.rc_text.specs.declared.token.Kind.TheVariants.{Name}
 use Rattle.rc_text.specs.declared.token.Token.{Token}
 use Rattle.rc_text.specs.declared.fault.LexFault.{LexFault}
 use Rattle.rc_text.specs.NameClasses.{class_of}
 use Rattle.rc_text.specs.Tokens.{tokens_of}
-use Rattle.rc_instr.specs.Rules.{Limits}
+use Rattle.rc_instr.specs.Rules.{RulesView}
 use Rattle.rc_instr.specs.LoadText.{opcode_text}
 use Rattle.rc_instr.specs.declared.instruction.Opcode.{Opcode}
 use Rattle.rc_instr.specs.declared.instruction.Opcode.TheVariants as op
@@ -15,8 +16,9 @@ use Rattle.rc_expand.specs.declared.head.Head.{Head}
 use Rattle.rc_expand.specs.declared.head.HeadWord.TheVariants as word
 use Rattle.rc_expand.specs.declared.line.Line.{Line}
 use Rattle.rc_expand.specs.declared.line.LineWord.TheVariants as line
-use Rattle.rc_expand.specs.Lines.{is_name_kind, is_line_end_kind, is_reserved_class, is_unjoined, bytes_of, is_free, word_of_name, word_of_kind, unlabelled, labelled, with_word, headed, head_of, line_of_tokens, line_then, lines_from, lines_read}
-use Rattle.rc_expand.specs.Heads.{nests, equ_lines, named_once, equ_of_line, equs_of, with_equs, heads_of}
+use Rattle.rc_expand.specs.Lines.{is_name_kind, is_line_end_kind, is_reserved_class, is_unjoined, bytes_of, is_free, word_of_name, word_of_kind, unlabelled, labelled, head_with_word, headed, head_of, line_of_tokens, line_then, lines_from, lines_read}
+use Rattle.rc_expand.specs.Nesting.{nesting_fault}
+use Rattle.rc_expand.specs.Heads.{equ_lines, named_once, equ_of_line, equs_of, with_equs, heads_of}
 use Rattle.rc_expand.specs.Unroll.{all_of}
 
 -- ---- plain lines
@@ -71,21 +73,21 @@ head_by AStart t ts = record { number = t.line; labels = []; word = word.Org; di
 abbrev pub plain_head : PlainLine → Head
 plain_head p = head_by p.word p.first p.others
 
--- those of all
+-- the heads of all lines
 abbrev pub plain_heads : List PlainLine → List Head
 plain_heads [] = []
 plain_heads (p ∷ ps) = plain_head p ∷ plain_heads ps
 
 -- a line by its word
-abbrev pub line_by : PlainWord → Token → List Token → Line
-line_by (AnOpcode o) t ts = record { number = t.line; labels = []; word = line.Code; tokens = t ∷ ts }
-line_by AStart t ts = record { number = t.line; labels = []; word = line.Org; tokens = ts }
+abbrev pub plain_line_by : PlainWord → Token → List Token → Line
+plain_line_by (AnOpcode o) t ts = record { number = t.line; labels = []; word = line.Code; tokens = t ∷ ts }
+plain_line_by AStart t ts = record { number = t.line; labels = []; word = line.Org; tokens = ts }
 
--- the lines that they stand for
+-- the line of the expansion
 abbrev pub plain_line : PlainLine → Line
-plain_line p = line_by p.word p.first p.others
+plain_line p = plain_line_by p.word p.first p.others
 
--- those of all
+-- the lines of the expansion
 abbrev pub plain_lines : List PlainLine → List Line
 plain_lines [] = []
 plain_lines (p ∷ ps) = plain_line p ∷ plain_lines ps
@@ -112,7 +114,7 @@ text_reserved (AnOpcode op.Spl) = refl
 text_reserved (AnOpcode op.Nop) = refl
 text_reserved AStart = refl
 
--- an opcode word is no directive
+-- an opcode word is not a directive
 opcode_word : (o : Opcode) → word_of_name (opcode_text o) ≡ word.Code
 unfolding word_of_name
 opcode_word op.Dat = refl
@@ -133,18 +135,18 @@ opcode_word op.Spl = refl
 opcode_word op.Nop = refl
 
 -- a line's head by its word
-head_is : (w : PlainWord) (t : Token) (ts : List Token) → with_word (word_of_name (text_of w)) t.line [] t ts ≡ head_by w t ts
+head_is : (w : PlainWord) (t : Token) (ts : List Token) → head_with_word (word_of_name (text_of w)) t.line [] t ts ≡ head_by w t ts
 unfolding word_of_name
-head_is (AnOpcode o) t ts = ap (λ w. with_word w t.line [] t ts) (opcode_word o)
+head_is (AnOpcode o) t ts = ap (λ w. head_with_word w t.line [] t ts) (opcode_word o)
 head_is AStart t ts = refl
 
 module _ (source : List ℕ) where
-  -- the word of a plain line is no label
+  -- the word of a plain line is not a label
   not_free : (p : PlainLine) → IsPlain source p → is_free source p.first ≡ false
   unfolding is_free
   not_free p h = (λ x. is_name_kind (h.kind x) && not (is_unjoined (h.joined x) && is_reserved_class (class_of (h.bytes x)))) ∙ ap not (text_reserved p.word)
 
-  -- and so no label stands before it
+  -- and so no label comes before it
   no_label : (t : Token) (ts : List Token) → is_free source t ≡ false → labelled source (t ∷ ts) ≡ unlabelled (t ∷ ts)
   no_label t [] f = rw f refl
   no_label t (u ∷ []) f = rw f refl
@@ -155,7 +157,7 @@ module _ (source : List ℕ) where
   unfolding head_of
   head_there p h =
       ap (λ l. headed source p.first.line l.labels l.after) (no_label p.first p.others (not_free p h))
-      ∙ (λ x. with_word (word_of_kind (h.kind x) (h.bytes x)) p.first.line [] p.first p.others)
+      ∙ (λ x. head_with_word (word_of_kind (h.kind x) (h.bytes x)) p.first.line [] p.first p.others)
       ∙ head_is p.word p.first p.others
 
   -- ---- the heads of all
@@ -195,10 +197,10 @@ module _ (source : List ℕ) where
   -- ---- no FOR, ROF or EQU is among them
 
   -- no block is open at the end
-  plain_nests : (ps : List PlainLine) → nests 0 (plain_heads ps) ≡ true
+  plain_nests : (ps : List PlainLine) → nesting_fault 0 0 (plain_heads ps) ≡ None
   plain_nests [] = refl
   plain_nests (p ∷ ps) = by_word p.word (plain_nests ps) where
-    by_word : (w : PlainWord) → nests 0 (plain_heads ps) ≡ true → nests 0 (head_by w p.first p.others ∷ plain_heads ps) ≡ true
+    by_word : (w : PlainWord) → nesting_fault 0 0 (plain_heads ps) ≡ None → nesting_fault 0 0 (head_by w p.first p.others ∷ plain_heads ps) ≡ None
     by_word (AnOpcode o) h = h
     by_word AStart h = h
 
@@ -210,20 +212,20 @@ module _ (source : List ℕ) where
     by_word (AnOpcode o) h = h
     by_word AStart h = h
 
-  module _ (limits : Limits) where
+  module _ (rules : RulesView) where
     -- and no EQU name
-    no_equs : (ps : List PlainLine) → equs_of source [] limits (plain_heads ps) ≡ Some []
+    no_equs : (ps : List PlainLine) → equs_of source [] rules (plain_heads ps) ≡ Some []
     unfolding equs_of
-    no_equs ps = ap (λ hs. option_and_then (named_once [] limits) (all_of (equ_of_line source) hs)) (plain_equs ps)
+    no_equs ps = ap (λ hs. option_and_then (named_once [] rules) (all_of (equ_of_line source) hs)) (plain_equs ps)
 
     -- the first part of the expansion
     pub heads_there : (ps : List PlainLine) → ArePlain source ps → tokens_of source ≡ record { tokens = plain_tokens ps; ending = None }
-        → heads_of source [] limits ≡ Some (record { lines = plain_heads ps; equs = [] })
+        → heads_of source [] rules ≡ Some (record { lines = plain_heads ps; equs = [] })
     unfolding heads_of
     heads_there ps a e =
-        ap (λ l. option_and_then (with_equs source [] limits) (lines_read source l)) e
-        ∙ ap (option_and_then (with_equs source [] limits)) (lines_there ps a)
-        ∙ ap (λ b. if b then option_map (λ equs. record { lines = plain_heads ps; equs = equs }) (equs_of source [] limits (plain_heads ps)) else None) (plain_nests ps)
+        ap (λ l. option_and_then (with_equs source [] rules) (lines_read source l)) e
+        ∙ ap (option_and_then (with_equs source [] rules)) (lines_there ps a)
+        ∙ ap (λ o. if is_none o then option_map (λ equs. record { lines = plain_heads ps; equs = equs }) (equs_of source [] rules (plain_heads ps)) else None) (plain_nests ps)
         ∙ ap (option_map (λ equs. record { lines = plain_heads ps; equs = equs })) (no_equs ps)
 
 -- there is a head for each line

@@ -4,18 +4,18 @@ use Rattle.std.specs.Prelude.{◌&&◌, Option, option_map, option_and_then, if�
 use Rattle.std.proofs.lemmas.Bool.{le-leb}
 use Rattle.rc_text.specs.declared.token.Token.{Token}
 use Rattle.rc_text.specs.Tokens.{tokens_of}
-use Rattle.rc_instr.specs.Rules.{Limits}
+use Rattle.rc_instr.specs.Rules.{RulesView}
 use Rattle.rc_expand.specs.declared.head.HeadWord.{HeadWord}
 use Rattle.rc_expand.specs.declared.head.HeadWord.TheVariants as word
-use Rattle.rc_expand.specs.Lines.{is_name}
-use Rattle.rc_expand.specs.Replace.{Replaced, followed_by as and_also, one, spread, inner_at, within_limits, replaced_tokens, exempt_len, line_tokens}
-use Rattle.rc_expand.specs.Unroll.{all_of, followed_by, Deeper, one_line, outside, deeper_at, within_limit, unrolled}
+use Rattle.rc_expand.specs.Lines.{is_name_token}
+use Rattle.rc_expand.specs.Replace.{Replaced, replaced_both, one, spread, inner_at, within_limits, replaced_tokens, exempt_len, line_tokens}
+use Rattle.rc_expand.specs.Unroll.{all_of, unrolled_both, Deeper, one_line, outside, deeper_at, within_limit, unrolled}
 use Rattle.rc_expand.specs.Expansion.{kept_lines, finished, line_of, label_names, labels_are_new, labelled_once, replaced, expansion_by, IsExpansion}
-use Rattle.rc_expand.proofs.PlainHeads.{PlainWord, AnOpcode, AStart, PlainLine, ArePlain, plain_tokens, head_by, plain_heads, line_by, plain_line, plain_lines, heads_there, heads_length}
+use Rattle.rc_expand.proofs.PlainHeads.{PlainWord, AnOpcode, AStart, PlainLine, ArePlain, plain_tokens, head_by, plain_heads, plain_line_by, plain_line, plain_lines, heads_there, heads_length}
 
 -- ---- without EQU names nothing is replaced
 
--- no name stands for tokens
+-- no name is an EQU name
 no_body : (b : Bool) (o : Option (List Token)) → o ≡ None → (if b then o else None) ≡ None
 no_body true o h = h
 no_body false o h = refl
@@ -25,8 +25,8 @@ module _ (source : List ℕ) where
   same_spread : (inner : List Token → Option Replaced) (ts : List Token) → spread source [] inner ts ≡ Some (record { tokens = ts; replacements = 0 })
   same_spread inner [] = refl
   same_spread inner (t ∷ ts) =
-      ap (λ o. and_also (one inner t o) (spread source [] inner ts)) (no_body (is_name t) None refl)
-      ∙ ap (and_also (Some (record { tokens = t ∷ []; replacements = 0 }))) (same_spread inner ts)
+      ap (λ o. replaced_both (one inner t o) (spread source [] inner ts)) (no_body (is_name_token t) None refl)
+      ∙ ap (replaced_both (Some (record { tokens = t ∷ []; replacements = 0 }))) (same_spread inner ts)
 
   -- so all of them do, where they are not too many
   same_tokens : (ts : List Token) → length ts ≤ 4096 → replaced_tokens source [] ts ≡ Some ts
@@ -35,7 +35,7 @@ module _ (source : List ℕ) where
       ap (option_and_then (within_limits source [])) (same_spread (inner_at source [] 16) ts)
       ∙ ap (λ b. if b && true then Some ts else None) (le-leb (length ts) 4096 h)
 
-  -- and those of a line
+  -- and the tokens of a line
   same_line : (w : HeadWord) (ts : List Token) → length ts ≤ 4096 → line_tokens source [] w ts ≡ Some ts
   same_line w ts h =
       let n = exempt_len source w ts in
@@ -43,16 +43,16 @@ module _ (source : List ℕ) where
       ∙ ap Some (take-append-drop n ts)
 
   -- the line of a head
-  line_there : (w : PlainWord) (t : Token) (ts : List Token) → length ts < 4096 → line_of source [] (head_by w t ts) ≡ Some (line_by w t ts)
+  line_there : (w : PlainWord) (t : Token) (ts : List Token) → length ts < 4096 → line_of source [] (head_by w t ts) ≡ Some (plain_line_by w t ts)
   unfolding line_of
   line_there (AnOpcode o) t ts h =
       let l : length (t ∷ ts) ≤ 4096 = omega (arith, h) in
       ap (option_and_then (finished source (head_by (AnOpcode o) t ts) word.Code)) (same_line word.Code (t ∷ ts) l)
-      ∙ ap (λ b. if b then Some (line_by (AnOpcode o) t ts) else None) (le-leb (length (t ∷ ts)) 4096 l)
+      ∙ ap (λ b. if b then Some (plain_line_by (AnOpcode o) t ts) else None) (le-leb (length (t ∷ ts)) 4096 l)
   line_there AStart t ts h =
       let l : length ts ≤ 4096 = omega (arith, h) in
       ap (option_and_then (finished source (head_by AStart t ts) word.Org)) (same_line word.Org ts l)
-      ∙ ap (λ b. if b then Some (line_by AStart t ts) else None) (le-leb (length ts) 4096 l)
+      ∙ ap (λ b. if b then Some (plain_line_by AStart t ts) else None) (le-leb (length ts) 4096 l)
 
   -- the lines of all heads
   lines_there : (ps : List PlainLine) → ArePlain source ps → all_of (line_of source []) (plain_heads ps) ≡ Some (plain_lines ps)
@@ -69,45 +69,45 @@ module _ (source : List ℕ) where
     by_word (AnOpcode o) k = ap (λ hs. head_by (AnOpcode o) p.first p.others ∷ hs) k
     by_word AStart k = ap (λ hs. head_by AStart p.first p.others ∷ hs) k
 
-  -- there is no label
+  -- there is not a label
   no_labels : (ps : List PlainLine) → label_names source (plain_lines ps) ≡ []
   no_labels [] = refl
   no_labels (p ∷ ps) = by_word p.word (no_labels ps) where
-    by_word : (w : PlainWord) → label_names source (plain_lines ps) ≡ [] → label_names source (line_by w p.first p.others ∷ plain_lines ps) ≡ []
+    by_word : (w : PlainWord) → label_names source (plain_lines ps) ≡ [] → label_names source (plain_line_by w p.first p.others ∷ plain_lines ps) ≡ []
     by_word (AnOpcode o) k = k
     by_word AStart k = k
 
-  module _ (limits : Limits) where
+  module _ (rules : RulesView) where
     -- the third part of the expansion
-    lines_replaced : (ps : List PlainLine) → ArePlain source ps → replaced [] limits source [] (plain_heads ps) ≡ Some (plain_lines ps)
+    lines_replaced : (ps : List PlainLine) → ArePlain source ps → replaced [] rules source [] (plain_heads ps) ≡ Some (plain_lines ps)
     unfolding replaced
     lines_replaced ps a =
-        ap (λ hs. option_and_then (labelled_once [] limits source []) (all_of (line_of source []) hs)) (all_kept ps)
-        ∙ ap (option_and_then (labelled_once [] limits source [])) (lines_there ps a)
-        ∙ ap (λ ns. if labels_are_new [] limits [] ns then Some (plain_lines ps) else None) (no_labels ps)
+        ap (λ hs. option_and_then (labelled_once [] rules source []) (all_of (line_of source []) hs)) (all_kept ps)
+        ∙ ap (option_and_then (labelled_once [] rules source [])) (lines_there ps a)
+        ∙ ap (λ ns. if labels_are_new [] rules [] ns then Some (plain_lines ps) else None) (no_labels ps)
 
     -- ---- without FOR nothing is unrolled
 
     -- each line stays
-    all_outside : (deeper : Deeper source [] limits []) (ps : List PlainLine) → outside source [] limits [] false deeper (plain_heads ps) ≡ Some (record { lines = plain_heads ps; copies = 0 })
+    all_outside : (deeper : Deeper source [] rules []) (ps : List PlainLine) → outside source [] rules [] false deeper (plain_heads ps) ≡ Some (record { lines = plain_heads ps; copies = 0 })
     unfolding one_line
     all_outside deeper [] = refl
     all_outside deeper (p ∷ ps) = by_word p.word (all_outside deeper ps) where
-      by_word : (w : PlainWord) → outside source [] limits [] false deeper (plain_heads ps) ≡ Some (record { lines = plain_heads ps; copies = 0 })
-          → outside source [] limits [] false deeper (head_by w p.first p.others ∷ plain_heads ps) ≡ Some (record { lines = head_by w p.first p.others ∷ plain_heads ps; copies = 0 })
-      by_word (AnOpcode o) k = ap (followed_by (Some (record { lines = head_by (AnOpcode o) p.first p.others ∷ []; copies = 0 }))) k
-      by_word AStart k = ap (followed_by (Some (record { lines = head_by AStart p.first p.others ∷ []; copies = 0 }))) k
+      by_word : (w : PlainWord) → outside source [] rules [] false deeper (plain_heads ps) ≡ Some (record { lines = plain_heads ps; copies = 0 })
+          → outside source [] rules [] false deeper (head_by w p.first p.others ∷ plain_heads ps) ≡ Some (record { lines = head_by w p.first p.others ∷ plain_heads ps; copies = 0 })
+      by_word (AnOpcode o) k = ap (unrolled_both (Some (record { lines = head_by (AnOpcode o) p.first p.others ∷ []; copies = 0 }))) k
+      by_word AStart k = ap (unrolled_both (Some (record { lines = head_by AStart p.first p.others ∷ []; copies = 0 }))) k
 
     -- the second part of the expansion
-    heads_unrolled : (ps : List PlainLine) → length ps ≤ 4096 → unrolled source [] limits [] (plain_heads ps) ≡ Some (plain_heads ps)
+    heads_unrolled : (ps : List PlainLine) → length ps ≤ 4096 → unrolled source [] rules [] (plain_heads ps) ≡ Some (plain_heads ps)
     unfolding unrolled
     heads_unrolled ps l =
-        ap (option_and_then (within_limit source [] limits [])) (all_outside (deeper_at source [] limits [] 8) ps)
+        ap (option_and_then (within_limit source [] rules [])) (all_outside (deeper_at source [] rules [] 8) ps)
         ∙ ap (λ b. if b then Some (plain_heads ps) else None) (le-leb (length (plain_heads ps) + 0) 4096 (omega (arith, l, heads_length ps)))
 
     -- the three in turn
-    pub plain_expands : (ps : List PlainLine) → ArePlain source ps → length ps ≤ 4096 → tokens_of source ≡ record { tokens = plain_tokens ps; ending = None } → IsExpansion source [] limits (plain_lines ps)
+    pub plain_expands : (ps : List PlainLine) → ArePlain source ps → length ps ≤ 4096 → tokens_of source ≡ record { tokens = plain_tokens ps; ending = None } → IsExpansion source [] rules (plain_lines ps)
     plain_expands ps a l e =
-        ap (option_and_then (expansion_by source [] limits)) (heads_there source limits ps a e)
-        ∙ ap (option_and_then (replaced [] limits source [])) (heads_unrolled ps l)
+        ap (option_and_then (expansion_by source [] rules)) (heads_there source rules ps a e)
+        ∙ ap (option_and_then (replaced [] rules source [])) (heads_unrolled ps l)
         ∙ lines_replaced ps a

@@ -43,11 +43,6 @@ module _ (source : List ℕ) where
         h ∙ (ap (λ x. option_map (λ r. heads ++ r) (lines_from source ending front x)) e
         ∙ ap (λ b. option_map (λ r. heads ++ r) (choose b (λ i. line_then (line_of_tokens source front) (lines_from source ending [] ts)) (λ i. lines_from source ending (front ++ (t ∷ [])) ts))) f)
 
-    -- a line with END is the last
-    pub at_end_line : (t : Token) (ts tokens : List Token) → tokens ≡ t ∷ ts → true ≡ is_line_end_kind t.kind → true ≡ has_end (line_of_tokens source front) → SoFar source heads ending front tokens
-        → lines_read source (tokens_of source) ≡ Some (heads ++ line_of_tokens source front)
-    at_end_line t ts tokens e k b h = let f : has_end (line_of_tokens source front) ≡ true = sym b in at_end_of_line t ts tokens e k h ∙ rw f
-
     -- a line end closes the line
     pub at_line : (t : Token) (ts tokens : List Token) → tokens ≡ t ∷ ts → true ≡ is_line_end_kind t.kind → false ≡ has_end (line_of_tokens source front) → SoFar source heads ending front tokens
         → SoFar source (heads ++ line_of_tokens source front) ending [] ts
@@ -62,13 +57,3 @@ module _ (source : List ℕ) where
     at_end tokens e k h =
         h ∙ (ap (λ x. option_map (λ r. heads ++ r) (lines_from source ending front x)) e
         ∙ ap (λ e. option_map (λ r. heads ++ r) (at_ending e (line_of_tokens source front))) k)
-
-    no_lines : (e : Option LexFault) → e ≢ None → at_ending e (line_of_tokens source front) ≡ None
-    no_lines None h = absurd (h refl)
-    no_lines (Some f) h = refl
-
-    -- a fault leaves no lines
-    pub at_fault : (tokens : List Token) → tokens ≡ [] → ending ≢ None → SoFar source heads ending front tokens → lines_read source (tokens_of source) ≡ None
-    at_fault tokens e k h =
-        h ∙ (ap (λ x. option_map (λ r. heads ++ r) (lines_from source ending front x)) e
-        ∙ ap (option_map (λ r. heads ++ r)) (no_lines ending k))

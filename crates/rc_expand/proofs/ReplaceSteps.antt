@@ -5,7 +5,7 @@ use Rattle.std.specs.Prelude.{Result, Ok, Err}
 use Rattle.rc_text.specs.declared.token.Token.{Token}
 use Rattle.rc_expand.specs.declared.replace.ReplaceFault.{ReplaceFault}
 use Rattle.rc_expand.specs.declared.replace.ReplaceFault.TheVariants.{TooDeep, TooMany, OutOfMemory}
-use Rattle.rc_expand.specs.Replace.{Equs, Replaced, followed_by, Adds, one, equ_at, inner_at, replaced_within}
+use Rattle.rc_expand.specs.Replace.{Equs, Replaced, replaced_both, Adds, one, equ_at, inner_at, replaced_within}
 
 too_many : (old mid a b : List Token) (n k c d : ℕ) → mid ≡ old ++ a → k ≡ n + c → (4096 < length mid + length b) ⊎ (4096 < k + d) → (4096 < length old + length (a ++ b)) ⊎ (4096 < n + (c + d))
 too_many old mid a b n k c d e f (inl h) = inl (omega (arith, length-append a b, length-append old a, ap length e))
@@ -17,7 +17,7 @@ more old n a b (inr h) = inr (omega arith)
 
 -- first one part, then the rest
 pub adds_more : (old mid new : List Token) (n k m : ℕ) (u : Unit {0}) (result : Result (Unit {0}) ReplaceFault) (a b : Option Replaced)
-    → Adds old n (Ok u) a mid k → Adds mid k result b new m → Adds old n result (followed_by a b) new m
+    → Adds old n (Ok u) a mid k → Adds mid k result b new m → Adds old n result (replaced_both a b) new m
 adds_more old mid new n k m u (Ok v) (Some a) (Some b) f s =
     (tt, (s.1.0 ∙ (ap (λ w. w ++ b.tokens) f.1.0 ∙ append_assoc old a.tokens b.tokens), omega (arith, s.1.1, f.1.1)), s.2, s.3)
 adds_more old mid new n k m u (Ok v) (Some a) None f s = absurd s.0
@@ -31,7 +31,7 @@ adds_more old mid new n k m u (Err TooMany) (Some a) None f s = tt
 adds_more old mid new n k m u (Err TooMany) None b f s = tt
 
 -- where a part fails, the whole does
-pub adds_fails : (old new : List Token) (n m : ℕ) (e : ReplaceFault) (a b : Option Replaced) → Adds old n (Err e) a new m → Adds old n (Err e) (followed_by a b) new m
+pub adds_fails : (old new : List Token) (n m : ℕ) (e : ReplaceFault) (a b : Option Replaced) → Adds old n (Err e) a new m → Adds old n (Err e) (replaced_both a b) new m
 adds_fails old new n m OutOfMemory a b h = tt
 adds_fails old new n m TooDeep None b h = tt
 adds_fails old new n m TooDeep (Some a) None h = tt
@@ -40,16 +40,16 @@ adds_fails old new n m TooMany None b h = tt
 adds_fails old new n m TooMany (Some a) None h = tt
 adds_fails old new n m TooMany (Some a) (Some b) h = more old n a b h
 
--- one token, and those behind it
+-- one token, and the bytes after it
 pub step : (source : List ℕ) (equs : Equs) (levels : ℕ) (tokens : List Token) (i : ℕ) (t : Token) → i < length tokens → t ≡ get_or tokens i t
-    → replaced_within source equs levels (drop i tokens) ≡ followed_by (one (inner_at source equs levels) t (equ_at source equs t)) (replaced_within source equs levels (drop (i + 1) tokens))
+    → replaced_within source equs levels (drop i tokens) ≡ replaced_both (one (inner_at source equs levels) t (equ_at source equs t)) (replaced_within source equs levels (drop (i + 1) tokens))
 step source equs levels tokens i t h e =
     let d : drop i tokens ≡ get_or tokens i t ∷ drop (i + 1) tokens = rw add-one (drop-cons tokens i t h) in
     let f : drop i tokens ≡ t ∷ drop (i + 1) tokens = d ∙ ap (λ x. x ∷ drop (i + 1) tokens) (sym e) in
     ap (replaced_within source equs levels) f
 
 module _ (source : List ℕ) (equs : Equs) (levels : ℕ) (tokens : List Token) (i : ℕ) where
-  -- a token adds, then those behind it
+  -- a token adds, then the bytes after it
   pub adds_next : (t : Token) (old mid new : List Token) (n k m : ℕ) (u : Unit {0}) (result : Result (Unit {0}) ReplaceFault) → i < length tokens → t ≡ get_or tokens i t
       → Adds old n (Ok u) (one (inner_at source equs levels) t (equ_at source equs t)) mid k → Adds mid k result (replaced_within source equs levels (drop (i + 1) tokens)) new m
       → Adds old n result (replaced_within source equs levels (drop i tokens)) new m

@@ -1,10 +1,10 @@
--- Tokens of which none is an EQU name stay as they are.
+-- Tokens that are not EQU names are not replaced.
 use Rattle.std.proofs.Common.{◌≡◌, ℕ, zero, suc, ◌≤◌, true, false, List, [], ◌∷◌, ◌++◌, length, take, drop, Option, Some, None, refl, sym, ◌∙◌, ap}
 use Rattle.std.specs.Prelude.{nat_le, not, ◌&&◌, is_some, option_map, option_and_then}
 use Rattle.std.proofs.lemmas.Bool.{and_parts, both_ways, le-leb}
 use Rattle.rc_text.specs.declared.token.Token.{Token}
 use Rattle.rc_expand.specs.declared.head.HeadWord.{HeadWord}
-use Rattle.rc_expand.specs.Replace.{Equs, equ_at, Replaced, followed_by, one, spread, inner_at, within_limits, replaced_tokens, exempt_len, line_tokens}
+use Rattle.rc_expand.specs.Replace.{Equs, equ_at, Replaced, replaced_both, one, spread, inner_at, within_limits, replaced_tokens, exempt_len, line_tokens}
 use Rattle.rc_expand.specs.NameTables.{at_place}
 use Rattle.rc_expand.specs.Steps.{are_settled}
 
@@ -28,7 +28,7 @@ module _ (source : List ℕ) (equs : Equs) where
   all_settled inner [] h = refl
   all_settled inner (t ∷ ts) h =
       let p = and_parts (not (is_some (equ_at source equs t))) (are_settled source equs ts) h in
-      ap (λ o. followed_by o (spread source equs inner ts)) (one_settled inner t p.0) ∙ ap (followed_by (Some (unchanged (t ∷ [])))) (all_settled inner ts p.1)
+      ap (λ o. replaced_both o (spread source equs inner ts)) (one_settled inner t p.0) ∙ ap (replaced_both (Some (unchanged (t ∷ [])))) (all_settled inner ts p.1)
 
   tokens_settled : (ts : List Token) → are_settled source equs ts ≡ true → length ts ≤ 4096 → replaced_tokens source equs ts ≡ Some ts
   unfolding replaced_tokens
@@ -44,7 +44,7 @@ module _ (source : List ℕ) (equs : Equs) where
       ∙ (ap (option_map (λ r. take (exempt_len source w ts) ts ++ r)) (tokens_settled back h l)
       ∙ (ap (λ b. Some (take (exempt_len source w ts) ts ++ b)) (sym same) ∙ ap Some (take_drop (exempt_len source w ts) ts)))
 
-  -- a token that is no EQU name is passed
+  -- a token that is not an EQU name is passed
   pub settled_more : (rest after : List Token) (t : Token) → rest ≡ t ∷ after → None ≡ equ_at source equs t → are_settled source equs after ≡ true → are_settled source equs rest ≡ true
   settled_more rest after t e n h = ap (are_settled source equs) e ∙ (ap (λ o. not (is_some o) && are_settled source equs after) (sym n) ∙ h)
 

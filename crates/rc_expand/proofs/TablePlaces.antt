@@ -77,7 +77,7 @@ module _ {X Y Z : Type 0} (f : X → Z) (g : Y → Z) where
   others (z ∷ zs) = zs
   others [] = []
 
-  -- where two lists have the same values item by item, those at an index are the same
+  -- if two lists have equal values item by item, the values at an index are equal
   pub same_at : (xs : List X) (ys : List Y) (i : ℕ) (x : X) (y : Y) → map f xs ≡ map g ys → i < length ys → f (get_or xs i x) ≡ g (get_or ys i y)
   same_at xs [] i x y e h = absurd (omega arith)
   same_at [] (b ∷ ys) i x y e h = cc

@@ -5,17 +5,17 @@ use Rattle.std.specs.Prelude.{Result, Ok, Err, IfSome, option_map, option_and_th
 use Rattle.rc_expand.specs.declared.head.Head.{Head}
 use Rattle.rc_expand.specs.declared.head.HeadWord.{HeadWord}
 use Rattle.rc_expand.specs.declared.head.HeadWord.TheVariants as word
-use Rattle.rc_instr.specs.Rules.{Limits}
+use Rattle.rc_instr.specs.Rules.{RulesView}
 use Rattle.rc_expand.specs.declared.fault.ExpandFault.{ExpandFault}
 use Rattle.rc_expand.specs.declared.fault.ExpandKind.TheVariants.{OutOfMemory}
 use Rattle.rc_expand.specs.declared.head.Opening.{Opening}
 use Rattle.rc_expand.specs.Names.{Table}
 use Rattle.rc_expand.specs.Replace.{Equs}
-use Rattle.rc_expand.specs.Unroll.{Unrolled, nothing, followed_by, one_more_copy, copies_from, Cut, longer, cut_by, cut, Appends, Deeper, block_of, one_line, opening, opened, outside, inside, line_inside, line_outside}
+use Rattle.rc_expand.specs.Unroll.{Unrolled, nothing, unrolled_both, one_more_copy, copies_from, Cut, longer, cut_by, cut, Appends, Deeper, block_of, one_line, opening, opened, outside, inside, line_inside, line_outside}
 
 -- first one part, then the rest
 pub more : (old mid new : List Head) (n k m : ℕ) (u : Unit {0}) (result : Result (Unit {0}) ExpandFault) (a b : Option Unrolled)
-    → Appends old n (Ok u) a mid k → Appends mid k result b new m → Appends old n result (followed_by a b) new m
+    → Appends old n (Ok u) a mid k → Appends mid k result b new m → Appends old n result (unrolled_both a b) new m
 more old mid new n k m u (Ok v) (Some a) (Some b) f s = (tt, (s.1.0 ∙ (ap (λ w. w ++ b.lines) f.1.0 ∙ append_assoc old a.lines b.lines), omega (arith, s.1.1, f.1.1)), s.2)
 more old mid new n k m u (Ok v) (Some a) None f s = absurd s.0
 more old mid new n k m u (Ok v) None b f s = absurd f.0
@@ -24,7 +24,7 @@ more old mid new n k m u (Err e) (Some a) None f s = λ h. tt
 more old mid new n k m u (Err e) None b f s = absurd f.0
 
 -- where a part fails, the whole does
-pub fails : (old new : List Head) (n m : ℕ) (e : ExpandFault) (a b : Option Unrolled) → Appends old n (Err e) a new m → Appends old n (Err e) (followed_by a b) new m
+pub fails : (old new : List Head) (n m : ℕ) (e : ExpandFault) (a b : Option Unrolled) → Appends old n (Err e) a new m → Appends old n (Err e) (unrolled_both a b) new m
 fails old new n m e None b f = λ h. tt
 fails old new n m e (Some a) None f = λ h. tt
 fails old new n m e (Some a) (Some b) f = λ h. let t = f h in omega (arith, t, length-append a.lines b.lines)
@@ -41,80 +41,80 @@ counts_copy old new n k m (Err f) (Some a) e h = λ p. let t = h p in omega (ari
 counts_copy old new n k m (Err f) None e h = λ p. tt
 
 -- a FOR, by where its block ends
-module _ (source : List ℕ) (constants : Table) (limits : Limits) (equs : Equs) (b : Bool) (deeper : Deeper source constants limits equs) (f : Head) where
+module _ (source : List ℕ) (constants : Table) (rules : RulesView) (equs : Equs) (b : Bool) (deeper : Deeper source constants rules equs) (f : Head) where
   abbrev finished : List Head → Option Cut → Option Unrolled
   finished front None = None
-  finished front (Some c) = followed_by (block_of source constants limits equs deeper f (front ++ c.block) c.rof) (outside source constants limits equs b deeper c.after)
+  finished front (Some c) = unrolled_both (block_of source constants rules equs deeper f (front ++ c.block) c.rof) (outside source constants rules equs b deeper c.after)
 
   finished_more : (front : List Head) (h : Head) (o : Option Cut) → finished (front ++ (h ∷ [])) o ≡ finished front (option_map (longer (h ∷ [])) o)
   finished_more front h None = refl
-  finished_more front h (Some c) = ap (λ bs. followed_by (block_of source constants limits equs deeper f bs c.rof) (outside source constants limits equs b deeper c.after)) (append_assoc front (h ∷ []) c.block)
+  finished_more front h (Some c) = ap (λ bs. unrolled_both (block_of source constants rules equs deeper f bs c.rof) (outside source constants rules equs b deeper c.after)) (append_assoc front (h ∷ []) c.block)
 
   -- a block is read to its ROF at once
-  pub inside_is : (n : ℕ) (front hs : List Head) → inside source constants limits equs b deeper f n front hs ≡ finished front (cut n hs)
+  pub inside_is : (n : ℕ) (front hs : List Head) → inside source constants rules equs b deeper f n front hs ≡ finished front (cut n hs)
   inside_is n front [] = refl
   inside_is n front (h ∷ hs) = by_word h.word n (λ m. inside_is m (front ++ (h ∷ [])) hs ∙ finished_more front h (cut m hs)) where
-    by_word : (w : HeadWord) (n : ℕ) → ((m : ℕ) → inside source constants limits equs b deeper f m (front ++ (h ∷ [])) hs ≡ finished front (option_map (longer (h ∷ [])) (cut m hs)))
-        → line_inside source constants limits equs w n (λ m. inside source constants limits equs b deeper f m (front ++ (h ∷ [])) hs) (λ u. followed_by (block_of source constants limits equs deeper f front h) (outside source constants limits equs b deeper hs))
+    by_word : (w : HeadWord) (n : ℕ) → ((m : ℕ) → inside source constants rules equs b deeper f m (front ++ (h ∷ [])) hs ≡ finished front (option_map (longer (h ∷ [])) (cut m hs)))
+        → line_inside source constants rules equs w n (λ m. inside source constants rules equs b deeper f m (front ++ (h ∷ [])) hs) (λ u. unrolled_both (block_of source constants rules equs deeper f front h) (outside source constants rules equs b deeper hs))
         ≡ finished front (cut_by w n (λ m. option_map (longer (h ∷ [])) (cut m hs)) (record { block = []; rof = h; after = hs }))
     by_word word.For n ih = ih (suc n)
-    by_word word.Rof zero ih = ap (λ bs. followed_by (block_of source constants limits equs deeper f bs h) (outside source constants limits equs b deeper hs)) (sym (append-nil front))
+    by_word word.Rof zero ih = ap (λ bs. unrolled_both (block_of source constants rules equs deeper f bs h) (outside source constants rules equs b deeper hs)) (sym (append-nil front))
     by_word word.Rof (suc n) ih = ih n
     by_word _ n ih = ih n
 
 -- a line that is a FOR, and one that is not
-module _ (source : List ℕ) (constants : Table) (limits : Limits) (equs : Equs) where
-  at_for : (w : HeadWord) (f g : Unit {0} → Option Unrolled) → w ≡ word.For → line_outside source constants limits equs w f g ≡ f tt
+module _ (source : List ℕ) (constants : Table) (rules : RulesView) (equs : Equs) where
+  at_for : (w : HeadWord) (f g : Unit {0} → Option Unrolled) → w ≡ word.For → line_outside source constants rules equs w f g ≡ f tt
   at_for w f g e = rw e
 
-  at_other : (w : HeadWord) (f g : Unit {0} → Option Unrolled) → (w ≡ word.For → ⊥) → line_outside source constants limits equs w f g ≡ g tt
+  at_other : (w : HeadWord) (f g : Unit {0} → Option Unrolled) → (w ≡ word.For → ⊥) → line_outside source constants rules equs w f g ≡ g tt
   at_other word.For f g h = absurd (h refl)
   at_other _ f g h = refl
 
-  module _ (b : Bool) (deeper : Deeper source constants limits equs) where
-    for_is : (h : Head) (hs : List Head) (o : Option Cut) → h.word ≡ word.For → cut 0 hs ≡ o → outside source constants limits equs b deeper (h ∷ hs) ≡ finished source constants limits equs b deeper h [] o
+  module _ (b : Bool) (deeper : Deeper source constants rules equs) where
+    for_is : (h : Head) (hs : List Head) (o : Option Cut) → h.word ≡ word.For → cut 0 hs ≡ o → outside source constants rules equs b deeper (h ∷ hs) ≡ finished source constants rules equs b deeper h [] o
     for_is h hs o e k =
-        at_for h.word (λ u. inside source constants limits equs b deeper h 0 [] hs) (λ u. followed_by (one_line source constants limits equs b h) (outside source constants limits equs b deeper hs)) e
-        ∙ (inside_is source constants limits equs b deeper h 0 [] hs ∙ ap (finished source constants limits equs b deeper h []) k)
+        at_for h.word (λ u. inside source constants rules equs b deeper h 0 [] hs) (λ u. unrolled_both (one_line source constants rules equs b h) (outside source constants rules equs b deeper hs)) e
+        ∙ (inside_is source constants rules equs b deeper h 0 [] hs ∙ ap (finished source constants rules equs b deeper h []) k)
 
     -- a block and what follows it
     pub block_is : (lines : List Head) (h : Head) (hs : List Head) (c : Cut) → lines ≡ h ∷ hs → h.word ≡ word.For → cut 0 hs ≡ Some c
-        → outside source constants limits equs b deeper lines ≡ followed_by (block_of source constants limits equs deeper h c.block c.rof) (outside source constants limits equs b deeper c.after)
-    block_is lines h hs c l e k = ap (outside source constants limits equs b deeper) l ∙ for_is h hs (Some c) e k
+        → outside source constants rules equs b deeper lines ≡ unrolled_both (block_of source constants rules equs deeper h c.block c.rof) (outside source constants rules equs b deeper c.after)
+    block_is lines h hs c l e k = ap (outside source constants rules equs b deeper) l ∙ for_is h hs (Some c) e k
 
     -- a FOR without its ROF
-    pub no_block : (lines : List Head) (h : Head) (hs : List Head) → lines ≡ h ∷ hs → h.word ≡ word.For → cut 0 hs ≡ None → outside source constants limits equs b deeper lines ≡ None
-    no_block lines h hs l e k = ap (outside source constants limits equs b deeper) l ∙ for_is h hs None e k
+    pub no_block : (lines : List Head) (h : Head) (hs : List Head) → lines ≡ h ∷ hs → h.word ≡ word.For → cut 0 hs ≡ None → outside source constants rules equs b deeper lines ≡ None
+    no_block lines h hs l e k = ap (outside source constants rules equs b deeper) l ∙ for_is h hs None e k
 
-    -- a line that is no FOR and what follows it
+    -- a line that is not a FOR and what follows it
     pub line_is : (lines : List Head) (h : Head) (hs : List Head) → lines ≡ h ∷ hs → (h.word ≡ word.For → ⊥)
-        → outside source constants limits equs b deeper lines ≡ followed_by (one_line source constants limits equs b h) (outside source constants limits equs b deeper hs)
+        → outside source constants rules equs b deeper lines ≡ unrolled_both (one_line source constants rules equs b h) (outside source constants rules equs b deeper hs)
     line_is lines h hs l e =
-        ap (outside source constants limits equs b deeper) l
-        ∙ at_other h.word (λ u. inside source constants limits equs b deeper h 0 [] hs) (λ u. followed_by (one_line source constants limits equs b h) (outside source constants limits equs b deeper hs)) e
+        ap (outside source constants rules equs b deeper) l
+        ∙ at_other h.word (λ u. inside source constants rules equs b deeper h 0 [] hs) (λ u. unrolled_both (one_line source constants rules equs b h) (outside source constants rules equs b deeper hs)) e
 
   -- a block by what it opens
-  pub block_opened : (deeper : Deeper source constants limits equs) (f : Head) (block : List Head) (rof : Head) (o : Opening) → opening source constants limits equs f rof ≡ Some o
-      → block_of source constants limits equs deeper f block rof ≡ opened source constants limits equs deeper f block o
+  pub block_opened : (deeper : Deeper source constants rules equs) (f : Head) (block : List Head) (rof : Head) (o : Opening) → opening source constants rules equs f rof ≡ Some o
+      → block_of source constants rules equs deeper f block rof ≡ opened source constants rules equs deeper f block o
   unfolding block_of
-  block_opened deeper f block rof o e = ap (option_and_then (opened source constants limits equs deeper f block)) e
+  block_opened deeper f block rof o e = ap (option_and_then (opened source constants rules equs deeper f block)) e
 
   -- a block that opens nothing
-  pub block_refused : (deeper : Deeper source constants limits equs) (f : Head) (block : List Head) (rof : Head) → opening source constants limits equs f rof ≡ None
-      → block_of source constants limits equs deeper f block rof ≡ None
+  pub block_refused : (deeper : Deeper source constants rules equs) (f : Head) (block : List Head) (rof : Head) → opening source constants rules equs f rof ≡ None
+      → block_of source constants rules equs deeper f block rof ≡ None
   unfolding block_of
-  block_refused deeper f block rof e = ap (option_and_then (opened source constants limits equs deeper f block)) e
+  block_refused deeper f block rof e = ap (option_and_then (opened source constants rules equs deeper f block)) e
 
 -- one of the parts, where it comes first
 pub more_at : (old mid new : List Head) (n k m : ℕ) (u : Unit {0}) (result : Result (Unit {0}) ExpandFault) (a b o : Option Unrolled)
-    → o ≡ followed_by a b → Appends old n (Ok u) a mid k → Appends mid k result b new m → Appends old n result o new m
+    → o ≡ unrolled_both a b → Appends old n (Ok u) a mid k → Appends mid k result b new m → Appends old n result o new m
 more_at old mid new n k m u result a b o e f s = subst (λ o. Appends old n result o new m) (sym e) (more old mid new n k m u result a b f s)
 
 -- where the first part fails, the whole does
-pub fails_at : (old new : List Head) (n m : ℕ) (e : ExpandFault) (a b o : Option Unrolled) → o ≡ followed_by a b → Appends old n (Err e) a new m → Appends old n (Err e) o new m
+pub fails_at : (old new : List Head) (n m : ℕ) (e : ExpandFault) (a b o : Option Unrolled) → o ≡ unrolled_both a b → Appends old n (Err e) a new m → Appends old n (Err e) o new m
 fails_at old new n m e a b o s f = subst (λ o. Appends old n (Err e) o new m) (sym s) (fails old new n m e a b f)
 
--- where there are no lines any fault is right
+-- if there are no lines, any fault is right
 pub refused_at : (old new : List Head) (n m : ℕ) (e : ExpandFault) (o : Option Unrolled) → (e.kind ≢ OutOfMemory → o ≡ None) → Appends old n (Err e) o new m
 refused_at old new n m e o h = λ p. subst (λ o. IfSome o (λ a. 4096 < length old + length a.lines + (n + a.copies))) (sym (h p)) tt
 
@@ -122,9 +122,9 @@ refused_at old new n m e o h = λ p. subst (λ o. IfSome o (λ a. 4096 < length 
 pub nothing_at : (old : List Head) (n : ℕ) (u : Unit {0}) (o : Option Unrolled) → o ≡ Some nothing → length old + n ≤ 4096 → Appends old n (Ok u) o old n
 nothing_at old n u o e h = subst (λ o. Appends old n (Ok u) o old n) (sym e) (adds_nothing old n u h)
 
--- a copy and those behind it
+-- a copy and the bytes after it
 pub copies_step : (f : ℕ → Option Unrolled) (count done : ℕ) → done < count
-    → copies_from f (count - done) (done + 1) ≡ followed_by (option_map one_more_copy (f (done + 1))) (copies_from f (count - (done + 1)) (done + 1 + 1))
+    → copies_from f (count - done) (done + 1) ≡ unrolled_both (option_map one_more_copy (f (done + 1))) (copies_from f (count - (done + 1)) (done + 1 + 1))
 copies_step f count done h = let e : count - done ≡ suc (count - (done + 1)) = omega arith in ap (λ n. copies_from f n (done + 1)) e
 
 -- no copy is left

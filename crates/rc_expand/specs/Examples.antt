@@ -3,7 +3,7 @@ use Rattle.std.specs.Prelude.{◌≡◌, refl, ℕ, List, [], ◌∷◌, ◌++�
 use Rattle.rc_text.specs.Reading.{before_operand, after_operand}
 use Rattle.rc_text.specs.declared.token.Sign.TheVariants.{Hash, Comma, Plus, Star}
 use Rattle.rc_text.specs.Symbols.{Symbol, Identifier, Numeral, Mark, name_of, symbols_of}
-use Rattle.rc_instr.specs.Rules.{limits}
+use Rattle.rc_instr.specs.Rules.{rules_view}
 use Rattle.rc_expand.specs.declared.line.Line.{Line}
 use Rattle.rc_text.specs.NameClasses.{is_opcode_word}
 use Rattle.rc_expand.specs.Names.{given_names}
@@ -14,14 +14,14 @@ use Rattle.rc_expand.specs.Heads.{equs_of, heads_of}
 use Rattle.rc_expand.specs.Expansion.{line_of, replaced, expansion_of}
 
 abbrev lines_of : List ℕ → Option (List Line)
-lines_of text = expansion_of text [] (limits 16 20 4 4 4)
+lines_of text = expansion_of text [] (rules_view 16 20 4 4 4)
 
--- lines with line feeds behind them
+-- lines, each with a line feed after it
 abbrev text_of : List (List ℕ) → List ℕ
 text_of [] = []
 text_of (l ∷ ls) = l ++ (10 ∷ text_of ls)
 
--- the labels of a line by their names, and its tokens as symbols
+-- the labels of a line as names, and its tokens as symbols
 abbrev Shown : Type 0
 Shown = List (List ℕ) × List Symbol
 
@@ -52,7 +52,7 @@ tokens_in_place : shown_lines (codes "s EQU 2+3" ∷ codes "DAT #0, #s*2" ∷ []
 unfolding heads_of equs_of line_of replaced unrolled given_names is_taken count_of opening block_of one_line copied_line replaced_tokens is_free is_opcode word_of_name head_of lines_read is_opcode_word before_operand after_operand
 tokens_in_place = refl
 
--- two blocks, one in the other, a dropped one, and END before the end
+-- two nested blocks, a dropped one, and END before the end
 nested_blocks : label_names_of (codes "a FOR 2" ∷ codes "b FOR a" ∷ codes "x&a&b NOP a,b ; c" ∷ codes "ROF" ∷ codes "ROF" ∷ codes "FOR 0" ∷ codes "junk EQU 5" ∷ codes "ROF" ∷ codes "END x0101" ∷ codes "= =" ∷ [])
     ≡ Some ((codes "x0101" ∷ []) ∷ (codes "x0201" ∷ []) ∷ (codes "x0202" ∷ []) ∷ [] ∷ [])
 unfolding heads_of equs_of line_of replaced unrolled given_names is_taken count_of opening block_of one_line copied_line replaced_tokens is_free is_opcode word_of_name head_of lines_read is_opcode_word before_operand after_operand
@@ -64,7 +64,8 @@ joined_counter : shown_lines (codes "i FOR 1" ∷ codes "x01 FOR 2" ∷ codes "D
 unfolding heads_of equs_of line_of replaced unrolled given_names is_taken count_of opening block_of one_line copied_line replaced_tokens is_free is_opcode word_of_name head_of lines_read is_opcode_word before_operand after_operand
 joined_counter = refl
 
--- a FOR alone, the counter of an enclosing block, a counter written with `&`, an EQU in a block, a label before ROF, a ninth counter
+-- a FOR alone, the counter of an enclosing block, a counter written with `&`, an EQU in a block, a
+-- label before ROF, a ninth counter
 refused_texts : map has_lines ((codes "FOR 3" ∷ []) ∷ (codes "i FOR 2" ∷ codes "i FOR 2" ∷ codes "ROF" ∷ codes "ROF" ∷ []) ∷ (codes "i FOR 2" ∷ codes "x&i FOR 2" ∷ codes "ROF" ∷ codes "ROF" ∷ [])
     ∷ (codes "FOR 1" ∷ codes "s EQU 2" ∷ codes "ROF" ∷ []) ∷ (codes "FOR 0" ∷ codes "a ROF" ∷ []) ∷ (codes "i FOR 1" ∷ codes "x&i&i&i&i&i&i&i&i&i NOP" ∷ codes "ROF" ∷ []) ∷ [])
     ≡ false ∷ false ∷ false ∷ false ∷ false ∷ false ∷ []

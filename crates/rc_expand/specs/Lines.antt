@@ -1,5 +1,5 @@
--- Lines and their heads: labels, a directive or none, and what follows (labels and colons are the 1994 draft's and pMARS's; names joined by `&` are
--- pMARS's; the exact list of labels is this project's own).
+-- Lines: labels, a word, and what comes after it (labels and colons are from the 1994 draft and
+-- pMARS, names joined by `&` from pMARS).
 use Rattle.std.specs.Prelude.{ℕ, suc, Bool, true, false, ◌&&◌, ◌||◌, not, List, [], ◌∷◌, ◌++◌, Option, Some, None, if◌then◌else◌, option_map, IfSome, All, codes, slice_range}
 use Rattle.rc_text.specs.declared.token.Sign.TheVariants.{Ampersand, Colon, Dot}
 use Rattle.rc_text.specs.declared.token.Kind.{Kind}
@@ -16,7 +16,7 @@ use Rattle.rc_expand.specs.declared.head.Head.{Head}
 use Rattle.rc_expand.specs.declared.head.HeadWord.{HeadWord}
 use Rattle.rc_expand.specs.declared.head.HeadWord.TheVariants as word
 
--- one of two, of which only the chosen one is computed
+-- like `if`, but only the chosen branch is computed
 abbrev pub choose : {A : Type 0} → Bool → (Unit {0} → A) → (Unit {0} → A) → A
 choose true f g = f tt
 choose false f g = g tt
@@ -26,12 +26,8 @@ abbrev pub is_name_kind : Kind → Bool
 is_name_kind Name = true
 is_name_kind _ = false
 
-abbrev pub is_name : Token → Bool
-is_name t = is_name_kind t.kind
-
-abbrev pub is_assert_kind : Kind → Bool
-is_assert_kind Assert = true
-is_assert_kind _ = false
+abbrev pub is_name_token : Token → Bool
+is_name_token t = is_name_kind t.kind
 
 abbrev pub is_line_end_kind : Kind → Bool
 is_line_end_kind LineEnd = true
@@ -58,7 +54,7 @@ is_dot_kind _ = false
 abbrev pub is_dot : Token → Bool
 is_dot t = is_dot_kind t.kind
 
--- a reserved word: an opcode word or a directive, in any case
+-- reserved: an opcode or a directive, in any case
 abbrev pub is_reserved_class : NameClass → Bool
 is_reserved_class Reserved = true
 is_reserved_class _ = false
@@ -67,7 +63,7 @@ abbrev pub is_unjoined : List ℕ → Bool
 is_unjoined [] = true
 is_unjoined (k ∷ ks) = false
 
--- the labels at the front of a line, and the tokens behind them
+-- the labels that a line begins with, and the tokens after them
 pub record Labelled : Type 0 where
   pub labels : List (List Token)
   pub after : List Token
@@ -75,7 +71,7 @@ pub record Labelled : Type 0 where
 abbrev pub unlabelled : List Token → Labelled
 unlabelled ts = record { labels = []; after = ts }
 
--- a token is a label of its own, or the last token of one
+-- a token begins a label: it is its only token, or `into_label` puts more before it
 abbrev pub begin_label : Token → Labelled → Labelled
 begin_label t l = record { labels = (t ∷ []) ∷ l.labels; after = l.after }
 
@@ -83,11 +79,11 @@ abbrev pub into_first : Token → List (List Token) → List (List Token)
 into_first t [] = (t ∷ []) ∷ []
 into_first t (l ∷ ls) = (t ∷ l) ∷ ls
 
--- a token belongs to the label that follows
+-- a token goes to the front of the first label
 abbrev pub into_label : Token → Labelled → Labelled
 into_label t l = record { labels = into_first t l.labels; after = l.after }
 
--- the word of a line, by a name that is no opcode
+-- the directive that a name spells, in any case; any other name is code
 unfoldable pub word_of_name : List ℕ → HeadWord
 word_of_name name =
     if is_same_word (codes "ORG") name then word.Org else
@@ -102,9 +98,9 @@ word_of_kind Name name = word_of_name name
 word_of_kind Assert name = word.Assert
 word_of_kind _ name = word.Code
 
-abbrev pub with_word : HeadWord → ℕ → List (List Token) → Token → List Token → Head
-with_word word.Code number labels t ts = record { number = number; labels = labels; word = word.Code; directive = None; rest = t ∷ ts; spoiled = false }
-with_word w number labels t ts = record { number = number; labels = labels; word = w; directive = Some t; rest = ts; spoiled = false }
+abbrev pub head_with_word : HeadWord → ℕ → List (List Token) → Token → List Token → Head
+head_with_word word.Code number labels t ts = record { number = number; labels = labels; word = word.Code; directive = None; rest = t ∷ ts; spoiled = false }
+head_with_word w number labels t ts = record { number = number; labels = labels; word = w; directive = Some t; rest = ts; spoiled = false }
 
 abbrev pub bare_line : ℕ → List (List Token) → Head
 bare_line number labels = record { number = number; labels = labels; word = word.Bare; directive = None; rest = []; spoiled = false }
@@ -117,30 +113,30 @@ abbrev pub has_end : List Head → Bool
 has_end [] = false
 has_end (h ∷ hs) = is_end h.word || has_end hs
 
--- the tokens end with the text, or with a fault
+-- the tokens end with the text (None), or with a fault
 abbrev pub at_ending : Option LexFault → List Head → Option (List Head)
 at_ending None hs = Some hs
 at_ending (Some fault) hs = None
 
--- a line is read: with END it is the last one
+-- lines were read: with END they are the last
 abbrev pub line_then : List Head → Option (List Head) → Option (List Head)
 line_then hs later = if has_end hs then Some hs else option_map (λ r. hs ++ r) later
 
 module _ (source : List ℕ) where
-  -- the bytes of a token without the counters joined to it
+  -- the bytes of a token, without joined counters
   abbrev pub bytes_of : Token → List ℕ
   bytes_of t = slice_range source t.lo t.hi
 
-  -- a name that is no reserved word; a counter ends with a digit, so a joined name is none
+  -- a name that is not reserved; with joined counters it ends with a digit, as no reserved word does
   unfoldable pub is_free : Token → Bool
-  is_free t = is_name t && not (is_unjoined t.joined && is_reserved_class (class_of (bytes_of t)))
+  is_free t = is_name_token t && not (is_unjoined t.joined && is_reserved_class (class_of (bytes_of t)))
 
   unfoldable pub is_opcode : Token → Bool
-  is_opcode t = is_name t && (is_unjoined t.joined && is_opcode_word (bytes_of t))
+  is_opcode t = is_name_token t && (is_unjoined t.joined && is_opcode_word (bytes_of t))
 
-  -- an opcode word, a dot and a modifier
+  -- an opcode, a dot and a modifier
   abbrev pub has_modifier : Token → Token → Token → Bool
-  has_modifier t u v = is_opcode t && (is_dot u && is_name v)
+  has_modifier t u v = is_opcode t && (is_dot u && is_name_token v)
 
   -- a label is a free name, or free names joined by `&`, with an optional colon
   abbrev pub labelled : List Token → Labelled
@@ -156,50 +152,49 @@ module _ (source : List ℕ) where
       (λ j. choose (is_colon u) (λ k. into_label t (begin_label u (labelled (v ∷ ts)))) (λ k. begin_label t (labelled (u ∷ v ∷ ts)))))
       (λ i. unlabelled (t ∷ u ∷ v ∷ ts))
 
-  -- how many tokens behind the first name of a label belong to it
+  -- the number of tokens that belong to a label after its first name
   abbrev pub tail_len : List Token → ℕ
   tail_len [] = 0
   tail_len (u ∷ []) = if is_colon u then 1 else 0
   tail_len (u ∷ v ∷ ts) = choose (is_ampersand u && is_free v) (λ i. suc (suc (tail_len ts))) (λ i. if is_colon u then 1 else 0)
 
-  -- a label begins here
   abbrev pub begins_label : List Token → Bool
   begins_label [] = false
   begins_label (t ∷ ts) = is_free t
 
-  -- the label goes on with `&` and a name
+  -- a label goes on with `&` and a name
   abbrev pub goes_on : List Token → Bool
   goes_on (u ∷ v ∷ ts) = is_ampersand u && is_free v
   goes_on _ = false
 
-  -- the word that a token is
+  -- the word of a line whose first token after the labels is `t`
   abbrev pub word_of : Token → HeadWord
   word_of t = word_of_kind t.kind (bytes_of t)
 
   abbrev pub headed : ℕ → List (List Token) → List Token → Head
   headed number labels [] = bare_line number labels
-  headed number labels (t ∷ ts) = with_word (word_of t) number labels t ts
+  headed number labels (t ∷ ts) = head_with_word (word_of t) number labels t ts
 
-  -- a line of these tokens
+  -- a line, by its number and its tokens
   unfoldable pub head_of : ℕ → List Token → Head
   head_of number ts = headed number (labelled ts).labels (labelled ts).after
 
-  -- a line without tokens is left out
+  -- an empty line is left out
   abbrev pub line_of_tokens : List Token → List Head
   line_of_tokens [] = []
   line_of_tokens (t ∷ ts) = head_of t.line (t ∷ ts) ∷ []
 
-  -- the lines from here on, the first of which has begun with some tokens, up to the first with END
+  -- the lines up to the first with END; `front` is what was read of the first line
   abbrev pub lines_from : Option LexFault → List Token → List Token → Option (List Head)
   lines_from ending front [] = at_ending ending (line_of_tokens front)
   lines_from ending front (t ∷ ts) =
       choose (is_line_end_kind t.kind) (λ i. line_then (line_of_tokens front) (lines_from ending [] ts)) (λ i. lines_from ending (front ++ (t ∷ [])) ts)
 
-  -- the lines that are read
+  -- the lines of a text, up to the first with END
   unfoldable pub lines_read : TokenList → Option (List Head)
   lines_read l = lines_from l.ending [] l.tokens
 
-  -- the spans of a line's tokens lie in the source
+  -- the spans of the tokens of a line lie in the source
   pub record HeadLies (h : Head) : Type 0 where
     pub labels : All (All (LiesIn source)) h.labels
     pub directive : IfSome h.directive (LiesIn source)

@@ -1,27 +1,27 @@
--- Tables of names. A name is there once; the first entry of a name is the one that is found.
+-- Tables of names: each name occurs once, and the first entry with a name counts.
 use Rattle.std.specs.Prelude.{◌≡◌, ℕ, List, [], ◌∷◌, ◌++◌, map, Option, Some, None, if◌then◌else◌, is_some, option_map, flat_map, slice_get}
 use Rattle.rc_text.specs.declared.token.Token.{Token}
 use Rattle.rc_text.specs.Symbols.{counter_text}
-use Rattle.rc_expand.specs.Names.{found}
+use Rattle.rc_expand.specs.Names.{entry_of}
 use Rattle.rc_expand.specs.Replace.{Equs, equ_at}
 
--- bytes with the counters joined to them
+-- bytes, then the counters joined to them
 abbrev pub joined_name : List ℕ → List ℕ → List ℕ
 joined_name bytes counters = bytes ++ flat_map counter_text counters
 
--- the table with one more entry at its end, where the name is not there yet
+-- adds an entry at the end, unless the name is there already
 abbrev pub with_name : {A : Type 0} → List (List ℕ × A) → List ℕ → A → List (List ℕ × A)
-with_name table name value = if is_some (found table name) then table else table ++ ((name, value) ∷ [])
+with_name table name value = if is_some (entry_of table name) then table else table ++ ((name, value) ∷ [])
 
--- the value at a place of the table, where there is one
+-- the value at an index of the table
 abbrev pub at_place : {A : Type 0} → List (List ℕ × A) → Option ℕ → Option A
 at_place table None = None
 at_place table (Some i) = option_map (λ e. e.1) (slice_get table i)
 
--- the places of the EQU names that tokens are
+-- `places` has for each token its index among the EQU names, or None
 abbrev pub ArePlaces : List ℕ → Equs → List Token → List (Option ℕ) → Type 0
 ArePlaces source equs tokens places = map (at_place equs) places ≡ map (equ_at source equs) tokens
 
--- the same of the tokens of each EQU name
+-- `links` has this for the tokens of every EQU name
 abbrev pub AreLinks : List ℕ → Equs → List (List (Option ℕ)) → Type 0
 AreLinks source equs links = map (λ l. map (at_place equs) l) links ≡ map (λ e. map (equ_at source equs) e.1) equs

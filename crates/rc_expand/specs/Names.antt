@@ -1,9 +1,9 @@
--- What names stand for outside of a text.
+-- Names that are given from outside of a text, and their values.
 use Rattle.std.specs.Prelude.{ℕ, Bool, List, [], ◌∷◌, Option, Some, None, if◌then◌else◌, codes, ℤ, pos}
 use Rattle.std.specs.Global.{Vec}
 use Rattle.std.specs.List.{list_any}
 use Rattle.std.specs.Str.{bytes_eq}
-use Rattle.rc_instr.specs.Rules.{Limits}
+use Rattle.rc_instr.specs.Rules.{RulesView}
 
 abbrev pub is_among : List (List ℕ) → List ℕ → Bool
 is_among names name = list_any (λ n. bytes_eq n name) names
@@ -12,28 +12,27 @@ is_among names name = list_any (λ n. bytes_eq n name) names
 abbrev pub Table : Type 0
 Table = List (List ℕ × ℤ)
 
--- names and their values, one by one
+-- pairs each name with its value
 abbrev pub table_of : List (Vec ℕ) → List ℤ → Table
 table_of (n ∷ names) (v ∷ values) = (n.items, v) ∷ table_of names values
 table_of _ _ = []
 
--- the predefined names but CURLINE, which has no value before the lines are counted
--- (pMARS; WARRIORS and VERSION with these values are this project's own)
-abbrev pub predefined : Limits → Table
+-- the predefined names (pMARS) but for CURLINE, which has no value before lines are counted
+abbrev pub predefined : RulesView → Table
 predefined r = (codes "CORESIZE", pos r.core) ∷ (codes "MAXPROCESSES", pos r.tasks) ∷ (codes "MAXCYCLES", pos r.cycles) ∷ (codes "MAXLENGTH", pos r.length) ∷ (codes "MINDISTANCE", pos r.distance) ∷ (codes "WARRIORS", pos 2) ∷ (codes "VERSION", pos 92) ∷ []
 
 abbrev pub CURLINE : List ℕ
 CURLINE = codes "CURLINE"
 
--- what the first entry with this name has
-abbrev pub found : {A : Type 0} → List (List ℕ × A) → List ℕ → Option A
-found [] name = None
-found (e ∷ table) name = if bytes_eq name e.0 then Some e.1 else found table name
+-- the value of the first entry with this name
+abbrev pub entry_of : {A : Type 0} → List (List ℕ × A) → List ℕ → Option A
+entry_of [] name = None
+entry_of (e ∷ table) name = if bytes_eq name e.0 then Some e.1 else entry_of table name
 
 abbrev pub or_else : {A : Type 0} → Option A → Option A → Option A
 or_else (Some x) o = Some x
 or_else None o = o
 
--- what a name stands for outside of a text, as in a count: a constant or a predefined name
-unfoldable pub given_names : Table → Limits → List ℕ → Option ℤ
-given_names constants limits name = or_else (found constants name) (found (predefined limits) name)
+-- the value of a name in a count: a constant or a predefined name
+unfoldable pub given_names : Table → RulesView → List ℕ → Option ℤ
+given_names constants rules name = or_else (entry_of constants name) (entry_of (predefined rules) name)

@@ -1,38 +1,34 @@
--- EQU names give way to their tokens (EQU is pMARS's; its limits and what is left alone are this project's own).
+-- EQU names are replaced by their tokens (EQU is from pMARS).
 use Rattle.std.specs.Prelude.{◌≡◌, ◌≤◌, ◌<◌, ◌⊎◌, ⊤, Result, Ok, Err, IfSome, IfNone, All, ℕ, zero, suc, ◌&&◌, ◌+◌, nat_le, List, [], ◌∷◌, ◌++◌, length, take, drop, Option, Some, None, if◌then◌else◌, option_and_then, option_map}
 use Rattle.rc_text.specs.declared.token.Token.{Token}
 use Rattle.rc_text.specs.Symbols.{name_of, LiesIn}
 use Rattle.rc_expand.specs.declared.replace.ReplaceFault.{ReplaceFault}
 use Rattle.rc_expand.specs.declared.replace.ReplaceFault.TheVariants.{OutOfMemory}
-use Rattle.std.specs.Str.{bytes_eq}
 use Rattle.rc_expand.specs.declared.head.HeadWord.{HeadWord}
 use Rattle.rc_expand.specs.declared.head.HeadWord.TheVariants as word
-use Rattle.rc_expand.specs.Lines.{is_name, has_modifier}
+use Rattle.rc_expand.specs.Lines.{is_name_token, has_modifier}
+use Rattle.rc_expand.specs.Names.{entry_of}
 
 -- the EQU names with their tokens
 abbrev pub Equs : Type 0
 Equs = List (List ℕ × List Token)
 
-abbrev pub equ_of : Equs → List ℕ → Option (List Token)
-equ_of [] name = None
-equ_of (e ∷ equs) name = if bytes_eq name e.0 then Some e.1 else equ_of equs name
-
 -- the spans of their tokens lie in the source
 abbrev pub EqusLie : List ℕ → Equs → Type 0
 EqusLie source equs = All (λ e. All (LiesIn source) e.1) equs
 
--- tokens, and how many names were replaced in them
+-- tokens, and the number of EQU names that were replaced in them
 pub record Replaced : Type 0 where
   pub tokens : List Token
   pub replacements : ℕ
 
--- one after the other, where both are there
-abbrev pub followed_by : Option Replaced → Option Replaced → Option Replaced
-followed_by (Some a) (Some b) = Some (record { tokens = a.tokens ++ b.tokens; replacements = a.replacements + b.replacements })
-followed_by (Some a) None = None
-followed_by None o = None
+-- two results, one after the other; nothing if one is missing
+abbrev pub replaced_both : Option Replaced → Option Replaced → Option Replaced
+replaced_both (Some a) (Some b) = Some (record { tokens = a.tokens ++ b.tokens; replacements = a.replacements + b.replacements })
+replaced_both (Some a) None = None
+replaced_both None o = None
 
--- a token that is no EQU name stays, and an EQU name gives way to its tokens, replaced in their turn
+-- an EQU name is replaced by its tokens, with EQU names replaced in turn; any other token stays
 abbrev pub one : (List Token → Option Replaced) → Token → Option (List Token) → Option Replaced
 one inner t None = Some (record { tokens = t ∷ []; replacements = 0 })
 one inner t (Some body) = option_map (λ r. record { tokens = r.tokens; replacements = suc r.replacements }) (inner body)
@@ -43,26 +39,27 @@ module _ (source : List ℕ) where
   exempt_len_of_code (t ∷ u ∷ v ∷ ts) = if has_modifier source t u v then 3 else 1
   exempt_len_of_code _ = 1
 
-  -- how many tokens at the front of a line are left alone: of a line of code the first, and behind an opcode word and a dot the modifier
+  -- the number of tokens that are left alone at the front of a line: in code the first, and the
+  -- modifier after an opcode and a dot
   abbrev pub exempt_len : HeadWord → List Token → ℕ
   exempt_len word.Code ts = exempt_len_of_code ts
   exempt_len _ ts = 0
 
 module _ (source : List ℕ) (equs : Equs) where
   abbrev pub equ_at : Token → Option (List Token)
-  equ_at t = if is_name t then equ_of equs (name_of source t) else None
+  equ_at t = if is_name_token t then entry_of equs (name_of source t) else None
 
   -- each token in turn
   abbrev pub spread : (List Token → Option Replaced) → List Token → Option Replaced
   spread inner [] = Some (record { tokens = []; replacements = 0 })
-  spread inner (t ∷ ts) = followed_by (one inner t (equ_at t)) (spread inner ts)
+  spread inner (t ∷ ts) = replaced_both (one inner t (equ_at t)) (spread inner ts)
 
-  -- what stands for the tokens of an EQU name, so deep
+  -- replacement in the tokens of an EQU name, `levels` deep
   abbrev pub inner_at : ℕ → List Token → Option Replaced
   inner_at zero = λ body. None
   inner_at (suc levels) = spread (inner_at levels)
 
-  -- the tokens with their EQU names replaced at most so deep
+  -- replacement at most `levels` deep
   abbrev pub replaced_within : ℕ → List Token → Option Replaced
   replaced_within levels = spread (inner_at levels)
 
@@ -77,14 +74,16 @@ module _ (source : List ℕ) (equs : Equs) where
   abbrev pub line_tokens : HeadWord → List Token → Option (List Token)
   line_tokens w ts = option_map (λ r. take (exempt_len source w ts) ts ++ r) (replaced_tokens (drop (exempt_len source w ts) ts))
 
--- The tokens and the count so far, and what a call makes of them: on Ok it adds what the definition gives, within the limits, and
--- but for want of memory a fault comes only where the definition gives nothing, or too much.
+-- A call that appends to `old` tokens and `n` replacements. On Ok it adds what the definition
+-- gives, within the limits. A fault other than OutOfMemory means that the definition gives nothing,
+-- or too much.
 abbrev pub Adds : List Token → ℕ → Result (Unit {0}) ReplaceFault → Option Replaced → List Token → ℕ → Type 0
 Adds old n (Ok u) r new m = IfNone r ⊥ × IfSome r (λ a. (new ≡ old ++ a.tokens) × (m ≡ n + a.replacements)) × (length new ≤ 4096) × (m ≤ 4096)
 Adds old n (Err OutOfMemory) r new m = ⊤
 Adds old n (Err _) r new m = IfSome r (λ a. (4096 < length old + length a.tokens) ⊎ (4096 < n + a.replacements))
 
--- a result is what the definition gives, or but for want of memory a fault where it gives nothing
+-- the result is what the definition gives; a fault other than OutOfMemory means that it gives
+-- nothing
 abbrev pub Replaces : {A : Type 0} → Result A ReplaceFault → Option A → Type 0
 Replaces (Ok x) o = o ≡ Some x
 Replaces (Err OutOfMemory) o = ⊤

@@ -1,15 +1,15 @@
-//! Whether each FOR has its ROF.
-ghost use Rattle.std.specs.Prelude.{◌≡◌, true, false, MatchResult, Some, None};
-ghost use Rattle.rc_expand.specs.Heads.{nests};
-ghost use Rattle.rc_expand.specs.Faults.{nesting_fault};
+//! The check that every FOR has its ROF, before anything is unrolled.
+ghost use Rattle.std.specs.Prelude.{◌≡◌, MatchResult, Some, None};
+ghost use Rattle.rc_expand.specs.Nesting.{nesting_fault};
 
 use crate::fault::{ExpandFault, ExpandKind};
 use crate::head::{Head, HeadWord};
 
-/// Refuses a FOR or a ROF without its partner, and more than 8 blocks in one another.
+// Refuses, at the first line that has one of them, a ninth FOR inside eight (`ForTooDeep`) and a
+// ROF without its FOR (`RofWithoutFor`); then a FOR that is still open at the end
+// (`ForWithoutRof`), at the line of the outermost one. Blocks that will be dropped count too.
 pub(crate) fn check_blocks(heads: &[Head]) -> Result<(), ExpandFault>
-    ensures nested { MatchResult result (λ u. nests 0 heads.now ≡ true) (λ e. nests 0 heads.now ≡ false) }
-    ensures first { MatchResult result (λ u. nesting_fault 0 0 heads.now ≡ None) (λ e. nesting_fault 0 0 heads.now ≡ Some e) }
+    ensures { MatchResult result (λ u. nesting_fault 0 0 heads.now ≡ None) (λ e. nesting_fault 0 0 heads.now ≡ Some e) }
 {
     let mut opened: usize = 0;
     let mut outermost: u64 = 0;

@@ -1,11 +1,12 @@
-//! EQU lines.
+//! EQU lines: the table of EQU names and their tokens.
 ghost use Rattle.std.specs.Prelude.{◌≡◌, ◌≢◌, [], false, is_some, All, IfOk, IfErr, MatchResult, Some, None};
 ghost use Rattle.rc_expand.specs.declared.fault.ExpandKind.TheVariants.{OutOfMemory, BadDirective};
 ghost use Rattle.rc_text.specs.Symbols.{LiesIn};
 ghost use Rattle.rc_expand.specs.Lines.{HeadLies};
 ghost use Rattle.rc_expand.specs.Heads.{equ_token, equ_of_line, equs_of, equ_lines};
-ghost use Rattle.rc_expand.specs.Faults.{at_line, equ_fault, equs_fault};
-ghost use Rattle.rc_expand.specs.Names.{table_of, found};
+ghost use Rattle.rc_expand.specs.Faults.{equ_fault, equs_fault};
+ghost use Rattle.rc_expand.specs.Nesting.{at_line};
+ghost use Rattle.rc_expand.specs.Names.{table_of, entry_of};
 ghost use Rattle.rc_expand.specs.Replace.{EqusLie};
 ghost use Rattle.rc_expand.specs.Steps.{new_equ};
 ghost use Rattle.rc_expand.specs.Unroll.{Gives};
@@ -20,51 +21,10 @@ use crate::table::NameTable;
 use rc_text::Token;
 use std::alloc::Global;
 
-// The one label of an EQU line.
-fn equ_token<'a>(source: &[u8], head: &'a Head) -> Result<&'a Token, ExpandFault>
-    requires { HeadLies source.now head.now }
-    ensures token { MatchResult result (λ t. equ_token source.now head.now.labels ≡ Some t.now) (λ e. (equ_token source.now head.now.labels ≡ None) × (e ≡ at_line head.now.number BadDirective)) }
-    ensures inside { IfOk result (λ t. LiesIn source.now t.now) }
-    ensures written { IfOk result (λ t. t.now.joined ≡ []) }
-{
-    let plain = match head.labels.as_slice() {
-        [label] => plain_token(source, label.as_slice()),
-        _ => None,
-    };
-    match plain {
-        Some(token) => Ok(token),
-        None => Err(fault(head.number, ExpandKind::BadDirective)),
-    }
-}
-
-// The EQU name of a line, which is new beside those so far.
-fn read_equ(
-    alloc: Global,
-    source: &[u8],
-    names: &GivenNames,
-    equs: &NameTable<Equ>,
-    head: &Head,
-) -> Result<(Name, Equ), ExpandFault>
-    requires head { HeadLies source.now head.now }
-    ensures equ { Gives result (new_equ source.now (table_of names.now.constants.now.names.now names.now.constants.now.values.now) names.now.rules.now equs.now head.now) }
-    ensures fault { IfErr result (λ f. f.kind ≢ OutOfMemory
-        → equ_fault source.now (table_of names.now.constants.now.names.now names.now.constants.now.values.now) names.now.rules.now equs.now head.now ≡ Some f) }
-    ensures new { IfOk result (λ e. is_some (found equs.now e.0) ≡ false) }
-    ensures inside { IfOk result (λ e. All (LiesIn source.now) e.1) }
-{
-    let token = equ_token(source, head)?;
-    if is_taken(names, source, token) || equ_line(equs, source, token).is_some() {
-        return Err(fault(head.number, ExpandKind::DuplicateName));
-    }
-    let name = plain_name(alloc, source, token)?;
-    let tokens = with_front(alloc, head.rest.as_slice(), Vec::new(alloc))?;
-    Ok((Name::from_vec(name), Equ::new(tokens, head.number)))
-}
-
-/// The EQU names outside blocks with their tokens.
-///
-/// Refuses, line by line, a line without exactly one plain name before EQU (`BadDirective`) and a name that is an earlier EQU name, a
-/// constant or a predefined name (`DuplicateName`).
+// Collects the EQU names outside blocks, with their tokens.
+//
+// Refuses, line by line, a line without exactly one plain name before EQU (`BadDirective`) and a
+// name that is an earlier EQU name, a constant or a predefined name (`DuplicateName`).
 pub(crate) fn collect_equs(
     alloc: Global,
     source: &[u8],
@@ -93,4 +53,45 @@ pub(crate) fn collect_equs(
         rest = after;
     }
     Ok(equs)
+}
+
+// Returns the name before EQU. `BadDirective` unless it is the only label, written without `&`.
+fn equ_token<'a>(source: &[u8], head: &'a Head) -> Result<&'a Token, ExpandFault>
+    requires { HeadLies source.now head.now }
+    ensures token { MatchResult result (λ t. equ_token source.now head.now.labels ≡ Some t.now) (λ e. (equ_token source.now head.now.labels ≡ None) × (e ≡ at_line head.now.number BadDirective)) }
+    ensures inside { IfOk result (λ t. LiesIn source.now t.now) }
+    ensures written { IfOk result (λ t. t.now.joined ≡ []) }
+{
+    let plain = match head.labels.as_slice() {
+        [label] => plain_token(source, label.as_slice()),
+        _ => None,
+    };
+    match plain {
+        Some(token) => Ok(token),
+        None => Err(fault(head.number, ExpandKind::BadDirective)),
+    }
+}
+
+// Reads an EQU line. Its name must not be taken already.
+fn read_equ(
+    alloc: Global,
+    source: &[u8],
+    names: &GivenNames,
+    equs: &NameTable<Equ>,
+    head: &Head,
+) -> Result<(Name, Equ), ExpandFault>
+    requires head { HeadLies source.now head.now }
+    ensures equ { Gives result (new_equ source.now (table_of names.now.constants.now.names.now names.now.constants.now.values.now) names.now.rules.now equs.now head.now) }
+    ensures fault { IfErr result (λ f. f.kind ≢ OutOfMemory
+        → equ_fault source.now (table_of names.now.constants.now.names.now names.now.constants.now.values.now) names.now.rules.now equs.now head.now ≡ Some f) }
+    ensures new { IfOk result (λ e. is_some (entry_of equs.now e.0) ≡ false) }
+    ensures inside { IfOk result (λ e. All (LiesIn source.now) e.1) }
+{
+    let token = equ_token(source, head)?;
+    if is_taken(names, source, token) || equ_line(equs, source, token).is_some() {
+        return Err(fault(head.number, ExpandKind::DuplicateName));
+    }
+    let name = plain_name(alloc, source, token)?;
+    let tokens = with_front(alloc, head.rest.as_slice(), Vec::new(alloc))?;
+    Ok((Name::from_vec(name), Equ::new(tokens, head.number)))
 }

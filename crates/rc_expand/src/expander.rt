@@ -1,4 +1,4 @@
-//! The expansion of a text: heads, unrolling and replacement in turn.
+//! The expansion of a text: its lines are read, blocks are unrolled, and EQU names are replaced.
 ghost use Rattle.std.specs.Prelude.{◌≡◌, ◌≢◌, All, IfOk, IfErr, List};
 ghost use Rattle.rc_expand.specs.declared.fault.ExpandKind.TheVariants.{OutOfMemory};
 ghost use Rattle.rc_expand.specs.declared.line.Line.{Line};
@@ -12,6 +12,7 @@ ghost use Rattle.rc_expand.specs.Faults.{IsHeadFault, IsInTurn};
 
 use crate::blocks::check_blocks;
 use crate::constants::Constants;
+use crate::context::Context;
 use crate::equs::collect_equs;
 use crate::fault::{ExpandFault, placed};
 use crate::head::Head;
@@ -21,13 +22,56 @@ use crate::links::link_equs;
 use crate::names::GivenNames;
 use crate::read::read_lines;
 use crate::replace::Equ;
-use crate::setting::Setting;
 use crate::table::NameTable;
 use crate::unroll::unroll;
 use rc_instr::Rules;
 use std::alloc::Global;
 
-// The lines of a text with their heads, and its EQU names.
+/// Expands a text into plain lines.
+///
+/// The lines up to the first with END are read with their labels. FOR blocks are replaced by their
+/// copies, outer blocks first, with the numbers of their counters in place, or joined to names by
+/// `&`. EQU lines are dropped, and EQU names are replaced by their tokens. (FOR, ROF, EQU and `&`
+/// are from pMARS.)
+///
+/// Refuses, part by part, and in each part the first line that is wrong:
+///
+/// - `Text`: a byte or a number that is not a token, up to the line with END.
+/// - `ForTooDeep`: more than 8 nested blocks; `RofWithoutFor`, `ForWithoutRof`: a FOR or a ROF
+///   without its partner.
+/// - `BadDirective`, `DuplicateName`: an EQU line without exactly one plain name before EQU, or
+///   whose name is taken.
+/// - While blocks are unrolled: `BadDirective` for a ROF with labels or tokens beside it (checked
+///   first), a counter that is not a plain name, an EQU in a block, or a ninth counter joined to a
+///   name; `DuplicateName` for a counter that is taken; `EquTooDeep`, `TooManyTokens` or
+///   `CountRefused` for a count that cannot be replaced, has no value or is above 4096;
+///   `TooManyLines` for more than 4096 lines and copies.
+/// - `DuplicateName`: a label that is defined twice, or is an EQU name, a constant or a predefined
+///   name; `EquTooDeep`: EQU names nested more than 16 deep; `TooManyTokens`: more than 4096 tokens
+///   or EQU replacements in a line.
+/// - `OutOfMemory`, at line 0, if memory runs out.
+///
+/// That the first three come first, in this order and each at its first line, is proved; the order
+/// of the others is tested.
+pub fn expand(
+    alloc: Global,
+    source: &[u8],
+    constants: &Constants,
+    rules: &Rules,
+) -> Result<Expanded, ExpandFault>
+    ensures lines { IfOk result (λ e. IsExpansion source.now (table_of constants.now.names.now constants.now.values.now) rules.now e.lines) }
+    ensures spans { IfOk result (λ e. All (LineLies source.now) e.lines) }
+    ensures refused { IfErr result (λ f. f.kind ≢ OutOfMemory → (lines : List Line) → IsExpansion source.now (table_of constants.now.names.now constants.now.values.now) rules.now lines → ⊥) }
+    ensures first { IfErr result (λ f. f.kind ≢ OutOfMemory → IsInTurn source.now (table_of constants.now.names.now constants.now.values.now) rules.now f) }
+    ensures memory { IfErr result (λ f. f.kind ≡ OutOfMemory → f.line ≡ 0) }
+{
+    match expand_text(alloc, source, constants, rules) {
+        Ok(expanded) => Ok(expanded),
+        Err(found) => Err(placed(found)),
+    }
+}
+
+// Reads the lines of a text, checks how its blocks nest, and collects its EQU names.
 #[tactic(auto, using(crate::proofs::FaultSteps::of_nesting, crate::proofs::FaultSteps::of_equs), unfolding(crate::specs::Heads::heads_of))]
 fn read_heads(
     alloc: Global,
@@ -45,7 +89,7 @@ fn read_heads(
     Ok((heads, equs))
 }
 
-// The lines that a text expands to.
+// Does what `expand` does, but an `OutOfMemory` may carry the line at which it came up.
 fn expand_text(
     alloc: Global,
     source: &[u8],
@@ -60,7 +104,7 @@ fn expand_text(
     let names = GivenNames { constants, rules };
     let (heads, equs) = read_heads(alloc, source, &names)?;
     let links = link_equs(alloc, source, &equs)?;
-    let setting = Setting {
+    let context = Context {
         alloc,
         source,
         constants,
@@ -68,46 +112,9 @@ fn expand_text(
         equs: &equs,
         links: &links,
     };
-    let unrolled = unroll(&setting, heads)?;
-    let lines = replace_lines(&setting, unrolled)?;
+    let unrolled = unroll(&context, heads)?;
+    let lines = replace_lines(&context, unrolled)?;
     Ok(Expanded {
         lines: Lines::from_vec(lines),
     })
-}
-
-/// The lines that a text expands to.
-///
-/// The lines up to the first with END are read with their labels. FOR blocks give way to their copies, outer blocks first, with the
-/// numbers of their counters in place, or joined to names by `&`. EQU lines are dropped, and EQU names give way to their tokens.
-/// (FOR, ROF, EQU and `&` are those of pMARS in outline; in detail the rules are this project's own.)
-///
-/// Refuses, part by part, and in each part the line that comes first:
-///
-/// - `Text`: a byte or a number that is no token, up to the line with END.
-/// - `ForTooDeep`: more than 8 blocks in one another; `RofWithoutFor`, `ForWithoutRof`: a FOR or a ROF without its partner.
-/// - `BadDirective`, `DuplicateName`: an EQU line without exactly one plain name before EQU, or whose name is taken.
-/// - `BadDirective`, `DuplicateName`, `EquTooDeep`, `TooManyTokens`, `CountRefused` at a block: a ROF with something beside it, looked at
-///   first, a counter that is no plain name or is taken, a count that can't be replaced, has no value or is above 4096; `BadDirective` also for an
-///   EQU in a block and for a ninth counter joined to a name; `TooManyLines`: more than 4096 lines and copies.
-/// - `DuplicateName`: a label that is there twice, or is an EQU name, a constant or a predefined name; `EquTooDeep`: EQU names nested
-///   more than 16 deep; `TooManyTokens`: more than 4096 tokens in a line, or as many replacements.
-/// - `OutOfMemory`, at line 0, where memory was refused.
-///
-/// That a fault of the text itself, of how blocks nest or of an EQU line is the one that comes first is proved; of the others tests show it.
-pub fn expand(
-    alloc: Global,
-    source: &[u8],
-    constants: &Constants,
-    rules: &Rules,
-) -> Result<Expanded, ExpandFault>
-    ensures lines { IfOk result (λ e. IsExpansion source.now (table_of constants.now.names.now constants.now.values.now) rules.now e.lines) }
-    ensures spans { IfOk result (λ e. All (LineLies source.now) e.lines) }
-    ensures refused { IfErr result (λ f. f.kind ≢ OutOfMemory → (lines : List Line) → IsExpansion source.now (table_of constants.now.names.now constants.now.values.now) rules.now lines → ⊥) }
-    ensures first { IfErr result (λ f. f.kind ≢ OutOfMemory → IsInTurn source.now (table_of constants.now.names.now constants.now.values.now) rules.now f) }
-    ensures memory { IfErr result (λ f. f.kind ≡ OutOfMemory → f.line ≡ 0) }
-{
-    match expand_text(alloc, source, constants, rules) {
-        Ok(expanded) => Ok(expanded),
-        Err(found) => Err(placed(found)),
-    }
 }

@@ -1,4 +1,4 @@
-//! Why a text has no expansion, and where.
+//! Why a text cannot be expanded, and at which line.
 ghost use Rattle.std.specs.Prelude.{◌≡◌, ◌≢◌};
 ghost use Rattle.rc_expand.specs.declared.fault.ExpandKind.TheVariants.{OutOfMemory};
 
@@ -6,49 +6,49 @@ use rc_text::LexFault;
 use std::alloc::{AllocError, AllocFailed};
 use thiserror::Error;
 
-/// Why a text has no expansion.
+/// Why a text cannot be expanded.
 #[derive(Clone, Copy, Debug, PartialEq, Eq, Error)]
 pub enum ExpandKind {
-    /// The text has a byte or a number that is no token.
+    /// The text has a byte or a number that is not a token.
     #[error("{0}")]
     Text(LexFault),
-    /// Two labels or two EQU names are alike, or a name is taken otherwise.
-    #[error("a name that is taken")]
+    /// A label, a counter or an EQU name is already defined, or is a constant or a predefined name.
+    #[error("name already defined")]
     DuplicateName,
     /// A FOR has no ROF.
-    #[error("a FOR without its ROF")]
+    #[error("FOR without ROF")]
     ForWithoutRof,
     /// A ROF has no FOR.
-    #[error("a ROF without its FOR")]
+    #[error("ROF without FOR")]
     RofWithoutFor,
-    /// More than 8 FOR blocks stand in one another.
-    #[error("more than 8 FOR blocks in one another")]
+    /// More than 8 FOR blocks are nested.
+    #[error("more than 8 nested FOR blocks")]
     ForTooDeep,
-    /// EQU names stand for one another more than 16 deep.
+    /// EQU names are nested more than 16 deep.
     #[error("EQU names nested more than 16 deep")]
     EquTooDeep,
     /// The count of a FOR has no value, or is above 4096.
-    #[error("a FOR count without a value, or above 4096")]
+    #[error("FOR count without a value or above 4096")]
     CountRefused,
-    /// The unrolled lines and the copies of blocks are more than 4096.
+    /// There are more than 4096 unrolled lines and copies of blocks.
     #[error("more than 4096 lines and copies")]
     TooManyLines,
-    /// Memory was refused.
+    /// Out of memory.
     #[error("out of memory")]
     OutOfMemory,
-    /// An EQU, FOR or ROF is not of its form or not in its place, or a ninth counter is joined to a name.
-    #[error("a directive that is not of its form or not in its place")]
+    /// An EQU, FOR or ROF is malformed or misplaced, or a ninth counter is joined to a name.
+    #[error("malformed or misplaced directive")]
     BadDirective,
-    /// A line or a count has more than 4096 tokens, or as many replacements.
+    /// A line or a count has more than 4096 tokens, or takes more than 4096 EQU replacements.
     #[error("more than 4096 tokens or EQU replacements in a line")]
     TooManyTokens,
 }
 
-/// Why a text has no expansion, and at which line.
+/// Why a text cannot be expanded, and at which line.
 #[derive(Clone, Copy, Debug, PartialEq, Eq, Error)]
 #[error("line {line}: {kind}")]
 pub struct ExpandFault {
-    /// The line, from 1 in the whole source; 0 where memory was refused.
+    /// The line, from 1 in the whole source; 0 if out of memory.
     pub line: u64,
     /// The reason.
     pub kind: ExpandKind,
@@ -82,14 +82,13 @@ impl<T: Drop> From<AllocFailed<T>> for ExpandFault {
     }
 }
 
-/// A fault at a line.
 pub(crate) fn fault(line: u64, kind: ExpandKind) -> ExpandFault
     ensures { result ≡ record { line = line; kind = kind } }
 {
     ExpandFault { line, kind }
 }
 
-/// The fault at its line; want of memory has none.
+// Sets the line of an `OutOfMemory` to 0; any other fault stays as it is.
 pub(crate) fn placed(found: ExpandFault) -> ExpandFault
     ensures kind { result.kind ≡ found.kind }
     ensures memory { result.kind ≡ OutOfMemory → result.line ≡ 0 }

@@ -1,28 +1,29 @@
-//! Unrolled lines become the lines of the expansion.
+//! From an unrolled line to a line of the expansion.
 ghost use Rattle.std.specs.Prelude.{◌≡◌, ◌++◌, ◌≤◌, length, flat_map, All, IfOk, IfSome, OnOk};
 ghost use Rattle.rc_text.specs.Symbols.{LiesIn};
 ghost use Rattle.rc_expand.specs.Lines.{HeadLies};
 ghost use Rattle.rc_expand.specs.NameTables.{AreLinks};
 ghost use Rattle.rc_expand.specs.Replace.{EqusLie, exempt_len_of_code, exempt_len, line_tokens, Replaces};
 ghost use Rattle.rc_expand.specs.Unroll.{Gives};
-ghost use Rattle.rc_expand.specs.Setting.{IsSetting};
+ghost use Rattle.rc_expand.specs.Context.{IsContext};
 ghost use Rattle.rc_expand.specs.Expansion.{LineLies, as_list, line_word, own_labels, other_labels, made_line, line_of};
 
+use crate::context::Context;
 use crate::copy::with_front;
 use crate::fault::{ExpandFault, ExpandKind, fault};
 use crate::head::{Head, HeadWord};
 use crate::labels::label_token;
 use crate::line::{Line, LineWord, Tokens};
-use crate::links::{Links, stay};
+use crate::links::{Links, needs_no_replacement};
 use crate::opening::replace_fault;
 use crate::replace::{Equ, ReplaceFault, replace_tokens};
-use crate::setting::Setting;
 use crate::table::NameTable;
 use crate::words::{clone_token, has_modifier};
 use rc_text::Token;
 use std::alloc::{AllocError, Global};
 
-/// The labels before the first that is no single name, and the labels from there on.
+// Splits the labels before the first that is not a single name. From there on they are not labels:
+// they are tokens of a line of code.
 pub(crate) fn split_labels<'a>(
     alloc: Global,
     source: &[u8],
@@ -46,7 +47,28 @@ pub(crate) fn split_labels<'a>(
     Ok((Tokens::from_vec(own), rest))
 }
 
-// Appends tokens.
+// Makes the line of the expansion for an unrolled line.
+#[tactic(auto, unfolding(crate::specs::Expansion::line_of))]
+pub(crate) fn line_of(context: &Context, head: &Head) -> Result<Line, ExpandFault>
+    requires context { IsContext context.now }
+    requires head { HeadLies context.now.source.now head.now }
+    ensures line { Gives result (line_of context.now.source.now context.now.equs.now head.now) }
+    ensures inside { IfOk result (LineLies context.now.source.now) }
+{
+    let (labels, others) = split_labels(context.alloc, context.source, head.labels.as_slice())?;
+    if others.is_empty() {
+        return make_line(context, head, labels, head.word, head.rest.as_slice());
+    }
+    let tokens = as_code_tokens(
+        context.alloc,
+        context.source,
+        others,
+        &head.directive,
+        head.rest.as_slice(),
+    )?;
+    make_line(context, head, labels, HeadWord::Code, &tokens)
+}
+
 fn push_tokens(all: &mut Vec<Token>, source: &[u8], tokens: &[Token]) -> Result<(), AllocError>
     requires before { All (LiesIn source.now) all.old.items }
     requires inside { All (LiesIn source.now) tokens.now }
@@ -59,7 +81,6 @@ fn push_tokens(all: &mut Vec<Token>, source: &[u8], tokens: &[Token]) -> Result<
     Ok(())
 }
 
-// Appends the token of a directive, if there is one.
 fn push_directive(
     all: &mut Vec<Token>,
     source: &[u8],
@@ -77,8 +98,8 @@ fn push_directive(
     Ok(())
 }
 
-// The tokens of a line whose labels are none from some place on: those of the labels, the directive and what follows.
-fn joined_tokens(
+// Turns would-be labels back into tokens: theirs, then the directive, then the rest.
+fn as_code_tokens(
     alloc: Global,
     source: &[u8],
     others: &[Tokens],
@@ -100,7 +121,8 @@ fn joined_tokens(
     Ok(all)
 }
 
-// How many tokens at the front of a line of code are left alone: its first, and a modifier behind an opcode word and a dot.
+// Counts the tokens that EQU names do not replace at the front of a line of code: its first one,
+// and the modifier after an opcode and a dot.
 fn exempt_len_of_code(source: &[u8], tokens: &[Token]) -> usize
     requires { All (LiesIn source.now) tokens.now }
     ensures exempt { result ≡ exempt_len_of_code source.now tokens.now }
@@ -117,7 +139,7 @@ fn exempt_len_of_code(source: &[u8], tokens: &[Token]) -> usize
     }
 }
 
-// How many tokens at the front of a line are left alone.
+// Counts the tokens that EQU names do not replace at the front of a line.
 fn exempt_len(source: &[u8], word: HeadWord, tokens: &[Token]) -> usize
     requires { All (LiesIn source.now) tokens.now }
     ensures exempt { result ≡ exempt_len source.now word tokens.now }
@@ -129,7 +151,7 @@ fn exempt_len(source: &[u8], word: HeadWord, tokens: &[Token]) -> usize
     }
 }
 
-// The tokens of a line with their EQU names replaced.
+// Replaces the EQU names of a line.
 #[tactic(auto, using(crate::proofs::Settled::line_settled))]
 fn line_tokens(
     alloc: Global,
@@ -146,14 +168,14 @@ fn line_tokens(
     ensures inside { IfOk result (All (LiesIn source.now)) }
 {
     let (front, back) = tokens.split_at(exempt_len(source, word, tokens));
-    if stay(source, back, equs) {
+    if needs_no_replacement(source, back, equs) {
         return Ok(with_front(alloc, tokens, Vec::new(alloc))?);
     }
     let replaced = replace_tokens(alloc, source, back, equs, links)?;
     Ok(with_front(alloc, front, replaced.into_vec())?)
 }
 
-// The word of a line of the expansion.
+// Converts the word of a line. Anything that is left and not a directive is code.
 fn line_word(word: HeadWord) -> LineWord
     ensures { result ≡ line_word word }
 {
@@ -166,26 +188,26 @@ fn line_word(word: HeadWord) -> LineWord
     }
 }
 
-// The line of these tokens with their EQU names replaced.
+// Makes a line of the expansion from `tokens`, with their EQU names replaced.
 fn make_line(
-    setting: &Setting,
+    context: &Context,
     head: &Head,
     labels: Tokens,
     word: HeadWord,
     tokens: &[Token],
 ) -> Result<Line, ExpandFault>
-    requires setting { IsSetting setting.now }
-    requires labels { labels ≡ own_labels setting.now.source.now head.now.labels }
-    requires labels_inside { All (LiesIn setting.now.source.now) labels }
-    requires inside { All (LiesIn setting.now.source.now) tokens.now }
-    ensures line { Gives result (made_line setting.now.source.now setting.now.equs.now head.now word tokens.now) }
-    ensures inside { IfOk result (LineLies setting.now.source.now) }
+    requires context { IsContext context.now }
+    requires labels { labels ≡ own_labels context.now.source.now head.now.labels }
+    requires labels_inside { All (LiesIn context.now.source.now) labels }
+    requires inside { All (LiesIn context.now.source.now) tokens.now }
+    ensures line { Gives result (made_line context.now.source.now context.now.equs.now head.now word tokens.now) }
+    ensures inside { IfOk result (LineLies context.now.source.now) }
 {
     let tokens = match line_tokens(
-        setting.alloc,
-        setting.source,
-        setting.equs,
-        setting.links,
+        context.alloc,
+        context.source,
+        context.equs,
+        context.links,
         word,
         tokens,
     ) {
@@ -201,26 +223,4 @@ fn make_line(
         word: line_word(word),
         tokens,
     })
-}
-
-/// The line of the expansion for an unrolled line.
-#[tactic(auto, unfolding(crate::specs::Expansion::line_of))]
-pub(crate) fn line_of(setting: &Setting, head: &Head) -> Result<Line, ExpandFault>
-    requires setting { IsSetting setting.now }
-    requires head { HeadLies setting.now.source.now head.now }
-    ensures line { Gives result (line_of setting.now.source.now setting.now.equs.now head.now) }
-    ensures inside { IfOk result (LineLies setting.now.source.now) }
-{
-    let (labels, others) = split_labels(setting.alloc, setting.source, head.labels.as_slice())?;
-    if others.is_empty() {
-        return make_line(setting, head, labels, head.word, head.rest.as_slice());
-    }
-    let tokens = joined_tokens(
-        setting.alloc,
-        setting.source,
-        others,
-        &head.directive,
-        head.rest.as_slice(),
-    )?;
-    make_line(setting, head, labels, HeadWord::Code, &tokens)
 }

@@ -1,11 +1,11 @@
-//! Lines as they are read and copied.
+//! Lines as they are read and copied, before EQU names are replaced.
 ghost use Rattle.std.specs.Prelude.{◌≡◌};
 
 use crate::line::Tokens;
 use rc_text::Token;
 use std::marker::Model;
 
-/// Labels in order, each by its tokens: names joined by `&`, perhaps with a colon.
+// Labels in order, each by its tokens: names joined by `&`, perhaps with a colon.
 #[derive(Debug, Drop)]
 pub(crate) struct Labels {
     items: Vec<Tokens>,
@@ -21,14 +21,12 @@ impl Model for Labels {
 }
 
 impl Labels {
-    /// The labels of a vector.
     pub(crate) fn from_vec(items: Vec<Tokens>) -> Self
         ensures { result ≡ items.items }
     {
         Labels { items }
     }
 
-    /// The labels.
     pub(crate) fn as_slice(&self) -> &[Tokens]
         ensures { result.now ≡ self.now }
     {
@@ -36,7 +34,7 @@ impl Labels {
     }
 }
 
-/// The word of a line: none, an opcode or anything else that is no directive, or a directive.
+// The word of a line: nothing (`Bare`), a directive, or anything else (`Code`).
 #[derive(Clone, Copy, Debug, PartialEq, Eq)]
 pub(crate) enum HeadWord {
     Bare,
@@ -49,7 +47,8 @@ pub(crate) enum HeadWord {
     Rof,
 }
 
-/// A line as it is read or copied: its labels, its word, the token of a directive and what follows.
+// A line as it is read or copied. `directive` is the token of a directive, and `rest` comes after
+// it; in a line of code `rest` begins with the opcode.
 #[derive(Debug, Drop)]
 pub(crate) struct Head {
     pub number: u64,
@@ -57,11 +56,12 @@ pub(crate) struct Head {
     pub word: HeadWord,
     pub directive: Option<Token>,
     pub rest: Tokens,
-    /// Whether a ninth counter was to be joined to one of its names; then nothing is left of it but its word.
+    // Set if a ninth counter was to be joined to a name of the line. Nothing but `word` is then
+    // left of it.
     pub spoiled: bool,
 }
 
-/// The bytes of a name.
+// The bytes of a name.
 #[derive(Debug, Drop)]
 pub(crate) struct Name {
     bytes: Vec<u8>,
@@ -76,21 +76,18 @@ impl Model for Name {
 }
 
 impl Name {
-    /// The name of these bytes.
     pub(crate) fn from_vec(bytes: Vec<u8>) -> Self
         ensures { result ≡ bytes.items }
     {
         Name { bytes }
     }
 
-    /// The vector of the bytes.
     pub(crate) fn into_vec(self) -> Vec<u8>
         ensures { result.items ≡ self }
     {
         self.bytes
     }
 
-    /// The bytes.
     pub(crate) fn as_slice(&self) -> &[u8]
         ensures { result.now ≡ self.now }
     {
@@ -98,7 +95,8 @@ impl Name {
     }
 }
 
-/// What a block begins with: its counter, the labels before it and how many copies there are.
+// What the FOR of a block says: its counter, the labels before the counter, and the number of
+// copies.
 #[derive(Debug, Drop)]
 pub(crate) struct Opening {
     pub counter: Option<Name>,

@@ -1,28 +1,52 @@
-//! The labels of the lines of an expansion, and its last pass.
+//! The last pass: EQU names are replaced, and each label must be new.
 ghost use Rattle.std.specs.Prelude.{◌≡◌, ◌≢◌, ◌++◌, ◌∷◌, [], ◌&&◌, not, true, false, List, ℕ, map, is_some, All, IfOk, MatchResult, OnOk};
 ghost use Rattle.rc_text.specs.Symbols.{LiesIn, name_of};
 ghost use Rattle.rc_expand.specs.declared.fault.ExpandKind.TheVariants.{OutOfMemory};
 ghost use Rattle.rc_expand.specs.Lines.{HeadLies};
+ghost use Rattle.rc_expand.specs.Names.{is_among};
 ghost use Rattle.rc_expand.specs.Unroll.{GivesItems};
-ghost use Rattle.rc_expand.specs.Steps.{is_seen, names_in, Freshens, Takes};
-ghost use Rattle.rc_expand.specs.Setting.{table, IsSetting, is_new_label_by};
+ghost use Rattle.rc_expand.specs.Steps.{names_in, Freshens, Takes};
+ghost use Rattle.rc_expand.specs.Context.{table, IsContext, is_new_label_by};
 ghost use Rattle.rc_expand.specs.Expansion.{LineLies, line_of, replaced};
 
+use crate::context::{Context, clash_with_given};
 use crate::fault::{ExpandFault, ExpandKind, fault};
 use crate::finish::{line_of, split_labels};
 use crate::head::{Head, HeadWord};
 use crate::line::Line;
 use crate::names::name_of;
-use crate::setting::{Setting, known_line};
 use crate::table::NameTable;
 use rc_text::Token;
 use std::alloc::AllocError;
 use std::collections::VecDeque;
 
-// The later of this line and that of an earlier label of the same name, if there is one.
+// Makes the lines of the expansion. EQU lines are dropped, EQU names replaced, and each label is
+// new.
+pub(crate) fn replace_lines(context: &Context, heads: Vec<Head>) -> Result<Vec<Line>, ExpandFault>
+    requires context { IsContext context.now }
+    requires heads { All (HeadLies context.now.source.now) heads.items }
+    ensures lines { GivesItems result (replaced (table context.now) context.now.rules.now context.now.source.now context.now.equs.now heads.items) }
+    ensures inside { IfOk result (λ v. All (LineLies context.now.source.now) v.items) }
+{
+    let mut lines = Vec::new(context.alloc);
+    let mut seen = NameTable::new(context.alloc);
+    let mut rest = VecDeque::from_vec(heads);
+    while let Some(head) = rest.pop_front() {
+        match head.word {
+            HeadWord::Equ => {}
+            _ => match take_line(context, &mut seen, &head) {
+                Ok(line) => lines.push(line)?,
+                Err(found) => return Err(least_fault(context, seen, found, head, rest)?),
+            },
+        }
+    }
+    Ok(lines)
+}
+
+// Returns the later of `line` and the line of an earlier label of the same name.
 fn seen_line(seen: &NameTable<u64>, source: &[u8], token: &Token, line: u64) -> Option<u64>
     requires { LiesIn source.now token.now }
-    ensures { is_some result ≡ is_seen (names_in seen.now) (name_of source.now token.now) }
+    ensures { is_some result ≡ is_among (names_in seen.now) (name_of source.now token.now) }
 {
     match seen.get(source, token) {
         Some(other) => Some(line.max(*other)),
@@ -30,41 +54,41 @@ fn seen_line(seen: &NameTable<u64>, source: &[u8], token: &Token, line: u64) -> 
     }
 }
 
-// The line at which the name of a label is there twice: the later of its two lines, or its own beside a constant or a predefined name.
-fn twice_line(setting: &Setting, seen: &NameTable<u64>, token: &Token, line: u64) -> Option<u64>
-    requires { LiesIn setting.now.source.now token.now }
-    ensures { not (is_some result) ≡ (is_new_label_by setting.now (name_of setting.now.source.now token.now) && not (is_seen (names_in seen.now) (name_of setting.now.source.now token.now))) }
+// Returns where to report a label whose name is taken: at the later of the two definitions, or at
+// its own line if the other is built in.
+fn clash_line(context: &Context, seen: &NameTable<u64>, token: &Token, line: u64) -> Option<u64>
+    requires { LiesIn context.now.source.now token.now }
+    ensures { not (is_some result) ≡ (is_new_label_by context.now (name_of context.now.source.now token.now) && not (is_among (names_in seen.now) (name_of context.now.source.now token.now))) }
 {
-    match known_line(setting, token, line) {
+    match clash_with_given(context, token, line) {
         Some(known) => Some(known),
-        None => seen_line(seen, setting.source, token, line),
+        None => seen_line(seen, context.source, token, line),
     }
 }
 
-// Takes up a label that is not there yet.
+// Adds a label to those seen, or refuses it at the line of the clash.
 fn check_label(
-    setting: &Setting,
+    context: &Context,
     seen: &mut NameTable<u64>,
     token: &Token,
     line: u64,
 ) -> Result<(), ExpandFault>
-    requires { LiesIn setting.now.source.now token.now }
-    ensures seen { OnOk result (names_in seen.new ≡ names_in seen.old ++ name_of setting.now.source.now token.now ∷ []) }
+    requires { LiesIn context.now.source.now token.now }
+    ensures seen { OnOk result (names_in seen.new ≡ names_in seen.old ++ name_of context.now.source.now token.now ∷ []) }
     ensures new { MatchResult result
-        (λ u. (is_new_label_by setting.now (name_of setting.now.source.now token.now) && not (is_seen (names_in seen.old) (name_of setting.now.source.now token.now))) ≡ true)
-        (λ e. e.kind ≢ OutOfMemory → (is_new_label_by setting.now (name_of setting.now.source.now token.now) && not (is_seen (names_in seen.old) (name_of setting.now.source.now token.now))) ≡ false) }
+        (λ u. (is_new_label_by context.now (name_of context.now.source.now token.now) && not (is_among (names_in seen.old) (name_of context.now.source.now token.now))) ≡ true)
+        (λ e. e.kind ≢ OutOfMemory → (is_new_label_by context.now (name_of context.now.source.now token.now) && not (is_among (names_in seen.old) (name_of context.now.source.now token.now))) ≡ false) }
 {
-    match twice_line(setting, seen, token, line) {
+    match clash_line(context, seen, token, line) {
         Some(later) => Err(fault(later, ExpandKind::DuplicateName)),
         None => {
-            let name = name_of(setting.alloc, setting.source, token)?;
+            let name = name_of(context.alloc, context.source, token)?;
             seen.insert(name, line)?;
             Ok(())
         }
     }
 }
 
-// The lesser of two lines.
 fn lesser_line(first: Option<u64>, second: Option<u64>) -> Option<u64> {
     match (first, second) {
         (Some(one), Some(other)) => Some(one.min(other)),
@@ -73,89 +97,90 @@ fn lesser_line(first: Option<u64>, second: Option<u64>) -> Option<u64> {
     }
 }
 
-// The least line at which one of the labels of a line is there twice. All are taken up.
+// Adds all labels of a line to those seen, and returns the earliest line of a clash.
 fn least_line(
-    setting: &Setting,
+    context: &Context,
     seen: &mut NameTable<u64>,
     labels: &[Token],
     line: u64,
 ) -> Result<Option<u64>, AllocError>
-    requires { All (LiesIn setting.now.source.now) labels.now }
+    requires { All (LiesIn context.now.source.now) labels.now }
 {
     let mut least = None;
     for token in labels {
-        least = lesser_line(least, known_line(setting, token, line));
-        least = lesser_line(least, seen_line(seen, setting.source, token, line));
-        let name = name_of(setting.alloc, setting.source, token)?;
+        least = lesser_line(least, clash_with_given(context, token, line));
+        least = lesser_line(least, seen_line(seen, context.source, token, line));
+        let name = name_of(context.alloc, context.source, token)?;
         seen.insert(name, line)?;
     }
     Ok(least)
 }
 
-// The fault of the labels of a line at its least line, where one is found at the first of these; want of memory stays what it is.
-fn least_of_labels(
-    setting: &Setting,
+// A label of this line clashes: returns the clash at the earliest line. `OutOfMemory` passes
+// through.
+fn earliest_clash(
+    context: &Context,
     seen: &mut NameTable<u64>,
     found: ExpandFault,
     labels: &[Token],
     line: u64,
 ) -> Result<ExpandFault, AllocError>
-    requires { All (LiesIn setting.now.source.now) labels.now }
+    requires { All (LiesIn context.now.source.now) labels.now }
     ensures { IfOk result (λ f. found.kind ≡ OutOfMemory → f.kind ≡ OutOfMemory) }
 {
     if found.kind == ExpandKind::OutOfMemory {
         return Ok(found);
     }
-    match least_line(setting, seen, labels, line)? {
+    match least_line(context, seen, labels, line)? {
         Some(least) => Ok(fault(least, ExpandKind::DuplicateName)),
         None => Ok(found),
     }
 }
 
-// Takes up the labels of a line.
-fn check_line(setting: &Setting, seen: &mut NameTable<u64>, line: &Line) -> Result<(), ExpandFault>
-    requires { LineLies setting.now.source.now line.now }
-    ensures { Freshens (is_new_label_by setting.now) (names_in seen.old) result (map (name_of setting.now.source.now) line.now.labels) (names_in seen.new) }
+// Adds the labels of a line to those seen.
+fn check_line(context: &Context, seen: &mut NameTable<u64>, line: &Line) -> Result<(), ExpandFault>
+    requires { LineLies context.now.source.now line.now }
+    ensures { Freshens (is_new_label_by context.now) (names_in seen.old) result (map (name_of context.now.source.now) line.now.labels) (names_in seen.new) }
 {
     let mut rest = line.labels.as_slice();
     while let Some((token, after)) = rest.split_first() {
-        match check_label(setting, seen, token, line.number) {
+        match check_label(context, seen, token, line.number) {
             Ok(()) => {}
-            Err(found) => return Err(least_of_labels(setting, seen, found, rest, line.number)?),
+            Err(found) => return Err(earliest_clash(context, seen, found, rest, line.number)?),
         }
         rest = after;
     }
     Ok(())
 }
 
-// The line of the expansion for an unrolled line, whose labels are taken up.
-fn take_line(setting: &Setting, seen: &mut NameTable<u64>, head: &Head) -> Result<Line, ExpandFault>
-    requires setting { IsSetting setting.now }
-    requires head { HeadLies setting.now.source.now head.now }
-    ensures line { Takes (is_new_label_by setting.now) setting.now.source.now (names_in seen.old) result (line_of setting.now.source.now setting.now.equs.now head.now) (names_in seen.new) }
-    ensures inside { IfOk result (LineLies setting.now.source.now) }
+// Makes the line of the expansion for an unrolled line, and adds its labels to those seen.
+fn take_line(context: &Context, seen: &mut NameTable<u64>, head: &Head) -> Result<Line, ExpandFault>
+    requires context { IsContext context.now }
+    requires head { HeadLies context.now.source.now head.now }
+    ensures line { Takes (is_new_label_by context.now) context.now.source.now (names_in seen.old) result (line_of context.now.source.now context.now.equs.now head.now) (names_in seen.new) }
+    ensures inside { IfOk result (LineLies context.now.source.now) }
 {
-    let line = line_of(setting, head)?;
-    check_line(setting, seen, &line)?;
+    let line = line_of(context, head)?;
+    check_line(context, seen, &line)?;
     Ok(line)
 }
 
-// The fault of the labels of an unrolled line.
+// Returns the earliest clash of the labels of an unrolled line.
 fn label_fault(
-    setting: &Setting,
+    context: &Context,
     seen: &mut NameTable<u64>,
     head: &Head,
 ) -> Result<Option<ExpandFault>, AllocError>
-    requires { HeadLies setting.now.source.now head.now }
+    requires { HeadLies context.now.source.now head.now }
 {
-    let (labels, _) = split_labels(setting.alloc, setting.source, head.labels.as_slice())?;
-    match least_line(setting, seen, labels.as_slice(), head.number)? {
+    let (labels, _) = split_labels(context.alloc, context.source, head.labels.as_slice())?;
+    match least_line(context, seen, labels.as_slice(), head.number)? {
         Some(least) => Ok(Some(fault(least, ExpandKind::DuplicateName))),
         None => Ok(None),
     }
 }
 
-// Whether the first fault comes before the second: at an earlier line, or as a name that is taken on the same one.
+// Orders faults by line. On one line a name that is taken comes first.
 fn comes_before(first: &ExpandFault, second: &ExpandFault) -> bool {
     first.line < second.line
         || first.line == second.line
@@ -163,7 +188,7 @@ fn comes_before(first: &ExpandFault, second: &ExpandFault) -> bool {
             && second.kind != ExpandKind::DuplicateName
 }
 
-// That of two faults which comes first.
+// Returns the fault that comes first; `least` on a tie.
 fn first_of(other: ExpandFault, least: ExpandFault) -> ExpandFault {
     if comes_before(&other, &least) {
         other
@@ -172,40 +197,42 @@ fn first_of(other: ExpandFault, least: ExpandFault) -> ExpandFault {
     }
 }
 
-// The first of a fault and those of an unrolled line, of its labels and of its tokens.
+// Returns the first of `least` and the faults of an unrolled line, of its labels and of its tokens.
 fn lesser_fault(
-    setting: &Setting,
+    context: &Context,
     seen: &mut NameTable<u64>,
     head: &Head,
     least: ExpandFault,
 ) -> Result<ExpandFault, AllocError>
-    requires setting { IsSetting setting.now }
-    requires head { HeadLies setting.now.source.now head.now }
+    requires context { IsContext context.now }
+    requires head { HeadLies context.now.source.now head.now }
 {
     if head.word == HeadWord::Equ {
         return Ok(least);
     }
-    let least = match label_fault(setting, seen, head)? {
+    let least = match label_fault(context, seen, head)? {
         Some(other) => first_of(other, least),
         None => least,
     };
-    match line_of(setting, head) {
+    match line_of(context, head) {
         Ok(_) => Ok(least),
         Err(other) => Ok(first_of(other, least)),
     }
 }
 
-// The fault at the least line, where one is found at a line before these; want of memory stays what it is.
+// Returns the fault at the earliest line. A fault was found at `head`, and the lines after it may
+// still clash with a label before it, or come from an earlier line of the source. `OutOfMemory`
+// passes through.
 fn least_fault(
-    setting: &Setting,
+    context: &Context,
     seen: NameTable<u64>,
     found: ExpandFault,
     head: Head,
     rest: VecDeque<Head>,
 ) -> Result<ExpandFault, AllocError>
-    requires setting { IsSetting setting.now }
-    requires head { HeadLies setting.now.source.now head }
-    requires rest { All (HeadLies setting.now.source.now) rest.items }
+    requires context { IsContext context.now }
+    requires head { HeadLies context.now.source.now head }
+    requires rest { All (HeadLies context.now.source.now) rest.items }
     ensures { IfOk result (λ f. found.kind ≡ OutOfMemory → f.kind ≡ OutOfMemory) }
 {
     if found.kind == ExpandKind::OutOfMemory {
@@ -214,33 +241,11 @@ fn least_fault(
     let mut seen = seen;
     let mut least = found;
     if found.kind != ExpandKind::DuplicateName {
-        least = lesser_fault(setting, &mut seen, &head, least)?;
+        least = lesser_fault(context, &mut seen, &head, least)?;
     }
     let mut rest = rest;
     while let Some(head) = rest.pop_front() {
-        least = lesser_fault(setting, &mut seen, &head, least)?;
+        least = lesser_fault(context, &mut seen, &head, least)?;
     }
     Ok(least)
-}
-
-/// The lines of the expansion: EQU lines are dropped and EQU names replaced, and each label is new.
-pub(crate) fn replace_lines(setting: &Setting, heads: Vec<Head>) -> Result<Vec<Line>, ExpandFault>
-    requires setting { IsSetting setting.now }
-    requires heads { All (HeadLies setting.now.source.now) heads.items }
-    ensures lines { GivesItems result (replaced (table setting.now) setting.now.rules.now setting.now.source.now setting.now.equs.now heads.items) }
-    ensures inside { IfOk result (λ v. All (LineLies setting.now.source.now) v.items) }
-{
-    let mut lines = Vec::new(setting.alloc);
-    let mut seen = NameTable::new(setting.alloc);
-    let mut rest = VecDeque::from_vec(heads);
-    while let Some(head) = rest.pop_front() {
-        match head.word {
-            HeadWord::Equ => {}
-            _ => match take_line(setting, &mut seen, &head) {
-                Ok(line) => lines.push(line)?,
-                Err(found) => return Err(least_fault(setting, seen, found, head, rest)?),
-            },
-        }
-    }
-    Ok(lines)
 }

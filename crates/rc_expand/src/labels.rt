@@ -1,4 +1,4 @@
-//! Labels that are one name.
+//! Labels that are a single name.
 ghost use Rattle.std.specs.Prelude.{◌≡◌, [], All, IfOk, IfSome, option_map};
 ghost use Rattle.rc_text.specs.Symbols.{LiesIn, name_of};
 ghost use Rattle.rc_expand.specs.Unroll.{label_token, plain_token};
@@ -7,7 +7,7 @@ use crate::words::{is_colon, is_free, is_unjoined};
 use rc_text::Token;
 use std::alloc::{AllocError, Global};
 
-/// The token of a label that is one name, with or without its colon.
+// Returns the name of a label that is a single name, with or without its colon.
 pub(crate) fn label_token<'a>(source: &[u8], label: &'a [Token]) -> Option<&'a Token>
     requires { All (LiesIn source.now) label.now }
     ensures token { option_map (λ t. t.now) result ≡ label_token source.now label.now }
@@ -28,7 +28,7 @@ pub(crate) fn label_token<'a>(source: &[u8], label: &'a [Token]) -> Option<&'a T
     }
 }
 
-/// The token of a label that is one name, written without `&`.
+// Returns the name of a label that is a single name written without `&`.
 pub(crate) fn plain_token<'a>(source: &[u8], label: &'a [Token]) -> Option<&'a Token>
     requires { All (LiesIn source.now) label.now }
     ensures token { option_map (λ t. t.now) result ≡ plain_token source.now label.now }
@@ -45,7 +45,7 @@ pub(crate) fn plain_token<'a>(source: &[u8], label: &'a [Token]) -> Option<&'a T
     }
 }
 
-/// The bytes of a name that is written without `&`.
+// Copies the bytes of a name that is written without `&`.
 pub(crate) fn plain_name(alloc: Global, source: &[u8], token: &Token) -> Result<Vec<u8>, AllocError>
     requires inside { LiesIn source.now token.now }
     requires written { token.now.joined ≡ [] }

@@ -1,25 +1,25 @@
-//! The expansion of Redcode: EQU names, FOR blocks and joined names give way to plain lines.
+//! Expansion of Redcode: EQU names, FOR blocks and joined names are replaced by plain lines.
 #![tactic(auto)]
 
 mod blocks;
-pub mod constants;
+mod constants;
+mod context;
 mod copy;
 mod equs;
-pub mod expander;
-pub mod fault;
+mod expander;
+mod fault;
 mod finish;
 mod head;
 mod labelling;
 mod labels;
 pub mod laws;
-pub mod line;
+mod line;
 mod links;
-pub mod names;
+mod names;
 mod opening;
 mod read;
 mod replace;
-mod setting;
-pub mod table;
+mod table;
 mod unroll;
 mod words;
 

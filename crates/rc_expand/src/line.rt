@@ -20,21 +20,19 @@ impl Model for Tokens {
 }
 
 impl Tokens {
-    /// The tokens of a vector.
     pub(crate) fn from_vec(items: Vec<Token>) -> Self
         ensures { result ≡ items.items }
     {
         Tokens { items }
     }
 
-    /// The vector of the tokens.
     pub(crate) fn into_vec(self) -> Vec<Token>
         ensures { result.items ≡ self }
     {
         self.items
     }
 
-    /// The tokens.
+    /// Returns the tokens.
     pub fn as_slice(&self) -> &[Token]
         ensures { result.now ≡ self.now }
     {
@@ -42,12 +40,12 @@ impl Tokens {
     }
 }
 
-/// What a line of an expansion is.
+/// The kind of a line of an expansion.
 #[derive(Clone, Copy, Debug, PartialEq, Eq)]
 pub enum LineWord {
     /// Labels alone.
     Bare,
-    /// An instruction, or what will be refused as one.
+    /// An instruction, or something that the assembler will refuse as one.
     Code,
     /// ORG.
     Org,
@@ -60,13 +58,13 @@ pub enum LineWord {
 /// A line of an expansion.
 #[derive(Debug, Drop)]
 pub struct Line {
-    /// The line in the source, from 1; for a line of a copy the line that was copied.
+    /// The line in the source, from 1. A copy has the number of the line that was copied.
     pub number: u64,
-    /// The labels before the line's word, each one name, joined counters included.
+    /// The labels of the line, each a single name, joined counters included.
     pub labels: Tokens,
-    /// What the line is.
+    /// The kind of the line.
     pub word: LineWord,
-    /// What follows the labels, or the word ORG, END or `;assert`, without the line end.
+    /// What comes after the labels, or after ORG, END or `;assert`, without the line end.
     pub tokens: Tokens,
 }
 
@@ -86,14 +84,13 @@ impl Model for Lines {
 }
 
 impl Lines {
-    /// The lines of a vector.
     pub(crate) fn from_vec(lines: Vec<Line>) -> Self
         ensures { result ≡ lines.items }
     {
         Lines { lines }
     }
 
-    /// The lines.
+    /// Returns the lines.
     pub fn as_slice(&self) -> &[Line]
         ensures { result.now ≡ self.now }
     {
@@ -101,7 +98,7 @@ impl Lines {
     }
 }
 
-/// What a text expands to.
+/// The result of an expansion.
 #[derive(Debug, Drop)]
 pub struct Expanded {
     /// The lines, in order.

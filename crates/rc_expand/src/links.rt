@@ -1,4 +1,5 @@
-//! Which EQU names the tokens of EQU names are.
+//! For each EQU body: which of its tokens are EQU names themselves. Looked up once, since a name
+//! may be as long as the text.
 ghost use Rattle.std.specs.Prelude.{◌≡◌, ◌≤◌, true, length, All, IfOk, IfSome, option_map, map};
 ghost use Rattle.rc_text.specs.Symbols.{LiesIn};
 ghost use Rattle.rc_expand.specs.Replace.{EqusLie, equ_at};
@@ -7,12 +8,12 @@ ghost use Rattle.rc_expand.specs.NameTables.{at_place, ArePlaces, AreLinks};
 
 use crate::replace::Equ;
 use crate::table::NameTable;
-use crate::words::is_name;
+use crate::words::is_name_token;
 use rc_text::Token;
 use std::alloc::{AllocError, Global};
 use std::marker::Model;
 
-/// For each token of a list the place of the EQU name that it is, if it is one.
+// For each token of a list its index in the table of EQU names, or `None`.
 #[derive(Drop)]
 pub(crate) struct Links {
     places: Vec<Option<usize>>,
@@ -27,7 +28,6 @@ impl Model for Links {
 }
 
 impl Links {
-    /// The places.
     pub(crate) fn as_slice(&self) -> &[Option<usize>]
         ensures { result.now ≡ self.now }
     {
@@ -35,35 +35,8 @@ impl Links {
     }
 }
 
-// The place of the EQU name that a token is, if it is one.
-fn equ_place(source: &[u8], token: &Token, equs: &NameTable<Equ>) -> Option<usize>
-    requires { LiesIn source.now token.now }
-    ensures { at_place equs.now result ≡ equ_at source.now equs.now token.now }
-{
-    if is_name(token) {
-        equs.place(source, token)
-    } else {
-        None
-    }
-}
-
-// Whether no token is an EQU name.
-fn are_settled(source: &[u8], tokens: &[Token], equs: &NameTable<Equ>) -> bool
-    requires { All (LiesIn source.now) tokens.now }
-    ensures { result ≡ true → are_settled source.now equs.now tokens.now ≡ true }
-{
-    let mut rest = tokens;
-    while let Some((token, after)) = rest.split_first() {
-        if equ_place(source, token, equs).is_some() {
-            return false;
-        }
-        rest = after;
-    }
-    true
-}
-
-/// Whether tokens stay as they are when their EQU names are replaced: there is none, and they are not too many.
-pub(crate) fn stay(source: &[u8], tokens: &[Token], equs: &NameTable<Equ>) -> bool
+// Checks that no token is an EQU name and that there are at most 4096.
+pub(crate) fn needs_no_replacement(source: &[u8], tokens: &[Token], equs: &NameTable<Equ>) -> bool
     requires { All (LiesIn source.now) tokens.now }
     ensures settled { result ≡ true → are_settled source.now equs.now tokens.now ≡ true }
     ensures few { result ≡ true → length tokens.now ≤ 4096 }
@@ -71,7 +44,7 @@ pub(crate) fn stay(source: &[u8], tokens: &[Token], equs: &NameTable<Equ>) -> bo
     tokens.len() <= 4096 && are_settled(source, tokens, equs)
 }
 
-/// The places of the EQU names that tokens are.
+// Looks up each of `tokens` in the table of EQU names.
 pub(crate) fn link_tokens(
     alloc: Global,
     source: &[u8],
@@ -88,7 +61,7 @@ pub(crate) fn link_tokens(
     Ok(Links { places })
 }
 
-/// The places of the EQU names that the tokens of EQU names are.
+// Looks up the tokens of every EQU body.
 pub(crate) fn link_equs(
     alloc: Global,
     source: &[u8],
@@ -104,4 +77,31 @@ pub(crate) fn link_equs(
         place += 1;
     }
     Ok(links)
+}
+
+// Returns the index of the EQU name that a token is.
+fn equ_place(source: &[u8], token: &Token, equs: &NameTable<Equ>) -> Option<usize>
+    requires { LiesIn source.now token.now }
+    ensures { at_place equs.now result ≡ equ_at source.now equs.now token.now }
+{
+    if is_name_token(token) {
+        equs.place(source, token)
+    } else {
+        None
+    }
+}
+
+// Checks that no token is an EQU name.
+fn are_settled(source: &[u8], tokens: &[Token], equs: &NameTable<Equ>) -> bool
+    requires { All (LiesIn source.now) tokens.now }
+    ensures { result ≡ true → are_settled source.now equs.now tokens.now ≡ true }
+{
+    let mut rest = tokens;
+    while let Some((token, after)) = rest.split_first() {
+        if equ_place(source, token, equs).is_some() {
+            return false;
+        }
+        rest = after;
+    }
+    true
 }

@@ -1,8 +1,8 @@
-//! Names of a text and what they stand for.
+//! The names of a text, with joined counters, and the values given from outside of it.
 ghost use Rattle.std.specs.Prelude.{◌≡◌, ◌≢◌, List, ℕ, ◌++◌, ◌∷◌, map, ◌+◌, ◌<◌, ◌^◌, MatchOption, OnOk, IfOk};
 ghost use Rattle.std.specs.Str.{bytes_eq};
 ghost use Rattle.std.specs.Int.Digits.{digits_of};
-ghost use Rattle.rc_expand.specs.Names.{found, predefined, table_of};
+ghost use Rattle.rc_expand.specs.Names.{entry_of, predefined, table_of};
 ghost use Rattle.rc_expand.specs.Unroll.{is_taken};
 ghost use Rattle.rc_text.specs.Symbols.{LiesIn, name_of, counter_text};
 ghost use Rattle.rc_expand.specs.NameTables.{joined_name};
@@ -12,46 +12,53 @@ use rc_instr::Rules;
 use rc_text::{Names, Token};
 use std::alloc::{AllocError, Global};
 
-// What follows this byte, where it stands first.
-fn after_byte<'a>(byte: u8, bytes: &'a [u8]) -> Option<&'a [u8]>
-    ensures { MatchOption result ((rest : List ℕ) → bytes.now ≢ byte ∷ rest) (λ x. bytes.now ≡ byte ∷ x.now) }
-{
-    match bytes {
-        [first, rest @ ..] => if *first == byte { Some(rest) } else { None },
-        [] => None,
+/// The names given from outside of a text: the constants, and the predefined names but `CURLINE`.
+#[derive(Drop)]
+pub struct GivenNames<'a> {
+    /// The constants.
+    pub constants: &'a Constants<'a>,
+    /// The rules that give the predefined names their values.
+    pub rules: &'a Rules,
+}
+
+impl<'a> Names for GivenNames<'a> {
+    ghost use Rattle.rc_expand.specs.Names.{table_of};
+    ghost use Rattle.rc_expand.specs.Names.{given_names};
+
+    ghost meaning = { λ s. given_names (table_of s.constants.now.names.now s.constants.now.values.now) s.rules.now };
+
+    #[tactic(auto, unfolding(crate::specs::Names::given_names))]
+    fn value(&self, source: &[u8], name: &Token) -> Option<i64> {
+        match constant_value(self.constants, source, name) {
+            Some(value) => Some(value),
+            None => predefined_value(self.rules, source, name),
+        }
     }
 }
 
-// What follows the decimal digits of a number, where they stand first; 0 has none.
-fn after_digits<'a>(value: u16, bytes: &'a [u8]) -> Option<&'a [u8]>
-    ensures { MatchOption result ((rest : List ℕ) → bytes.now ≢ map (λ d. 48 + d) (digits_of 10 value) ++ rest) (λ x. bytes.now ≡ map (λ d. 48 + d) (digits_of 10 value) ++ x.now) }
+/// Compares the name of a token, joined counters included, with `name`. The token's span must lie
+/// in `source`.
+pub fn spells(source: &[u8], token: &Token, name: &[u8]) -> bool
+    requires { LiesIn source.now token.now }
+    ensures { result ≡ bytes_eq (name_of source.now token.now) name.now }
 {
-    if value == 0 {
-        return Some(bytes);
+    is_joined_name(&source[token.lo..token.hi], token.joined.as_slice(), name)
+}
+
+/// Returns the bytes of a token's name, joined counters included. The token's span must lie in
+/// `source`. Fails only if out of memory.
+pub fn name_of(alloc: Global, source: &[u8], token: &Token) -> Result<Vec<u8>, AllocError>
+    requires { LiesIn source.now token.now }
+    ensures { IfOk result (λ name. name.items ≡ name_of source.now token.now) }
+{
+    let mut name = source[token.lo..token.hi].to_vec(alloc)?;
+    for counter in token.joined.as_slice() {
+        push_counter(&mut name, *counter)?;
     }
-    let rest = after_digits(value / 10, bytes)?;
-    after_byte(b'0' + (value % 10) as u8, rest)
+    Ok(name)
 }
 
-// What follows a counter as it is joined to a name, where it stands first.
-fn after_counter<'a>(counter: u16, bytes: &'a [u8]) -> Option<&'a [u8]>
-    ensures { MatchOption result ((rest : List ℕ) → bytes.now ≢ counter_text counter ++ rest) (λ x. bytes.now ≡ counter_text counter ++ x.now) }
-{
-    if counter < 10 {
-        let rest = after_byte(b'0', bytes)?;
-        return after_byte(b'0' + counter as u8, rest);
-    }
-    after_digits(counter, bytes)
-}
-
-// What follows these bytes, where they stand first.
-fn after_bytes<'a>(front: &[u8], bytes: &'a [u8]) -> Option<&'a [u8]>
-    ensures { MatchOption result ((rest : List ℕ) → bytes.now ≢ front.now ++ rest) (λ x. bytes.now ≡ front.now ++ x.now) }
-{
-    bytes.strip_prefix(front)
-}
-
-/// Whether the bytes with the counters joined to them are this name.
+// Compares `name` with `bytes` and the counters joined to them, without building the joined name.
 pub(crate) fn is_joined_name(bytes: &[u8], counters: &[u16], name: &[u8]) -> bool
     ensures { result ≡ bytes_eq (joined_name bytes.now counters.now) name.now }
 {
@@ -68,19 +75,59 @@ pub(crate) fn is_joined_name(bytes: &[u8], counters: &[u16], name: &[u8]) -> boo
     rest.is_empty()
 }
 
-/// Whether the name of a token, with the counters joined to it, is this one. The token's span has to lie in the source.
-pub fn spells(source: &[u8], token: &Token, name: &[u8]) -> bool
+// Checks for a constant or a predefined name, CURLINE included.
+#[tactic(auto, unfolding(crate::specs::Unroll::is_taken))]
+pub(crate) fn is_taken(names: &GivenNames, source: &[u8], token: &Token) -> bool
     requires { LiesIn source.now token.now }
-    ensures { result ≡ bytes_eq (name_of source.now token.now) name.now }
+    ensures { result ≡ is_taken (table_of names.now.constants.now.names.now names.now.constants.now.values.now) names.now.rules.now (name_of source.now token.now) }
 {
-    is_joined_name(&source[token.lo..token.hi], token.joined.as_slice(), name)
+    names.value(source, token).is_some() || spells(source, token, b"CURLINE")
 }
 
-// The value of a constant.
+// Strips a leading `byte`.
+fn after_byte<'a>(byte: u8, bytes: &'a [u8]) -> Option<&'a [u8]>
+    ensures { MatchOption result ((rest : List ℕ) → bytes.now ≢ byte ∷ rest) (λ x. bytes.now ≡ byte ∷ x.now) }
+{
+    match bytes {
+        [first, rest @ ..] => if *first == byte { Some(rest) } else { None },
+        [] => None,
+    }
+}
+
+// Strips the leading decimal digits of `value`. 0 has no digits here.
+fn after_digits<'a>(value: u16, bytes: &'a [u8]) -> Option<&'a [u8]>
+    ensures { MatchOption result ((rest : List ℕ) → bytes.now ≢ map (λ d. 48 + d) (digits_of 10 value) ++ rest) (λ x. bytes.now ≡ map (λ d. 48 + d) (digits_of 10 value) ++ x.now) }
+{
+    if value == 0 {
+        return Some(bytes);
+    }
+    let rest = after_digits(value / 10, bytes)?;
+    after_byte(b'0' + (value % 10) as u8, rest)
+}
+
+// Strips a leading counter, as it is joined to a name.
+fn after_counter<'a>(counter: u16, bytes: &'a [u8]) -> Option<&'a [u8]>
+    ensures { MatchOption result ((rest : List ℕ) → bytes.now ≢ counter_text counter ++ rest) (λ x. bytes.now ≡ counter_text counter ++ x.now) }
+{
+    if counter < 10 {
+        let rest = after_byte(b'0', bytes)?;
+        return after_byte(b'0' + counter as u8, rest);
+    }
+    after_digits(counter, bytes)
+}
+
+// Strips a prefix.
+fn after_bytes<'a>(front: &[u8], bytes: &'a [u8]) -> Option<&'a [u8]>
+    ensures { MatchOption result ((rest : List ℕ) → bytes.now ≢ front.now ++ rest) (λ x. bytes.now ≡ front.now ++ x.now) }
+{
+    bytes.strip_prefix(front)
+}
+
+// Looks up a constant.
 #[tactic(auto, using(crate::proofs::TableSteps::found_ends, crate::proofs::TableSteps::found_passed))]
 fn constant_value(constants: &Constants, source: &[u8], token: &Token) -> Option<i64>
     requires { LiesIn source.now token.now }
-    ensures { result ≡ found (table_of constants.now.names.now constants.now.values.now) (name_of source.now token.now) }
+    ensures { result ≡ entry_of (table_of constants.now.names.now constants.now.values.now) (name_of source.now token.now) }
 {
     for i in 0..constants.names.len() {
         if i >= constants.values.len() {
@@ -93,10 +140,10 @@ fn constant_value(constants: &Constants, source: &[u8], token: &Token) -> Option
     None
 }
 
-// The value of a predefined name.
+// Looks up a predefined name. CURLINE has no value before lines are counted.
 fn predefined_value(rules: &Rules, source: &[u8], token: &Token) -> Option<i64>
     requires { LiesIn source.now token.now }
-    ensures { result ≡ found (predefined rules.now) (name_of source.now token.now) }
+    ensures { result ≡ entry_of (predefined rules.now) (name_of source.now token.now) }
 {
     if spells(source, token, b"CORESIZE") {
         return Some(i64::from(rules.core()));
@@ -122,41 +169,8 @@ fn predefined_value(rules: &Rules, source: &[u8], token: &Token) -> Option<i64>
     None
 }
 
-/// The names that are given from outside of a text: constants, and the predefined names but `CURLINE`.
-#[derive(Drop)]
-pub struct GivenNames<'a> {
-    /// The constants.
-    pub constants: &'a Constants<'a>,
-    /// The rules for which the predefined names stand.
-    pub rules: &'a Rules,
-}
-
-impl<'a> Names for GivenNames<'a> {
-    ghost use Rattle.rc_expand.specs.Names.{table_of};
-    ghost use Rattle.rc_expand.specs.Names.{given_names};
-
-    ghost meaning = { λ s. given_names (table_of s.constants.now.names.now s.constants.now.values.now) s.rules.now };
-
-    #[tactic(auto, unfolding(crate::specs::Names::given_names))]
-    fn value(&self, source: &[u8], name: &Token) -> Option<i64> {
-        match constant_value(self.constants, source, name) {
-            Some(value) => Some(value),
-            None => predefined_value(self.rules, source, name),
-        }
-    }
-}
-
-/// Whether a name is a constant or a predefined name.
-#[tactic(auto, unfolding(crate::specs::Unroll::is_taken))]
-pub(crate) fn is_taken(names: &GivenNames, source: &[u8], token: &Token) -> bool
-    requires { LiesIn source.now token.now }
-    ensures { result ≡ is_taken (table_of names.now.constants.now.names.now names.now.constants.now.values.now) names.now.rules.now (name_of source.now token.now) }
-{
-    names.value(source, token).is_some() || spells(source, token, b"CURLINE")
-}
-
-// Appends the decimal digits of a number; 0 has none.
-#[tactic(auto, using(crate::proofs::NameSteps::digits_behind))]
+// Appends the decimal digits of `number`. 0 has no digits here.
+#[tactic(auto, using(crate::proofs::NameSteps::digits_after))]
 fn push_digits(text: &mut Vec<u8>, number: u16) -> Result<(), AllocError>
     ensures { OnOk result (text.new.items ≡ text.old.items ++ map (λ d. 48 + d) (digits_of 10 number)) }
 {
@@ -168,7 +182,7 @@ fn push_digits(text: &mut Vec<u8>, number: u16) -> Result<(), AllocError>
     Ok(())
 }
 
-// Appends a counter as it is joined to a name.
+// Appends a counter, as it is joined to a name: in decimal, with at least two digits.
 fn push_counter(text: &mut Vec<u8>, counter: u16) -> Result<(), AllocError>
     ensures { OnOk result (text.new.items ≡ text.old.items ++ counter_text counter) }
 {
@@ -178,17 +192,4 @@ fn push_counter(text: &mut Vec<u8>, counter: u16) -> Result<(), AllocError>
         return Ok(());
     }
     push_digits(text, counter)
-}
-
-/// The bytes of a token's name, with the counters joined to it. The token's span has to lie in the source. Refused only where
-/// memory was.
-pub fn name_of(alloc: Global, source: &[u8], token: &Token) -> Result<Vec<u8>, AllocError>
-    requires { LiesIn source.now token.now }
-    ensures { IfOk result (λ name. name.items ≡ name_of source.now token.now) }
-{
-    let mut name = source[token.lo..token.hi].to_vec(alloc)?;
-    for counter in token.joined.as_slice() {
-        push_counter(&mut name, *counter)?;
-    }
-    Ok(name)
 }

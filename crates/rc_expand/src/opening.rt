@@ -1,10 +1,11 @@
-//! What a FOR block begins with.
+//! The beginning of a FOR block: its counter, the labels before it, and its count.
 ghost use Rattle.std.specs.Prelude.{◌≡◌, [], true, false, Some, None, All, IfOk, IfSome, MatchResult, option_map};
 ghost use Rattle.rc_text.specs.Symbols.{LiesIn, name_of};
 ghost use Rattle.rc_expand.specs.Lines.{HeadLies};
 ghost use Rattle.rc_expand.specs.Unroll.{Gives, counter_token, small_count, earlier_of, is_bare_rof, IsReplaceFault};
-ghost use Rattle.rc_expand.specs.Setting.{IsSetting, opening_by, count_by, is_new_by};
+ghost use Rattle.rc_expand.specs.Context.{IsContext, opening_by, count_by, is_new_by};
 
+use crate::context::{Context, clash_with_given};
 use crate::copy::clone_labels;
 use crate::fault::{ExpandFault, ExpandKind, fault};
 use crate::head::{Head, Labels, Name, Opening};
@@ -12,11 +13,54 @@ use crate::labels::{plain_name, plain_token};
 use crate::line::Tokens;
 use crate::names::GivenNames;
 use crate::replace::{ReplaceFault, replace_tokens};
-use crate::setting::{Setting, known_line};
 use rc_text::{Kind, Token, eval};
 use std::alloc::{AllocError, Global};
 
-// Why a label before FOR is no counter: where it became a number, it is the counter of an enclosing block.
+// Gives the fault of a replacement its line.
+pub(crate) fn replace_fault(line: u64, cause: ReplaceFault) -> ExpandFault
+    ensures { IsReplaceFault cause result.kind }
+{
+    let kind = match cause {
+        ReplaceFault::TooDeep => ExpandKind::EquTooDeep,
+        ReplaceFault::TooMany => ExpandKind::TooManyTokens,
+        ReplaceFault::OutOfMemory => ExpandKind::OutOfMemory,
+    };
+    ExpandFault { line, kind }
+}
+
+// Reads the FOR and the ROF of a block. A spoiled FOR is reported first, then a ROF with something
+// beside it, then the counter and the count.
+pub(crate) fn begin_block(
+    context: &Context,
+    first: &Head,
+    rof: &Head,
+) -> Result<Opening, ExpandFault>
+    requires context { IsContext context.now }
+    requires first { HeadLies context.now.source.now first.now }
+    requires rof { HeadLies context.now.source.now rof.now }
+    ensures opening { Gives result (opening_by context.now first.now rof.now) }
+    ensures inside { IfOk result (λ o. All (All (LiesIn context.now.source.now)) o.earlier) }
+{
+    if first.spoiled {
+        return Err(fault(first.number, ExpandKind::BadDirective));
+    }
+    if !is_bare_rof(rof) {
+        return Err(fault(rof.number, ExpandKind::BadDirective));
+    }
+    let token = counter_token(context.source, first)?;
+    check_counter(context, token, first.number)?;
+    let count = count_of(context, first)?;
+    let counter = counter_name(context, token)?;
+    let earlier = earlier_labels(context.alloc, context.source, first.labels.as_slice())?;
+    Ok(Opening {
+        counter,
+        earlier,
+        count,
+    })
+}
+
+// Returns why the label before FOR cannot be its counter. If copying made it a number, it is the
+// counter of an enclosing block.
 fn counter_fault(line: u64, label: &[Token]) -> ExpandFault {
     match label {
         [token, ..] => match token.kind {
@@ -27,7 +71,7 @@ fn counter_fault(line: u64, label: &[Token]) -> ExpandFault {
     }
 }
 
-// The last label before FOR, if there is one.
+// Returns the counter, which is the last label before FOR.
 fn counter_token<'a>(source: &[u8], first: &'a Head) -> Result<Option<&'a Token>, ExpandFault>
     requires { HeadLies source.now first.now }
     ensures token { MatchResult result (λ o. counter_token source.now first.now.labels ≡ Some (option_map (λ t. t.now) o)) (λ e. counter_token source.now first.now.labels ≡ None) }
@@ -45,19 +89,7 @@ fn counter_token<'a>(source: &[u8], first: &'a Head) -> Result<Option<&'a Token>
     }
 }
 
-/// The fault of a line whose EQU names can not be replaced.
-pub(crate) fn replace_fault(line: u64, cause: ReplaceFault) -> ExpandFault
-    ensures { IsReplaceFault cause result.kind }
-{
-    let kind = match cause {
-        ReplaceFault::TooDeep => ExpandKind::EquTooDeep,
-        ReplaceFault::TooMany => ExpandKind::TooManyTokens,
-        ReplaceFault::OutOfMemory => ExpandKind::OutOfMemory,
-    };
-    ExpandFault { line, kind }
-}
-
-// The count that a value stands for.
+// Converts the value of a count. One below 0 makes no copies, and one above 4096 is refused.
 fn small_count(value: i64) -> Option<u16>
     ensures { result ≡ small_count value }
 {
@@ -71,28 +103,28 @@ fn small_count(value: i64) -> Option<u16>
     }
 }
 
-// The count of a block.
+// Evaluates the count of a block, after replacing its EQU names.
 #[tactic(auto, unfolding(crate::specs::Unroll::count_of))]
-fn count_of(setting: &Setting, first: &Head) -> Result<u16, ExpandFault>
-    requires setting { IsSetting setting.now }
-    requires first { HeadLies setting.now.source.now first.now }
-    ensures { Gives result (count_by setting.now first.now.rest) }
+fn count_of(context: &Context, first: &Head) -> Result<u16, ExpandFault>
+    requires context { IsContext context.now }
+    requires first { HeadLies context.now.source.now first.now }
+    ensures { Gives result (count_by context.now first.now.rest) }
 {
     let tokens = match replace_tokens(
-        setting.alloc,
-        setting.source,
+        context.alloc,
+        context.source,
         first.rest.as_slice(),
-        setting.equs,
-        setting.links,
+        context.equs,
+        context.links,
     ) {
         Ok(tokens) => tokens,
         Err(cause) => return Err(replace_fault(first.number, cause)),
     };
     let names = GivenNames {
-        constants: setting.constants,
-        rules: setting.rules,
+        constants: context.constants,
+        rules: context.rules,
     };
-    match eval(setting.source, tokens.as_slice(), &names) {
+    match eval(context.source, tokens.as_slice(), &names) {
         Ok(value) => match small_count(value) {
             Some(count) => Ok(count),
             None => Err(fault(first.number, ExpandKind::CountRefused)),
@@ -101,7 +133,7 @@ fn count_of(setting: &Setting, first: &Head) -> Result<u16, ExpandFault>
     }
 }
 
-// Whether nothing stands before ROF or behind it.
+// Checks that ROF has nothing before or after it on its line.
 fn is_bare_rof(rof: &Head) -> bool
     ensures { result ≡ is_bare_rof rof.now }
 {
@@ -117,22 +149,22 @@ fn is_bare_rof(rof: &Head) -> bool
     }
 }
 
-// The bytes of a counter.
-fn counter_name(setting: &Setting, counter: Option<&Token>) -> Result<Option<Name>, AllocError>
-    requires inside { IfSome counter (λ t. LiesIn setting.now.source.now t.now) }
+// Copies the name of a counter.
+fn counter_name(context: &Context, counter: Option<&Token>) -> Result<Option<Name>, AllocError>
+    requires inside { IfSome counter (λ t. LiesIn context.now.source.now t.now) }
     requires written { IfSome counter (λ t. t.now.joined ≡ []) }
-    ensures { IfOk result (λ o. o ≡ option_map (λ t. name_of setting.now.source.now t.now) counter.entry) }
+    ensures { IfOk result (λ o. o ≡ option_map (λ t. name_of context.now.source.now t.now) counter.entry) }
 {
     match counter {
         None => Ok(None),
         Some(token) => {
-            let bytes = plain_name(setting.alloc, setting.source, token)?;
+            let bytes = plain_name(context.alloc, context.source, token)?;
             Ok(Some(Name::from_vec(bytes)))
         }
     }
 }
 
-// All labels but the last.
+// Copies all labels but the last.
 fn earlier_labels(alloc: Global, source: &[u8], labels: &[Tokens]) -> Result<Labels, AllocError>
     requires { All (All (LiesIn source.now)) labels.now }
     ensures earlier { IfOk result (λ l. l ≡ earlier_of labels.now) }
@@ -144,47 +176,17 @@ fn earlier_labels(alloc: Global, source: &[u8], labels: &[Tokens]) -> Result<Lab
     clone_labels(alloc, &labels[..labels.len() - 1])
 }
 
-// Refuses a counter that is known.
-fn check_counter(setting: &Setting, counter: Option<&Token>, line: u64) -> Result<(), ExpandFault>
-    requires setting { IsSetting setting.now }
-    requires inside { IfSome counter (λ t. LiesIn setting.now.source.now t.now) }
-    ensures { MatchResult result (λ u. is_new_by setting.now (option_map (λ t. t.now) counter.entry) ≡ true) (λ e. is_new_by setting.now (option_map (λ t. t.now) counter.entry) ≡ false) }
+// Refuses a counter that is a constant, a predefined name or an EQU name.
+fn check_counter(context: &Context, counter: Option<&Token>, line: u64) -> Result<(), ExpandFault>
+    requires context { IsContext context.now }
+    requires inside { IfSome counter (λ t. LiesIn context.now.source.now t.now) }
+    ensures { MatchResult result (λ u. is_new_by context.now (option_map (λ t. t.now) counter.entry) ≡ true) (λ e. is_new_by context.now (option_map (λ t. t.now) counter.entry) ≡ false) }
 {
     match counter {
         None => Ok(()),
-        Some(token) => match known_line(setting, token, line) {
+        Some(token) => match clash_with_given(context, token, line) {
             Some(later) => Err(fault(later, ExpandKind::DuplicateName)),
             None => Ok(()),
         },
     }
-}
-
-/// What the FOR and the ROF of a block say.
-pub(crate) fn begin_block(
-    setting: &Setting,
-    first: &Head,
-    rof: &Head,
-) -> Result<Opening, ExpandFault>
-    requires setting { IsSetting setting.now }
-    requires first { HeadLies setting.now.source.now first.now }
-    requires rof { HeadLies setting.now.source.now rof.now }
-    ensures opening { Gives result (opening_by setting.now first.now rof.now) }
-    ensures inside { IfOk result (λ o. All (All (LiesIn setting.now.source.now)) o.earlier) }
-{
-    if first.spoiled {
-        return Err(fault(first.number, ExpandKind::BadDirective));
-    }
-    if !is_bare_rof(rof) {
-        return Err(fault(rof.number, ExpandKind::BadDirective));
-    }
-    let token = counter_token(setting.source, first)?;
-    check_counter(setting, token, first.number)?;
-    let count = count_of(setting, first)?;
-    let counter = counter_name(setting, token)?;
-    let earlier = earlier_labels(setting.alloc, setting.source, first.labels.as_slice())?;
-    Ok(Opening {
-        counter,
-        earlier,
-        count,
-    })
 }

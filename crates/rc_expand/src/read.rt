@@ -15,7 +15,31 @@ use crate::words::{clone_token, is_ampersand, is_colon, is_free, word_of};
 use rc_text::{Kind, Lexer, Token};
 use std::alloc::{AllocError, Global};
 
-// Whether the two are `&` and a name.
+// Reads the lines of a text, up to the first with END.
+#[tactic(auto, unfolding(crate::specs::Lines::lines_read))]
+pub(crate) fn read_lines(alloc: Global, source: &[u8]) -> Result<Vec<Head>, ExpandFault>
+    ensures lines { GivesItems result (lines_read source.now (tokens_of source.now)) }
+    ensures text { IfErr result (λ f. f.kind ≢ OutOfMemory → IsTextFault source.now f) }
+    ensures inside { IfOk result (λ v. All (HeadLies source.now) v.items) }
+{
+    let mut lexer = Lexer::new(source);
+    let mut heads = Vec::new(alloc);
+    let mut line = Vec::new(alloc);
+    while let Some(token) = next_token(&mut lexer)? {
+        if is_line_end(&token) {
+            if push_line(alloc, source, &mut heads, &line)? {
+                return Ok(heads);
+            }
+            line.clear();
+        } else {
+            line.push(token)?;
+        }
+    }
+    push_line(alloc, source, &mut heads, &line)?;
+    Ok(heads)
+}
+
+// Checks for `&` and a name.
 fn is_link(source: &[u8], sign: &Token, name: &Token) -> bool
     requires { LiesIn source.now name.now }
     ensures { result ≡ (is_ampersand sign.now && is_free source.now name.now) }
@@ -23,7 +47,7 @@ fn is_link(source: &[u8], sign: &Token, name: &Token) -> bool
     is_ampersand(sign) && is_free(source, name)
 }
 
-// Whether a label goes on with `&` and a name at this place.
+// Checks whether a label goes on at index `at` with `&` and a name.
 #[tactic(auto, using(crate::proofs::HeadSteps::goes_on_at, crate::proofs::HeadSteps::goes_on_short))]
 fn goes_on(source: &[u8], tokens: &[Token], at: usize) -> bool
     requires inside { All (LiesIn source.now) tokens.now }
@@ -38,7 +62,7 @@ fn goes_on(source: &[u8], tokens: &[Token], at: usize) -> bool
     }
 }
 
-// Where a label ends whose first name stands before this place.
+// Returns the index after a label. Its first name is the token before `from`.
 #[tactic(auto, using(crate::proofs::HeadSteps::tail_more, crate::proofs::HeadSteps::tail_colon, crate::proofs::HeadSteps::tail_none, crate::proofs::HeadSteps::tail_end))]
 fn label_end(source: &[u8], tokens: &[Token], from: usize) -> usize
     requires inside { All (LiesIn source.now) tokens.now }
@@ -57,7 +81,7 @@ fn label_end(source: &[u8], tokens: &[Token], from: usize) -> usize
     end
 }
 
-// Whether a label begins at this place.
+// Checks whether a label begins at index `at`.
 #[tactic(auto, using(crate::proofs::HeadSteps::begins_at, crate::proofs::HeadSteps::begins_none))]
 fn begins_label(source: &[u8], tokens: &[Token], at: usize) -> bool
     requires { All (LiesIn source.now) tokens.now }
@@ -71,7 +95,7 @@ fn begins_label(source: &[u8], tokens: &[Token], at: usize) -> bool
     }
 }
 
-// The labels of a line, and where they end.
+// Reads the labels of a line. Returns them and the index after them.
 fn read_labels(
     alloc: Global,
     source: &[u8],
@@ -93,7 +117,7 @@ fn read_labels(
     Ok((Labels::from_vec(labels), at))
 }
 
-// The line of these tokens.
+// Reads a line from its tokens.
 #[tactic(auto, unfolding(crate::specs::Lines::head_of))]
 fn read_head(
     alloc: Global,
@@ -140,7 +164,7 @@ fn read_head(
     })
 }
 
-// Appends the line of these tokens, if there are any, and says whether it is END.
+// Appends the line of these tokens, unless there are none, and returns whether it has END.
 fn push_line(
     alloc: Global,
     source: &[u8],
@@ -165,7 +189,7 @@ fn push_line(
     Ok(ended)
 }
 
-// The next token of a text without fault.
+// Takes the next token. A fault is reported at the line of the lexer.
 fn next_token(lexer: &mut Lexer) -> Result<Option<Token>, ExpandFault>
     ensures { MatchResult result (λ o. TakesToken lexer.old (Ok o) lexer.new) (λ e. (lexer.old.tokens ≡ []) × (lexer.old.ending ≢ None) × IsEnding lexer.old e) }
 {
@@ -178,7 +202,6 @@ fn next_token(lexer: &mut Lexer) -> Result<Option<Token>, ExpandFault>
     }
 }
 
-// Whether a token is a line end.
 fn is_line_end(token: &Token) -> bool
     ensures { result ≡ is_line_end_kind token.now.kind }
 {
@@ -186,28 +209,4 @@ fn is_line_end(token: &Token) -> bool
         Kind::LineEnd => true,
         _ => false,
     }
-}
-
-/// The lines of a text, up to the first with END.
-#[tactic(auto, unfolding(crate::specs::Lines::lines_read))]
-pub(crate) fn read_lines(alloc: Global, source: &[u8]) -> Result<Vec<Head>, ExpandFault>
-    ensures lines { GivesItems result (lines_read source.now (tokens_of source.now)) }
-    ensures text { IfErr result (λ f. f.kind ≢ OutOfMemory → IsTextFault source.now f) }
-    ensures inside { IfOk result (λ v. All (HeadLies source.now) v.items) }
-{
-    let mut lexer = Lexer::new(source);
-    let mut heads = Vec::new(alloc);
-    let mut line = Vec::new(alloc);
-    while let Some(token) = next_token(&mut lexer)? {
-        if is_line_end(&token) {
-            if push_line(alloc, source, &mut heads, &line)? {
-                return Ok(heads);
-            }
-            line.clear();
-        } else {
-            line.push(token)?;
-        }
-    }
-    push_line(alloc, source, &mut heads, &line)?;
-    Ok(heads)
 }

@@ -1,8 +1,9 @@
-//! EQU names give way to their tokens.
+//! Replacing EQU names by their tokens.
 ghost use Rattle.std.specs.Prelude.{◌≡◌, ℕ, List, [], ◌∷◌, ◌++◌, ◌+◌, ◌≤◌, ◌<◌, length, MatchResult, Some, None, option_map, All, IfSome, IfOk, OnOk, is_some};
 ghost use Rattle.rc_text.specs.Symbols.{LiesIn, name_of};
+ghost use Rattle.rc_expand.specs.Names.{entry_of};
 ghost use Rattle.rc_expand.specs.NameTables.{at_place, ArePlaces, AreLinks};
-ghost use Rattle.rc_expand.specs.Replace.{EqusLie, one, equ_at, equ_of, inner_at, replaced_within, replaced_tokens, Adds, Replaces};
+ghost use Rattle.rc_expand.specs.Replace.{EqusLie, one, equ_at, inner_at, replaced_within, replaced_tokens, Adds, Replaces};
 
 use crate::line::Tokens;
 use crate::links::{Links, link_tokens};
@@ -12,7 +13,7 @@ use rc_text::Token;
 use std::alloc::{AllocError, AllocFailed, Global};
 use std::marker::Model;
 
-/// Why tokens can't be replaced.
+// Why EQU names cannot be replaced.
 #[derive(Clone, Copy, Debug, PartialEq, Eq)]
 pub(crate) enum ReplaceFault {
     TooDeep,
@@ -42,7 +43,7 @@ impl<T: Drop> From<AllocFailed<T>> for ReplaceFault {
     }
 }
 
-/// What an EQU name stands for: its tokens, from a line of the source.
+// The tokens of an EQU name, and the line that defines it.
 #[derive(Debug, Drop)]
 pub(crate) struct Equ {
     tokens: Tokens,
@@ -59,14 +60,12 @@ impl Model for Equ {
 }
 
 impl Equ {
-    /// These tokens, from this line.
     pub(crate) fn new(tokens: Tokens, line: u64) -> Self
         ensures { result ≡ tokens }
     {
         Equ { tokens, line }
     }
 
-    /// The tokens.
     pub(crate) fn tokens(&self) -> &[Token]
         ensures { result.now ≡ self.now }
     {
@@ -74,7 +73,49 @@ impl Equ {
     }
 }
 
-// The tokens of the EQU name at a place, and the places of the EQU names that they are.
+// The tokens so far, and the number of EQU names that were replaced in them.
+#[derive(Drop)]
+pub(crate) struct Replacing {
+    tokens: Vec<Token>,
+    replacements: u32,
+}
+
+// Returns the line that defines the EQU name that a token is.
+pub(crate) fn equ_line(equs: &NameTable<Equ>, source: &[u8], token: &Token) -> Option<u64>
+    requires { LiesIn source.now token.now }
+    ensures { is_some result ≡ is_some (entry_of equs.now (name_of source.now token.now)) }
+{
+    match equs.get(source, token) {
+        Some(equ) => Some(equ.line),
+        None => None,
+    }
+}
+
+// Replaces EQU names, at most 16 deep, with at most 4096 tokens and 4096 replacements.
+#[tactic(auto, unfolding(crate::specs::Replace::replaced_tokens))]
+pub(crate) fn replace_tokens(
+    alloc: Global,
+    source: &[u8],
+    tokens: &[Token],
+    equs: &NameTable<Equ>,
+    links: &[Links],
+) -> Result<Tokens, ReplaceFault>
+    requires inside { All (LiesIn source.now) tokens.now }
+    requires lies { EqusLie source.now equs.now }
+    requires links { AreLinks source.now equs.now links.now }
+    ensures inside { IfOk result (All (LiesIn source.now)) }
+    ensures tokens { Replaces result (replaced_tokens source.now equs.now tokens.now) }
+{
+    let places = link_tokens(alloc, source, tokens, equs)?;
+    let mut out = Replacing {
+        tokens: Vec::with_capacity(alloc, tokens.len())?,
+        replacements: 0,
+    };
+    append_replaced(&mut out, source, tokens, places.as_slice(), equs, links, 16)?;
+    Ok(Tokens::from_vec(out.tokens))
+}
+
+// Returns the tokens of the EQU name at an index of the table, and their links.
 fn body_at<'a>(
     source: &[u8],
     equs: &'a NameTable<Equ>,
@@ -96,28 +137,10 @@ fn body_at<'a>(
     }
 }
 
-/// The line of the EQU name that a token is, if it is one.
-pub(crate) fn equ_line(equs: &NameTable<Equ>, source: &[u8], token: &Token) -> Option<u64>
-    requires { LiesIn source.now token.now }
-    ensures { is_some result ≡ is_some (equ_of equs.now (name_of source.now token.now)) }
-{
-    match equs.get(source, token) {
-        Some(equ) => Some(equ.line),
-        None => None,
-    }
-}
-
-/// The tokens so far, and how many names were replaced in them.
-#[derive(Drop)]
-pub(crate) struct Output {
-    tokens: Vec<Token>,
-    replacements: u32,
-}
-
-// Appends what stands for a token.
+// Appends a token, or the tokens of the EQU name that it is.
 #[cycle(replace)]
 fn append_one(
-    out: &mut Output,
+    out: &mut Replacing,
     source: &[u8],
     token: &Token,
     place: Option<usize>,
@@ -157,10 +180,10 @@ fn append_one(
     }
 }
 
-// Appends the tokens with their EQU names replaced, at most so deep.
+// Appends tokens with their EQU names replaced, at most `levels` deep.
 #[cycle(replace)]
 fn append_replaced(
-    out: &mut Output,
+    out: &mut Replacing,
     source: &[u8],
     tokens: &[Token],
     places: &[Option<usize>],
@@ -182,28 +205,4 @@ fn append_replaced(
         append_one(out, source, &tokens[i], places[i], equs, links, levels)?;
     }
     Ok(())
-}
-
-/// The tokens with their EQU names replaced, at most 16 deep.
-#[tactic(auto, unfolding(crate::specs::Replace::replaced_tokens))]
-pub(crate) fn replace_tokens(
-    alloc: Global,
-    source: &[u8],
-    tokens: &[Token],
-    equs: &NameTable<Equ>,
-    links: &[Links],
-) -> Result<Tokens, ReplaceFault>
-    requires inside { All (LiesIn source.now) tokens.now }
-    requires lies { EqusLie source.now equs.now }
-    requires links { AreLinks source.now equs.now links.now }
-    ensures inside { IfOk result (All (LiesIn source.now)) }
-    ensures tokens { Replaces result (replaced_tokens source.now equs.now tokens.now) }
-{
-    let places = link_tokens(alloc, source, tokens, equs)?;
-    let mut out = Output {
-        tokens: Vec::with_capacity(alloc, tokens.len())?,
-        replacements: 0,
-    };
-    append_replaced(&mut out, source, tokens, places.as_slice(), equs, links, 16)?;
-    Ok(Tokens::from_vec(out.tokens))
 }

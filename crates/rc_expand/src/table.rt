@@ -1,10 +1,10 @@
-//! Tables of names: the value of a name is found by a token that spells it.
+//! Tables of names, looked up by tokens.
 ghost use Rattle.std.specs.Prelude.{◌≡◌, [], Some, not, is_some, option_map, fold, flat_map, map, ◌+◌, IfOk, OnOk, OnErr};
 ghost use Rattle.std.specs.Hash as fed;
 ghost use Rattle.std.specs.Str.{bytes_eq};
 ghost use Rattle.std.specs.Int.Digits.{digits_of};
 ghost use Rattle.rc_text.specs.Symbols.{LiesIn, name_of, counter_text};
-ghost use Rattle.rc_expand.specs.Names.{found};
+ghost use Rattle.rc_expand.specs.Names.{entry_of};
 ghost use Rattle.rc_expand.specs.NameTables.{joined_name, with_name, at_place};
 
 use crate::names::is_joined_name;
@@ -14,7 +14,7 @@ use std::alloc::{AllocError, Global};
 use std::hash::{Hash, Hasher};
 use std::marker::Model;
 
-/// A name that a table has, by its bytes.
+/// A name in a table, by its bytes.
 #[doc(hidden)]
 #[derive(Debug, Drop)]
 pub struct KeptName {
@@ -64,37 +64,7 @@ impl Hash for KeptName {
     }
 }
 
-// Feeds bytes one by one.
-fn feed_bytes<H: Hasher>(bytes: &[u8], state: &mut H)
-    ensures { state.new ≡ fold H.write state.old (flat_map fed.u8 bytes.now) }
-{
-    Hash::hash_slice(bytes, state);
-}
-
-// Feeds the decimal digits of a number; 0 has none.
-fn feed_digits<H: Hasher>(number: u16, state: &mut H)
-    ensures { state.new ≡ fold H.write state.old (flat_map fed.u8 (map (λ d. 48 + d) (digits_of 10 number))) }
-{
-    if number == 0 {
-        return;
-    }
-    feed_digits(number / 10, state);
-    state.write_u8(b'0' + (number % 10) as u8);
-}
-
-// Feeds a counter as it is joined to a name.
-fn feed_counter<H: Hasher>(counter: u16, state: &mut H)
-    ensures { state.new ≡ fold H.write state.old (flat_map fed.u8 (counter_text counter)) }
-{
-    if counter < 10 {
-        state.write_u8(b'0');
-        state.write_u8(b'0' + counter as u8);
-        return;
-    }
-    feed_digits(counter, state);
-}
-
-/// The bytes of a name, and the counters joined to it.
+// A name by its bytes and the counters joined to it, so that a look-up builds no joined name.
 #[derive(Clone, Copy, Debug, PartialEq, Eq)]
 struct JoinedName<'a> {
     bytes: &'a [u8],
@@ -139,18 +109,7 @@ impl<'a> Equivalent<KeptName> for JoinedName<'a> {
     }
 }
 
-// The name of a token, with the counters joined to it.
-fn spelled<'a>(source: &'a [u8], token: &'a Token) -> JoinedName<'a>
-    requires { LiesIn source.now token.now }
-    ensures { joined_name result.bytes.now result.counters.now ≡ name_of source.now token.now }
-{
-    JoinedName {
-        bytes: &source[token.lo..token.hi],
-        counters: token.joined.as_slice(),
-    }
-}
-
-/// Names with values, each name once, in the order in which they came.
+/// Names with values, each name once, in the order of insertion.
 #[derive(Drop)]
 pub struct NameTable<V> {
     entries: IndexMap<KeptName, V>,
@@ -165,7 +124,7 @@ impl<V> Model for NameTable<V> {
 }
 
 impl<V: Drop> NameTable<V> {
-    /// No names, for which nothing is allocated.
+    /// Creates an empty table, without allocating.
     pub fn new(alloc: Global) -> Self
         ensures { result ≡ [] }
     {
@@ -174,12 +133,12 @@ impl<V: Drop> NameTable<V> {
         }
     }
 
-    /// Takes up a name with its value, where the name is not there yet; else the table stays as it is, and the value is dropped. Says
-    /// whether the name is new.
+    /// Adds a name with its value, unless the name is in the table already: then the table stays as
+    /// it is, and `value` is dropped. Returns whether the name is new.
     ///
-    /// Refused only where memory was, and then the table stays as it is.
+    /// Fails only if out of memory; the table then stays as it is.
     pub fn insert(&mut self, name: Vec<u8>, value: V) -> Result<bool, AllocError>
-        ensures added { IfOk result (λ added. added ≡ not (is_some (found self.old name.items))) }
+        ensures added { IfOk result (λ added. added ≡ not (is_some (entry_of self.old name.items))) }
         ensures table { OnOk result (self.new ≡ with_name self.old name.items value) }
         ensures refused { OnErr result (self.new ≡ self.old) }
     {
@@ -191,23 +150,24 @@ impl<V: Drop> NameTable<V> {
         Ok(true)
     }
 
-    /// The value of the name that a token spells, with the counters joined to it. The token's span has to lie in the source.
+    /// Returns the value of the name that a token spells, joined counters included. The token's
+    /// span must lie in `source`.
     pub fn get(&self, source: &[u8], token: &Token) -> Option<&V>
         requires { LiesIn source.now token.now }
-        ensures { option_map (λ v. v.now) result ≡ found self.now (name_of source.now token.now) }
+        ensures { option_map (λ v. v.now) result ≡ entry_of self.now (name_of source.now token.now) }
     {
         self.entries.get(spelled(source, token))
     }
 
-    /// Where the name that a token spells is in the table, if it is there. The token's span has to lie in the source.
+    // Returns the index of the name that a token spells. The token's span must lie in `source`.
     pub(crate) fn place(&self, source: &[u8], token: &Token) -> Option<usize>
         requires { LiesIn source.now token.now }
-        ensures { at_place self.now result ≡ found self.now (name_of source.now token.now) }
+        ensures { at_place self.now result ≡ entry_of self.now (name_of source.now token.now) }
     {
         self.entries.get_index_of(spelled(source, token))
     }
 
-    /// The value at a place of the table.
+    // Returns the value at an index.
     pub(crate) fn at(&self, place: usize) -> Option<&V>
         ensures { option_map (λ v. v.now) result ≡ at_place self.now (Some place) }
     {
@@ -215,5 +175,45 @@ impl<V: Drop> NameTable<V> {
             Some((_, value)) => Some(value),
             None => None,
         }
+    }
+}
+
+fn feed_bytes<H: Hasher>(bytes: &[u8], state: &mut H)
+    ensures { state.new ≡ fold H.write state.old (flat_map fed.u8 bytes.now) }
+{
+    Hash::hash_slice(bytes, state);
+}
+
+// Feeds the decimal digits of `number`. 0 has no digits here.
+fn feed_digits<H: Hasher>(number: u16, state: &mut H)
+    ensures { state.new ≡ fold H.write state.old (flat_map fed.u8 (map (λ d. 48 + d) (digits_of 10 number))) }
+{
+    if number == 0 {
+        return;
+    }
+    feed_digits(number / 10, state);
+    state.write_u8(b'0' + (number % 10) as u8);
+}
+
+// Feeds a counter, as it is joined to a name.
+fn feed_counter<H: Hasher>(counter: u16, state: &mut H)
+    ensures { state.new ≡ fold H.write state.old (flat_map fed.u8 (counter_text counter)) }
+{
+    if counter < 10 {
+        state.write_u8(b'0');
+        state.write_u8(b'0' + counter as u8);
+        return;
+    }
+    feed_digits(counter, state);
+}
+
+// Returns the name that a token spells.
+fn spelled<'a>(source: &'a [u8], token: &'a Token) -> JoinedName<'a>
+    requires { LiesIn source.now token.now }
+    ensures { joined_name result.bytes.now result.counters.now ≡ name_of source.now token.now }
+{
+    JoinedName {
+        bytes: &source[token.lo..token.hi],
+        counters: token.joined.as_slice(),
     }
 }

@@ -1,27 +1,78 @@
-//! FOR blocks give way to their copies.
+//! Unrolling: FOR blocks are replaced by their copies, outer blocks first.
 ghost use Rattle.std.specs.Prelude.{◌≡◌, List, ℕ, Bool, ◌++◌, ◌∷◌, [], ◌+◌, ◌<◌, ◌≤◌, length, All, IfOk, IfSome, OnOk, MatchOption, Some, None, true, false};
 ghost use Rattle.rc_text.specs.Symbols.{LiesIn};
 ghost use Rattle.rc_expand.specs.Lines.{HeadLies};
 ghost use Rattle.rc_expand.specs.Unroll.{Cut, cut, Unrolled, Appends, earlier_line, unrolled, GivesItems};
 ghost use Rattle.std.specs.List.{list_all};
 ghost use Rattle.rc_expand.specs.Steps.{is_flat_line};
-ghost use Rattle.rc_expand.specs.Setting.{table, IsSetting, lines_of, block_by, copy_by, copies_by, line_by};
+ghost use Rattle.rc_expand.specs.Context.{table, IsContext, unrolled_by, block_by, copy_by, copies_by, unrolled_line_by};
 
+use crate::context::Context;
 use crate::copy::{clone_head, clone_labels, copy_block};
 use crate::fault::{ExpandFault, ExpandKind, fault};
 use crate::head::{Head, HeadWord, Labels, Name};
 use crate::line::Tokens;
 use crate::opening::begin_block;
-use crate::setting::Setting;
 
-/// The lines so far, and how many copies of blocks.
+// The lines so far, and the number of copies of blocks. Together they are at most 4096.
 #[derive(Drop)]
-pub(crate) struct Output {
+pub(crate) struct Unrolling {
     lines: Vec<Head>,
     copies: usize,
 }
 
-// A block up to its ROF, the ROF and the lines behind it.
+// Appends lines with their blocks unrolled, which may nest `levels` deep.
+#[cycle(unroll)]
+pub(crate) fn append_lines(
+    out: &mut Unrolling,
+    context: &Context,
+    heads: &[Head],
+    in_block: bool,
+    levels: u8,
+) -> Result<(), ExpandFault>
+    requires context { IsContext context.now }
+    requires lies { All (HeadLies context.now.source.now) heads.now }
+    requires room { length out.old.lines.items + out.old.copies ≤ 4096 }
+    requires before { All (HeadLies context.now.source.now) out.old.lines.items }
+    ensures adds { Appends out.old.lines.items out.old.copies result (unrolled_by context.now in_block levels heads.now) out.new.lines.items out.new.copies }
+    ensures after { OnOk result (All (HeadLies context.now.source.now) out.new.lines.items) }
+{
+    let mut rest = heads;
+    while let Some((head, after)) = rest.split_first() {
+        match head.word {
+            HeadWord::For => match cut_block(context.source, after) {
+                None => return Err(fault(head.number, ExpandKind::ForWithoutRof)),
+                Some((block, rof, following)) => {
+                    append_block(out, context, head, block, rof, levels)?;
+                    rest = following;
+                }
+            },
+            _ => {
+                append_line(out, context, head, in_block)?;
+                rest = after;
+            }
+        }
+    }
+    Ok(())
+}
+
+// Unrolls the blocks of lines. Lines without blocks are returned as they are, and none is copied.
+#[tactic(auto, using(crate::proofs::FlatLines::flat_unrolled))]
+pub(crate) fn unroll(context: &Context, heads: Vec<Head>) -> Result<Vec<Head>, ExpandFault>
+    requires context { IsContext context.now }
+    requires lies { All (HeadLies context.now.source.now) heads.items }
+    ensures lines { GivesItems result (unrolled context.now.source.now (table context.now) context.now.rules.now context.now.equs.now heads.items) }
+    ensures inside { IfOk result (λ v. All (HeadLies context.now.source.now) v.items) }
+{
+    if heads.len() <= 4096 && are_flat(&heads) {
+        Ok(heads)
+    } else {
+        unroll_blocks(context, &heads)
+    }
+}
+
+// Splits the lines after a FOR into its block, its ROF and the lines after that, or returns `None`
+// without a ROF.
 fn cut_block<'a>(source: &[u8], lines: &'a [Head]) -> Option<(&'a [Head], &'a Head, &'a [Head])>
     requires { All (HeadLies source.now) lines.now }
     ensures block { IfSome result (λ p. All (HeadLies source.now) p.0.now) }
@@ -46,8 +97,8 @@ fn cut_block<'a>(source: &[u8], lines: &'a [Head]) -> Option<(&'a [Head], &'a He
     None
 }
 
-// Appends one line, where there is room.
-fn append(out: &mut Output, source: &[u8], head: Head) -> Result<(), ExpandFault>
+// Appends one line. `TooManyLines` if there is no room.
+fn append(out: &mut Unrolling, source: &[u8], head: Head) -> Result<(), ExpandFault>
     requires head { HeadLies source.now head }
     requires room { length out.old.lines.items + out.old.copies ≤ 4096 }
     requires before { All (HeadLies source.now) out.old.lines.items }
@@ -61,19 +112,19 @@ fn append(out: &mut Output, source: &[u8], head: Head) -> Result<(), ExpandFault
     Ok(())
 }
 
-// Appends a line that is no FOR.
+// Appends a line other than FOR. EQU is refused in a block.
 #[tactic(auto, unfolding(crate::specs::Unroll::one_line))]
 fn append_line(
-    out: &mut Output,
-    setting: &Setting,
+    out: &mut Unrolling,
+    context: &Context,
     head: &Head,
     in_block: bool,
 ) -> Result<(), ExpandFault>
-    requires head { HeadLies setting.now.source.now head.now }
+    requires head { HeadLies context.now.source.now head.now }
     requires room { length out.old.lines.items + out.old.copies ≤ 4096 }
-    requires before { All (HeadLies setting.now.source.now) out.old.lines.items }
-    ensures adds { Appends out.old.lines.items out.old.copies result (line_by setting.now in_block head.now) out.new.lines.items out.new.copies }
-    ensures after { OnOk result (All (HeadLies setting.now.source.now) out.new.lines.items) }
+    requires before { All (HeadLies context.now.source.now) out.old.lines.items }
+    ensures adds { Appends out.old.lines.items out.old.copies result (unrolled_line_by context.now in_block head.now) out.new.lines.items out.new.copies }
+    ensures after { OnOk result (All (HeadLies context.now.source.now) out.new.lines.items) }
 {
     match head.word {
         HeadWord::Rof => return Err(fault(head.number, ExpandKind::RofWithoutFor)),
@@ -85,56 +136,56 @@ fn append_line(
     if head.spoiled {
         return Err(fault(head.number, ExpandKind::BadDirective));
     }
-    append(out, setting.source, clone_head(setting.alloc, head)?)
+    append(out, context.source, clone_head(context.alloc, head)?)
 }
 
 // Appends the labels before a counter as a line of their own.
 fn append_earlier(
-    out: &mut Output,
-    setting: &Setting,
+    out: &mut Unrolling,
+    context: &Context,
     number: u64,
     labels: &Labels,
 ) -> Result<(), ExpandFault>
-    requires labels { All (All (LiesIn setting.now.source.now)) labels.now }
+    requires labels { All (All (LiesIn context.now.source.now)) labels.now }
     requires room { length out.old.lines.items + out.old.copies ≤ 4096 }
-    requires before { All (HeadLies setting.now.source.now) out.old.lines.items }
+    requires before { All (HeadLies context.now.source.now) out.old.lines.items }
     ensures adds { Appends out.old.lines.items out.old.copies result (Some (record { lines = earlier_line number labels.now; copies = 0 })) out.new.lines.items out.new.copies }
-    ensures after { OnOk result (All (HeadLies setting.now.source.now) out.new.lines.items) }
+    ensures after { OnOk result (All (HeadLies context.now.source.now) out.new.lines.items) }
 {
     if labels.as_slice().is_empty() {
         return Ok(());
     }
     append(
         out,
-        setting.source,
+        context.source,
         Head {
             number,
-            labels: clone_labels(setting.alloc, labels.as_slice())?,
+            labels: clone_labels(context.alloc, labels.as_slice())?,
             word: HeadWord::Bare,
             directive: None,
-            rest: Tokens::from_vec(Vec::new(setting.alloc)),
+            rest: Tokens::from_vec(Vec::new(context.alloc)),
             spoiled: false,
         },
     )
 }
 
-// Appends the copy of a block for a number of its counter.
+// Appends the copy of a block for one `number` of its counter. `line` is the line of its FOR.
 #[cycle(unroll)]
 fn append_copy(
-    out: &mut Output,
-    setting: &Setting,
+    out: &mut Unrolling,
+    context: &Context,
     counter: &Option<Name>,
     number: u16,
     line: u64,
     block: &[Head],
     levels: u8,
 ) -> Result<(), ExpandFault>
-    requires setting { IsSetting setting.now }
-    requires block { All (HeadLies setting.now.source.now) block.now }
+    requires context { IsContext context.now }
+    requires block { All (HeadLies context.now.source.now) block.now }
     requires room { length out.old.lines.items + out.old.copies ≤ 4096 }
-    requires before { All (HeadLies setting.now.source.now) out.old.lines.items }
-    ensures adds { Appends out.old.lines.items out.old.copies result (copy_by setting.now levels counter.now block.now number) out.new.lines.items out.new.copies }
-    ensures after { OnOk result (All (HeadLies setting.now.source.now) out.new.lines.items) }
+    requires before { All (HeadLies context.now.source.now) out.old.lines.items }
+    ensures adds { Appends out.old.lines.items out.old.copies result (copy_by context.now levels counter.now block.now number) out.new.lines.items out.new.copies }
+    ensures after { OnOk result (All (HeadLies context.now.source.now) out.new.lines.items) }
 {
     if out.lines.len() + out.copies == 4096 {
         return Err(fault(line, ExpandKind::TooManyLines));
@@ -144,68 +195,68 @@ fn append_copy(
         return Err(fault(line, ExpandKind::ForTooDeep));
     }
     match counter {
-        None => append_lines(out, setting, block, true, levels - 1),
+        None => append_lines(out, context, block, true, levels - 1),
         Some(name) => {
             let copied = copy_block(
-                setting.alloc,
-                setting.source,
+                context.alloc,
+                context.source,
                 name.as_slice(),
                 number,
                 block,
             )?;
-            append_lines(out, setting, &copied, true, levels - 1)
+            append_lines(out, context, &copied, true, levels - 1)
         }
     }
 }
 
-// Appends the copies of a block.
+// Appends `count` copies of a block.
 #[cycle(unroll)]
 fn append_copies(
-    out: &mut Output,
-    setting: &Setting,
+    out: &mut Unrolling,
+    context: &Context,
     counter: &Option<Name>,
     count: u16,
     line: u64,
     block: &[Head],
     levels: u8,
 ) -> Result<(), ExpandFault>
-    requires setting { IsSetting setting.now }
-    requires block { All (HeadLies setting.now.source.now) block.now }
+    requires context { IsContext context.now }
+    requires block { All (HeadLies context.now.source.now) block.now }
     requires room { length out.old.lines.items + out.old.copies ≤ 4096 }
-    requires before { All (HeadLies setting.now.source.now) out.old.lines.items }
-    ensures adds { Appends out.old.lines.items out.old.copies result (copies_by setting.now levels counter.now block.now count) out.new.lines.items out.new.copies }
-    ensures after { OnOk result (All (HeadLies setting.now.source.now) out.new.lines.items) }
+    requires before { All (HeadLies context.now.source.now) out.old.lines.items }
+    ensures adds { Appends out.old.lines.items out.old.copies result (copies_by context.now levels counter.now block.now count) out.new.lines.items out.new.copies }
+    ensures after { OnOk result (All (HeadLies context.now.source.now) out.new.lines.items) }
 {
     for done in 0..count {
-        append_copy(out, setting, counter, done + 1, line, block, levels)?;
+        append_copy(out, context, counter, done + 1, line, block, levels)?;
     }
     Ok(())
 }
 
-// Appends what stands for a block: the labels before its counter and its copies.
+// Appends a block unrolled: the labels before its counter, then its copies.
 #[cycle(unroll)]
 fn append_block(
-    out: &mut Output,
-    setting: &Setting,
+    out: &mut Unrolling,
+    context: &Context,
     first: &Head,
     block: &[Head],
     rof: &Head,
     levels: u8,
 ) -> Result<(), ExpandFault>
-    requires setting { IsSetting setting.now }
-    requires first { HeadLies setting.now.source.now first.now }
-    requires block { All (HeadLies setting.now.source.now) block.now }
-    requires rof { HeadLies setting.now.source.now rof.now }
+    requires context { IsContext context.now }
+    requires first { HeadLies context.now.source.now first.now }
+    requires block { All (HeadLies context.now.source.now) block.now }
+    requires rof { HeadLies context.now.source.now rof.now }
     requires room { length out.old.lines.items + out.old.copies ≤ 4096 }
-    requires before { All (HeadLies setting.now.source.now) out.old.lines.items }
-    ensures adds { Appends out.old.lines.items out.old.copies result (block_by setting.now levels first.now block.now rof.now) out.new.lines.items out.new.copies }
-    ensures after { OnOk result (All (HeadLies setting.now.source.now) out.new.lines.items) }
+    requires before { All (HeadLies context.now.source.now) out.old.lines.items }
+    ensures adds { Appends out.old.lines.items out.old.copies result (block_by context.now levels first.now block.now rof.now) out.new.lines.items out.new.copies }
+    ensures after { OnOk result (All (HeadLies context.now.source.now) out.new.lines.items) }
 {
-    let opening = begin_block(setting, first, rof)?;
-    append_earlier(out, setting, first.number, &opening.earlier)?;
+    let opening = begin_block(context, first, rof)?;
+    append_earlier(out, context, first.number, &opening.earlier)?;
     append_copies(
         out,
-        setting,
+        context,
         &opening.counter,
         opening.count,
         first.number,
@@ -214,42 +265,7 @@ fn append_block(
     )
 }
 
-/// Appends what stands for lines, in which blocks may nest so deep.
-#[cycle(unroll)]
-pub(crate) fn append_lines(
-    out: &mut Output,
-    setting: &Setting,
-    heads: &[Head],
-    in_block: bool,
-    levels: u8,
-) -> Result<(), ExpandFault>
-    requires setting { IsSetting setting.now }
-    requires lies { All (HeadLies setting.now.source.now) heads.now }
-    requires room { length out.old.lines.items + out.old.copies ≤ 4096 }
-    requires before { All (HeadLies setting.now.source.now) out.old.lines.items }
-    ensures adds { Appends out.old.lines.items out.old.copies result (lines_of setting.now in_block levels heads.now) out.new.lines.items out.new.copies }
-    ensures after { OnOk result (All (HeadLies setting.now.source.now) out.new.lines.items) }
-{
-    let mut rest = heads;
-    while let Some((head, after)) = rest.split_first() {
-        match head.word {
-            HeadWord::For => match cut_block(setting.source, after) {
-                None => return Err(fault(head.number, ExpandKind::ForWithoutRof)),
-                Some((block, rof, behind)) => {
-                    append_block(out, setting, head, block, rof, levels)?;
-                    rest = behind;
-                }
-            },
-            _ => {
-                append_line(out, setting, head, in_block)?;
-                rest = after;
-            }
-        }
-    }
-    Ok(())
-}
-
-// Whether a line stands for itself.
+// Checks for a line that unrolling leaves as it is.
 fn is_flat_line(head: &Head) -> bool
     ensures { result ≡ is_flat_line head.now }
 {
@@ -260,40 +276,24 @@ fn is_flat_line(head: &Head) -> bool
     }
 }
 
-// Whether there are no blocks, and no line is spoiled.
 fn are_flat(heads: &[Head]) -> bool
     ensures { result ≡ list_all is_flat_line heads.now }
 {
     heads.iter().all(|head| is_flat_line(head))
 }
 
-// The lines with the copies of their blocks in place of these.
+// Unrolls the blocks of lines.
 #[tactic(auto, unfolding(crate::specs::Unroll::unrolled))]
-fn unroll_blocks(setting: &Setting, heads: &[Head]) -> Result<Vec<Head>, ExpandFault>
-    requires setting { IsSetting setting.now }
-    requires lies { All (HeadLies setting.now.source.now) heads.now }
-    ensures lines { GivesItems result (unrolled setting.now.source.now (table setting.now) setting.now.rules.now setting.now.equs.now heads.now) }
-    ensures inside { IfOk result (λ v. All (HeadLies setting.now.source.now) v.items) }
+fn unroll_blocks(context: &Context, heads: &[Head]) -> Result<Vec<Head>, ExpandFault>
+    requires context { IsContext context.now }
+    requires lies { All (HeadLies context.now.source.now) heads.now }
+    ensures lines { GivesItems result (unrolled context.now.source.now (table context.now) context.now.rules.now context.now.equs.now heads.now) }
+    ensures inside { IfOk result (λ v. All (HeadLies context.now.source.now) v.items) }
 {
-    let mut out = Output {
-        lines: Vec::new(setting.alloc),
+    let mut out = Unrolling {
+        lines: Vec::new(context.alloc),
         copies: 0,
     };
-    append_lines(&mut out, setting, heads, false, 8)?;
+    append_lines(&mut out, context, heads, false, 8)?;
     Ok(out.lines)
-}
-
-/// The lines with the copies of their blocks in place of these. Lines without blocks are handed back as they are.
-#[tactic(auto, using(crate::proofs::FlatLines::flat_unrolled))]
-pub(crate) fn unroll(setting: &Setting, heads: Vec<Head>) -> Result<Vec<Head>, ExpandFault>
-    requires setting { IsSetting setting.now }
-    requires lies { All (HeadLies setting.now.source.now) heads.items }
-    ensures lines { GivesItems result (unrolled setting.now.source.now (table setting.now) setting.now.rules.now setting.now.equs.now heads.items) }
-    ensures inside { IfOk result (λ v. All (HeadLies setting.now.source.now) v.items) }
-{
-    if heads.len() <= 4096 && are_flat(&heads) {
-        Ok(heads)
-    } else {
-        unroll_blocks(setting, &heads)
-    }
 }

@@ -1,4 +1,4 @@
--- What stands at the front of bytes that are appended to.
+-- Appending keeps what was there.
 use Rattle.std.proofs.Common.{◌≡◌, ℕ, List, [], ◌++◌, length, take, sym, ◌∙◌, ap, append_assoc, append-nil}
 use Rattle.std.proofs.Math.Seq.{take-append_seam}
 use Rattle.rc_instr.specs.Appending.{IsFront}
@@ -7,7 +7,7 @@ use Rattle.rc_instr.specs.Appending.{IsFront}
 pub front_of_itself : (a : List ℕ) → IsFront a a
 front_of_itself a = record { rest = []; appended = sym (append-nil a) }
 
--- the same, by an equation
+-- nothing was appended, from an equation
 pub front_of_equal : (a b : List ℕ) → b ≡ a → IsFront a b
 front_of_equal a b e = record { rest = []; appended = e ∙ sym (append-nil a) }
 
@@ -20,7 +20,7 @@ pub front_of_fronts : (a b c : List ℕ) → IsFront a b → IsFront b c → IsF
 front_of_fronts a b c h k =
     record { rest = h.rest ++ k.rest; appended = k.appended ∙ ap (λ x. x ++ k.rest) h.appended ∙ append_assoc a h.rest k.rest }
 
--- what stood in front is left where all else is cut off
+-- cutting off what was appended leaves the old text
 pub cut_back : (a b : List ℕ) → IsFront a b → take (length a) b ≡ a
 cut_back a b h = ap (take (length a)) h.appended ∙ take-append_seam a h.rest
 

@@ -5,7 +5,7 @@ use Rattle.std.specs.Fmt.{decimal}
 use Rattle.std.proofs.lemmas.Bool.Decides.{leb_tells}
 use Rattle.std.proofs.lemmas.List.Elements.{All-head, All-tail}
 use Rattle.rc_instr.specs.Digits.{NoDigitFirst}
-use Rattle.rc_instr.specs.Warrior.{Program, program, IsBelow}
+use Rattle.rc_instr.specs.Warrior.{WarriorView, warrior_view, IsBelow}
 use Rattle.rc_instr.specs.LoadText.{opcode_text, modifier_text, mode_text, number_text, operand_text, line_text, load_text}
 use Rattle.rc_instr.proofs.Numerals.{decimal_one, decimal_first}
 use Rattle.rc_instr.proofs.Lines.{line_parts, start_parts, line_shorter}
@@ -138,11 +138,11 @@ lines_one m (i ∷ v) (j ∷ w) lm hv hw e =
     let t = lines_one m v w lm (All-tail (IsBelow m) i v hv) (All-tail (IsBelow m) j w hw) d.1 in
     ap (λ x. x ∷ v) d.0 ∙ ap (λ x. j ∷ x) t
 
-pub load_one : (m : ℕ) (v w : Program) → m ≤ 65535 → v.start < 2 ^ 16 → w.start < 2 ^ 16 → All (IsBelow m) v.code → All (IsBelow m) w.code →
+pub load_one : (m : ℕ) (v w : WarriorView) → m ≤ 65535 → v.start < 2 ^ 16 → w.start < 2 ^ 16 → All (IsBelow m) v.code → All (IsBelow m) w.code →
     load_text m v ≡ load_text m w → v ≡ w
 unfolding load_text
 load_one m v w lm lv lw hv hw e =
     let f = sym (start_parts v.start (flat_map (line_text m) v.code)) ∙ e ∙ start_parts w.start (flat_map (line_text m) w.code) in
     let d = decimal_one v.start w.start (10 ∷ flat_map (line_text m) v.code) (10 ∷ flat_map (line_text m) w.code) (omega (arith, lv)) (omega (arith, lw)) refl refl (ap (drop 4) f) in
     let c = lines_one m v.code w.code lm hv hw (ap (drop 1) d.1) in
-    ap (λ x. program x v.start) c ∙ ap (λ n. program w.code n) d.0
+    ap (λ x. warrior_view x v.start) c ∙ ap (λ n. warrior_view w.code n) d.0

@@ -24,7 +24,7 @@ pub line_shorter : (m : ℕ) (i : Instruction) (rest others : List ℕ) → rest
 unfolding line_text
 line_shorter m i rest others e = rw e (simp length-append (omega arith))
 
--- code whose lines are these bytes begins with an instruction whose line stands in front
+-- if a line is at the front, code with these lines begins with its instruction
 pub record Begins (m : ℕ) (rest : List ℕ) (code : List Instruction) : Type 0 where
   pub first : Instruction
   pub others : List Instruction
@@ -44,7 +44,7 @@ begins m rest (i ∷ code) h some = record {
   lines = record { lines = refl; below = All-tail (IsBelow m) i code h.below };
 }
 
--- no bytes are the lines of no code alone
+-- if no bytes are left, the code is empty
 pub no_lines : (m : ℕ) (rest : List ℕ) (code : List Instruction) → AreLines m rest code → rest ≡ [] → code ≡ []
 no_lines m rest [] h e = refl
 no_lines m rest (i ∷ code) h e =
@@ -58,7 +58,7 @@ lines_more m code i bytes rest others e f =
     ∙ sym (append_assoc (flat_map (line_text m) code) (line_text m i) others)
     ∙ ap (λ r. r ++ others) (sym (flat_map-append (line_text m) code (i ∷ []) ∙ ap (λ r. flat_map (line_text m) code ++ r) (append-nil (line_text m i))))
 
--- an instruction more was read: what is left of code that the bytes spell
+-- one more instruction was read: what is left of the code that the bytes spell
 pub left_over : (m : ℕ) (rest others : List ℕ) (i : Instruction) (read code tail : List Instruction) →
     code ≡ read ++ tail → AreLines m rest tail → (rest ≡ [] → ⊥) →
     ((j : Instruction) (r : List ℕ) → IsBelow m j → rest ≡ line_text m j ++ r → (i ≡ j) × (others ≡ r)) →

@@ -3,7 +3,7 @@ use Rattle.std.proofs.Common.{ℕ, ◌+◌, List, ◌++◌, take, drop, sym, ◌
 use Rattle.std.specs.Prelude.{Option, None, Some}
 use Rattle.std.specs.Io.KnownBytes.{Appends}
 
--- two pieces of a text, the second behind the first, are one
+-- two adjacent pieces of a text are one piece
 pub appends_more : (a b c : Option (List ℕ)) (xs : List ℕ) (i n : ℕ) → Appends a b (take i xs) → Appends b c (take n (drop i xs)) → Appends a c (take (i + n) xs)
 appends_more None b c xs i n p q = tt
 appends_more (Some x) None c xs i n p q = absurd p

@@ -1,7 +1,7 @@
--- Bytes that are appended to.
+-- Appending to a text.
 use Rattle.std.specs.Prelude.{◌≡◌, ℕ, List, ◌++◌}
 
--- the old bytes stand at the front of the new ones
+-- the new text begins with the old one
 pub record IsFront (old new : List ℕ) : Type 0 where
   pub rest : List ℕ
   pub appended : new ≡ old ++ rest

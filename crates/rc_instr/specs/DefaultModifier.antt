@@ -1,4 +1,5 @@
--- The modifier of an instruction that is written without one (1994 draft; for NOP and SNE this project's own).
+-- The modifier of an instruction that is written without one (1994 draft). The draft does not know
+-- NOP and SNE: here they go with DAT and SEQ.
 use Rattle.rc_instr.specs.declared.instruction.Opcode.{Opcode}
 use Rattle.rc_instr.specs.declared.instruction.Opcode.TheVariants.{Dat, Mov, Add, Sub, Mul, Div, Mod, Jmp, Jmz, Jmn, Djn, Seq, Sne, Slt, Spl, Nop}
 use Rattle.rc_instr.specs.declared.instruction.Modifier.{Modifier}
@@ -6,17 +7,17 @@ use Rattle.rc_instr.specs.declared.instruction.Modifier.TheVariants.{B, AB, F, I
 use Rattle.rc_instr.specs.declared.instruction.Mode.{Mode}
 use Rattle.rc_instr.specs.declared.instruction.Mode.TheVariants.{Immediate}
 
--- AB where the A-operand is immediate
+-- AB if the A-operand is immediate
 abbrev pub ab_or : Modifier → Mode → Modifier
 ab_or otherwise Immediate = AB
 ab_or otherwise _ = otherwise
 
--- B where the B-operand is immediate
+-- B if the B-operand is immediate
 abbrev pub b_or : Modifier → Mode → Modifier
 b_or otherwise Immediate = B
 b_or otherwise _ = otherwise
 
--- by the opcode and the modes of the A-operand and the B-operand
+-- from the opcode and the modes of the A-operand and the B-operand
 unfoldable pub default_modifier_of : Opcode → Mode → Mode → Modifier
 default_modifier_of Dat a b = F
 default_modifier_of Nop a b = F

@@ -2,12 +2,12 @@
 use Rattle.std.specs.Prelude.{◌≡◌, ℕ, ◌+◌, ◌-◌, ◌*◌, false, List, [], ◌∷◌}
 use Rattle.std.specs.Char.{is_ascii_digit}
 
--- no digit stands first
+-- the text does not begin with a digit
 abbrev pub NoDigitFirst : List ℕ → Type 0
 NoDigitFirst [] = Unit {0}
 NoDigitFirst (c ∷ cs) = is_ascii_digit c ≡ false
 
--- what digits stand for behind a number that was read before them
+-- the value of digits that continue the decimal n
 abbrev pub read_on : ℕ → List ℕ → ℕ
 read_on n [] = n
 read_on n (c ∷ cs) = read_on (n * 10 + (c - 48)) cs

@@ -1,4 +1,4 @@
--- Instructions as values: the numbers of the variants, equality, and the empty cell.
+-- Instructions: a number for each variant, equality, and the empty cell.
 use Rattle.std.specs.Prelude.{ℕ, Bool, ◌==◌, ◌&&◌}
 use Rattle.rc_instr.specs.declared.instruction.Instruction.{Instruction}
 use Rattle.rc_instr.specs.declared.instruction.Opcode.{Opcode}
@@ -8,7 +8,7 @@ use Rattle.rc_instr.specs.declared.instruction.Modifier.TheVariants.{A, B, AB, B
 use Rattle.rc_instr.specs.declared.instruction.Mode.{Mode}
 use Rattle.rc_instr.specs.declared.instruction.Mode.TheVariants.{Immediate, Direct, AIndirect, BIndirect, APredecrement, BPredecrement, APostincrement, BPostincrement}
 
--- a number for each opcode, in the order of the declaration
+-- the variants in the order of their declaration
 abbrev pub opcode_number : Opcode → ℕ
 opcode_number Dat = 0
 opcode_number Mov = 1
@@ -27,7 +27,6 @@ opcode_number Slt = 13
 opcode_number Spl = 14
 opcode_number Nop = 15
 
--- a number for each modifier, in the order of the declaration
 abbrev pub modifier_number : Modifier → ℕ
 modifier_number A = 0
 modifier_number B = 1
@@ -37,7 +36,6 @@ modifier_number F = 4
 modifier_number X = 5
 modifier_number I = 6
 
--- a number for each mode, in the order of the declaration
 abbrev pub mode_number : Mode → ℕ
 mode_number Immediate = 0
 mode_number Direct = 1
@@ -48,7 +46,7 @@ mode_number BPredecrement = 5
 mode_number APostincrement = 6
 mode_number BPostincrement = 7
 
--- whether two instructions are equal in all six parts, as a test that computes
+-- compares all six parts
 unfoldable pub same_instruction : Instruction → Instruction → Bool
 same_instruction a b =
     (opcode_number a.opcode == opcode_number b.opcode)
@@ -58,6 +56,6 @@ same_instruction a b =
     && ((mode_number a.b_mode == mode_number b.b_mode)
     && (a.b_number == b.b_number)))))
 
--- the empty cell, `DAT.F $0, $0` (pMARS)
+-- `DAT.F $0, $0` (pMARS)
 abbrev pub empty_cell : Instruction
 empty_cell = record { opcode = Dat; modifier = F; a_mode = Direct; a_number = 0; b_mode = Direct; b_number = 0 }

@@ -1,6 +1,6 @@
--- A warrior is its code and its start, and its load text is the one spelling in which it is written: equal texts are equal warriors.
--- A fight goes by rules within limits; code that keeps them makes a warrior, else the first limit that it breaks is the reason.
--- An outlet is a writer that gives up at its first failure, for good.
+-- A warrior is code and a start, and its load file is the one spelling of it: equal files, equal
+-- warriors. Rules are five numbers within limits; code that breaks them is refused for the first
+-- reason that applies. An outlet is a writer that gives up for good at its first failure.
 pub mod Instruction
 pub mod DefaultModifier
 pub mod Rules

@@ -1,28 +1,28 @@
--- Which lines are not of a load file's form (this project's own).
+-- Why a load file is refused, and at which line.
 use Rattle.std.specs.Prelude.{◌≡◌, ℕ, ◌+◌, List, [], ◌++◌, length, flat_map, All, ◌<◌, ◌^◌, ◌⊎◌}
-use Rattle.rc_instr.specs.Rules.{Limits}
-use Rattle.rc_instr.specs.Warrior.{IsBelow, Program}
-use Rattle.rc_instr.specs.WarriorRefusal.{IsRefused}
+use Rattle.rc_instr.specs.Rules.{RulesView}
+use Rattle.rc_instr.specs.Warrior.{IsBelow, WarriorView}
+use Rattle.rc_instr.specs.WarriorRefusal.{IsWarriorError}
 use Rattle.rc_instr.specs.LoadText.{line_text, start_text, load_text}
 use Rattle.rc_instr.specs.declared.instruction.Instruction.{Instruction}
 use Rattle.rc_instr.specs.declared.loadfile.fault.LoadFault.{LoadFault}
 use Rattle.rc_instr.specs.declared.loadfile.fault.LoadFault.TheVariants.{Malformed, Warrior, OutOfMemory}
 
--- the bytes are the lines of this code
+-- the bytes spell this code, one line for each instruction
 pub record AreLines (m : ℕ) (bytes : List ℕ) (code : List Instruction) : Type 0 where
   pub lines : bytes ≡ flat_map (line_text m) code
   pub below : All (IsBelow m) code
 
--- no first line stands in front: `ORG n` with n up to 65535
+-- the text does not begin with `ORG n`, n up to 65535
 abbrev pub NoStartFirst : List ℕ → Type 0
 NoStartFirst bytes = (n : ℕ) (rest : List ℕ) → n < 2 ^ 16 → bytes ≡ start_text n ++ rest → ⊥
 
--- no line of an instruction stands in front
+-- the text does not begin with the line of an instruction
 abbrev pub NoInstructionFirst : ℕ → List ℕ → Type 0
 NoInstructionFirst m bytes = (i : Instruction) (rest : List ℕ) → IsBelow m i → bytes ≡ line_text m i ++ rest → ⊥
 
--- Among lines of instructions, of which the first has the number 2, this is the first that is none:
--- the lines of some code stand before it, and then come bytes that begin with no line of an instruction.
+-- `line` is the first malformed line of code: lines of code come before it, and the rest is not
+-- empty and does not begin with one. Lines of code are counted from 2.
 pub record IsFirstBadLine (m : ℕ) (bytes : List ℕ) (line : ℕ) : Type 0 where
   pub code : List Instruction
   pub rest : List ℕ
@@ -32,33 +32,34 @@ pub record IsFirstBadLine (m : ℕ) (bytes : List ℕ) (line : ℕ) : Type 0 whe
   pub some : rest ≡ [] → ⊥
   pub none : NoInstructionFirst m rest
 
--- the first line of a text that is not of the form has this number
+-- the first malformed line of the text: the line of the start, or the first bad line of code
 abbrev pub IsMalformedAt : ℕ → List ℕ → ℕ → Type 0
 IsMalformedAt m bytes line =
     ((line ≡ 1) × NoStartFirst bytes)
     ⊎ ((n : ℕ) × (rest : List ℕ) × (n < 2 ^ 16) × (bytes ≡ start_text n ++ rest) × IsFirstBadLine m rest line)
 
--- all lines are of the form, and spell this code and this start
-pub record AreAllLines (m : ℕ) (bytes : List ℕ) (p : Program) : Type 0 where
+-- every line is well formed, and together they spell this code and start
+pub record AreAllLines (m : ℕ) (bytes : List ℕ) (p : WarriorView) : Type 0 where
   pub text : bytes ≡ load_text m p
   pub below : All (IsBelow m) p.code
   pub start : p.start < 2 ^ 16
 
--- why bytes are no lines of instructions; want of memory says nothing of the bytes
+-- why lines of code are refused
 abbrev pub IsBadLine : LoadFault → ℕ → List ℕ → Type 0
 IsBadLine (Malformed line) m bytes = IsFirstBadLine m bytes line
 IsBadLine (Warrior e) m bytes = ⊥
 IsBadLine OutOfMemory m bytes = Unit {0}
 
--- why bytes are no load file: a malformed line; or, where all lines are of the form, what refuses the warrior that they spell
-abbrev pub IsUnreadable : LoadFault → Limits → List ℕ → Type 0
+-- why a load file is refused: a malformed line; or, if there is none, what is wrong with the
+-- warrior that the lines spell. Out of memory says nothing about the text.
+abbrev pub IsUnreadable : LoadFault → RulesView → List ℕ → Type 0
 IsUnreadable (Malformed line) rules bytes = IsMalformedAt rules.core bytes line
-IsUnreadable (Warrior e) rules bytes = (p : Program) × AreAllLines rules.core bytes p × IsRefused e rules p
+IsUnreadable (Warrior e) rules bytes = (p : WarriorView) × AreAllLines rules.core bytes p × IsWarriorError e rules p
 IsUnreadable OutOfMemory rules bytes = Unit {0}
 
--- the same of the lines behind the first one, at which the warrior starts
-abbrev pub AreUnreadable : LoadFault → Limits → List ℕ → ℕ → Type 0
+-- why a load file is refused, from the lines after the first and the start that the first one says
+abbrev pub AreUnreadable : LoadFault → RulesView → List ℕ → ℕ → Type 0
 AreUnreadable (Malformed line) rules lines start = IsFirstBadLine rules.core lines line
 AreUnreadable (Warrior e) rules lines start =
-    (code : List Instruction) × AreLines rules.core lines code × IsRefused e rules (record { code = code; start = start })
+    (code : List Instruction) × AreLines rules.core lines code × IsWarriorError e rules (record { code = code; start = start })
 AreUnreadable OutOfMemory rules lines start = Unit {0}

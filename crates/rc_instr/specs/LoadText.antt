@@ -1,7 +1,7 @@
--- The text of a load file: the one spelling of a warrior that is written and read (this project's own; pMARS reads it too).
+-- The load file of a warrior: the one spelling that is written and read. pMARS can read it too.
 use Rattle.std.specs.Prelude.{ℕ, ◌-◌, ◌*◌, nat_le, if◌then◌else◌, List, [], ◌∷◌, ◌++◌, codes, flat_map}
 use Rattle.std.specs.Fmt.{decimal}
-use Rattle.rc_instr.specs.Warrior.{Program}
+use Rattle.rc_instr.specs.Warrior.{WarriorView}
 use Rattle.rc_instr.specs.declared.instruction.Instruction.{Instruction}
 use Rattle.rc_instr.specs.declared.instruction.Opcode.{Opcode}
 use Rattle.rc_instr.specs.declared.instruction.Opcode.TheVariants.{Dat, Mov, Add, Sub, Mul, Div, Mod, Jmp, Jmz, Jmn, Djn, Seq, Sne, Slt, Spl, Nop}
@@ -10,7 +10,7 @@ use Rattle.rc_instr.specs.declared.instruction.Modifier.TheVariants.{A, B, AB, B
 use Rattle.rc_instr.specs.declared.instruction.Mode.{Mode}
 use Rattle.rc_instr.specs.declared.instruction.Mode.TheVariants.{Immediate, Direct, AIndirect, BIndirect, APredecrement, BPredecrement, APostincrement, BPostincrement}
 
--- an opcode, in capitals; the comparison is SEQ, never CMP
+-- always SEQ, never CMP
 abbrev pub opcode_text : Opcode → List ℕ
 opcode_text Dat = codes "DAT"
 opcode_text Mov = codes "MOV"
@@ -48,7 +48,7 @@ mode_text BPredecrement = codes "<"
 mode_text APostincrement = codes "}"
 mode_text BPostincrement = codes ">"
 
--- a number k in a core of m cells: k in decimal, or k - m where 2k is above m
+-- the number k in a core of m cells: k in decimal, or k - m if 2k is above m
 unfoldable pub number_text : ℕ → ℕ → List ℕ
 number_text m k = if nat_le (2 * k) m then decimal k else codes "-" ++ decimal (m - k)
 
@@ -56,16 +56,16 @@ number_text m k = if nat_le (2 * k) m then decimal k else codes "-" ++ decimal (
 unfoldable pub operand_text : ℕ → Mode → ℕ → List ℕ
 operand_text m mode k = mode_text mode ++ number_text m k
 
--- an instruction, as `MOV.I $0, $1`, and a line feed
+-- the line of an instruction, as `MOV.I $0, $1`
 unfoldable pub line_text : ℕ → Instruction → List ℕ
 line_text m i =
     opcode_text i.opcode ++ codes "." ++ modifier_text i.modifier ++ codes " "
     ++ operand_text m i.a_mode i.a_number ++ codes ", " ++ operand_text m i.b_mode i.b_number ++ 10 ∷ []
 
--- the first line, as `ORG 0`, and a line feed
+-- the first line, as `ORG 0`
 unfoldable pub start_text : ℕ → List ℕ
 start_text start = codes "ORG " ++ decimal start ++ 10 ∷ []
 
--- the load text of a warrior in a core of m cells
-unfoldable pub load_text : ℕ → Program → List ℕ
+-- the load file of a warrior in a core of m cells
+unfoldable pub load_text : ℕ → WarriorView → List ℕ
 load_text m p = start_text p.start ++ flat_map (line_text m) p.code

@@ -1,10 +1,10 @@
--- Why numbers are no rules (the order is this project's own).
-use Rattle.rc_instr.specs.Rules.{Limits, HasCore, HasCycles, HasTasks, HasLength, HasDistance}
+-- Which number of the raw rules is out of its limits.
+use Rattle.rc_instr.specs.Rules.{RulesView, HasCore, HasCycles, HasTasks, HasLength, HasDistance}
 use Rattle.rc_instr.specs.declared.rules.RulesError.{RulesError}
 use Rattle.rc_instr.specs.declared.rules.RulesError.TheVariants.{Core, Cycles, Tasks, Length, Distance}
 
--- this number is out of its limits, and those before it are not
-abbrev pub IsFirstBroken : RulesError → Limits → Type 0
+-- this number is out of its limits, and the numbers before it are not
+abbrev pub IsFirstBroken : RulesError → RulesView → Type 0
 IsFirstBroken Core r = ¬ HasCore r
 IsFirstBroken Cycles r = HasCore r × (¬ HasCycles r)
 IsFirstBroken Tasks r = HasCore r × HasCycles r × (¬ HasTasks r)

@@ -1,11 +1,11 @@
-//! Numbers up to 4294967295 in decimal, with no leading zero, as bytes spell them.
+//! Decimals at the front of a text: 0 to 4294967295, without leading zeros.
 ghost use Rattle.std.specs.Prelude.{◌≡◌, ℕ, ◌<◌, ◌≤◌, ◌^◌, true, List, ◌∷◌, ◌++◌, length, IfSome, IsSomeAnd, Some, take_while};
 ghost use Rattle.std.specs.Char.{is_ascii_digit};
 ghost use Rattle.std.specs.Fmt.{decimal};
 ghost use Rattle.std.specs.Str.{all_ascii_digits};
 ghost use Rattle.rc_instr.specs.Digits.{NoDigitFirst, read_on};
 
-/// What follows a byte at the front.
+/// Returns the rest of `bytes` if the first of them is `byte`.
 pub fn after(byte: u8, bytes: &[u8]) -> Option<&[u8]>
     ensures found { IfSome result (λ rest. bytes.now ≡ byte ∷ rest.now) }
     ensures only { (rest : List ℕ) → bytes.now ≡ byte ∷ rest → IsSomeAnd result (λ r. r.now ≡ rest) }
@@ -16,50 +16,10 @@ pub fn after(byte: u8, bytes: &[u8]) -> Option<&[u8]>
     }
 }
 
-/// How many digits stand at the front.
-fn digit_count(bytes: &[u8]) -> usize
-    ensures { result ≡ length (take_while is_ascii_digit bytes.now) }
-{
-    bytes
-        .iter()
-        .take_while(|byte| byte.is_ascii_digit())
-        .count()
-}
-
-/// The number that up to ten digits stand for.
-fn number_of(digits: &[u8]) -> u64
-    requires short { length digits.now ≤ 10 }
-    requires digits { all_ascii_digits digits.now ≡ true }
-    ensures { result ≡ read_on 0 digits.now }
-{
-    let mut number = 0u64;
-    for digit in digits {
-        number = number * 10 + u64::from(*digit - b'0');
-    }
-    number
-}
-
-/// The number that digits spell.
-#[tactic(auto, using(crate::proofs::Numerals::decimals))]
-fn digits_number(digits: &[u8]) -> Option<u32>
-    requires { all_ascii_digits digits.now ≡ true }
-    ensures found { IfSome result (λ n. (digits.now ≡ decimal n) × (n < 2 ^ 32)) }
-    ensures only { (n : ℕ) → n < 2 ^ 32 → digits.now ≡ decimal n → result ≡ Some n }
-{
-    if digits.is_empty() || digits.len() > 10 {
-        return None;
-    }
-    if digits.len() > 1 && digits[0] == b'0' {
-        return None;
-    }
-    let number = number_of(digits);
-    if number > u64::from(u32::MAX) {
-        return None;
-    }
-    Some(number as u32)
-}
-
-/// The number at the front, and what follows it: up to 4294967295, in decimal with no leading zero. A digit that follows belongs to it.
+/// Reads the decimal at the front and returns its value and the rest of `bytes`.
+///
+/// All digits at the front belong to it. Returns `None` if there are none, if the first of several
+/// is 0, or if the value is above 4294967295.
 pub fn decimal_at(bytes: &[u8]) -> Option<(u32, &[u8])>
     ensures found { IfSome result (λ x. (bytes.now ≡ decimal x.0 ++ x.1.now) × (x.0 < 2 ^ 32)) }
     ensures only { (n : ℕ) (rest : List ℕ) → n < 2 ^ 32 → NoDigitFirst rest → bytes.now ≡ decimal n ++ rest
@@ -72,7 +32,8 @@ pub fn decimal_at(bytes: &[u8]) -> Option<(u32, &[u8])>
     }
 }
 
-/// The number that the bytes are: up to 4294967295, in decimal with no leading zero.
+/// Reads all of `bytes` as one decimal, 0 to 4294967295. A leading zero or any other byte gives
+/// `None`.
 #[tactic(auto, using(crate::proofs::Numerals::ends))]
 pub fn decimal_of(bytes: &[u8]) -> Option<u32>
     ensures found { IfSome result (λ n. (bytes.now ≡ decimal n) × (n < 2 ^ 32)) }
@@ -82,4 +43,47 @@ pub fn decimal_of(bytes: &[u8]) -> Option<u32>
         Some((number, [])) => Some(number),
         _ => None,
     }
+}
+
+// Counts the digits at the front.
+fn digit_count(bytes: &[u8]) -> usize
+    ensures { result ≡ length (take_while is_ascii_digit bytes.now) }
+{
+    bytes
+        .iter()
+        .take_while(|byte| byte.is_ascii_digit())
+        .count()
+}
+
+// Ten digits at most, so that the value fits a `u64`.
+fn digits_value(digits: &[u8]) -> u64
+    requires short { length digits.now ≤ 10 }
+    requires digits { all_ascii_digits digits.now ≡ true }
+    ensures { result ≡ read_on 0 digits.now }
+{
+    let mut number = 0u64;
+    for digit in digits {
+        number = number * 10 + u64::from(*digit - b'0');
+    }
+    number
+}
+
+// Reads `digits` as a `u32`. A leading zero or a larger value gives `None`.
+#[tactic(auto, using(crate::proofs::Numerals::decimals))]
+fn digits_number(digits: &[u8]) -> Option<u32>
+    requires { all_ascii_digits digits.now ≡ true }
+    ensures found { IfSome result (λ n. (digits.now ≡ decimal n) × (n < 2 ^ 32)) }
+    ensures only { (n : ℕ) → n < 2 ^ 32 → digits.now ≡ decimal n → result ≡ Some n }
+{
+    if digits.is_empty() || digits.len() > 10 {
+        return None;
+    }
+    if digits.len() > 1 && digits[0] == b'0' {
+        return None;
+    }
+    let number = digits_value(digits);
+    if number > u64::from(u32::MAX) {
+        return None;
+    }
+    Some(number as u32)
 }

@@ -1,7 +1,8 @@
-//! Instructions: an opcode, a modifier, and two operands of a mode and a number each.
+//! Instructions: an opcode, a modifier, and two operands, each a mode and a number.
 ghost use Rattle.std.specs.Prelude.{◌≡◌, ◌↔◌, IsTrue};
 
-/// What an instruction does: the fourteen opcodes of the 1994 draft with CMP under its later name SEQ, and SNE and NOP of pMARS.
+/// What an instruction does: the opcodes of the 1994 draft, with CMP under its later name SEQ, and
+/// SNE and NOP (pMARS).
 #[derive(Clone, Copy, Debug, PartialEq, Eq)]
 pub enum Opcode {
     /// Ends the task that runs it.
@@ -16,7 +17,7 @@ pub enum Opcode {
     Mul,
     /// Divides. A zero divisor ends the task.
     Div,
-    /// Leaves the remainder of a division. A zero divisor ends the task.
+    /// Takes the remainder of a division. A zero divisor ends the task.
     Mod,
     /// Jumps.
     Jmp,
@@ -24,9 +25,9 @@ pub enum Opcode {
     Jmz,
     /// Jumps if not zero.
     Jmn,
-    /// Counts down, and jumps if not zero then.
+    /// Subtracts 1, then jumps if the result is not zero.
     Djn,
-    /// Skips the next instruction if equal. The 1994 draft's CMP.
+    /// Skips the next instruction if equal. The 1994 draft calls it CMP.
     Seq,
     /// Skips the next instruction if not equal.
     Sne,
@@ -38,7 +39,7 @@ pub enum Opcode {
     Nop,
 }
 
-/// Which numbers of its two cells an instruction works on: from the A-instruction's to the B-instruction's.
+/// Which numbers an instruction reads and writes: from the A-instruction to the B-instruction.
 #[derive(Clone, Copy, Debug, PartialEq, Eq)]
 pub enum Modifier {
     /// A-number to A-number.
@@ -49,32 +50,32 @@ pub enum Modifier {
     AB,
     /// B-number to A-number.
     BA,
-    /// Both numbers, each to its like.
+    /// Both numbers: A to A and B to B.
     F,
-    /// Both numbers, crossed.
+    /// Both numbers, crossed: A to B and B to A.
     X,
-    /// The whole instruction, where the opcode can take one; else as F.
+    /// The whole instruction, if the opcode works on whole instructions; else like `F`.
     I,
 }
 
-/// How an operand's number leads to a cell.
+/// How an operand finds its cell, from the operand's number.
 #[derive(Clone, Copy, Debug, PartialEq, Eq)]
 pub enum Mode {
-    /// `#`: this very cell.
+    /// `#`: the instruction's own cell.
     Immediate,
-    /// `$`: so many cells on.
+    /// `$`: the cell that is the number's distance away.
     Direct,
-    /// `*`: through the A-number of the cell so many on.
+    /// `*`: through the A-number of that cell.
     AIndirect,
-    /// `@`: through its B-number.
+    /// `@`: through the B-number of that cell.
     BIndirect,
-    /// `{`: through its A-number, lowered by 1 before.
+    /// `{`: through the A-number of that cell, after lowering it by 1.
     APredecrement,
-    /// `<`: through its B-number, lowered by 1 before.
+    /// `<`: through the B-number of that cell, after lowering it by 1.
     BPredecrement,
-    /// `}`: through its A-number, raised by 1 afterwards.
+    /// `}`: through the A-number of that cell, which is raised by 1 afterwards.
     APostincrement,
-    /// `>`: through its B-number, raised by 1 afterwards.
+    /// `>`: through the B-number of that cell, which is raised by 1 afterwards.
     BPostincrement,
 }
 
@@ -92,7 +93,7 @@ pub struct Instruction {
 impl Instruction {
     ghost use Rattle.rc_instr.specs.Instruction.{empty_cell, same_instruction};
 
-    /// The empty cell, `DAT.F $0, $0`, of which a core is made before a fight (pMARS).
+    /// Returns `DAT.F $0, $0`, which fills the core before a fight (pMARS).
     pub fn empty() -> Instruction
         ensures { result ≡ empty_cell }
     {
@@ -106,7 +107,7 @@ impl Instruction {
         }
     }
 
-    /// Whether two instructions are equal in all six parts. SEQ and SNE with the modifier I compare so.
+    /// Compares all six parts, as SEQ and SNE do with modifier I.
     #[inline(always)]
     pub fn is_same(&self, other: &Instruction) -> bool
         ensures value { result ≡ same_instruction self.now other.now }

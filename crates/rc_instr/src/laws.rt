@@ -1,20 +1,18 @@
 //! Laws of load files.
 ghost use Rattle.std.specs.Prelude.{◌≡◌, MatchResult};
-ghost use Rattle.rc_instr.specs.Rules.{Limits, IsRules};
-ghost use Rattle.rc_instr.specs.Warrior.{Program, IsProgram, Fits};
+ghost use Rattle.rc_instr.specs.Rules.{RulesView, IsRules};
+ghost use Rattle.rc_instr.specs.Warrior.{WarriorView, IsWarrior, Fits};
 ghost use Rattle.rc_instr.specs.LoadText.{load_text};
 ghost use Rattle.rc_instr.specs.declared.loadfile.fault.LoadFault.TheVariants.{OutOfMemory};
 
-use crate::loadfile::fault::LoadFault;
-use crate::loadfile::read::read_loadfile;
-use crate::loadfile::write::write_loadfile;
+use crate::loadfile::{LoadFault, read_loadfile, write_loadfile};
 use crate::memory::OutOfMemory as MemoryRefused;
 use crate::rules::Rules;
 use crate::warrior::Warrior;
 use std::alloc::Global;
 
-/// A load text reads as its warrior: what is written for a warrior that keeps the rules is read as that very warrior,
-/// and nothing but want of memory keeps it from that.
+/// Writes a load file of `warrior` and reads it back: the result is the same warrior. Fails only if
+/// out of memory.
 pub fn load_text_reads_as_its_warrior(
     alloc: Global,
     warrior: &Warrior,
@@ -31,8 +29,8 @@ pub fn load_text_reads_as_its_warrior(
     }
 }
 
-/// Equal load texts under equal rules are texts of equal warriors.
+/// Equal load files under equal rules mean equal warriors.
 pub fn equal_load_texts_are_equal_warriors()
-    ensures { (rules : Limits) (v w : Program) → IsRules rules → IsProgram v → IsProgram w → Fits rules v → Fits rules w
+    ensures { (rules : RulesView) (v w : WarriorView) → IsRules rules → IsWarrior v → IsWarrior w → Fits rules v → Fits rules w
         → load_text rules.core v ≡ load_text rules.core w → v ≡ w }
 {}

@@ -1,23 +1,22 @@
-//! The bottom layer of the tuner: instructions, the rules of a fight, warriors, load files, and outlets for bytes.
+//! The bottom layer of the tuner: instructions, rules, warriors, load files, and outlets for bytes.
 //!
-//! A warrior's load file is the one spelling in which this project writes a warrior down.
-//! What is written is read as the same warrior, and nothing else is read.
+//! A load file is the one spelling in which a warrior is stored. Writing a warrior and reading it
+//! back gives the same warrior, and nothing but such a text is read.
 #![tactic(auto)]
 
-pub mod decimal;
-pub mod instruction;
+mod decimal;
+mod instruction;
 pub mod laws;
-pub mod loadfile;
-pub mod memory;
-pub mod modifier;
-pub mod outlet;
-pub mod rules;
-pub mod warrior;
+mod loadfile;
+mod memory;
+mod modifier;
+mod outlet;
+mod rules;
+mod warrior;
 
+pub use decimal::{after, decimal_at, decimal_of};
 pub use instruction::{Instruction, Mode, Modifier, Opcode};
-pub use loadfile::fault::LoadFault;
-pub use loadfile::read::read_loadfile;
-pub use loadfile::write::write_loadfile;
+pub use loadfile::{LoadFault, read_loadfile, write_loadfile};
 pub use memory::OutOfMemory;
 pub use modifier::default_modifier;
 pub use outlet::{Outlet, WriteFailed};

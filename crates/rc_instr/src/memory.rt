@@ -1,8 +1,8 @@
-//! Want of memory.
+//! Out of memory.
 use std::alloc::{AllocError, AllocFailed};
 use thiserror::Error;
 
-/// Memory that a call asked for was refused. It is answered only where a growth was really refused.
+/// An allocation failed. Returned only when one really did.
 #[derive(Clone, Copy, Debug, PartialEq, Eq, Error)]
 #[error("out of memory")]
 pub struct OutOfMemory;

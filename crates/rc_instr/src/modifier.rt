@@ -4,32 +4,17 @@ ghost use Rattle.rc_instr.specs.DefaultModifier.{ab_or, b_or, default_modifier_o
 
 use crate::instruction::{Mode, Modifier, Opcode};
 
-/// AB where the A-operand is immediate.
-fn ab_or(otherwise: Modifier, a_mode: Mode) -> Modifier
-    ensures { result ≡ ab_or otherwise a_mode }
-{
-    match a_mode {
-        Mode::Immediate => Modifier::AB,
-        _ => otherwise,
-    }
-}
-
-/// B where the B-operand is immediate.
-fn b_or(otherwise: Modifier, b_mode: Mode) -> Modifier
-    ensures { result ≡ b_or otherwise b_mode }
-{
-    match b_mode {
-        Mode::Immediate => Modifier::B,
-        _ => otherwise,
-    }
-}
-
-/// The modifier that an instruction has where its text gives none.
+/// Returns the modifier of an instruction that is written without one (1994 draft).
 ///
-/// DAT and NOP have F. MOV, SEQ and SNE have AB with an immediate A-operand, else B with an immediate B-operand, else I.
-/// ADD, SUB, MUL, DIV and MOD go by the same tests, and have F where neither operand is immediate.
-/// SLT has AB with an immediate A-operand, else B. JMP, JMZ, JMN, DJN and SPL have B.
-/// The rule is the 1994 draft's; for NOP and SNE it is this project's own.
+/// The draft does not know NOP and SNE: here they go with DAT and SEQ.
+///
+/// | Opcodes | A-operand immediate | else B-operand immediate | else |
+/// |---|---|---|---|
+/// | DAT, NOP | F | F | F |
+/// | MOV, SEQ, SNE | AB | B | I |
+/// | ADD, SUB, MUL, DIV, MOD | AB | B | F |
+/// | SLT | AB | B | B |
+/// | JMP, JMZ, JMN, DJN, SPL | B | B | B |
 #[tactic(auto, unfolding(crate::specs::DefaultModifier::default_modifier_of))]
 pub fn default_modifier(opcode: Opcode, a_mode: Mode, b_mode: Mode) -> Modifier
     ensures { result ≡ default_modifier_of opcode a_mode b_mode }
@@ -42,5 +27,25 @@ pub fn default_modifier(opcode: Opcode, a_mode: Mode, b_mode: Mode) -> Modifier
         }
         Opcode::Slt => ab_or(Modifier::B, a_mode),
         Opcode::Jmp | Opcode::Jmz | Opcode::Jmn | Opcode::Djn | Opcode::Spl => Modifier::B,
+    }
+}
+
+// AB if the A-operand is immediate.
+fn ab_or(otherwise: Modifier, a_mode: Mode) -> Modifier
+    ensures { result ≡ ab_or otherwise a_mode }
+{
+    match a_mode {
+        Mode::Immediate => Modifier::AB,
+        _ => otherwise,
+    }
+}
+
+// B if the B-operand is immediate.
+fn b_or(otherwise: Modifier, b_mode: Mode) -> Modifier
+    ensures { result ≡ b_or otherwise b_mode }
+{
+    match b_mode {
+        Mode::Immediate => Modifier::B,
+        _ => otherwise,
     }
 }

@@ -1,4 +1,4 @@
-//! Outlets for bytes: writers that give up at the first failure, and remember it.
+//! Outlets for bytes: writers that give up at the first failure and remember it.
 ghost use Rattle.std.specs.Prelude.{◌≡◌, ◌<◌, ◌≤◌, false, take, length, IfOk, OnOk, OnErr, IsErr, IsTrue, is_err};
 ghost use Rattle.std.specs.Io.KnownBytes.{Appends, Keeps};
 
@@ -6,7 +6,7 @@ use std::io::Write;
 use std::marker::Model;
 use thiserror::Error;
 
-/// A writer with a memory of its first failure. After it the writer is not called again.
+/// A writer that is never called again after its first failure.
 #[derive(Drop)]
 pub struct Outlet<X: Write> {
     inner: X,
@@ -23,11 +23,10 @@ impl<X: Write> Model for Outlet<X> {
 
 /// A write failed, now or earlier.
 #[derive(Clone, Copy, Debug, PartialEq, Eq, Error)]
-#[error("a write failed")]
+#[error("write failed")]
 pub struct WriteFailed;
 
 impl<X: Write> Outlet<X> {
-    /// An outlet over a writer, which has not failed yet.
     pub fn new(inner: X) -> Outlet<X>
         ensures bytes { result.bytes ≡ X.contents inner }
         ensures failed { result.failed ≡ false }
@@ -38,10 +37,10 @@ impl<X: Write> Outlet<X> {
         }
     }
 
-    /// Writes some of the first bytes of a piece, and answers how many: at least one, where the piece is not empty.
+    /// Writes a prefix of `piece` and returns its length, which is 0 only for an empty `piece`.
     ///
-    /// Where the writer fails, or takes no byte of a piece that is not empty, the outlet has failed for good:
-    /// this call and every later one answer `WriteFailed`, the later ones without a call of the writer.
+    /// If the writer fails, or takes no byte of a `piece` that is not empty, the outlet fails for
+    /// good: this call and all later ones return `WriteFailed`, and the writer is not called again.
     pub fn write(&mut self, piece: &[u8]) -> Result<usize, WriteFailed>
         ensures count { IfOk result (λ n. n ≤ length piece.now) }
         ensures some { IfOk result (λ n. 0 < length piece.now → 0 < n) }
@@ -63,9 +62,10 @@ impl<X: Write> Outlet<X> {
         }
     }
 
-    /// Writes a whole text: in one piece where the writer takes it so, else piece by piece. The outlet has not failed.
+    /// Writes all of `text`, in as many calls of the writer as it takes.
     ///
-    /// Where a write fails, the answer is `WriteFailed`, and an unknown part of the text may be out.
+    /// The outlet must not have failed. After `WriteFailed` an unknown part of `text` may be
+    /// written.
     #[tactic(auto, using(crate::proofs::Pieces::appends_more))]
     pub fn write_all(&mut self, text: &[u8]) -> Result<(), WriteFailed>
         requires { self.old.failed ≡ false }
@@ -80,14 +80,14 @@ impl<X: Write> Outlet<X> {
         Ok(())
     }
 
-    /// Whether a write has failed.
+    /// Returns whether a write has failed.
     pub fn failed(&self) -> bool
         ensures { result ≡ self.now.failed }
     {
         self.has_failed
     }
 
-    /// The writer, with what it was given.
+    /// Returns the writer, without writing anything more.
     pub fn into_inner(self) -> X
         ensures { X.contents result ≡ self.bytes }
     {

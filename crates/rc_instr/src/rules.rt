@@ -1,12 +1,12 @@
 //! The rules of a fight: five numbers within their limits.
 ghost use Rattle.std.specs.Prelude.{◌≡◌, ◌↔◌, IsOk, IfOk, IfErr};
-ghost use Rattle.rc_instr.specs.Rules.{limits, IsRules};
+ghost use Rattle.rc_instr.specs.Rules.{rules_view, IsRules};
 
 use std::alloc::AllocError;
 use std::marker::Model;
 use thiserror::Error;
 
-/// The rules of a fight. Each value of this type keeps the limits that `try_new` tests.
+/// The rules of a fight, checked: the numbers are within the limits of [`Rules::try_new`].
 #[derive(Debug, PartialEq, Eq)]
 pub struct Rules {
     core: u32,
@@ -16,29 +16,29 @@ pub struct Rules {
     distance: u32,
 }
 
-/// Which number of the rules is out of its limits: the first in this order.
+/// Which number is out of its limits: the first in this order.
 #[derive(Clone, Copy, Debug, PartialEq, Eq, Error)]
 pub enum RulesError {
-    #[error("the core size is not 8 to 65535")]
+    #[error("core size must be 8 to 65535")]
     Core,
-    #[error("the number of cycles is not 1 to 1000000")]
+    #[error("cycles must be 1 to 1000000")]
     Cycles,
-    #[error("the number of tasks is not 1 to 8000")]
+    #[error("tasks must be 1 to 8000")]
     Tasks,
-    #[error("the warrior length is not 1 to 200")]
+    #[error("warrior length must be 1 to 200")]
     Length,
-    #[error("the distance is below the warrior length or above half of the core size")]
+    #[error("distance must be from the warrior length to half the core size")]
     Distance,
 }
 
 impl Model for Rules {
-    ghost use Rattle.rc_instr.specs.Rules.{Limits, limits, IsRules};
+    ghost use Rattle.rc_instr.specs.Rules.{RulesView, rules_view, IsRules};
 
-    ghost Value = { Limits };
+    ghost Value = { RulesView };
 
-    ghost view = { λ r. limits r.core r.cycles r.tasks r.length r.distance };
+    ghost view = { λ r. rules_view r.core r.cycles r.tasks r.length r.distance };
 
-    ghost invariant = { λ r. IsRules (limits r.core r.cycles r.tasks r.length r.distance) };
+    ghost invariant = { λ r. IsRules (rules_view r.core r.cycles r.tasks r.length r.distance) };
 
     ghost inverse = { λ v. record { core = v.core; cycles = v.cycles; tasks = v.tasks; length = v.length; distance = v.distance } };
 }
@@ -54,11 +54,16 @@ impl Copy for Rules {}
 impl Rules {
     ghost use Rattle.rc_instr.specs.RulesRefusal.{IsFirstBroken};
 
-    /// Makes rules of a core size (8 to 65535 cells), the cycles of a fight (1 to 1000000, a turn of each warrior in each),
-    /// the tasks that a warrior may have (1 to 8000), the length of a warrior (1 to 200 instructions), and the distance
-    /// that two warriors keep in the core (from the length to half of the core size).
+    /// Checks five numbers and makes rules of them:
     ///
-    /// The numbers are tested in this order, and the error names the first that is out of its limits. The limits are this project's own.
+    /// - `core`: the size of the core, 8 to 65535 cells.
+    /// - `cycles`: after how many cycles a fight is a tie, 1 to 1000000.
+    /// - `tasks`: the most tasks of a warrior, 1 to 8000.
+    /// - `length`: the most instructions of a warrior, 1 to 200.
+    /// - `distance`: the fewest cells between the loads of two warriors, `length` to half of
+    ///   `core`.
+    ///
+    /// The error names the first number, in this order, that is out of its limits.
     pub fn try_new(
         core: u32,
         cycles: u32,
@@ -66,9 +71,9 @@ impl Rules {
         length: u32,
         distance: u32,
     ) -> Result<Rules, RulesError>
-        ensures ok { IsOk result ↔ IsRules (limits core cycles tasks length distance) }
-        ensures rules { IfOk result (λ r. r ≡ limits core cycles tasks length distance) }
-        ensures refused { IfErr result (λ e. IsFirstBroken e (limits core cycles tasks length distance)) }
+        ensures ok { IsOk result ↔ IsRules (rules_view core cycles tasks length distance) }
+        ensures rules { IfOk result (λ r. r ≡ rules_view core cycles tasks length distance) }
+        ensures refused { IfErr result (λ e. IsFirstBroken e (rules_view core cycles tasks length distance)) }
     {
         if core < 8 || core > 65535 {
             return Err(RulesError::Core);
@@ -94,9 +99,10 @@ impl Rules {
         })
     }
 
-    /// The default rules of pMARS: 8000 cells, 80000 cycles, 8000 tasks, length 100, distance 100.
+    /// Returns the default rules of pMARS: 8000 cells, 80000 cycles, 8000 tasks, length 100,
+    /// distance 100.
     pub fn standard() -> Rules
-        ensures rules { result ≡ limits 8000 80000 8000 100 100 }
+        ensures rules { result ≡ rules_view 8000 80000 8000 100 100 }
         ensures valid { IsRules result }
     {
         Rules {
@@ -108,7 +114,7 @@ impl Rules {
         }
     }
 
-    /// How many cells the core has, 8 to 65535.
+    /// Returns the number of cells of the core, 8 to 65535.
     #[inline(always)]
     pub fn core(&self) -> u32
         ensures core { result ≡ self.now.core }
@@ -117,7 +123,8 @@ impl Rules {
         self.core
     }
 
-    /// After how many cycles a fight is a tie, 1 to 1000000. In each cycle each warrior has a turn.
+    /// Returns the number of cycles after which a fight is a tie, 1 to 1000000. Each warrior has
+    /// one turn in each cycle.
     #[inline(always)]
     pub fn cycles(&self) -> u32
         ensures cycles { result ≡ self.now.cycles }
@@ -126,7 +133,7 @@ impl Rules {
         self.cycles
     }
 
-    /// How many tasks a warrior has at most, 1 to 8000.
+    /// Returns the most tasks that a warrior may have, 1 to 8000.
     #[inline(always)]
     pub fn tasks(&self) -> u32
         ensures tasks { result ≡ self.now.tasks }
@@ -135,7 +142,7 @@ impl Rules {
         self.tasks
     }
 
-    /// How many instructions a warrior has at most, 1 to 200.
+    /// Returns the most instructions that a warrior may have, 1 to 200.
     #[inline(always)]
     pub fn length(&self) -> u32
         ensures length { result ≡ self.now.length }
@@ -144,7 +151,8 @@ impl Rules {
         self.length
     }
 
-    /// How many cells the starts of two warriors are apart at least, from the length to half of the core size.
+    /// Returns the fewest cells between the addresses where two warriors are loaded, from `length`
+    /// to half the core size.
     #[inline(always)]
     pub fn distance(&self) -> u32
         ensures distance { result ≡ self.now.distance }

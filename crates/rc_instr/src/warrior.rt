@@ -1,13 +1,13 @@
-//! Warriors: code, and the instruction at which it starts.
+//! Warriors: code, and the instruction where execution starts.
 ghost use Rattle.std.specs.Prelude.{◌≡◌, ◌↔◌, IfOk, IfErr, All, IsTrue};
-ghost use Rattle.rc_instr.specs.Warrior.{program, IsBelow, IsProgram, Fits};
+ghost use Rattle.rc_instr.specs.Warrior.{warrior_view, IsBelow, IsWarrior, Fits};
 
 use crate::instruction::Instruction;
 use crate::rules::Rules;
 use std::marker::Model;
 use thiserror::Error;
 
-/// A list of instructions, which contracts see as the list of its items.
+/// A list of instructions. Contracts see the list.
 #[derive(Debug, Drop)]
 pub struct Code {
     instructions: Vec<Instruction>,
@@ -23,21 +23,21 @@ impl Model for Code {
 }
 
 impl Code {
-    /// The list of these instructions.
+    /// Makes code of instructions.
     pub fn from_vec(instructions: Vec<Instruction>) -> Code
         ensures { result ≡ instructions.items }
     {
         Code { instructions }
     }
 
-    /// The instructions, in order.
+    /// Returns the instructions, in order.
     pub fn as_slice(&self) -> &[Instruction]
         ensures { result.now ≡ self.now }
     {
         self.instructions.as_slice()
     }
 
-    /// The instructions, as the vector that they were made of.
+    /// Returns the instructions as a `Vec`.
     pub fn into_vec(self) -> Vec<Instruction>
         ensures { result.items ≡ self }
     {
@@ -46,7 +46,7 @@ impl Code {
     }
 }
 
-/// A warrior: 1 to 200 instructions, and the number of the one at which its first task starts, counted from 0.
+/// A warrior: 1 to 200 instructions, and the index of the one that its first task executes first.
 #[derive(Debug, Drop)]
 pub struct Warrior {
     code: Vec<Instruction>,
@@ -54,29 +54,29 @@ pub struct Warrior {
 }
 
 impl Model for Warrior {
-    ghost use Rattle.rc_instr.specs.Warrior.{Program, IsProgram, program};
+    ghost use Rattle.rc_instr.specs.Warrior.{WarriorView, IsWarrior, warrior_view};
 
-    ghost Value = { Program };
+    ghost Value = { WarriorView };
 
-    ghost view = { λ w. program w.code.items w.start };
+    ghost view = { λ w. warrior_view w.code.items w.start };
 
-    ghost invariant = { λ w. IsProgram (program w.code.items w.start) };
+    ghost invariant = { λ w. IsWarrior (warrior_view w.code.items w.start) };
 }
 
-/// Why code makes no warrior: the first reason in this order.
+/// Why code is not a warrior under the rules: the first reason in this order.
 #[derive(Clone, Copy, Debug, PartialEq, Eq, Error)]
 pub enum WarriorError {
-    #[error("there is no instruction")]
+    #[error("no instructions")]
     Empty,
-    #[error("there are more instructions than the rules allow")]
+    #[error("more instructions than the rules allow")]
     TooLong,
-    #[error("the start is not inside the code")]
+    #[error("start outside the code")]
     BadStart,
-    #[error("a number of an instruction is not below the core size")]
+    #[error("instruction number not below the core size")]
     NumberTooLarge,
 }
 
-/// The code that was refused, handed back, and why.
+/// The code that was refused, handed back, and the reason.
 #[derive(Debug, Drop, Error)]
 #[error("{error}")]
 pub struct Refused {
@@ -84,19 +84,11 @@ pub struct Refused {
     pub error: WarriorError,
 }
 
-/// Whether all numbers are below a core size.
-fn are_below(code: &[Instruction], core: u32) -> bool
-    ensures { IsTrue result ↔ All (IsBelow core) code.now }
-{
-    code.iter().all(|i| u32::from(i.a_number) < core && u32::from(i.b_number) < core)
-}
-
 impl Warrior {
-    ghost use Rattle.rc_instr.specs.WarriorRefusal.{IsRefused, IsRefusal};
+    ghost use Rattle.rc_instr.specs.WarriorRefusal.{IsWarriorError, IsWarriorCheck};
 
-    /// The first reason for which code makes no warrior, if there is one.
     fn refusal_of(code: &[Instruction], start: u32, rules: &Rules) -> Option<WarriorError>
-        ensures { IsRefusal result rules.now (program code.now start) }
+        ensures { IsWarriorCheck result rules.now (warrior_view code.now start) }
     {
         if code.is_empty() {
             Some(WarriorError::Empty)
@@ -111,13 +103,19 @@ impl Warrior {
         }
     }
 
-    /// Makes a warrior of code and a start, counted from 0.
+    /// Makes a warrior of `code` that starts at index `start`.
     ///
-    /// It is refused, in this order, as `Empty`, as `TooLong` for the rules, as `BadStart` where the start is not below the
-    /// number of instructions, and as `NumberTooLarge` where a number is not below the core size. A refusal hands the code back.
+    /// # Errors
+    ///
+    /// The first of these that applies, together with the code:
+    ///
+    /// - `Empty`: `code` is empty.
+    /// - `TooLong`: `code` has more instructions than the rules allow.
+    /// - `BadStart`: `start` is not below the number of instructions.
+    /// - `NumberTooLarge`: an A-number or B-number is not below the core size.
     pub fn try_new(code: Vec<Instruction>, start: u32, rules: &Rules) -> Result<Warrior, Refused>
-        ensures ok { IfOk result (λ w. (w ≡ program code.items start) × IsProgram w × Fits rules.now w) }
-        ensures refused { IfErr result (λ e. (e.code ≡ code.items) × IsRefused e.error rules.now (program code.items start)) }
+        ensures ok { IfOk result (λ w. (w ≡ warrior_view code.items start) × IsWarrior w × Fits rules.now w) }
+        ensures refused { IfErr result (λ e. (e.code ≡ code.items) × IsWarriorError e.error rules.now (warrior_view code.items start)) }
     {
         match Warrior::refusal_of(code.as_slice(), start, rules) {
             Some(error) => Err(Refused {
@@ -128,26 +126,34 @@ impl Warrior {
         }
     }
 
-    /// Whether the warrior keeps these rules: its length is at most theirs, and all its numbers are below their core size.
+    /// Checks the warrior against `rules`: its length, and that its numbers are below the core
+    /// size.
     pub fn fits(&self, rules: &Rules) -> bool
         ensures { IsTrue result ↔ Fits rules.now self.now }
     {
         self.code.len() <= rules.length() as usize && are_below(self.code.as_slice(), rules.core())
     }
 
-    /// The instructions, in order: 1 to 200.
+    /// Returns the instructions, in order: 1 to 200.
     pub fn code(&self) -> &[Instruction]
         ensures code { result.now ≡ self.now.code }
-        ensures program { IsProgram self.now }
+        ensures warrior { IsWarrior self.now }
     {
         self.code.as_slice()
     }
 
-    /// The number of the instruction at which the first task starts, counted from 0.
+    /// Returns the index of the instruction where the first task starts.
     pub fn start(&self) -> u32
         ensures start { result ≡ self.now.start }
-        ensures program { IsProgram self.now }
+        ensures warrior { IsWarrior self.now }
     {
         self.start
     }
+}
+
+// Checks that every A-number and B-number is below `core`.
+fn are_below(code: &[Instruction], core: u32) -> bool
+    ensures { IsTrue result ↔ All (IsBelow core) code.now }
+{
+    code.iter().all(|i| u32::from(i.a_number) < core && u32::from(i.b_number) < core)
 }

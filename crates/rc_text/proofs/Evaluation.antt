@@ -8,7 +8,7 @@ use Rattle.rc_text.specs.declared.fault.EvalFault.{EvalFault}
 use Rattle.rc_text.specs.declared.fault.EvalFault.TheVariants.{Syntax, UnknownName, DivisionByZero, Overflow, TooDeep}
 use Rattle.rc_text.specs.Symbols.{Symbol}
 use Rattle.rc_text.specs.Grammar.{Tree, Literal, Named, Group, Prefix, Infix, IsGrammatical, level_of, is_prefix}
-use Rattle.rc_text.specs.Values.{Outcome, is_zero, within_range, prefix_value, infix_value, prefix_outcome, infix_outcome, name_outcome, value_of, Meaning, HasOutcome, IsValue, IsFault, DEEPEST}
+use Rattle.rc_text.specs.Values.{Outcome, is_zero, within_range, prefix_value, infix_value, prefix_outcome, infix_outcome, name_outcome, tree_value, Meaning, HasOutcome, IsValue, IsEvalFault, DEEPEST}
 use Rattle.rc_text.specs.Reading.{before_operand, values, evaluation_of}
 use Rattle.rc_text.proofs.ReadTrees.{meaning_in}
 use Rattle.rc_text.proofs.OneTree.{reads_whole}
@@ -16,12 +16,12 @@ use Rattle.rc_text.proofs.TreesRead.{bottom, whole_before}
 use Rattle.rc_text.proofs.Faults.{no_tree, before_too_deep, before_ends, EndsReading}
 
 -- the value of a tree is its meaning in values
-pub value_of_is : (names : Meaning) (n : ℕ) (t : Tree) → value_of names t ≡ meaning_in (values names n) t
+pub value_of_is : (names : Meaning) (n : ℕ) (t : Tree) → tree_value names t ≡ meaning_in (values names n) t
 value_of_is names n (Literal v) = refl
 value_of_is names n (Named name) = refl
 value_of_is names n (Group t) = value_of_is names n t
 value_of_is names n (Prefix s t) = ap (prefix_outcome s) (value_of_is names n t)
-value_of_is names n (Infix l s r) = ap (λ x. infix_outcome x s (value_of names r)) (value_of_is names n l) ∙ ap (infix_outcome (meaning_in (values names n) l) s) (value_of_is names n r)
+value_of_is names n (Infix l s r) = ap (λ x. infix_outcome x s (tree_value names r)) (value_of_is names n l) ∙ ap (infix_outcome (meaning_in (values names n) l) s) (value_of_is names n r)
 
 -- no fault, or one of values
 abbrev pub IsOfValues : Outcome → Type 0
@@ -64,7 +64,7 @@ infix_of_values And x y h = tt
 infix_of_values Or x y h = tt
 infix_of_values _ x y h = absurd (omega arith)
 
--- a name stands for a number or is unknown
+-- a name has a value or is unknown
 name_of_values : (o : Option ℤ) → IsOfValues (name_outcome o)
 name_of_values (Some x) = tt
 name_of_values None = tt
@@ -81,12 +81,12 @@ infix_kept (Ok x) s (Err e) h f g = g
 infix_kept (Err e) s y h f g = f
 
 -- a tree of the grammar has no fault of the grammar
-of_values : (names : Meaning) (t : Tree) → IsGrammatical t → IsOfValues (value_of names t)
+of_values : (names : Meaning) (t : Tree) → IsGrammatical t → IsOfValues (tree_value names t)
 of_values names (Literal n) g = tt
 of_values names (Named name) g = name_of_values (names name)
 of_values names (Group t) g = of_values names t g
-of_values names (Prefix s t) g = prefix_kept s (value_of names t) g.0 (of_values names t g.2)
-of_values names (Infix l s r) g = infix_kept (value_of names l) s (value_of names r) g.0 (of_values names l g.3) (of_values names r g.4)
+of_values names (Prefix s t) g = prefix_kept s (tree_value names t) g.0 (of_values names t g.2)
+of_values names (Infix l s r) g = infix_kept (tree_value names l) s (tree_value names r) g.0 (of_values names l g.3) (of_values names r g.4)
 
 -- an outcome of the tree is read
 pub evaluation_of_outcome : (names : Meaning) (symbols : List Symbol) (x : Outcome) → HasOutcome names symbols x → evaluation_of names symbols ≡ x
@@ -100,7 +100,7 @@ outcome_of_reading names symbols x h =
     record { tree = w.tree; grammatical = w.means.grammatical; spells = w.spells; shallow = omega (arith, w.means.room); value = value_of_is names DEEPEST w.tree ∙ w.means.value }
 
 -- a fault of the tree is a fault of the expression
-fault_of_outcome : (names : Meaning) (symbols : List Symbol) (e : EvalFault) → HasOutcome names symbols (Err e) → IsOfValues (Err e) → IsFault names symbols e
+fault_of_outcome : (names : Meaning) (symbols : List Symbol) (e : EvalFault) → HasOutcome names symbols (Err e) → IsOfValues (Err e) → IsEvalFault names symbols e
 fault_of_outcome names symbols Syntax h v = absurd v
 fault_of_outcome names symbols TooDeep h v = absurd v
 fault_of_outcome names symbols UnknownName h v = h
@@ -108,11 +108,11 @@ fault_of_outcome names symbols DivisionByZero h v = h
 fault_of_outcome names symbols Overflow h v = h
 
 -- the fault of the tree is a fault of the expression
-pub fault_of_value : (names : Meaning) (symbols : List Symbol) (e : EvalFault) → HasOutcome names symbols (Err e) → IsFault names symbols e
+pub fault_of_value : (names : Meaning) (symbols : List Symbol) (e : EvalFault) → HasOutcome names symbols (Err e) → IsEvalFault names symbols e
 fault_of_value names symbols e h = fault_of_outcome names symbols e h (subst IsOfValues h.value (of_values names h.tree h.grammatical))
 
 -- by the two faults that end the reading
-ending_fault : (names : Meaning) (symbols : List Symbol) (e : EvalFault) → EndsReading e → before_operand (values names DEEPEST) symbols [] ≡ Err e → IsFault names symbols e
+ending_fault : (names : Meaning) (symbols : List Symbol) (e : EvalFault) → EndsReading e → before_operand (values names DEEPEST) symbols [] ≡ Err e → IsEvalFault names symbols e
 ending_fault names symbols Syntax is h = no_tree (values names DEEPEST) symbols h
 ending_fault names symbols TooDeep is h = before_too_deep (values names DEEPEST) symbols [] refl h
 ending_fault names symbols UnknownName is h = absurd is
@@ -120,7 +120,7 @@ ending_fault names symbols DivisionByZero is h = absurd is
 ending_fault names symbols Overflow is h = absurd is
 
 -- a fault that ends the reading is a fault of the expression
-pub fault_of_reading : (names : Meaning) (symbols : List Symbol) (e : EvalFault) → before_operand (values names DEEPEST) symbols [] ≡ Err e → IsFault names symbols e
+pub fault_of_reading : (names : Meaning) (symbols : List Symbol) (e : EvalFault) → before_operand (values names DEEPEST) symbols [] ≡ Err e → IsEvalFault names symbols e
 fault_of_reading names symbols e h = ending_fault names symbols e (before_ends (values names DEEPEST) symbols [] e h) h
 
 -- a value is read to the end
@@ -129,7 +129,7 @@ flat_value (Ok (Ok y)) x h = cc
 flat_value (Ok (Err e)) x h = cc
 flat_value (Err e) x h = cc
 
--- a fault is that of the tree, or ended the reading
+-- a fault is the fault of the tree, or it ended the reading
 flat_fault : (r : Result Outcome EvalFault) (e : EvalFault) → result_flatten r ≡ Err e → (r ≡ Ok (Err e)) ⊎ (r ≡ Err e)
 flat_fault (Ok (Ok y)) e h = cc
 flat_fault (Ok (Err f)) e h = inl (cc)
@@ -140,7 +140,7 @@ pub value_of_evaluation : (names : Meaning) (symbols : List Symbol) (x : ℤ) �
 value_of_evaluation names symbols x h = outcome_of_reading names symbols (Ok x) (flat_value (before_operand (values names DEEPEST) symbols []) x h)
 
 -- a fault that is read is a fault of the expression
-pub fault_of_evaluation : (names : Meaning) (symbols : List Symbol) (e : EvalFault) → evaluation_of names symbols ≡ Err e → IsFault names symbols e
+pub fault_of_evaluation : (names : Meaning) (symbols : List Symbol) (e : EvalFault) → evaluation_of names symbols ≡ Err e → IsEvalFault names symbols e
 fault_of_evaluation names symbols e h =
     elim (flat_fault (before_operand (values names DEEPEST) symbols []) e h) [
       | inl f ↦ fault_of_value names symbols e (outcome_of_reading names symbols (Err e) f)
@@ -159,15 +159,15 @@ module _ (names : Meaning) (symbols : List Symbol) (x : Outcome) (read : before_
   read_value = by_value x (outcome_of_reading names symbols x read)
 
   -- by whether there is a fault
-  by_fault : (r : Outcome) → HasOutcome names symbols r → IfErr r (IsFault names symbols)
+  by_fault : (r : Outcome) → HasOutcome names symbols r → IfErr r (IsEvalFault names symbols)
   by_fault (Ok v) h = tt
   by_fault (Err e) h = fault_of_value names symbols e h
 
   -- its fault is a fault of the expression
-  pub read_fault : IfErr x (IsFault names symbols)
+  pub read_fault : IfErr x (IsEvalFault names symbols)
   read_fault = by_fault x (outcome_of_reading names symbols x read)
 
-  -- no other outcome is that of the expression
+  -- the expression has no other outcome
   pub read_only : (r : Outcome) → HasOutcome names symbols r → x ≡ r
   read_only r h = ap result_flatten (sym read) ∙ evaluation_of_outcome names symbols r h
 

@@ -14,18 +14,18 @@ use Rattle.rc_text.proofs.ReadTrees.{meaning_in}
 use Rattle.rc_text.proofs.OneTree.{reads_whole}
 use Rattle.rc_text.proofs.TreesRead.{chosen}
 
--- signs that are no parentheses open nothing
+-- a sign other than a parenthesis opens nothing
 passed_over : (s : Sign) (n : ℕ) (ws : List Symbol) → is_open s ≡ false → is_close s ≡ false → opens_too_many n (Mark s ∷ ws) ≡ opens_too_many n ws
 passed_over Open n ws o c = cc
 passed_over Close n ws o c = cc
 passed_over _ n ws o c = refl
 
--- a sign before an operand is no closing parenthesis
+-- a sign before an operand is not a closing parenthesis
 not_close_of_prefix : (s : Sign) → is_prefix s ≡ true → is_close s ≡ false
 not_close_of_prefix Close h = cc
 not_close_of_prefix _ h = refl
 
--- an operator is no open parenthesis
+-- an operator is not an open parenthesis
 not_open_of_level : (s : Sign) → nat_lt 0 (level_of s) ≡ true → is_open s ≡ false
 not_open_of_level Open h = cc
 not_open_of_level _ h = refl
@@ -47,7 +47,7 @@ opened Open n ws o (inr later) = or_right (nat_le DEEPEST n) (opens_too_many (su
 opened _ n ws o h = cc
 
 module _ {A : Type 0} (m : Algebra A) where
-  -- a fault behind the closing of frames; that closes no parenthesis
+  -- a fault after the closing of frames; that closes no parenthesis
   reduced_fault : (n : ℕ) (next : Continuation A) (x : A) (S : List (Frame A)) (e : EvalFault) → reduction m n next x S ≡ Err e → (y : A) × (T : List (Frame A)) × (open_count T ≡ open_count S) × (next y T ≡ Err e)
   reduced_fault n next x [] e h = (x, [], refl, h)
   reduced_fault n next x (Paren ∷ S) e h = (x, Paren ∷ S, refl, h)
@@ -78,7 +78,8 @@ module _ {A : Type 0} (m : Algebra A) where
   mutual
     unfolding after_operand before_operand
 
-    -- where an operand has to come and the reading ends as too deep, too many parentheses are opened
+    -- where an operand has to come and the reading ends as too deep, too many parentheses are
+    -- opened
     pub before_too_deep : (ws : List Symbol) (S : List (Frame A)) → m.limit ≡ DEEPEST → before_operand m ws S ≡ Err TooDeep → opens_too_many (open_count S) ws ≡ true
     before_too_deep [] S l h = cc
     before_too_deep (Numeral n ∷ ws) S l h = after_too_deep ws (m.literal n) S l h
@@ -96,7 +97,7 @@ module _ {A : Type 0} (m : Algebra A) where
         ]
     before_too_deep (Foreign ∷ ws) S l h = cc
 
-    -- the same behind an operand
+    -- the same after an operand
     pub after_too_deep : (ws : List Symbol) (x : A) (S : List (Frame A)) → m.limit ≡ DEEPEST → after_operand m ws x S ≡ Err TooDeep → opens_too_many (open_count S) ws ≡ true
     after_too_deep [] x S l h = let r = reduced_fault 1 at_bottom x S TooDeep h in absurd (at_bottom_not_deep r.0 r.1 r.3)
     after_too_deep (Mark s ∷ ws) x S l h =
@@ -164,7 +165,7 @@ module _ {A : Type 0} (m : Algebra A) where
         ]
     before_ends (Foreign ∷ ws) S e h = ends Syntax e (Err Syntax) tt refl h
 
-    -- the same behind an operand
+    -- the same after an operand
     pub after_ends : (ws : List Symbol) (x : A) (S : List (Frame A)) (e : EvalFault) → after_operand m ws x S ≡ Err e → EndsReading e
     after_ends [] x S e h = let r = reduced_fault m 1 at_bottom x S e h in bottom_ends r.0 r.1 e r.3
     after_ends (Mark s ∷ ws) x S e h =
@@ -184,7 +185,7 @@ abbrev pub widened : {A : Type 0} → Algebra A → ℕ → Algebra A
 widened m limit = record { limit = limit; literal = m.literal; named = m.named; group = m.group; prefix = m.prefix; infix' = m.infix' }
 
 module _ {A : Type 0} (m : Algebra A) (limit : ℕ) (wider : m.limit ≤ limit) where
-  -- the same behind the closing of frames
+  -- the same after the closing of frames
   reduced_syntax : (n : ℕ) (next next' : Continuation A) (x : A) (S : List (Frame A)) → ((y : A) (T : List (Frame A)) → next y T ≡ Err Syntax → next' y T ≡ Err Syntax)
       → reduction m n next x S ≡ Err Syntax → reduction (widened m limit) n next' x S ≡ Err Syntax
   reduced_syntax n next next' x [] go h = go x [] h
@@ -228,7 +229,7 @@ module _ {A : Type 0} (m : Algebra A) (limit : ℕ) (wider : m.limit ≤ limit) 
         ]
     before_syntax (Foreign ∷ ws) S h = refl
 
-    -- the same behind an operand
+    -- the same after an operand
     pub after_syntax : (ws : List Symbol) (x : A) (S : List (Frame A)) → after_operand m ws x S ≡ Err Syntax → after_operand (widened m limit) ws x S ≡ Err Syntax
     after_syntax [] x S h = reduced_syntax 1 at_bottom at_bottom x S at_bottom_syntax h
     after_syntax (Mark s ∷ ws) x S h =

@@ -6,7 +6,7 @@ use Rattle.rc_text.specs.declared.header.Extent.{Extent}
 use Rattle.rc_text.specs.Bytes.{LINE_FEED, begins_with_word}
 use Rattle.rc_text.specs.Headers.{header_from, preceded}
 
--- what stands before what stands before
+-- what comes before what comes before
 preceded-preceded : (a b c d : ℕ) (o : Option Extent) → preceded a b (preceded c d o) ≡ preceded (a + c) (b + d) o
 preceded-preceded a b c d None = refl
 preceded-preceded a b c d (Some e) = let x : a + (c + e.bytes) ≡ a + c + e.bytes = omega arith in let y : b + (d + e.lines) ≡ b + d + e.lines = omega arith in cc

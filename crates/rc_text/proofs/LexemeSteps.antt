@@ -1,4 +1,4 @@
--- What lies ahead at a place, by what stands there.
+-- What lies ahead at a place, by what is there.
 use Rattle.std.proofs.Common.{drop-drop, ◌≡◌, ◌≢◌, ℕ, suc, zero, ◌+◌, ◌-◌, ◌≤◌, ◌<◌, Bool, true, false, List, [], ◌∷◌, get_or, take, drop, length, refl, sym, subst, arith, ap, ◌∙◌, add-zero, length-drop}
 use Rattle.std.specs.Prelude.{Option, Some, None, Ok}
 use Rattle.std.specs.Prelude.{if◌then◌else◌, not, ◌&&◌, ◌==◌, ◌^◌, nat_lt, codes}
@@ -79,7 +79,7 @@ sign_fits bs b e h = sign_lexeme_fits bs (long_sign (get_or bs 0 0) b) (short_si
   second (a ∷ []) b e h n = absurd (n (rw e (long_sign_zero a)))
   second (a ∷ c ∷ bs) b e h n = omega arith
 
--- what stands at the front is within the text
+-- what the text begins with is within the text
 pub lexeme_fits : (bs : List ℕ) (first : Bool) → 0 < length bs → FitsIn bs (lexeme_of first bs)
 lexeme_fits bs first h =
     let b = get_or bs 0 0 in
@@ -92,14 +92,14 @@ lexeme_fits bs first h =
     (λ digit. if_both (FitsIn bs) (nat_lt (decimal_value (take (prefix_len is_ascii_digit bs) bs)) (2 ^ 32)) _ _ (λ _. let f = front_fits is_ascii_digit bs h digit in (f.0, f.1, λ l. refl)) (λ _. tt))
     (λ _. sign_fits bs (get_or bs 1 0) refl h)))))
 
--- by what stands at the front
+-- by what the text begins with
 abbrev pub LiesAhead : List ℕ → Bool → ℕ → ℕ → Lexeme → Type 0
 LiesAhead bs first at line (Trivia len) = tokens_from bs 0 first at line ≡ tokens_from (drop len bs) 0 first (at + len) line
 LiesAhead bs first at line LineFeed = tokens_from bs 0 first at line ≡ with_token (token_of LineEnd at 1 line) (tokens_from (drop 1 bs) 0 true (at + 1) (line + 1))
 LiesAhead bs first at line (Word len kind) = tokens_from bs 0 first at line ≡ with_token (token_of kind at len line) (tokens_from (drop len bs) 0 false (at + len) line)
 LiesAhead bs first at line (Fault f) = tokens_from bs 0 first at line ≡ record { tokens = []; ending = Some f }
 
--- behind the first byte the rest of the lexeme is passed over
+-- after the first byte the rest of the lexeme is passed over
 rest_skipped : (bs : List ℕ) (len : ℕ) (first : Bool) (at line : ℕ) → 0 < len → len ≤ length bs → tokens_from (drop 1 bs) (len - 1) first (at + 1) line ≡ tokens_from (drop len bs) 0 first (at + len) line
 rest_skipped [] len first at line pos h = absurd (omega arith)
 rest_skipped (b ∷ bs) zero first at line pos h = absurd (omega arith)
@@ -126,7 +126,7 @@ module _ (source : List ℕ) (first : Bool) (at line : ℕ) (v : Ahead) (inside 
   front : LiesAhead (drop at source) first at line (lexeme_of first (drop at source))
   front = lies_ahead (drop at source) first at line some_left
 
-  -- what stands there is within the source
+  -- what is there is within the source
   fits : FitsIn (drop at source) (lexeme_of first (drop at source))
   fits = lexeme_fits (drop at source) first some_left
 
@@ -134,7 +134,7 @@ module _ (source : List ℕ) (first : Bool) (at line : ℕ) (v : Ahead) (inside 
   tail : take (length source - at) (drop at source) ≡ drop at source
   tail = between_to_end source at (length source) (omega arith)
 
-  -- past what is no token
+  -- past what is not a token
   pub trivia_at : (len : ℕ) → Trivia len ≡ lexeme_of first (take (length source - at) (drop at source)) → (0 < len) × (at + len ≤ length source) × (ahead_at source first (at + len) line ≡ v)
   trivia_at len e =
       let f = subst (FitsIn (drop at source)) (sym (e ∙ ap (lexeme_of first) tail)) fits in

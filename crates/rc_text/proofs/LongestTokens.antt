@@ -1,4 +1,4 @@
--- No longer token stands where one was taken.
+-- No longer token begins where one was taken.
 use Rattle.std.proofs.Common.{◌≡◌, ℕ, suc, zero, ◌+◌, ◌≤◌, ◌<◌, Bool, true, false, cond, List, [], ◌∷◌, take, length, refl, arith}
 use Rattle.std.specs.Prelude.{Option, Some, None, ◌&&◌, ◌||◌, ◌==◌, nat_lt, is_some, ◌^◌}
 use Rattle.std.specs.Char.{is_ascii_digit}
@@ -46,7 +46,7 @@ name_begins_no_long a h = grind (arith, nat_tests)
 digit_begins_no_long : (a : ℕ) → is_ascii_digit a ≡ true → begins_long a ≡ false
 digit_begins_no_long a h = grind (arith, nat_tests)
 
--- what begins a name is no digit
+-- what begins a name is not a digit
 name_is_no_digit : (a : ℕ) → begins_name a ≡ true → is_ascii_digit a ≡ false
 name_is_no_digit a h = grind (arith, nat_tests)
 
@@ -54,7 +54,7 @@ name_is_no_digit a h = grind (arith, nat_tests)
 digit_begins_no_name : (a : ℕ) → is_ascii_digit a ≡ true → begins_name a ≡ false
 digit_begins_no_name a h = grind (arith, nat_tests)
 
--- two bytes or more, of which the first begins no long sign
+-- two bytes or more; the first does not begin a sign of two
 no_sign : (a b : ℕ) (rest : List ℕ) → long_sign a b ≡ None → is_some (sign_of (a ∷ b ∷ rest)) ≡ false
 no_sign a b [] h = rw h refl
 no_sign a b (c ∷ rest) h = refl
@@ -64,7 +64,7 @@ no_token : (bytes : List ℕ) → is_name bytes ≡ false → is_number bytes �
 no_token bytes n d s = rw (n, d, s) refl
 
 module _ (a b : ℕ) (rest : List ℕ) (k : ℕ) (within : k ≤ length rest) where
-  -- behind a name
+  -- after a name
   longer_name : begins_name a ≡ true → prefix_len continues_name (a ∷ b ∷ rest) < suc (suc k) → is_one_token (take (suc (suc k)) (a ∷ b ∷ rest)) ≡ false
   longer_name begins over =
       let goes_on : continues_name a ≡ true = rw begins refl in
@@ -73,7 +73,7 @@ module _ (a b : ℕ) (rest : List ℕ) (k : ℕ) (within : k ≤ length rest) wh
         short : continues_name a ≡ true → cond (continues_name a) (1 + prefix_len continues_name (b ∷ rest)) 0 < suc (suc k) → prefix_len continues_name (b ∷ rest) < suc k
         short e h = let g : cond true (1 + prefix_len continues_name (b ∷ rest)) 0 < suc (suc k) = rw e at h in omega (arith, g)
 
-  -- behind a number
+  -- after a number
   longer_number : is_ascii_digit a ≡ true → prefix_len is_ascii_digit (a ∷ b ∷ rest) < suc (suc k) → is_one_token (take (suc (suc k)) (a ∷ b ∷ rest)) ≡ false
   longer_number digit over =
       no_token (a ∷ b ∷ take k rest) (rw (digit_begins_no_name a digit) refl) (not_all is_ascii_digit (a ∷ b ∷ rest) (suc (suc k)) over (omega arith)) (no_sign a b (take k rest) (no_long a b (digit_begins_no_long a digit)))
@@ -82,7 +82,7 @@ module _ (a b : ℕ) (rest : List ℕ) (k : ℕ) (within : k ≤ length rest) wh
   longer_other : begins_name a ≡ false → is_ascii_digit a ≡ false → is_some (sign_of (a ∷ b ∷ take k rest)) ≡ false → is_one_token (take (suc (suc k)) (a ∷ b ∷ rest)) ≡ false
   longer_other no_name no_digit no_sign = no_token (a ∷ b ∷ take k rest) (rw no_name refl) (rw no_digit refl) no_sign
 
--- no longer token stands at the front of the text than what was taken there
+-- no longer token begins at the front of the text than the one that was taken
 abbrev pub NoLonger : List ℕ → Lexeme → Type 0
 NoLonger text (Trivia len) = Unit {0}
 NoLonger text LineFeed = (n : ℕ) → 1 < n → n ≤ length text → is_one_token (take n text) ≡ false
@@ -103,9 +103,9 @@ one_byte a (Word len kind) fits = λ n lt le. absurd (omega (arith, fits.0))
 one_byte a (Fault f) fits = tt
 
 module _ (a b : ℕ) (rest : List ℕ) where
-  -- behind what begins neither a name nor a number nor a sign of two
-  behind_other : (len : ℕ) → 0 < len → begins_name a ≡ false → is_ascii_digit a ≡ false → begins_long a ≡ false → (n : ℕ) → len < n → n ≤ length (a ∷ b ∷ rest) → is_one_token (take n (a ∷ b ∷ rest)) ≡ false
-  behind_other len pos no_name no_digit no_sign_of_two =
+  -- after what begins neither a name nor a number nor a sign of two
+  after_other : (len : ℕ) → 0 < len → begins_name a ≡ false → is_ascii_digit a ≡ false → begins_long a ≡ false → (n : ℕ) → len < n → n ≤ length (a ∷ b ∷ rest) → is_one_token (take n (a ∷ b ∷ rest)) ≡ false
+  after_other len pos no_name no_digit no_sign_of_two =
       two_or_more (a ∷ b ∷ rest) len pos (λ k lt le. longer_other a b rest k (omega arith) no_name no_digit (no_sign a b (take k rest) (no_long a b no_sign_of_two)))
 
   -- no sign has three bytes
@@ -114,11 +114,11 @@ module _ (a b : ℕ) (rest : List ℕ) where
   three_are_no_sign (suc k) [] h le = absurd (omega arith)
   three_are_no_sign (suc k) (c ∷ cs) h le = refl
 
-  -- behind a sign
-  behind_sign : begins_name a ≡ false → is_ascii_digit a ≡ false → (long short : Option Sign) → long_sign a b ≡ long → NoLonger (a ∷ b ∷ rest) (sign_lexeme long short)
-  behind_sign no_name no_digit (Some s) short e = two_or_more (a ∷ b ∷ rest) 2 (omega arith) (λ k lt le. longer_other a b rest k (omega arith) no_name no_digit (three_are_no_sign k rest (omega arith) (omega arith)))
-  behind_sign no_name no_digit None (Some s) e = two_or_more (a ∷ b ∷ rest) 1 (omega arith) (λ k lt le. longer_other a b rest k (omega arith) no_name no_digit (no_sign a b (take k rest) e))
-  behind_sign no_name no_digit None None e = tt
+  -- after a sign
+  after_sign : begins_name a ≡ false → is_ascii_digit a ≡ false → (long short : Option Sign) → long_sign a b ≡ long → NoLonger (a ∷ b ∷ rest) (sign_lexeme long short)
+  after_sign no_name no_digit (Some s) short e = two_or_more (a ∷ b ∷ rest) 2 (omega arith) (λ k lt le. longer_other a b rest k (omega arith) no_name no_digit (three_are_no_sign k rest (omega arith) (omega arith)))
+  after_sign no_name no_digit None (Some s) e = two_or_more (a ∷ b ∷ rest) 1 (omega arith) (λ k lt le. longer_other a b rest k (omega arith) no_name no_digit (no_sign a b (take k rest) e))
+  after_sign no_name no_digit None None e = tt
 
   -- a line feed begins nothing of these
   line_feed_is_other : a == LINE_FEED ≡ true → (begins_name a ≡ false) × (is_ascii_digit a ≡ false) × (begins_long a ≡ false)
@@ -133,15 +133,15 @@ module _ (a b : ℕ) (rest : List ℕ) where
   two_bytes first =
       let text = a ∷ b ∷ rest in
       if_both (NoLonger text) (is_blank a) _ _ (λ _. tt) (λ _.
-      if_both (NoLonger text) (a == LINE_FEED) _ _ (λ feed. let o = line_feed_is_other feed in behind_other 1 (omega arith) o.0 o.1 o.2) (λ _.
+      if_both (NoLonger text) (a == LINE_FEED) _ _ (λ feed. let o = line_feed_is_other feed in after_other 1 (omega arith) o.0 o.1 o.2) (λ _.
       if_both (NoLonger text) (a == SEMICOLON) _ _
-      (λ semicolon. if_both (NoLonger text) (first && is_assert text) _ _ (λ _. let o = semicolon_is_other semicolon in behind_other 7 (omega arith) o.0 o.1 o.2) (λ _. tt)) (λ _.
+      (λ semicolon. if_both (NoLonger text) (first && is_assert text) _ _ (λ _. let o = semicolon_is_other semicolon in after_other 7 (omega arith) o.0 o.1 o.2) (λ _. tt)) (λ _.
       if_both (NoLonger text) (begins_name a) _ _
       (λ name. two_or_more text (prefix_len continues_name text) ((front_fits continues_name text (omega arith) (rw name refl)).0) (λ k lt le. longer_name a b rest k (omega arith) name lt)) (λ no_name.
       if_both (NoLonger text) (is_ascii_digit a) _ _
       (λ digit. if_both (NoLonger text) (nat_lt (decimal_value (take (prefix_len is_ascii_digit text) text)) (2 ^ 32)) _ _
       (λ _. two_or_more text (prefix_len is_ascii_digit text) ((front_fits is_ascii_digit text (omega arith) digit).0) (λ k lt le. longer_number a b rest k (omega arith) digit lt)) (λ _. tt))
-      (λ no_digit. behind_sign no_name no_digit (long_sign a b) (short_sign a) refl)))))
+      (λ no_digit. after_sign no_name no_digit (long_sign a b) (short_sign a) refl)))))
 
 -- any text
 pub no_longer : (text : List ℕ) (first : Bool) → 0 < length text → NoLonger text (lexeme_of first text)

@@ -5,7 +5,7 @@ use Rattle.rc_text.specs.declared.token.Sign.{Sign}
 use Rattle.rc_text.specs.declared.token.Sign.TheVariants.{Open, Close, Plus, Minus, Star, Slash, Percent, Less, Greater, LessEqual, GreaterEqual, Equal, NotEqual, And, Or}
 use Rattle.rc_text.specs.Symbols.{Symbol, Numeral, Identifier, Mark, Foreign}
 use Rattle.rc_text.specs.Grammar.{Tree, Literal, Named, Group, Prefix, Infix, spelling_of, level_of, is_prefix, tightness, IsGrammatical, depth_of}
-use Rattle.rc_text.specs.Reading.{Algebra, Frame, Paren, Before, Left, open_count, Continuation, reduction, at_bottom, at_paren, is_close, is_open, before_operand, after_operand, IsBelow, Stops}
+use Rattle.rc_text.specs.Reading.{Algebra, Frame, Paren, Before, Left, open_count, Continuation, reduction, at_bottom, at_paren, is_close, is_open, before_operand, after_operand, FitsFrames, Stops}
 
 -- what a tree means
 abbrev pub meaning_in : {A : Type 0} → Algebra A → Tree → A
@@ -23,8 +23,8 @@ stops_more n m (Numeral v ∷ ws) le h = tt
 stops_more n m (Identifier v ∷ ws) le h = tt
 stops_more n m (Foreign ∷ ws) le h = tt
 
--- a tighter operand may stand on the same frames
-pub below_more : {A : Type 0} (n m : ℕ) (S : List (Frame A)) → n ≤ m → IsBelow n S → IsBelow m S
+-- a tighter operand fits the same frames
+pub below_more : {A : Type 0} (n m : ℕ) (S : List (Frame A)) → n ≤ m → FitsFrames n S → FitsFrames m S
 below_more n m [] le h = tt
 below_more n m (Paren ∷ S) le h = tt
 below_more n m (Before s ∷ S) le h = omega arith
@@ -47,19 +47,19 @@ level_le_6 Slash = omega arith
 level_le_6 Percent = omega arith
 level_le_6 _ = omega arith
 
--- a sign before an operand is no open parenthesis
+-- a sign before an operand is not an open parenthesis
 pub not_open_of_prefix : (s : Sign) → is_prefix s ≡ true → is_open s ≡ false
 not_open_of_prefix Open h = cc
 not_open_of_prefix _ h = refl
 
--- an operator is no closing parenthesis
+-- an operator is not a closing parenthesis
 pub not_close_of_level : (s : Sign) → 0 < level_of s → is_close s ≡ false
 not_close_of_level Close h = absurd (omega arith)
 not_close_of_level _ h = refl
 
 module _ {A : Type 0} (m : Algebra A) where
   -- where the operand is tighter than the frames, none of them is closed
-  pub reduction_below : (n : ℕ) (next : Continuation A) (x : A) (S : List (Frame A)) → n ≤ 6 → IsBelow n S → reduction m n next x S ≡ next x S
+  pub reduction_below : (n : ℕ) (next : Continuation A) (x : A) (S : List (Frame A)) → n ≤ 6 → FitsFrames n S → reduction m n next x S ≡ next x S
   reduction_below n next x [] small b = refl
   reduction_below n next x (Paren ∷ S) small b = refl
   reduction_below n next x (Before s ∷ S) small b = absurd (omega arith)
@@ -90,8 +90,8 @@ module _ {A : Type 0} (m : Algebra A) where
   after_left (Identifier n ∷ ws) x l s S h stops = refl
   after_left (Foreign ∷ ws) x l s S h stops = refl
 
-  -- an operator after an operand that stands on looser frames
-  pub after_operator : (ws : List Symbol) (x : A) (s : Sign) (S : List (Frame A)) → 0 < level_of s → IsBelow (level_of s) S → after_operand m (Mark s ∷ ws) x S ≡ before_operand m ws (Left x s ∷ S)
+  -- an operator after an operand on looser frames
+  pub after_operator : (ws : List Symbol) (x : A) (s : Sign) (S : List (Frame A)) → 0 < level_of s → FitsFrames (level_of s) S → after_operand m (Mark s ∷ ws) x S ≡ before_operand m ws (Left x s ∷ S)
   unfolding after_operand before_operand
   after_operator ws x s S h b =
       let not_close : is_close s ≡ false = not_close_of_level s h in
@@ -99,7 +99,7 @@ module _ {A : Type 0} (m : Algebra A) where
       rw (not_close, is_operator) (reduction_below (level_of s) (λ y T. before_operand m ws (Left y s ∷ T)) x S (level_le_6 s) b)
 
   -- what a tree spells is read as what it means, whatever follows
-  pub reads : (t : Tree) (S : List (Frame A)) (k : List Symbol) → IsGrammatical t → IsBelow (tightness t) S → Stops (suc (tightness t)) k → open_count S + depth_of t ≤ m.limit
+  pub reads : (t : Tree) (S : List (Frame A)) (k : List Symbol) → IsGrammatical t → FitsFrames (tightness t) S → Stops (suc (tightness t)) k → open_count S + depth_of t ≤ m.limit
       → before_operand m (spelling_of t ++ k) S ≡ after_operand m k (meaning_in m t) S
   unfolding after_operand before_operand
   reads (Literal n) S k g b stops d = refl

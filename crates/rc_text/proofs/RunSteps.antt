@@ -16,7 +16,7 @@ use Rattle.rc_text.specs.Reading.{is_prefix_kind, signed_by, signed_outcome}
 pub within : (ts : List Token) (n : ℕ) → n ≡ prefix_len (λ t. is_prefix_kind t.kind) ts → n ≤ length ts
 within ts n e = rw e (prefix_len-le-length (λ t. is_prefix_kind t.kind) ts)
 
--- what holds of all tokens holds of those behind the run
+-- what holds of all tokens holds of those after the run
 pub rest_inside : (P : Token → Type 0) (n : ℕ) (ts : List Token) → All P ts → All P (drop n ts)
 rest_inside P zero ts h = h
 rest_inside P (suc n) [] h = h
@@ -27,7 +27,7 @@ unsigned_step : (t : Token) (ts : List Token) (n : ℕ) (b : Bool) → is_prefix
 unsigned_step t ts n true e h = rw one-add h
 unsigned_step t ts n false e h = rw e refl
 
--- behind the run no sign stands before the operand
+-- after the run no sign comes before the operand
 pub unsigned : (ts : List Token) → prefix_len (λ t. is_prefix_kind t.kind) (drop (prefix_len (λ t. is_prefix_kind t.kind) ts) ts) ≡ 0
 unsigned [] = refl
 unsigned (t ∷ ts) = unsigned_step t ts (prefix_len (λ t. is_prefix_kind t.kind) ts) (is_prefix_kind t.kind) refl (unsigned ts)
@@ -37,7 +37,7 @@ pub last_first : (ts : List Token) (t : Token) (x : Outcome) → signed_outcome 
 last_first [] t x = refl
 last_first (u ∷ ts) t x = ap (signed_by u.kind) (last_first ts t x)
 
--- a first token that begins no run is no sign before an operand
+-- a first token that begins no run is not a sign before an operand
 pub not_prefix : (ts rest : List Token) (t : Token) (s : Sign) → ts ≡ t ∷ rest → t.kind ≡ SignOf s → prefix_len (λ t. is_prefix_kind t.kind) ts ≡ 0 → is_prefix s ≡ false
 not_prefix ts rest t s e k h = by_test (is_prefix s) refl where
   by_test : (b : Bool) → is_prefix s ≡ b → b ≡ false

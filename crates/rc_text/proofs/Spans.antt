@@ -18,7 +18,7 @@ from_lower l m end (t ∷ ts) le h = (omega (arith, h.0), h.1, h.2)
 moved : (l m e f : ℕ) (ts : List Token) → l ≡ m → e ≡ f → InOrder l e ts → InOrder m f ts
 moved l m e f ts p q h = subst (λ x. InOrder x f ts) p (subst (λ y. InOrder l y ts) q h)
 
--- behind what stands at the front
+-- after the first lexeme
 lexeme_in_order : (bs : List ℕ) (p : Lexeme) (next : Onward) (first : Bool) (at line n : ℕ) → suc n ≡ length bs → FitsIn bs p
     → ((k : ℕ) (first : Bool) (line : ℕ) → k ≤ n → InOrder (at + 1 + k) (at + 1 + n) (next k first (at + 1) line).tokens)
     → InOrder at (at + suc n) (tokens_after p next first at line).tokens
@@ -37,7 +37,7 @@ from_in_order (b ∷ bs) zero first at line h =
     moved at _ _ _ _ (omega arith) refl
     (lexeme_in_order (b ∷ bs) (lexeme_of first (b ∷ bs)) (tokens_from bs) first at line (length bs) refl (lexeme_fits (b ∷ bs) first (omega arith)) (λ k f l le. from_in_order bs k f (at + 1) l le))
 
--- the tokens from a place on
+-- the tokens from an index on
 pub in_order_at : (source : List ℕ) (first : Bool) (at line : ℕ) → at ≤ length source → InOrder at (length source) (tokens_from (drop at source) 0 first at line).tokens
 in_order_at source first at line h = moved _ _ _ _ _ (omega arith) (omega (arith, length-drop at source)) (from_in_order (drop at source) 0 first at line (omega arith))
 

@@ -14,7 +14,7 @@ use Rattle.rc_text.specs.Bytes.{is_blank, LINE_FEED, SEMICOLON, begins_name, con
 use Rattle.rc_text.specs.Signs.{long_sign, short_sign}
 use Rattle.rc_text.specs.Tokens.{lexeme_of, sign_lexeme, is_assert}
 use Rattle.rc_text.specs.NameClasses.{is_name}
-use Rattle.rc_text.specs.TokenTexts.{is_number, Spells}
+use Rattle.rc_text.specs.TokenTexts.{is_number, SpellsToken}
 use Rattle.rc_text.proofs.LexemeSteps.{if_both, and_left, and_right, and_false, long_sign_zero}
 
 -- no line feed
@@ -40,19 +40,19 @@ plain_of p stricter (x ∷ xs) h =
     let front : is_plain x ≡ true = stricter x (and_left (p x) (list_all p xs) h) in
     rw front (plain_of p stricter xs (and_right (p x) (list_all p xs) h))
 
--- a blank is no line feed
+-- a blank is not a line feed
 plain_blank : (b : ℕ) → is_blank b ≡ true → is_plain b ≡ true
 plain_blank b h = grind (arith, nat_tests)
 
--- a digit is no line feed
+-- a digit is not a line feed
 plain_digit : (b : ℕ) → is_ascii_digit b ≡ true → is_plain b ≡ true
 plain_digit b h = grind (arith, nat_tests)
 
--- what a name has is no line feed
+-- what a name has is not a line feed
 plain_name : (b : ℕ) → continues_name b ≡ true → is_plain b ≡ true
 plain_name b h = grind (arith, nat_tests)
 
--- what is no line feed as a small letter is none
+-- what is not a line feed as a small letter is none
 plain_lower : (b : ℕ) → is_plain (to_ascii_lowercase b) ≡ true → is_plain b ≡ true
 plain_lower b h =
     elim (eqb_tells b 10) [
@@ -83,7 +83,7 @@ plain_assert bytes h =
 abbrev pub Shows : List ℕ → Lexeme → Type 0
 Shows text (Trivia len) = IsPlain (take len text)
 Shows text LineFeed = take 1 text ≡ LINE_FEED ∷ []
-Shows text (Word len kind) = Spells (take len text) kind × IsPlain (take len text)
+Shows text (Word len kind) = SpellsToken (take len text) kind × IsPlain (take len text)
 Shows text (Fault f) = Unit {0}
 
 -- a sign of the last byte
@@ -92,7 +92,7 @@ sign_alone a plain (Some s) short e f = let n = long_sign_zero a in absurd (cc)
 sign_alone a plain None (Some s) e f = (f, rw plain refl)
 sign_alone a plain None None e f = tt
 
--- the second byte of a sign is no line feed
+-- the second byte of a sign is not a line feed
 plain_second : (a b : ℕ) (s : Sign) → long_sign a b ≡ Some s → is_plain b ≡ true
 plain_second a b s e =
     elim (eqb_tells b 10) [
@@ -100,7 +100,7 @@ plain_second a b s e =
       | inr (off, n) ↦ rw off refl
     ]
 
--- a sign with a byte behind its first
+-- a sign with a byte after its first
 sign_with_more : (a b : ℕ) (rest : List ℕ) → is_plain a ≡ true → (long short : Option Sign) → long_sign a b ≡ long → short_sign a ≡ short → Shows (a ∷ b ∷ rest) (sign_lexeme long short)
 sign_with_more a b rest plain (Some s) short e f = let second = plain_second a b s e in (e, rw (plain, second) refl)
 sign_with_more a b rest plain None (Some s) e f = (f, rw plain refl)
@@ -119,7 +119,7 @@ line_feed_shown a rest h =
       | inr (off, n) ↦ cc
     ]
 
--- what stands at the front of any text
+-- what any text begins with
 pub shows : (text : List ℕ) (first : Bool) → 0 < length text → Shows text (lexeme_of first text)
 shows [] first h = absurd (omega arith)
 shows (a ∷ rest) first h =

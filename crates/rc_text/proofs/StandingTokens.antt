@@ -1,4 +1,5 @@
--- Each token of a text is spelled by its bytes, is the longest at its place, and has the line that the line feeds before it give.
+-- Each token of a text is spelled by its bytes, is the longest at its place, and has the line that
+-- the line feeds before it give.
 use Rattle.std.proofs.Common.{◌≡◌, ℕ, suc, zero, ◌+◌, ◌-◌, ◌≤◌, ◌<◌, Bool, true, false, List, [], ◌∷◌, ◌++◌, get_or, take, drop, drop-drop, length-drop, length, refl, sym, subst, arith, ap, ◌∙◌, add-zero, inl, inr}
 use Rattle.std.proofs.Math.Numerals.{one-add}
 use Rattle.std.specs.Prelude.{Option, Some, None, if◌then◌else◌, ◌&&◌, ◌||◌, ◌==◌, codes, All, unwrap_or}
@@ -14,7 +15,7 @@ use Rattle.rc_text.specs.declared.lexeme.Lexeme.TheVariants.{Trivia, LineFeed, W
 use Rattle.rc_text.specs.Bytes.{LINE_FEED, begins_with_word}
 use Rattle.rc_text.specs.Headers.{extent, preceded, header_from, header_of}
 use Rattle.rc_text.specs.Tokens.{lexeme_of, token_of, tokens_after, tokens_from, tokens_of, Onward}
-use Rattle.rc_text.specs.TokenTexts.{is_one_token, Spells, line_feed_count, StandsIn}
+use Rattle.rc_text.specs.TokenTexts.{is_one_token, SpellsToken, line_feed_count, StandsIn}
 use Rattle.rc_text.proofs.LexemeSteps.{FitsIn, lexeme_fits, and_left, and_right}
 use Rattle.rc_text.proofs.LongestTokens.{NoLonger, no_longer}
 use Rattle.rc_text.proofs.SpelledTokens.{is_plain, IsPlain, Shows, shows}
@@ -28,7 +29,7 @@ line_feed_count-append (x ∷ xs) ys = by_first (x == LINE_FEED) (line_feed_coun
   by_first true h = omega arith
   by_first false h = h
 
--- a plain byte is no line feed
+-- a plain byte is not a line feed
 not_counted : (b : ℕ) → is_plain b ≡ true → line_feed_count (b ∷ []) ≡ 0
 not_counted b h =
     elim (eqb_tells b 10) [
@@ -38,7 +39,7 @@ not_counted b h =
 
 -- at a byte of the source
 module _ (source : List ℕ) (b : ℕ) (rest : List ℕ) (at : ℕ) (here : b ∷ rest ≡ drop at source) where
-  -- what is left behind the byte
+  -- what is left after the byte
   pub tail_dropped : rest ≡ drop (at + 1) source
   tail_dropped = let d : drop 1 (drop at source) ≡ drop (at + 1) source = rw drop-drop in ap (drop 1) here ∙ d
 
@@ -50,22 +51,22 @@ module _ (source : List ℕ) (b : ℕ) (rest : List ℕ) (at : ℕ) (here : b �
   byte_here : get_or source at 0 ≡ b
   byte_here = let e : get_or (drop at source) 0 0 ≡ get_or source at 0 = get_or-drop at source 0 0 ∙ rw add-zero in sym e ∙ sym (ap (λ bs. get_or bs 0 0) here)
 
-  -- the line feeds up to behind the byte
+  -- the line feeds up to the byte, and in it
   pub counted : line_feed_count (take (at + 1) source) ≡ line_feed_count (take at source) + line_feed_count (b ∷ [])
   counted = ap line_feed_count (take_more source at 0 inside) ∙ (line_feed_count-append (take at source) (get_or source at 0 ∷ []) ∙ ap (λ x. line_feed_count (take at source) + line_feed_count (x ∷ [])) byte_here)
 
--- where there is no token
+-- if there is no token
 none_stands : (source : List ℕ) → All (StandsIn source) []
 none_stands source = λ k d lt. absurd (omega arith)
 
 -- a token that is taken at a place of the source
-token_stands : (source bs : List ℕ) (at len line : ℕ) (kind : Kind) → bs ≡ drop at source → Spells (take len bs) kind → ((n : ℕ) → len < n → n ≤ length bs → is_one_token (take n bs) ≡ false)
+token_stands : (source bs : List ℕ) (at len line : ℕ) (kind : Kind) → bs ≡ drop at source → SpellsToken (take len bs) kind → ((n : ℕ) → len < n → n ≤ length bs → is_one_token (take n bs) ≡ false)
     → line ≡ 1 + line_feed_count (take at source) → StandsIn source (token_of kind at len line)
 token_stands source bs at len line kind e spelled longest l =
     let size : length bs ≡ length source - at = ap length e ∙ length-drop at source in
     let width : at + len - at ≡ len = omega arith in
     record {
-      spelled = rw width (subst (λ x. Spells (take len x) kind) e spelled);
+      spelled = rw width (subst (λ x. SpellsToken (take len x) kind) e spelled);
       longest = λ end over within. ap (λ x. is_one_token (take (end - at) x)) (sym e) ∙ longest (end - at) (omega arith) (omega arith);
       line = l;
       unjoined = refl;
@@ -76,12 +77,12 @@ front_plain : (len b : ℕ) (rest : List ℕ) → 0 < len → IsPlain (take len 
 front_plain zero b rest pos h = absurd (omega arith)
 front_plain (suc len) b rest pos h = and_left (is_plain b) (list_all is_plain (take len rest)) h
 
--- those behind it
+-- the bytes after it
 tail_plain : (len b : ℕ) (rest : List ℕ) → 0 < len → IsPlain (take len (b ∷ rest)) → IsPlain (take (len - 1) rest)
 tail_plain zero b rest pos h = absurd (omega arith)
 tail_plain (suc len) b rest pos h = let e : suc len - 1 ≡ len = omega arith in rw e (and_right (is_plain b) (list_all is_plain (take len rest)) h)
 
--- behind what stands at the front
+-- after the first lexeme
 stand_after : (source : List ℕ) (b : ℕ) (rest : List ℕ) (l : Lexeme) (next : Onward) (first : Bool) (at line : ℕ) → b ∷ rest ≡ drop at source
     → Shows (b ∷ rest) l → NoLonger (b ∷ rest) l → FitsIn (b ∷ rest) l → line ≡ 1 + line_feed_count (take at source)
     → ((k : ℕ) (first : Bool) (line : ℕ) → IsPlain (take k rest) → line ≡ 1 + line_feed_count (take (at + 1) source) → All (StandsIn source) (next k first (at + 1) line).tokens)

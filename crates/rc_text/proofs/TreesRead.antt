@@ -8,7 +8,7 @@ use Rattle.rc_text.specs.declared.token.Sign.TheVariants.{Open, Close}
 use Rattle.rc_text.specs.declared.fault.EvalFault.{EvalFault}
 use Rattle.rc_text.specs.Symbols.{Symbol, Numeral, Identifier, Mark, Foreign}
 use Rattle.rc_text.specs.Grammar.{Tree, Literal, Named, Group, Prefix, Infix, spelling_of, level_of, is_prefix, tightness, IsGrammatical, depth_of}
-use Rattle.rc_text.specs.Reading.{Algebra, Frame, Paren, Before, Left, open_count, Continuation, reduction, at_bottom, at_paren, is_close, is_open, before_operand, after_operand, IsBelow}
+use Rattle.rc_text.specs.Reading.{Algebra, Frame, Paren, Before, Left, open_count, Continuation, reduction, at_bottom, at_paren, is_close, is_open, before_operand, after_operand, FitsFrames}
 use Rattle.rc_text.proofs.ReadTrees.{meaning_in, below_more, level_le_6}
 
 -- the symbols that were read before the operand that is wanted
@@ -18,7 +18,7 @@ before (Paren ∷ S) = before S ++ (Mark Open ∷ [])
 before (Before s ∷ S) = before S ++ (Mark s ∷ [])
 before (Left t s ∷ S) = before S ++ (spelling_of t ++ (Mark s ∷ []))
 
--- the tree means the value, in the grammar, with room for its parentheses above so many open ones
+-- the tree means the value and is in the grammar, with room for its parentheses
 pub record Means {A : Type 0} (m : Algebra A) (above : ℕ) (t : Tree) (x : A) : Type 0 where
   pub grammatical : IsGrammatical t
   pub value : meaning_in m t ≡ x
@@ -29,9 +29,9 @@ pub data Stand {A : Type 0} (m : Algebra A) : List (Frame Tree) → List (Frame 
   bottom : Stand m [] []
   paren : {T : List (Frame Tree)} {S : List (Frame A)} → Stand m T S → Stand m (Paren ∷ T) (Paren ∷ S)
   signed : {T : List (Frame Tree)} {S : List (Frame A)} (s : Sign) → is_prefix s ≡ true → Stand m T S → Stand m (Before s ∷ T) (Before s ∷ S)
-  sided : {T : List (Frame Tree)} {S : List (Frame A)} (t : Tree) (x : A) (s : Sign) → 0 < level_of s → level_of s ≤ tightness t → IsBelow (level_of s) S → Means m (open_count S) t x → Stand m T S → Stand m (Left t s ∷ T) (Left x s ∷ S)
+  sided : {T : List (Frame Tree)} {S : List (Frame A)} (t : Tree) (x : A) (s : Sign) → 0 < level_of s → level_of s ≤ tightness t → FitsFrames (level_of s) S → Means m (open_count S) t x → Stand m T S → Stand m (Left t s ∷ T) (Left x s ∷ S)
 
--- the whole has a tree, where these symbols stand before its rest
+-- the whole has a tree, where these symbols come before its rest
 pub record Whole {A : Type 0} (m : Algebra A) (symbols : List Symbol) (x : A) : Type 0 where
   pub tree : Tree
   pub spells : spelling_of tree ≡ symbols
@@ -54,14 +54,14 @@ pub record Rest {A : Type 0} (m : Algebra A) (n : ℕ) (next : Continuation A) (
   pub frames : List (Frame A)
   pub means : Means m (open_count frames) tree value
   pub stand : Stand m trees frames
-  pub below : IsBelow (tightness tree) frames
-  pub stops : IsBelow n frames
+  pub below : FitsFrames (tightness tree) frames
+  pub stops : FitsFrames n frames
   pub tight : n ≤ tightness tree
   pub spells : before trees ++ spelling_of tree ≡ symbols
   pub goes_on : next value frames ≡ Ok y
 
 -- frames are no tighter than a prefix
-below_seven : {A : Type 0} (S : List (Frame A)) → IsBelow 7 S
+below_seven : {A : Type 0} (S : List (Frame A)) → FitsFrames 7 S
 below_seven [] = tt
 below_seven (Paren ∷ S) = tt
 below_seven (Before s ∷ S) = omega arith
@@ -98,7 +98,7 @@ module _ {A : Type 0} (m : Algebra A) where
   renamed v w e r = record { tree = r.tree; value = r.value; trees = r.trees; frames = r.frames; means = r.means; stand = r.stand; below = r.below; stops = r.stops; tight = r.tight; spells = r.spells ∙ e; goes_on = r.goes_on }
 
   -- frames that are closed make a tree
-  pub reduced : (n : ℕ) (next : Continuation A) (t : Tree) (x y : A) {T : List (Frame Tree)} {S : List (Frame A)} → 0 < n → n ≤ 7 → Means m (open_count S) t x → Stand m T S → IsBelow (tightness t) S → n ≤ tightness t
+  pub reduced : (n : ℕ) (next : Continuation A) (t : Tree) (x y : A) {T : List (Frame Tree)} {S : List (Frame A)} → 0 < n → n ≤ 7 → Means m (open_count S) t x → Stand m T S → FitsFrames (tightness t) S → n ≤ tightness t
       → reduction m n next x S ≡ Ok y → Rest m n next (before T ++ spelling_of t) y
   reduced n next t x y pos small means bottom below tight h = record { tree = t; value = x; trees = []; frames = []; means = means; stand = bottom; below = below; stops = tt; tight = tight; spells = refl; goes_on = h }
   reduced n next t x y pos small means (paren {T} {S} stand) below tight h = record { tree = t; value = x; trees = Paren ∷ T; frames = Paren ∷ S; means = means; stand = paren stand; below = below; stops = tt; tight = tight; spells = refl; goes_on = h }
@@ -156,13 +156,13 @@ module _ {A : Type 0} (m : Algebra A) where
         ]
     whole_before (Foreign ∷ ws) y stand room h = cc
 
-    -- behind an operand
+    -- after an operand
     pub whole_after : (ws : List Symbol) (y : A) (t : Tree) (x : A) {T : List (Frame Tree)} {S : List (Frame A)} → Stand m T S → Means m (open_count S) t x → 7 ≤ tightness t → after_operand m ws x S ≡ Ok y → Whole m (before T ++ (spelling_of t ++ ws)) y
     whole_after [] y t x {T} {S} stand means tight h =
         let r = reduced 1 at_bottom t x y (omega arith) (omega arith) means stand (below_more 7 (tightness t) S tight (below_seven S)) (omega arith) h in
         same_symbols _ _ (r.spells ∙ ap (λ w. before T ++ w) (sym (append-nil (spelling_of t)))) (whole_of_bottom r.tree r.value y r.stand r.means r.goes_on)
     whole_after (Mark s ∷ ws) y t x {T} {S} stand means tight h =
-        let below : IsBelow (tightness t) S = below_more 7 (tightness t) S tight (below_seven S) in
+        let below : FitsFrames (tightness t) S = below_more 7 (tightness t) S tight (below_seven S) in
         elim (chosen (is_close s) _ _ (Ok y) h) [
           | inl (on, g) ↦
               let r = reduced 1 (at_paren m (after_operand m ws)) t x y (omega arith) (omega arith) means stand below (omega arith) g in

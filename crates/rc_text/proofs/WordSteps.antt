@@ -20,7 +20,7 @@ pub name_of_more : (bytes : List ℕ) → 1 ≤ length bytes → is_name bytes �
 name_of_more [] h = absurd (omega arith)
 name_of_more (b ∷ rest) h = refl
 
--- no bytes are no name
+-- an empty name is not a name
 pub name_of_none : (bytes : List ℕ) → length bytes ≡ 0 → is_name bytes ≡ false
 name_of_none [] h = refl
 name_of_none (b ∷ rest) h = absurd (omega arith)

@@ -1,4 +1,4 @@
--- Kinds of bytes, words in any case, and the number that digits spell.
+-- Classes of bytes, words in any case, and the value of decimal digits.
 use Rattle.std.specs.Prelude.{ℕ, Bool, ◌||◌, ◌==◌, ◌+◌, ◌*◌, ◌-◌, List, take, map, length, fold}
 use Rattle.std.specs.Char.{is_ascii_digit, is_ascii_alphabetic, to_ascii_lowercase}
 use Rattle.std.specs.Str.{bytes_eq}
@@ -9,7 +9,7 @@ LINE_FEED = 10
 abbrev pub SEMICOLON : ℕ
 SEMICOLON = 59
 
--- space, tab and carriage return (the 1994 draft; the carriage return is this project's own)
+-- space, tab and carriage return (the 1994 draft, but for the carriage return)
 abbrev pub is_blank : ℕ → Bool
 is_blank b = b == 32 || (b == 9 || b == 13)
 
@@ -21,14 +21,14 @@ begins_name b = is_ascii_alphabetic b || b == 95
 abbrev pub continues_name : ℕ → Bool
 continues_name b = begins_name b || is_ascii_digit b
 
--- the two words have the same letters in any case
+-- equality in any case
 abbrev pub is_same_word : List ℕ → List ℕ → Bool
 is_same_word a b = bytes_eq (map to_ascii_lowercase a) (map to_ascii_lowercase b)
 
--- the text begins with the word in any case
+-- the text begins with the word, in any case
 abbrev pub begins_with_word : List ℕ → List ℕ → Bool
 begins_with_word word text = is_same_word (take (length word) text) word
 
--- the number that these decimal digits spell
+-- the value of decimal digits
 abbrev pub decimal_value : List ℕ → ℕ
 decimal_value digits = fold (λ n b. n * 10 + (b - 48)) 0 digits

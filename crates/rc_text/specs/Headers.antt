@@ -1,5 +1,5 @@
--- The lines that are ignored at the head of a text: those up to and with the first that begins with `;redcode` in any case, if one does
--- (pMARS; that the line counts wherever it stands, and that its word may go on, is this project's own).
+-- The header of a text, which is ignored: the lines up to and with the first that begins with
+-- `;redcode`, in any case (pMARS). The word may be the beginning of a longer one.
 use Rattle.std.specs.Prelude.{ℕ, Bool, true, false, ◌&&◌, ◌||◌, ◌==◌, ◌+◌, List, [], ◌∷◌, Option, Some, None, if◌then◌else◌, codes, unwrap_or}
 use Rattle.rc_text.specs.declared.header.Extent.{Extent}
 use Rattle.rc_text.specs.Bytes.{LINE_FEED, begins_with_word}
@@ -7,12 +7,13 @@ use Rattle.rc_text.specs.Bytes.{LINE_FEED, begins_with_word}
 abbrev pub extent : ℕ → ℕ → Extent
 extent bytes lines = record { bytes = bytes; lines = lines }
 
--- with so many bytes and lines before it
+-- moves the header on by bytes and lines that come before it
 abbrev pub preceded : ℕ → ℕ → Option Extent → Option Extent
 preceded bytes lines None = None
 preceded bytes lines (Some e) = Some (extent (bytes + e.bytes) (lines + e.lines))
 
--- the header in what is left of a text, if there is one; `begins` says that a line begins here, `found` that this line is the one
+-- the header in the rest of a text, if any; `begins` says that a line begins here, and `found` that
+-- this line has begun with `;redcode`
 abbrev pub header_from : List ℕ → (begins found : Bool) → Option Extent
 header_from [] begins false = None
 header_from [] begins true = Some (extent 0 0)
@@ -21,6 +22,6 @@ header_from (b ∷ rest) begins found =
     if b == LINE_FEED then (if here then Some (extent 1 1) else preceded 1 1 (header_from rest true false))
     else preceded 1 0 (header_from rest false here)
 
--- how many bytes and lines of the text are ignored
+-- the bytes and lines to ignore; both are 0 without a header
 abbrev pub header_of : List ℕ → Extent
 header_of text = unwrap_or (header_from text true false) (extent 0 0)

@@ -1,6 +1,6 @@
--- Tokens and expressions of Redcode, the language of Core War warriors. A text is a list of tokens, each the longest at its place, and
--- what ends them. An expression is the list of its symbols; it means the value of the one tree that the grammar gives to the whole list.
--- A name is reserved, predefined or free by two tables.
+-- Tokens and expressions of Redcode, the language of Core War warriors. A text is a list of tokens,
+-- each the longest at its place, and what ends them. An expression is the list of its symbols, and
+-- its value is the value of the one tree that spells them. A name is reserved, predefined or free.
 pub mod Bytes
 pub mod Signs
 pub mod Headers

@@ -1,4 +1,4 @@
--- Which words are names, and which names are taken.
+-- Names, and which of them are reserved or predefined.
 use Rattle.std.specs.Prelude.{ℕ, Bool, false, ◌&&◌, ◌||◌, List, [], ◌∷◌, if◌then◌else◌, codes}
 use Rattle.std.specs.List.{list_any, list_all}
 use Rattle.std.specs.Str.{bytes_eq}
@@ -23,25 +23,25 @@ added_opcodes = codes "SEQ" ∷ codes "SNE" ∷ codes "NOP" ∷ []
 abbrev pub directives : List (List ℕ)
 directives = codes "ORG" ∷ codes "END" ∷ codes "EQU" ∷ codes "FOR" ∷ codes "ROF" ∷ []
 
--- one of the words in any case
+-- one of the words, in any case
 abbrev pub is_one_of : List (List ℕ) → List ℕ → Bool
 is_one_of words name = list_any (λ word. is_same_word word name) words
 
--- an opcode of the 1994 draft or one that pMARS adds, in any case
+-- an opcode of the 1994 draft or of pMARS, in any case
 unfoldable pub is_opcode_word : List ℕ → Bool
 is_opcode_word name = is_one_of draft_opcodes name || is_one_of added_opcodes name
 
 abbrev pub is_reserved : List ℕ → Bool
 is_reserved name = is_one_of draft_opcodes name || (is_one_of added_opcodes name || is_one_of directives name)
 
--- the names that stand for rules, in capitals (pMARS; WARRIORS, VERSION and CURLINE as they are here are this project's own)
+-- the predefined names, in capitals (pMARS)
 abbrev pub predefined_names : List (List ℕ)
 predefined_names = codes "CORESIZE" ∷ codes "MAXPROCESSES" ∷ codes "MAXCYCLES" ∷ codes "MAXLENGTH" ∷ codes "MINDISTANCE" ∷ codes "WARRIORS" ∷ codes "VERSION" ∷ codes "CURLINE" ∷ []
 
 abbrev pub is_predefined : List ℕ → Bool
 is_predefined name = list_any (λ word. bytes_eq name word) predefined_names
 
--- what these bytes are as a name
+-- a name is reserved before it is predefined, and free otherwise
 abbrev pub class_of : List ℕ → NameClass
 class_of bytes =
     if is_name bytes then (if is_reserved bytes then Reserved else if is_predefined bytes then Predefined else Free)

@@ -1,5 +1,5 @@
--- How an expression is read from the left, for any meaning of its parts. Contracts of private functions, and laws, speak of this; what an
--- expression means is said in Grammar and Values.
+-- How an expression is read from the left, for any meaning of its parts. For contracts of private
+-- functions and for laws; Grammar and Values say what an expression means.
 use Rattle.std.specs.Prelude.{◌≡◌, ℕ, suc, ◌≤◌, ◌<◌, Bool, true, false, nat_lt, nat_le, List, [], ◌∷◌, Result, Ok, Err, if◌then◌else◌, pos}
 use Rattle.std.specs.Result.{result_flatten}
 use Rattle.rc_text.specs.declared.token.Sign.{Sign}
@@ -13,7 +13,7 @@ use Rattle.rc_text.specs.Symbols.{Symbol, Numeral, Identifier, Mark, Foreign}
 use Rattle.rc_text.specs.Grammar.{level_of, is_prefix}
 use Rattle.rc_text.specs.Values.{Meaning, Outcome, name_outcome, prefix_outcome, infix_outcome, DEEPEST}
 
--- what the parts of an expression mean, and how many parentheses may be open
+-- the meaning of the parts of an expression, and the most parentheses that may be open
 pub record Algebra (A : Type 0) : Type 0 where
   pub limit : ℕ
   pub literal : ℕ → A
@@ -22,40 +22,41 @@ pub record Algebra (A : Type 0) : Type 0 where
   pub prefix : Sign → A → A
   pub infix' : A → Sign → A → A
 
--- what waits for an operand: an open parenthesis, a sign, or a left side with its operator
+-- what waits for an operand: an open parenthesis, a prefix operator, or a left side and its
+-- operator
 pub data Frame (A : Type 0) : Type 0 where
   Paren : Frame A
   Before : (s : Sign) → Frame A
   Left : (left : A) → (s : Sign) → Frame A
 
--- how many parentheses are open
+-- the number of open parentheses
 abbrev pub open_count : {A : Type 0} → List (Frame A) → ℕ
 open_count [] = 0
 open_count (Paren ∷ frames) = suc (open_count frames)
 open_count (Before s ∷ frames) = open_count frames
 open_count (Left x s ∷ frames) = open_count frames
 
--- what is read, or the fault that ends the reading: Syntax or TooDeep
+-- the result of reading, or the fault that ends it: Syntax or TooDeep
 abbrev pub Read : Type 0 → Type 0
 Read A = Result A EvalFault
 
--- what happens to an operand on the frames below it
+-- what to do with an operand and the frames that wait for it
 abbrev pub Continuation : Type 0 → Type 0
 Continuation A = A → List (Frame A) → Read A
 
--- the frames that bind at least as tight as the level are closed over the operand
+-- the operand takes in every frame up to the first that is looser than `level`
 abbrev pub reduction : {A : Type 0} → Algebra A → ℕ → Continuation A → Continuation A
 reduction m level next x [] = next x []
 reduction m level next x (Paren ∷ frames) = next x (Paren ∷ frames)
 reduction m level next x (Before s ∷ frames) = reduction m level next (m.prefix s x) frames
 reduction m level next x (Left l s ∷ frames) = if nat_le level (level_of s) then reduction m level next (m.infix' l s x) frames else next x (Left l s ∷ frames)
 
--- at the end no frame is left
+-- at the end no frame may be left
 abbrev pub at_bottom : {A : Type 0} → Continuation A
 at_bottom x [] = Ok x
 at_bottom x (f ∷ frames) = Err Syntax
 
--- at a closing parenthesis one is open
+-- a closing parenthesis needs an open one
 abbrev pub at_paren : {A : Type 0} → Algebra A → Continuation A → Continuation A
 at_paren m next x [] = Err Syntax
 at_paren m next x (Paren ∷ frames) = next (m.group x) frames
@@ -70,7 +71,7 @@ abbrev pub is_open : Sign → Bool
 is_open Open = true
 is_open _ = false
 
--- the symbols are read where an operand has to come, and where one has come
+-- reading the symbols, in two states: before an operand and after one
 unfoldable mutual
   pub before_operand : {A : Type 0} → Algebra A → List Symbol → List (Frame A) → Read A
   before_operand m [] frames = Err Syntax
@@ -88,7 +89,7 @@ unfoldable mutual
       if nat_lt 0 (level_of s) then reduction m (level_of s) (λ y others. before_operand m rest (Left y s ∷ others)) x frames else Err Syntax
   after_operand m (_ ∷ rest) x frames = Err Syntax
 
--- parts that mean their values
+-- the parts mean their values
 abbrev pub values : Meaning → ℕ → Algebra Outcome
 values names limit = record {
   limit = limit;
@@ -99,45 +100,46 @@ values names limit = record {
   infix' = infix_outcome;
 }
 
--- the value of an expression or its fault, as it is found from the left: a fault of the grammar comes first
+-- the value of an expression, or its first fault; a fault of the grammar comes before one of a
+-- value
 abbrev pub evaluation_of : Meaning → List Symbol → Outcome
 evaluation_of names symbols = result_flatten (before_operand (values names DEEPEST) symbols [])
 
--- an operand of this tightness may stand on these frames
-abbrev pub IsBelow : {A : Type 0} → ℕ → List (Frame A) → Type 0
-IsBelow n [] = Unit {0}
-IsBelow n (Paren ∷ frames) = Unit {0}
-IsBelow n (Before s ∷ frames) = 7 ≤ n
-IsBelow n (Left x s ∷ frames) = level_of s < n
+-- an operand of tightness `n` may come on these frames
+abbrev pub FitsFrames : {A : Type 0} → ℕ → List (Frame A) → Type 0
+FitsFrames n [] = Unit {0}
+FitsFrames n (Paren ∷ frames) = Unit {0}
+FitsFrames n (Before s ∷ frames) = 7 ≤ n
+FitsFrames n (Left x s ∷ frames) = level_of s < n
 
--- no operator of this level or a tighter one comes next
+-- the next symbol is not an operator of level `n` or tighter
 abbrev pub Stops : ℕ → List Symbol → Type 0
 Stops n [] = Unit {0}
 Stops n (Mark s ∷ rest) = level_of s < n
 Stops n (_ ∷ rest) = Unit {0}
 
--- from these symbols on an operand is read up to the rest, whatever looser frames wait for it
-abbrev pub IsRead : Meaning → (level waiting : ℕ) → List Symbol → Outcome → List Symbol → Type 0
-IsRead names level waiting symbols x rest = (frames : List (Frame Outcome)) → IsBelow level frames → open_count frames ≡ waiting
+-- an operand is read from `symbols` up to `rest` and means `x`, on any frames that fit `level` and
+-- have `waiting` parentheses open
+abbrev pub ReadsOperand : Meaning → (level waiting : ℕ) → List Symbol → Outcome → List Symbol → Type 0
+ReadsOperand names level waiting symbols x rest = (frames : List (Frame Outcome)) → FitsFrames level frames → open_count frames ≡ waiting
     → before_operand (values names DEEPEST) symbols frames ≡ after_operand (values names DEEPEST) rest x frames
 
--- no operand is read, and this fault ends the reading
-abbrev pub IsRefused : Meaning → (level waiting : ℕ) → List Symbol → EvalFault → Type 0
-IsRefused names level waiting symbols e = (frames : List (Frame Outcome)) → IsBelow level frames → open_count frames ≡ waiting
+-- on all such frames, reading an operand ends with the fault `e`
+abbrev pub RefusesOperand : Meaning → (level waiting : ℕ) → List Symbol → EvalFault → Type 0
+RefusesOperand names level waiting symbols e = (frames : List (Frame Outcome)) → FitsFrames level frames → open_count frames ≡ waiting
     → before_operand (values names DEEPEST) symbols frames ≡ Err e
 
--- no closing parenthesis comes next
+-- the next symbol is not a closing parenthesis
 abbrev pub BeginsWithoutClose : List Symbol → Type 0
 BeginsWithoutClose [] = Unit {0}
 BeginsWithoutClose (Mark s ∷ rest) = is_close s ≡ false
 BeginsWithoutClose (_ ∷ rest) = Unit {0}
 
--- the signs that stand before an operand
 abbrev pub is_prefix_kind : Kind → Bool
 is_prefix_kind (SignOf s) = is_prefix s
 is_prefix_kind _ = false
 
--- a run of signs before an operand acts from the right
+-- a prefix operator applied to an operand
 abbrev pub signed_by : Kind → Outcome → Outcome
 signed_by (SignOf s) x = prefix_outcome s x
 signed_by _ x = x

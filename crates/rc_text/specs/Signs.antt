@@ -1,4 +1,5 @@
--- The signs of Redcode, by their bytes (the 1994 draft; the comparisons, `&&`, `||`, `!`, `:` and `&` are those of pMARS).
+-- The signs of Redcode, by their bytes (the 1994 draft; the comparisons, `&&`, `||`, `!`, `:` and
+-- `&` are from pMARS).
 use Rattle.std.specs.Prelude.{ℕ, ◌&&◌, ◌==◌, Option, Some, None, if◌then◌else◌}
 use Rattle.rc_text.specs.declared.token.Sign.{Sign}
 use Rattle.rc_text.specs.declared.token.Sign.TheVariants.{Dot, Comma, Colon, Ampersand, Hash, Dollar, At, OpenBrace, CloseBrace, Open, Close, Plus, Minus, Star, Slash, Percent, Bang, Less, Greater, LessEqual, GreaterEqual, Equal, NotEqual, And, Or}

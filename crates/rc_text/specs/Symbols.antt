@@ -1,4 +1,4 @@
--- Symbols: tokens without their places, of which expressions are made.
+-- Symbols: tokens without their spans. Expressions are lists of symbols.
 use Rattle.std.specs.Prelude.{ℕ, ◌+◌, ◌≤◌, List, [], ◌∷◌, ◌++◌, map, length, slice_range, nat_lt, if◌then◌else◌, flat_map}
 use Rattle.std.specs.Int.Digits.{digits_of}
 use Rattle.rc_text.specs.declared.token.Sign.{Sign}
@@ -6,18 +6,18 @@ use Rattle.rc_text.specs.declared.token.Kind.{Kind}
 use Rattle.rc_text.specs.declared.token.Kind.TheVariants.{Name, Number, Sign as SignOf, Assert, LineEnd}
 use Rattle.rc_text.specs.declared.token.Token.{Token}
 
--- a number, a name by its bytes, a sign, or what no expression has: `;assert` and a line end
+-- a number, a name by its bytes, a sign, or what an expression never has: `;assert` or a line end
 pub data Symbol : Type 0 where
   Numeral : (n : ℕ) → Symbol
   Identifier : (name : List ℕ) → Symbol
   Mark : (s : Sign) → Symbol
   Foreign : Symbol
 
--- a counter as it is joined to a name, in at least two decimal digits (this project's own)
+-- a counter as it is joined to a name: in decimal, with at least two digits
 abbrev pub counter_text : ℕ → List ℕ
 counter_text n = if nat_lt n 10 then 48 ∷ ((48 + n) ∷ []) else map (λ d. 48 + d) (digits_of 10 n)
 
--- the bytes of a token, with the counters joined to it
+-- the bytes of a token, then the counters joined to it
 abbrev pub name_of : List ℕ → Token → List ℕ
 name_of source t = slice_range source t.lo t.hi ++ flat_map counter_text t.joined
 
@@ -34,7 +34,7 @@ symbol_of source t = symbol_of_kind t.kind (name_of source t)
 abbrev pub symbols_of : List ℕ → List Token → List Symbol
 symbols_of source tokens = map (symbol_of source) tokens
 
--- the token's span lies in the source
+-- the span of the token lies in the source
 pub record LiesIn (source : List ℕ) (t : Token) : Type 0 where
   pub order : t.lo ≤ t.hi
   pub inside : t.hi ≤ length source

@@ -1,4 +1,4 @@
--- What a token's text is: it spells the token, no longer one stands at its place, and it lies on the token's line.
+-- The text of a token: it spells the token, and no longer token begins at its place.
 use Rattle.std.specs.Prelude.{◌≡◌, ◌<◌, ◌≤◌, ◌+◌, ◌==◌, ℕ, suc, Bool, true, false, ◌||◌, List, [], ◌∷◌, length, take, slice_range, Option, Some, None, is_some, if◌then◌else◌, codes}
 use Rattle.std.specs.Char.{is_ascii_digit}
 use Rattle.std.specs.List.{list_all}
@@ -15,34 +15,34 @@ abbrev pub is_number : List ℕ → Bool
 is_number [] = false
 is_number (b ∷ rest) = list_all is_ascii_digit (b ∷ rest)
 
--- the sign that these bytes are, all of them
+-- the sign that exactly these bytes spell
 abbrev pub sign_of : List ℕ → Option Sign
 sign_of [] = None
 sign_of (a ∷ []) = short_sign a
 sign_of (a ∷ b ∷ []) = long_sign a b
 sign_of (a ∷ b ∷ c ∷ rest) = None
 
--- one name, one number or one sign
+-- exactly one name, number or sign
 abbrev pub is_one_token : List ℕ → Bool
 is_one_token bytes = is_name bytes || (is_number bytes || is_some (sign_of bytes))
 
 -- the bytes spell a token of this kind
-abbrev pub Spells : List ℕ → Kind → Type 0
-Spells bytes Name = is_name bytes ≡ true
-Spells bytes (Number n) = (is_number bytes ≡ true) × (decimal_value bytes ≡ n)
-Spells bytes (SignOf s) = sign_of bytes ≡ Some s
-Spells bytes Assert = is_same_word bytes (codes ";assert") ≡ true
-Spells bytes LineEnd = bytes ≡ LINE_FEED ∷ []
+abbrev pub SpellsToken : List ℕ → Kind → Type 0
+SpellsToken bytes Name = is_name bytes ≡ true
+SpellsToken bytes (Number n) = (is_number bytes ≡ true) × (decimal_value bytes ≡ n)
+SpellsToken bytes (SignOf s) = sign_of bytes ≡ Some s
+SpellsToken bytes Assert = is_same_word bytes (codes ";assert") ≡ true
+SpellsToken bytes LineEnd = bytes ≡ LINE_FEED ∷ []
 
--- how many line feeds there are
+-- the number of line feeds
 abbrev pub line_feed_count : List ℕ → ℕ
 line_feed_count [] = 0
 line_feed_count (b ∷ rest) = if b == LINE_FEED then suc (line_feed_count rest) else line_feed_count rest
 
--- the token is spelled by its bytes of the text; from its first byte on no longer name, number or sign stands there; its line is 1 and the
--- line feeds before it; and no counter is joined to it
+-- the bytes of the span spell the token; no longer span from its first byte is a name, a number or
+-- a sign; its line is 1 plus the line feeds before it; and no counter is joined to it
 pub record StandsIn (text : List ℕ) (t : Token) : Type 0 where
-  pub spelled : Spells (slice_range text t.lo t.hi) t.kind
+  pub spelled : SpellsToken (slice_range text t.lo t.hi) t.kind
   pub longest : (end : ℕ) → t.hi < end → end ≤ length text → is_one_token (slice_range text t.lo end) ≡ false
   pub line : t.line ≡ 1 + line_feed_count (take t.lo text)
   pub unjoined : t.joined ≡ []

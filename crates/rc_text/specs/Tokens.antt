@@ -1,4 +1,4 @@
--- The tokens of a text (the 1994 draft's words and signs; the exact list of tokens and `;assert` as one of them are this project's own).
+-- The tokens of a text, with the words and signs of the 1994 draft, and `;assert` as one token.
 use Rattle.std.specs.Prelude.{◌≤◌, ◌<◌, ◌≡◌, Result, Ok, Err, ℕ, zero, suc, Bool, true, false, not, ◌&&◌, ◌==◌, ◌+◌, ◌-◌, ◌^◌, nat_lt, List, [], ◌∷◌, slice_index, take, drop, Option, Some, None, if◌then◌else◌, codes}
 use Rattle.std.specs.Char.{is_ascii_digit}
 use Rattle.std.specs.List.{prefix_len}
@@ -14,17 +14,17 @@ use Rattle.rc_text.specs.Bytes.{LINE_FEED, SEMICOLON, is_blank, begins_name, con
 use Rattle.rc_text.specs.Signs.{long_sign, short_sign}
 use Rattle.rc_text.specs.Headers.{header_of}
 
--- the sign of two bytes where there is one, else that of one byte
+-- a sign of two bytes if there is one, else a sign of one byte
 abbrev pub sign_lexeme : Option Sign → Option Sign → Lexeme
 sign_lexeme (Some s) short = Word 2 (SignOf s)
 sign_lexeme None (Some s) = Word 1 (SignOf s)
 sign_lexeme None None = Fault BadByte
 
--- a number of so many digits is below 2 ^ 32
+-- a number of `len` digits has to be below 2 ^ 32
 abbrev pub number_lexeme : ℕ → ℕ → Lexeme
 number_lexeme len value = if nat_lt value (2 ^ 32) then Word len (Number value) else Fault NumberTooLarge
 
--- `;assert` in any case with a blank behind it
+-- `;assert` in any case, with a blank after it
 abbrev pub is_assert : List ℕ → Bool
 is_assert text = begins_with_word (codes ";assert") text && is_blank (slice_index text 7)
 
@@ -32,7 +32,8 @@ is_assert text = begins_with_word (codes ";assert") text && is_blank (slice_inde
 abbrev pub comment_len : List ℕ → ℕ
 comment_len text = prefix_len (λ b. not (b == LINE_FEED)) text
 
--- what stands at the front of a text that is not empty; `first` says that only blanks stand before it on its line
+-- what a text begins with, unless it is empty; `first` says that only blanks come before it on its
+-- line
 abbrev pub lexeme_of : Bool → List ℕ → Lexeme
 lexeme_of first text =
     let b = slice_index text 0 in
@@ -43,19 +44,20 @@ lexeme_of first text =
     if is_ascii_digit b then number_lexeme (prefix_len is_ascii_digit text) (decimal_value (take (prefix_len is_ascii_digit text) text)) else
     sign_lexeme (long_sign b (slice_index text 1)) (short_sign b)
 
--- the tokens of a text, and what ends them: the end of the text, or a fault
+-- the tokens of a text, and what ends them: the end of the text (None), or a fault
 pub record TokenList : Type 0 where
   pub tokens : List Token
   pub ending : Option LexFault
 
--- a token as it stands in the text: no counter is joined to it
+-- a token from the text, without counters
 abbrev pub token_of : Kind → ℕ → ℕ → ℕ → Token
 token_of kind lo len line = record { kind = kind; lo = lo; hi = lo + len; line = line; joined = [] }
 
 abbrev pub with_token : Token → TokenList → TokenList
 with_token t l = record { tokens = t ∷ l.tokens; ending = l.ending }
 
--- what follows, by how many bytes still belong to what was read, whether only blanks stand before it on its line, its place and its line
+-- the tokens that follow, by the number of bytes that the last token still covers, whether only
+-- blanks came before on the line, the index of the next byte, and its line
 abbrev pub Onward : Type 0
 Onward = ℕ → Bool → ℕ → ℕ → TokenList
 
@@ -65,17 +67,17 @@ tokens_after LineFeed next first at line = with_token (token_of LineEnd at 1 lin
 tokens_after (Word len kind) next first at line = with_token (token_of kind at len line) (next (len - 1) false (at + 1) line)
 tokens_after (Fault fault) next first at line = record { tokens = []; ending = Some fault }
 
--- the tokens of what is left of a text, byte by byte
+-- the tokens of the rest of a text, byte by byte
 abbrev pub tokens_from : List ℕ → Onward
 tokens_from [] inside first at line = record { tokens = []; ending = None }
 tokens_from (b ∷ rest) (suc inside) first at line = tokens_from rest inside first (at + 1) line
 tokens_from (b ∷ rest) zero first at line = tokens_after (lexeme_of first (b ∷ rest)) (tokens_from rest) first at line
 
--- the tokens of a text; lines count from 1, ignored ones too
+-- the tokens of a text after its header; lines count from 1, those of the header included
 abbrev pub tokens_of : List ℕ → TokenList
 tokens_of text = let h = header_of text in tokens_from (drop h.bytes text) 0 true h.bytes (1 + h.lines)
 
--- what a lexer stands for: the tokens still to come, what ends them, and the line at which it stands
+-- the state of a lexer: the tokens still to come, what ends them, and the current line
 pub record Ahead : Type 0 where
   pub tokens : List Token
   pub ending : Option LexFault
@@ -84,26 +86,27 @@ pub record Ahead : Type 0 where
 abbrev pub ahead : TokenList → ℕ → Ahead
 ahead l line = record { tokens = l.tokens; ending = l.ending; line = line }
 
--- what lies ahead at a place of a text
+-- the state at a given index of a text
 abbrev pub ahead_at : List ℕ → Bool → ℕ → ℕ → Ahead
 ahead_at text first at line = ahead (tokens_from (drop at text) 0 first at line) line
 
--- what lies ahead at the beginning of a text
+-- the state at the beginning of a text
 abbrev pub ahead_of : List ℕ → Ahead
 ahead_of text = ahead (tokens_of text) (1 + (header_of text).lines)
 
--- a line end closes its line
+-- a line end moves on to the next line
 abbrev pub line_after : Kind → ℕ → ℕ
 line_after LineEnd line = line + 1
 line_after _ line = line
 
--- the first token is taken and the others stay; or there is none, the answer is what ends the tokens, and nothing changes
+-- the first token is taken and the others stay; if none is left, the result is what ends the
+-- tokens, and nothing changes
 abbrev pub TakesToken : Ahead → Result (Option Token) LexFault → Ahead → Type 0
 TakesToken old (Ok (Some t)) new = (old.tokens ≡ t ∷ new.tokens) × (new.ending ≡ old.ending) × (t.line ≡ old.line) × (new.line ≡ line_after t.kind t.line)
 TakesToken old (Ok None) new = (old.tokens ≡ []) × (old.ending ≡ None) × (new ≡ old)
 TakesToken old (Err f) new = (old.tokens ≡ []) × (old.ending ≡ Some f) × (new ≡ old)
 
--- the spans of the tokens are in order from lo to end and do not overlap, and none is empty
+-- the spans are in order from `lo` to `end`, none of them is empty, and no two overlap
 abbrev pub InOrder : (lo end : ℕ) → List Token → Type 0
 InOrder lo end [] = lo ≤ end
 InOrder lo end (t ∷ ts) = (lo ≤ t.lo) × (t.lo < t.hi) × InOrder t.hi end ts

@@ -1,4 +1,4 @@
--- The value of an expression: 64-bit numbers with a sign (the operators of pMARS; the exact range and each refusal are this project's own).
+-- The value of an expression: a 64-bit number with a sign (the operators of pMARS).
 use Rattle.std.specs.Prelude.{◌≡◌, ℕ, zero, suc, ◌-◌, ◌≤◌, ◌^◌, Bool, true, false, ◌&&◌, ◌||◌, not, ℤ, pos, negsuc, ◌+ℤ◌, ◌-ℤ◌, ◌*ℤ◌, neg_ℤ, int_lt, int_le, int_div, int_rem, nat_lt, nat_le, List, [], ◌∷◌, Option, Some, None, Result, Ok, Err, if◌then◌else◌}
 use Rattle.rc_text.specs.declared.token.Sign.{Sign}
 use Rattle.rc_text.specs.declared.token.Sign.TheVariants.{Open, Close, Plus, Minus, Star, Slash, Percent, Bang, Less, Greater, LessEqual, GreaterEqual, Equal, NotEqual, And, Or}
@@ -20,7 +20,7 @@ abbrev pub is_zero : ℤ → Bool
 is_zero (pos zero) = true
 is_zero _ = false
 
--- truth is 1 or 0, and any value but 0 is true
+-- truth is 1 or 0
 abbrev pub truth_value : Bool → ℤ
 truth_value true = pos 1
 truth_value false = pos 0
@@ -28,14 +28,15 @@ truth_value false = pos 0
 abbrev pub is_equal : ℤ → ℤ → Bool
 is_equal x y = is_zero (x -ℤ y)
 
--- a sign before a value
+-- a prefix operator applied to a value
 abbrev pub prefix_value : Sign → ℤ → Outcome
 prefix_value Plus x = Ok x
 prefix_value Minus x = within_range (neg_ℤ x)
 prefix_value Bang x = Ok (truth_value (is_zero x))
 prefix_value _ x = Err Syntax
 
--- an operator between two values; division goes toward zero, and a remainder has the sign of the dividend
+-- an infix operator applied to two values; division goes toward zero, a remainder has the sign of
+-- the dividend, and any value but 0 is true
 abbrev pub infix_value : Sign → ℤ → ℤ → Outcome
 infix_value Star x y = within_range (x *ℤ y)
 infix_value Slash x y = if is_zero y then Err DivisionByZero else within_range (int_div x y)
@@ -52,7 +53,8 @@ infix_value And x y = Ok (truth_value (not (is_zero x) && not (is_zero y)))
 infix_value Or x y = Ok (truth_value (not (is_zero x && is_zero y)))
 infix_value _ x y = Err Syntax
 
--- the first fault from the left, or what comes of the values; both sides are evaluated, also those of `&&` and `||`
+-- the first fault from the left, or the operator applied to the values; both sides are evaluated,
+-- even of `&&` and `||`
 abbrev pub prefix_outcome : Sign → Outcome → Outcome
 prefix_outcome s (Ok x) = prefix_value s x
 prefix_outcome s (Err e) = Err e
@@ -62,7 +64,7 @@ infix_outcome (Ok x) s (Ok y) = infix_value s x y
 infix_outcome (Ok x) s (Err e) = Err e
 infix_outcome (Err e) s r = Err e
 
--- what names stand for
+-- the values of names
 abbrev pub Meaning : Type 0
 Meaning = List ℕ → Option ℤ
 
@@ -71,42 +73,43 @@ name_outcome (Some x) = Ok x
 name_outcome None = Err UnknownName
 
 -- the value of a tree, or its first fault from the left
-abbrev pub value_of : Meaning → Tree → Outcome
-value_of names (Literal n) = Ok (pos n)
-value_of names (Named name) = name_outcome (names name)
-value_of names (Group t) = value_of names t
-value_of names (Prefix s t) = prefix_outcome s (value_of names t)
-value_of names (Infix a s b) = infix_outcome (value_of names a) s (value_of names b)
+abbrev pub tree_value : Meaning → Tree → Outcome
+tree_value names (Literal n) = Ok (pos n)
+tree_value names (Named name) = name_outcome (names name)
+tree_value names (Group t) = tree_value names t
+tree_value names (Prefix s t) = prefix_outcome s (tree_value names t)
+tree_value names (Infix a s b) = infix_outcome (tree_value names a) s (tree_value names b)
 
--- how many parentheses may be open at once
+-- the most parentheses that may be open at once
 abbrev pub DEEPEST : ℕ
 DEEPEST = 64
 
--- the symbols are those of a tree of the grammar that is not too deep, and this comes of it
+-- a tree of the grammar that is not too deep spells the symbols and has this outcome
 pub record HasOutcome (names : Meaning) (symbols : List Symbol) (outcome : Outcome) : Type 0 where
   pub tree : Tree
   pub grammatical : IsGrammatical tree
   pub spells : spelling_of tree ≡ symbols
   pub shallow : depth_of tree ≤ DEEPEST
-  pub value : value_of names tree ≡ outcome
+  pub value : tree_value names tree ≡ outcome
 
 -- x is the value of the expression
 abbrev pub IsValue : Meaning → List Symbol → ℤ → Type 0
 IsValue names symbols x = HasOutcome names symbols (Ok x)
 
--- no tree of the grammar, however deep, has these symbols
+-- no tree of the grammar, of any depth, spells these symbols
 abbrev pub HasNoTree : List Symbol → Type 0
 HasNoTree symbols = (t : Tree) → IsGrammatical t → spelling_of t ≡ symbols → ⊥
 
--- with so many parentheses open, a further one is opened somewhere while as many are open as may be
+-- with `n` parentheses open at first, one more is opened somewhere while DEEPEST are open
 abbrev pub opens_too_many : ℕ → List Symbol → Bool
 opens_too_many n [] = false
 opens_too_many n (Mark Open ∷ symbols) = nat_le DEEPEST n || opens_too_many (suc n) symbols
 opens_too_many n (Mark Close ∷ symbols) = opens_too_many (n - 1) symbols
 opens_too_many n (_ ∷ symbols) = opens_too_many n symbols
 
--- what each fault says of the expression
-abbrev pub IsFault : Meaning → List Symbol → EvalFault → Type 0
-IsFault names symbols Syntax = HasNoTree symbols
-IsFault names symbols TooDeep = opens_too_many 0 symbols ≡ true
-IsFault names symbols e = HasOutcome names symbols (Err e)
+-- the meaning of each fault: no tree spells the symbols, a parenthesis opens too deep, or the fault
+-- is the outcome of the tree
+abbrev pub IsEvalFault : Meaning → List Symbol → EvalFault → Type 0
+IsEvalFault names symbols Syntax = HasNoTree symbols
+IsEvalFault names symbols TooDeep = opens_too_many 0 symbols ≡ true
+IsEvalFault names symbols e = HasOutcome names symbols (Err e)

@@ -1,39 +1,46 @@
-//! Kinds of bytes, and how far a run of them goes.
+//! Classes of bytes, and the length of what a text begins with.
 ghost use Rattle.std.specs.Prelude.{◌≡◌};
 ghost use Rattle.std.specs.Char.{is_ascii_digit};
 ghost use Rattle.std.specs.List.{prefix_len};
-ghost use Rattle.rc_text.specs.Bytes.{is_blank, begins_name, continues_name, begins_with_word};
+ghost use Rattle.rc_text.specs.Bytes.{is_blank, begins_name, continues_name, is_same_word, begins_with_word};
 ghost use Rattle.rc_text.specs.Tokens.{comment_len};
 
-/// Whether a byte is a space, a tab or a carriage return.
-pub(crate) fn is_blank(byte: u8) -> bool
+/// Checks for a space, a tab or a carriage return. A line feed is not a blank: it ends the line.
+pub fn is_blank(byte: u8) -> bool
     ensures { result ≡ is_blank byte }
 {
     byte == b' ' || byte == b'\t' || byte == b'\r'
 }
 
-/// Whether a name may begin with this byte.
+/// Compares two words in any case of their ASCII letters.
+pub fn is_same_word(word: &[u8], name: &[u8]) -> bool
+    ensures { result ≡ is_same_word word.now name.now }
+{
+    word.eq_ignore_ascii_case(name)
+}
+
+// Checks for a letter or `_`.
 pub(crate) fn begins_name(byte: u8) -> bool
     ensures { result ≡ begins_name byte }
 {
     byte.is_ascii_alphabetic() || byte == b'_'
 }
 
-/// Whether a name may go on with this byte.
+// Checks for a letter, a digit or `_`.
 pub(crate) fn continues_name(byte: u8) -> bool
     ensures { result ≡ continues_name byte }
 {
     begins_name(byte) || byte.is_ascii_digit()
 }
 
-/// How long the comment at the front is.
+// Returns the length of the comment that `text` begins with, without its line feed.
 pub(crate) fn comment_len(text: &[u8]) -> usize
     ensures { result ≡ comment_len text.now }
 {
     text.iter().take_while(|byte| **byte != b'\n').count()
 }
 
-/// How long the name at the front is.
+// Returns the length of the name that `text` begins with.
 pub(crate) fn name_len(text: &[u8]) -> usize
     ensures { result ≡ prefix_len continues_name text.now }
 {
@@ -42,14 +49,14 @@ pub(crate) fn name_len(text: &[u8]) -> usize
         .count()
 }
 
-/// How many digits stand at the front.
+// Counts the decimal digits that `text` begins with.
 pub(crate) fn digits_len(text: &[u8]) -> usize
     ensures { result ≡ prefix_len is_ascii_digit text.now }
 {
     text.iter().take_while(|byte| byte.is_ascii_digit()).count()
 }
 
-/// Whether the text begins with the word, in any case.
+// Checks whether `text` begins with `word`, in any case.
 pub(crate) fn begins_with_word(word: &[u8], text: &[u8]) -> bool
     ensures { result ≡ begins_with_word word.now text.now }
 {

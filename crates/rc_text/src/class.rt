@@ -1,33 +1,63 @@
-//! Which names are taken.
+//! Classes of names: reserved, predefined or free.
 ghost use Rattle.std.specs.Prelude.{◌≡◌};
 ghost use Rattle.std.specs.List.{list_all};
 ghost use Rattle.std.specs.Str.{bytes_eq};
 ghost use Rattle.rc_text.specs.Bytes.{continues_name, is_same_word};
 ghost use Rattle.rc_text.specs.NameClasses.{is_name, draft_opcodes, added_opcodes, directives, is_one_of, is_opcode_word, is_reserved, is_predefined, class_of};
 
-use crate::bytes::{begins_name, continues_name};
+use crate::bytes::{begins_name, continues_name, is_same_word};
 
-/// What bytes are as a name.
+/// The class of a name.
 #[derive(Clone, Copy, Debug, PartialEq, Eq)]
 pub enum NameClass {
-    /// No name: not a letter or `_` and then letters, digits and `_`.
+    /// Not a name: anything but a letter or `_` and then letters, digits and `_`.
     NoName,
-    /// An opcode word or a directive, in any case.
+    /// An opcode or a directive, in any case.
     Reserved,
-    /// A name that stands for a rule, in capitals.
+    /// A predefined name such as `CORESIZE`, in capitals.
     Predefined,
     /// Any other name.
     Free,
 }
 
-// Letters, digits and `_`.
+/// Checks whether a name is an opcode, in any case: one of the 1994 draft, CMP among them, or SEQ,
+/// SNE or NOP (pMARS).
+#[tactic(auto, unfolding(crate::specs::NameClasses::is_opcode_word))]
+pub fn is_opcode_word(name: &[u8]) -> bool
+    ensures { result ≡ is_opcode_word name.now }
+{
+    is_draft_opcode(name) || is_added_opcode(name)
+}
+
+/// Returns the class of a name.
+///
+/// - `NoName`: anything but a letter or `_` and then letters, digits and `_`.
+/// - `Reserved`, in any case: the opcodes (the 1994 draft's with CMP; SEQ, SNE and NOP of pMARS),
+///   and ORG, END, EQU, FOR and ROF.
+/// - `Predefined`, in capitals: CORESIZE, MAXPROCESSES, MAXCYCLES, MAXLENGTH, MINDISTANCE,
+///   WARRIORS, VERSION and CURLINE (pMARS).
+/// - `Free`: any other name.
+pub fn name_class(bytes: &[u8]) -> NameClass
+    ensures { result ≡ class_of bytes.now }
+{
+    if !is_name(bytes) {
+        NameClass::NoName
+    } else if is_reserved(bytes) {
+        NameClass::Reserved
+    } else if is_predefined(bytes) {
+        NameClass::Predefined
+    } else {
+        NameClass::Free
+    }
+}
+
 fn continues(rest: &[u8]) -> bool
     ensures { result ≡ list_all continues_name rest.now }
 {
     rest.iter().all(|byte| continues_name(*byte))
 }
 
-// A letter or `_`, then letters, digits and `_`.
+// Checks for a letter or `_`, and then letters, digits and `_`.
 #[tactic(auto, using(crate::proofs::WordSteps::name_of_more, crate::proofs::WordSteps::name_of_none))]
 fn is_name(bytes: &[u8]) -> bool
     ensures { result ≡ is_name bytes.now }
@@ -38,21 +68,14 @@ fn is_name(bytes: &[u8]) -> bool
     }
 }
 
-// Whether the two words have the same letters in any case.
-fn is_same_word(word: &[u8], name: &[u8]) -> bool
-    ensures { result ≡ is_same_word word.now name.now }
-{
-    word.eq_ignore_ascii_case(name)
-}
-
-// Whether the two words are the same, letter by letter.
+// Compares a name with `word`, case included.
 fn is_exactly(word: &[u8], name: &[u8]) -> bool
     ensures { result ≡ bytes_eq name.now word.now }
 {
     name == word
 }
 
-// An opcode of the 1994 draft.
+// The opcodes of the 1994 draft.
 fn is_draft_opcode(name: &[u8]) -> bool
     ensures { result ≡ is_one_of draft_opcodes name.now }
 {
@@ -72,14 +95,14 @@ fn is_draft_opcode(name: &[u8]) -> bool
         || is_same_word(b"SPL", name)
 }
 
-// An opcode that pMARS adds.
+// The opcodes that pMARS adds.
 fn is_added_opcode(name: &[u8]) -> bool
     ensures { result ≡ is_one_of added_opcodes name.now }
 {
     is_same_word(b"SEQ", name) || is_same_word(b"SNE", name) || is_same_word(b"NOP", name)
 }
 
-// A directive.
+// ORG and END of the 1994 draft; EQU, FOR and ROF of pMARS.
 fn is_directive(name: &[u8]) -> bool
     ensures { result ≡ is_one_of directives name.now }
 {
@@ -90,15 +113,6 @@ fn is_directive(name: &[u8]) -> bool
         || is_same_word(b"ROF", name)
 }
 
-/// Whether a name is an opcode word, in any case: an opcode of the 1994 draft, CMP among them, or SEQ, SNE or NOP of pMARS.
-#[tactic(auto, unfolding(crate::specs::NameClasses::is_opcode_word))]
-pub fn is_opcode_word(name: &[u8]) -> bool
-    ensures { result ≡ is_opcode_word name.now }
-{
-    is_draft_opcode(name) || is_added_opcode(name)
-}
-
-// An opcode word or a directive.
 #[tactic(auto, unfolding(crate::specs::NameClasses::is_opcode_word))]
 fn is_reserved(name: &[u8]) -> bool
     ensures { result ≡ is_reserved name.now }
@@ -106,7 +120,7 @@ fn is_reserved(name: &[u8]) -> bool
     is_opcode_word(name) || is_directive(name)
 }
 
-// A name that stands for a rule.
+// The predefined names (pMARS), in capitals only.
 fn is_predefined(name: &[u8]) -> bool
     ensures { result ≡ is_predefined name.now }
 {
@@ -118,26 +132,4 @@ fn is_predefined(name: &[u8]) -> bool
         || is_exactly(b"WARRIORS", name)
         || is_exactly(b"VERSION", name)
         || is_exactly(b"CURLINE", name)
-}
-
-/// What these bytes are as a name.
-///
-/// - No name: anything but a letter or `_` and then letters, digits and `_`.
-/// - Reserved, in any case: the opcodes (the 1994 draft's with CMP; SEQ, SNE and NOP of pMARS), and
-///   ORG, END, EQU, FOR and ROF.
-/// - Predefined, in capitals: CORESIZE, MAXPROCESSES, MAXCYCLES, MAXLENGTH, MINDISTANCE, WARRIORS,
-///   VERSION and CURLINE (pMARS).
-/// - Free: any other name.
-pub fn name_class(bytes: &[u8]) -> NameClass
-    ensures { result ≡ class_of bytes.now }
-{
-    if !is_name(bytes) {
-        NameClass::NoName
-    } else if is_reserved(bytes) {
-        NameClass::Reserved
-    } else if is_predefined(bytes) {
-        NameClass::Predefined
-    } else {
-        NameClass::Free
-    }
 }

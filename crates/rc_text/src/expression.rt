@@ -1,10 +1,10 @@
-//! The value of an expression.
+//! Evaluation of expressions, by precedence climbing.
 ghost use Rattle.std.specs.Prelude.{true, ◌≡◌, ℤ, ◌<◌, ◌≤◌, [], ◌∷◌, length, IfOk, IfErr, IfSome, IfNone, All, MatchResult, Result};
 ghost use Rattle.std.specs.List.{prefix_len};
 ghost use Rattle.rc_text.specs.declared.fault.EvalFault.{EvalFault};
-ghost use Rattle.rc_text.specs.Values.{IsValue, IsFault, HasOutcome, DEEPEST};
+ghost use Rattle.rc_text.specs.Values.{IsValue, IsEvalFault, HasOutcome, DEEPEST};
 ghost use Rattle.rc_text.specs.Symbols.{LiesIn, symbols_of, Mark};
-ghost use Rattle.rc_text.specs.Reading.{IsRead, IsRefused, Stops, is_prefix_kind, signed_by, signed_outcome, evaluation_of};
+ghost use Rattle.rc_text.specs.Reading.{ReadsOperand, RefusesOperand, Stops, is_prefix_kind, signed_by, signed_outcome, evaluation_of};
 
 use crate::fault::EvalFault;
 use crate::front::{after_close, first_of, operator, split_signs};
@@ -14,10 +14,39 @@ use crate::operator::{
 };
 use crate::token::{Kind, Sign, Token};
 
-// How many parentheses may be open at once.
+// The most parentheses that may be open at once.
 const MAX_OPEN: u8 = 64;
 
-// What a sign before an operand makes of it.
+/// Evaluates an expression, which has to be all of `tokens`. Each token's span must lie in
+/// `source`.
+///
+/// Unary `+`, `-` and `!` bind tightest, then from tight to loose `*` `/` `%`; `+` `-`; `<` `>`
+/// `<=` `>=`; `==` `!=`; `&&`; `||`, each level from the left (the operators of pMARS). Every
+/// number on the way fits into 64 bits with a sign. Division goes toward zero, and a remainder has
+/// the sign of the dividend. Comparisons and logic give 1 or 0, any value but 0 is true, and both
+/// sides of `&&` and `||` are evaluated.
+///
+/// Refuses tokens that are not an expression (`Syntax`) and a 65th open parenthesis (`TooDeep`),
+/// whichever comes first from the left. In an expression it then refuses the first from the left of
+/// a name without a value (`UnknownName`), a zero divisor (`DivisionByZero`) and a result that does
+/// not fit (`Overflow`).
+pub fn eval<N: Names>(source: &[u8], tokens: &[Token], names: &N) -> Result<i64, EvalFault>
+    requires { All (LiesIn source.now) tokens.now }
+    ensures value { IfOk result (IsValue (N.meaning names.now) (symbols_of source.now tokens.now)) }
+    ensures fault { IfErr result (IsEvalFault (N.meaning names.now) (symbols_of source.now tokens.now)) }
+    ensures only { (r : Result ℤ EvalFault) →
+        HasOutcome (N.meaning names.now) (symbols_of source.now tokens.now) r → result ≡ r }
+    ensures reading { result ≡ evaluation_of (N.meaning names.now) (symbols_of source.now tokens.now) }
+{
+    let (outcome, rest) = climb(source, tokens, names, 1, 0)?;
+    if rest.is_empty() {
+        outcome
+    } else {
+        Err(EvalFault::Syntax)
+    }
+}
+
+// Applies a prefix operator to an operand.
 fn signed_by(kind: Kind, operand: Outcome) -> Outcome
     ensures { result ≡ signed_by kind operand }
 {
@@ -27,7 +56,7 @@ fn signed_by(kind: Kind, operand: Outcome) -> Outcome
     }
 }
 
-// What all signs before an operand make of it, the last one first.
+// Applies a run of prefix operators to an operand, the last one first.
 #[tactic(auto, using(crate::proofs::RunSteps::last_first))]
 fn signed_outcome(signs: &[Token], operand: Outcome) -> Outcome
     ensures { result ≡ signed_outcome signs.now operand }
@@ -41,7 +70,8 @@ fn signed_outcome(signs: &[Token], operand: Outcome) -> Outcome
     outcome
 }
 
-// What follows an open parenthesis: an expression and the closing parenthesis.
+// Reads the inside of a group and its closing parenthesis. `waiting` parentheses are open before
+// it.
 #[cycle(expression)]
 fn group<'a, N: Names>(
     source: &[u8],
@@ -52,9 +82,9 @@ fn group<'a, N: Names>(
     requires inside { All (LiesIn source.now) tokens.now }
     requires room { waiting ≤ DEEPEST }
     ensures read { MatchResult result
-        (λ r. IsRead (N.meaning names.now) 8 waiting
+        (λ r. ReadsOperand (N.meaning names.now) 8 waiting
         (Mark Sign.Open ∷ symbols_of source.now tokens.now) r.0 (symbols_of source.now r.1.now))
-        (IsRefused (N.meaning names.now) 8 waiting (Mark Sign.Open ∷ symbols_of source.now tokens.now)) }
+        (RefusesOperand (N.meaning names.now) 8 waiting (Mark Sign.Open ∷ symbols_of source.now tokens.now)) }
     ensures inside { IfOk result (λ r. All (LiesIn source.now) r.1.now) }
     ensures shorter { IfOk result (λ r. length r.1.now < length tokens.now) }
 {
@@ -68,7 +98,7 @@ fn group<'a, N: Names>(
     }
 }
 
-// A number, a name or a group.
+// Reads a number, a name or a group.
 #[cycle(expression)]
 fn primary<'a, N: Names>(
     source: &[u8],
@@ -80,9 +110,9 @@ fn primary<'a, N: Names>(
     requires room { waiting ≤ DEEPEST }
     requires unsigned { prefix_len (λ t. is_prefix_kind t.kind) tokens.now ≡ 0 }
     ensures read { MatchResult result
-        (λ r. IsRead (N.meaning names.now) 8 waiting
+        (λ r. ReadsOperand (N.meaning names.now) 8 waiting
         (symbols_of source.now tokens.now) r.0 (symbols_of source.now r.1.now))
-        (IsRefused (N.meaning names.now) 8 waiting (symbols_of source.now tokens.now)) }
+        (RefusesOperand (N.meaning names.now) 8 waiting (symbols_of source.now tokens.now)) }
     ensures inside { IfOk result (λ r. All (LiesIn source.now) r.1.now) }
     ensures shorter { IfOk result (λ r. length r.1.now < length tokens.now) }
 {
@@ -100,7 +130,7 @@ fn primary<'a, N: Names>(
     }
 }
 
-// An operand: any signs, and a number, a name or a group.
+// Reads prefix operators and the number, name or group after them.
 #[cycle(expression)]
 fn operand<'a, N: Names>(
     source: &[u8],
@@ -111,9 +141,9 @@ fn operand<'a, N: Names>(
     requires inside { All (LiesIn source.now) tokens.now }
     requires room { waiting ≤ DEEPEST }
     ensures read { MatchResult result
-        (λ r. IsRead (N.meaning names.now) 8 waiting
+        (λ r. ReadsOperand (N.meaning names.now) 8 waiting
         (symbols_of source.now tokens.now) r.0 (symbols_of source.now r.1.now))
-        (IsRefused (N.meaning names.now) 8 waiting (symbols_of source.now tokens.now)) }
+        (RefusesOperand (N.meaning names.now) 8 waiting (symbols_of source.now tokens.now)) }
     ensures inside { IfOk result (λ r. All (LiesIn source.now) r.1.now) }
     ensures shorter { IfOk result (λ r. length r.1.now < length tokens.now) }
 {
@@ -122,7 +152,7 @@ fn operand<'a, N: Names>(
     Ok((signed_outcome(signs, outcome), rest))
 }
 
-// An operand and, from the left, each operator of this level or a tighter one with its right side.
+// Reads an operand, then each operator of `level` or tighter with its right side, left to right.
 #[cycle(expression)]
 fn climb<'a, N: Names>(
     source: &[u8],
@@ -136,9 +166,9 @@ fn climb<'a, N: Names>(
     requires level { 0 < level }
     requires tightest { level ≤ 7 }
     ensures read { MatchResult result
-        (λ r. IsRead (N.meaning names.now) level waiting
+        (λ r. ReadsOperand (N.meaning names.now) level waiting
         (symbols_of source.now tokens.now) r.0 (symbols_of source.now r.1.now))
-        (IsRefused (N.meaning names.now) level waiting (symbols_of source.now tokens.now)) }
+        (RefusesOperand (N.meaning names.now) level waiting (symbols_of source.now tokens.now)) }
     ensures stops { IfOk result (λ r. Stops level (symbols_of source.now r.1.now)) }
     ensures inside { IfOk result (λ r. All (LiesIn source.now) r.1.now) }
     ensures shorter { IfOk result (λ r. length r.1.now < length tokens.now) }
@@ -150,31 +180,4 @@ fn climb<'a, N: Names>(
         rest = next;
     }
     Ok((left, rest))
-}
-
-/// The value of the expression that the tokens are, all of them. Each token's span has to lie in the source.
-///
-/// From the tightest: numbers, names and parentheses; `+ - !` before an operand; `* / %`; `+ -`;
-/// `< > <= >=`; `== !=`; `&&`; `||`. Each level groups to the left. Values have 64 bits with a sign,
-/// division goes toward zero, and a remainder has the sign of the dividend. Truth is 1 or 0; both sides
-/// of `&&` and `||` are evaluated. (The operators are those of pMARS; all else is this project's own.)
-///
-/// Refuses what is no expression (`Syntax`) and a 65th open parenthesis (`TooDeep`), whichever comes
-/// first from the left. Where the whole is an expression it refuses, whichever comes first from the
-/// left, a name that stands for nothing (`UnknownName`), a zero divisor (`DivisionByZero`) and a result
-/// that does not fit (`Overflow`).
-pub fn eval<N: Names>(source: &[u8], tokens: &[Token], names: &N) -> Result<i64, EvalFault>
-    requires { All (LiesIn source.now) tokens.now }
-    ensures value { IfOk result (IsValue (N.meaning names.now) (symbols_of source.now tokens.now)) }
-    ensures fault { IfErr result (IsFault (N.meaning names.now) (symbols_of source.now tokens.now)) }
-    ensures only { (r : Result ℤ EvalFault) →
-        HasOutcome (N.meaning names.now) (symbols_of source.now tokens.now) r → result ≡ r }
-    ensures reading { result ≡ evaluation_of (N.meaning names.now) (symbols_of source.now tokens.now) }
-{
-    let (outcome, rest) = climb(source, tokens, names, 1, 0)?;
-    if rest.is_empty() {
-        outcome
-    } else {
-        Err(EvalFault::Syntax)
-    }
 }

@@ -1,4 +1,4 @@
-//! What stands at the front of the tokens of an expression.
+//! The first tokens of an expression.
 ghost use Rattle.std.specs.Prelude.{◌≡◌, ◌<◌, ◌≤◌, [], ◌∷◌, length, take, drop, IfSome, IfNone, All};
 ghost use Rattle.std.specs.List.{prefix_len};
 ghost use Rattle.rc_text.specs.Grammar.{level_of};
@@ -8,7 +8,7 @@ ghost use Rattle.rc_text.specs.Reading.{Stops, BeginsWithoutClose, is_prefix_kin
 use crate::operator::{is_prefix, level_of};
 use crate::token::{Kind, Sign, Token};
 
-/// The first token and the others.
+// Splits off the first token.
 pub(crate) fn first_of<'a>(source: &[u8], tokens: &'a [Token]) -> Option<(&'a Token, &'a [Token])>
     requires { All (LiesIn source.now) tokens.now }
     ensures tokens { IfSome result (λ p. tokens.now ≡ p.0.now ∷ p.1.now) }
@@ -22,7 +22,7 @@ pub(crate) fn first_of<'a>(source: &[u8], tokens: &'a [Token]) -> Option<(&'a To
     tokens.split_first()
 }
 
-/// The first token where it is an operator of this level or a tighter one, and what follows it.
+// Returns the first token if it is an operator of `level` or tighter, and the tokens after it.
 pub(crate) fn operator<'a>(
     source: &[u8],
     tokens: &'a [Token],
@@ -44,7 +44,7 @@ pub(crate) fn operator<'a>(
     }
 }
 
-/// The tokens after a closing parenthesis, if one comes first.
+// Returns the tokens after a closing parenthesis, if one comes first.
 pub(crate) fn after_close<'a>(source: &[u8], tokens: &'a [Token]) -> Option<&'a [Token]>
     requires { All (LiesIn source.now) tokens.now }
     ensures symbols { IfSome result (λ rest.
@@ -60,27 +60,7 @@ pub(crate) fn after_close<'a>(source: &[u8], tokens: &'a [Token]) -> Option<&'a 
     }
 }
 
-// Whether a token is a sign that may stand before an operand.
-fn is_prefix_kind(kind: Kind) -> bool
-    ensures { result ≡ is_prefix_kind kind }
-{
-    match kind {
-        Kind::Sign(sign) => is_prefix(sign),
-        _ => false,
-    }
-}
-
-// How many signs stand before the operand.
-fn sign_count(tokens: &[Token]) -> usize
-    ensures { result ≡ prefix_len (λ t. is_prefix_kind t.kind) tokens.now }
-{
-    tokens
-        .iter()
-        .take_while(|token| is_prefix_kind(token.kind))
-        .count()
-}
-
-/// The signs before the operand, and the tokens behind them.
+// Splits `tokens` after the prefix operators that they begin with.
 #[tactic(auto, using(crate::proofs::RunSteps::within, crate::proofs::RunSteps::rest_inside, crate::proofs::RunSteps::unsigned))]
 pub(crate) fn split_signs<'a>(source: &[u8], tokens: &'a [Token]) -> (&'a [Token], &'a [Token])
     requires { All (LiesIn source.now) tokens.now }
@@ -91,4 +71,24 @@ pub(crate) fn split_signs<'a>(source: &[u8], tokens: &'a [Token]) -> (&'a [Token
     ensures shorter { length result.1.now ≤ length tokens.now }
 {
     tokens.split_at(sign_count(tokens))
+}
+
+// Checks for a prefix operator: `+`, `-` or `!`.
+fn is_prefix_kind(kind: Kind) -> bool
+    ensures { result ≡ is_prefix_kind kind }
+{
+    match kind {
+        Kind::Sign(sign) => is_prefix(sign),
+        _ => false,
+    }
+}
+
+// Counts the prefix operators that `tokens` begin with.
+fn sign_count(tokens: &[Token]) -> usize
+    ensures { result ≡ prefix_len (λ t. is_prefix_kind t.kind) tokens.now }
+{
+    tokens
+        .iter()
+        .take_while(|token| is_prefix_kind(token.kind))
+        .count()
 }

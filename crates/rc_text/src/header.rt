@@ -1,25 +1,19 @@
-//! The lines at the head of a text that are ignored.
+//! The header of a text, which is ignored: every line up to `;redcode`.
 ghost use Rattle.std.specs.Prelude.{◌≡◌, ◌≤◌, ◌&&◌, ◌||◌, codes, length};
 ghost use Rattle.rc_text.specs.Bytes.{begins_with_word};
 ghost use Rattle.rc_text.specs.Headers.{header_of};
 
 use crate::bytes::begins_with_word;
 
-/// How many bytes and how many lines the head of a text has.
+/// The size of a header.
 #[derive(Clone, Copy, Debug, PartialEq, Eq)]
 pub struct Extent {
     pub bytes: usize,
     pub lines: u64,
 }
 
-// Whether this line begins with `;redcode`, now that this is left of the text.
-fn is_header_line(rest: &[u8], begins: bool, found: bool) -> bool
-    ensures { result ≡ (found || (begins && begins_with_word (codes ";redcode") rest.now)) }
-{
-    found || (begins && begins_with_word(b";redcode", rest))
-}
-
-/// The lines up to and with the first that begins with `;redcode`, in any case; none where no line does.
+// Measures the lines up to and with the first that begins with `;redcode`, in any case (pMARS).
+// Without such a line the header is empty.
 pub(crate) fn header_of(text: &[u8]) -> Extent
     ensures value { result ≡ header_of text.now }
     ensures within { result.bytes ≤ length text.now }
@@ -50,4 +44,12 @@ pub(crate) fn header_of(text: &[u8]) -> Extent
     } else {
         Extent { bytes: 0, lines: 0 }
     }
+}
+
+// Checks whether the line at hand is the `;redcode` line. `rest` is what is left of the text,
+// `begins` says that the line begins here, and `found` that the word was seen earlier in it.
+fn is_header_line(rest: &[u8], begins: bool, found: bool) -> bool
+    ensures { result ≡ (found || (begins && begins_with_word (codes ";redcode") rest.now)) }
+{
+    found || (begins && begins_with_word(b";redcode", rest))
 }

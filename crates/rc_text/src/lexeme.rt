@@ -1,4 +1,4 @@
-//! What stands at the front of a text.
+//! Recognition of a single token.
 ghost use Rattle.std.specs.Prelude.{◌≡◌, ◌^◌, ◌<◌, take, length, slice_index, min};
 ghost use Rattle.std.specs.Char.{is_ascii_digit};
 ghost use Rattle.std.specs.List.{prefix_len};
@@ -10,7 +10,7 @@ use crate::bytes::{begins_name, begins_with_word, comment_len, digits_len, is_bl
 use crate::fault::LexFault;
 use crate::token::{Kind, Sign};
 
-/// What stands at a place: bytes that are passed over, a line feed, a token with its length, or a fault.
+/// What a text begins with: bytes to skip, a line feed, a token by its length and kind, or a fault.
 #[derive(Clone, Copy, Debug, PartialEq, Eq)]
 pub enum Lexeme {
     Trivia(usize),
@@ -19,7 +19,32 @@ pub enum Lexeme {
     Fault(LexFault),
 }
 
-// The sign of these two bytes.
+// Reads what `text` begins with. `first` says that only blanks come before it on its line.
+pub(crate) fn lexeme_of(text: &[u8], first: bool) -> Lexeme
+    requires { 0 < length text.now }
+    ensures { result ≡ lexeme_of first text.now }
+{
+    let byte = text[0];
+    if is_blank(byte) {
+        Lexeme::Trivia(1)
+    } else if byte == b'\n' {
+        Lexeme::LineFeed
+    } else if byte == b';' {
+        if first && is_assert(text) {
+            Lexeme::Word(7, Kind::Assert)
+        } else {
+            Lexeme::Trivia(comment_len(text))
+        }
+    } else if begins_name(byte) {
+        Lexeme::Word(name_len(text), Kind::Name)
+    } else if byte.is_ascii_digit() {
+        number(text)
+    } else {
+        sign(text)
+    }
+}
+
+// The signs of two bytes.
 fn long_sign(first: u8, second: u8) -> Option<Sign>
     ensures { result ≡ long_sign first second }
 {
@@ -34,7 +59,7 @@ fn long_sign(first: u8, second: u8) -> Option<Sign>
     }
 }
 
-// The sign of this byte.
+// The signs of one byte.
 fn short_sign(byte: u8) -> Option<Sign>
     ensures { result ≡ short_sign byte }
 {
@@ -62,7 +87,7 @@ fn short_sign(byte: u8) -> Option<Sign>
     }
 }
 
-// The number that the digits spell, or 2 ^ 32 where it is greater.
+// Returns the value of decimal digits, or 2^32 if it is greater.
 #[tactic(auto, using(crate::proofs::NumberSteps::digit_at, crate::proofs::NumberSteps::decimal_more))]
 fn decimal(digits: &[u8]) -> u64
     requires { prefix_len is_ascii_digit digits.now ≡ length digits.now }
@@ -75,14 +100,14 @@ fn decimal(digits: &[u8]) -> u64
     value
 }
 
-// Whether `;assert` and a blank stand at the front.
+// Checks for `;assert` and a blank.
 fn is_assert(text: &[u8]) -> bool
     ensures { result ≡ is_assert text.now }
 {
     begins_with_word(b";assert", text) && text.len() > 7 && is_blank(text[7])
 }
 
-// The number whose digits stand at the front.
+// Reads the number that `text` begins with, up to 2^32 - 1.
 #[tactic(auto, using(crate::proofs::NumberSteps::all_digits))]
 fn number(text: &[u8]) -> Lexeme
     ensures { let len = prefix_len is_ascii_digit text.now in
@@ -97,7 +122,7 @@ fn number(text: &[u8]) -> Lexeme
     }
 }
 
-// The longest sign at the front.
+// Reads the sign that `text` begins with; one of two bytes comes before one of one byte.
 fn sign(text: &[u8]) -> Lexeme
     requires { 0 < length text.now }
     ensures { let first = slice_index text.now 0 in
@@ -110,30 +135,5 @@ fn sign(text: &[u8]) -> Lexeme
             Some(sign) => Lexeme::Word(1, Kind::Sign(sign)),
             None => Lexeme::Fault(LexFault::BadByte),
         },
-    }
-}
-
-/// What stands at the front of a text, where `first` says that only blanks stand before it on its line.
-pub(crate) fn lexeme_of(text: &[u8], first: bool) -> Lexeme
-    requires { 0 < length text.now }
-    ensures { result ≡ lexeme_of first text.now }
-{
-    let byte = text[0];
-    if is_blank(byte) {
-        Lexeme::Trivia(1)
-    } else if byte == b'\n' {
-        Lexeme::LineFeed
-    } else if byte == b';' {
-        if first && is_assert(text) {
-            Lexeme::Word(7, Kind::Assert)
-        } else {
-            Lexeme::Trivia(comment_len(text))
-        }
-    } else if begins_name(byte) {
-        Lexeme::Word(name_len(text), Kind::Name)
-    } else if byte.is_ascii_digit() {
-        number(text)
-    } else {
-        sign(text)
     }
 }

@@ -1,4 +1,4 @@
-//! From bytes to tokens.
+//! The lexer: from bytes to tokens.
 ghost use Rattle.std.specs.Prelude.{◌≡◌, ◌+◌, ◌^◌, ◌<◌, length};
 ghost use Rattle.rc_text.specs.Tokens.{token_of};
 
@@ -8,11 +8,11 @@ use crate::lexeme::{Lexeme, lexeme_of};
 use crate::token::{Joined, Kind, Token};
 use std::marker::Model;
 
-/// Gives the tokens of a text, one after the other.
+/// Yields the tokens of a text one by one.
 ///
-/// A token is the longest one at its place. Blanks and comments are passed over, and so are all lines
-/// up to and with the first that begins with `;redcode`, if one does (pMARS; in detail this project's
-/// own). Each line feed is a token; the end of the text gives none.
+/// A token is the longest one at its place. Blanks and comments are skipped, and so is a header:
+/// every line up to and with the first that begins with `;redcode`, in any case (pMARS). Each line
+/// feed is a token; the end of the text is not.
 #[derive(Drop)]
 pub struct Lexer<'a> {
     source: &'a [u8],
@@ -35,7 +35,7 @@ impl<'a> Model for Lexer<'a> {
 impl<'a> Lexer<'a> {
     ghost use Rattle.rc_text.specs.Tokens.{ahead_of, InOrder, TakesToken};
 
-    /// The lexer of a text, before its first token.
+    /// Creates a lexer before the first token of `source`.
     #[tactic(auto, using(crate::proofs::Spans::in_order_from))]
     pub fn new(source: &'a [u8]) -> Self
         ensures tokens { result ≡ ahead_of source.now }
@@ -50,19 +50,19 @@ impl<'a> Lexer<'a> {
         }
     }
 
-    /// The line at which the lexer stands, from 1: that of the last token, the next one behind a line
-    /// end, and after a fault the fault's.
+    /// Returns the current line, from 1: the line of the last token, the next one after a line feed,
+    /// and the line of the fault after a fault.
     pub fn line(&self) -> u64
         ensures { result ≡ self.now.line }
     {
         self.line
     }
 
-    /// Takes the next token, or answers `None` at the end of the text.
+    /// Takes the next token, or returns `None` at the end of the text.
     ///
-    /// Refuses a byte that begins no token (`BadByte`) and a number above 4294967295
-    /// (`NumberTooLarge`). At the end and at a fault nothing changes, so that every later call gives the
-    /// same answer.
+    /// Refuses a byte that no token begins with (`BadByte`) and a number above 4294967295
+    /// (`NumberTooLarge`). At the end and at a fault nothing changes, so every later call returns
+    /// the same.
     pub fn next_token(&mut self) -> Result<Option<Token>, LexFault>
         ensures { TakesToken self.old result self.new }
     {
@@ -89,7 +89,7 @@ impl<'a> Lexer<'a> {
     }
 }
 
-// A token as it stands in the text.
+// Makes a token of `len` bytes without counters.
 fn token_of(kind: Kind, lo: usize, len: usize, line: u64) -> Token
     requires { lo + len < 2 ^ 64 }
     ensures { result ≡ token_of kind lo len line }

@@ -1,23 +1,23 @@
 //! Tokens and expressions of Redcode, the language of Core War warriors.
 //!
-//! A [`Lexer`] gives the tokens of a text one by one, each the longest at its place, and what ends
-//! them. [`eval`] gives the value of an expression, and [`name_class`] tells which names are taken.
-//! Nothing is copied and nothing takes memory.
+//! A [`Lexer`] yields the tokens of a text one by one. [`eval`] evaluates an expression, and
+//! [`name_class`] says which names are reserved or predefined. Nothing is copied or allocated.
 #![tactic(auto)]
 
 mod bytes;
-pub mod class;
-pub mod expression;
-pub mod fault;
+mod class;
+mod expression;
+mod fault;
 mod front;
 mod header;
 pub mod laws;
 mod lexeme;
-pub mod lexer;
-pub mod names;
+mod lexer;
+mod names;
 mod operator;
-pub mod token;
+mod token;
 
+pub use bytes::{is_blank, is_same_word};
 pub use class::{NameClass, is_opcode_word, name_class};
 pub use expression::eval;
 pub use fault::{EvalFault, LexFault};

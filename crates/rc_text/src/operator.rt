@@ -1,4 +1,4 @@
-//! What the parts of an expression give.
+//! The arithmetic of expressions: operators applied to values and faults.
 ghost use Rattle.std.specs.Prelude.{◌≡◌, ◌≤◌, Ok, pos};
 ghost use Rattle.rc_text.specs.Grammar.{level_of, is_prefix};
 ghost use Rattle.rc_text.specs.Values.{truth_value, prefix_value, infix_value, name_outcome, prefix_outcome, infix_outcome};
@@ -6,10 +6,7 @@ ghost use Rattle.rc_text.specs.Values.{truth_value, prefix_value, infix_value, n
 use crate::fault::EvalFault;
 use crate::token::Sign;
 
-/// A value, or the fault in its place.
-pub(crate) type Outcome = Result<i64, EvalFault>;
-
-/// The level of an operator, from 1 for the loosest to 6 for the tightest, and 0 for a sign that is none.
+// Returns the level of an operator, from 1 (loosest) to 6 (tightest), or 0 for any other sign.
 pub(crate) fn level_of(sign: Sign) -> u8
     ensures value { result ≡ level_of sign }
     ensures small { result ≤ 6 }
@@ -25,7 +22,7 @@ pub(crate) fn level_of(sign: Sign) -> u8
     }
 }
 
-/// Whether a sign may stand before an operand.
+// Checks whether a sign may come before an operand.
 pub(crate) fn is_prefix(sign: Sign) -> bool
     ensures { result ≡ is_prefix sign }
 {
@@ -35,14 +32,43 @@ pub(crate) fn is_prefix(sign: Sign) -> bool
     }
 }
 
-// 1 for true and 0 for false.
+pub(crate) fn number_outcome(n: u32) -> Outcome
+    ensures { result ≡ Ok (pos n) }
+{
+    Ok(i64::from(n))
+}
+
+// A name without a value is an `UnknownName`.
+pub(crate) fn name_outcome(value: Option<i64>) -> Outcome
+    ensures { result ≡ name_outcome value }
+{
+    value.ok_or(EvalFault::UnknownName)
+}
+
+// Applies a prefix operator to a value; a fault stays as it is.
+pub(crate) fn prefix_outcome(sign: Sign, operand: Outcome) -> Outcome
+    ensures { result ≡ prefix_outcome sign operand }
+{
+    prefix_value(sign, operand?)
+}
+
+// Applies an infix operator to two values; of two faults the left one is returned.
+pub(crate) fn infix_outcome(left: Outcome, sign: Sign, right: Outcome) -> Outcome
+    ensures { result ≡ infix_outcome left sign right }
+{
+    infix_value(sign, left?, right?)
+}
+
+// A value, or the fault in its place.
+pub(crate) type Outcome = Result<i64, EvalFault>;
+
 fn truth_value(holds: bool) -> i64
     ensures { result ≡ truth_value holds }
 {
     if holds { 1 } else { 0 }
 }
 
-// The value of a sign before a value.
+// Applies a prefix operator.
 fn prefix_value(sign: Sign, x: i64) -> Outcome
     ensures { result ≡ prefix_value sign x }
 {
@@ -54,7 +80,7 @@ fn prefix_value(sign: Sign, x: i64) -> Outcome
     }
 }
 
-// Division toward zero.
+// Divides toward zero.
 fn quotient(x: i64, y: i64) -> Outcome
     ensures { result ≡ infix_value Sign.Slash x y }
 {
@@ -64,7 +90,8 @@ fn quotient(x: i64, y: i64) -> Outcome
     x.checked_div(y).ok_or(EvalFault::Overflow)
 }
 
-// The remainder, with the sign of the dividend. It always fits, also where the quotient does not.
+// Returns the remainder, with the sign of the dividend. It always fits, even if the quotient does
+// not: i64::MIN % -1 is 0.
 fn remainder(x: i64, y: i64) -> Outcome
     ensures { result ≡ infix_value Sign.Percent x y }
 {
@@ -74,7 +101,7 @@ fn remainder(x: i64, y: i64) -> Outcome
     Ok(x.wrapping_rem(y))
 }
 
-// The value of an operator between two values.
+// Applies an infix operator.
 fn infix_value(sign: Sign, x: i64, y: i64) -> Outcome
     ensures { result ≡ infix_value sign x y }
 {
@@ -94,32 +121,4 @@ fn infix_value(sign: Sign, x: i64, y: i64) -> Outcome
         Sign::Or => Ok(truth_value(x != 0 || y != 0)),
         _ => Err(EvalFault::Syntax),
     }
-}
-
-/// What a number gives.
-pub(crate) fn number_outcome(n: u32) -> Outcome
-    ensures { result ≡ Ok (pos n) }
-{
-    Ok(i64::from(n))
-}
-
-/// What a name gives, by the number for which it stands.
-pub(crate) fn name_outcome(value: Option<i64>) -> Outcome
-    ensures { result ≡ name_outcome value }
-{
-    value.ok_or(EvalFault::UnknownName)
-}
-
-/// What a sign before an operand gives.
-pub(crate) fn prefix_outcome(sign: Sign, operand: Outcome) -> Outcome
-    ensures { result ≡ prefix_outcome sign operand }
-{
-    prefix_value(sign, operand?)
-}
-
-/// What an operator between two operands gives: the first fault from the left, or what comes of both values.
-pub(crate) fn infix_outcome(left: Outcome, sign: Sign, right: Outcome) -> Outcome
-    ensures { result ≡ infix_outcome left sign right }
-{
-    infix_value(sign, left?, right?)
 }

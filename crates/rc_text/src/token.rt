@@ -1,11 +1,11 @@
-//! A token, its kind and the counters joined to it.
+//! Tokens, their kinds, and the counters joined to them.
 ghost use Rattle.std.specs.Prelude.{◌≡◌, ◌↔◌, ◌<◌, ◌≤◌, ◌++◌, ◌∷◌, [], length, IsTrue};
 
 use arrayvec::ArrayVec;
 use std::marker::Model;
 
 /// A sign: punctuation, an operator, or an addressing mode (the 1994 draft; comparisons, logic, `:`
-/// and `&` are those of pMARS).
+/// and `&` are from pMARS).
 #[derive(Clone, Copy, Debug, PartialEq, Eq)]
 pub enum Sign {
     /// `.`
@@ -60,7 +60,7 @@ pub enum Sign {
     Or,
 }
 
-/// What a token is.
+/// The kind of a token.
 #[derive(Clone, Copy, Debug, PartialEq, Eq)]
 pub enum Kind {
     /// A letter or `_`, then letters, digits and `_`.
@@ -69,13 +69,13 @@ pub enum Kind {
     Number(u32),
     /// A sign, the longest at its place.
     Sign(Sign),
-    /// `;assert`, in any case, first on its line and with a blank behind it.
+    /// `;assert`, in any case, if it comes first on its line and a blank follows.
     Assert,
     /// A line feed.
     LineEnd,
 }
 
-/// The counters joined to a name, at most eight, from the left.
+/// The counters joined to a name, in order, at most 8.
 #[derive(Clone, Debug, Drop)]
 pub struct Joined {
     counters: ArrayVec<u16, 8>,
@@ -90,7 +90,7 @@ impl Model for Joined {
 }
 
 impl Joined {
-    /// No counter.
+    /// Creates an empty list, without allocating.
     pub fn new() -> Self
         ensures { result ≡ [] }
     {
@@ -99,7 +99,7 @@ impl Joined {
         }
     }
 
-    /// How many counters there are, 0 to 8.
+    /// Returns the number of counters, 0 to 8.
     pub fn len(&self) -> usize
         ensures value { result ≡ length self.now }
         ensures most { result ≤ 8 }
@@ -107,21 +107,20 @@ impl Joined {
         self.counters.len()
     }
 
-    /// Whether there is no counter.
     pub fn is_empty(&self) -> bool
         ensures { IsTrue result ↔ (self.now ≡ []) }
     {
         self.counters.is_empty()
     }
 
-    /// The counters, from the left.
+    /// Returns the counters in the order in which they were joined.
     pub fn as_slice(&self) -> &[u16]
         ensures { result.now ≡ self.now }
     {
         self.counters.as_slice()
     }
 
-    /// Joins one more counter on the right. There must be room for it, so fewer than eight.
+    /// Joins one more counter at the end. There must be fewer than 8.
     pub fn push(&mut self, counter: u16)
         requires { length self.old < 8 }
         ensures { self.new ≡ self.old ++ counter ∷ [] }
@@ -130,17 +129,17 @@ impl Joined {
     }
 }
 
-/// A token of a source text: its bytes are those from `lo` up to `hi`.
+/// A token of a source text. Its span is the bytes from `lo` to `hi`, `hi` excluded.
 #[derive(Clone, Debug, Drop)]
 pub struct Token {
-    /// What it is. For a number that replaced a counter this is its value.
+    /// The kind. A counter that was replaced by its value is a `Number`, with the span of its name.
     pub kind: Kind,
-    /// Where its first byte is in the source.
+    /// The index of its first byte in the source.
     pub lo: usize,
-    /// Where its last byte has ended.
+    /// The index after its last byte.
     pub hi: usize,
     /// Its line, from 1.
     pub line: u64,
-    /// The counters that expansion joined to its name; a lexer gives none.
+    /// The counters that the expansion joined to its name; always empty from a lexer.
     pub joined: Joined,
 }

@@ -5,7 +5,7 @@ use Rattle.std.proofs.lemmas.List.{length-map}
 use Rattle.std.proofs.lemmas.List.Sums.{sum_by-cons, sum_by-le}
 use Rattle.std.proofs.lemmas.List.FromFn.{length-range_with_len}
 use Rattle.std.proofs.lemmas.Bool.Decides.{leb_tells}
-use Rattle.rc_instr.specs.Warrior.{Program}
+use Rattle.rc_instr.specs.Warrior.{WarriorView}
 use Rattle.tune_cert.specs.Problem.{Problem, IsProblem}
 use Rattle.tune_cert.specs.Optimum.{total_of, cap_of}
 use Rattle.tune_cert.specs.Valid.{numbers, IsCapRow}
@@ -17,14 +17,14 @@ few_points x h = elim h [ inl a ↦ omega arith | inr b ↦ elim b [ inl c ↦ o
 above : (a b : ℕ) → a ≤ b → (b ≡ a) ⊎ (a + 1 ≤ b)
 above a b h = elim (leb_tells b a) [ inl p ↦ inl (omega arith) | inr p ↦ inr (omega arith) ]
 
-cons_sum : (p : Problem) (w : Program) (k : ℕ) (ks : List ℕ) → sum_by (p.points w) (k ∷ ks) ≡ p.points w k + sum_by (p.points w) ks
+cons_sum : (p : Problem) (w : WarriorView) (k : ℕ) (ks : List ℕ) → sum_by (p.points w) (k ∷ ks) ≡ p.points w k + sum_by (p.points w) ks
 cons_sum p w k ks = sum_by-cons (p.points w) k ks
 
-none_sum : (p : Problem) → IsProblem p → (w : Program) (ks : List ℕ) → sum_by (p.points w) ks ≤ 3 * length ks
+none_sum : (p : Problem) → IsProblem p → (w : WarriorView) (ks : List ℕ) → sum_by (p.points w) ks ≤ 3 * length ks
 none_sum p laws w ks = omega (arith, sum_by-le (p.points w) 3 ks (λ k d l. few_points _ (laws.scores w (get_or ks k d))))
 
 -- a row's points and 3 for each other fight from a on, against all fights from a on
-pub capped : (p : Problem) → IsProblem p → (w : Program) (m a : ℕ) (row : List (ℕ × ℕ)) → a + m ≡ p.fights → IsCapRow p w a row →
+pub capped : (p : Problem) → IsProblem p → (w : WarriorView) (m a : ℕ) (row : List (ℕ × ℕ)) → a + m ≡ p.fights → IsCapRow p w a row →
     (length row ≤ m) × (sum_by (p.points w) (range_with_len a m) + 3 * length row ≤ sum_by (p.points w) (numbers row) + 3 * m)
 capped p laws w zero a [] e h = (omega arith, omega arith)
 capped p laws w zero a (x ∷ row) e h = absurd (omega (arith, h.0, h.1))
@@ -43,7 +43,7 @@ capped p laws w (suc m) a (x ∷ row) e h =
     ]
 
 -- a row of as many fights as there are has each of them
-pub whole : (p : Problem) → IsProblem p → (w : Program) (m a : ℕ) (row : List (ℕ × ℕ)) → a + m ≡ p.fights → IsCapRow p w a row → length row ≡ m →
+pub whole : (p : Problem) → IsProblem p → (w : WarriorView) (m a : ℕ) (row : List (ℕ × ℕ)) → a + m ≡ p.fights → IsCapRow p w a row → length row ≡ m →
     numbers row ≡ range_with_len a m
 whole p laws w zero a [] e h n = refl
 whole p laws w zero a (x ∷ row) e h n = absurd (omega (arith, h.0, h.1))
@@ -60,18 +60,18 @@ whole p laws w (suc m) a (x ∷ row) e h n =
     ]
 
 -- the points listed are those of the fights
-pub row_sum : (p : Problem) (w : Program) (a : ℕ) (row : List (ℕ × ℕ)) → IsCapRow p w a row → sum_by (λ e. e.1) row ≡ sum_by (p.points w) (numbers row)
+pub row_sum : (p : Problem) (w : WarriorView) (a : ℕ) (row : List (ℕ × ℕ)) → IsCapRow p w a row → sum_by (λ e. e.1) row ≡ sum_by (p.points w) (numbers row)
 row_sum p w a [] h = refl
 row_sum p w a (x ∷ row) h =
     let i = row_sum p w (x.0 + 1) row h.3 in
     sum_by-cons (λ e. e.1) x row ∙ ap (λ n. n + sum_by (λ e. e.1) row) h.2 ∙ ap (λ n. p.points w x.0 + n) i ∙ sym (cons_sum p w x.0 (numbers row))
 
-pub row_cap : (p : Problem) → IsProblem p → (w : Program) (row : List (ℕ × ℕ)) → IsCapRow p w 0 row → total_of p w ≤ cap_of p w (numbers row)
+pub row_cap : (p : Problem) → IsProblem p → (w : WarriorView) (row : List (ℕ × ℕ)) → IsCapRow p w 0 row → total_of p w ≤ cap_of p w (numbers row)
 unfolding total_of cap_of
 row_cap p laws w row h =
     let c = capped p laws w p.fights 0 row (omega arith) h in
     omega (arith, c.0, c.1, length-map row (λ e. e.0))
 
-pub row_total : (p : Problem) → IsProblem p → (w : Program) (row : List (ℕ × ℕ)) → IsCapRow p w 0 row → length row ≡ p.fights → sum_by (λ e. e.1) row ≡ total_of p w
+pub row_total : (p : Problem) → IsProblem p → (w : WarriorView) (row : List (ℕ × ℕ)) → IsCapRow p w 0 row → length row ≡ p.fights → sum_by (λ e. e.1) row ≡ total_of p w
 unfolding total_of
 row_total p laws w row h n = row_sum p w 0 row h ∙ ap (sum_by (p.points w)) (whole p laws w p.fights 0 row (omega arith) h n)

@@ -4,9 +4,8 @@ use Rattle.std.proofs.lemmas.Fmt.{decimal_injective}
 use Rattle.std.proofs.lemmas.Option.{slice_get_within}
 use Rattle.mars_fight.specs.Records.{Fields}
 use Rattle.tune_cert.specs.CertText.{rows_fields, count_fields, best_fields, cert_fields}
-use Rattle.tune_cert.specs.Spelling.{IsNumber, Spells, HasForm, IsMalformed}
-use Rattle.tune_cert.specs.ReadRefusal.{IsReadRefusal}
-use Rattle.tune_cert.specs.Parts.{AreRows, HasRow, IsBadCount, IsBadBest, IsBadRow}
+use Rattle.tune_cert.specs.Spelling.{IsNumber, Spells, HasForm, IsMalformed, IsReadRefusal}
+use Rattle.tune_cert.specs.Steps.{AreRows, HasRow, IsBadCount, IsBadBest, IsBadRow}
 use Rattle.tune_cert.specs.declared.cert.Cert.{Cert}
 use Rattle.tune_cert.specs.declared.fault.ReadFault.{ReadFault}
 use Rattle.tune_cert.specs.declared.fault.ReadFault.TheVariants.{Malformed, OutOfMemory}
@@ -29,10 +28,10 @@ same_three : (a b c d e f : List ℕ) (r s : List Fields) → ◌≡◌ {A = Lis
 same_three a b c d e f r s h = (cc, cc, cc)
 
 -- what comes behind the first record, and its count
-pub behind_count : (records rest : List Fields) (count : ℕ) (c : Cert) → IsNumber count → records ≡ count_fields count ∷ rest → Spells records c
+pub after_count : (records rest : List Fields) (count : ℕ) (c : Cert) → IsNumber count → records ≡ count_fields count ∷ rest → Spells records c
     → (count ≡ c.count) × (rest ≡ best_fields c.best c.total ∷ rows_fields c.rows 0)
 unfolding cert_fields
-behind_count records rest count c small e s =
+after_count records rest count c small e s =
     let t = same_three _ _ _ _ _ _ _ _ (sym e ∙ s.text) in
     let wide : c.count < 2 ^ 32 = s.cert.count in
     (decimal_injective count c.count (omega arith) (omega arith) t.1, t.2)
@@ -40,14 +39,14 @@ behind_count records rest count c small e s =
 pub best_fault : (records rest : List Fields) (count : ℕ) (e : ReadFault) (c : Cert) → IsNumber count → records ≡ count_fields count ∷ rest → Spells records c → IsBadBest rest e → e ≡ OutOfMemory
 best_fault records rest count OutOfMemory c small at s h = refl
 best_fault records rest count (Malformed row) c small at s h =
-    absurd (h.1 c.best c.total s.cert.best s.cert.total (ap (λ (l : List Fields). slice_get l 0) (behind_count records rest count c small at s).1))
+    absurd (h.1 c.best c.total s.cert.best s.cert.total (ap (λ (l : List Fields). slice_get l 0) (after_count records rest count c small at s).1))
 
 -- what comes behind the second record, and its numbers
-pub behind_best : (records rest behind : List Fields) (count best total : ℕ) (c : Cert) → IsNumber count → IsNumber best → IsNumber total
+pub after_best : (records rest behind : List Fields) (count best total : ℕ) (c : Cert) → IsNumber count → IsNumber best → IsNumber total
     → records ≡ count_fields count ∷ rest → rest ≡ best_fields best total ∷ behind → Spells records c
     → (count ≡ c.count) × (best ≡ c.best) × (total ≡ c.total) × AreRows 0 behind c.rows
-behind_best records rest behind count best total c p q r e f s =
-    let b = behind_count records rest count c p e s in
+after_best records rest behind count best total c p q r e f s =
+    let b = after_count records rest count c p e s in
     let t = same_three _ _ _ _ _ _ _ _ (sym f ∙ b.1) in
     let wide_best : c.best < 2 ^ 32 = s.cert.best in
     let wide_total : c.total < 2 ^ 32 = s.cert.total in (

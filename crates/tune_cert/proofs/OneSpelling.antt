@@ -7,13 +7,13 @@ use Rattle.std.proofs.lemmas.List.Elements.{All-head, All-tail}
 use Rattle.mars_fight.specs.Records.{Fields}
 use Rattle.tune_cert.specs.CertText.{item_text, spaced_text, list_text, kind_text, last_text, rows_fields, best_fields, cert_fields}
 use Rattle.tune_cert.specs.Spelling.{IsNumber, IsItem, IsRow, Spells}
-use Rattle.tune_cert.specs.declared.row.Row.{Row}
-use Rattle.tune_cert.specs.declared.row.Row.TheVariants.{Refused, Same, Cap}
+use Rattle.tune_cert.specs.declared.cert.Row.{Row}
+use Rattle.tune_cert.specs.declared.cert.Row.TheVariants.{Refused, Same, Cap}
 use Rattle.tune_cert.specs.declared.cert.Cert.{Cert}
 use Rattle.rc_instr.proofs.Numerals.{decimal_one}
 use Rattle.tune_cert.proofs.ItemText.{fine_parts}
 use Rattle.tune_cert.proofs.Spaced.{dash_only}
-use Rattle.tune_cert.proofs.CertParts.{behind_best}
+use Rattle.tune_cert.proofs.CertParts.{after_best}
 
 one_number : (n m : ℕ) → IsNumber n → IsNumber m → decimal n ≡ decimal m → n ≡ m
 one_number n m a b e =
@@ -81,7 +81,7 @@ one_rows (r ∷ rows) (s ∷ others) v a b e =
 pub one_spelled : (records : List Fields) (c d : Cert) → Spells records c → Spells records d → c ≡ d
 unfolding cert_fields
 one_spelled records c d s t =
-    let b = behind_best records (best_fields c.best c.total ∷ rows_fields c.rows 0) (rows_fields c.rows 0) c.count c.best c.total d
+    let b = after_best records (best_fields c.best c.total ∷ rows_fields c.rows 0) (rows_fields c.rows 0) c.count c.best c.total d
     s.cert.count s.cert.best s.cert.total s.text refl t in
     let rows = one_rows c.rows d.rows 0 s.cert.rows t.cert.rows b.3.text in
     rw (b.0, b.1, b.2, rows) refl

@@ -4,7 +4,7 @@ use Rattle.std.specs.Prelude.{IfOk}
 use Rattle.tune_cert.specs.Problem.{Problem, IsProblem}
 use Rattle.tune_cert.specs.Optimum.{IsOptimum, HasTotal}
 use Rattle.tune_cert.specs.Verdict.{IsOptimal}
-use Rattle.tune_cert.specs.Checks.{IsCertVerdict}
+use Rattle.tune_cert.specs.Steps.{IsCertVerdict}
 use Rattle.tune_cert.specs.declared.cert.Cert.{Cert}
 use Rattle.tune_cert.specs.declared.fault.CheckFault.{CheckFault}
 use Rattle.tune_cert.specs.declared.verdict.Verdict.{Verdict}

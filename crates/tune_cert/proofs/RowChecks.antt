@@ -3,33 +3,33 @@ use Rattle.std.proofs.Common.{◌≡◌, ℕ, zero, suc, ◌+◌, ◌≤◌, ari
 use Rattle.std.specs.List.{range_with_len}
 use Rattle.std.proofs.lemmas.List.{length-map}
 use Rattle.std.proofs.lemmas.List.FromFn.{length-range_with_len}
-use Rattle.rc_instr.specs.Warrior.{Program}
+use Rattle.rc_instr.specs.Warrior.{WarriorView}
 use Rattle.tune_cert.specs.Problem.{Problem, IsProblem}
 use Rattle.tune_cert.specs.Optimum.{cap_of, all_fights}
 use Rattle.tune_cert.specs.Valid.{numbers, IsCapRow}
 use Rattle.tune_cert.specs.Verdict.{Rises, HavePoints}
-use Rattle.tune_cert.specs.Checks.{AreNumbers, listed_cap}
+use Rattle.tune_cert.specs.Steps.{AreNumbers, listed_cap}
 use Rattle.tune_cert.proofs.CapRows.{capped, row_sum}
 
 -- a cap row rises and has its points
-pub cap_row_of : (p : Problem) (w : Program) (a : ℕ) (row : List (ℕ × ℕ)) → Rises a row → HavePoints p w row → IsCapRow p w a row
+pub cap_row_of : (p : Problem) (w : WarriorView) (a : ℕ) (row : List (ℕ × ℕ)) → Rises a row → HavePoints p w row → IsCapRow p w a row
 cap_row_of p w a [] r h = tt
 cap_row_of p w a (e ∷ row) r h = (r.0, h.0, h.1, cap_row_of p w (e.0 + 1) row r.1 h.2)
 
-pub cap_row_rises : (p : Problem) (w : Program) (a : ℕ) (row : List (ℕ × ℕ)) → IsCapRow p w a row → Rises a row
+pub cap_row_rises : (p : Problem) (w : WarriorView) (a : ℕ) (row : List (ℕ × ℕ)) → IsCapRow p w a row → Rises a row
 cap_row_rises p w a [] h = tt
 cap_row_rises p w a (e ∷ row) h = (h.0, cap_row_rises p w (e.0 + 1) row h.3)
 
-pub cap_row_points : (p : Problem) (w : Program) (a : ℕ) (row : List (ℕ × ℕ)) → IsCapRow p w a row → HavePoints p w row
+pub cap_row_points : (p : Problem) (w : WarriorView) (a : ℕ) (row : List (ℕ × ℕ)) → IsCapRow p w a row → HavePoints p w row
 cap_row_points p w a [] h = tt
 cap_row_points p w a (e ∷ row) h = (h.1, h.2, cap_row_points p w (e.0 + 1) row h.3)
 
 -- a cap row has at most as many fights as there are
-pub few_listed : (p : Problem) → IsProblem p → (w : Program) (row : List (ℕ × ℕ)) → IsCapRow p w 0 row → length row ≤ p.fights
+pub few_listed : (p : Problem) → IsProblem p → (w : WarriorView) (row : List (ℕ × ℕ)) → IsCapRow p w 0 row → length row ≤ p.fights
 few_listed p laws w row h = (capped p laws w p.fights 0 row (omega arith) h).0
 
 -- the cap by the points that a cap row lists
-pub listed_is_cap : (p : Problem) (w : Program) (row : List (ℕ × ℕ)) → IsCapRow p w 0 row → listed_cap p.fights row ≡ cap_of p w (numbers row)
+pub listed_is_cap : (p : Problem) (w : WarriorView) (row : List (ℕ × ℕ)) → IsCapRow p w 0 row → listed_cap p.fights row ≡ cap_of p w (numbers row)
 unfolding cap_of
 listed_is_cap p w row h = omega (arith, row_sum p w 0 row h, length-map row (λ e. e.0))
 

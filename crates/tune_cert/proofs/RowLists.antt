@@ -5,8 +5,8 @@ use Rattle.std.proofs.lemmas.List.Elements.{All-head, All-tail}
 use Rattle.mars_fight.specs.Records.{Fields}
 use Rattle.tune_cert.specs.CertText.{rows_fields, row_fields}
 use Rattle.tune_cert.specs.Spelling.{IsRow, HasForm}
-use Rattle.tune_cert.specs.Parts.{AreRows, HasRow, IsBadRecord}
-use Rattle.tune_cert.specs.declared.row.Row.{Row}
+use Rattle.tune_cert.specs.Steps.{AreRows, HasRow, IsBadRecord}
+use Rattle.tune_cert.specs.declared.cert.Row.{Row}
 
 -- what stands at a place, and what comes behind it
 suc_more : (n : ℕ) (xs : List Fields) (x : Fields) (rest : List Fields) → drop n xs ≡ x ∷ rest → (drop (suc n) xs ≡ rest) × (slice_get xs n ≡ Some x)

@@ -1,28 +1,28 @@
 -- Points of fights are 0, 1 or 3.
 use Rattle.std.proofs.Common.{ℕ, List, Option, Some, None, refl, inl}
 use Rattle.std.specs.List.{slice_get}
-use Rattle.rc_instr.specs.Rules.{Limits}
-use Rattle.rc_instr.specs.Warrior.{Program}
+use Rattle.rc_instr.specs.Rules.{RulesView}
+use Rattle.rc_instr.specs.Warrior.{WarriorView}
 use Rattle.mars_fight.specs.declared.fight.Fight.{Fight}
 use Rattle.mars_fight.specs.Play.{points_of, ArePoints}
 use Rattle.mars_fight.proofs.Points.{outcome_points}
 use Rattle.tune_template.specs.Instances.{InputsView}
-use Rattle.tune_cert.specs.Problem.{IsProblem, points_with, points_against, points_at, problem_of}
+use Rattle.tune_cert.specs.Problem.{IsProblem, points_with, points_against, fight_points, problem_of}
 
-one_fight : (rules : Limits) (candidate opponent : Program) (fight : Fight) → ArePoints (points_of rules candidate opponent fight)
+one_fight : (rules : RulesView) (candidate opponent : WarriorView) (fight : Fight) → ArePoints (points_of rules candidate opponent fight)
 unfolding points_of
 one_fight rules candidate opponent fight = outcome_points _ _ _ _ _ refl
 
-with_any : (rules : Limits) (w : Program) (fight : Fight) (o : Option Program) → ArePoints (points_with rules w fight o)
+with_any : (rules : RulesView) (w : WarriorView) (fight : Fight) (o : Option WarriorView) → ArePoints (points_with rules w fight o)
 with_any rules w fight None = inl refl
 with_any rules w fight (Some opponent) = one_fight rules w opponent fight
 
-against_any : (rules : Limits) (opponents : List Program) (w : Program) (f : Option Fight) → ArePoints (points_against rules opponents w f)
+against_any : (rules : RulesView) (opponents : List WarriorView) (w : WarriorView) (f : Option Fight) → ArePoints (points_against rules opponents w f)
 against_any rules opponents w None = inl refl
 against_any rules opponents w (Some fight) = with_any rules w fight (slice_get opponents fight.opponent)
 
-at_any : (rules : Limits) (opponents : List Program) (schedule : List Fight) (w : Program) (k : ℕ) → ArePoints (points_at rules opponents schedule w k)
-unfolding points_at
+at_any : (rules : RulesView) (opponents : List WarriorView) (schedule : List Fight) (w : WarriorView) (k : ℕ) → ArePoints (fight_points rules opponents schedule w k)
+unfolding fight_points
 at_any rules opponents schedule w k = against_any rules opponents w (slice_get schedule k)
 
 -- the problem of any inputs

@@ -6,7 +6,7 @@ use Rattle.std.proofs.lemmas.List.Elements.{All-head, All-tail}
 use Rattle.std.specs.Fmt.{decimal}
 use Rattle.tune_cert.specs.CertText.{spaced_text, item_text, list_text}
 use Rattle.tune_cert.specs.Spelling.{IsItem}
-use Rattle.tune_cert.specs.Parts.{AreSpaced, AreItems}
+use Rattle.tune_cert.specs.Steps.{AreSpaced, AreItems}
 use Rattle.rc_instr.proofs.Numerals.{decimal_first}
 use Rattle.tune_cert.proofs.ItemText.{item_parts}
 
@@ -14,9 +14,9 @@ all_more : (first : ℕ × ℕ) (more : List (ℕ × ℕ)) → IsItem first → 
 all_more first more fine each zero d h = fine
 all_more first more fine each (suc k) d h = each k d (omega arith)
 
-pub behind_push : (first i : ℕ × ℕ) (xs : List (ℕ × ℕ)) → xs ≡ first ∷ drop 1 xs → (xs ++ i ∷ [] ≡ first ∷ drop 1 (xs ++ i ∷ [])) × (drop 1 (xs ++ i ∷ []) ≡ drop 1 xs ++ i ∷ [])
-behind_push first i [] e = absurd (cc)
-behind_push first i (x ∷ xs) e =
+pub after_push : (first i : ℕ × ℕ) (xs : List (ℕ × ℕ)) → xs ≡ first ∷ drop 1 xs → (xs ++ i ∷ [] ≡ first ∷ drop 1 (xs ++ i ∷ [])) × (drop 1 (xs ++ i ∷ []) ≡ drop 1 xs ++ i ∷ [])
+after_push first i [] e = absurd (cc)
+after_push first i (x ∷ xs) e =
     let same : x ≡ first = cc in
     (ap (λ (z : ℕ × ℕ). z ∷ (xs ++ i ∷ [])) same, refl)
 

@@ -1,68 +1,63 @@
--- The text of a certificate (this project's own): records of three fields, as the crate `csv` writes them with its default settings.
+-- The text of a certificate: records of three fields, as the crate `csv` writes them by default.
 use Rattle.std.specs.Prelude.{ℕ, ◌+◌, List, [], ◌∷◌, ◌++◌, codes, flat_map, length}
 use Rattle.std.specs.Fmt.{decimal}
 use Rattle.csv.specs.Writing.{default_writer, row_text}
 use Rattle.mars_fight.specs.Records.{Fields}
 use Rattle.tune_cert.specs.declared.cert.Cert.{Cert}
-use Rattle.tune_cert.specs.declared.found.Found.{Found}
-use Rattle.tune_cert.specs.declared.row.Row.{Row}
-use Rattle.tune_cert.specs.declared.row.Row.TheVariants.{Refused, Same, Cap}
+use Rattle.tune_cert.specs.declared.cert.Found.{Found}
+use Rattle.tune_cert.specs.declared.cert.Row.{Row}
+use Rattle.tune_cert.specs.declared.cert.Row.TheVariants.{Refused, Same, Cap}
 
--- a fight's number and its points, as `7:3`
+-- A fight with its points: `7:3`.
 unfoldable pub item_text : ℕ × ℕ → List ℕ
 item_text item = decimal item.0 ++ 58 ∷ decimal item.1
 
--- the same with a space in front
 unfoldable pub spaced_text : ℕ × ℕ → List ℕ
 spaced_text item = 32 ∷ item_text item
 
--- the fights of a cap row, as `0:3 1:1`, or `-` where there are none
+-- The list of a cap row: `0:3 1:1`, or `-` if it lists none.
 unfoldable pub list_text : List (ℕ × ℕ) → List ℕ
 list_text [] = codes "-"
 list_text (item ∷ items) = item_text item ++ flat_map spaced_text items
 
--- the kind of a row
 abbrev pub kind_text : Row → List ℕ
 kind_text Refused = codes "refused"
 kind_text (Same u) = codes "same"
 kind_text (Cap fights) = codes "cap"
 
--- what a row says beside its kind and its vector
 abbrev pub last_text : Row → List ℕ
 last_text Refused = codes "-"
 last_text (Same u) = decimal u
 last_text (Cap fights) = list_text fights
 
--- the record of the row of a vector: `refused,V,-`, or `same,V,U`, or `cap,V,LIST`
+-- The row of setting V: `refused,V,-`, `same,V,U`, or `cap,V,LIST`.
 abbrev pub row_fields : ℕ → Row → Fields
 row_fields v row = kind_text row ∷ decimal v ∷ last_text row ∷ []
 
--- the records of rows, the first of which is that of the vector v
+-- The rows of the settings from v on.
 unfoldable pub rows_fields : List Row → ℕ → List Fields
 rows_fields [] v = []
 rows_fields (row ∷ rows) v = row_fields v row ∷ rows_fields rows (v + 1)
 
--- `cwcert,1,N` for so many vectors
+-- `cwcert,1,N` for N settings.
 abbrev pub count_fields : ℕ → Fields
 count_fields count = codes "cwcert" ∷ codes "1" ∷ decimal count ∷ []
 
--- `best,W,T` for the best vector and its total
+-- `best,W,T` for the best setting and its total.
 abbrev pub best_fields : ℕ → ℕ → Fields
 best_fields best total = codes "best" ∷ decimal best ∷ decimal total ∷ []
 
--- the records of a certificate: the count, the best vector, and a row for each vector
+-- A certificate has a record for the count, one for the best setting, and one for each setting.
 unfoldable pub cert_fields : Cert → List Fields
 cert_fields c = count_fields c.count ∷ best_fields c.best c.total ∷ rows_fields c.rows 0
 
--- what `csv` writes for records
 unfoldable pub records_text : List Fields → List ℕ
 records_text [] = []
 records_text (fields ∷ records) = row_text default_writer fields ++ records_text records
 
--- the bytes of a certificate
 unfoldable pub cert_text : Cert → List ℕ
 cert_text c = records_text (cert_fields c)
 
--- the certificate of what a search found
+-- The certificate that a search writes.
 abbrev pub cert_of : Found → Cert
 cert_of f = record { count = length f.rows; best = f.best; total = f.total; rows = f.rows }

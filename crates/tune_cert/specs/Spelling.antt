@@ -1,27 +1,28 @@
--- What bytes say as a certificate (this project's own). The records of the bytes are those that the crate `csv` reads.
+-- Which certificate bytes spell. Their records are those that the crate `csv` reads.
 use Rattle.std.specs.Prelude.{◌≡◌, ◌⊎◌, ℕ, zero, suc, ◌<◌, ◌≤◌, ◌^◌, List, length, slice_get, Some, All}
 use Rattle.mars_fight.specs.Play.{ArePoints}
 use Rattle.mars_fight.specs.Records.{Fields}
 use Rattle.tune_cert.specs.CertText.{row_fields, count_fields, best_fields, cert_fields}
 use Rattle.tune_cert.specs.declared.cert.Cert.{Cert}
-use Rattle.tune_cert.specs.declared.row.Row.{Row}
-use Rattle.tune_cert.specs.declared.row.Row.TheVariants.{Refused, Same, Cap}
+use Rattle.tune_cert.specs.declared.cert.Row.{Row}
+use Rattle.tune_cert.specs.declared.cert.Row.TheVariants.{Refused, Same, Cap}
+use Rattle.tune_cert.specs.declared.fault.ReadFault.{ReadFault}
+use Rattle.tune_cert.specs.declared.fault.ReadFault.TheVariants.{Malformed, OutOfMemory}
 
--- a number that a certificate can have: at most 4294967295
+-- A decimal of a certificate is at most 4294967295.
 abbrev pub IsNumber : ℕ → Type 0
 IsNumber n = n < 2 ^ 32
 
--- a fight's number and its points, 0, 1 or 3
+-- A listed fight has 0, 1 or 3 points.
 abbrev pub IsItem : ℕ × ℕ → Type 0
 IsItem item = IsNumber item.0 × ArePoints item.1
 
--- a row that a certificate can have
 abbrev pub IsRow : Row → Type 0
 IsRow Refused = Unit {0}
 IsRow (Same u) = IsNumber u
 IsRow (Cap fights) = All IsItem fights
 
--- a certificate that can be written down: of numbers and rows that it can have
+-- A certificate that can be written down.
 pub record IsCert (c : Cert) : Type 0 where
   pub count : IsNumber c.count
   pub best : IsNumber c.best
@@ -29,18 +30,28 @@ pub record IsCert (c : Cert) : Type 0 where
   pub rows : All IsRow c.rows
   pub few : length c.rows ≤ 2 ^ 32
 
--- the records spell the certificate: they are its records, whether or not it has as many rows as its count says
+-- Records spell a certificate if they are its records. It need not have as many rows as it claims.
 pub record Spells (records : List Fields) (c : Cert) : Type 0 where
   pub cert : IsCert c
   pub text : records ≡ cert_fields c
 
--- a record has the form of the record of this number: the count, the best vector, and from 2 on the row of the vector whose place it is
+-- The form of each record: 0 is the count, 1 the best setting, v + 2 the row of setting v.
 abbrev pub HasForm : ℕ → Fields → Type 0
 HasForm zero fields = (count : ℕ) × IsNumber count × (fields ≡ count_fields count)
 HasForm (suc zero) fields = (best : ℕ) × (total : ℕ) × IsNumber best × IsNumber total × (fields ≡ best_fields best total)
 HasForm (suc (suc v)) fields = (row : Row) × IsNumber v × IsRow row × (fields ≡ row_fields v row)
 
--- the record of this number is malformed: it has another form, or it is one of the first two and there is none
+-- A record is malformed if it has another form, or if it is missing and is one of the first two.
 abbrev pub IsMalformed : List Fields → ℕ → Type 0
 IsMalformed records number =
     ((number < 2) × (length records ≤ number)) ⊎ ((fields : Fields) × (slice_get records number ≡ Some fields) × ¬ (HasForm number fields))
+
+-- The first malformed record.
+pub record IsFirstMalformed (records : List Fields) (number : ℕ) : Type 0 where
+  pub malformed : IsMalformed records number
+  pub first : (k : ℕ) → k < number → ¬ (IsMalformed records k)
+
+-- A fault names the first malformed record. Out of memory says nothing of the bytes.
+abbrev pub IsReadRefusal : List Fields → ReadFault → Type 0
+IsReadRefusal records (Malformed row) = IsFirstMalformed records row
+IsReadRefusal records OutOfMemory = Unit {0}

@@ -1,15 +1,124 @@
-//! Certificates.
-use crate::rows::Rows;
+//! Certificates, and what a search finds: their rows and the fights that the rows list.
+ghost use Rattle.std.specs.Prelude.{◌≡◌};
 
-/// A certificate as its text has it. Whether it is right is another matter. (This project's own.)
+use std::marker::Model;
+
+/// A certificate as its text spells it. `check` decides whether it is right.
 #[derive(Debug, Drop)]
 pub struct Cert {
-    /// How many vectors there are, as the certificate says.
+    /// The number of settings that the certificate claims.
     pub count: u32,
-    /// The number of the best vector, counted from 0.
+    /// The index of the best setting, from 0.
     pub best: u32,
-    /// The points of its warrior in all fights.
+    /// The total that the certificate claims for it.
     pub total: u32,
-    /// A row for each vector, that of the vector 0 first.
+    /// A row for each setting, in the order of the settings.
     pub rows: Rows,
+}
+
+/// What a certificate says of one setting.
+#[derive(Debug, Drop)]
+pub enum Row {
+    /// It does not assemble.
+    Refused,
+    /// It makes the same warrior as the setting at this index, from 0.
+    Same(u32),
+    /// It makes this many points in these fights, which is not enough to be better.
+    Cap(Listing),
+}
+
+/// Fights of the schedule by index, from 0, each with the points that a warrior made in it.
+///
+/// Contracts see the list of these pairs.
+#[derive(Debug, Drop)]
+pub struct Listing {
+    fights: Vec<(u32, u8)>,
+}
+
+impl Model for Listing {
+    ghost use Rattle.std.specs.Prelude.{List, ℕ};
+
+    ghost Value = { List (ℕ × ℕ) };
+
+    ghost view = { λ l. l.fights.items };
+}
+
+impl Listing {
+    /// Makes a listing of pairs of a fight's index and its points.
+    pub fn from_vec(fights: Vec<(u32, u8)>) -> Listing
+        ensures { result ≡ fights.items }
+    {
+        Listing { fights }
+    }
+
+    /// Returns the pairs, in order.
+    pub fn as_slice(&self) -> &[(u32, u8)]
+        ensures { result.now ≡ self.now }
+    {
+        self.fights.as_slice()
+    }
+
+    /// Returns the pairs as a `Vec`.
+    pub fn into_vec(self) -> Vec<(u32, u8)>
+        ensures { result.items ≡ self }
+    {
+        let Listing { fights } = self;
+        fights
+    }
+}
+
+/// The rows of a certificate, in the order of the settings. Contracts see a list.
+#[derive(Debug, Drop)]
+pub struct Rows {
+    rows: Vec<Row>,
+}
+
+impl Model for Rows {
+    ghost use Rattle.std.specs.Prelude.{List};
+    ghost use Rattle.tune_cert.specs.declared.cert.Row.{Row};
+
+    ghost Value = { List Row };
+
+    ghost view = { λ r. r.rows.items };
+}
+
+impl Rows {
+    /// Makes a list of rows.
+    pub fn from_vec(rows: Vec<Row>) -> Rows
+        ensures { result ≡ rows.items }
+    {
+        Rows { rows }
+    }
+
+    /// Returns the rows, in order.
+    pub fn as_slice(&self) -> &[Row]
+        ensures { result.now ≡ self.now }
+    {
+        self.rows.as_slice()
+    }
+
+    /// Returns the rows as a `Vec`.
+    pub fn into_vec(self) -> Vec<Row>
+        ensures { result.items ≡ self }
+    {
+        let Rows { rows } = self;
+        rows
+    }
+}
+
+/// The answer of a search: the optimum, and the rows of a certificate for it.
+#[derive(Debug, Drop)]
+pub struct Found {
+    /// The index of the optimum, from 0.
+    pub best: u32,
+    /// Its points in all fights, at most 30000.
+    pub total: u32,
+    /// A row for each setting.
+    pub rows: Rows,
+    /// The number of fights played.
+    pub fights: u64,
+    /// The number of settings that assemble.
+    pub candidates: u32,
+    /// The index of the setting whose row was copied from another with the same warrior, if any.
+    pub copied: Option<u32>,
 }

@@ -1,4 +1,4 @@
-//! Why a certificate is not written, not read, or not checked.
+//! Why a certificate cannot be written, read or checked.
 ghost use Rattle.std.specs.Prelude.{◌≡◌};
 ghost use Rattle.tune_cert.specs.declared.fault.CertFault.TheVariants.{Write as WriteFault, OutOfMemory as WriteMemory};
 ghost use Rattle.tune_cert.specs.declared.fault.ReadFault.TheVariants.{OutOfMemory as ReadMemory};
@@ -8,32 +8,33 @@ use rc_instr::{OutOfMemory, WriteFailed};
 use std::alloc::{AllocError, AllocFailed};
 use thiserror::Error;
 
-/// Why a certificate is not written. (This project's own.)
+/// Why a certificate was not written.
 #[derive(Clone, Copy, Debug, PartialEq, Eq, Error)]
 pub enum CertFault {
     /// The writer failed.
-    #[error("a write failed")]
+    #[error("cannot write the certificate")]
     Write,
-    /// Memory was refused.
+    /// An allocation failed.
     #[error("out of memory")]
     OutOfMemory,
 }
 
-/// Why bytes are not read as a certificate. (This project's own.)
+/// Why bytes are not a certificate.
 #[derive(Clone, Copy, Debug, PartialEq, Eq, Error)]
 pub enum ReadFault {
-    /// The record of this number, counted from 0, has not the form that a certificate's has.
-    #[error("record {row} is not one of a certificate")]
+    /// The record at this index, from 0, is malformed for its position, or record 0 or 1 is
+    /// missing.
+    #[error("record {row} of the certificate is malformed")]
     Malformed { row: u64 },
-    /// Memory was refused.
+    /// An allocation failed.
     #[error("out of memory")]
     OutOfMemory,
 }
 
-/// Why a certificate is not checked. (This project's own.)
+/// Why a certificate could not be checked.
 #[derive(Clone, Copy, Debug, PartialEq, Eq, Error)]
 pub enum CheckFault {
-    /// Memory was refused.
+    /// An allocation failed.
     #[error("out of memory")]
     OutOfMemory,
 }

@@ -1,37 +1,23 @@
-//! What a tuning looks for, and the certificate that a vector is it.
+//! The optimum of a tuning, and certificates that name it.
 //!
-//! The optimum of a tuning is the first vector whose warrior makes the most points in all fights. A certificate has a row for each vector.
+//! The optimum is the first setting with the greatest total. A certificate has a row for each
+//! setting, which shows why that setting is not better. In this API a setting is called a vector.
 #![tactic(auto)]
 
-mod best_row;
-pub mod candidate;
-mod caps;
-pub mod cert;
-mod check_row;
-pub mod checker;
-pub mod fault;
-mod field;
-pub mod fight;
-pub mod found;
-mod items;
+mod cert;
+mod checker;
+mod fault;
 pub mod laws;
-pub mod listing;
-pub mod read;
-pub mod row;
-mod row_record;
-pub mod rows;
-mod same_row;
-pub mod verdict;
-pub mod write;
+mod problem;
+mod read;
+mod row_checks;
+mod verdict;
+mod write;
 
-pub use cert::Cert;
+pub use cert::{Cert, Found, Listing, Row, Rows};
 pub use checker::check;
 pub use fault::{CertFault, CheckFault, ReadFault};
-pub use fight::points_in;
-pub use found::Found;
-pub use listing::Listing;
+pub use problem::{fight_points, setting_warrior};
 pub use read::read_cert;
-pub use row::Row;
-pub use rows::Rows;
 pub use verdict::{Reason, Verdict};
 pub use write::write_cert;

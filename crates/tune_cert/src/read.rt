@@ -1,27 +1,59 @@
-//! Reading certificates.
-ghost use Rattle.std.specs.Prelude.{◌≡◌, ℕ, ◌∷◌, Some, List, IfOk, IfErr, IfSome, MatchResult};
+//! Reads certificates.
+ghost use Rattle.std.specs.Prelude.{◌≡◌, ℕ, ◌∷◌, Some, List, IfOk, IfErr, IfSome, MatchResult, ◌+◌, ◌++◌, IsSomeAnd, drop, ◌↔◌, IsTrue};
 ghost use Rattle.csv.specs.Records.{fields_of};
 ghost use Rattle.mars_fight.specs.Records.{records_of};
-ghost use Rattle.tune_cert.specs.CertText.{count_fields, best_fields};
-ghost use Rattle.tune_cert.specs.Spelling.{IsNumber, Spells};
-ghost use Rattle.tune_cert.specs.ReadRefusal.{IsReadRefusal};
-ghost use Rattle.tune_cert.specs.Parts.{AreRows, IsBadCount, IsBadBest, IsBadRow};
-ghost use Rattle.tune_cert.specs.declared.row.Row.{Row};
+ghost use Rattle.tune_cert.specs.CertText.{count_fields, best_fields, kind_text, last_text, row_fields, item_text, spaced_text};
+ghost use Rattle.tune_cert.specs.Spelling.{IsNumber, Spells, IsRow, IsItem, IsReadRefusal};
+ghost use Rattle.tune_cert.specs.Steps.{AreRows, IsBadCount, IsBadBest, IsBadRow, AreSpaced, AreItems};
+ghost use Rattle.tune_cert.specs.declared.cert.Row.{Row};
 ghost use Rattle.tune_cert.specs.declared.cert.Cert.{Cert};
+ghost use Rattle.mars_fight.specs.Play.{ArePoints};
 
-use crate::cert::Cert;
+use crate::cert::{Cert, Listing, Row, Rows};
 use crate::fault::ReadFault;
-use crate::field::is_text;
-use crate::row::Row;
-use crate::row_record::read_row;
-use crate::rows::Rows;
 use csv::ByteRecord;
 use mars_fight::{Records, three_fields};
-use rc_instr::decimal::decimal_of;
+use rc_instr::{OutOfMemory, after, decimal_at, decimal_of};
 use std::alloc::Global;
 
-/// How many vectors there are, as the first record says.
-fn count_of(fields: &ByteRecord) -> Option<u32>
+/// Parses a certificate, without judging it: `check` compares it with the inputs of a tuning.
+///
+/// The crate `csv` splits the bytes into records, so fields may be quoted and records may end with
+/// LF, CR or CR LF. Each record has three fields: `cwcert,1,N`, then `best,W,T`, then for each
+/// setting V from 0 on `refused,V,-`, `same,V,U`, or `cap,V,LIST` with a list of fights such as
+/// `0:3 4:1`, or `-` for none. Decimals are at most 4294967295 and have no leading zero. There may
+/// be more or fewer rows than N.
+///
+/// # Errors
+///
+/// `Malformed` names the first record that is not of this form, or record 0 or 1 if it is missing.
+/// `OutOfMemory` if an allocation failed.
+#[tactic(auto, using(crate::proofs::CertParts::parts))]
+pub fn read_cert(alloc: Global, bytes: &[u8]) -> Result<Cert, ReadFault>
+    // The result is the certificate that the bytes spell.
+    ensures found { IfOk result (λ c. Spells (records_of bytes.now) c) }
+
+    // Bytes that spell a certificate are read, unless memory runs out.
+    ensures only { (c : Cert) → Spells (records_of bytes.now) c → MatchResult result (λ v. v ≡ c) (λ e. e ≡ ReadFault.OutOfMemory) }
+
+    // The record that a fault names is the first malformed one.
+    ensures fault { IfErr result (λ e. IsReadRefusal (records_of bytes.now) e) }
+{
+    let mut records = Records::new(alloc, bytes);
+    let mut fields = ByteRecord::new(alloc);
+    let count = read_count(&mut records, &mut fields)?;
+    let (best, total) = read_best(&mut records, &mut fields)?;
+    let rows = read_rows(alloc, &mut records, &mut fields)?;
+    Ok(Cert {
+        count,
+        best,
+        total,
+        rows: Rows::from_vec(rows),
+    })
+}
+
+// Parses record 0: `cwcert,1,N`. Returns N, the number of settings.
+fn count_in(fields: &ByteRecord) -> Option<u32>
     ensures found { IfSome result (λ count. fields_of fields.now ≡ count_fields count) }
     ensures only { (count : ℕ) → IsNumber count → fields_of fields.now ≡ count_fields count → result ≡ Some count }
 {
@@ -35,8 +67,8 @@ fn count_of(fields: &ByteRecord) -> Option<u32>
     decimal_of(count)
 }
 
-/// The best vector and its total, as the second record says.
-fn best_of(fields: &ByteRecord) -> Option<(u32, u32)>
+// Parses record 1: `best,W,T`. Returns the best setting W and its total T.
+fn best_in(fields: &ByteRecord) -> Option<(u32, u32)>
     ensures found { IfSome result (λ x. fields_of fields.now ≡ best_fields x.0 x.1) }
     ensures only { (best total : ℕ) → IsNumber best → IsNumber total → fields_of fields.now ≡ best_fields best total
         → result ≡ Some (best, total) }
@@ -50,7 +82,6 @@ fn best_of(fields: &ByteRecord) -> Option<(u32, u32)>
     Some((best, total))
 }
 
-/// Reads the first record.
 fn read_count(records: &mut Records, fields: &mut ByteRecord) -> Result<u32, ReadFault>
     ensures found { IfOk result (λ count. records.old ≡ count_fields count ∷ records.new) }
     ensures fault { IfErr result (λ e. IsBadCount records.old e) }
@@ -58,13 +89,12 @@ fn read_count(records: &mut Records, fields: &mut ByteRecord) -> Result<u32, Rea
     if !records.read(fields)? {
         return Err(ReadFault::Malformed { row: 0 });
     }
-    match count_of(fields) {
+    match count_in(fields) {
         Some(count) => Ok(count),
         None => Err(ReadFault::Malformed { row: 0 }),
     }
 }
 
-/// Reads the second record.
 fn read_best(records: &mut Records, fields: &mut ByteRecord) -> Result<(u32, u32), ReadFault>
     ensures found { IfOk result (λ x. records.old ≡ best_fields x.0 x.1 ∷ records.new) }
     ensures fault { IfErr result (λ e. IsBadBest records.old e) }
@@ -72,13 +102,14 @@ fn read_best(records: &mut Records, fields: &mut ByteRecord) -> Result<(u32, u32
     if !records.read(fields)? {
         return Err(ReadFault::Malformed { row: 1 });
     }
-    match best_of(fields) {
+    match best_in(fields) {
         Some(best) => Ok(best),
         None => Err(ReadFault::Malformed { row: 1 }),
     }
 }
 
-/// Reads the rows, of which the first is record 2.
+// Reads the rows, which begin at record 2. A row names its own setting, so a missing or an extra
+// one shows at once.
 fn read_rows(
     alloc: Global,
     records: &mut Records,
@@ -103,33 +134,132 @@ fn read_rows(
     Ok(rows)
 }
 
-/// Reads bytes as a certificate. Whether it is right is another matter, and so is whether it has as many rows as it says.
-///
-/// The records of the bytes are those that the crate `csv` reads: fields may stand in double quotes, and records may end with LF, CR or
-/// CR LF. Each has three fields: `cwcert,1,N`, then `best,W,T`, and then a row for each vector from 0 on, which is `refused,V,-`, or
-/// `same,V,U`, or `cap,V,LIST` with fights such as `0:3 4:1`, or `-` for none. Numbers are up to 4294967295, with no leading zero.
-/// The first record that is not so, or that is missing where it is one of the first two, is `Malformed`. `OutOfMemory` is answered
-/// only where memory was refused. The format is this project's own.
-#[tactic(auto, using(crate::proofs::CertParts::parts))]
-pub fn read_cert(alloc: Global, bytes: &[u8]) -> Result<Cert, ReadFault>
-    // What is read is the certificate that the bytes spell.
-    ensures found { IfOk result (λ c. Spells (records_of bytes.now) c) }
-
-    // The certificate that bytes spell is read, unless memory is wanting.
-    ensures only { (c : Cert) → Spells (records_of bytes.now) c → MatchResult result (λ v. v ≡ c) (λ e. e ≡ ReadFault.OutOfMemory) }
-
-    // A record that is named malformed is the first such.
-    ensures fault { IfErr result (λ e. IsReadRefusal (records_of bytes.now) e) }
+// Parses a row from its first field, the kind, and its last field.
+fn row_of(alloc: Global, kind: &[u8], last: &[u8]) -> Result<Option<Row>, OutOfMemory>
+    ensures found { IfOk result (λ o. IfSome o (λ row. (kind.now ≡ kind_text row) × (last.now ≡ last_text row) × IsRow row)) }
+    ensures only { (row : Row) → IsRow row → kind.now ≡ kind_text row → last.now ≡ last_text row → IfOk result (λ o. o ≡ Some row) }
 {
-    let mut records = Records::new(alloc, bytes);
-    let mut fields = ByteRecord::new(alloc);
-    let count = read_count(&mut records, &mut fields)?;
-    let (best, total) = read_best(&mut records, &mut fields)?;
-    let rows = read_rows(alloc, &mut records, &mut fields)?;
-    Ok(Cert {
-        count,
-        best,
-        total,
-        rows: Rows::from_vec(rows),
-    })
+    if is_text(kind, b"refused") {
+        if is_text(last, b"-") {
+            return Ok(Some(Row::Refused));
+        }
+        return Ok(None);
+    }
+    if is_text(kind, b"same") {
+        return match decimal_of(last) {
+            Some(other) => Ok(Some(Row::Same(other))),
+            None => Ok(None),
+        };
+    }
+    if is_text(kind, b"cap") {
+        return match read_items(alloc, last)? {
+            Some(items) => Ok(Some(Row::Cap(Listing::from_vec(items)))),
+            None => Ok(None),
+        };
+    }
+    Ok(None)
+}
+
+// Parses a record as the row of setting `vector`, or returns `None` if it is not one.
+fn read_row(alloc: Global, vector: u32, fields: &ByteRecord) -> Result<Option<Row>, OutOfMemory>
+    ensures found { IfOk result (λ o. IfSome o (λ row. (fields_of fields.now ≡ row_fields vector row) × IsRow row)) }
+    ensures only { (row : Row) → IsRow row → fields_of fields.now ≡ row_fields vector row → IfOk result (λ o. o ≡ Some row) }
+{
+    let Some((kind, setting, last)) = three_fields(fields) else {
+        return Ok(None);
+    };
+    match decimal_of(setting) {
+        Some(found) => {
+            if found == vector {
+                row_of(alloc, kind, last)
+            } else {
+                Ok(None)
+            }
+        }
+        None => Ok(None),
+    }
+}
+
+// Takes the digit of the points off the front: 0, 1 or 3.
+fn points_at(bytes: &[u8]) -> Option<(u8, &[u8])>
+    ensures found { IfSome result (λ x. (bytes.now ≡ (48 + x.0) ∷ x.1.now) × ArePoints x.0) }
+    ensures only { (points : ℕ) (rest : List ℕ) → ArePoints points → bytes.now ≡ (48 + points) ∷ rest
+        → IsSomeAnd result (λ x. (x.0 ≡ points) × (x.1.now ≡ rest)) }
+{
+    match bytes {
+        [b'0', rest @ ..] => Some((0, rest)),
+        [b'1', rest @ ..] => Some((1, rest)),
+        [b'3', rest @ ..] => Some((3, rest)),
+        _ => None,
+    }
+}
+
+// Takes a fight with its points off the front, as in `7:3`.
+#[tactic(auto, using(crate::proofs::ItemText::fine_parts))]
+fn item_at(bytes: &[u8]) -> Option<((u32, u8), &[u8])>
+    ensures found { IfSome result (λ x. (bytes.now ≡ item_text x.0 ++ x.1.now) × IsItem x.0) }
+    ensures only { (item : ℕ × ℕ) (rest : List ℕ) → IsItem item → bytes.now ≡ item_text item ++ rest
+        → IsSomeAnd result (λ x. (x.0 ≡ item) × (x.1.now ≡ rest)) }
+{
+    let (fight, bytes) = decimal_at(bytes)?;
+    let bytes = after(b':', bytes)?;
+    let (points, rest) = points_at(bytes)?;
+    Some(((fight, points), rest))
+}
+
+// Takes a space, then a fight with its points, off the front.
+#[tactic(auto, unfolding(crate::specs::CertText::spaced_text))]
+fn spaced_at(bytes: &[u8]) -> Option<((u32, u8), &[u8])>
+    ensures found { IfSome result (λ x. (bytes.now ≡ spaced_text x.0 ++ x.1.now) × IsItem x.0) }
+    ensures only { (item : ℕ × ℕ) (rest : List ℕ) → IsItem item → bytes.now ≡ spaced_text item ++ rest
+        → IsSomeAnd result (λ x. (x.0 ≡ item) × (x.1.now ≡ rest)) }
+{
+    let bytes = after(b' ', bytes)?;
+    item_at(bytes)
+}
+
+// Parses the fights after the first, each with a space before it. Returns `first` and these.
+fn read_others(
+    alloc: Global,
+    first: (u32, u8),
+    bytes: &[u8],
+) -> Result<Option<Vec<(u32, u8)>>, OutOfMemory>
+    ensures found { IfOk result (λ o. IfSome o (λ v. (v.items ≡ first ∷ drop 1 v.items) × AreSpaced bytes.now (drop 1 v.items))) }
+    ensures only { (more : List (ℕ × ℕ)) → AreSpaced bytes.now more → IfOk result (λ o. IsSomeAnd o (λ v. v.items ≡ first ∷ more)) }
+{
+    let mut items = Vec::new(alloc);
+    items.push(first)?;
+    let mut rest = bytes;
+    while !rest.is_empty() {
+        let Some((item, others)) = spaced_at(rest) else {
+            return Ok(None);
+        };
+        items.push(item)?;
+        rest = others;
+    }
+    Ok(Some(items))
+}
+
+// Parses the list of a cap row: fights with their points, or `-` for none.
+fn read_items(alloc: Global, bytes: &[u8]) -> Result<Option<Vec<(u32, u8)>>, OutOfMemory>
+    ensures found { IfOk result (λ o. IfSome o (λ v. AreItems bytes.now v.items)) }
+    ensures only { (items : List (ℕ × ℕ)) → AreItems bytes.now items → IfOk result (λ o. IsSomeAnd o (λ v. v.items ≡ items)) }
+{
+    if is_text(bytes, b"-") {
+        return Ok(Some(Vec::new(alloc)));
+    }
+    let Some((first, rest)) = item_at(bytes) else {
+        return Ok(None);
+    };
+    match read_others(alloc, first, rest)? {
+        Some(items) => Ok(Some(items)),
+        None => Ok(None),
+    }
+}
+
+// A comparison of its own, so that its fact is in the form that the callers need.
+fn is_text(field: &[u8], text: &[u8]) -> bool
+    ensures { IsTrue result ↔ (field.now ≡ text.now) }
+{
+    field == text
 }

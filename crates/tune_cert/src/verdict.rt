@@ -1,41 +1,46 @@
-//! What a checker says of a certificate.
+//! The verdict on a certificate.
 
-/// Why a certificate is rejected. (This project's own.)
+/// Why a certificate is rejected.
 #[derive(Clone, Copy, Debug, PartialEq, Eq)]
 pub enum Reason {
-    /// A record has not the form of the record of its number, or one of the first two is missing.
+    /// A record is malformed for its position, or record 0 or 1 is missing.
     Malformed,
-    /// The number of vectors is not that of the template, or there are not so many rows.
+    /// The certificate does not have a row for each setting of the template, or claims another
+    /// count.
     RowCount,
-    /// The row of the best vector is not a cap row of all fights by number, or its points do not sum to the total.
+    /// The row of the best setting does not list every fight in order, or its points do not add up
+    /// to the total.
     BestRow,
-    /// A cap row is of a vector that no warrior is made of, or it lists what is no fight, or points that are not those of the fight.
+    /// A cap row names a setting that does not assemble, a fight that does not exist, or points
+    /// other than the fight's.
     WrongPoints,
-    /// A cap row lists a fight that is not above the one before it.
+    /// A cap row lists a fight twice, or its fights are not in order.
     RepeatedFight,
-    /// A cap beats the total of the best vector.
+    /// The cap of a row beats the best setting, so the row does not show that its setting is not
+    /// better.
     CapTooHigh,
-    /// A row refers to itself, to no cap row, or to a vector that has not the same warrior.
+    /// A row refers to itself, to a row that is not a cap row, or to a setting with another
+    /// warrior.
     NotSame,
-    /// A warrior is made of a vector that is said to have none.
+    /// The row says refused, but the setting assembles.
     NotRefused,
 }
 
-/// What a checker says of a certificate. (This project's own.)
+/// What `check` says of a certificate.
 #[derive(Clone, Copy, Debug, PartialEq, Eq)]
 pub enum Verdict {
-    /// It is valid: its best vector is the optimum, and its total the optimum's.
+    /// The certificate is valid: its best setting is the optimum.
     Accepted {
-        /// The number of the best vector, counted from 0.
+        /// The index of the optimum, from 0.
         best: u32,
-        /// Its points in all fights.
+        /// The total of the optimum.
         total: u32,
     },
-    /// It is not valid.
+    /// The certificate is not valid.
     Rejected {
-        /// The number of the record, counted from 0. Its count is record 0, its best vector record 1, and the row of the vector V record V + 2.
+        /// The record, from 0: 0 is the count, 1 the best setting, v + 2 the row of setting v.
         row: u64,
-        /// What is wrong at that record.
+        /// What is wrong with that record.
         reason: Reason,
     },
 }

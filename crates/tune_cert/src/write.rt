@@ -1,21 +1,46 @@
-//! Writing certificates.
+//! Writes certificates.
 ghost use Rattle.std.specs.Prelude.{◌≡◌, ◌<◌, ◌↔◌, ◌^◌, ◌++◌, ◌∷◌, [], Some, false, length, flat_map, IfOk, OnOk, OnErr, IfErr, IsErrOf, IsTrue};
 ghost use Rattle.std.specs.Fmt.{decimal};
 ghost use Rattle.std.specs.Io.KnownBytes.{Appends};
 ghost use Rattle.csv.specs.Writing.{default_writer, row_text, text_written};
 ghost use Rattle.tune_cert.specs.CertText.{item_text, spaced_text, list_text, row_fields, rows_fields, count_fields, best_fields, records_text, cert_text, cert_of};
-ghost use Rattle.tune_cert.specs.Writing.{IsReady};
+ghost use Rattle.tune_cert.specs.Steps.{IsReady};
 
+use crate::cert::{Found, Row};
 use crate::fault::CertFault;
-use crate::found::Found;
-use crate::row::Row;
 use csv::{Writer, WriterBuilder};
 use itoa::Buffer;
 use rc_instr::{OutOfMemory, Outlet};
 use std::alloc::Global;
 use std::io::Write;
 
-/// Adds a number in decimal.
+/// Writes the certificate of what a search found.
+///
+/// The lines are `cwcert,1,N` for N settings, `best,W,T` for the best setting and its total, and
+/// then for each setting V its row: `refused,V,-`, `same,V,U`, or `cap,V,LIST` with its fights as
+/// in `0:3 1:1`, or `-` for none. There must be fewer than 4294967296 rows, and the outlet must not
+/// have failed. The text is built in memory and then written whole.
+///
+/// # Errors
+///
+/// `Write` if the writer failed: an unknown part of the text may be out. `OutOfMemory` if an
+/// allocation failed: nothing was written.
+pub fn write_cert<W: Write>(
+    alloc: Global,
+    found: &Found,
+    out: &mut Outlet<W>,
+) -> Result<(), CertFault>
+    requires works { out.old.failed ≡ false }
+    requires few { length found.now.rows < 2 ^ 32 }
+    ensures bytes { OnOk result (Appends out.old.bytes out.new.bytes (cert_text (cert_of found.now))) }
+    ensures write { IsErrOf result CertFault.Write ↔ IsTrue out.new.failed }
+    ensures memory { IfErr result (λ e. e ≡ CertFault.OutOfMemory → out.new ≡ out.old) }
+{
+    let text = text_of(alloc, found)?;
+    out.write_all(text.as_slice())?;
+    Ok(())
+}
+
 fn add_decimal(text: &mut Vec<u8>, number: u32) -> Result<(), OutOfMemory>
     ensures { OnOk result (text.new.items ≡ text.old.items ++ decimal number) }
 {
@@ -23,7 +48,7 @@ fn add_decimal(text: &mut Vec<u8>, number: u32) -> Result<(), OutOfMemory>
     Ok(())
 }
 
-/// Adds a fight's number and its points.
+// Appends a fight with its points, as in `7:3`.
 #[tactic(auto, unfolding(crate::specs::CertText::item_text))]
 fn add_item(text: &mut Vec<u8>, item: (u32, u8)) -> Result<(), OutOfMemory>
     ensures { OnOk result (text.new.items ≡ text.old.items ++ item_text item) }
@@ -33,7 +58,7 @@ fn add_item(text: &mut Vec<u8>, item: (u32, u8)) -> Result<(), OutOfMemory>
     add_decimal(text, u32::from(item.1))
 }
 
-/// Adds the same with a space in front.
+// Appends a space, then a fight with its points.
 #[tactic(auto, unfolding(crate::specs::CertText::spaced_text))]
 fn add_spaced(text: &mut Vec<u8>, item: (u32, u8)) -> Result<(), OutOfMemory>
     ensures { OnOk result (text.new.items ≡ text.old.items ++ spaced_text item) }
@@ -42,7 +67,7 @@ fn add_spaced(text: &mut Vec<u8>, item: (u32, u8)) -> Result<(), OutOfMemory>
     add_item(text, item)
 }
 
-/// Adds fights with their points, each with a space in front.
+// Appends the fights after the first, each with a space before it.
 fn add_others(text: &mut Vec<u8>, items: &[(u32, u8)]) -> Result<(), OutOfMemory>
     ensures { OnOk result (text.new.items ≡ text.old.items ++ flat_map spaced_text items.now) }
 {
@@ -52,7 +77,7 @@ fn add_others(text: &mut Vec<u8>, items: &[(u32, u8)]) -> Result<(), OutOfMemory
     Ok(())
 }
 
-/// Makes `text` the fights of a cap row.
+// Replaces `text` by the list of a cap row: its fights, or `-` for none.
 #[tactic(auto, unfolding(crate::specs::CertText::list_text))]
 fn set_list(text: &mut Vec<u8>, items: &[(u32, u8)]) -> Result<(), OutOfMemory>
     ensures { OnOk result (text.new.items ≡ list_text items.now) }
@@ -66,7 +91,6 @@ fn set_list(text: &mut Vec<u8>, items: &[(u32, u8)]) -> Result<(), OutOfMemory>
     add_others(text, others)
 }
 
-/// Writes a record of three fields.
 fn write_record(
     writer: &mut Writer<Vec<u8>>,
     first: &[u8],
@@ -83,7 +107,8 @@ fn write_record(
         .map_err(|_refused| OutOfMemory)
 }
 
-/// Writes the row of a vector. The text of a list is made in `list`.
+// Writes the row of setting `vector`. Builds the text of a list in `list`, so that all rows share
+// one allocation.
 fn write_row(
     writer: &mut Writer<Vec<u8>>,
     list: &mut Vec<u8>,
@@ -96,25 +121,24 @@ fn write_row(
         (row_text default_writer (row_fields vector row.now))) }
 {
     let mut buffer = Buffer::new();
-    let place = buffer.format(vector).as_bytes();
+    let setting = buffer.format(vector).as_bytes();
     match row {
-        Row::Refused => write_record(writer, b"refused", place, b"-"),
+        Row::Refused => write_record(writer, b"refused", setting, b"-"),
         Row::Same(other) => {
             write_record(
                 writer,
                 b"same",
-                place,
+                setting,
                 Buffer::new().format(*other).as_bytes(),
             )
         }
         Row::Cap(fights) => {
             set_list(list, fights.as_slice())?;
-            write_record(writer, b"cap", place, list.as_slice())
+            write_record(writer, b"cap", setting, list.as_slice())
         }
     }
 }
 
-/// Writes the first record.
 fn write_count(writer: &mut Writer<Vec<u8>>, count: u32) -> Result<(), OutOfMemory>
     requires { IsReady writer.old }
     ensures ready { OnOk result (IsReady writer.new) }
@@ -129,7 +153,6 @@ fn write_count(writer: &mut Writer<Vec<u8>>, count: u32) -> Result<(), OutOfMemo
     )
 }
 
-/// Writes the second record.
 fn write_best(writer: &mut Writer<Vec<u8>>, best: u32, total: u32) -> Result<(), OutOfMemory>
     requires { IsReady writer.old }
     ensures ready { OnOk result (IsReady writer.new) }
@@ -144,7 +167,6 @@ fn write_best(writer: &mut Writer<Vec<u8>>, best: u32, total: u32) -> Result<(),
     )
 }
 
-/// Writes the rows, that of the vector 0 first.
 fn write_rows(alloc: Global, writer: &mut Writer<Vec<u8>>, rows: &[Row]) -> Result<(), OutOfMemory>
     requires ready { IsReady writer.old }
     requires few { length rows.now < 2 ^ 32 }
@@ -161,7 +183,7 @@ fn write_rows(alloc: Global, writer: &mut Writer<Vec<u8>>, rows: &[Row]) -> Resu
     Ok(())
 }
 
-/// The bytes of the certificate of what was found.
+// Builds the whole text in memory.
 #[tactic(auto, using(crate::proofs::Written::whole_text))]
 fn text_of(alloc: Global, found: &Found) -> Result<Vec<u8>, OutOfMemory>
     requires { length found.now.rows < 2 ^ 32 }
@@ -173,28 +195,4 @@ fn text_of(alloc: Global, found: &Found) -> Result<Vec<u8>, OutOfMemory>
     write_best(&mut writer, found.best, found.total)?;
     write_rows(alloc, &mut writer, rows)?;
     writer.into_inner().map_err(|_refused| OutOfMemory)
-}
-
-/// Writes the certificate of what a search found: `cwcert,1,N`, `best,W,T`, and a row for each vector, each a line of its own.
-///
-/// There are fewer than 4294967296 rows, and the outlet has not failed. A row is `refused,V,-`, or `same,V,U`, or `cap,V,LIST` with the
-/// fights in the order of the row, as `0:3 1:1`, or `-` where there are none. The crate `csv` makes the records in memory, and the
-/// whole text is handed to the outlet afterwards. (This project's own.)
-///
-/// Refuses `Write` where the writer failed, and then an unknown part of the text may be out; and `OutOfMemory` where memory was
-/// refused, and then nothing was written.
-pub fn write_cert<W: Write>(
-    alloc: Global,
-    found: &Found,
-    out: &mut Outlet<W>,
-) -> Result<(), CertFault>
-    requires works { out.old.failed ≡ false }
-    requires few { length found.now.rows < 2 ^ 32 }
-    ensures bytes { OnOk result (Appends out.old.bytes out.new.bytes (cert_text (cert_of found.now))) }
-    ensures write { IsErrOf result CertFault.Write ↔ IsTrue out.new.failed }
-    ensures memory { IfErr result (λ e. e ≡ CertFault.OutOfMemory → out.new ≡ out.old) }
-{
-    let text = text_of(alloc, found)?;
-    out.write_all(text.as_slice())?;
-    Ok(())
 }

@@ -3,7 +3,7 @@ use Rattle.std.proofs.Common.{◌≡◌, ℕ, ◌*◌, ◌<◌, ◌≤◌, arith
 use Rattle.std.specs.List.{range_with_len}
 use Rattle.tune_cert.specs.Problem.{Problem}
 use Rattle.tune_cert.specs.Optimum.{total_of, HasTotal, IsOptimum, candidates_of}
-use Rattle.tune_cert.specs.declared.row.Row.{Row}
+use Rattle.tune_cert.specs.declared.cert.Row.{Row}
 use Rattle.tune_search.specs.Plays.{row_of, rows_of}
 use Rattle.tune_search.specs.Progress.{IsBest, IsLead, IsProgress}
 use Rattle.tune_search.specs.declared.progress.Lead.{Lead}

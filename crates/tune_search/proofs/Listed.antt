@@ -5,14 +5,14 @@ use Rattle.std.specs.List.{range_with_len, sum_by, count_by}
 use Rattle.std.specs.Option.{is_some}
 use Rattle.std.proofs.lemmas.List.Sums.{sum_by-cons}
 use Rattle.std.proofs.lemmas.List.FromFn.{length-map-range_with_len}
-use Rattle.rc_instr.specs.Warrior.{Program}
+use Rattle.rc_instr.specs.Warrior.{WarriorView}
 use Rattle.tune_cert.specs.Problem.{Problem}
 use Rattle.tune_cert.specs.Optimum.{all_fights, candidates_of}
-use Rattle.tune_cert.specs.Valid.{fights_in, listed_fights}
+use Rattle.tune_cert.specs.Valid.{listed_in, listed_fights}
 use Rattle.tune_search.specs.Plays.{played, row_with, row_of, rows_of}
 
 -- one more vector, with a warrior or without one
-one_more : (p : Problem) (o : Option Program) (c s : ℕ) → s ≡ c * p.fights → fights_in (row_with p o) + s ≡ (cond (is_some o) 1 0 + c) * p.fights
+one_more : (p : Problem) (o : Option WarriorView) (c s : ℕ) → s ≡ c * p.fights → listed_in (row_with p o) + s ≡ (cond (is_some o) 1 0 + c) * p.fights
 one_more p None c s e = omega (arith, e)
 one_more p (Some w) c s e =
     let row : List (ℕ × ℕ) = played p w (all_fights p) in
@@ -20,10 +20,10 @@ one_more p (Some w) c s e =
     let next : (1 + c) * p.fights ≡ p.fights + c * p.fights = grind arith in
     ap (λ n. n + s) many ∙ ap (λ n. p.fights + n) e ∙ sym next
 
-listed_more : (p : Problem) (vs : List ℕ) → sum_by fights_in (map (row_of p) vs) ≡ count_by (λ v. is_some (p.warrior v)) vs * p.fights
+listed_more : (p : Problem) (vs : List ℕ) → sum_by listed_in (map (row_of p) vs) ≡ count_by (λ v. is_some (p.warrior v)) vs * p.fights
 listed_more p [] = omega arith
 listed_more p (v ∷ vs) =
-    sum_by-cons fights_in (row_of p v) (map (row_of p) vs)
+    sum_by-cons listed_in (row_of p v) (map (row_of p) vs)
     ∙ one_more p (p.warrior v) (count_by (λ u. is_some (p.warrior u)) vs) _ (listed_more p vs)
     ∙ sym (ap (λ n. n * p.fights) (sum_by-cons (λ u. cond (is_some (p.warrior u)) 1 0) v vs))
 

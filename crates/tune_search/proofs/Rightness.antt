@@ -3,32 +3,32 @@ use Rattle.std.proofs.Common.{◌≡◌, ℕ, zero, suc, ◌+◌, ◌<◌, ◌�
 use Rattle.std.specs.List.{range_with_len, sum_by, slice_get}
 use Rattle.std.proofs.lemmas.Option.{slice_get_within, slice_get-get_or}
 use Rattle.std.proofs.lemmas.List.FromFn.{length-range_with_len, length-map-range_with_len, get_or-map-range_with_len}
-use Rattle.rc_instr.specs.Warrior.{Program}
+use Rattle.rc_instr.specs.Warrior.{WarriorView}
 use Rattle.tune_cert.specs.Problem.{Problem}
 use Rattle.tune_cert.specs.Optimum.{total_of, all_fights, cap_of}
 use Rattle.tune_cert.specs.Valid.{numbers, IsCapRow, IsRightRow, IsValid}
-use Rattle.tune_cert.specs.declared.row.Row.{Row}
-use Rattle.tune_cert.specs.declared.row.Row.TheVariants.{Refused}
+use Rattle.tune_cert.specs.declared.cert.Row.{Row}
+use Rattle.tune_cert.specs.declared.cert.Row.TheVariants.{Refused}
 use Rattle.tune_cert.proofs.Certificates.{Trails, not_beats, some_is}
 use Rattle.tune_cert.proofs.CapRows.{row_sum}
 use Rattle.tune_search.specs.Plays.{played, row_with, row_of, rows_of}
 use Rattle.tune_search.specs.Progress.{IsBest}
 
 -- all fights from a on are a cap row
-played_row : (p : Problem) (w : Program) (m a : ℕ) → a + m ≡ p.fights → IsCapRow p w a (played p w (range_with_len a m))
+played_row : (p : Problem) (w : WarriorView) (m a : ℕ) → a + m ≡ p.fights → IsCapRow p w a (played p w (range_with_len a m))
 played_row p w zero a e = tt
 played_row p w (suc m) a e = (omega arith, omega arith, refl, played_row p w m (a + 1) (omega arith))
 
-numbers_played : (p : Problem) (w : Program) (ks : List ℕ) → numbers (played p w ks) ≡ ks
+numbers_played : (p : Problem) (w : WarriorView) (ks : List ℕ) → numbers (played p w ks) ≡ ks
 numbers_played p w [] = refl
 numbers_played p w (k ∷ ks) = ap (λ l. k ∷ l) (numbers_played p w ks)
 
 -- the cap by all fights is the total
-cap_all : (p : Problem) (w : Program) → cap_of p w (all_fights p) ≡ total_of p w
+cap_all : (p : Problem) (w : WarriorView) → cap_of p w (all_fights p) ≡ total_of p w
 unfolding cap_of total_of
 cap_all p w = omega (arith, length-range_with_len 0 p.fights)
 
-points_all : (p : Problem) (w : Program) → sum_by (λ e. e.1) (played p w (all_fights p)) ≡ total_of p w
+points_all : (p : Problem) (w : WarriorView) → sum_by (λ e. e.1) (played p w (all_fights p)) ≡ total_of p w
 unfolding total_of
 points_all p w =
     row_sum p w 0 (played p w (all_fights p)) (played_row p w p.fights 0 (omega arith))
@@ -46,13 +46,13 @@ module _ (p : Problem) (rows : List Row) (are : rows ≡ rows_of p) where
       slice_get-get_or rows v Refused i ∙ ap (λ r. Some r) h
 
   module _ (w t : ℕ) (best : IsBest p p.count w t) where
-    trails_best : (v : ℕ) (x : Program) → v < p.count → p.warrior v ≡ Some x → Trails (cap_of p x (numbers (played p x (all_fights p)))) v t w
+    trails_best : (v : ℕ) (x : WarriorView) → v < p.count → p.warrior v ≡ Some x → Trails (cap_of p x (numbers (played p x (all_fights p)))) v t w
     trails_best v x l is =
         let c : cap_of p x (numbers (played p x (all_fights p))) ≡ total_of p x = ap (cap_of p x) (numbers_played p x (all_fights p)) ∙ cap_all p x in
         let le : total_of p x ≤ t = best.greatest v x l is in
         record { no_more = omega (arith, c, le); later = λ e. best.first v x l is (sym c ∙ e) }
 
-    right_with : (v : ℕ) (o : Option Program) → v < p.count → p.warrior v ≡ o → IsRightRow p w t rows v (row_with p o)
+    right_with : (v : ℕ) (o : Option WarriorView) → v < p.count → p.warrior v ≡ o → IsRightRow p w t rows v (row_with p o)
     right_with v None l is = is
     right_with v (Some x) l is = (x, is, played_row p x p.fights 0 (omega arith), λ other. not_beats _ v t w (trails_best v x l is))
 

@@ -4,11 +4,11 @@ use Rattle.std.specs.Prelude.{cond, nat_lt, if◌then◌else◌}
 use Rattle.std.specs.List.{range_with_len, count_by}
 use Rattle.std.specs.Option.{is_some}
 use Rattle.std.proofs.lemmas.Bool.Decides.{nat_tests, leb_tells}
-use Rattle.rc_instr.specs.Warrior.{Program}
+use Rattle.rc_instr.specs.Warrior.{WarriorView}
 use Rattle.tune_cert.specs.Problem.{Problem}
 use Rattle.tune_cert.specs.Optimum.{total_of, all_fights}
-use Rattle.tune_cert.specs.declared.row.Row.{Row}
-use Rattle.tune_cert.specs.declared.row.Row.TheVariants.{Refused, Cap}
+use Rattle.tune_cert.specs.declared.cert.Row.{Row}
+use Rattle.tune_cert.specs.declared.cert.Row.TheVariants.{Refused, Cap}
 use Rattle.tune_search.specs.Plays.{played, row_with, row_of}
 use Rattle.tune_search.specs.Progress.{IsBest, IsLead, lead_after, IsProgress}
 use Rattle.tune_search.specs.declared.progress.Lead.{Lead}
@@ -37,13 +37,13 @@ module _ (p : Problem) (k : ℕ) where
     first = λ u x b is same. elim (by_then u b) [ inl c ↦ h.first u x c is same | inr e ↦ let no : p.warrior u ≡ None = ap p.warrior e ∙ none in absurd (cc) ];
   }
 
-  module _ (w : Program) (t : ℕ) (is : p.warrior k ≡ Some w) (made : t ≡ total_of p w) where
+  module _ (w : WarriorView) (t : ℕ) (is : p.warrior k ≡ Some w) (made : t ≡ total_of p w) where
     -- the total of k's warrior
-    here : (u : ℕ) (x : Program) → u ≡ k → p.warrior u ≡ Some x → total_of p x ≡ t
+    here : (u : ℕ) (x : WarriorView) → u ≡ k → p.warrior u ≡ Some x → total_of p x ≡ t
     here u x e at = ap (total_of p) (some_is x w (sym at ∙ (ap p.warrior e ∙ is))) ∙ sym made
 
     -- k's total is greater than those before, or there is none
-    lead_first : ((u : ℕ) (x : Program) → u < k → p.warrior u ≡ Some x → total_of p x < t) → IsBest p (k + 1) k t
+    lead_first : ((u : ℕ) (x : WarriorView) → u < k → p.warrior u ≡ Some x → total_of p x < t) → IsBest p (k + 1) k t
     lead_first behind = record {
       warrior = w;
       inside = omega arith;

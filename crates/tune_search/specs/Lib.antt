@@ -1,5 +1,5 @@
--- The search plays all fights of each vector's warrior, in the order of the vectors, and answers the first vector with the greatest total.
--- Its certificate has a row for each vector: none is made of it, or all fights of its warrior with their points.
--- After each vector the lead is the optimum of the vectors so far, if one of them is a candidate.
+-- The search plays all fights of each setting and returns the first setting with the greatest total.
+-- Its certificate has a row for each setting: refused if it does not assemble, else all its fights.
+-- After each setting the lead is the optimum of the settings so far, if one of them assembles.
 pub mod Plays
 pub mod Progress

@@ -1,35 +1,35 @@
--- What contracts of private functions see of a search that goes on (this project's own).
+-- A search under way, as the contracts of private functions see it.
 use Rattle.std.specs.Prelude.{◌≡◌, ℕ, ◌*◌, ◌<◌, ◌≤◌, nat_lt, if◌then◌else◌, List, map, Option, Some, None}
 use Rattle.std.specs.List.{count_by, range_with_len}
 use Rattle.std.specs.Option.{is_some}
-use Rattle.rc_instr.specs.Warrior.{Program}
+use Rattle.rc_instr.specs.Warrior.{WarriorView}
 use Rattle.tune_cert.specs.Problem.{Problem}
 use Rattle.tune_cert.specs.Optimum.{total_of}
-use Rattle.tune_cert.specs.declared.row.Row.{Row}
+use Rattle.tune_cert.specs.declared.cert.Row.{Row}
 use Rattle.tune_search.specs.Plays.{row_of}
 use Rattle.tune_search.specs.declared.progress.Lead.{Lead}
 use Rattle.tune_search.specs.declared.progress.Progress.{Progress}
 
--- the vector v has the total t, and it is the first of the greatest total of those below k
+-- Setting v, with total t, is the first of the greatest total among the settings before k.
 pub record IsBest (p : Problem) (k v t : ℕ) : Type 0 where
-  pub warrior : Program
+  pub warrior : WarriorView
   pub inside : v < k
   pub candidate : p.warrior v ≡ Some warrior
   pub scores : total_of p warrior ≡ t
-  pub greatest : (u : ℕ) (other : Program) → u < k → p.warrior u ≡ Some other → total_of p other ≤ t
-  pub first : (u : ℕ) (other : Program) → u < k → p.warrior u ≡ Some other → total_of p other ≡ t → v ≤ u
+  pub greatest : (u : ℕ) (other : WarriorView) → u < k → p.warrior u ≡ Some other → total_of p other ≤ t
+  pub first : (u : ℕ) (other : WarriorView) → u < k → p.warrior u ≡ Some other → total_of p other ≡ t → v ≤ u
 
--- the best of the vectors below k, or none where none is a candidate
+-- The lead is the best setting before k, or nothing if none of these assembles.
 abbrev pub IsLead : Problem → ℕ → Option Lead → Type 0
 IsLead p k None = (v : ℕ) → v < k → p.warrior v ≡ None
 IsLead p k (Some lead) = IsBest p k lead.vector lead.total
 
--- the lead after a vector v with the total t
+-- The lead after setting v made total t.
 abbrev pub lead_after : ℕ → ℕ → Option Lead → Option Lead
 lead_after v t None = Some (record { vector = v; total = t })
 lead_after v t (Some lead) = if nat_lt lead.total t then Some (record { vector = v; total = t }) else Some lead
 
--- the rows, the lead and the counts after the vectors below k
+-- The rows, the lead and the counts after the settings before k.
 pub record IsProgress (p : Problem) (k : ℕ) (rows : List Row) (lead : Option Lead) (candidates fights : ℕ) : Type 0 where
   pub rows_are : rows ≡ map (row_of p) (range_with_len 0 k)
   pub lead_is : IsLead p k lead

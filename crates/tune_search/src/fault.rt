@@ -5,13 +5,13 @@ ghost use Rattle.tune_search.specs.declared.fault.SearchFault.TheVariants.{OutOf
 use std::alloc::{AllocError, AllocFailed};
 use thiserror::Error;
 
-/// Why a search ends without an answer. (This project's own.)
+/// Why a search ends without an answer.
 #[derive(Clone, Copy, Debug, PartialEq, Eq, Error)]
 pub enum SearchFault {
-    /// No warrior is made of any vector.
-    #[error("no vector makes a warrior")]
+    /// No setting assembles.
+    #[error("no setting assembles")]
     NoCandidate,
-    /// Memory was refused.
+    /// An allocation failed.
     #[error("out of memory")]
     OutOfMemory,
 }

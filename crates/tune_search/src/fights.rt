@@ -1,4 +1,4 @@
-//! The fights of one warrior.
+//! Plays the fights of one warrior.
 ghost use Rattle.std.specs.Prelude.{◌≡◌, ◌≤◌, length, IfOk};
 ghost use Rattle.rc_instr.specs.Warrior.{Fits};
 ghost use Rattle.mars_core.specs.Arena.{blank_arena};
@@ -9,17 +9,17 @@ ghost use Rattle.tune_search.specs.Plays.{played};
 use mars_core::{Arena, PlainCells};
 use rc_instr::Warrior;
 use std::alloc::{AllocError, Global};
-use tune_cert::points_in;
+use tune_cert::fight_points;
 use tune_template::Inputs;
 
-/// The fights of a warrior, by number, with their points, and the sum of the points.
+// The fights of a warrior in order, each with its points, and their sum.
 #[derive(Drop)]
 pub(crate) struct Bout {
-    pub(crate) row: Vec<(u32, u8)>,
+    pub(crate) listing: Vec<(u32, u8)>,
     pub(crate) total: u32,
 }
 
-/// Plays all fights of a warrior, by number.
+// Plays all fights of the schedule, in order.
 #[tactic(auto, unfolding(tune_cert::specs::Optimum::total_of))]
 pub(crate) fn play_all(
     alloc: Global,
@@ -29,18 +29,18 @@ pub(crate) fn play_all(
 ) -> Result<Bout, AllocError>
     requires blank { arena.old ≡ blank_arena inputs.now.rules inputs.now.rules.core }
     requires fits { Fits inputs.now.rules warrior.now }
-    ensures row { let p = problem_of inputs.now in IfOk result (λ b. b.row.items ≡ played p warrior.now (all_fights p)) }
-    ensures few { IfOk result (λ b. length b.row.items ≤ 10000) }
+    ensures listing { let p = problem_of inputs.now in IfOk result (λ b. b.listing.items ≡ played p warrior.now (all_fights p)) }
+    ensures few { IfOk result (λ b. length b.listing.items ≤ 10000) }
     ensures total { IfOk result (λ b. b.total ≡ total_of (problem_of inputs.now) warrior.now) }
     ensures blank { arena.new ≡ blank_arena inputs.now.rules inputs.now.rules.core }
 {
     let count = inputs.schedule().fights().len();
-    let mut row = Vec::with_capacity(alloc, count)?;
+    let mut listing = Vec::with_capacity(alloc, count)?;
     let mut total: u32 = 0;
-    for number in 0..count as u32 {
-        let points = points_in(arena, inputs, warrior, number);
-        row.push((number, points))?;
+    for index in 0..count as u32 {
+        let points = fight_points(arena, inputs, warrior, index);
+        listing.push((index, points))?;
         total += u32::from(points);
     }
-    Ok(Bout { row, total })
+    Ok(Bout { listing, total })
 }

@@ -1,10 +1,10 @@
-//! The search for the vector of a template that scores most against a benchmark.
+//! The search for the optimum of a tuning.
 #![tactic(auto)]
 
-pub mod fault;
+mod fault;
 mod fights;
 mod progress;
-pub mod tuning;
+mod tuning;
 
 pub use fault::SearchFault;
 pub use tuning::search;

@@ -8,18 +8,17 @@ use crate::fault::SearchFault;
 use crate::fights::play_all;
 use mars_core::{Arena, PlainCells};
 use std::alloc::Global;
-use tune_cert::candidate::candidate;
-use tune_cert::{Listing, Row};
+use tune_cert::{Listing, Row, setting_warrior};
 use tune_template::Inputs;
 
-/// The best vector so far, and its total.
+// The best setting so far, and its total.
 #[derive(Clone, Copy)]
 pub(crate) struct Lead {
     pub(crate) vector: u32,
     pub(crate) total: u32,
 }
 
-/// The rows of the vectors so far, the best of them, how many are candidates, and how many fights were played.
+// The rows of the settings so far, the lead, and counts of candidates and of fights played.
 #[derive(Drop)]
 pub(crate) struct Progress {
     pub(crate) rows: Vec<Row>,
@@ -28,24 +27,8 @@ pub(crate) struct Progress {
     pub(crate) fights: u64,
 }
 
-/// The lead after a vector with a total: an earlier vector with the same total stays.
-fn lead_after(vector: u32, total: u32, lead: Option<Lead>) -> Option<Lead>
-    ensures { result ≡ lead_after vector total lead }
-{
-    match lead {
-        None => Some(Lead { vector, total }),
-        Some(best) => {
-            if best.total < total {
-                Some(Lead { vector, total })
-            } else {
-                Some(best)
-            }
-        }
-    }
-}
-
 impl Progress {
-    /// Before the first vector.
+    // Starts before the first setting. Reserves the rows of all settings at once.
     pub(crate) fn begin(alloc: Global, inputs: &Inputs) -> Result<Progress, SearchFault>
         ensures state { IfOk result (IsState (problem_of inputs.now) 0) }
         ensures err { IfErr result (λ e. e ≡ SearchFault.OutOfMemory) }
@@ -59,7 +42,7 @@ impl Progress {
         })
     }
 
-    /// Plays all fights of the next vector's warrior, if there is one.
+    // Plays all fights of setting `vector` if it assembles, and adds its row.
     pub(crate) fn visit(
         &mut self,
         alloc: Global,
@@ -75,15 +58,31 @@ impl Progress {
         ensures blank { arena.new ≡ blank_arena inputs.now.rules inputs.now.rules.core }
         ensures err { IfErr result (λ e. e ≡ SearchFault.OutOfMemory) }
     {
-        let Some(warrior) = candidate(alloc, inputs, vector)? else {
+        let Some(warrior) = setting_warrior(alloc, inputs, vector)? else {
             self.rows.push(Row::Refused)?;
             return Ok(());
         };
         let bout = play_all(alloc, arena, inputs, &warrior)?;
-        self.fights += bout.row.len() as u64;
+        self.fights += bout.listing.len() as u64;
         self.candidates += 1;
         self.lead = lead_after(vector, bout.total, self.lead);
-        self.rows.push(Row::Cap(Listing::from_vec(bout.row)))?;
+        self.rows.push(Row::Cap(Listing::from_vec(bout.listing)))?;
         Ok(())
+    }
+}
+
+// Returns the lead after setting `vector` made `total`. At equal totals the earlier setting stays.
+fn lead_after(vector: u32, total: u32, lead: Option<Lead>) -> Option<Lead>
+    ensures { result ≡ lead_after vector total lead }
+{
+    match lead {
+        None => Some(Lead { vector, total }),
+        Some(lead) => {
+            if lead.total < total {
+                Some(Lead { vector, total })
+            } else {
+                Some(lead)
+            }
+        }
     }
 }

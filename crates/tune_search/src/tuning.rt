@@ -1,4 +1,4 @@
-//! The search.
+//! The search that plays every fight of every setting.
 ghost use Rattle.std.specs.Prelude.{◌≡◌, ◌*◌, ◌<◌, ◌≤◌, ℕ, None, length, IfOk, IfErr};
 ghost use Rattle.tune_cert.specs.Problem.{problem_of};
 ghost use Rattle.tune_cert.specs.Optimum.{IsOptimum, HasTotal, candidates_of};
@@ -12,22 +12,16 @@ use std::alloc::Global;
 use tune_cert::{Found, Rows};
 use tune_template::Inputs;
 
-/// How many vectors there are.
-fn count_of(inputs: &Inputs) -> u32
-    ensures count { result ≡ (problem_of inputs.now).count }
-    ensures few { result ≤ 1000000 }
-{
-    inputs.template().count()
-}
-
-/// Finds the vector of the template that scores most in the fights of the schedule: the first one, in the order of the vectors, whose
-/// warrior has the greatest total. All fights of every candidate are played, in one arena.
+/// Finds the optimum: the first setting of the template with the greatest total in the fights of
+/// the schedule.
 ///
-/// The row of a vector is `Refused` where no warrior is made of it, for whatever cause but want of memory, and else `Cap` with all fights
-/// by number and their points. No row is copied or refers to another one. The capacity, 1 to 65536, is how many warriors a search may
-/// remember at a time; this search remembers none, and does not use it. (This project's own.)
+/// Plays all fights of every candidate, in one arena. The row of a setting is `Refused` if it does
+/// not assemble, and else `Cap` with all fights in order and their points. `capacity`, 1 to 65536,
+/// is the number of warriors that a search may remember; this search remembers none and ignores it.
 ///
-/// Refuses `NoCandidate` where no warrior is made of any vector, and `OutOfMemory` where memory was refused.
+/// # Errors
+///
+/// `NoCandidate` if no setting assembles. `OutOfMemory` if an allocation failed.
 pub fn search(alloc: Global, inputs: &Inputs, capacity: u32) -> Result<Found, SearchFault>
     requires capacity { (1 ≤ capacity) × (capacity ≤ 65536) }
     ensures optimum { IfOk result (λ f. IsOptimum (problem_of inputs.now) f.best) }
@@ -43,7 +37,7 @@ pub fn search(alloc: Global, inputs: &Inputs, capacity: u32) -> Result<Found, Se
 {
     let mut arena = Arena::<PlainCells>::try_new(alloc, inputs.rules())?;
     let mut progress = Progress::begin(alloc, inputs)?;
-    for vector in 0..count_of(inputs) {
+    for vector in 0..setting_count(inputs) {
         progress.visit(alloc, &mut arena, inputs, vector)?;
     }
     let Progress {
@@ -63,4 +57,12 @@ pub fn search(alloc: Global, inputs: &Inputs, capacity: u32) -> Result<Found, Se
             copied: None,
         }),
     }
+}
+
+// Returns the number of settings, as the problem that the inputs pose has it.
+fn setting_count(inputs: &Inputs) -> u32
+    ensures count { result ≡ (problem_of inputs.now).count }
+    ensures few { result ≤ 1000000 }
+{
+    inputs.template().count()
 }

@@ -52,17 +52,17 @@ all_taken [] (suc n) h = (omega arith, refl)
 all_taken (x ∷ xs) zero h = absurd (omega (arith, h))
 all_taken (x ∷ xs) (suc n) h = let p = all_taken xs n h in (omega (arith, p.0), ap (λ y. x ∷ y) p.1)
 
-behind_first : (xs : List ℕ) (n x : ℕ) (rest : List ℕ) → drop n xs ≡ x ∷ rest → (n < length xs) × (drop (suc n) xs ≡ rest)
-behind_first [] zero x rest h = absurd (cc)
-behind_first [] (suc n) x rest h = absurd (cc)
-behind_first (y ∷ xs) zero x rest h = (omega arith, cc)
-behind_first (y ∷ xs) (suc n) x rest h = let p = behind_first xs n x rest h in (omega (arith, p.0), p.1)
+after_first : (xs : List ℕ) (n x : ℕ) (rest : List ℕ) → drop n xs ≡ x ∷ rest → (n < length xs) × (drop (suc n) xs ≡ rest)
+after_first [] zero x rest h = absurd (cc)
+after_first [] (suc n) x rest h = absurd (cc)
+after_first (y ∷ xs) zero x rest h = (omega arith, cc)
+after_first (y ∷ xs) (suc n) x rest h = let p = after_first xs n x rest h in (omega (arith, p.0), p.1)
 
 pub last_line : (text : List ℕ) (n : ℕ) → n ≡ prefix_len (λ b. not (b == LINE_FEED)) text → length (drop n text) ≡ 0 → lines_of text ≡ take n text ∷ []
 last_line text n e h = let p = all_taken text n h in ends [] text (omega (arith, e, p.0)) ∙ ap (λ x. x ∷ []) (sym p.1)
 
 pub next_line : (text : List ℕ) (n x : ℕ) (rest : List ℕ) → n ≡ prefix_len (λ b. not (b == LINE_FEED)) text → drop n text ≡ x ∷ rest → lines_of text ≡ take n text ∷ lines_of rest
-next_line text n x rest e h = let p = behind_first text n x rest h in goes_on [] text n (sym e) p.0 ∙ ap (λ k. take n text ∷ lines_of k) p.1
+next_line text n x rest e h = let p = after_first text n x rest h in goes_on [] text n (sym e) p.0 ∙ ap (λ k. take n text ∷ lines_of k) p.1
 
 -- blanks in front are passed
 blanks_passed : (bs : List ℕ) (n : ℕ) → prefix_len is_blank bs ≡ n → words_of bs ≡ words_of (drop n bs)

@@ -1,14 +1,14 @@
--- The vector of a number.
+-- The setting at an index.
 use Rattle.std.proofs.Common.{◌≡◌, ℕ, zero, suc, ◌+◌, ◌*◌, ◌/◌, ◌%◌, ◌<◌, ◌≤◌, List, [], ◌∷◌, ◌++◌, length, map, Option, Some, None, refl, sym, ◌∙◌, ap, arith, append_assoc, subst, length-append}
 use Rattle.std.specs.Prelude.{ℤ, flat_map, slice_get, option_map, All}
-use Rattle.std.proofs.lemmas.List.{append-nil, length-map}
+use Rattle.std.proofs.lemmas.List.{length-map}
 use Rattle.std.proofs.lemmas.List.Concat.{flat_map-cons}
 use Rattle.std.proofs.lemmas.Option.{slice_get-map}
 use Rattle.std.proofs.lemmas.List.Elements.{All-rest}
 use Rattle.std.proofs.Math.Nat.{mul-div_cancel_left, mod-lt, div-lt_iff_lt-mul, mul-le-mul_right}
 use Rattle.std.proofs.lemmas.Nat.{div-add-mod'}
 use Rattle.tune_template.specs.declared.span.Span.{Span}
-use Rattle.tune_template.specs.Spans.{value_at, values_from}
+use Rattle.tune_template.specs.Spans.{span_value, values_from}
 use Rattle.tune_template.specs.Ranges.{vector_count}
 use Rattle.tune_template.specs.Vectors.{vectors_of, start_vector, start_index}
 use Rattle.tune_template.specs.Steps.{HasValues}
@@ -24,12 +24,12 @@ get_right (x ∷ xs) ys i zero h = absurd (omega (arith, h))
 get_right (x ∷ xs) ys i (suc n) h = get_right xs ys i n (omega (arith, h))
 
 module _ (f : ℤ → List (List ℤ)) (n : ℕ) (same : (x : ℤ) → length (f x) ≡ n) where
-  -- so many pieces of the same length
+  -- n pieces of equal length
   pieces_len : (s : Span) (k m : ℕ) → length (flat_map f (values_from s k m)) ≡ m * n
   pieces_len s k zero = let z : 0 ≡ 0 * n = omega arith in z
   pieces_len s k (suc m) =
-      ap length (flat_map-cons f (value_at s k) (values_from s (suc k) m))
-      ∙ (length_append (f (value_at s k)) (flat_map f (values_from s (suc k) m)) ∙ sum (length (f (value_at s k))) (length (flat_map f (values_from s (suc k) m))) (same (value_at s k)) (pieces_len s (suc k) m))
+      ap length (flat_map-cons f (span_value s k) (values_from s (suc k) m))
+      ∙ (length_append (f (span_value s k)) (flat_map f (values_from s (suc k) m)) ∙ sum (length (f (span_value s k))) (length (flat_map f (values_from s (suc k) m))) (same (span_value s k)) (pieces_len s (suc k) m))
     where
       length_append : (xs ys : List (List ℤ)) → length (xs ++ ys) ≡ length xs + length ys
       length_append [] ys = omega arith
@@ -42,36 +42,36 @@ module _ (f : ℤ → List (List ℤ)) (n : ℕ) (same : (x : ℤ) → length (f
           more m = omega arith
 
   -- an item of one of them
-  get_piece : (s : Span) (k m i j p : ℕ) → i < m → j < n → p ≡ i * n + j → slice_get (flat_map f (values_from s k m)) p ≡ slice_get (f (value_at s (k + i))) j
+  get_piece : (s : Span) (k m i j p : ℕ) → i < m → j < n → p ≡ i * n + j → slice_get (flat_map f (values_from s k m)) p ≡ slice_get (f (span_value s (k + i))) j
   get_piece s k zero i j p h l e = absurd (omega (arith, h))
   get_piece s k (suc m) zero j p h l e =
       let q : p ≡ j = e ∙ omega arith in
-      let a : j < length (f (value_at s k)) = omega (arith, l, same (value_at s k)) in
+      let a : j < length (f (span_value s k)) = omega (arith, l, same (span_value s k)) in
       let z : k ≡ k + zero = omega arith in
-      ap (λ xs. slice_get xs p) (flat_map-cons f (value_at s k) (values_from s (suc k) m))
-      ∙ (ap (slice_get (f (value_at s k) ++ flat_map f (values_from s (suc k) m))) q
-      ∙ (get_left (f (value_at s k)) (flat_map f (values_from s (suc k) m)) j a ∙ ap (λ x. slice_get (f (value_at s x)) j) z))
+      ap (λ xs. slice_get xs p) (flat_map-cons f (span_value s k) (values_from s (suc k) m))
+      ∙ (ap (slice_get (f (span_value s k) ++ flat_map f (values_from s (suc k) m))) q
+      ∙ (get_left (f (span_value s k)) (flat_map f (values_from s (suc k) m)) j a ∙ ap (λ x. slice_get (f (span_value s x)) j) z))
   get_piece s k (suc m) (suc i) j p h l e =
       let step : suc i * n ≡ n + i * n = omega arith in
-      let q : p ≡ length (f (value_at s k)) + (i * n + j) = omega (arith, e, step, same (value_at s k)) in
+      let q : p ≡ length (f (span_value s k)) + (i * n + j) = omega (arith, e, step, same (span_value s k)) in
       let z : suc k + i ≡ k + suc i = omega arith in
-      ap (λ xs. slice_get xs p) (flat_map-cons f (value_at s k) (values_from s (suc k) m))
-      ∙ (get_right (f (value_at s k)) (flat_map f (values_from s (suc k) m)) (i * n + j) p q
-      ∙ (get_piece s (suc k) m i j (i * n + j) (omega (arith, h)) l refl ∙ ap (λ x. slice_get (f (value_at s x)) j) z))
+      ap (λ xs. slice_get xs p) (flat_map-cons f (span_value s k) (values_from s (suc k) m))
+      ∙ (get_right (f (span_value s k)) (flat_map f (values_from s (suc k) m)) (i * n + j) p q
+      ∙ (get_piece s (suc k) m i j (i * n + j) (omega (arith, h)) l refl ∙ ap (λ x. slice_get (f (span_value s x)) j) z))
 
--- there are as many vectors as the product says
+-- the number of settings is the product of the counts
 pub vectors_len : (ss : List Span) → length (vectors_of ss) ≡ vector_count ss
 vectors_len [] = refl
 vectors_len (s ∷ ss) =
     pieces_len (λ x. map (λ v. x ∷ v) (vectors_of ss)) (vector_count ss) (λ x. length-map (vectors_of ss) (λ v. x ∷ v) ∙ vectors_len ss) s 0 s.count
 
--- the vector of a number: the first value by the quotient, the others by the remainder
+-- the setting at an index: the first value by the quotient, the others by the remainder
 pub vector_step : (s : Span) (ss : List Span) (i j p : ℕ) → i < s.count → j < vector_count ss → p ≡ i * vector_count ss + j
-    → slice_get (vectors_of (s ∷ ss)) p ≡ option_map (λ v. value_at s i ∷ v) (slice_get (vectors_of ss) j)
+    → slice_get (vectors_of (s ∷ ss)) p ≡ option_map (λ v. span_value s i ∷ v) (slice_get (vectors_of ss) j)
 vector_step s ss i j p h l e =
     let z : 0 + i ≡ i = omega arith in
     get_piece (λ x. map (λ v. x ∷ v) (vectors_of ss)) (vector_count ss) (λ x. length-map (vectors_of ss) (λ v. x ∷ v) ∙ vectors_len ss) s 0 s.count i j p h l e
-    ∙ (slice_get-map (λ v. value_at s (0 + i) ∷ v) (vectors_of ss) j ∙ ap (λ k. option_map (λ v. value_at s k ∷ v) (slice_get (vectors_of ss) j)) z)
+    ∙ (slice_get-map (λ v. span_value s (0 + i) ∷ v) (vectors_of ss) j ∙ ap (λ k. option_map (λ v. span_value s k ∷ v) (slice_get (vectors_of ss) j)) z)
 
 -- there is at least one
 pub some_vector : (ss : List Span) → All HasValues ss → 0 < vector_count ss
@@ -83,7 +83,7 @@ some_vector (s ∷ ss) h = product s.count (vector_count ss) (h 0 s (omega arith
 
 -- ---- one span after the other
 
--- how many vectors the other spans have
+-- how many settings the other spans have
 others_count : (s : Span) (ss : List Span) (size : ℕ) → 0 < s.count → s.count * vector_count ss ≡ size → size / s.count ≡ vector_count ss
 others_count s ss size h e = ap (λ n. n / s.count) (sym e) ∙ mul-div_cancel_left (vector_count ss) h
 
@@ -93,7 +93,7 @@ less_than a n v h l = (div-lt_iff_lt-mul {k = n} {x = v} {y = a} h).1 l
 -- the values of the spans so far, and one more
 pub value_next : (all rest after : List Span) (s : Span) (done next : List ℤ) (number size place inner : ℕ) → rest ≡ s ∷ after
     → (slice_get (vectors_of all) number ≡ option_map (λ w. done ++ w) (slice_get (vectors_of rest) place)) × (vector_count rest ≡ size) × (place < size) × (length done + length rest ≤ 8) × All HasValues rest
-    → inner ≡ size / s.count → next ≡ done ++ (value_at s (place / inner) ∷ [])
+    → inner ≡ size / s.count → next ≡ done ++ (span_value s (place / inner) ∷ [])
     → (slice_get (vectors_of all) number ≡ option_map (λ w. next ++ w) (slice_get (vectors_of after) (place % inner))) × (vector_count after ≡ inner) × (place % inner < inner) × (length next + length after ≤ 8) × All HasValues after
 value_next all rest after s done next number size place inner e inv ei en =
     let values : All HasValues after = All-rest HasValues s after rest e inv.4 in
@@ -106,12 +106,12 @@ value_next all rest after s done next number size place inner e inv ei en =
     let rest_low : place % inner < inner = mod-lt place some in
     let split : place ≡ place / inner * inner + place % inner = sym (div-add-mod' place inner) in
     let split' : place ≡ place / inner * vector_count after + place % inner = split ∙ ap (λ n. place / inner * n + place % inner) same in
-    let lens : length next ≡ length done + 1 = ap length en ∙ length-append done (value_at s (place / inner) ∷ []) in
+    let lens : length next ≡ length done + 1 = ap length en ∙ length-append done (span_value s (place / inner) ∷ []) in
     let ends : length rest ≡ length after + 1 = ap length e ∙ omega arith in (
       inv.0
           ∙ (ap (λ r. option_map (λ w. done ++ w) (slice_get (vectors_of r) place)) e
           ∙ (ap (option_map (λ w. done ++ w)) (vector_step s after (place / inner) (place % inner) place low (omega (arith, rest_low, same)) split')
-          ∙ (shifted done (value_at s (place / inner)) (slice_get (vectors_of after) (place % inner))
+          ∙ (shifted done (span_value s (place / inner)) (slice_get (vectors_of after) (place % inner))
           ∙ ap (λ x. option_map (λ w. x ++ w) (slice_get (vectors_of after) (place % inner))) (sym en)))),
       sym same,
       rest_low,
@@ -123,18 +123,9 @@ value_next all rest after s done next number size place inner e inv ei en =
     shifted done x None = refl
     shifted done x (Some w) = ap Some (sym (append_assoc done (x ∷ []) w))
 
--- the last vector is the empty one
-pub values_end : (all rest : List Span) (done : List ℤ) (number size place : ℕ) → rest ≡ []
-    → (slice_get (vectors_of all) number ≡ option_map (λ w. done ++ w) (slice_get (vectors_of rest) place)) × (vector_count rest ≡ size) × (place < size) × (length done + length rest ≤ 8) × All HasValues rest
-    → slice_get (vectors_of all) number ≡ Some done
-values_end all rest done number size place e inv =
-    let one : 1 ≡ size = ap vector_count (sym e) ∙ inv.1 in
-    let zero_place : place ≡ 0 = omega (arith, one, inv.2) in
-    inv.0 ∙ (ap (λ r. option_map (λ w. done ++ w) (slice_get (vectors_of r) place)) e ∙ (ap (λ p. option_map (λ w. done ++ w) (slice_get (vectors_of []) p)) zero_place ∙ ap Some (append-nil done)))
-
 -- ---- the start values
 
--- the number of the start values is the one of their vector
+-- the index of the start values is the index of their setting
 pub start_vector_at : (ss : List Span) → All HasValues ss → (start_index ss < vector_count ss) × (slice_get (vectors_of ss) (start_index ss) ≡ Some (start_vector ss))
 start_vector_at [] h = (omega arith, refl)
 start_vector_at (s ∷ ss) h =
@@ -142,7 +133,7 @@ start_vector_at (s ∷ ss) h =
     let next = start_vector_at ss (λ k d l. h (suc k) d (omega (arith, l))) in
     let bound : s.start * vector_count ss + start_index ss < s.count * vector_count ss = inside s.start s.count (vector_count ss) (start_index ss) own.start next.0 in (
       bound,
-      vector_step s ss s.start (start_index ss) (s.start * vector_count ss + start_index ss) own.start next.0 refl ∙ ap (option_map (λ v. value_at s s.start ∷ v)) next.1,
+      vector_step s ss s.start (start_index ss) (s.start * vector_count ss + start_index ss) own.start next.0 refl ∙ ap (option_map (λ v. span_value s s.start ∷ v)) next.1,
     )
   where
     inside : (a b n i : ℕ) → a < b → i < n → a * n + i < b * n

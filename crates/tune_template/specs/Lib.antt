@@ -1,6 +1,6 @@
--- Templates: Redcode texts in which up to eight constants run over ranges. A template has a list of names with spans of values; its vectors
--- are all lists of one value for each, in lexicographic order with the first constant slowest; and a vector's instance is the warrior to
--- which the text assembles with the vector's values as constants.
+-- A template is a Redcode text that leaves up to 8 constants open, each with a span of values. Its
+-- settings are all lists of one value for each constant, in lexicographic order with the first
+-- constant slowest. An instance is the warrior to which the text assembles with a setting's values.
 pub mod Lines
 pub mod Spans
 pub mod Ranges

@@ -1,10 +1,10 @@
--- The ranges of a template, line by line, or the fault that comes first (this format is this project's own).
+-- The ranges of a template, line by line, or the first fault.
 use Rattle.std.specs.Prelude.{◌≡◌, ℕ, ◌+◌, ◌*◌, nat_le, nat_lt, ◌==◌, ℤ, pos, neg_ℤ, List, [], ◌∷◌, ◌++◌, length, drop, Option, Some, None, option_map, Result, Ok, Err, if◌then◌else◌}
 use Rattle.rc_text.specs.NameClasses.{class_of}
 use Rattle.rc_text.specs.declared.class.NameClass.{NameClass}
 use Rattle.rc_text.specs.declared.class.NameClass.TheVariants.{NoName, Reserved, Predefined, Free}
 use Rattle.rc_expand.specs.Names.{is_among}
-use Rattle.mars_fight.specs.Number.{number_of}
+use Rattle.mars_fight.specs.Decimal.{padded_decimal}
 use Rattle.tune_template.specs.declared.span.Span.{Span}
 use Rattle.tune_template.specs.declared.fault.TemplateKind.{TemplateKind}
 use Rattle.tune_template.specs.declared.fault.TemplateKind.TheVariants.{BadLine, DuplicateName, ReservedName, TooManyConstants, TooManyVectors, TextTooLong}
@@ -12,7 +12,7 @@ use Rattle.tune_template.specs.declared.fault.TemplateFault.{TemplateFault}
 use Rattle.tune_template.specs.Lines.{lines_of, words_of, is_range_line}
 use Rattle.tune_template.specs.Spans.{span_of}
 
--- the names of the constants, and the spans of their values, in the order of the lines
+-- the constants and the spans of their values, in the order of the lines
 pub record Ranges : Type 0 where
   pub names : List (List ℕ)
   pub spans : List Span
@@ -22,13 +22,13 @@ ranges names spans = record { names = names; spans = spans }
 
 -- 1 to 5 digits, at most 65535
 abbrev pub small_number : List ℕ → Option ℕ
-small_number word = if nat_le (length word) 5 then at_most (number_of word) else None
+small_number word = if nat_le (length word) 5 then at_most (padded_decimal word) else None
   where
     at_most : Option ℕ → Option ℕ
     at_most None = None
     at_most (Some n) = if nat_le n 65535 then Some n else None
 
--- the same with an optional minus
+-- an optional minus and such a number
 abbrev pub signed_number : List ℕ → Option ℤ
 signed_number [] = None
 signed_number (b ∷ word) = if b == 45 then option_map (λ n. neg_ℤ (pos n)) (small_number word) else option_map pos (small_number (b ∷ word))
@@ -41,28 +41,29 @@ step_number word = above_zero (small_number word)
     above_zero None = None
     above_zero (Some n) = if nat_lt 0 n then Some n else None
 
--- how many vectors there are of these spans
+-- the number of settings of these spans
 abbrev pub vector_count : List Span → ℕ
 vector_count [] = 1
 vector_count (s ∷ ss) = s.count * vector_count ss
 
--- the name of a further constant is no reserved word, no predefined name, and none of the others
+-- the next constant is not reserved, not predefined, and not an earlier one
 abbrev pub name_checked : List (List ℕ) → NameClass → List ℕ → Result (Unit {0}) TemplateKind
 name_checked names NoName name = Err BadLine
 name_checked names Reserved name = Err ReservedName
 name_checked names Predefined name = Err ReservedName
 name_checked names Free name = if is_among names name then Err DuplicateName else Ok tt
 
-abbrev pub span_behind : Result (Unit {0}) TemplateKind → Result Span TemplateKind → Result Span TemplateKind
-span_behind (Ok u) s = s
-span_behind (Err k) s = Err k
+-- a fault of the name comes before one of the span
+abbrev pub span_after : Result (Unit {0}) TemplateKind → Result Span TemplateKind → Result Span TemplateKind
+span_after (Ok u) s = s
+span_after (Err k) s = Err k
 
--- the span of a further constant by its four numbers, all of which are there
+-- the span of the next constant; a word that is not a number comes before the name's fault
 abbrev pub span_said : List (List ℕ) → List ℕ → Option ℤ → Option ℤ → Option ℕ → Option ℤ → Result Span TemplateKind
-span_said names name (Some low) (Some high) (Some step) (Some start) = span_behind (name_checked names (class_of name) name) (span_of low high step start)
+span_said names name (Some low) (Some high) (Some step) (Some start) = span_after (name_checked names (class_of name) name) (span_of low high step start)
 span_said names name _ _ _ _ = Err BadLine
 
--- a constant and its span behind others: there are at most 1000000 vectors
+-- one more constant: there are at most 1000000 settings
 abbrev pub with_range : Ranges → List ℕ → Result Span TemplateKind → Result Ranges TemplateKind
 with_range r name (Err k) = Err k
 with_range r name (Ok s) = if nat_lt 1000000 (vector_count r.spans * s.count) then Err TooManyVectors else Ok (ranges (r.names ++ (name ∷ [])) (r.spans ++ (s ∷ [])))
@@ -72,7 +73,7 @@ unfoldable pub worded : Ranges → List (List ℕ) → Result Ranges TemplateKin
 worded r (name ∷ low ∷ high ∷ step ∷ start ∷ []) = with_range r name (span_said r.names name (signed_number low) (signed_number high) (step_number step) (signed_number start))
 worded r _ = Err BadLine
 
--- a range line behind others: at most eight
+-- one more range line: at most eight
 abbrev pub range_added : Ranges → List ℕ → Result Ranges TemplateKind
 range_added r line = if nat_lt (length r.names) 8 then worded r (words_of (drop 6 line)) else Err TooManyConstants
 
@@ -87,15 +88,14 @@ abbrev pub then_from : Result Ranges TemplateFault → (Ranges → Result Ranges
 then_from (Ok r) next = next r
 then_from (Err f) next = Err f
 
--- the ranges of the lines from here on, behind those so far
+-- the ranges so far, and those of these lines, which begin with line n
 abbrev pub ranges_from : ℕ → Ranges → List (List ℕ) → Result Ranges TemplateFault
 ranges_from n r [] = Ok r
 ranges_from n r (line ∷ lines) = then_from (line_added n r line) (λ s. ranges_from (n + 1) s lines)
 
--- the ranges of a template: a text of at most 65536 bytes
+-- the ranges of a text of at most 65536 bytes
 unfoldable pub ranges_of : List ℕ → Result Ranges TemplateFault
 ranges_of text = if nat_le (length text) 65536 then ranges_from 1 (ranges [] []) (lines_of text) else Err (record { line = 0; kind = TextTooLong })
 
--- the template has these ranges
 abbrev pub HasRanges : List ℕ → Ranges → Type 0
 HasRanges text r = ranges_of text ≡ Ok r

@@ -1,48 +1,47 @@
-//! Why a text is no template, and where.
+//! Why a template is refused, and where.
 ghost use Rattle.std.specs.Prelude.{◌≡◌};
 
 use std::alloc::{AllocError, AllocFailed};
 use thiserror::Error;
 
-/// Why a text is no template.
+/// Why a template is refused.
 #[derive(Clone, Copy, Debug, PartialEq, Eq, Error)]
 pub enum TemplateKind {
-    /// A range line is not `;@tune NAME LOW HIGH STEP START` with a name and numbers in their limits.
-    #[error("a range line that is not of its form")]
+    /// A range line is not `;@tune NAME LOW HIGH STEP START` with a name and numbers within limits.
+    #[error("malformed range line")]
     BadLine,
-    /// Two constants are alike.
-    #[error("a constant that is there twice")]
+    /// An earlier line has the same constant.
+    #[error("duplicate constant")]
     DuplicateName,
-    /// A constant is a reserved word or a predefined name.
-    #[error("a constant that is a reserved word or a predefined name")]
+    /// The constant is a reserved word or a predefined name.
+    #[error("reserved or predefined name")]
     ReservedName,
     /// LOW is above HIGH.
-    #[error("an empty range")]
+    #[error("empty range")]
     EmptyRange,
-    /// START is none of the values.
-    #[error("a start that is none of the values")]
+    /// START is not one of the values.
+    #[error("start not in the range")]
     StartOutside,
     /// There are more than 8 constants.
     #[error("more than 8 constants")]
     TooManyConstants,
-    /// There are more than 1000000 vectors.
-    #[error("more than 1000000 vectors")]
+    /// There are more than 1000000 settings.
+    #[error("more than 1000000 settings")]
     TooManyVectors,
     /// The text has more than 65536 bytes.
-    #[error("the text has more than 65536 bytes")]
+    #[error("text longer than 65536 bytes")]
     TextTooLong,
-    /// Memory was refused.
+    /// An allocation failed.
     #[error("out of memory")]
     OutOfMemory,
 }
 
-/// Why a text is no template, and at which line.
+/// Why a template is refused, and at which line.
 #[derive(Clone, Copy, Debug, PartialEq, Eq, Error)]
 #[error("line {line}: {kind}")]
 pub struct TemplateFault {
     /// The line, from 1; 0 for `TextTooLong` and `OutOfMemory`.
     pub line: u64,
-    /// The reason.
     pub kind: TemplateKind,
 }
 

@@ -29,8 +29,8 @@ impl Model for Inputs {
 }
 
 impl Inputs {
-    /// The inputs of a tuning. There are at most 64 opponents, each keeps the rules, and every fight of the schedule is against one of
-    /// them, from a position in the range of the rules.
+    /// Puts the inputs of a tuning together: at most 64 opponents, which fit the rules, and a
+    /// schedule that fits the rules and the opponents.
     pub fn new(
         template: Template,
         opponents: Vec<Warrior>,
@@ -50,14 +50,14 @@ impl Inputs {
         }
     }
 
-    /// The template.
+    /// Returns the template.
     pub fn template(&self) -> &Template
         ensures template { result.now ≡ self.now.template }
     {
         &self.template
     }
 
-    /// The opponents, at most 64. Each keeps the rules.
+    /// Returns the opponents, at most 64. Each fits the rules.
     pub fn opponents(&self) -> &[Warrior]
         ensures opponents { result.now ≡ self.now.opponents }
         ensures inputs { AreInputs self.now }
@@ -65,7 +65,7 @@ impl Inputs {
         self.opponents.as_slice()
     }
 
-    /// The schedule. Every fight is against one of the opponents, from a position in the range of the rules.
+    /// Returns the schedule. It fits the rules and the opponents.
     pub fn schedule(&self) -> &Schedule
         ensures schedule { result.now ≡ self.now.schedule }
         ensures inputs { AreInputs self.now }
@@ -73,7 +73,7 @@ impl Inputs {
         &self.schedule
     }
 
-    /// The rules.
+    /// Returns the rules of all fights.
     pub fn rules(&self) -> &Rules
         ensures { result.now ≡ self.now.rules }
     {

@@ -1,14 +1,14 @@
-//! Templates of warriors: Redcode texts in which up to eight constants run over ranges, and what a tuning starts from.
+//! Templates: Redcode texts that leave up to 8 constants open. Also the inputs of a tuning.
 #![tactic(auto)]
 
-pub mod fault;
-pub mod inputs;
+mod fault;
+mod inputs;
 mod lines;
 mod numbers;
 mod range;
 mod span;
-pub mod template;
-pub mod vector;
+mod template;
+mod vector;
 
 pub use fault::{TemplateFault, TemplateKind};
 pub use inputs::Inputs;

@@ -1,55 +1,26 @@
-//! Lines of a template, and their words.
+//! The lines of a template, and their words.
 ghost use Rattle.std.specs.Prelude.{◌≡◌, ◌∷◌, [], not, ◌==◌, length, take, drop, ◌+◌, ◌<◌, ◌≤◌, MatchOption, IfSome};
 ghost use Rattle.std.specs.List.{prefix_len};
 ghost use Rattle.std.specs.Str.{bytes_eq};
 ghost use Rattle.rc_text.specs.Bytes.{LINE_FEED, is_blank};
 ghost use Rattle.tune_template.specs.Lines.{lines_of, words_of, is_range_line, begins_blank};
 
-// Whether a byte is a space, a tab or a carriage return.
-fn is_blank(byte: u8) -> bool
-    ensures { result ≡ is_blank byte }
-{
-    byte == b' ' || byte == b'\t' || byte == b'\r'
-}
+use rc_text::is_blank;
 
-// How many bytes the line at the front has.
-fn line_len(text: &[u8]) -> usize
-    ensures len { result ≡ prefix_len (λ b. not (b == LINE_FEED)) text.now }
-    ensures most { result ≤ length text.now }
-{
-    text.iter().take_while(|byte| **byte != b'\n').count()
-}
-
-// How many blanks stand at the front.
-fn blank_len(text: &[u8]) -> usize
-    ensures len { result ≡ prefix_len is_blank text.now }
-    ensures most { result ≤ length text.now }
-{
-    text.iter().take_while(|byte| is_blank(**byte)).count()
-}
-
-// How many bytes the word at the front has.
-fn word_len(text: &[u8]) -> usize
-    ensures len { result ≡ prefix_len (λ b. not (is_blank b)) text.now }
-    ensures most { result ≤ length text.now }
-{
-    text.iter().take_while(|byte| !is_blank(**byte)).count()
-}
-
-/// The line at the front of a text, and what follows its line feed, if it has one.
+// Splits off the first line, without its line feed. At the last line the rest is `None`.
 #[tactic(auto, using(crate::proofs::LineSteps::last_line, crate::proofs::LineSteps::next_line))]
 pub(crate) fn first_line<'a>(text: &'a [u8]) -> (&'a [u8], Option<&'a [u8]>)
     ensures lines { MatchOption result.1 (lines_of text.now ≡ result.0.now ∷ []) (λ rest. lines_of text.now ≡ result.0.now ∷ lines_of rest.now) }
     ensures shorter { IfSome result.1 (λ rest. length rest.now < length text.now) }
 {
-    let (line, behind) = text.split_at(line_len(text));
-    match behind.split_first() {
+    let (line, others) = text.split_at(line_len(text));
+    match others.split_first() {
         None => (line, None),
         Some((_, rest)) => (line, Some(rest)),
     }
 }
 
-/// The first word of a line, and what follows it, or none where there are only blanks.
+// Splits off the first word. Returns `None` if there are only blanks.
 #[tactic(auto, using(crate::proofs::LineSteps::no_word, crate::proofs::LineSteps::one_word))]
 pub(crate) fn first_word<'a>(line: &'a [u8]) -> Option<(&'a [u8], &'a [u8])>
     ensures { MatchOption result (words_of line.now ≡ []) (λ p. words_of line.now ≡ p.0.now ∷ words_of p.1.now) }
@@ -62,7 +33,38 @@ pub(crate) fn first_word<'a>(line: &'a [u8]) -> Option<(&'a [u8], &'a [u8])>
     Some(word.split_at(word_len(word)))
 }
 
-// Whether a blank stands at the front, or nothing.
+// Checks for `;@tune` at the front, with a blank or nothing after it: `;@tuned` is a comment.
+pub(crate) fn is_range_line(line: &[u8]) -> bool
+    ensures { result ≡ is_range_line line.now }
+{
+    begins_with(b";@tune", line) && begins_blank(&line[6..])
+}
+
+// Counts the bytes of the first line.
+fn line_len(text: &[u8]) -> usize
+    ensures len { result ≡ prefix_len (λ b. not (b == LINE_FEED)) text.now }
+    ensures most { result ≤ length text.now }
+{
+    text.iter().take_while(|byte| **byte != b'\n').count()
+}
+
+// Counts the blanks at the front.
+fn blank_len(text: &[u8]) -> usize
+    ensures len { result ≡ prefix_len is_blank text.now }
+    ensures most { result ≤ length text.now }
+{
+    text.iter().take_while(|byte| is_blank(**byte)).count()
+}
+
+// Counts the bytes of the word at the front.
+fn word_len(text: &[u8]) -> usize
+    ensures len { result ≡ prefix_len (λ b. not (is_blank b)) text.now }
+    ensures most { result ≤ length text.now }
+{
+    text.iter().take_while(|byte| !is_blank(**byte)).count()
+}
+
+// Checks for a blank at the front, or an empty text.
 fn begins_blank(text: &[u8]) -> bool
     ensures { result ≡ begins_blank text.now }
 {
@@ -72,16 +74,8 @@ fn begins_blank(text: &[u8]) -> bool
     }
 }
 
-// Whether the text begins with these bytes.
 fn begins_with(front: &[u8], text: &[u8]) -> bool
     ensures { result ≡ bytes_eq (take (length front.now) text.now) front.now }
 {
     text.len() >= front.len() && &text[..front.len()] == front
-}
-
-/// Whether a line is a range: `;@tune` stands at its front, with a blank or nothing behind it.
-pub(crate) fn is_range_line(line: &[u8]) -> bool
-    ensures { result ≡ is_range_line line.now }
-{
-    begins_with(b";@tune", line) && begins_blank(&line[6..])
 }

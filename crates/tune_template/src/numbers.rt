@@ -2,24 +2,9 @@
 ghost use Rattle.std.specs.Prelude.{◌≡◌, ◌<◌, ◌≤ℤ◌, ℤ, pos, negsuc, IfSome};
 ghost use Rattle.tune_template.specs.Ranges.{small_number, signed_number, step_number};
 
-use mars_fight::number_of;
+use mars_fight::padded_decimal;
 
-// The number that 1 to 5 digits stand for, at most 65535.
-fn small_number(word: &[u8]) -> Option<u16>
-    ensures { result ≡ small_number word.now }
-{
-    if word.len() > 5 {
-        return None;
-    }
-    let number = number_of(word)?;
-    if number <= 65535 {
-        Some(number as u16)
-    } else {
-        None
-    }
-}
-
-/// The number that an optional minus and 1 to 5 digits stand for, -65535 to 65535.
+// Reads an optional minus and 1 to 5 digits, -65535 to 65535.
 pub(crate) fn signed_number(word: &[u8]) -> Option<i32>
     ensures value { result ≡ signed_number word.now }
     ensures low { IfSome result (λ z. negsuc 65534 ≤ℤ z) }
@@ -35,11 +20,26 @@ pub(crate) fn signed_number(word: &[u8]) -> Option<i32>
     }
 }
 
-/// The number that 1 to 5 digits stand for, 1 to 65535.
+// Reads 1 to 5 digits, 1 to 65535.
 pub(crate) fn step_number(word: &[u8]) -> Option<u16>
     ensures value { result ≡ step_number word.now }
     ensures some { IfSome result (λ n. 0 < n) }
 {
     let step = small_number(word)?;
     if step > 0 { Some(step) } else { None }
+}
+
+// Reads 1 to 5 digits, 0 to 65535.
+fn small_number(word: &[u8]) -> Option<u16>
+    ensures { result ≡ small_number word.now }
+{
+    if word.len() > 5 {
+        return None;
+    }
+    let number = padded_decimal(word)?;
+    if number <= 65535 {
+        Some(number as u16)
+    } else {
+        None
+    }
 }

@@ -1,4 +1,4 @@
-//! Range lines.
+//! The range lines of a template.
 ghost use Rattle.std.specs.Prelude.{◌≡◌, ◌≢◌, ◌<◌, ◌≤◌, ◌*◌, ◌∷◌, ◌++◌, [], map, length, MatchOption, IfOk, IfErr, OnOk, Ok, Err};
 ghost use Rattle.std.specs.Str.{bytes_eq};
 ghost use Rattle.rc_text.specs.NameClasses.{class_of};
@@ -15,13 +15,13 @@ use crate::span::Span;
 use rc_text::{NameClass, name_class};
 use std::alloc::Global;
 
-/// How many constants a template may have.
+// The most constants of a template.
 const MOST_CONSTANTS: usize = 8;
 
-/// How many vectors a template may have.
+// The most settings of a template.
 const MOST_VECTORS: u64 = 1_000_000;
 
-/// The names of the constants so far, the spans of their values, and how many vectors there are of them.
+// The constants and their spans so far, and how many settings they have.
 #[derive(Debug, Drop)]
 pub(crate) struct Reading {
     pub(crate) names: Vec<Vec<u8>>,
@@ -29,7 +29,7 @@ pub(crate) struct Reading {
     pub(crate) count: u32,
 }
 
-/// The five words of a range line.
+// The five words of a range line.
 #[derive(Clone, Copy)]
 struct Words<'a> {
     name: &'a [u8],
@@ -39,7 +39,61 @@ struct Words<'a> {
     start: &'a [u8],
 }
 
-// The words of a line, where they are five.
+impl Reading {
+    pub(crate) fn new(alloc: Global) -> Self
+        ensures read { seen_ranges result ≡ ranges [] [] }
+        ensures counted { AreCounted (seen_ranges result) result.count }
+    {
+        Reading {
+            names: Vec::new(alloc),
+            spans: Vec::new(alloc),
+            count: 1,
+        }
+    }
+
+    // Adds a constant, if there are not too many settings then.
+    fn push(&mut self, alloc: Global, name: &[u8], span: Span) -> Result<(), TemplateKind>
+        requires counted { AreCounted (seen_ranges self.old) self.old.count }
+        requires room { length self.old.names.items < 8 }
+        requires values { HasValues span }
+        ensures added { OnOk result (with_range (seen_ranges self.old) name.now (Ok span) ≡ Ok (seen_ranges self.new)) }
+        ensures counted { OnOk result (AreCounted (seen_ranges self.new) self.new.count) }
+        ensures refused { IfErr result (λ k. k ≢ OutOfMemory → with_range (seen_ranges self.old) name.now (Ok span) ≡ Err k) }
+    {
+        let count = u64::from(self.count) * u64::from(span.count);
+        if count > MOST_VECTORS {
+            return Err(TemplateKind::TooManyVectors);
+        }
+        self.names.push(name.to_vec(alloc)?)?;
+        self.spans.push(span)?;
+        self.count = count as u32;
+        Ok(())
+    }
+
+    // Adds the constant of a range line.
+    #[tactic(auto, unfolding(crate::specs::Ranges::worded))]
+    pub(crate) fn add(&mut self, alloc: Global, line: &[u8]) -> Result<(), TemplateKind>
+        requires line { 6 ≤ length line.now }
+        requires counted { AreCounted (seen_ranges self.old) self.old.count }
+        ensures added { OnOk result (range_added (seen_ranges self.old) line.now ≡ Ok (seen_ranges self.new)) }
+        ensures counted { OnOk result (AreCounted (seen_ranges self.new) self.new.count) }
+        ensures refused { IfErr result (λ k. k ≢ OutOfMemory → range_added (seen_ranges self.old) line.now ≡ Err k) }
+    {
+        if self.names.len() >= MOST_CONSTANTS {
+            return Err(TemplateKind::TooManyConstants);
+        }
+        let (_, rest) = line.split_at(6);
+        match five_words(rest) {
+            None => Err(TemplateKind::BadLine),
+            Some(words) => {
+                let span = span_said(&self.names, &words)?;
+                self.push(alloc, words.name, span)
+            }
+        }
+    }
+}
+
+// Splits a line into words. Returns `None` unless they are five.
 #[tactic(auto, unfolding(crate::specs::Ranges::worded))]
 fn five_words<'a>(line: &'a [u8]) -> Option<Words<'a>>
     ensures { MatchOption result ((r : Ranges) → worded r (words_of line.now) ≡ Err BadLine)
@@ -62,7 +116,6 @@ fn five_words<'a>(line: &'a [u8]) -> Option<Words<'a>>
     }
 }
 
-// Whether a name is among others.
 fn is_among(names: &[Vec<u8>], name: &[u8]) -> bool
     ensures { result ≡ is_among (map (λ n. n.items) names.now) name.now }
 {
@@ -76,7 +129,7 @@ fn is_among(names: &[Vec<u8>], name: &[u8]) -> bool
     false
 }
 
-// Refuses a name that can be no further constant.
+// Refuses a name that cannot be the next constant.
 fn check_name(names: &[Vec<u8>], name: &[u8]) -> Result<(), TemplateKind>
     ensures { result ≡ name_checked (map (λ n. n.items) names.now) (class_of name.now) name.now }
 {
@@ -92,7 +145,7 @@ fn check_name(names: &[Vec<u8>], name: &[u8]) -> Result<(), TemplateKind>
     }
 }
 
-// The span of a further constant.
+// Checks the name and the numbers of a line. A word that is not a number comes before a bad name.
 fn span_said(names: &[Vec<u8>], words: &Words) -> Result<Span, TemplateKind>
     ensures span { result ≡ span_said (map (λ n. n.items) names.now) words.now.name.now (signed_number words.now.low.now) (signed_number words.now.high.now)
         (step_number words.now.step.now) (signed_number words.now.start.now) }
@@ -109,60 +162,5 @@ fn span_said(names: &[Vec<u8>], words: &Words) -> Result<Span, TemplateKind>
             Span::try_new(low, high, step, start)
         }
         _ => Err(TemplateKind::BadLine),
-    }
-}
-
-impl Reading {
-    /// Nothing is read yet.
-    pub(crate) fn new(alloc: Global) -> Self
-        ensures read { seen_ranges result ≡ ranges [] [] }
-        ensures counted { AreCounted (seen_ranges result) result.count }
-    {
-        Reading {
-            names: Vec::new(alloc),
-            spans: Vec::new(alloc),
-            count: 1,
-        }
-    }
-
-    // Adds a constant and its span.
-    fn push(&mut self, alloc: Global, name: &[u8], span: Span) -> Result<(), TemplateKind>
-        requires counted { AreCounted (seen_ranges self.old) self.old.count }
-        requires room { length self.old.names.items < 8 }
-        requires values { HasValues span }
-        ensures added { OnOk result (with_range (seen_ranges self.old) name.now (Ok span) ≡ Ok (seen_ranges self.new)) }
-        ensures counted { OnOk result (AreCounted (seen_ranges self.new) self.new.count) }
-        ensures refused { IfErr result (λ k. k ≢ OutOfMemory → with_range (seen_ranges self.old) name.now (Ok span) ≡ Err k) }
-    {
-        let count = u64::from(self.count) * u64::from(span.count);
-        if count > MOST_VECTORS {
-            return Err(TemplateKind::TooManyVectors);
-        }
-        self.names.push(name.to_vec(alloc)?)?;
-        self.spans.push(span)?;
-        self.count = count as u32;
-        Ok(())
-    }
-
-    /// Adds the range of a range line.
-    #[tactic(auto, unfolding(crate::specs::Ranges::worded))]
-    pub(crate) fn add(&mut self, alloc: Global, line: &[u8]) -> Result<(), TemplateKind>
-        requires line { 6 ≤ length line.now }
-        requires counted { AreCounted (seen_ranges self.old) self.old.count }
-        ensures added { OnOk result (range_added (seen_ranges self.old) line.now ≡ Ok (seen_ranges self.new)) }
-        ensures counted { OnOk result (AreCounted (seen_ranges self.new) self.new.count) }
-        ensures refused { IfErr result (λ k. k ≢ OutOfMemory → range_added (seen_ranges self.old) line.now ≡ Err k) }
-    {
-        if self.names.len() >= MOST_CONSTANTS {
-            return Err(TemplateKind::TooManyConstants);
-        }
-        let (_, rest) = line.split_at(6);
-        match five_words(rest) {
-            None => Err(TemplateKind::BadLine),
-            Some(words) => {
-                let span = span_said(&self.names, &words)?;
-                self.push(alloc, words.name, span)
-            }
-        }
     }
 }

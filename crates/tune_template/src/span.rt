@@ -1,11 +1,13 @@
-//! The values over which a constant runs.
+//! The values of one constant.
 ghost use Rattle.std.specs.Prelude.{◌≡◌, ◌≤◌, ◌<◌, ◌≤ℤ◌, ◌-ℤ◌, ℤ, pos, negsuc, IfOk};
-ghost use Rattle.tune_template.specs.Spans.{natural, is_outside, span_of, value_at};
+ghost use Rattle.rc_asm.specs.Instructions.{natural};
+ghost use Rattle.tune_template.specs.Spans.{is_outside, span_of, span_value};
 ghost use Rattle.tune_template.specs.Steps.{HasValues};
 
 use crate::fault::TemplateKind;
 
-/// The values `low`, `low + step`, .. of which there are `count`, and the number of the one with which a search begins, counted from 0.
+// The values `low`, `low + step`, .., `count` of them, and the index `start` of the one with which
+// a search begins.
 #[derive(Clone, Copy, Debug)]
 pub(crate) struct Span {
     pub(crate) low: i32,
@@ -14,21 +16,10 @@ pub(crate) struct Span {
     pub(crate) start: u32,
 }
 
-// How far the second number lies above the first.
-fn natural(from: i32, to: i32) -> u32
-    requires low { negsuc 65534 ≤ℤ from }
-    requires order { from ≤ℤ to }
-    requires high { to ≤ℤ pos 65535 }
-    ensures value { result ≡ natural (to -ℤ from) }
-    ensures small { result ≤ 131070 }
-{
-    (to - from) as u32
-}
-
 impl Span {
-    /// The values from the first number to the second by a step, and the number of the start among them.
-    ///
-    /// Refuses `EmptyRange` where the first is above the second, and `StartOutside` where the start is none of the values.
+    // Makes a span of the values from `low` up to `high`, in which `start` must be.
+    //
+    // Refuses `EmptyRange` before `StartOutside`.
     #[tactic(auto, unfolding(crate::specs::Spans::span_of))]
     pub(crate) fn try_new(low: i32, high: i32, step: u16, start: i32) -> Result<Span, TemplateKind>
         requires low { negsuc 65534 ≤ℤ low }
@@ -46,22 +37,33 @@ impl Span {
         if high < start {
             return Err(TemplateKind::StartOutside);
         }
-        let above = natural(low, start);
+        let above = measure(low, start);
         if above % u32::from(step) != 0 {
             return Err(TemplateKind::StartOutside);
         }
         Ok(Span {
             low,
             step,
-            count: natural(low, high) / u32::from(step) + 1,
+            count: measure(low, high) / u32::from(step) + 1,
             start: above / u32::from(step),
         })
     }
 
-    /// The value of a number, counted from 0.
-    pub(crate) fn value_at(&self, number: u32) -> i64
-        ensures { result ≡ value_at self.now number }
+    // Returns the value at an index.
+    pub(crate) fn value_at(&self, index: u32) -> i64
+        ensures { result ≡ span_value self.now index }
     {
-        i64::from(self.low) + i64::from(number) * i64::from(self.step)
+        i64::from(self.low) + i64::from(index) * i64::from(self.step)
     }
+}
+
+// Returns `to - from`, which is not negative.
+fn measure(from: i32, to: i32) -> u32
+    requires low { negsuc 65534 ≤ℤ from }
+    requires order { from ≤ℤ to }
+    requires high { to ≤ℤ pos 65535 }
+    ensures value { result ≡ natural (to -ℤ from) }
+    ensures small { result ≤ 131070 }
+{
+    (to - from) as u32
 }

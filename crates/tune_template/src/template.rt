@@ -1,12 +1,12 @@
 //! Templates: texts with constants that run over ranges.
 ghost use Rattle.std.specs.Prelude.{◌≡◌, ◌≢◌, ◌<◌, ◌≤◌, ◌/◌, ◌%◌, ◌++◌, ◌∷◌, [], ℕ, ℤ, List, length, map, slice_get, option_map, Some, None, Ok, Err, IfOk, IfErr, OnOk, All};
-ghost use Rattle.rc_instr.specs.Warrior.{IsProgram, Fits};
+ghost use Rattle.rc_instr.specs.Warrior.{IsWarrior, Fits};
 ghost use Rattle.rc_asm.specs.declared.fault.AsmKind.TheVariants.{OutOfMemory as NoRoomToAssemble};
 ghost use Rattle.tune_template.specs.declared.fault.TemplateKind.TheVariants.{OutOfMemory};
 ghost use Rattle.tune_template.specs.Lines.{lines_of};
 ghost use Rattle.tune_template.specs.Ranges.{Ranges, ranges, vector_count, line_added, ranges_from, ranges_of, HasRanges};
 ghost use Rattle.tune_template.specs.Vectors.{vectors_of, start_vector, start_index};
-ghost use Rattle.rc_asm.specs.Faults.{IsFault};
+ghost use Rattle.rc_asm.specs.Faults.{IsAsmFault};
 ghost use Rattle.tune_template.specs.Instances.{TemplateView, constants_of, instance_of};
 ghost use Rattle.tune_template.specs.Steps.{seen_ranges, AreCounted, HasValues};
 
@@ -22,10 +22,10 @@ use rc_instr::{Rules, Warrior};
 use std::alloc::Global;
 use std::marker::Model;
 
-/// How many bytes a template may have.
+// The most bytes of a template.
 const TEXT_LIMIT: usize = 65536;
 
-/// A Redcode text in which up to 8 constants run over ranges of values.
+/// A Redcode text that leaves up to 8 constants open, each with a range of values.
 #[derive(Debug, Drop)]
 pub struct Template {
     text: Vec<u8>,
@@ -48,109 +48,30 @@ impl Model for Template {
         × AreCounted (ranges (map (λ n. n.items) t.names.items) t.spans.items) t.count };
 }
 
-// The fault of a line. Want of memory belongs to no line.
-fn placed(line: u64, kind: TemplateKind) -> TemplateFault
-    ensures fault { kind ≢ OutOfMemory → result ≡ record { line = line; kind = kind } }
-    ensures memory { kind ≡ OutOfMemory → result ≡ record { line = 0; kind = OutOfMemory } }
-{
-    match kind {
-        TemplateKind::OutOfMemory => TemplateFault { line: 0, kind },
-        _ => TemplateFault { line, kind },
-    }
-}
-
-// Adds the range of a line, if it is a range line.
-fn add_line(
-    reading: &mut Reading,
-    alloc: Global,
-    number: u64,
-    line: &[u8],
-) -> Result<(), TemplateFault>
-    requires counted { AreCounted (seen_ranges reading.old) reading.old.count }
-    ensures added { OnOk result (line_added number (seen_ranges reading.old) line.now ≡ Ok (seen_ranges reading.new)) }
-    ensures counted { OnOk result (AreCounted (seen_ranges reading.new) reading.new.count) }
-    ensures refused { IfErr result (λ f. f.kind ≢ OutOfMemory → line_added number (seen_ranges reading.old) line.now ≡ Err f) }
-    ensures memory { IfErr result (λ f. f.kind ≡ OutOfMemory → f.line ≡ 0) }
-{
-    if !is_range_line(line) {
-        return Ok(());
-    }
-    match reading.add(alloc, line) {
-        Ok(()) => Ok(()),
-        Err(kind) => Err(placed(number, kind)),
-    }
-}
-
-// The ranges of a text, line by line.
-fn read_lines(alloc: Global, bytes: &[u8]) -> Result<Reading, TemplateFault>
-    ensures read { IfOk result (λ r. ranges_from 1 (ranges [] []) (lines_of bytes.now) ≡ Ok (seen_ranges r)) }
-    ensures counted { IfOk result (λ r. AreCounted (seen_ranges r) r.count) }
-    ensures refused { IfErr result (λ f. f.kind ≢ OutOfMemory → ranges_from 1 (ranges [] []) (lines_of bytes.now) ≡ Err f) }
-    ensures memory { IfErr result (λ f. f.kind ≡ OutOfMemory → f.line ≡ 0) }
-{
-    let mut reading = Reading::new(alloc);
-    let mut number: u64 = 1;
-    let mut rest = Some(bytes);
-    while let Some(text) = rest {
-        let (line, behind) = first_line(text);
-        add_line(&mut reading, alloc, number, line)?;
-        number += 1;
-        rest = behind;
-    }
-    Ok(reading)
-}
-
-// The values of the vector of a number, where there are so many vectors.
-fn values_of(spans: &[Span], count: u32, number: u32) -> Vector
-    requires few { length spans.now ≤ 8 }
-    requires values { All HasValues spans.now }
-    requires count { vector_count spans.now ≡ count }
-    requires inside { number < count }
-    ensures { slice_get (vectors_of spans.now) number ≡ Some result }
-{
-    let mut vector = Vector::new();
-    let mut size = count;
-    let mut place = number;
-    let mut rest = spans;
-    while let Some((span, after)) = rest.split_first() {
-        size /= span.count;
-        vector.push(span.value_at(place / size));
-        place %= size;
-        rest = after;
-    }
-    vector
-}
-
-// The number of the vector of the start values, where there are so many vectors.
-fn start_of(spans: &[Span], count: u32) -> u32
-    requires values { All HasValues spans.now }
-    requires count { vector_count spans.now ≡ count }
-    ensures start { slice_get (vectors_of spans.now) result ≡ Some (start_vector spans.now) }
-    ensures inside { result < length (vectors_of spans.now) }
-{
-    let mut number = 0;
-    let mut size = count;
-    let mut rest = spans;
-    while let Some((span, after)) = rest.split_first() {
-        size /= span.count;
-        number += span.start * size;
-        rest = after;
-    }
-    number
-}
-
 impl Template {
-    /// The template that a text is.
+    /// Parses a template.
     ///
-    /// A line that begins with `;@tune`, followed by a blank or the line's end, is a range, wherever it stands: `;@tune NAME LOW HIGH STEP
-    /// START`, five words parted by blanks. The constant NAME runs over LOW, LOW + STEP, .. up to HIGH, and a search begins with START,
-    /// which is one of these values. NAME is a letter or `_` and then letters, digits and `_`. LOW, HIGH and START are -65535 to 65535,
-    /// STEP is 1 to 65535, each an optional minus and 1 to 5 digits. For the assembler these lines are comments. (This project's own.)
+    /// A line `;@tune NAME LOW HIGH STEP START` is a range, wherever it is in the text. Its five
+    /// words are parted by blanks; a blank or the end of the line follows `;@tune`. The constant
+    /// NAME has the values LOW, LOW + STEP, .. up to HIGH, and a search begins with START, which is
+    /// one of them. NAME is a letter or `_`, then letters, digits and `_`. LOW, HIGH and START are
+    /// -65535 to 65535, written as an optional minus and 1 to 5 digits; STEP is 1 to 65535. The
+    /// assembler takes these lines for comments.
     ///
-    /// Refuses `TextTooLong`, at line 0, where the text has more than 65536 bytes; and then the first line that has one of these faults, of
-    /// which the first in this order is named: `TooManyConstants`, a ninth range; `BadLine`, a range that is not of its form;
-    /// `ReservedName`, a reserved word or a predefined name; `DuplicateName`, a constant of an earlier line; `EmptyRange`, LOW above HIGH;
-    /// `StartOutside`; `TooManyVectors`, more than 1000000 vectors. `OutOfMemory`, at line 0, is answered where memory was refused.
+    /// # Errors
+    ///
+    /// `TextTooLong`, at line 0, if the text has more than 65536 bytes. Else the first faulty line
+    /// is reported, with the first of its faults in this order:
+    ///
+    /// - `TooManyConstants`: it is the ninth range.
+    /// - `BadLine`: it is malformed.
+    /// - `ReservedName`: the constant is a reserved word or a predefined name.
+    /// - `DuplicateName`: an earlier line has the same constant.
+    /// - `EmptyRange`: LOW is above HIGH.
+    /// - `StartOutside`: START is not one of the values.
+    /// - `TooManyVectors`: there are more than 1000000 settings.
+    ///
+    /// `OutOfMemory`, at line 0, can come at any point.
     #[tactic(auto, unfolding(crate::specs::Ranges::ranges_of))]
     pub fn read(alloc: Global, bytes: &[u8]) -> Result<Template, TemplateFault>
         ensures read { IfOk result (λ t. (t.text ≡ bytes.now) × HasRanges bytes.now t.ranges) }
@@ -177,7 +98,7 @@ impl Template {
         })
     }
 
-    /// How many vectors there are, 1 to 1000000.
+    /// Returns the number of settings, 1 to 1000000.
     #[tactic(auto, using(crate::proofs::VectorSteps::vectors_len, crate::proofs::VectorSteps::some_vector))]
     pub fn count(&self) -> u32
         ensures count { result ≡ length (vectors_of self.now.ranges.spans) }
@@ -187,8 +108,9 @@ impl Template {
         self.count
     }
 
-    /// The vector of a number below `count`, counted from 0: one value for each constant. Vectors are in lexicographic order, the
-    /// first constant the slowest, and values rise.
+    /// Returns setting `number`, counted from 0, which must be below `count`: one value for each
+    /// constant. Settings are in lexicographic order, with the first constant slowest and rising
+    /// values.
     pub fn vector(&self, number: u32) -> Vector
         requires { number < length (vectors_of self.now.ranges.spans) }
         ensures { slice_get (vectors_of self.now.ranges.spans) number ≡ Some result }
@@ -196,7 +118,7 @@ impl Template {
         values_of(&self.spans, self.count, number)
     }
 
-    /// The number of the vector of the start values.
+    /// Returns the index of the setting of the start values.
     pub fn start_number(&self) -> u32
         ensures start { slice_get (vectors_of self.now.ranges.spans) result ≡ Some (start_vector self.now.ranges.spans) }
         ensures inside { result < length (vectors_of self.now.ranges.spans) }
@@ -204,23 +126,24 @@ impl Template {
         start_of(&self.spans, self.count)
     }
 
-    /// The constants, in the order of their lines.
+    /// Returns the constants, in the order of their lines.
     pub fn names(&self) -> &[Vec<u8>]
         ensures { map (λ n. n.items) result.now ≡ self.now.ranges.names }
     {
         self.names.as_slice()
     }
 
-    /// The warrior to which the text assembles under the rules with the values of the vector of a number below `count`, or the fault of
-    /// the text with these values (`rc_asm::assemble`).
+    /// Assembles the text with the values of setting `number`, which must be below `count`.
+    ///
+    /// Fails as `rc_asm::assemble` does for the text with these values.
     pub fn instance(&self, alloc: Global, number: u32, rules: &Rules) -> Result<Warrior, AsmFault>
         requires { number < length (vectors_of self.now.ranges.spans) }
         ensures warrior { IfOk result (λ w. instance_of self.now rules.now number ≡ Some w) }
-        ensures program { IfOk result IsProgram }
+        ensures is_warrior { IfOk result IsWarrior }
         ensures fits { IfOk result (Fits rules.now) }
         ensures refused { IfErr result (λ f. f.kind ≢ NoRoomToAssemble → instance_of self.now rules.now number ≡ None) }
         ensures fault { IfErr result (λ f. f.kind ≢ NoRoomToAssemble → (x : List ℤ) → slice_get (vectors_of self.now.ranges.spans) number ≡ Some x →
-            IsFault self.now.text (constants_of self.now.ranges.names x) rules.now f) }
+            IsAsmFault self.now.text (constants_of self.now.ranges.names x) rules.now f) }
         ensures memory { IfErr result (λ f. f.kind ≡ NoRoomToAssemble → f.line ≡ 0) }
     {
         assembly_is_computed();
@@ -231,4 +154,94 @@ impl Template {
         };
         assemble(alloc, &self.text, &constants, rules)
     }
+}
+
+// Gives a fault its line. `OutOfMemory` is always at line 0.
+fn at_line(line: u64, kind: TemplateKind) -> TemplateFault
+    ensures fault { kind ≢ OutOfMemory → result ≡ record { line = line; kind = kind } }
+    ensures memory { kind ≡ OutOfMemory → result ≡ record { line = 0; kind = OutOfMemory } }
+{
+    match kind {
+        TemplateKind::OutOfMemory => TemplateFault { line: 0, kind },
+        _ => TemplateFault { line, kind },
+    }
+}
+
+// Adds the constant of a line, if it is a range line.
+fn add_line(
+    reading: &mut Reading,
+    alloc: Global,
+    number: u64,
+    line: &[u8],
+) -> Result<(), TemplateFault>
+    requires counted { AreCounted (seen_ranges reading.old) reading.old.count }
+    ensures added { OnOk result (line_added number (seen_ranges reading.old) line.now ≡ Ok (seen_ranges reading.new)) }
+    ensures counted { OnOk result (AreCounted (seen_ranges reading.new) reading.new.count) }
+    ensures refused { IfErr result (λ f. f.kind ≢ OutOfMemory → line_added number (seen_ranges reading.old) line.now ≡ Err f) }
+    ensures memory { IfErr result (λ f. f.kind ≡ OutOfMemory → f.line ≡ 0) }
+{
+    if !is_range_line(line) {
+        return Ok(());
+    }
+    match reading.add(alloc, line) {
+        Ok(()) => Ok(()),
+        Err(kind) => Err(at_line(number, kind)),
+    }
+}
+
+fn read_lines(alloc: Global, bytes: &[u8]) -> Result<Reading, TemplateFault>
+    ensures read { IfOk result (λ r. ranges_from 1 (ranges [] []) (lines_of bytes.now) ≡ Ok (seen_ranges r)) }
+    ensures counted { IfOk result (λ r. AreCounted (seen_ranges r) r.count) }
+    ensures refused { IfErr result (λ f. f.kind ≢ OutOfMemory → ranges_from 1 (ranges [] []) (lines_of bytes.now) ≡ Err f) }
+    ensures memory { IfErr result (λ f. f.kind ≡ OutOfMemory → f.line ≡ 0) }
+{
+    let mut reading = Reading::new(alloc);
+    let mut number: u64 = 1;
+    let mut rest = Some(bytes);
+    while let Some(text) = rest {
+        let (line, others) = first_line(text);
+        add_line(&mut reading, alloc, number, line)?;
+        number += 1;
+        rest = others;
+    }
+    Ok(reading)
+}
+
+// Decodes setting `number` of `count`: one digit for each span, the first constant slowest.
+fn values_of(spans: &[Span], count: u32, number: u32) -> Vector
+    requires few { length spans.now ≤ 8 }
+    requires values { All HasValues spans.now }
+    requires count { vector_count spans.now ≡ count }
+    requires inside { number < count }
+    ensures { slice_get (vectors_of spans.now) number ≡ Some result }
+{
+    let mut vector = Vector::new();
+    let mut size = count;
+    let mut place = number;
+    let mut rest = spans;
+    while let Some((span, after)) = rest.split_first() {
+        size /= span.count;
+        vector.push(span.value_at(place / size));
+        place %= size;
+        rest = after;
+    }
+    vector
+}
+
+// Encodes the setting of the start values, as `values_of` decodes it.
+fn start_of(spans: &[Span], count: u32) -> u32
+    requires values { All HasValues spans.now }
+    requires count { vector_count spans.now ≡ count }
+    ensures start { slice_get (vectors_of spans.now) result ≡ Some (start_vector spans.now) }
+    ensures inside { result < length (vectors_of spans.now) }
+{
+    let mut number = 0;
+    let mut size = count;
+    let mut rest = spans;
+    while let Some((span, after)) = rest.split_first() {
+        size /= span.count;
+        number += span.start * size;
+        rest = after;
+    }
+    number
 }

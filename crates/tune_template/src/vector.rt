@@ -1,10 +1,10 @@
-//! Vectors of values.
+//! Settings: one value for each constant. The code and the formats call them vectors.
 ghost use Rattle.std.specs.Prelude.{◌≡◌, ◌<◌, ◌≤◌, ◌++◌, ◌∷◌, [], length};
 
 use arrayvec::ArrayVec;
 use std::marker::Model;
 
-/// One value for each constant of a template, in the order of its lines: at most 8.
+/// A setting: one value for each constant of a template, in the order of its lines. At most 8.
 #[derive(Clone, Debug, Drop)]
 pub struct Vector {
     values: ArrayVec<i64, 8>,
@@ -19,7 +19,6 @@ impl Model for Vector {
 }
 
 impl Vector {
-    /// No value yet.
     pub(crate) fn new() -> Self
         ensures { result ≡ [] }
     {
@@ -28,7 +27,6 @@ impl Vector {
         }
     }
 
-    /// Adds a value behind the others, of which there are fewer than 8.
     pub(crate) fn push(&mut self, value: i64)
         requires { length self.old < 8 }
         ensures { self.new ≡ self.old ++ value ∷ [] }
@@ -36,7 +34,7 @@ impl Vector {
         self.values.push(value);
     }
 
-    /// The values, in the order of the constants.
+    /// Returns the values, in the order of the constants.
     pub fn as_slice(&self) -> &[i64]
         ensures { result.now ≡ self.now }
     {

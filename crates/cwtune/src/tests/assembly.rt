@@ -1,4 +1,4 @@
-//! Texts that are assembled, worked out by hand.
+//! `asm_run` and the command `asm`.
 use crate::tests::stand_ins::{Broken, Shelf, ran};
 use crate::{RunFault, asm_run};
 use rc_asm::{AsmFault, AsmKind};
@@ -8,17 +8,18 @@ use rc_text::{EvalFault, LexFault};
 use std::alloc::Global;
 use std::test::Fail;
 
-/// What a run answers under small rules, and what it wrote.
+// Assembles `source` under rules of 16 cells, length 4 and distance 4. Returns the result, and what
+// was written.
 fn assembled(alloc: Global, source: &[u8]) -> (Result<(), RunFault>, Vec<u8>) {
     let mut out = Outlet::new(Vec::new(alloc));
-    let answer = match Rules::try_new(16, 20, 4, 4, 4) {
+    let result = match Rules::try_new(16, 20, 4, 4, 4) {
         Ok(rules) => asm_run(alloc, source, &rules, &mut out),
         Err(error) => Err(RunFault::Rules(error)),
     };
-    (answer, out.into_inner())
+    (result, out.into_inner())
 }
 
-/// Redcode texts, and the load files of their warriors.
+// Redcode texts, and the load files of their warriors.
 const TEXTS: [(&[u8], &[u8]); 5] = [
     (b"s EQU 2+3\nDAT #0, #s*2\n", b"ORG 0\nDAT.F #0, #8\n"),
     (b"DAT #-7/2\n", b"ORG 0\nDAT.F $0, #-3\n"),
@@ -39,13 +40,13 @@ const TEXTS: [(&[u8], &[u8]); 5] = [
 #[test]
 fn a_text_gives_the_load_file_of_its_warrior(rt: HostRuntime) {
     for (source, file) in TEXTS {
-        let (answer, written) = assembled(rt.alloc(), source);
-        assert_eq!(rt; answer, Ok(()), "{source:?}");
+        let (result, written) = assembled(rt.alloc(), source);
+        assert_eq!(rt; result, Ok(()), "{source:?}");
         assert_eq!(rt; written.as_slice(), file, "{source:?}");
     }
 }
 
-/// Texts that are refused, and where and why.
+// Refused texts, and the line and kind of their fault.
 const REFUSALS: [(&[u8], u64, AsmKind); 11] = [
     (b"", 0, AsmKind::Warrior(WarriorError::Empty)),
     (b"MOV 1\n", 1, AsmKind::MissingOperand),
@@ -69,11 +70,11 @@ const REFUSALS: [(&[u8], u64, AsmKind); 11] = [
 ];
 
 #[test]
-fn a_text_that_assembles_to_no_warrior_is_refused(rt: HostRuntime) {
+fn a_text_that_does_not_assemble_is_refused(rt: HostRuntime) {
     for (source, line, kind) in REFUSALS {
-        let (answer, written) = assembled(rt.alloc(), source);
+        let (result, written) = assembled(rt.alloc(), source);
         assert_eq!(rt;
-            answer,
+            result,
             Err(RunFault::Asm(AsmFault { line, kind })),
             "{source:?}"
         );
@@ -82,7 +83,7 @@ fn a_text_that_assembles_to_no_warrior_is_refused(rt: HostRuntime) {
 }
 
 #[test]
-fn a_writer_that_fails_is_told(rt: HostRuntime) {
+fn a_write_failure_is_reported(rt: HostRuntime) {
     let mut out = Outlet::new(Broken);
     assert_eq!(rt;
         asm_run(rt.alloc(), b"DAT 0\n", &Rules::standard(), &mut out),
@@ -91,7 +92,7 @@ fn a_writer_that_fails_is_told(rt: HostRuntime) {
     assert!(rt; out.failed());
 }
 
-/// Files to be assembled.
+// The files that the commands read.
 const SHELF: Shelf<'static> = Shelf(&[
     ("-", Some(b"DAT -1\n")),
     ("core.red", Some(b"DAT CORESIZE-1, MAXLENGTH\n")),
@@ -104,7 +105,7 @@ const SHELF: Shelf<'static> = Shelf(&[
     ("folder", None),
 ]);
 
-/// Words, and the status, the standard output and the standard error that they lead to.
+// Words, and the exit status, the standard output and the standard error.
 const ROWS: [(&[&str], u8, &str, &str); 11] = [
     (&["asm", "-"], 0, "ORG 0\nDAT.F $0, $-1\n", ""),
     (&["asm", "core.red"], 0, "ORG 0\nDAT.F $-1, $100\n", ""),
@@ -129,7 +130,7 @@ const ROWS: [(&[&str], u8, &str, &str); 11] = [
         "ORG 0\nDAT.F $-1, $4\n",
         "",
     ),
-    // the defaults
+    // the defaults of all options
     (
         &["asm", "rules.red"],
         0,

@@ -1,5 +1,6 @@
-//! Checks of certificates worked out by hand: a core of 16 cells, for 20 cycles, 4 tasks, 4 instructions, a distance of 4.
-use crate::tests::stand_ins::{Broken, Shelf, ran};
+//! `check_run` and the command `check`, under rules of 16 cells, 20 cycles, 4 tasks, length 4 and
+//! distance 4.
+use crate::tests::stand_ins::{Broken, CommandRow, Shelf, assert_runs};
 use crate::tests::tuning::{BOTH, DAT, IMP, texts_of};
 use crate::{RunFault, check_run};
 use mars_fight::{ScheduleFault, ScheduleFaultKind};
@@ -9,10 +10,10 @@ use std::alloc::Global;
 use std::test::Fail;
 use tune_template::{TemplateFault, TemplateKind};
 
-/// Four vectors with the same warrior, an imp.
+// Four settings with one warrior, an imp.
 const IMPS: &[u8] = b";@tune K 0 3 1 2\nMOV 0, 1";
 
-/// What a run answers, and the line that it wrote.
+// Checks a certificate. Returns the result, and the line that was written.
 fn checked(
     alloc: Global,
     template: &[u8],
@@ -23,7 +24,7 @@ fn checked(
     let rules = Rules::try_new(16, 20, 4, 4, 4)?;
     let opponents = texts_of(alloc, opponents)?;
     let mut out = Outlet::new(Vec::new(alloc));
-    let answer = check_run(
+    let result = check_run(
         alloc,
         template,
         opponents.as_slice(),
@@ -32,23 +33,23 @@ fn checked(
         cert,
         &mut out,
     );
-    Ok((answer, out.into_inner()))
+    Ok((result, out.into_inner()))
 }
 
-/// Certificates of `IMPS`, whether they are accepted, and the line.
+// Certificates of `IMPS`, whether they are accepted, and the line.
 const VERDICTS: [(&[u8], bool, &str); 24] = [
     (
         b"cwcert,1,4\nbest,0,4\ncap,0,0:3 1:1\nsame,1,2\ncap,2,0:3 1:1\nsame,3,2\n",
         true,
         "accepted best 0 total 4\n",
     ),
-    // every row may list all fights
+    // each row may list all fights, without a same row
     (
         b"cwcert,1,4\nbest,0,4\ncap,0,0:3 1:1\ncap,1,0:3 1:1\ncap,2,0:3 1:1\ncap,3,0:3 1:1\n",
         true,
         "accepted best 0 total 4\n",
     ),
-    // a row need not list more than what keeps its vector behind the best, nor in which order they were played
+    // a row may list only the fights that keep its cap low enough
     (
         b"cwcert,1,4\nbest,0,4\ncap,0,0:3 1:1\ncap,1,1:1\ncap,2,1:1\nsame,3,0\n",
         true,
@@ -156,33 +157,33 @@ const VERDICTS: [(&[u8], bool, &str); 24] = [
 ];
 
 #[test]
-fn the_line_tells_the_verdict(rt: HostRuntime) -> Result<(), Fail> {
+fn the_line_is_the_verdict(rt: HostRuntime) -> Result<(), Fail> {
     for (cert, accepted, want) in VERDICTS {
-        let (answer, line) = checked(rt.alloc(), IMPS, &[DAT, IMP], BOTH, cert)?;
+        let (result, line) = checked(rt.alloc(), IMPS, &[DAT, IMP], BOTH, cert)?;
         assert_eq!(rt; line.as_slice(), want.as_bytes(), "{cert:?}");
-        assert_eq!(rt; answer, Ok(accepted), "{cert:?}");
+        assert_eq!(rt; result, Ok(accepted), "{cert:?}");
     }
     Ok(())
 }
 
 #[test]
-fn no_cut_but_the_last_byte_is_accepted(rt: HostRuntime) -> Result<(), Fail> {
+fn only_the_last_byte_may_be_missing(rt: HostRuntime) -> Result<(), Fail> {
     let whole: &[u8] = b"cwcert,1,4\nbest,0,4\ncap,0,0:3 1:1\nsame,1,2\ncap,2,0:3 1:1\nsame,3,2\n";
     for end in 0..whole.len() {
-        let (answer, _) = checked(rt.alloc(), IMPS, &[DAT, IMP], BOTH, &whole[..end])?;
-        assert_eq!(rt; answer, Ok(end + 1 == whole.len()), "{end}");
+        let (result, _) = checked(rt.alloc(), IMPS, &[DAT, IMP], BOTH, &whole[..end])?;
+        assert_eq!(rt; result, Ok(end + 1 == whole.len()), "{end}");
     }
     Ok(())
 }
 
-/// Templates and certificates, in the same two fights, and the line of each.
+// Templates and certificates, both in the fights of `BOTH`, and the line of each.
 const OTHERS: [(&[u8], &[u8], &str); 6] = [
     (
         b";@tune K 0 2 1 1\nMOV 0, 1\nDAT 1/K",
         b"cwcert,1,3\nbest,1,4\nrefused,0,-\ncap,1,0:3 1:1\ncap,2,1:1\n",
         "accepted best 1 total 4\n",
     ),
-    // no warrior is made of the first vector
+    // a cap row of a setting that does not assemble
     (
         b";@tune K 0 2 1 1\nMOV 0, 1\nDAT 1/K",
         b"cwcert,1,3\nbest,1,4\ncap,0,-\ncap,1,0:3 1:1\ncap,2,1:1\n",
@@ -193,13 +194,13 @@ const OTHERS: [(&[u8], &[u8], &str); 6] = [
         b"cwcert,1,3\nbest,0,4\ncap,0,0:3 1:1\ncap,1,0:3 1:1\ncap,2,1:1\n",
         "rejected row 2 WrongPoints\n",
     ),
-    // equal points, and unequal warriors
+    // a same row of unequal warriors with equal points
     (
         b";@tune K 0 2 1 1\nMOV 0, 1\nDAT K",
         b"cwcert,1,3\nbest,0,4\ncap,0,0:3 1:1\nsame,1,0\ncap,2,1:1\n",
         "rejected row 3 NotSame\n",
     ),
-    // a later vector is not the best at the same total
+    // of equal totals, the first setting is the best
     (
         b";@tune K 0 2 1 1\nMOV 0, 1\nDAT K",
         b"cwcert,1,3\nbest,1,4\ncap,0,0:3 1:1\ncap,1,0:3 1:1\ncap,2,1:1\n",
@@ -222,20 +223,20 @@ fn rows_are_checked_against_their_warriors(rt: HostRuntime) -> Result<(), Fail> 
 }
 
 #[test]
-fn a_vector_without_a_fight_is_enough_behind_the_best(rt: HostRuntime) -> Result<(), Fail> {
-    let (answer, line) = checked(
+fn a_row_after_the_best_may_list_no_fight(rt: HostRuntime) -> Result<(), Fail> {
+    let (result, line) = checked(
         rt.alloc(),
         b";@tune K 0 2 1 1\nMOV 0, 1\nDAT K",
         &[DAT],
         b"opponent,position,first\n0,8,c\n",
         b"cwcert,1,3\nbest,0,3\ncap,0,0:3\ncap,1,0:3\ncap,2,-\n",
     )?;
-    assert_eq!(rt; answer, Ok(true));
+    assert_eq!(rt; result, Ok(true));
     assert_eq!(rt; line.as_slice(), b"accepted best 0 total 3\n".as_slice());
     Ok(())
 }
 
-/// Templates, opponents and schedules that are refused, whatever the certificate, and why.
+// Refused templates, opponents and schedules, and the fault, which no certificate changes.
 const REFUSALS: [(&[u8], &[&[u8]], &[u8], RunFault); 4] = [
     (
         b";@tune K 3 2 1 3\n",
@@ -271,35 +272,35 @@ const REFUSALS: [(&[u8], &[&[u8]], &[u8], RunFault); 4] = [
 ];
 
 #[test]
-fn the_first_reason_is_named_and_nothing_written(rt: HostRuntime) -> Result<(), Fail> {
+fn the_first_fault_is_reported_and_nothing_written(rt: HostRuntime) -> Result<(), Fail> {
     for (template, opponents, schedule, want) in REFUSALS {
-        let (answer, line) = checked(rt.alloc(), template, opponents, schedule, b"")?;
-        assert_eq!(rt; answer, Err(want), "{template:?} {schedule:?}");
+        let (result, line) = checked(rt.alloc(), template, opponents, schedule, b"")?;
+        assert_eq!(rt; result, Err(want), "{template:?} {schedule:?}");
         assert!(rt; line.is_empty(), "{template:?} {schedule:?}");
     }
     Ok(())
 }
 
 #[test]
-fn a_template_without_a_warrior_has_no_valid_certificate(rt: HostRuntime) -> Result<(), Fail> {
-    let (answer, line) = checked(
+fn a_template_that_does_not_assemble_has_no_valid_certificate(rt: HostRuntime) -> Result<(), Fail> {
+    let (result, line) = checked(
         rt.alloc(),
         b";@tune K 0 1 1 0\nK DAT 0",
         &[DAT, IMP],
         BOTH,
         b"cwcert,1,2\nbest,0,0\nrefused,0,-\nrefused,1,-\n",
     )?;
-    assert_eq!(rt; answer, Ok(false));
+    assert_eq!(rt; result, Ok(false));
     assert_eq!(rt; line.as_slice(), b"rejected row 1 BestRow\n".as_slice());
     Ok(())
 }
 
 #[test]
-fn a_line_that_cannot_be_written_is_told(rt: HostRuntime) -> Result<(), Fail> {
+fn a_write_failure_is_reported(rt: HostRuntime) -> Result<(), Fail> {
     let rules = Rules::try_new(16, 20, 4, 4, 4)?;
     let opponents = texts_of(rt.alloc(), &[DAT, IMP])?;
     let mut out = Outlet::new(Broken);
-    let answer = check_run(
+    let result = check_run(
         rt.alloc(),
         IMPS,
         opponents.as_slice(),
@@ -308,12 +309,12 @@ fn a_line_that_cannot_be_written_is_told(rt: HostRuntime) -> Result<(), Fail> {
         b"",
         &mut out,
     );
-    assert_eq!(rt; answer, Err(RunFault::Write));
+    assert_eq!(rt; result, Err(RunFault::Write));
     assert!(rt; out.failed());
     Ok(())
 }
 
-/// The files of a check.
+// The files that the commands read.
 const SHELF: Shelf<'static> = Shelf(&[
     ("imps.red", Some(IMPS)),
     ("empty.red", Some(b";@tune K 3 2 1 3")),
@@ -328,7 +329,7 @@ const SHELF: Shelf<'static> = Shelf(&[
     ("folder", None),
 ]);
 
-/// The options of the rules.
+// The command, and options for small rules.
 const SMALL: [&str; 6] = [
     "check",
     "--core=16",
@@ -338,11 +339,8 @@ const SMALL: [&str; 6] = [
     "--distance=4",
 ];
 
-/// The words behind those of the rules, and the status, the standard output and the standard error that they lead to.
-type Row = (&'static [&'static str], u8, &'static str, &'static str);
-
-/// Runs of the command.
-const ROWS: [Row; 7] = [
+// Runs of the command.
+const ROWS: [CommandRow; 7] = [
     (
         &["imps.red", "both.csv", "good.cert", "dat.red", "imp.red"],
         0,
@@ -361,7 +359,7 @@ const ROWS: [Row; 7] = [
         "",
         "refused: Template line 1 EmptyRange\n",
     ),
-    // the files are read in the order of the words
+    // the files are read in the order of their words
     (
         &["imps.red", "both.csv", "folder", "no.red"],
         3,
@@ -390,19 +388,5 @@ const ROWS: [Row; 7] = [
 
 #[test]
 fn the_command_checks_a_file(rt: HostRuntime) -> Result<(), Fail> {
-    for (given, status, out, err) in ROWS {
-        let mut words = Vec::new(rt.alloc());
-        words.extend_from_slice(&SMALL)?;
-        words.extend_from_slice(given)?;
-        let ended = ran(rt.alloc(), &SHELF, words.as_slice(), b"")?;
-        assert!(rt;
-            ended.err.as_slice().starts_with(err.as_bytes()),
-            "{given:?}: {:?}",
-            ended.err
-        );
-        assert_eq!(rt; ended.err.is_empty(), err.is_empty(), "{given:?}");
-        assert_eq!(rt; ended.out.as_slice(), out.as_bytes(), "{given:?}");
-        assert_eq!(rt; ended.status, status, "{given:?}");
-    }
-    Ok(())
+    assert_runs(&rt, rt.alloc(), &SHELF, &SMALL, &ROWS)
 }

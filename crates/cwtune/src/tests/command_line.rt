@@ -1,4 +1,4 @@
-//! What words lead to.
+//! Command lines, and the exit status and output of each.
 use crate::program::{end_without_words, program};
 use crate::tests::fights::IMPS;
 use crate::tests::stand_ins::{Broken, Shelf, ran, words_of};
@@ -6,10 +6,10 @@ use rc_instr::Outlet;
 use std::io;
 use std::test::Fail;
 
-/// No file.
+// A shelf with no file.
 const NONE: Shelf<'static> = Shelf(&[]);
 
-/// Words and an input, and the status, the standard output and the standard error that they lead to.
+// Words and an input, and the exit status, the standard output and the standard error.
 type Row = (
     &'static [&'static str],
     &'static [u8],
@@ -18,7 +18,7 @@ type Row = (
     &'static str,
 );
 
-/// Runs without a file.
+// Runs that read no file.
 const ROWS: [Row; 16] = [
     (&[], IMPS, 0, "tie 1 turns 40\n", ""),
     (&["fight"], IMPS, 0, "tie 1 turns 40\n", ""),
@@ -68,7 +68,7 @@ const ROWS: [Row; 16] = [
         "",
         "failed: read --core\n",
     ),
-    // the rules are made before the file is read
+    // the rules are checked before the file is read
     (
         &["asm", "--distance", "4294967295", "no.red"],
         b"",
@@ -100,7 +100,7 @@ const ROWS: [Row; 16] = [
 ];
 
 #[test]
-fn the_status_tells_what_came_of_it(rt: HostRuntime) -> Result<(), Fail> {
+fn runs_end_with_their_status_and_output(rt: HostRuntime) -> Result<(), Fail> {
     for (given, input, status, out, err) in ROWS {
         let ended = ran(rt.alloc(), &NONE, given, input)?;
         assert_eq!(rt; ended.status, status, "{given:?} {input:?}");
@@ -110,7 +110,7 @@ fn the_status_tells_what_came_of_it(rt: HostRuntime) -> Result<(), Fail> {
     Ok(())
 }
 
-/// Words that are no command line, and with what `clap`'s text begins.
+// Usage errors, and how `clap`'s text begins.
 const MISUSES: [(&[&str], &str); 14] = [
     (&["fights"], "error: unrecognized subcommand 'fights'\n"),
     (&[""], "error: unrecognized subcommand ''\n"),
@@ -162,7 +162,7 @@ const MISUSES: [(&[&str], &str); 14] = [
 ];
 
 #[test]
-fn words_that_are_no_command_line_are_told(rt: HostRuntime) -> Result<(), Fail> {
+fn usage_errors_are_reported(rt: HostRuntime) -> Result<(), Fail> {
     for (given, text) in MISUSES {
         let ended = ran(rt.alloc(), &NONE, given, IMPS)?;
         assert_eq!(rt; ended.status, 2, "{given:?}");
@@ -177,7 +177,7 @@ fn words_that_are_no_command_line_are_told(rt: HostRuntime) -> Result<(), Fail> 
     Ok(())
 }
 
-/// Words that ask for help, and a line of it.
+// Words that ask for help, and a part of the help.
 const HELPS: [(&[&str], &str); 11] = [
     (&["--help"], "\nUsage: cwtune [COMMAND]\n"),
     (&["-h"], "\nUsage: cwtune [COMMAND]\n"),
@@ -207,7 +207,7 @@ fn help_is_written_on_standard_output(rt: HostRuntime) -> Result<(), Fail> {
     Ok(())
 }
 
-/// Words and an input, and the status where no write succeeds.
+// Words and an input, and the exit status if each write fails.
 const UNWRITTEN: [(&[&str], &[u8], u8); 4] = [
     (&[], IMPS, 3),
     (&["--help"], b"", 3),
@@ -216,9 +216,7 @@ const UNWRITTEN: [(&[&str], &[u8], u8); 4] = [
 ];
 
 #[test]
-fn a_write_that_fails_is_told_and_on_standard_error_changes_nothing(
-    rt: HostRuntime,
-) -> Result<(), Fail> {
+fn a_write_failure_is_reported_unless_on_standard_error(rt: HostRuntime) -> Result<(), Fail> {
     let alloc = rt.alloc();
     for (given, input, status) in UNWRITTEN {
         let words = words_of(alloc, given)?;
@@ -255,7 +253,7 @@ fn a_write_that_fails_is_told_and_on_standard_error_changes_nothing(
 }
 
 #[test]
-fn an_input_that_cannot_be_read_is_told(rt: HostRuntime) {
+fn a_read_failure_is_reported(rt: HostRuntime) {
     let alloc = rt.alloc();
     let mut out = Outlet::new(Vec::new(alloc));
     let mut err = Outlet::new(Vec::new(alloc));
@@ -266,7 +264,7 @@ fn an_input_that_cannot_be_read_is_told(rt: HostRuntime) {
 }
 
 #[test]
-fn words_that_cannot_be_had_are_told(rt: HostRuntime) {
+fn unreadable_arguments_are_reported(rt: HostRuntime) {
     let table = [
         (
             io::ErrorKind::InvalidData,

@@ -1,13 +1,13 @@
-//! The line of each fault.
+//! The line that reports each fault.
 use crate::RunFault;
-use crate::fault_line::{tell_run, tell_unread};
+use crate::fault_line::{say_file, say_run};
 use mars_core::Side;
 use rc_asm::{AsmFault, AsmKind};
 use rc_expand::ExpandKind;
 use rc_instr::{LoadFault, Outlet, RulesError, WarriorError};
 use rc_text::{EvalFault, LexFault};
 
-/// Faults of runs, and their lines.
+// Faults of runs, and their lines.
 const RUNS: [(RunFault, &str); 13] = [
     (
         RunFault::FightText {
@@ -62,7 +62,7 @@ const RUNS: [(RunFault, &str); 13] = [
     (RunFault::OutOfMemory, "failed: OutOfMemory\n"),
 ];
 
-/// Faults of an assembly, and what their lines end with.
+// Faults of assembly, and how their lines end.
 const ASSEMBLIES: [(AsmKind, &str); 27] = [
     (
         AsmKind::Expand(ExpandKind::Text(LexFault::BadByte)),
@@ -133,17 +133,19 @@ const ASSEMBLIES: [(AsmKind, &str); 27] = [
 fn the_line_of_a_fault_names_its_variants(rt: HostRuntime) {
     for (fault, line) in RUNS {
         let mut err = Outlet::new(Vec::new(rt.alloc()));
-        assert!(rt; tell_run(&mut err, fault).is_ok());
+        assert!(rt; say_run(&mut err, fault).is_ok());
         assert_eq!(rt; err.into_inner().as_slice(), line.as_bytes(), "{fault:?}");
     }
 }
 
 #[test]
-fn the_line_of_an_assembly_has_its_line_and_names(rt: HostRuntime) -> Result<(), std::test::Fail> {
+fn the_line_of_an_assembly_fault_has_its_line_and_names(
+    rt: HostRuntime,
+) -> Result<(), std::test::Fail> {
     for (kind, names) in ASSEMBLIES {
         let mut err = Outlet::new(Vec::new(rt.alloc()));
         let fault = RunFault::Asm(AsmFault { line: 0, kind });
-        assert!(rt; tell_run(&mut err, fault).is_ok());
+        assert!(rt; say_run(&mut err, fault).is_ok());
         let line = format!(in rt.alloc(); "refused: Asm line 0 {names}\n")?;
         assert_eq!(rt; err.into_inner().as_slice(), line.as_bytes(), "{kind:?}");
     }
@@ -153,7 +155,7 @@ fn the_line_of_an_assembly_has_its_line_and_names(rt: HostRuntime) -> Result<(),
 #[test]
 fn a_file_that_cannot_be_read_is_named_as_given(rt: HostRuntime) {
     let mut err = Outlet::new(Vec::new(rt.alloc()));
-    assert!(rt; tell_unread(&mut err, "no/such file").is_ok());
+    assert!(rt; say_file(&mut err, "read", "no/such file").is_ok());
     assert_eq!(rt;
         err.into_inner().as_slice(),
         b"failed: read no/such file\n".as_slice()

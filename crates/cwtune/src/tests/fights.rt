@@ -1,23 +1,22 @@
-//! Fights from bytes, worked out by hand.
-use crate::RunFault;
-use crate::fight::fight_run;
+//! `fight_run`: fight texts worked out by hand.
 use crate::tests::stand_ins::Broken;
+use crate::{RunFault, fight_run};
 use mars_core::Side;
 use rc_instr::{LoadFault, Outlet, RulesError, WarriorError};
 use std::alloc::Global;
 
-/// Two imps, which tie.
+// Two imps, which tie.
 pub(crate) const IMPS: &[u8] =
     b"rules 16 20 4 4 4\nfight 8 c\ncandidate\nORG 0\nMOV.I $0, $1\nopponent\nORG 0\nMOV.I $0, $1\n";
 
-/// What a run answers, and what it wrote.
+// Runs a fight text. Returns the result, and what was written.
 fn ran(alloc: Global, text: &[u8]) -> (Result<(), RunFault>, Vec<u8>) {
     let mut out = Outlet::new(Vec::new(alloc));
-    let answer = fight_run(alloc, text, &mut out);
-    (answer, out.into_inner())
+    let result = fight_run(alloc, text, &mut out);
+    (result, out.into_inner())
 }
 
-/// Fight texts, and their result lines.
+// Fight texts, and their result lines.
 const FIGHTS: [(&[u8], &[u8]); 8] = [
     (IMPS, b"tie 1 turns 40\n"),
     (
@@ -44,7 +43,7 @@ const FIGHTS: [(&[u8], &[u8]); 8] = [
         b"rules 16 20 1 4 4\nfight 8 c\ncandidate\nORG 0\nSPL.B $0, $0\nopponent\nORG 0\nMOV.I $0, $1\n",
         b"loss 0 turns 3\n",
     ),
-    // zeros in front are read
+    // decimals may start with zeros
     (
         b"rules 000000016 020 4 4 4\nfight 000000012 c\ncandidate\nORG 0\nMOV.I $0, $1\nopponent\nORG 0\nMOV.I $0, $1\n",
         b"tie 1 turns 40\n",
@@ -54,13 +53,13 @@ const FIGHTS: [(&[u8], &[u8]); 8] = [
 #[test]
 fn fights_are_played(rt: HostRuntime) {
     for (text, line) in FIGHTS {
-        let (answer, written) = ran(rt.alloc(), text);
-        assert_eq!(rt; answer, Ok(()), "{text:?}");
+        let (result, written) = ran(rt.alloc(), text);
+        assert_eq!(rt; result, Ok(()), "{text:?}");
         assert_eq!(rt; written.as_slice(), line, "{text:?}");
     }
 }
 
-/// Texts, and why they are refused.
+// Refused texts, and their fault.
 const REFUSALS: [(&[u8], RunFault); 16] = [
     (b"", RunFault::FightText { line: 1 }),
     (b"rules 16\n", RunFault::FightText { line: 1 }),
@@ -84,7 +83,7 @@ const REFUSALS: [(&[u8], RunFault); 16] = [
         b"rules 16 20 4 4 4\nfight 8 c\ncandidates\n",
         RunFault::FightText { line: 3 },
     ),
-    // no line `opponent`: the line behind the last line feed
+    // without a line `opponent`, the line after the last line feed is named
     (
         b"rules 16 20 4 4 4\nfight 8 c\ncandidate\nORG 0\nMOV.I $0, $1\n",
         RunFault::FightText { line: 6 },
@@ -118,7 +117,7 @@ const REFUSALS: [(&[u8], RunFault); 16] = [
             fault: LoadFault::Malformed { line: 2 },
         },
     ),
-    // bytes behind the last line feed
+    // an empty line after the last instruction
     (
         b"rules 16 20 4 4 4\nfight 8 c\ncandidate\nORG 0\nMOV.I $0, $1\nopponent\nORG 0\nMOV.I $0, $1\n\n",
         RunFault::Load {
@@ -137,25 +136,25 @@ const REFUSALS: [(&[u8], RunFault); 16] = [
 ];
 
 #[test]
-fn refusals_name_the_first_reason(rt: HostRuntime) {
+fn the_first_fault_is_reported(rt: HostRuntime) {
     for (text, fault) in REFUSALS {
-        let (answer, written) = ran(rt.alloc(), text);
-        assert_eq!(rt; answer, Err(fault), "{text:?}");
+        let (result, written) = ran(rt.alloc(), text);
+        assert_eq!(rt; result, Err(fault), "{text:?}");
         assert!(rt; written.is_empty());
     }
 }
 
 #[test]
-fn a_text_that_is_cut_is_refused(rt: HostRuntime) {
+fn prefixes_of_a_text_are_refused(rt: HostRuntime) {
     for length in 0..IMPS.len() {
-        let (answer, written) = ran(rt.alloc(), &IMPS[..length]);
-        assert!(rt; answer.is_err(), "{length} bytes");
+        let (result, written) = ran(rt.alloc(), &IMPS[..length]);
+        assert!(rt; result.is_err(), "{length} bytes");
         assert!(rt; written.is_empty());
     }
 }
 
 #[test]
-fn a_writer_that_fails_is_told(rt: HostRuntime) {
+fn a_write_failure_is_reported(rt: HostRuntime) {
     let mut out = Outlet::new(Broken);
     assert_eq!(rt; fight_run(rt.alloc(), IMPS, &mut out), Err(RunFault::Write));
     assert!(rt; out.failed());

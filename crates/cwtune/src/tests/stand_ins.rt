@@ -1,4 +1,4 @@
-//! What stands in for files and streams.
+//! Files and streams for tests, and runs of the program over them.
 ghost use Rattle.std.specs.Prelude.{IsErr};
 
 use crate::program::program;
@@ -7,13 +7,14 @@ use std::alloc::{AllocError, Allocator, Global};
 use std::fs::{Metadata, OpenFile, OpenOptions};
 use std::io;
 use std::io::{Read, Seek, SeekFrom, Write};
+use std::process::Abort;
 use std::rt::Files;
+use std::test::Fail;
 
-/// A reader, a writer or a file that fails at each call.
+// A reader, a writer or a folder that fails at each call.
 #[derive(Drop)]
 pub(crate) struct Broken;
 
-/// The error of what fails.
 fn failure<T>() -> io::Result<T>
     ensures { IsErr result }
 {
@@ -36,10 +37,10 @@ impl Read for Broken {
     }
 }
 
-/// Files by their names. One without bytes is opened, and can be neither read nor written.
+// Files by their names. A file without bytes opens, but each read and write of it fails.
 pub(crate) struct Shelf<'a>(pub(crate) &'a [(&'a str, Option<&'a [u8]>)]);
 
-/// An open file. What is written into it is lost.
+// An open file. What is written into it is lost.
 #[derive(Drop)]
 pub(crate) struct Book<'a>(Option<&'a [u8]>);
 
@@ -140,7 +141,7 @@ impl<'a> Files for Shelf<'a> {
     }
 }
 
-/// What came of a run of the program: its exit status, and what the two outlets got.
+// The exit status of a run of the program, and what it wrote on its two outlets.
 #[derive(Drop)]
 pub(crate) struct Ended {
     pub(crate) status: u8,
@@ -148,7 +149,7 @@ pub(crate) struct Ended {
     pub(crate) err: Vec<u8>,
 }
 
-/// Words as the program gets them.
+// Copies `given` into the form that `program` takes.
 pub(crate) fn words_of(alloc: Global, given: &[&str]) -> Result<Vec<String>, AllocError> {
     let mut words = Vec::new(alloc);
     for word in given {
@@ -157,7 +158,7 @@ pub(crate) fn words_of(alloc: Global, given: &[&str]) -> Result<Vec<String>, All
     Ok(words)
 }
 
-/// Runs the program.
+// Runs the program on the words `given` and the standard input `input`.
 pub(crate) fn ran(
     alloc: Global,
     shelf: &Shelf<'_>,
@@ -181,4 +182,32 @@ pub(crate) fn ran(
         out: out.into_inner(),
         err: err.into_inner(),
     })
+}
+
+// Words after the options, and the exit status, the standard output, and how standard error begins.
+pub(crate) type CommandRow = (&'static [&'static str], u8, &'static str, &'static str);
+
+// Asserts that the program, run on `options` and each row's words, ends as the row says.
+pub(crate) fn assert_runs(
+    rt: &impl Abort,
+    alloc: Global,
+    shelf: &Shelf<'_>,
+    options: &[&'static str],
+    rows: &[CommandRow],
+) -> Result<(), Fail> {
+    for (given, status, out, err) in rows {
+        let mut words = Vec::new(alloc);
+        words.extend_from_slice(options)?;
+        words.extend_from_slice(given)?;
+        let ended = ran(alloc, shelf, words.as_slice(), b"")?;
+        assert!(rt;
+            ended.err.as_slice().starts_with(err.as_bytes()),
+            "{given:?}: {:?}",
+            ended.err
+        );
+        assert_eq!(rt; ended.err.is_empty(), err.is_empty(), "{given:?}");
+        assert_eq!(rt; ended.out.as_slice(), out.as_bytes(), "{given:?}");
+        assert_eq!(rt; ended.status, *status, "{given:?}");
+    }
+    Ok(())
 }

@@ -1,5 +1,6 @@
-//! Tunings worked out by hand: a core of 16 cells, for 20 cycles, 4 tasks, 4 instructions, a distance of 4.
-use crate::tests::stand_ins::{Broken, Shelf, ran};
+//! `tune_run` and the command `tune`, under rules of 16 cells, 20 cycles, 4 tasks, length 4 and
+//! distance 4.
+use crate::tests::stand_ins::{Broken, CommandRow, Shelf, assert_runs};
 use crate::{RunFault, tune_run};
 use mars_fight::{ScheduleFault, ScheduleFaultKind};
 use rc_asm::{AsmFault, AsmKind};
@@ -8,16 +9,16 @@ use std::alloc::{AllocError, Global};
 use std::test::Fail;
 use tune_template::{TemplateFault, TemplateKind};
 
-/// The opponent that dies at once.
+// An opponent that dies at once.
 pub(crate) const DAT: &[u8] = b"DAT 0\n";
 
-/// The opponent that moves on for ever.
+// An opponent that never dies.
 pub(crate) const IMP: &[u8] = b"MOV 0, 1\n";
 
-/// One fight against each of two opponents.
+// One fight against each of two opponents.
 pub(crate) const BOTH: &[u8] = b"opponent,position,first\n0,8,c\n1,8,c\n";
 
-/// Texts as a tuning gets them.
+// Copies `given` into the form that `tune_run` takes.
 pub(crate) fn texts_of(alloc: Global, given: &[&[u8]]) -> Result<Vec<Vec<u8>>, AllocError> {
     let mut texts = Vec::new(alloc);
     for text in given {
@@ -26,7 +27,7 @@ pub(crate) fn texts_of(alloc: Global, given: &[&[u8]]) -> Result<Vec<Vec<u8>>, A
     Ok(texts)
 }
 
-/// What a run answers, and the report and the certificate that it wrote.
+// Tunes a template. Returns the result, and the report and the certificate that were written.
 fn tuned(
     alloc: Global,
     template: &[u8],
@@ -37,7 +38,7 @@ fn tuned(
     let opponents = texts_of(alloc, opponents)?;
     let mut report = Outlet::new(Vec::new(alloc));
     let mut cert = Outlet::new(Vec::new(alloc));
-    let answer = tune_run(
+    let result = tune_run(
         alloc,
         template,
         opponents.as_slice(),
@@ -47,10 +48,10 @@ fn tuned(
         &mut report,
         &mut cert,
     );
-    Ok((answer, report.into_inner(), cert.into_inner()))
+    Ok((result, report.into_inner(), cert.into_inner()))
 }
 
-/// Templates, opponents and schedules, and the report and the certificate of each.
+// Templates, opponents and schedules, and the report and the certificate of each.
 const REPORTS: [(&[u8], &[&[u8]], &[u8], &str, &str); 8] = [
     (
         b"MOV 0, 1",
@@ -94,7 +95,7 @@ const REPORTS: [(&[u8], &[&[u8]], &[u8], &str, &str); 8] = [
         "vectors 3\ncandidates 3\nbest 0\nconstants K=0\ntotal 3 of 3\nfights 3 of 3\n",
         "cwcert,1,3\nbest,0,3\ncap,0,0:3\ncap,1,0:3\ncap,2,0:3\n",
     ),
-    // equal fights count as often as they are listed
+    // a fight that is listed twice counts twice
     (
         b"MOV 0, 1",
         &[DAT],
@@ -102,7 +103,7 @@ const REPORTS: [(&[u8], &[&[u8]], &[u8], &str, &str); 8] = [
         "vectors 1\ncandidates 1\nbest 0\nconstants -\ntotal 6 of 6\nfights 2 of 2\n",
         "cwcert,1,1\nbest,0,6\ncap,0,0:3 1:3\n",
     ),
-    // constants stand in the order of their lines; the jump is as good as the imp for LEAP 0 alone
+    // constants are in the order of their lines; only LEAP = 0 ties with the imp
     (
         b";@tune STEP -3 3 2 1\n;@tune LEAP 0 1 1 1\nJMP LEAP\nDAT STEP",
         &[DAT, IMP],
@@ -113,17 +114,17 @@ const REPORTS: [(&[u8], &[&[u8]], &[u8], &str, &str); 8] = [
 ];
 
 #[test]
-fn the_report_and_the_certificate_tell_the_best_setting(rt: HostRuntime) -> Result<(), Fail> {
+fn the_report_and_the_certificate_give_the_optimum(rt: HostRuntime) -> Result<(), Fail> {
     for (template, opponents, schedule, report_wanted, cert_wanted) in REPORTS {
-        let (answer, report, cert) = tuned(rt.alloc(), template, opponents, schedule)?;
-        assert_eq!(rt; answer, Ok(()), "{template:?}");
+        let (result, report, cert) = tuned(rt.alloc(), template, opponents, schedule)?;
+        assert_eq!(rt; result, Ok(()), "{template:?}");
         assert_eq!(rt; report.as_slice(), report_wanted.as_bytes(), "{template:?}");
         assert_eq!(rt; cert.as_slice(), cert_wanted.as_bytes(), "{template:?}");
     }
     Ok(())
 }
 
-/// Templates, opponents and schedules that are refused, and why.
+// Refused templates, opponents and schedules, and the fault.
 const REFUSALS: [(&[u8], &[&[u8]], &[u8], RunFault); 12] = [
     (
         b";@tune K 3 2 1 3\n",
@@ -200,7 +201,7 @@ const REFUSALS: [(&[u8], &[&[u8]], &[u8], RunFault); 12] = [
             kind: ScheduleFaultKind::NoSuchOpponent,
         }),
     ),
-    // a schedule has no fight where there is no opponent
+    // without opponents, each fight names one that does not exist
     (
         b"MOV 0, 1",
         &[],
@@ -226,10 +227,10 @@ const REFUSALS: [(&[u8], &[&[u8]], &[u8], RunFault); 12] = [
 ];
 
 #[test]
-fn the_first_reason_is_named_and_nothing_written(rt: HostRuntime) -> Result<(), Fail> {
+fn the_first_fault_is_reported_and_nothing_written(rt: HostRuntime) -> Result<(), Fail> {
     for (template, opponents, schedule, want) in REFUSALS {
-        let (answer, report, cert) = tuned(rt.alloc(), template, opponents, schedule)?;
-        assert_eq!(rt; answer, Err(want), "{template:?} {schedule:?}");
+        let (result, report, cert) = tuned(rt.alloc(), template, opponents, schedule)?;
+        assert_eq!(rt; result, Err(want), "{template:?} {schedule:?}");
         assert!(rt; report.is_empty(), "{template:?} {schedule:?}");
         assert!(rt; cert.is_empty(), "{template:?} {schedule:?}");
     }
@@ -237,31 +238,29 @@ fn the_first_reason_is_named_and_nothing_written(rt: HostRuntime) -> Result<(), 
 }
 
 #[test]
-fn more_than_64_opponents_come_before_all(rt: HostRuntime) -> Result<(), Fail> {
+fn more_than_64_opponents_are_the_first_fault(rt: HostRuntime) -> Result<(), Fail> {
     let many = [b"PIN 5".as_slice(); 65];
-    let (answer, report, _) = tuned(rt.alloc(), b";@tune K 0 1", &many, b"")?;
-    assert_eq!(rt; answer, Err(RunFault::TooManyOpponents));
+    let (result, report, _) = tuned(rt.alloc(), b";@tune K 0 1", &many, b"")?;
+    assert_eq!(rt; result, Err(RunFault::TooManyOpponents));
     assert!(rt; report.is_empty());
     let most = [DAT; 64];
-    let (answer, _, _) = tuned(
+    let (result, _, _) = tuned(
         rt.alloc(),
         b"MOV 0, 1",
         &most,
         b"opponent,position,first\n63,8,o\n",
     )?;
-    assert_eq!(rt; answer, Ok(()));
+    assert_eq!(rt; result, Ok(()));
     Ok(())
 }
 
 #[test]
-fn a_certificate_that_cannot_be_written_is_told_and_no_report_begun(
-    rt: HostRuntime,
-) -> Result<(), Fail> {
+fn a_certificate_write_failure_is_reported_before_the_report(rt: HostRuntime) -> Result<(), Fail> {
     let rules = Rules::try_new(16, 20, 4, 4, 4)?;
     let opponents = texts_of(rt.alloc(), &[DAT, IMP])?;
     let mut report = Outlet::new(Vec::new(rt.alloc()));
     let mut cert = Outlet::new(Broken);
-    let answer = tune_run(
+    let result = tune_run(
         rt.alloc(),
         b"MOV 0, 1",
         opponents.as_slice(),
@@ -271,7 +270,7 @@ fn a_certificate_that_cannot_be_written_is_told_and_no_report_begun(
         &mut report,
         &mut cert,
     );
-    assert_eq!(rt; answer, Err(RunFault::Write));
+    assert_eq!(rt; result, Err(RunFault::Write));
     assert!(rt; cert.failed());
     assert!(rt; !report.failed());
     assert!(rt; report.into_inner().is_empty());
@@ -279,12 +278,12 @@ fn a_certificate_that_cannot_be_written_is_told_and_no_report_begun(
 }
 
 #[test]
-fn a_report_that_cannot_be_written_is_told(rt: HostRuntime) -> Result<(), Fail> {
+fn a_report_write_failure_is_reported_after_the_certificate(rt: HostRuntime) -> Result<(), Fail> {
     let rules = Rules::try_new(16, 20, 4, 4, 4)?;
     let opponents = texts_of(rt.alloc(), &[DAT, IMP])?;
     let mut report = Outlet::new(Broken);
     let mut cert = Outlet::new(Vec::new(rt.alloc()));
-    let answer = tune_run(
+    let result = tune_run(
         rt.alloc(),
         b"MOV 0, 1",
         opponents.as_slice(),
@@ -294,7 +293,7 @@ fn a_report_that_cannot_be_written_is_told(rt: HostRuntime) -> Result<(), Fail> 
         &mut report,
         &mut cert,
     );
-    assert_eq!(rt; answer, Err(RunFault::Write));
+    assert_eq!(rt; result, Err(RunFault::Write));
     assert!(rt; report.failed());
     assert_eq!(rt;
         cert.into_inner().as_slice(),
@@ -303,7 +302,7 @@ fn a_report_that_cannot_be_written_is_told(rt: HostRuntime) -> Result<(), Fail> 
     Ok(())
 }
 
-/// The files of a tuning.
+// The files that the commands read, and the one that they write.
 const SHELF: Shelf<'static> = Shelf(&[
     ("step.red", Some(b";@tune K 0 2 1 1\nMOV 0, 1\nDAT 1/K")),
     ("empty.red", Some(b";@tune K 3 2 1 3")),
@@ -316,7 +315,7 @@ const SHELF: Shelf<'static> = Shelf(&[
     ("best.csv", Some(b"")),
 ]);
 
-/// The options of the rules.
+// The command, and options for small rules.
 const SMALL: [&str; 6] = [
     "tune",
     "--core=16",
@@ -326,15 +325,12 @@ const SMALL: [&str; 6] = [
     "--distance=4",
 ];
 
-/// The report of `step.red`.
+// The report of `step.red`.
 const REPORT: &str =
     "vectors 3\ncandidates 2\nbest 1\nconstants K=1\ntotal 4 of 6\nfights 4 of 4\n";
 
-/// The words behind those of the rules, and the status, the standard output and the standard error that they lead to.
-type Row = (&'static [&'static str], u8, &'static str, &'static str);
-
-/// Runs of the command.
-const ROWS: [Row; 13] = [
+// Runs of the command.
+const ROWS: [CommandRow; 13] = [
     (
         &["step.red", "both.csv", "best.csv", "dat.red", "imp.red"],
         0,
@@ -373,7 +369,7 @@ const ROWS: [Row; 13] = [
         "",
         "refused: NoCandidate\n",
     ),
-    // the files are read in the order of the words, and that of the certificate is created last
+    // the files are read in the order of their words; the certificate is created last
     (
         &["no.red", "no.csv", "no.cert", "no.red"],
         3,
@@ -420,19 +416,5 @@ const ROWS: [Row; 13] = [
 
 #[test]
 fn the_command_tunes_a_file(rt: HostRuntime) -> Result<(), Fail> {
-    for (given, status, out, err) in ROWS {
-        let mut words = Vec::new(rt.alloc());
-        words.extend_from_slice(&SMALL)?;
-        words.extend_from_slice(given)?;
-        let ended = ran(rt.alloc(), &SHELF, words.as_slice(), b"")?;
-        assert!(rt;
-            ended.err.as_slice().starts_with(err.as_bytes()),
-            "{given:?}: {:?}",
-            ended.err
-        );
-        assert_eq!(rt; ended.err.is_empty(), err.is_empty(), "{given:?}");
-        assert_eq!(rt; ended.out.as_slice(), out.as_bytes(), "{given:?}");
-        assert_eq!(rt; ended.status, status, "{given:?}");
-    }
-    Ok(())
+    assert_runs(&rt, rt.alloc(), &SHELF, &SMALL, &ROWS)
 }

@@ -1,15 +1,17 @@
-//! Texts, and the lines to which they expand or the faults that they have.
+//! Texts, and the lines that they expand to or their faults.
 ghost use Rattle.std.specs.Prelude.{All};
 ghost use Rattle.rc_text.specs.Symbols.{LiesIn};
 ghost use Rattle.rc_expand.specs.Expansion.{LineLies};
 
+use crate::assembly::push_times;
 use rc_expand::{Constants, ExpandFault, ExpandKind, Line, LineWord, expand, name_of};
 use rc_instr::Rules;
 use rc_text::{Kind, LexFault, Token};
 use std::alloc::Global;
+use std::process::Abort;
 use std::test::Fail;
 
-// Appends tokens with a blank before each: a number by its value, a name with its counters.
+// Appends each token after a blank: a decimal as its value, a name with its counters.
 fn push_tokens(
     alloc: Global,
     out: &mut Vec<u8>,
@@ -30,7 +32,7 @@ fn push_tokens(
     Ok(())
 }
 
-// What stands for a word.
+// Returns the text that a line of such a word prints: a minus for code.
 fn word_text(word: LineWord) -> &'static [u8] {
     match word {
         LineWord::Bare => b"",
@@ -41,7 +43,7 @@ fn word_text(word: LineWord) -> &'static [u8] {
     }
 }
 
-// Appends a line: its number, its labels, a colon, its word (a minus for code), and its tokens.
+// Appends a line: its number, its labels, a colon, its word, and its tokens.
 fn push_line(alloc: Global, out: &mut Vec<u8>, source: &[u8], line: &Line) -> Result<(), Fail>
     requires { LineLies source.now line.now }
 {
@@ -54,7 +56,6 @@ fn push_line(alloc: Global, out: &mut Vec<u8>, source: &[u8], line: &Line) -> Re
     Ok(())
 }
 
-// The lines as text.
 fn text_of(alloc: Global, source: &[u8], lines: &[Line]) -> Result<Vec<u8>, Fail>
     requires { All (LineLies source.now) lines.now }
 {
@@ -65,7 +66,7 @@ fn text_of(alloc: Global, source: &[u8], lines: &[Line]) -> Result<Vec<u8>, Fail
     Ok(out)
 }
 
-// The lines of a text, under the standard rules and with a constant K that is 7.
+// Expands `source` under the standard rules with the constant K = 7. Returns its lines as text.
 fn lines_of(alloc: Global, source: &[u8]) -> Result<Result<Vec<u8>, ExpandFault>, Fail> {
     let mut names = Vec::new(alloc);
     names.push(b"K".to_vec(alloc)?)?;
@@ -79,7 +80,7 @@ fn lines_of(alloc: Global, source: &[u8]) -> Result<Result<Vec<u8>, ExpandFault>
     }
 }
 
-// Texts and their lines.
+// Texts, and their lines.
 const LINES: [(&[u8], &[u8]); 10] = [
     (b"", b""),
     (b"a: b DAT a, b\nc", b"1 a b: - DAT a , b\n2 c:\n"),
@@ -108,18 +109,23 @@ const LINES: [(&[u8], &[u8]); 10] = [
     ),
 ];
 
-#[test]
-fn texts_have_lines(rt: HostRuntime) -> Result<(), Fail> {
-    for (text, lines) in LINES {
-        match lines_of(rt.alloc(), text)? {
-            Ok(found) => assert_eq!(rt; found.as_slice(), lines),
+// Asserts that each text expands to its lines.
+fn assert_lines(rt: &impl Abort, alloc: Global, rows: &[(&[u8], &[u8])]) -> Result<(), Fail> {
+    for (text, lines) in rows {
+        match lines_of(alloc, text)? {
+            Ok(found) => assert_eq!(rt; found.as_slice(), *lines),
             Err(_) => assert!(rt; false, "{text:?} is refused"),
         }
     }
     Ok(())
 }
 
-// Labels, joined names, dropped lines, and what EQU leaves alone.
+#[test]
+fn texts_have_lines(rt: HostRuntime) -> Result<(), Fail> {
+    assert_lines(&rt, rt.alloc(), &LINES)
+}
+
+// Labels, joined names, dropped lines, and names that EQU does not replace: texts and their lines.
 const NAMES: [(&[u8], &[u8]); 18] = [
     (b"x&NOP 1", b"1 x: - & NOP 1\n"),
     (b"i FOR 1\nmov&i 0\nROF", b"2: - mov01 0\n"),
@@ -155,13 +161,7 @@ const NAMES: [(&[u8], &[u8]); 18] = [
 
 #[test]
 fn names_are_joined_and_replaced(rt: HostRuntime) -> Result<(), Fail> {
-    for (text, lines) in NAMES {
-        match lines_of(rt.alloc(), text)? {
-            Ok(found) => assert_eq!(rt; found.as_slice(), lines),
-            Err(_) => assert!(rt; false, "{text:?} is refused"),
-        }
-    }
-    Ok(())
+    assert_lines(&rt, rt.alloc(), &NAMES)
 }
 
 // Texts, and the line and kind of their fault.
@@ -238,15 +238,8 @@ fn bad_texts_have_faults(rt: HostRuntime) -> Result<(), Fail> {
     Ok(())
 }
 
-// Appends a piece of text so many times.
-fn push_times(text: &mut Vec<u8>, piece: &[u8], count: usize) -> Result<(), Fail> {
-    for _ in 0..count {
-        text.extend_from_slice(piece)?;
-    }
-    Ok(())
-}
-
-// A piece so many times, another as often, and an end have this fault, or none where it is want of memory.
+// A piece, its count, another piece that is repeated as often, and an end; and the line and kind of
+// the fault. Line 0 and `OutOfMemory` mean no fault.
 const LIMITS: [(&[u8], usize, &[u8], &[u8], u64, ExpandKind); 10] = [
     (b"FOR 1\n", 8, b"ROF\n", b"", 0, ExpandKind::OutOfMemory),
     (b"FOR 1\n", 9, b"ROF\n", b"", 9, ExpandKind::ForTooDeep),
@@ -301,9 +294,9 @@ fn limits_hold(rt: HostRuntime) -> Result<(), Fail> {
     Ok(())
 }
 
-// A chain of 16 EQU names passes, and one of 17 does not where it is used.
+// A chain of 17 EQU names is a fault only if a line uses it.
 #[test]
-fn chains_of_names_end(rt: HostRuntime) -> Result<(), Fail> {
+fn a_chain_has_at_most_16_names(rt: HostRuntime) -> Result<(), Fail> {
     let chain =
         b"b EQU c\nc EQU d\nd EQU e\ne EQU f\nf EQU g\ng EQU h\nh EQU i\ni EQU j\nj EQU k\nk EQU l\nl EQU m\nm EQU n\nn EQU o\no EQU p\np EQU q\nq EQU 5\n".as_slice();
     for (use_of_it, lines) in [
@@ -340,7 +333,7 @@ fn faults_have_texts(rt: HostRuntime) -> Result<(), Fail> {
     };
     assert_eq!(rt;
         format!(in rt.alloc(); "{}", found)?.as_str(),
-        "line 3: a byte that begins no token"
+        "line 3: unexpected byte"
     );
     Ok(())
 }

@@ -1,12 +1,12 @@
 //! Texts that are refused.
 use crate::assembly::{assembled, small_rules};
-use rc_asm::fault::{AsmFault, AsmKind};
+use rc_asm::{AsmFault, AsmKind};
 use rc_expand::ExpandKind;
 use rc_instr::WarriorError;
 use rc_text::{EvalFault, LexFault};
 use std::test::Fail;
 
-/// Texts, and the line and kind of their fault.
+// Texts, and the line and kind of their fault.
 const FAULTS: [(&[u8], u64, AsmKind); 56] = [
     (b"MOV 1", 1, AsmKind::MissingOperand),
     (b"DAT 1/0", 1, AsmKind::Value(EvalFault::DivisionByZero)),
@@ -111,7 +111,7 @@ const FAULTS: [(&[u8], u64, AsmKind); 56] = [
         0,
         AsmKind::Warrior(WarriorError::TooLong),
     ),
-    // what comes first
+    // which of two faults comes first
     (b"DAT x\nPIN 5", 2, AsmKind::UnknownOpcode),
     (b"DAT x\nORG", 2, AsmKind::MissingOperand),
     (
@@ -146,7 +146,7 @@ fn faults_have_texts(rt: HostRuntime) -> Result<(), Fail> {
     };
     assert_eq!(rt;
         format!(in rt.alloc(); "{}", found)?.as_str(),
-        "line 3: a division by zero"
+        "line 3: division by zero"
     );
     Ok(())
 }

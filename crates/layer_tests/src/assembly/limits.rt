@@ -1,12 +1,13 @@
-//! Texts at their limits.
-use crate::assembly::{assembled, small_rules};
-use rc_asm::fault::{AsmFault, AsmKind};
+//! Texts at the limits.
+use crate::assembly::{assembled, push_times, small_rules};
+use rc_asm::{AsmFault, AsmKind};
 use rc_expand::ExpandKind;
 use rc_instr::WarriorError;
 use rc_text::EvalFault;
 use std::test::Fail;
 
-/// A front, a piece so many times, a middle, another piece as often, and an end; and the line and kind of the fault.
+// A front, a piece, its count, a middle, another piece that is repeated as often, and an end; and
+// the line and kind of the fault.
 const LIMITS: [(&[u8], &[u8], usize, &[u8], &[u8], &[u8], u64, AsmKind); 6] = [
     (b"", b";", 65537, b"", b"", b"", 0, AsmKind::TextTooLong),
     (
@@ -61,14 +62,6 @@ const LIMITS: [(&[u8], &[u8], usize, &[u8], &[u8], &[u8], u64, AsmKind); 6] = [
     ),
 ];
 
-/// Appends a piece of text so many times.
-fn push_times(text: &mut Vec<u8>, piece: &[u8], count: usize) -> Result<(), Fail> {
-    for _ in 0..count {
-        text.extend_from_slice(piece)?;
-    }
-    Ok(())
-}
-
 #[test]
 fn limits_are_refused(rt: HostRuntime) -> Result<(), Fail> {
     let rules = small_rules()?;
@@ -86,7 +79,7 @@ fn limits_are_refused(rt: HostRuntime) -> Result<(), Fail> {
     Ok(())
 }
 
-/// The same with no fault, and the load file.
+// Texts put together in the same way, and their load file.
 const WITHIN: [(&[u8], &[u8], usize, &[u8], &[u8], &[u8], &[u8]); 3] = [
     (
         b"",
@@ -110,7 +103,7 @@ const WITHIN: [(&[u8], &[u8], usize, &[u8], &[u8], &[u8], &[u8]); 3] = [
 ];
 
 #[test]
-fn what_is_within_the_limits_assembles(rt: HostRuntime) -> Result<(), Fail> {
+fn texts_within_the_limits_assemble(rt: HostRuntime) -> Result<(), Fail> {
     let rules = small_rules()?;
     for (front, piece, count, middle, other, back, load) in WITHIN {
         let mut text = front.to_vec(rt.alloc())?;
@@ -126,9 +119,9 @@ fn what_is_within_the_limits_assembles(rt: HostRuntime) -> Result<(), Fail> {
     Ok(())
 }
 
-/// Each cut of a text is answered: the first ones, without an instruction, are refused, and the whole assembles.
+// Assembles each prefix of a text. The first 60 bytes have no instruction.
 #[test]
-fn cut_texts_are_answered(rt: HostRuntime) -> Result<(), Fail> {
+fn prefixes_without_an_instruction_are_refused(rt: HostRuntime) -> Result<(), Fail> {
     let text =
         b";redcode-94\n;assert CORESIZE % 4 == 0\nstep EQU 4\n ORG start\nbomb DAT #0, #0\nstart ADD #step, bomb\n MOV bomb, @bomb\n JMP start\n END\n".as_slice();
     let rules = small_rules()?;

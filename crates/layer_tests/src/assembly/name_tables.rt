@@ -1,4 +1,4 @@
-//! Tables of names, by the tokens that spell them.
+//! Name tables, looked up by tokens.
 ghost use Rattle.std.specs.Prelude.{◌≤◌, length};
 ghost use Rattle.rc_text.specs.Symbols.{LiesIn};
 
@@ -6,7 +6,7 @@ use rc_expand::NameTable;
 use rc_text::{Joined, Kind, Token};
 use std::test::Fail;
 
-// The token of a name from the first byte up to this place, with no counter.
+// Returns the token of the first `hi` bytes of `source`, with no counter.
 fn name_token(source: &[u8], hi: usize) -> Token
     requires { hi ≤ length source.now }
     ensures { LiesIn source.now result }
@@ -20,7 +20,7 @@ fn name_token(source: &[u8], hi: usize) -> Token
     }
 }
 
-// The token with one more counter, where there is room for it.
+// Joins one more counter to `token`, if there is room.
 fn joined(source: &[u8], token: Token, counter: u16) -> Token
     requires { LiesIn source.now token }
     ensures { LiesIn source.now result }

@@ -1,4 +1,4 @@
-//! Load files, taken as texts.
+//! Load files, assembled as Redcode texts.
 use crate::assembly::assembled;
 use rc_instr::{Instruction, Mode, Modifier, Opcode, Rules, Warrior, write_loadfile};
 use std::alloc::Global;
@@ -44,7 +44,7 @@ const MODES: [Mode; 8] = [
     Mode::BPostincrement,
 ];
 
-/// Cores, and the numbers 0, 1, half of the core, one more, and the greatest.
+// Core sizes, each with the numbers 0, 1, half of the size, one more, and the greatest.
 const CORES: [(u32, [u16; 5]); 4] = [
     (8, [0, 1, 4, 5, 7]),
     (16, [0, 1, 8, 9, 15]),
@@ -52,7 +52,7 @@ const CORES: [(u32, [u16; 5]); 4] = [
     (65535, [0, 1, 32767, 32768, 65534]),
 ];
 
-/// One of many instructions: all opcodes, modifiers, modes and numbers have their turn.
+// Returns the instruction of index `turn`: all opcodes, modifiers, modes and numbers take turns.
 fn instruction(turn: usize, numbers: &[u16; 5]) -> Instruction {
     Instruction {
         opcode: OPCODES[turn % 16],
@@ -64,7 +64,7 @@ fn instruction(turn: usize, numbers: &[u16; 5]) -> Instruction {
     }
 }
 
-/// A load file with so many instructions from a turn on; it starts at the last of them.
+// Writes the load file of `length` instructions, the first of index `turn`. It starts at the last.
 fn printed(
     alloc: Global,
     turn: u16,

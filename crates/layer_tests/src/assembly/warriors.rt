@@ -5,7 +5,7 @@ use std::alloc::Global;
 use std::process::Abort;
 use std::test::Fail;
 
-/// Instruction lines: opcodes, modifiers, modes and operands, and what is not written.
+// Opcodes, modifiers, modes, operands and their defaults: texts and their load files.
 const INSTRUCTIONS: [(&[u8], &[u8]); 14] = [
     (
         b"mov #1, 2\nadd 1, #2\ncmp 1, 2\nslt #1, 2\n",
@@ -50,7 +50,7 @@ const INSTRUCTIONS: [(&[u8], &[u8]); 14] = [
     ),
 ];
 
-/// Labels, starts, END and what stands around the code.
+// Labels, starts, END and the text around the code: texts and their load files.
 const LABELS: [(&[u8], &[u8]); 15] = [
     (b"a: b DAT a, b\nc", b"ORG 0\nDAT.F $0, $0\n"),
     (b"JMP c\nc", b"ORG 0\nJMP.B $1, $0\n"),
@@ -87,7 +87,7 @@ const LABELS: [(&[u8], &[u8]); 15] = [
     (b"coresize DAT coresize-1", b"ORG 0\nDAT.F $0, $-1\n"),
 ];
 
-/// EQU, FOR and joined names.
+// EQU, FOR and joined names: texts and their load files.
 const EXPANSIONS: [(&[u8], &[u8]); 12] = [
     (b"s EQU 2+3\nDAT #0, #s*2\n", b"ORG 0\nDAT.F #0, #8\n"),
     (
@@ -118,8 +118,8 @@ const EXPANSIONS: [(&[u8], &[u8]); 12] = [
     ),
 ];
 
-/// Tests that each text has its load file.
-fn check_all(rt: &impl Abort, alloc: Global, rows: &[(&[u8], &[u8])]) -> Result<(), Fail> {
+// Asserts that each text assembles to its load file.
+fn assert_load_files(rt: &impl Abort, alloc: Global, rows: &[(&[u8], &[u8])]) -> Result<(), Fail> {
     let rules = small_rules()?;
     for (text, load) in rows {
         match assembled(alloc, text, &rules)? {
@@ -132,20 +132,20 @@ fn check_all(rt: &impl Abort, alloc: Global, rows: &[(&[u8], &[u8])]) -> Result<
 
 #[test]
 fn instructions_assemble(rt: HostRuntime) -> Result<(), Fail> {
-    check_all(&rt, rt.alloc(), &INSTRUCTIONS)
+    assert_load_files(&rt, rt.alloc(), &INSTRUCTIONS)
 }
 
 #[test]
 fn labels_and_starts_assemble(rt: HostRuntime) -> Result<(), Fail> {
-    check_all(&rt, rt.alloc(), &LABELS)
+    assert_load_files(&rt, rt.alloc(), &LABELS)
 }
 
 #[test]
 fn expansions_assemble(rt: HostRuntime) -> Result<(), Fail> {
-    check_all(&rt, rt.alloc(), &EXPANSIONS)
+    assert_load_files(&rt, rt.alloc(), &EXPANSIONS)
 }
 
-/// A text as it is posted for pMARS, under the standard rules.
+// A text as people post it for pMARS, under the standard rules.
 #[test]
 fn a_posted_warrior_assembles(rt: HostRuntime) -> Result<(), Fail> {
     let text =

@@ -1,5 +1,5 @@
-//! Verdicts on certificates, worked out by hand: a core of 16 cells, for 20 cycles, 4 tasks, 4 instructions, a distance of 4, and one fight
-//! against each of two opponents, which stand at address 8.
+//! Verdicts on certificates, worked out by hand, under rules of 16 cells, 20 cycles, 4 tasks,
+//! length 4 and distance 4, in one fight against each of two opponents at address 8.
 use crate::opponents::{BOTH, two_opponents};
 use mars_fight::Schedule;
 use rc_instr::Rules;
@@ -9,13 +9,14 @@ use tune_cert::checker::check;
 use tune_cert::verdict::{Reason, Verdict};
 use tune_template::{Inputs, Template};
 
-/// Four vectors with one warrior, which moves on for ever: it wins against the first opponent, and ties with the second.
+// Four settings with one warrior, an imp, which wins against the first opponent and ties with the
+// second.
 const FOUR: &[u8] = b";@tune K 0 3 1 2\nMOV 0, 1";
 
-/// Three vectors, of the first of which no warrior is made. The others move on for ever.
+// Three settings: the first does not assemble, the others are imps.
 const THREE: &[u8] = b";@tune K 0 2 1 1\nMOV 0, 1\nDAT 1/K";
 
-/// Templates and certificates, and the verdicts on them.
+// Templates and certificates, and the verdicts.
 const VERDICTS: [(&[u8], &[u8], Verdict); 18] = [
     (
         FOUR,
@@ -151,7 +152,7 @@ const VERDICTS: [(&[u8], &[u8], Verdict); 18] = [
     ),
 ];
 
-/// The verdict on a certificate for a template.
+// Checks a certificate of a template against `DAT` and `IMP`.
 fn verdict(alloc: Global, template: &[u8], cert: &[u8]) -> Result<Verdict, Fail> {
     let rules = Rules::try_new(16, 20, 4, 4, 4)?;
     let template = Template::read(alloc, template)?;
@@ -164,8 +165,8 @@ fn verdict(alloc: Global, template: &[u8], cert: &[u8]) -> Result<Verdict, Fail>
 #[test]
 fn verdicts_on_certificates(rt: HostRuntime) -> Result<(), Fail> {
     for (template, cert, want) in VERDICTS {
-        let said = verdict(rt.alloc(), template, cert)?;
-        assert_eq!(rt; said, want, "{cert:?}");
+        let found = verdict(rt.alloc(), template, cert)?;
+        assert_eq!(rt; found, want, "{cert:?}");
     }
     Ok(())
 }

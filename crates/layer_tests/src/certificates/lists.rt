@@ -1,9 +1,9 @@
-//! Lists of fights and of rows, made and looked at again.
+//! Listings and rows, made and read back.
 use std::alloc::Global;
 use std::test::Fail;
 use tune_cert::{Listing, Row, Rows};
 
-/// Rows of three vectors: a cap row of two fights, the same warrior, and none.
+// Returns the rows of three settings: a cap row of two fights, a same row, and a refused row.
 fn three_rows(alloc: Global) -> Result<Rows, Fail> {
     let mut fights = Vec::new(alloc);
     fights.push((0, 3))?;
@@ -27,8 +27,8 @@ fn rows_are_kept(rt: HostRuntime) -> Result<(), Fail> {
                 text.push_str(&piece)?;
             }
             Row::Cap(fights) => {
-                for (number, points) in fights.as_slice() {
-                    let piece = format!(in rt.alloc(); "{}:{} ", *number, *points)?;
+                for (fight, points) in fights.as_slice() {
+                    let piece = format!(in rt.alloc(); "{}:{} ", *fight, *points)?;
                     text.push_str(&piece)?;
                 }
             }

@@ -1,18 +1,18 @@
-//! Certificates of four vectors, read from texts that are written by hand.
+//! Certificates read from texts.
 use std::alloc::{AllocError, Global};
 use std::test::Fail;
 use tune_cert::{Cert, ReadFault, Row, read_cert};
 
-/// A certificate of four vectors, of which those of even numbers have a warrior of their own.
+// A certificate of four settings: cap rows at 0 and 2, same rows at 1 and 3.
 const FOUR: &str = "cwcert,1,4\nbest,0,4\ncap,0,0:3 1:1\nsame,1,2\ncap,2,0:3 1:1\nsame,3,2\n";
 
-/// What it says.
-const FOUR_SAYS: &str = "4 vectors, best 0, total 4: cap 0:3 1:1, same 2, cap 0:3 1:1, same 2";
+// `FOUR` as `text_of` formats it.
+const FOUR_TEXT: &str = "4 vectors, best 0, total 4: cap 0:3 1:1, same 2, cap 0:3 1:1, same 2";
 
-/// Its first two records.
+// The first two records of `FOUR`.
 const HEAD: &str = "cwcert,1,4\nbest,0,4\n";
 
-/// What a certificate says, as text.
+// Formats a certificate.
 fn text_of(alloc: Global, cert: &Cert) -> Result<String, AllocError> {
     let mut text = format!(in alloc;
         "{} vectors, best {}, total {}",
@@ -30,8 +30,8 @@ fn text_of(alloc: Global, cert: &Cert) -> Result<String, AllocError> {
             }
             Row::Cap(fights) => {
                 text.push_str("cap")?;
-                for (number, points) in fights.as_slice() {
-                    let piece = format!(in alloc; " {}:{}", *number, *points)?;
+                for (fight, points) in fights.as_slice() {
+                    let piece = format!(in alloc; " {}:{}", *fight, *points)?;
                     text.push_str(&piece)?;
                 }
             }
@@ -40,14 +40,14 @@ fn text_of(alloc: Global, cert: &Cert) -> Result<String, AllocError> {
     Ok(text)
 }
 
-/// The text of what bytes say.
-fn said(alloc: Global, bytes: &[u8]) -> Result<String, Fail> {
+// Reads a certificate and formats it.
+fn read_as_text(alloc: Global, bytes: &[u8]) -> Result<String, Fail> {
     let cert = read_cert(alloc, bytes)?;
     let text = text_of(alloc, &cert)?;
     Ok(text)
 }
 
-/// The number of the record that is malformed, if one is.
+// Returns the index of the malformed record, if there is one.
 fn malformed_in(alloc: Global, text: &str) -> Option<u64> {
     match read_cert(alloc, text.as_bytes()) {
         Err(ReadFault::Malformed { row }) => Some(row),
@@ -56,7 +56,7 @@ fn malformed_in(alloc: Global, text: &str) -> Option<u64> {
 }
 
 #[test]
-fn one_certificate_in_many_texts(rt: HostRuntime) -> Result<(), Fail> {
+fn spellings_of_one_certificate(rt: HostRuntime) -> Result<(), Fail> {
     for text in [
         FOUR,
         "cwcert,1,4\nbest,0,4\ncap,0,0:3 1:1\nsame,1,2\ncap,2,0:3 1:1\nsame,3,2",
@@ -65,8 +65,8 @@ fn one_certificate_in_many_texts(rt: HostRuntime) -> Result<(), Fail> {
         "\"cwcert\",1,\"4\"\n\"best\",\"0\",4\ncap,0,\"0:3 1:1\"\n\"same\",\"1\",\"2\"\ncap,2,0:3 1:1\nsame,3,2\n",
         "\ncwcert,1,4\n\n\nbest,0,4\ncap,0,0:3 1:1\n\nsame,1,2\ncap,2,0:3 1:1\nsame,3,2\n\n",
     ] {
-        let text_said = said(rt.alloc(), text.as_bytes())?;
-        assert_eq!(rt; text_said.as_str(), FOUR_SAYS, "{text:?}");
+        let found = read_as_text(rt.alloc(), text.as_bytes())?;
+        assert_eq!(rt; found.as_str(), FOUR_TEXT, "{text:?}");
     }
     Ok(())
 }
@@ -87,8 +87,8 @@ fn rows_of_every_kind(rt: HostRuntime) -> Result<(), Fail> {
         ),
     ] {
         let text = format!(in rt.alloc(); "{HEAD}{records}")?;
-        let text_said = said(rt.alloc(), text.as_bytes())?;
-        assert_eq!(rt; text_said.as_str(), want, "{records:?}");
+        let found = read_as_text(rt.alloc(), text.as_bytes())?;
+        assert_eq!(rt; found.as_str(), want, "{records:?}");
     }
     Ok(())
 }

@@ -1,4 +1,4 @@
-//! Certificates as they are written.
+//! Certificates written to outlets.
 ghost use Rattle.std.specs.Prelude.{◌≡◌, IfOk, length};
 
 use rc_instr::Outlet;
@@ -8,12 +8,12 @@ use std::io::Write;
 use std::test::Fail;
 use tune_cert::{CertFault, CheckFault, Found, Listing, ReadFault, Row, Rows, write_cert};
 
-/// A cap row of these fights.
+// Makes a cap row.
 fn cap(alloc: Global, fights: &[(u32, u8)]) -> Result<Row, AllocError> {
     Ok(Row::Cap(Listing::from_vec(fights.to_vec(alloc)?)))
 }
 
-/// What a search found, with a row of each kind. The fights of one row do not rise.
+// Returns what a search found, with rows of each kind. The fights of one row are not in order.
 fn five_rows(alloc: Global) -> Result<Found, Fail>
     ensures { IfOk result (λ f. length f.rows ≡ 5) }
 {
@@ -34,7 +34,7 @@ fn five_rows(alloc: Global) -> Result<Found, Fail>
 }
 
 #[test]
-fn a_certificate_has_a_line_for_each_vector(rt: HostRuntime) -> Result<(), Fail> {
+fn a_certificate_has_a_line_for_each_row(rt: HostRuntime) -> Result<(), Fail> {
     let found = five_rows(rt.alloc())?;
     let mut out = Outlet::new(Vec::new(rt.alloc()));
     assert_eq!(rt; write_cert(rt.alloc(), &found, &mut out), Ok(()));
@@ -45,7 +45,7 @@ fn a_certificate_has_a_line_for_each_vector(rt: HostRuntime) -> Result<(), Fail>
     Ok(())
 }
 
-/// A writer that fails.
+// A writer that fails at each call.
 #[derive(Drop)]
 struct Broken;
 
@@ -60,7 +60,7 @@ impl Write for Broken {
 }
 
 #[test]
-fn a_writer_that_fails_is_told(rt: HostRuntime) -> Result<(), Fail> {
+fn a_write_failure_is_reported(rt: HostRuntime) -> Result<(), Fail> {
     let found = five_rows(rt.alloc())?;
     let mut out = Outlet::new(Broken);
     assert_eq!(rt;
@@ -74,11 +74,11 @@ fn a_writer_that_fails_is_told(rt: HostRuntime) -> Result<(), Fail> {
 #[test]
 fn texts_of_faults(rt: HostRuntime) -> Result<(), Fail> {
     let write = format!(in rt.alloc(); "{}", CertFault::Write)?;
-    assert_eq!(rt; write.as_str(), "a write failed");
+    assert_eq!(rt; write.as_str(), "cannot write the certificate");
     let memory = format!(in rt.alloc(); "{}", CertFault::OutOfMemory)?;
     assert_eq!(rt; memory.as_str(), "out of memory");
     let row = format!(in rt.alloc(); "{}", ReadFault::Malformed { row: 3 })?;
-    assert_eq!(rt; row.as_str(), "record 3 is not one of a certificate");
+    assert_eq!(rt; row.as_str(), "record 3 of the certificate is malformed");
     let unread = format!(in rt.alloc(); "{}", ReadFault::OutOfMemory)?;
     assert_eq!(rt; unread.as_str(), "out of memory");
     let unchecked = format!(in rt.alloc(); "{}", CheckFault::OutOfMemory)?;

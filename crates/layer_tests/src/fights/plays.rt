@@ -1,4 +1,4 @@
-//! Fights in a core of 16 cells, for 20 cycles, with the opponent at address 8.
+//! Fights in a core of 16 cells, with the opponent at address 8.
 ghost use Rattle.std.specs.Prelude.{IfOk};
 ghost use Rattle.rc_instr.specs.Warrior.{Fits};
 

@@ -1,4 +1,4 @@
-//! Schedules in a core of 16 cells with the distance 4, against two opponents.
+//! Schedules against two opponents, in a core of 16 cells with distance 4.
 use mars_core::Side;
 use mars_fight::{Fight, Schedule, ScheduleFault, ScheduleFaultKind};
 use rc_instr::Rules;
@@ -44,7 +44,7 @@ fn headers(rt: HostRuntime) -> Result<(), Fail> {
 }
 
 #[test]
-fn the_first_wrong_field_is_named(rt: HostRuntime) -> Result<(), Fail> {
+fn the_first_bad_field_is_reported(rt: HostRuntime) -> Result<(), Fail> {
     let rules = Rules::try_new(16, 20, 4, 4, 4)?;
     for (record, want) in [
         ("0,8,c", None),
@@ -78,7 +78,7 @@ fn the_first_wrong_field_is_named(rt: HostRuntime) -> Result<(), Fail> {
         ("0,3,z", Some(ScheduleFaultKind::BadPosition)),
     ] {
         let text = format!(in rt.alloc(); "{HEADER}1,8,c\n{record}\n5,3,z\n")?;
-        // The record behind it is wrong too, so that behind a right one the fault is that of record 3.
+        // The record after `record` is bad too, so if `record` is fine, record 3 is the fault.
         let wanted = match want {
             Some(kind) => fault(2, kind),
             None => fault(3, ScheduleFaultKind::NoSuchOpponent),
@@ -89,7 +89,7 @@ fn the_first_wrong_field_is_named(rt: HostRuntime) -> Result<(), Fail> {
 }
 
 #[test]
-fn texts_that_are_the_same_schedule(rt: HostRuntime) -> Result<(), Fail> {
+fn spellings_of_one_schedule(rt: HostRuntime) -> Result<(), Fail> {
     let rules = Rules::try_new(16, 20, 4, 4, 4)?;
     let want = [
         Fight {
@@ -158,7 +158,7 @@ fn schedules_that_fit(rt: HostRuntime) -> Result<(), Fail> {
     Ok(())
 }
 
-/// The header, so many fights, and then one more record.
+// Returns the header, `fights` equal records, and `last`.
 fn long_text(alloc: Global, fights: u32, last: &str) -> Result<String, AllocError> {
     let mut text = String::new(alloc);
     text.push_str(HEADER)?;

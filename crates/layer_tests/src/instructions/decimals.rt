@@ -1,9 +1,9 @@
-//! Numbers in decimal, by hand.
-use rc_instr::decimal::{after, decimal_at, decimal_of};
+//! Decimals in texts.
+use rc_instr::{after, decimal_at, decimal_of};
 use std::test::Fail;
 
 #[test]
-fn numbers_of_all_bytes(rt: HostRuntime) -> Result<(), Fail> {
+fn decimals_of_whole_texts(rt: HostRuntime) -> Result<(), Fail> {
     for (text, want) in [
         ("0", Some(0)),
         ("7", Some(7)),
@@ -26,8 +26,8 @@ fn numbers_of_all_bytes(rt: HostRuntime) -> Result<(), Fail> {
 }
 
 #[test]
-fn numbers_at_the_front(rt: HostRuntime) -> Result<(), Fail> {
-    for (text, number, behind) in [
+fn decimals_at_the_front(rt: HostRuntime) -> Result<(), Fail> {
+    for (text, number, tail) in [
         ("12:3", 12, ":3"),
         ("0", 0, ""),
         ("4294967295 1", 4_294_967_295, " 1"),
@@ -35,7 +35,7 @@ fn numbers_at_the_front(rt: HostRuntime) -> Result<(), Fail> {
         match decimal_at(text.as_bytes()) {
             Some((found, rest)) => {
                 assert_eq!(rt; found, number, "{text:?}");
-                assert_eq!(rt; rest, behind.as_bytes(), "{text:?}");
+                assert_eq!(rt; rest, tail.as_bytes(), "{text:?}");
             }
             None => assert!(rt; false, "{text:?}"),
         }

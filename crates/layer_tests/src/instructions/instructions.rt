@@ -1,7 +1,7 @@
 //! Default modifiers, the empty cell, and equality of instructions.
 use rc_instr::{Instruction, Mode, Modifier, Opcode, default_modifier};
 
-/// All modes but the immediate one.
+// All modes but `Mode::Immediate`.
 const OTHERS: [Mode; 7] = [
     Mode::Direct,
     Mode::AIndirect,
@@ -12,7 +12,8 @@ const OTHERS: [Mode; 7] = [
     Mode::BPostincrement,
 ];
 
-/// The modifiers where no operand is immediate, the A-operand alone is, the B-operand alone is, and both are.
+// Returns the default modifiers if no operand is immediate, only the A-operand, only the B-operand,
+// and both.
 fn defaults_of(opcode: Opcode, other: Mode) -> [Modifier; 4] {
     [
         default_modifier(opcode, other, other),
@@ -58,7 +59,7 @@ fn default_modifiers_of_all_opcodes(rt: HostRuntime) {
 }
 
 #[test]
-fn instructions_are_same_in_all_six_parts(rt: HostRuntime) {
+fn same_instructions_agree_in_all_six_parts(rt: HostRuntime) {
     let empty = Instruction {
         opcode: Opcode::Dat,
         modifier: Modifier::F,

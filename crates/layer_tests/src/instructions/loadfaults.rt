@@ -1,4 +1,4 @@
-//! Texts that are no load files, or spell no warrior under the rules.
+//! Malformed load files, and load files that the rules refuse.
 use rc_instr::{LoadFault, Rules, WarriorError, read_loadfile};
 use std::alloc::Global;
 use std::test::Fail;

@@ -1,4 +1,4 @@
-//! Load texts written by hand, read and written back.
+//! Load files read and written back.
 use rc_instr::Mode::{
     AIndirect, APostincrement, APredecrement, BIndirect, BPostincrement, BPredecrement, Direct,
     Immediate,
@@ -31,7 +31,7 @@ fn cell(
     }
 }
 
-/// Each opcode, modifier and mode, in a core of 8000 cells.
+// A load file with each opcode, modifier and mode, in a core of 8000 cells.
 const TEXT: &str = "ORG 15\n\
     DAT.F $0, $0\n\
     MOV.I $0, $1\n\
@@ -50,7 +50,7 @@ const TEXT: &str = "ORG 15\n\
     SPL.A $1, *1000\n\
     NOP.BA $0, $0\n";
 
-/// What the text spells.
+// Returns the code that `TEXT` spells.
 fn code_of_text() -> [Instruction; 16] {
     [
         cell(Dat, F, Direct, 0, Direct, 0),
@@ -81,7 +81,7 @@ fn a_text_of_all_words_is_read(rt: HostRuntime) -> Result<(), Fail> {
 }
 
 #[test]
-fn a_text_of_all_words_is_written_behind_what_was_there(rt: HostRuntime) -> Result<(), Fail> {
+fn a_text_of_all_words_is_appended(rt: HostRuntime) -> Result<(), Fail> {
     let rules = Rules::standard();
     let code = Vec::from_slice(rt.alloc(), &code_of_text())?;
     let warrior = Warrior::try_new(code, 15, &rules)?;

@@ -5,7 +5,8 @@ use std::io;
 use std::io::Write;
 use std::test::Fail;
 
-/// A writer that takes at most so many bytes at a call, fails at one call, and counts its calls.
+// A writer that takes at most `most` bytes at a call, fails at call `bad_call` (counted from 1), and
+// counts its calls.
 #[derive(Drop)]
 struct Fake {
     taken: Vec<u8>,
@@ -31,17 +32,18 @@ impl Write for Fake {
     }
 }
 
-/// What came of three writes of `abcde`, then one of nothing: the answers, whether the outlet had failed,
-/// what the writer took, and how often it was called.
+// What four writes returned, whether the outlet failed, what the writer took, and how often it was
+// called.
 #[derive(Drop)]
-struct Story {
-    answers: [Result<usize, WriteFailed>; 4],
+struct Writes {
+    results: [Result<usize, WriteFailed>; 4],
     failed: bool,
     taken: Vec<u8>,
     calls: u32,
 }
 
-fn told(alloc: Global, most: usize, bad_call: u32, kind: io::ErrorKind) -> Story {
+// Writes `abcde` three times, and then no byte.
+fn four_writes(alloc: Global, most: usize, bad_call: u32, kind: io::ErrorKind) -> Writes {
     let mut outlet = Outlet::new(Fake {
         taken: Vec::new(alloc),
         most,
@@ -49,7 +51,7 @@ fn told(alloc: Global, most: usize, bad_call: u32, kind: io::ErrorKind) -> Story
         kind,
         calls: 0,
     });
-    let answers = [
+    let results = [
         outlet.write(b"abcde"),
         outlet.write(b"abcde"),
         outlet.write(b"abcde"),
@@ -57,8 +59,8 @@ fn told(alloc: Global, most: usize, bad_call: u32, kind: io::ErrorKind) -> Story
     ];
     let failed = outlet.failed();
     let fake = outlet.into_inner();
-    Story {
-        answers,
+    Writes {
+        results,
         failed,
         taken: fake.taken,
         calls: fake.calls,
@@ -66,24 +68,24 @@ fn told(alloc: Global, most: usize, bad_call: u32, kind: io::ErrorKind) -> Story
 }
 
 #[test]
-fn a_writer_that_works_makes_no_outlet_fail(rt: HostRuntime) {
+fn a_working_writer_does_not_fail_its_outlet(rt: HostRuntime) {
     for (most, count, taken) in [
         (5, 5, b"abcdeabcdeabcde".as_slice()),
         (9, 5, b"abcdeabcdeabcde".as_slice()),
         (2, 2, b"ababab".as_slice()),
     ] {
-        let story = told(rt.alloc(), most, 0, io::ErrorKind::Other);
-        assert_eq!(rt; story.answers, [Ok(count), Ok(count), Ok(count), Ok(0)]);
-        assert!(rt; !story.failed);
-        assert_eq!(rt; story.taken.as_slice(), taken);
-        assert_eq!(rt; story.calls, 4);
+        let writes = four_writes(rt.alloc(), most, 0, io::ErrorKind::Other);
+        assert_eq!(rt; writes.results, [Ok(count), Ok(count), Ok(count), Ok(0)]);
+        assert!(rt; !writes.failed);
+        assert_eq!(rt; writes.taken.as_slice(), taken);
+        assert_eq!(rt; writes.calls, 4);
     }
 }
 
 #[test]
 fn a_writer_is_not_called_again_after_a_failure(rt: HostRuntime) {
     let failed = Err(WriteFailed);
-    for (most, bad_call, kind, answers, taken, calls) in [
+    for (most, bad_call, kind, results, taken, calls) in [
         (
             5,
             1,
@@ -110,11 +112,11 @@ fn a_writer_is_not_called_again_after_a_failure(rt: HostRuntime) {
         ),
         (0, 0, io::ErrorKind::Other, [failed; 4], b"".as_slice(), 1),
     ] {
-        let story = told(rt.alloc(), most, bad_call, kind);
-        assert_eq!(rt; story.answers, answers);
-        assert!(rt; story.failed);
-        assert_eq!(rt; story.taken.as_slice(), taken);
-        assert_eq!(rt; story.calls, calls);
+        let writes = four_writes(rt.alloc(), most, bad_call, kind);
+        assert_eq!(rt; writes.results, results);
+        assert!(rt; writes.failed);
+        assert_eq!(rt; writes.taken.as_slice(), taken);
+        assert_eq!(rt; writes.calls, calls);
     }
 }
 
@@ -139,8 +141,8 @@ fn a_text_goes_out_a_few_bytes_at_a_time(rt: HostRuntime) -> Result<(), Fail> {
     Ok(())
 }
 
-/// What a whole text leads to: the answer, and what the writer took.
-fn all_told(alloc: Global, most: usize, bad_call: u32) -> (Result<(), WriteFailed>, Vec<u8>) {
+// Writes `abcde` as a whole. Returns the result, and what the writer took.
+fn whole_write(alloc: Global, most: usize, bad_call: u32) -> (Result<(), WriteFailed>, Vec<u8>) {
     let mut outlet = Outlet::new(Fake {
         taken: Vec::new(alloc),
         most,
@@ -148,8 +150,8 @@ fn all_told(alloc: Global, most: usize, bad_call: u32) -> (Result<(), WriteFaile
         kind: io::ErrorKind::BrokenPipe,
         calls: 0,
     });
-    let answer = outlet.write_all(b"abcde");
-    (answer, outlet.into_inner().taken)
+    let result = outlet.write_all(b"abcde");
+    (result, outlet.into_inner().taken)
 }
 
 #[test]
@@ -162,8 +164,8 @@ fn a_whole_text_is_written_piece_by_piece(rt: HostRuntime) {
         (5, 1, Err(WriteFailed), b""),
         (0, 9, Err(WriteFailed), b""),
     ] {
-        let (answer, bytes) = all_told(rt.alloc(), most, bad_call);
-        assert_eq!(rt; answer, want, "{most} {bad_call}");
+        let (found, bytes) = whole_write(rt.alloc(), most, bad_call);
+        assert_eq!(rt; found, want, "{most} {bad_call}");
         assert_eq!(rt; bytes.as_slice(), taken, "{most} {bad_call}");
     }
 }

@@ -38,7 +38,7 @@ fn numbers_within_the_limits_are_rules(rt: HostRuntime) -> Result<(), Fail> {
 }
 
 #[test]
-fn the_first_number_out_of_its_limits_is_named(rt: HostRuntime) {
+fn the_first_number_out_of_its_limits_is_reported(rt: HostRuntime) {
     for (numbers, want) in [
         ([7, 20, 4, 4, 4], RulesError::Core),
         ([65536, 20, 4, 4, 4], RulesError::Core),

@@ -1,4 +1,4 @@
-//! The texts of errors, and the errors that want of memory becomes.
+//! Texts of faults.
 use rc_instr::{Code, LoadFault, OutOfMemory, Refused, RulesError, WarriorError, WriteFailed};
 use std::alloc::{AllocError, Global};
 use std::error::Error;
@@ -11,16 +11,13 @@ fn text_of<E: Error>(alloc: Global, error: &E) -> Result<String, AllocError> {
 #[test]
 fn texts_of_rules(rt: HostRuntime) -> Result<(), Fail> {
     for (error, want) in [
-        (RulesError::Core, "the core size is not 8 to 65535"),
-        (
-            RulesError::Cycles,
-            "the number of cycles is not 1 to 1000000",
-        ),
-        (RulesError::Tasks, "the number of tasks is not 1 to 8000"),
-        (RulesError::Length, "the warrior length is not 1 to 200"),
+        (RulesError::Core, "core size must be 8 to 65535"),
+        (RulesError::Cycles, "cycles must be 1 to 1000000"),
+        (RulesError::Tasks, "tasks must be 1 to 8000"),
+        (RulesError::Length, "warrior length must be 1 to 200"),
         (
             RulesError::Distance,
-            "the distance is below the warrior length or above half of the core size",
+            "distance must be from the warrior length to half the core size",
         ),
     ] {
         assert_eq!(rt; text_of(rt.alloc(), &error)?.as_str(), want);
@@ -31,15 +28,15 @@ fn texts_of_rules(rt: HostRuntime) -> Result<(), Fail> {
 #[test]
 fn texts_of_warriors(rt: HostRuntime) -> Result<(), Fail> {
     for (error, want) in [
-        (WarriorError::Empty, "there is no instruction"),
+        (WarriorError::Empty, "no instructions"),
         (
             WarriorError::TooLong,
-            "there are more instructions than the rules allow",
+            "more instructions than the rules allow",
         ),
-        (WarriorError::BadStart, "the start is not inside the code"),
+        (WarriorError::BadStart, "start outside the code"),
         (
             WarriorError::NumberTooLarge,
-            "a number of an instruction is not below the core size",
+            "instruction number not below the core size",
         ),
     ] {
         assert_eq!(rt; text_of(rt.alloc(), &error)?.as_str(), want);
@@ -60,12 +57,12 @@ fn texts_of_warriors(rt: HostRuntime) -> Result<(), Fail> {
 fn texts_of_bytes_and_memory(rt: HostRuntime) -> Result<(), Fail> {
     let malformed = LoadFault::Malformed { line: 12 };
     let text = text_of(rt.alloc(), &malformed)?;
-    assert_eq!(rt; text.as_str(), "line 12 is not a line of a load file");
+    assert_eq!(rt; text.as_str(), "malformed line 12");
     let text = text_of(rt.alloc(), &LoadFault::OutOfMemory)?;
     assert_eq!(rt; text.as_str(), "out of memory");
     let text = text_of(rt.alloc(), &OutOfMemory::from(AllocError))?;
     assert_eq!(rt; text.as_str(), "out of memory");
     let text = text_of(rt.alloc(), &WriteFailed)?;
-    assert_eq!(rt; text.as_str(), "a write failed");
+    assert_eq!(rt; text.as_str(), "write failed");
     Ok(())
 }

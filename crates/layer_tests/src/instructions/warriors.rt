@@ -1,9 +1,9 @@
-//! Warriors that are made, refused, and held against other rules.
+//! Warriors that are made, refused, and compared with other rules.
 use rc_instr::{Code, Instruction, Refused, Rules, Warrior, WarriorError};
 use std::alloc::{AllocError, Global};
 use std::test::Fail;
 
-/// So many cells `DAT.F` with these numbers.
+// Returns `length` instructions `DAT.F` with the A-number and B-number `numbers`.
 fn cells(alloc: Global, length: u32, numbers: (u16, u16)) -> Result<Vec<Instruction>, AllocError> {
     let mut code = Vec::new(alloc);
     for _ in 0..length {
@@ -17,7 +17,7 @@ fn cells(alloc: Global, length: u32, numbers: (u16, u16)) -> Result<Vec<Instruct
 }
 
 #[test]
-fn the_first_reason_is_given_and_the_code_handed_back(rt: HostRuntime) -> Result<(), Fail> {
+fn the_first_fault_is_reported_and_the_code_handed_back(rt: HostRuntime) -> Result<(), Fail> {
     let rules = Rules::try_new(16, 20, 4, 4, 4)?;
     for (length, start, numbers, want) in [
         (0, 0, (16, 16), WarriorError::Empty),

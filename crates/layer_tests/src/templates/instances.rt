@@ -1,4 +1,4 @@
-//! The warriors of vectors, and inputs.
+//! The warriors of settings, and inputs.
 use mars_fight::Schedule;
 use rc_asm::{AsmFault, AsmKind};
 use rc_expand::ExpandKind;
@@ -6,22 +6,22 @@ use rc_instr::{Rules, read_loadfile, write_loadfile};
 use rc_text::EvalFault;
 use std::alloc::Global;
 use std::test::Fail;
-use tune_template::inputs::Inputs;
-use tune_template::template::Template;
+use tune_template::{Inputs, Template};
 
-/// The load file of the warrior of a vector, or the fault of the text with its values, under small rules.
+// Assembles the setting of index `index`. Returns its load file, or its fault. The rules are 16
+// cells, 20 cycles, 4 tasks, length 4 and distance 4.
 fn instance_text(
     alloc: Global,
     text: &[u8],
-    number: u32,
+    index: u32,
 ) -> Result<Result<Vec<u8>, AsmFault>, Fail> {
     let rules = Rules::try_new(16, 20, 4, 4, 4)?;
     let template = Template::read(alloc, text)?;
     let mut found = Vec::new(alloc);
-    if number >= template.count() {
+    if index >= template.count() {
         return Ok(Ok(found));
     }
-    match template.instance(alloc, number, &rules) {
+    match template.instance(alloc, index, &rules) {
         Ok(warrior) => {
             write_loadfile(alloc, &warrior, &rules, &mut found)?;
             Ok(Ok(found))
@@ -30,7 +30,7 @@ fn instance_text(
     }
 }
 
-/// Texts, the number of a vector, and its load file.
+// Templates, the index of a setting, and its load file.
 const WARRIORS: [(&[u8], u32, &[u8]); 6] = [
     (b"MOV 0, 1", 0, b"ORG 0\nMOV.I $0, $1\n"),
     (
@@ -62,8 +62,8 @@ const WARRIORS: [(&[u8], u32, &[u8]); 6] = [
 
 #[test]
 fn instances_assemble(rt: HostRuntime) -> Result<(), Fail> {
-    for (text, number, load) in WARRIORS {
-        match instance_text(rt.alloc(), text, number)? {
+    for (text, index, load) in WARRIORS {
+        match instance_text(rt.alloc(), text, index)? {
             Ok(found) => assert_eq!(rt; found.as_slice(), load, "{text:?}"),
             Err(_) => assert!(rt; false, "{text:?} is refused"),
         }
@@ -71,7 +71,7 @@ fn instances_assemble(rt: HostRuntime) -> Result<(), Fail> {
     Ok(())
 }
 
-/// Texts, the number of a vector, and the line and kind of the fault with its values.
+// Templates, the index of a setting, and the line and kind of its fault.
 const FAULTS: [(&[u8], u32, u64, AsmKind); 4] = [
     (
         b";@tune K 0 2 1 1\nMOV 0, 1\nDAT 1/K",
@@ -101,8 +101,8 @@ const FAULTS: [(&[u8], u32, u64, AsmKind); 4] = [
 
 #[test]
 fn refused_instances_have_faults(rt: HostRuntime) -> Result<(), Fail> {
-    for (text, number, line, kind) in FAULTS {
-        match instance_text(rt.alloc(), text, number)? {
+    for (text, index, line, kind) in FAULTS {
+        match instance_text(rt.alloc(), text, index)? {
             Ok(_) => assert!(rt; false, "{text:?} assembles"),
             Err(found) => assert_eq!(rt; found, AsmFault { line, kind }, "{text:?}"),
         }
@@ -111,7 +111,7 @@ fn refused_instances_have_faults(rt: HostRuntime) -> Result<(), Fail> {
 }
 
 #[test]
-fn inputs_are_what_they_were_made_of(rt: HostRuntime) -> Result<(), Fail> {
+fn inputs_keep_their_parts(rt: HostRuntime) -> Result<(), Fail> {
     let alloc = rt.alloc();
     let rules = Rules::try_new(16, 20, 4, 4, 4)?;
     let template = Template::read(alloc, b";@tune K 0 2 1 1\nDAT K")?;

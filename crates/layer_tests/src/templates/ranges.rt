@@ -1,12 +1,12 @@
-//! Range lines, vectors, and what is refused.
+//! `;@tune` lines, the order of settings, and refused templates.
 ghost use Rattle.std.specs.Prelude.{◌<◌};
 
 use std::alloc::Global;
 use std::test::Fail;
-use tune_template::fault::{TemplateFault, TemplateKind};
-use tune_template::template::Template;
+use tune_template::{Template, TemplateFault, TemplateKind};
 
-/// Texts, and how many vectors they have, the number of the start vector, and how many constants there are.
+// Templates, with the count of their settings, the index of the start setting, and the count of
+// their constants.
 const TEMPLATES: [(&[u8], u32, u32, usize); 12] = [
     (b"", 1, 0, 0),
     (b"MOV 0, 1", 1, 0, 0),
@@ -15,7 +15,7 @@ const TEMPLATES: [(&[u8], u32, u32, usize); 12] = [
     (b";@tune K -3 3 2 1\r\nDAT K", 4, 2, 1),
     (b";@tune\tK  -0 0 65535\t00000", 1, 0, 1),
     (b";@tune K -65535 65535 1 65535", 131_071, 131_070, 1),
-    // wherever the line stands
+    // lines after END, and in a FOR block
     (
         b";redcode\n;@tune A 0 1 1 1\nEND\n;@tune B 0 2 1 1",
         6,
@@ -28,14 +28,14 @@ const TEMPLATES: [(&[u8], u32, u32, usize); 12] = [
         2,
         2,
     ),
-    // no range lines
+    // lines that only resemble `;@tune`
     (
         b" ;@tune K\n;@TUNE K\n;@tuned K\n; ;@tune K\nDAT 1 ;@tune K",
         1,
         0,
         0,
     ),
-    // names that are free
+    // names that differ from reserved ones in case, or start with an underscore
     (
         b";@tune coresize 1 2 1 2\n;@tune _K9 0 5 5 5\n;@tune k 0 0 1 0",
         4,
@@ -61,15 +61,15 @@ fn templates_are_read(rt: HostRuntime) -> Result<(), Fail> {
     Ok(())
 }
 
-/// Whether the vector of a number has these values.
-fn is_vector(template: &Template, number: u32, values: &[i64]) -> bool {
-    if number >= template.count() {
+// Checks that the setting of index `index` has `values`.
+fn is_vector(template: &Template, index: u32, values: &[i64]) -> bool {
+    if index >= template.count() {
         return false;
     }
-    template.vector(number).as_slice() == values
+    template.vector(index).as_slice() == values
 }
 
-/// The vectors of two constants, the first the slowest.
+// The settings of two constants: an index, and the two values. The first constant changes slowest.
 const VECTORS: [(u32, i64, i64); 6] = [
     (0, 0, 5),
     (1, 0, 7),
@@ -90,15 +90,15 @@ fn vectors_are_in_order(rt: HostRuntime) -> Result<(), Fail> {
         _ => assert!(rt; false, "there are not two constants"),
     }
     assert_eq!(rt; template.count(), 6);
-    for (number, first, second) in VECTORS {
-        assert!(rt; is_vector(&template, number, &[first, second]), "{number}");
+    for (index, first, second) in VECTORS {
+        assert!(rt; is_vector(&template, index, &[first, second]), "{index}");
     }
     let single = Template::read(rt.alloc(), b"NOP")?;
     assert!(rt; is_vector(&single, 0, &[]));
     Ok(())
 }
 
-/// Texts, and the line and kind of their fault.
+// Templates, and the line and kind of their fault.
 const FAULTS: [(&[u8], u64, TemplateKind); 27] = [
     (
         b";@tune A 0 999 1 0\n;@tune B 0 1000 1 0",
@@ -131,7 +131,7 @@ const FAULTS: [(&[u8], u64, TemplateKind); 27] = [
     (b";@tune K +0 1 1 0", 1, TemplateKind::BadLine),
     (b";@tune K --1 1 1 0", 1, TemplateKind::BadLine),
     (b";@tune K - 1 1 0", 1, TemplateKind::BadLine),
-    // what comes first in a line, and in a text
+    // which of two faults comes first
     (b";@tune mov 0 1 1 x", 1, TemplateKind::BadLine),
     (
         b";@tune K 0 1 1 0\n;@tune K 1 0 1 0",
@@ -157,7 +157,7 @@ fn bad_templates_have_faults(rt: HostRuntime) -> Result<(), Fail> {
     Ok(())
 }
 
-/// A text of so many semicolons.
+// Returns `count` semicolons.
 fn semicolons(alloc: Global, count: usize) -> Result<Vec<u8>, Fail> {
     let mut text = Vec::new(alloc);
     for _ in 0..count {
@@ -173,7 +173,7 @@ fn long_texts_are_refused(rt: HostRuntime) -> Result<(), Fail> {
         Ok(_) => assert!(rt; false, "a text that is too long is a template"),
         Err(found) => assert_eq!(rt;
             format!(in rt.alloc(); "{}", found)?.as_str(),
-            "line 0: the text has more than 65536 bytes"
+            "line 0: text longer than 65536 bytes"
         ),
     }
     Ok(())

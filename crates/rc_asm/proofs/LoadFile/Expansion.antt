@@ -2,8 +2,8 @@
 use Rattle.std.proofs.Common.{◌≡◌, ℕ, ◌≤◌, List, [], ◌∷◌, ◌++◌, length, None, refl, ◌∙◌, ap, arith, length-append, subst}
 use Rattle.rc_text.specs.declared.token.Token.{Token}
 use Rattle.rc_text.specs.Tokens.{tokens_of}
-use Rattle.rc_instr.specs.Rules.{Limits}
-use Rattle.rc_instr.specs.Warrior.{Program}
+use Rattle.rc_instr.specs.Rules.{RulesView}
+use Rattle.rc_instr.specs.Warrior.{WarriorView}
 use Rattle.rc_instr.specs.declared.instruction.Instruction.{Instruction}
 use Rattle.rc_expand.specs.Lines.{is_line_end_kind}
 use Rattle.rc_expand.specs.Expansion.{IsExpansion}
@@ -17,7 +17,7 @@ use Rattle.rc_asm.specs.Printed.{AreNumber, Plain, Below, Row, row_tokens, rows_
 abbrev plain_row : Instruction → Row → PlainLine
 plain_row i r = record { word = AnOpcode i.opcode; first = r.opcode; others = r.dot ∷ r.modifier ∷ ((r.a_sign ∷ r.a_number) ++ (r.comma ∷ r.b_sign ∷ r.b_number)); end = r.end }
 
--- those of the code
+-- the lines of the code
 abbrev plain_rows : List Instruction → List Row → List PlainLine
 plain_rows [] rs = []
 plain_rows (i ∷ is) [] = []
@@ -28,7 +28,7 @@ abbrev plain_start : Opening → PlainLine
 plain_start o = record { word = AStart; first = o.word; others = o.number ∷ []; end = o.end }
 
 -- all lines
-abbrev plain_print : Program → Printed → List PlainLine
+abbrev plain_print : WarriorView → Printed → List PlainLine
 plain_print w p = plain_start p.opening ∷ plain_rows w.code p.rows
 
 -- no line ends among the tokens of a number
@@ -36,7 +36,7 @@ number_no_end : (m n : ℕ) (ts : List Token) → AreNumber m n ts → HaveNoEnd
 number_no_end m n ts (Plain t e) = (ap is_line_end_kind e, tt)
 number_no_end m n ts (Below s t k e f g) = (ap is_line_end_kind e, (ap is_line_end_kind f, tt))
 
--- nor among those of two parts
+-- no line ends among the tokens of two parts
 both_no_end : (ts us : List Token) → HaveNoEnd ts → HaveNoEnd us → HaveNoEnd (ts ++ us)
 both_no_end [] us h k = k
 both_no_end (t ∷ ts) us h k = (h.0, both_no_end ts us h.1 k)
@@ -72,7 +72,7 @@ rows_plain source m (i ∷ is) (r ∷ rs) p = (row_plain source m i r p.0, rows_
 start_plain : (source : List ℕ) (start : ℕ) (o : Opening) → IsStart source start o → IsPlain source (plain_start o)
 start_plain source start o h = record { kind = h.word.kind; joined = h.word.joined; bytes = h.word.bytes; others = (ap is_line_end_kind h.number, tt); end = ap is_line_end_kind h.end; short = omega arith }
 
--- ---- they have the same tokens, lines and number
+-- ---- the tokens and lines, and how many they are
 
 -- the tokens of the code's lines
 rows_tokens_same : (source : List ℕ) (m : ℕ) (is : List Instruction) (rs : List Row) → ArePrinted source m is rs → rows_tokens rs ≡ plain_tokens (plain_rows is rs)
@@ -81,24 +81,24 @@ rows_tokens_same source m [] (r ∷ rs) p = absurd p
 rows_tokens_same source m (i ∷ is) [] p = absurd p
 rows_tokens_same source m (i ∷ is) (r ∷ rs) p = ap (λ ts. row_tokens r ++ (r.end ∷ ts)) (rows_tokens_same source m is rs p.1)
 
--- the lines for which they stand
+-- the lines that the tokens make
 rows_lines_same : (source : List ℕ) (m : ℕ) (is : List Instruction) (rs : List Row) → ArePrinted source m is rs → plain_lines (plain_rows is rs) ≡ code_lines rs
 rows_lines_same source m [] [] p = refl
 rows_lines_same source m [] (r ∷ rs) p = absurd p
 rows_lines_same source m (i ∷ is) [] p = absurd p
 rows_lines_same source m (i ∷ is) (r ∷ rs) p = ap (λ ls. code_line r ∷ ls) (rows_lines_same source m is rs p.1)
 
--- there are no more lines than instructions
+-- there are at most as many lines as instructions
 rows_no_more : (is : List Instruction) (rs : List Row) → length (plain_rows is rs) ≤ length is
 rows_no_more [] rs = omega arith
 rows_no_more (i ∷ is) [] = omega arith
 rows_no_more (i ∷ is) (r ∷ rs) = let h = rows_no_more is rs in omega (arith, h)
 
 -- a text with the tokens of a load text expands to its own lines
-pub print_expands : (source : List ℕ) (limits : Limits) (m : ℕ) (w : Program) (p : Printed) → IsPrint source m w p → length w.code ≤ 200 → tokens_of source ≡ printed_tokens p → IsExpansion source [] limits (printed_lines p)
-print_expands source limits m w p h s e =
+pub print_expands : (source : List ℕ) (rules : RulesView) (m : ℕ) (w : WarriorView) (p : Printed) → IsPrint source m w p → length w.code ≤ 200 → tokens_of source ≡ printed_tokens p → IsExpansion source [] rules (printed_lines p)
+print_expands source rules m w p h s e =
     let o = p.opening in
     let n = rows_no_more w.code p.rows in
-    subst (λ ls. IsExpansion source [] limits (start_line o ∷ ls)) (rows_lines_same source m w.code p.rows h.code)
-    (plain_expands source limits (plain_print w p) (start_plain source w.start o h.start, rows_plain source m w.code p.rows h.code) (omega (arith, n, s))
+    subst (λ ls. IsExpansion source [] rules (start_line o ∷ ls)) (rows_lines_same source m w.code p.rows h.code)
+    (plain_expands source rules (plain_print w p) (start_plain source w.start o h.start, rows_plain source m w.code p.rows h.code) (omega (arith, n, s))
     (e ∙ ap (λ ts. record { tokens = o.word ∷ o.number ∷ o.end ∷ ts; ending = None }) (rows_tokens_same source m w.code p.rows h.code)))

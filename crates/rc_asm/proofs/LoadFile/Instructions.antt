@@ -25,9 +25,9 @@ use Rattle.rc_asm.specs.declared.fault.AsmKind.TheVariants.{UnknownOpcode, Value
 use Rattle.rc_asm.specs.declared.operand.Operand.{Operand}
 use Rattle.rc_asm.specs.Results.{mapped, and_then, with_fault}
 use Rattle.rc_asm.specs.Words.{named, opcodes, modifiers, is_plain, opcode_at, modifier_at, mode_of, mode_of_kind, mode_at, is_comma, is_comma_kind}
-use Rattle.rc_asm.specs.Shape.{begun, parts_from, parts, sides, sides_of, Shape, shape, with_operands, with_modifier, behind_opcode, shape_of}
-use Rattle.rc_asm.specs.Names.{Names, stands_for}
-use Rattle.rc_asm.specs.Instructions.{natural, core_number, operand, operand_behind, operand_at, made, shaped, instruction_at}
+use Rattle.rc_asm.specs.Shape.{begun, parts_from, parts, sides, sides_of, Shape, shape, with_operands, with_modifier, after_opcode, shape_of}
+use Rattle.rc_asm.specs.Names.{NameValues, stands_for}
+use Rattle.rc_asm.specs.Instructions.{natural, core_number, operand, operand_after, operand_at, made, shaped, instruction_at}
 use Rattle.rc_asm.specs.Printed.{mode_sign, IsWord, AreNumber, Plain, Below, Row, a_tokens, b_tokens, row_tokens, IsPrinted}
 
 -- ---- words
@@ -61,7 +61,7 @@ modifier_back mod'.F = refl
 modifier_back mod'.X = refl
 modifier_back mod'.I = refl
 
--- the sign of a mode stands for it
+-- the sign of a mode means the mode
 mode_back : (m : Mode) → mode_of (mode_sign m) ≡ Some m
 mode_back mode.Immediate = refl
 mode_back mode.Direct = refl
@@ -88,7 +88,7 @@ unfolding modifier_at
 modifier_there source t m w =
     ap (λ b. if b then named modifiers (bytes_of source t) else None) (word_plain source (modifier_text m) t w) ∙ ap (named modifiers) w.bytes ∙ modifier_back m
 
--- the token of a mode's sign stands for the mode
+-- the token of a mode's sign means the mode
 mode_there : (t : Token) (m : Mode) → t.kind ≡ SignOf (mode_sign m) → mode_at t ≡ Some m
 mode_there t m k = ap mode_of_kind k ∙ mode_back m
 
@@ -99,7 +99,7 @@ pub plain_value : (names : Meaning) (n : ℕ) → evaluation_of names (Numeral n
 unfolding before_operand after_operand
 plain_value names n = refl
 
--- and below zero with a minus sign
+-- a number after a minus sign has its negative value
 minus_value : (names : Meaning) (n : ℕ) → n < 2 ^ 63 → evaluation_of names (Mark Minus ∷ Numeral (suc n) ∷ []) ≡ Ok (negsuc n)
 unfolding before_operand after_operand
 minus_value names n h = let e = lt-ltb n (2 ^ 63) h in rw e refl
@@ -111,7 +111,7 @@ plain_number m n h =
     let e : int_rem_euclid (pos n) (pos m) ≡ pos (n % m) = int_rem_euclid_is (pos n) (pos m) m 0 n (omega arith) refl (omega (arith, ints)) in
     ap natural e ∙ mod-eq_of_lt h
 
--- a value below zero stands for what it lacks to the core size
+-- a value below zero counts down from the core size
 minus_number : (m n k : ℕ) → n < m → suc k + n ≡ m → core_number m (negsuc k) ≡ n
 unfolding core_number
 minus_number m n k h e =
@@ -139,20 +139,20 @@ number_there source names m n ts h l (Below s t k e f g) = record {
   same = minus_number m n k h g;
 }
 
-module _ (source : List ℕ) (names : Names) (at : ℕ) where
+module _ (source : List ℕ) (names : NameValues) (at : ℕ) where
   -- a mode and a number are the operand that they print
-  operand_there : (n : ℕ) (mode : Mode) (sign : Token) (ts : List Token) → n < names.limits.core → names.limits.core ≤ 65535 → sign.kind ≡ SignOf (mode_sign mode) → AreNumber names.limits.core n ts
+  operand_there : (n : ℕ) (mode : Mode) (sign : Token) (ts : List Token) → n < names.rules.core → names.rules.core ≤ 65535 → sign.kind ≡ SignOf (mode_sign mode) → AreNumber names.rules.core n ts
       → operand_at source names at (Some (sign ∷ ts)) ≡ Ok (record { mode = mode; number = n })
   unfolding operand_at
   operand_there n mode sign ts h l k t =
-      let v = number_there source (stands_for names at at) names.limits.core n ts h l t in
-      ap (λ o. operand_behind source names at o sign ts) (mode_there sign mode k)
-      ∙ ap (mapped (operand names.limits.core mode)) v.there
+      let v = number_there source (stands_for names at at) names.rules.core n ts h l t in
+      ap (λ o. operand_after source names at o sign ts) (mode_there sign mode k)
+      ∙ ap (mapped (operand names.rules.core mode)) v.there
       ∙ ap (λ x. Ok (record { mode = mode; number = x })) v.same
 
 -- ---- the parts between commas
 
--- no comma is among them
+-- no token is a comma
 abbrev HaveNoComma : List Token → Type 0
 HaveNoComma [] = Unit {0}
 HaveNoComma (t ∷ ts) = (is_comma t ≡ false) × HaveNoComma ts
@@ -162,12 +162,12 @@ whole_part : (ts : List Token) → HaveNoComma ts → parts_from ts ≡ ts ∷ [
 whole_part [] h = refl
 whole_part (t ∷ ts) h = rw h.0 (ap (begun t) (whole_part ts h.1))
 
--- those before the first comma are the first part
+-- the tokens before the first comma are the first part
 first_part : (ts : List Token) (c : Token) (us : List Token) → HaveNoComma ts → is_comma c ≡ true → parts_from (ts ++ (c ∷ us)) ≡ ts ∷ parts_from us
 first_part [] c us h k = rw k refl
 first_part (t ∷ ts) c us h k = rw h.0 (ap (begun t) (first_part ts c us h.1 k))
 
--- no mode is written by a comma
+-- a comma is not a mode
 mode_no_comma : (m : Mode) → is_comma_kind (SignOf (mode_sign m)) ≡ false
 mode_no_comma mode.Immediate = refl
 mode_no_comma mode.Direct = refl
@@ -178,12 +178,12 @@ mode_no_comma mode.BPredecrement = refl
 mode_no_comma mode.APostincrement = refl
 mode_no_comma mode.BPostincrement = refl
 
--- nor is a number
+-- the tokens of a number have no comma
 number_no_comma : (m n : ℕ) (ts : List Token) → AreNumber m n ts → HaveNoComma ts
 number_no_comma m n ts (Plain t e) = (ap is_comma_kind e, tt)
 number_no_comma m n ts (Below s t k e f g) = (ap is_comma_kind e, (ap is_comma_kind f, tt))
 
--- the sign of a mode is no comma
+-- the sign of a mode is not a comma
 sign_no_comma : (m : Mode) (t : Token) → t.kind ≡ SignOf (mode_sign m) → is_comma t ≡ false
 sign_no_comma m t e = ap is_comma_kind e ∙ mode_no_comma m
 
@@ -192,28 +192,28 @@ two_parts : (a : Token) (as' : List Token) (c : Token) (bs : List Token) → Hav
 unfolding parts
 two_parts a as' c bs h k l = first_part (a ∷ as') c bs h k ∙ ap (λ ps. (a ∷ as') ∷ ps) (whole_part bs l)
 
-module _ (source : List ℕ) (names : Names) (at : ℕ) (i : Instruction) (r : Row) (p : IsPrinted source names.limits.core i r) where
+module _ (source : List ℕ) (names : NameValues) (at : ℕ) (i : Instruction) (r : Row) (p : IsPrinted source names.rules.core i r) where
   -- the opcode, the modifier and both operands are written
   abbrev printed_shape : Shape
   printed_shape = shape i.opcode (Some i.modifier) (sides (Some (a_tokens r)) (Some (b_tokens r)))
 
   -- the form of a printed line
   shape_there : shape_of source (row_tokens r) ≡ Ok printed_shape
-  unfolding shape_of behind_opcode with_modifier with_operands
+  unfolding shape_of after_opcode with_modifier with_operands
   shape_there =
-      let m = names.limits.core in
+      let m = names.rules.core in
       let behind : List Token = a_tokens r ++ (r.comma ∷ b_tokens r) in
       let ca = number_no_comma m i.a_number r.a_number p.a_number in
       let cb = number_no_comma m i.b_number r.b_number p.b_number in
       let ps = two_parts r.a_sign r.a_number r.comma (b_tokens r) (sign_no_comma i.a_mode r.a_sign p.a_sign, ca) (ap is_comma_kind p.comma) (sign_no_comma i.b_mode r.b_sign p.b_sign, cb) in
       let d : is_dot r.dot ≡ true = ap is_dot_kind p.dot in
-      ap (λ o. and_then (λ o. behind_opcode source o (r.dot ∷ r.modifier ∷ behind)) (ok_or o UnknownOpcode)) (opcode_there source r.opcode i.opcode p.opcode)
+      ap (λ o. and_then (λ o. after_opcode source o (r.dot ∷ r.modifier ∷ behind)) (ok_or o UnknownOpcode)) (opcode_there source r.opcode i.opcode p.opcode)
       ∙ ap (λ b. if b then with_modifier source i.opcode (r.modifier ∷ behind) else with_operands i.opcode None (r.dot ∷ r.modifier ∷ behind)) d
       ∙ ap (λ o. and_then (λ f. with_operands i.opcode (Some f) behind) (ok_or o UnknownOpcode)) (modifier_there source r.modifier i.modifier p.modifier)
       ∙ ap (λ x. mapped (shape i.opcode (Some i.modifier)) (sides_of i.opcode x)) ps
 
   -- the tokens of a printed instruction spell it
-  pub instruction_there : names.limits.core ≤ 65535 → i.a_number < names.limits.core → i.b_number < names.limits.core → instruction_at source names at (row_tokens r) ≡ Ok i
+  pub instruction_there : names.rules.core ≤ 65535 → i.a_number < names.rules.core → i.b_number < names.rules.core → instruction_at source names at (row_tokens r) ≡ Ok i
   unfolding instruction_at shaped made
   instruction_there l a b =
       let s = printed_shape in

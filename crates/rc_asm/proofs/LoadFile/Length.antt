@@ -5,7 +5,7 @@ use Rattle.std.specs.Fmt.{decimal}
 use Rattle.std.proofs.lemmas.Bool.{cases_Bool}
 use Rattle.std.proofs.lemmas.List.Concat.{flat_map-cons}
 use Rattle.rc_instr.specs.LoadText.{opcode_text, modifier_text, mode_text, number_text, operand_text, line_text, load_text}
-use Rattle.rc_instr.specs.Warrior.{IsBelow, Program}
+use Rattle.rc_instr.specs.Warrior.{IsBelow, WarriorView}
 use Rattle.rc_instr.specs.declared.instruction.Modifier.{Modifier}
 use Rattle.rc_instr.specs.declared.instruction.Modifier.TheVariants as mod'
 use Rattle.rc_instr.specs.declared.instruction.Mode.{Mode}
@@ -73,7 +73,7 @@ lines_short m (i ∷ is) b s =
     omega (arith, e, l, r)
 
 -- the whole load text
-pub load_short : (m : ℕ) (w : Program) → w.start < 2 ^ 16 → All (IsBelow m) w.code → m ≤ 65535 → length w.code ≤ 200 → length (load_text m w) ≤ 65536
+pub load_short : (m : ℕ) (w : WarriorView) → w.start < 2 ^ 16 → All (IsBelow m) w.code → m ≤ 65535 → length w.code ≤ 200 → length (load_text m w) ≤ 65536
 unfolding load_text
 load_short m w l b s n =
     let rest : List ℕ = flat_map (line_text m) w.code in

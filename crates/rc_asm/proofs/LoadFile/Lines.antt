@@ -4,46 +4,46 @@ use Rattle.std.specs.Prelude.{pos, All, option_and_then, option_map, Ok}
 use Rattle.rc_text.specs.Symbols.{name_of, symbol_of_kind}
 use Rattle.rc_text.specs.Reading.{evaluation_of}
 use Rattle.rc_instr.specs.declared.instruction.Instruction.{Instruction}
-use Rattle.rc_instr.specs.Warrior.{IsBelow, Program, IsProgram, Fits}
+use Rattle.rc_instr.specs.Warrior.{IsBelow, WarriorView, IsWarrior, Fits}
 use Rattle.rc_expand.specs.declared.line.LineWord.TheVariants.{Code, Org}
 use Rattle.rc_asm.specs.declared.starts.Starts.{Starts}
-use Rattle.rc_asm.specs.Names.{Names, stands_for, value_at}
-use Rattle.rc_asm.specs.Assembly.{next_instruction, starts_after, no_starts, start_of, instructions_from, holds_from, starts_from, IsMadeOf}
+use Rattle.rc_asm.specs.Names.{NameValues, stands_for, value_at}
+use Rattle.rc_asm.specs.Assembly.{next_instruction, starts_after, no_starts, start_value, instructions_from, holds_from, starts_from, IsMadeOf}
 use Rattle.rc_asm.specs.Printed.{Row, Opening, Printed, ArePrinted, IsStart, IsPrint, code_lines, printed_lines}
 use Rattle.rc_asm.proofs.LoadFile.Instructions.{instruction_there, plain_value}
 
-module _ (source : List ℕ) (names : Names) where
+module _ (source : List ℕ) (names : NameValues) where
   -- the rows' lines are the instructions
-  code_there : names.limits.core ≤ 65535 → (is : List Instruction) (rs : List Row) (at : ℕ) → All (IsBelow names.limits.core) is → ArePrinted source names.limits.core is rs → instructions_from source names at (code_lines rs) ≡ Some is
+  code_there : names.rules.core ≤ 65535 → (is : List Instruction) (rs : List Row) (at : ℕ) → All (IsBelow names.rules.core) is → ArePrinted source names.rules.core is rs → instructions_from source names at (code_lines rs) ≡ Some is
   code_there small [] [] at b p = refl
   code_there small [] (r ∷ rs) at b p = absurd p
   code_there small (i ∷ is) [] at b p = absurd p
   code_there small (i ∷ is) (r ∷ rs) at b p =
-      let low : IsBelow names.limits.core i = b 0 i (omega arith) in
+      let low : IsBelow names.rules.core i = b 0 i (omega arith) in
       ap (λ x. next_instruction Code x (instructions_from source names (at + 1) (code_lines rs))) (instruction_there source names at i r p.0 small low.a low.b)
       ∙ ap (option_map (λ ys. i ∷ ys)) (code_there small is rs (at + 1) (λ k d h. b (suc k) d (omega (arith, h))) p.1)
 
-  -- there is no assertion among them
+  -- the lines have no assertion
   holds_there : (rs : List Row) (at : ℕ) → holds_from source names at (code_lines rs) ≡ true
   holds_there [] at = refl
   holds_there (r ∷ rs) at = holds_there rs (at + 1)
 
-  -- nor another start
+  -- the lines of code have no ORG or END
   starts_there : (rs : List Row) (at : ℕ) (s : Starts) → starts_from source names at s (code_lines rs) ≡ Some s
   starts_there [] at s = refl
   starts_there (r ∷ rs) at s = starts_there rs (at + 1) s
 
-  -- the value behind ORG is the start
-  start_value : (start : ℕ) (o : Opening) → IsStart source start o → value_at source names 0 0 (o.number ∷ []) ≡ Ok (pos start)
-  start_value start o h = ap (λ k. evaluation_of (stands_for names 0 0) (symbol_of_kind k (name_of source o.number) ∷ [])) h.number ∙ plain_value (stands_for names 0 0) start
+  -- the value after ORG is the start
+  start_number : (start : ℕ) (o : Opening) → IsStart source start o → value_at source names 0 0 (o.number ∷ []) ≡ Ok (pos start)
+  start_number start o h = ap (λ k. evaluation_of (stands_for names 0 0) (symbol_of_kind k (name_of source o.number) ∷ [])) h.number ∙ plain_value (stands_for names 0 0) start
 
   -- the lines of a print make the warrior
-  pub made_of_printed : (w : Program) (p : Printed) → names.limits.core ≤ 65535 → IsProgram w → Fits names.limits w → IsPrint source names.limits.core w p → IsMadeOf source names (printed_lines p) w
+  pub made_of_printed : (w : WarriorView) (p : Printed) → names.rules.core ≤ 65535 → IsWarrior w → Fits names.rules w → IsPrint source names.rules.core w p → IsMadeOf source names (printed_lines p) w
   made_of_printed w p small g f h = record {
     code = code_there small w.code p.rows 0 f.numbers h.code;
     holds = holds_there p.rows 0;
-    start = ap (option_map start_of) (
-        ap (λ v. option_and_then (λ r. starts_from source names 0 r (code_lines p.rows)) (starts_after Org (p.opening.number ∷ []) v no_starts)) (start_value w.start p.opening h.start)
+    start = ap (option_map start_value) (
+        ap (λ v. option_and_then (λ r. starts_from source names 0 r (code_lines p.rows)) (starts_after Org (p.opening.number ∷ []) v no_starts)) (start_number w.start p.opening h.start)
         ∙ starts_there p.rows 0 (record { org = Some (pos w.start); end = None }));
     some = g.some;
     within = f.short;

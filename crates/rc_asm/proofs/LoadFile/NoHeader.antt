@@ -11,7 +11,7 @@ use Rattle.rc_text.specs.Bytes.{LINE_FEED, begins_with_word}
 use Rattle.rc_text.specs.Headers.{extent, preceded, header_from}
 use Rattle.rc_text.specs.Tokens.{TokenList, tokens_of, tokens_from}
 use Rattle.rc_instr.specs.LoadText.{opcode_text, modifier_text, mode_text, number_text, operand_text, line_text, start_text, load_text}
-use Rattle.rc_instr.specs.Warrior.{IsBelow, Program}
+use Rattle.rc_instr.specs.Warrior.{IsBelow, WarriorView}
 use Rattle.rc_instr.specs.declared.instruction.Opcode.{Opcode}
 use Rattle.rc_instr.specs.declared.instruction.Opcode.TheVariants as op
 use Rattle.rc_instr.specs.declared.instruction.Modifier.{Modifier}
@@ -29,12 +29,12 @@ pub parts_of_start : (n : ℕ) (rest : List ℕ) → start_text n ++ rest ≡ co
 unfolding start_text
 parts_of_start n rest = simp append_assoc
 
--- no semicolon is there
+-- no byte is a semicolon
 abbrev pub is_quiet : List ℕ → Bool
 is_quiet [] = true
 is_quiet (b ∷ bs) = not (b == 59) && is_quiet bs
 
--- what is not so is false
+-- what does not hold is false
 not_false : (t : Bool) → not t ≡ true → t ≡ false
 not_false true h = absurd (both_ways (not true) refl h)
 not_false false h = refl
@@ -74,12 +74,12 @@ no_header (b ∷ bs) begins q =
     ∙ ap (λ o. if b == LINE_FEED then None else preceded 1 0 o) (no_header bs false p.1)
     ∙ either_none (b == LINE_FEED)
 
--- nor is one in two such texts together
+-- two texts without semicolons have none together
 quiet_append : (as' bs : List ℕ) → is_quiet as' ≡ true → is_quiet bs ≡ true → is_quiet (as' ++ bs) ≡ true
 quiet_append [] bs p q = q
 quiet_append (a ∷ as') bs p q = let k = and_parts (not (a == 59)) (is_quiet as') p in and_from _ _ k.0 (quiet_append as' bs k.1 q)
 
--- nor in digits
+-- digits have no semicolon
 quiet_digits : (ds : List ℕ) → all_ascii_digits ds ≡ true → is_quiet ds ≡ true
 quiet_digits [] h = refl
 quiet_digits (d ∷ ds) h =
@@ -88,7 +88,7 @@ quiet_digits (d ∷ ds) h =
     let n : (d == 59) ≡ false = ne_eqb d 59 (λ e. omega (arith, e, g.high)) in
     and_from _ _ (ap not n) (quiet_digits ds q.1)
 
--- nor in an opcode
+-- an opcode has no semicolon
 quiet_opcode : (o : Opcode) → is_quiet (opcode_text o) ≡ true
 quiet_opcode op.Dat = refl
 quiet_opcode op.Mov = refl
@@ -107,7 +107,7 @@ quiet_opcode op.Slt = refl
 quiet_opcode op.Spl = refl
 quiet_opcode op.Nop = refl
 
--- nor in a modifier
+-- a modifier has no semicolon
 quiet_modifier : (f : Modifier) → is_quiet (modifier_text f) ≡ true
 quiet_modifier mod'.A = refl
 quiet_modifier mod'.B = refl
@@ -117,7 +117,7 @@ quiet_modifier mod'.F = refl
 quiet_modifier mod'.X = refl
 quiet_modifier mod'.I = refl
 
--- nor in a mode
+-- a mode has no semicolon
 quiet_mode : (m : Mode) → is_quiet (mode_text m) ≡ true
 quiet_mode mode.Immediate = refl
 quiet_mode mode.Direct = refl
@@ -128,7 +128,7 @@ quiet_mode mode.BPredecrement = refl
 quiet_mode mode.APostincrement = refl
 quiet_mode mode.BPostincrement = refl
 
--- nor in a number
+-- a number has no semicolon
 quiet_number : (m k : ℕ) → k < m → m ≤ 65535 → is_quiet (number_text m k) ≡ true
 unfolding number_text
 quiet_number m k l s = ⊎_elim
@@ -136,12 +136,12 @@ quiet_number m k l s = ⊎_elim
     (λ e. ap (λ b. is_quiet (if b then decimal k else codes "-" ++ decimal (m - k))) e ∙ quiet_digits (decimal (m - k)) (decimal_all (m - k) (omega arith)))
     (cases_Bool (nat_le (2 * k) m))
 
--- nor in an operand
+-- an operand has no semicolon
 quiet_operand : (m : ℕ) (mode : Mode) (k : ℕ) → k < m → m ≤ 65535 → is_quiet (operand_text m mode k) ≡ true
 unfolding operand_text
 quiet_operand m mode k l s = quiet_append (mode_text mode) (number_text m k) (quiet_mode mode) (quiet_number m k l s)
 
--- nor in a line before such a text
+-- a line before a text without semicolons adds none
 quiet_line : (m : ℕ) (i : Instruction) (rest : List ℕ) → IsBelow m i → m ≤ 65535 → is_quiet rest ≡ true → is_quiet (line_text m i ++ rest) ≡ true
 quiet_line m i rest l s q =
     ap is_quiet (parts_of_line m i rest)
@@ -150,24 +150,24 @@ quiet_line m i rest l s q =
     (quiet_append (operand_text m i.a_mode i.a_number) _ (quiet_operand m i.a_mode i.a_number l.a s)
     (quiet_append (operand_text m i.b_mode i.b_number) _ (quiet_operand m i.b_mode i.b_number l.b s) q)))
 
--- nor in all lines of the code
+-- the lines of the code have no semicolon
 quiet_lines : (m : ℕ) (is : List Instruction) → All (IsBelow m) is → m ≤ 65535 → is_quiet (flat_map (line_text m) is) ≡ true
 quiet_lines m [] b s = refl
 quiet_lines m (i ∷ is) b s =
     ap is_quiet (flat_map-cons (line_text m) i is)
     ∙ quiet_line m i (flat_map (line_text m) is) (b 0 i (omega arith)) s (quiet_lines m is (λ k d n. b (suc k) d (omega (arith, n))) s)
 
--- nor in the whole load text
-quiet_load : (m : ℕ) (w : Program) → w.start < 2 ^ 16 → All (IsBelow m) w.code → m ≤ 65535 → is_quiet (load_text m w) ≡ true
+-- a load text has no semicolon
+quiet_load : (m : ℕ) (w : WarriorView) → w.start < 2 ^ 16 → All (IsBelow m) w.code → m ≤ 65535 → is_quiet (load_text m w) ≡ true
 unfolding load_text
 quiet_load m w l b s =
     ap is_quiet (parts_of_start w.start (flat_map (line_text m) w.code))
     ∙ quiet_append (decimal w.start) _ (quiet_digits (decimal w.start) (decimal_all w.start (omega (arith, l)))) (quiet_lines m w.code b s)
 
--- the tokens behind a header
-abbrev behind_header : List ℕ → Extent → TokenList
-behind_header text h = tokens_from (drop h.bytes text) 0 true h.bytes (1 + h.lines)
+-- the tokens after a header
+abbrev after_header : List ℕ → Extent → TokenList
+after_header text h = tokens_from (drop h.bytes text) 0 true h.bytes (1 + h.lines)
 
--- where a load text begins, its tokens begin
-pub tokens_of_load : (m : ℕ) (w : Program) → w.start < 2 ^ 16 → All (IsBelow m) w.code → m ≤ 65535 → tokens_of (load_text m w) ≡ tokens_from (load_text m w) 0 true 0 1
-tokens_of_load m w l b s = ap (λ o. behind_header (load_text m w) (unwrap_or o (extent 0 0))) (no_header (load_text m w) true (quiet_load m w l b s))
+-- without a header, the tokens begin with the text
+pub tokens_of_load : (m : ℕ) (w : WarriorView) → w.start < 2 ^ 16 → All (IsBelow m) w.code → m ≤ 65535 → tokens_of (load_text m w) ≡ tokens_from (load_text m w) 0 true 0 1
+tokens_of_load m w l b s = ap (λ o. after_header (load_text m w) (unwrap_or o (extent 0 0))) (no_header (load_text m w) true (quiet_load m w l b s))

@@ -45,7 +45,7 @@ fold_is : (n : ℕ) (ds : List ℕ) → fold (λ n b. n * 10 + (b - 48)) n ds �
 fold_is n [] = refl
 fold_is n (d ∷ ds) = fold_is (n * 10 + (d - 48)) ds
 
--- a digit is no blank
+-- a digit is not a blank
 not_blank : (d : ℕ) → IsDigit d → is_blank d ≡ false
 not_blank d h =
     let a : (d == 32) ≡ false = ne_eqb d 32 (λ e. omega (arith, e, h.low)) in
@@ -53,15 +53,15 @@ not_blank d h =
     let c : (d == 13) ≡ false = ne_eqb d 13 (λ e. omega (arith, e, h.low)) in
     rw a (rw b c)
 
--- nor a line feed
+-- a digit is not a line feed
 no_feed : (d : ℕ) → IsDigit d → (d == LINE_FEED) ≡ false
 no_feed d h = ne_eqb d 10 (λ e. omega (arith, e, h.low))
 
--- nor a semicolon
+-- a digit is not a semicolon
 no_comment : (d : ℕ) → IsDigit d → (d == 59) ≡ false
 no_comment d h = ne_eqb d 59 (λ e. omega (arith, e, h.high))
 
--- nor does it begin a name
+-- a digit does not begin a name
 no_letter : (d : ℕ) → IsDigit d → begins_name d ≡ false
 no_letter d h =
     let a : nat_le 65 d ≡ false = lt-leb 65 d (omega (arith, h.high)) in
@@ -69,7 +69,7 @@ no_letter d h =
     let c : (d == 95) ≡ false = ne_eqb d 95 (λ e. omega (arith, e, h.high)) in
     rw a (rw b c)
 
--- as many digits stand in front as there are
+-- all of the digits are at the front
 digits_len : (ds rest : List ℕ) → all_ascii_digits ds ≡ true → NoDigitFirst rest → prefix_len is_ascii_digit (ds ++ rest) ≡ length ds
 digits_len [] [] p h = refl
 digits_len [] (c ∷ rest) p h = rw h refl
@@ -78,11 +78,11 @@ digits_len (d ∷ ds) rest p h =
     let i = digits_len ds rest q.1 h in
     rw q.0 (omega (arith, i))
 
--- and this is their number
+-- the number of the digits at the front
 value_at_front : (ds rest : List ℕ) → all_ascii_digits ds ≡ true → NoDigitFirst rest → decimal_value (take (prefix_len is_ascii_digit (ds ++ rest)) (ds ++ rest)) ≡ read_on 0 ds
 value_at_front ds rest p h = ap (λ k. decimal_value (take k (ds ++ rest))) (digits_len ds rest p h) ∙ ap decimal_value (take-append_seam ds rest) ∙ fold_is 0 ds
 
--- the first of two, where the test is true
+-- a true test picks the first of two
 if_true : {A : Type 0} (b : Bool) (x y z : A) → b ≡ true → x ≡ z → (if b then x else y) ≡ z
 if_true true x y z h e = e
 if_true false x y z h e = absurd (both_ways _ refl h)

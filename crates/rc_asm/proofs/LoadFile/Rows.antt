@@ -62,7 +62,7 @@ pub record NumberScan (m k : ℕ) (text rest : List ℕ) (at line : ℕ) : Type 
   pub some : 0 < length text
   pub plain : IsPlainNext (text ++ rest)
 
--- of one without a minus sign
+-- the tokens of a number without a minus sign
 plain_scan : (m k : ℕ) (rest : List ℕ) (at line : ℕ) → k < 2 ^ 16 → NoDigitFirst rest → NumberScan m k (decimal k) rest at line
 plain_scan m k rest at line l h = record {
   tokens = token_of (Number k) at (length (decimal k)) line ∷ [];
@@ -72,7 +72,7 @@ plain_scan m k rest at line l h = record {
   plain = digits_plain (decimal k) rest (decimal_some k (omega (arith, l))) (decimal_all k (omega (arith, l)));
 }
 
--- of one with a minus sign
+-- the tokens of a number with a minus sign
 below_scan : (m k j : ℕ) (rest : List ℕ) (at line : ℕ) → j < 2 ^ 16 → 0 < j → j + k ≡ m → NoDigitFirst rest → NumberScan m k (45 ∷ decimal j) rest at line
 below_scan m k zero rest at line l s e h = absurd (omega (arith, s))
 below_scan m k (suc j) rest at line l s e h = record {
@@ -85,7 +85,7 @@ below_scan m k (suc j) rest at line l s e h = record {
   plain = refl;
 }
 
--- of each as it is printed
+-- the tokens of a printed number
 pub number_scan : (m k : ℕ) (rest : List ℕ) (at line : ℕ) → k < m → m ≤ 65535 → NoDigitFirst rest → NumberScan m k (number_text m k) rest at line
 unfolding number_text
 number_scan m k rest at line l s h =
@@ -113,7 +113,7 @@ pub record OperandScan (m : ℕ) (mode : Mode) (k : ℕ) (rest : List ℕ) (at l
   pub shown : AreNumber m k number
   pub scan : (first : Bool) → tokens_from (operand_text m mode k ++ rest) 0 first at line ≡ onto (sign ∷ number) (tokens_from rest 0 false (at + length (operand_text m mode k)) line)
 
--- a text is not empty where its front is not
+-- a text is not empty if its front is not
 some_append : (xs ys : List ℕ) → 0 < length xs → 0 < length (xs ++ ys)
 some_append xs ys h = omega (arith, length-append xs ys, h)
 
@@ -190,7 +190,7 @@ opcode_length op.Slt = refl
 opcode_length op.Spl = refl
 opcode_length op.Nop = refl
 
--- so it is not empty
+-- an opcode is not empty
 opcode_some : (o : Opcode) → 0 < length (opcode_text o)
 opcode_some o = omega (arith, opcode_length o)
 
@@ -210,7 +210,7 @@ pub record IsAt (source rest : List ℕ) (at : ℕ) : Type 0 where
   pub whole : source ≡ before ++ rest
   pub place : at ≡ length before
 
--- and behind a piece of the rest
+-- the rest of a source after a piece
 pub further : (source p rest : List ℕ) (at : ℕ) → IsAt source (p ++ rest) at → IsAt source rest (at + length p)
 further source p rest at h = record {
   before = h.before ++ p;

@@ -6,7 +6,7 @@ use Rattle.std.proofs.lemmas.List.Concat.{flat_map-cons}
 use Rattle.rc_text.specs.declared.token.Kind.TheVariants.{Name, Number, LineEnd}
 use Rattle.rc_text.specs.Tokens.{tokens_of, tokens_from, with_token, token_of}
 use Rattle.rc_instr.specs.LoadText.{line_text, start_text, load_text}
-use Rattle.rc_instr.specs.Warrior.{IsBelow, Program}
+use Rattle.rc_instr.specs.Warrior.{IsBelow, WarriorView}
 use Rattle.rc_instr.specs.declared.instruction.Instruction.{Instruction}
 use Rattle.rc_instr.proofs.Numerals.{decimal_some}
 use Rattle.rc_asm.specs.Printed.{Row, Opening, Printed, ArePrinted, IsStart, IsPrint, row_tokens, rows_tokens, printed_tokens}
@@ -72,7 +72,7 @@ rows_scan source m (i ∷ is) at line b s h =
     }
 
 -- a load text has the tokens that print its warrior
-pub load_tokens : (m : ℕ) (w : Program) → w.start < 2 ^ 16 → All (IsBelow m) w.code → m ≤ 65535 → (p : Printed) × IsPrint (load_text m w) m w p × (tokens_of (load_text m w) ≡ printed_tokens p)
+pub load_tokens : (m : ℕ) (w : WarriorView) → w.start < 2 ^ 16 → All (IsBelow m) w.code → m ≤ 65535 → (p : Printed) × IsPrint (load_text m w) m w p × (tokens_of (load_text m w) ≡ printed_tokens p)
 unfolding load_text
 load_tokens m w l b s =
     let text = load_text m w in

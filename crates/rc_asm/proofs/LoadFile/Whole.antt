@@ -1,7 +1,7 @@
 -- A load text assembles to its warrior.
 use Rattle.std.proofs.Common.{◌^◌, ◌<◌, ◌≤◌, [], length, arith}
-use Rattle.rc_instr.specs.Rules.{Limits, IsRules}
-use Rattle.rc_instr.specs.Warrior.{Program, IsProgram, Fits}
+use Rattle.rc_instr.specs.Rules.{RulesView, IsRules}
+use Rattle.rc_instr.specs.Warrior.{WarriorView, IsWarrior, Fits}
 use Rattle.rc_instr.specs.LoadText.{load_text}
 use Rattle.rc_asm.specs.Assembly.{Assembles, names_of}
 use Rattle.rc_asm.specs.Printed.{printed_lines}
@@ -11,7 +11,7 @@ use Rattle.rc_asm.proofs.LoadFile.Lines.{made_of_printed}
 use Rattle.rc_asm.proofs.LoadFile.Length.{load_short}
 
 -- its tokens print the warrior, expand to their lines, and these make the warrior
-pub load_assembles : (rules : Limits) (w : Program) → IsRules rules → IsProgram w → Fits rules w → Assembles (load_text rules.core w) [] rules w
+pub load_assembles : (rules : RulesView) (w : WarriorView) → IsRules rules → IsWarrior w → Fits rules w → Assembles (load_text rules.core w) [] rules w
 load_assembles rules w r g f =
     let text = load_text rules.core w in
     let m : rules.core ≤ 65535 = r.core.1 in

@@ -1,4 +1,4 @@
-//! Why bytes are not read as a load file.
+//! Why a load file is refused.
 ghost use Rattle.std.specs.Prelude.{◌≡◌};
 ghost use Rattle.rc_instr.specs.declared.loadfile.fault.LoadFault.TheVariants.{OutOfMemory as MemoryFault};
 
@@ -6,16 +6,16 @@ use crate::warrior::WarriorError;
 use std::alloc::AllocFailed;
 use thiserror::Error;
 
-/// Why bytes are not read as a load file.
+/// Why a load file is refused.
 #[derive(Clone, Copy, Debug, PartialEq, Eq, Error)]
 pub enum LoadFault {
-    /// A line is not of the form: the first such, counted from 1.
-    #[error("line {line} is not a line of a load file")]
+    /// The first line that does not have the form of a load file's line, from 1.
+    #[error("malformed line {line}")]
     Malformed { line: u64 },
-    /// All lines are of the form, but they make no warrior under the rules.
+    /// Every line is well formed, but the warrior breaks the rules.
     #[error("{0}")]
     Warrior(WarriorError),
-    /// Memory was refused.
+    /// An allocation failed.
     #[error("out of memory")]
     OutOfMemory,
 }

@@ -1,4 +1,4 @@
-//! The words that stand at the front of bytes.
+//! Readers for the words of a load file: a mode, an opcode or a modifier at the front of bytes.
 ghost use Rattle.std.specs.Prelude.{◌≡◌, ℕ, List, ◌∷◌, ◌++◌, IfSome, IsSomeAnd};
 ghost use Rattle.rc_instr.specs.declared.instruction.Opcode.{Opcode};
 ghost use Rattle.rc_instr.specs.declared.instruction.Mode.{Mode};
@@ -7,7 +7,6 @@ ghost use Rattle.rc_instr.specs.LoadText.{opcode_text, modifier_text, mode_text}
 
 use crate::instruction::{Mode, Modifier, Opcode};
 
-/// The mode at the front, and what follows it.
 pub(crate) fn mode_at(bytes: &[u8]) -> Option<(Mode, &[u8])>
     ensures found { IfSome result (λ x. bytes.now ≡ mode_text x.0 ++ x.1.now) }
     ensures only { (mode : Mode) (rest : List ℕ) → bytes.now ≡ mode_text mode ++ rest
@@ -26,7 +25,6 @@ pub(crate) fn mode_at(bytes: &[u8]) -> Option<(Mode, &[u8])>
     }
 }
 
-/// The opcode at the front, and what follows it.
 pub(crate) fn opcode_at(bytes: &[u8]) -> Option<(Opcode, &[u8])>
     ensures found { IfSome result (λ x. bytes.now ≡ opcode_text x.0 ++ x.1.now) }
     ensures only { (opcode : Opcode) (rest : List ℕ) → bytes.now ≡ opcode_text opcode ++ rest
@@ -53,7 +51,7 @@ pub(crate) fn opcode_at(bytes: &[u8]) -> Option<(Opcode, &[u8])>
     }
 }
 
-/// The modifier at the front, with the space behind it, and what follows.
+// Also reads the space after the modifier, since `A` alone begins `AB` too.
 pub(crate) fn modifier_at(bytes: &[u8]) -> Option<(Modifier, &[u8])>
     ensures found { IfSome result (λ x. bytes.now ≡ modifier_text x.0 ++ 32 ∷ x.1.now) }
     ensures only { (modifier : Modifier) (rest : List ℕ) → bytes.now ≡ modifier_text modifier ++ 32 ∷ rest

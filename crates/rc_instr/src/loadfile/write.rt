@@ -12,7 +12,29 @@ use crate::warrior::Warrior;
 use itoa::Buffer;
 use std::alloc::Global;
 
-/// The word of an opcode.
+/// Appends the load file of `warrior`, which must fit the rules, to `out`.
+///
+/// Fails only if out of memory, and then leaves `out` as it was.
+#[tactic(auto, using(crate::proofs::Appends::cut_back))]
+pub fn write_loadfile(
+    alloc: Global,
+    warrior: &Warrior,
+    rules: &Rules,
+    out: &mut Vec<u8>,
+) -> Result<(), OutOfMemory>
+    requires { Fits rules.now warrior.now }
+    ensures ok { OnOk result (out.new.items ≡ out.old.items ++ load_text rules.now.core warrior.now) }
+    ensures err { OnErr result (out.new.items ≡ out.old.items) }
+{
+    let _ = alloc;
+    let length = out.len();
+    let written = append_warrior(out, rules.core(), warrior);
+    if written.is_err() {
+        out.truncate(length);
+    }
+    written
+}
+
 fn opcode_word(opcode: Opcode) -> &'static [u8]
     ensures { result.now ≡ opcode_text opcode }
 {
@@ -36,7 +58,6 @@ fn opcode_word(opcode: Opcode) -> &'static [u8]
     }
 }
 
-/// The word of a modifier.
 fn modifier_word(modifier: Modifier) -> &'static [u8]
     ensures { result.now ≡ modifier_text modifier }
 {
@@ -51,7 +72,6 @@ fn modifier_word(modifier: Modifier) -> &'static [u8]
     }
 }
 
-/// The sign of a mode.
 fn mode_sign(mode: Mode) -> &'static [u8]
     ensures { result.now ≡ mode_text mode }
 {
@@ -67,7 +87,6 @@ fn mode_sign(mode: Mode) -> &'static [u8]
     }
 }
 
-/// Appends bytes.
 #[tactic(auto, using(crate::proofs::Appends::appends))]
 fn append(out: &mut Vec<u8>, bytes: &[u8]) -> Result<(), OutOfMemory>
     ensures ok { OnOk result (out.new.items ≡ out.old.items ++ bytes.now) }
@@ -77,7 +96,6 @@ fn append(out: &mut Vec<u8>, bytes: &[u8]) -> Result<(), OutOfMemory>
     Ok(())
 }
 
-/// Appends a number in decimal.
 fn append_decimal(out: &mut Vec<u8>, number: u32) -> Result<(), OutOfMemory>
     ensures ok { OnOk result (out.new.items ≡ out.old.items ++ decimal number) }
     ensures front { IsFront out.old.items out.new.items }
@@ -85,7 +103,7 @@ fn append_decimal(out: &mut Vec<u8>, number: u32) -> Result<(), OutOfMemory>
     append(out, Buffer::new().format(number).as_bytes())
 }
 
-/// Appends a number of an instruction.
+// Appends an A-number or B-number, with its sign.
 #[tactic(auto, using(crate::proofs::Appends::appends), unfolding(crate::specs::LoadText::number_text))]
 fn append_number(out: &mut Vec<u8>, core: u32, number: u16) -> Result<(), OutOfMemory>
     requires { (number < core) × (core ≤ 65535) }
@@ -100,7 +118,6 @@ fn append_number(out: &mut Vec<u8>, core: u32, number: u16) -> Result<(), OutOfM
     append_decimal(out, core - number)
 }
 
-/// Appends an operand.
 #[tactic(auto, using(crate::proofs::Appends::appends), unfolding(crate::specs::LoadText::operand_text))]
 fn append_operand(out: &mut Vec<u8>, core: u32, mode: Mode, number: u16) -> Result<(), OutOfMemory>
     requires { (number < core) × (core ≤ 65535) }
@@ -111,7 +128,7 @@ fn append_operand(out: &mut Vec<u8>, core: u32, mode: Mode, number: u16) -> Resu
     append_number(out, core, number)
 }
 
-/// Appends an opcode, a dot, a modifier and a space.
+// Appends the opcode, dot, modifier and space.
 #[tactic(auto, using(crate::proofs::Appends::appends))]
 fn append_head(out: &mut Vec<u8>, opcode: Opcode, modifier: Modifier) -> Result<(), OutOfMemory>
     ensures ok { OnOk result (out.new.items ≡ out.old.items ++ opcode_text opcode ++ codes "." ++ modifier_text modifier ++ codes " ") }
@@ -123,7 +140,6 @@ fn append_head(out: &mut Vec<u8>, opcode: Opcode, modifier: Modifier) -> Result<
     append(out, b" ")
 }
 
-/// Appends the line of an instruction.
 #[tactic(auto, using(crate::proofs::Appends::appends), unfolding(crate::specs::LoadText::line_text))]
 fn append_line(out: &mut Vec<u8>, core: u32, instruction: &Instruction) -> Result<(), OutOfMemory>
     requires core { core ≤ 65535 }
@@ -138,7 +154,6 @@ fn append_line(out: &mut Vec<u8>, core: u32, instruction: &Instruction) -> Resul
     append(out, b"\n")
 }
 
-/// Appends the line of the start.
 #[tactic(auto, using(crate::proofs::Appends::appends), unfolding(crate::specs::LoadText::start_text))]
 fn append_start(out: &mut Vec<u8>, start: u32) -> Result<(), OutOfMemory>
     ensures ok { OnOk result (out.new.items ≡ out.old.items ++ start_text start) }
@@ -149,7 +164,6 @@ fn append_start(out: &mut Vec<u8>, start: u32) -> Result<(), OutOfMemory>
     append(out, b"\n")
 }
 
-/// Appends the lines of instructions.
 #[tactic(auto, using(crate::proofs::Appends::appends))]
 fn append_lines(out: &mut Vec<u8>, core: u32, code: &[Instruction]) -> Result<(), OutOfMemory>
     requires core { core ≤ 65535 }
@@ -163,7 +177,6 @@ fn append_lines(out: &mut Vec<u8>, core: u32, code: &[Instruction]) -> Result<()
     Ok(())
 }
 
-/// Appends the load text of a warrior.
 #[tactic(auto, using(crate::proofs::Appends::appends), unfolding(crate::specs::LoadText::load_text))]
 fn append_warrior(out: &mut Vec<u8>, core: u32, warrior: &Warrior) -> Result<(), OutOfMemory>
     requires core { core ≤ 65535 }
@@ -173,27 +186,4 @@ fn append_warrior(out: &mut Vec<u8>, core: u32, warrior: &Warrior) -> Result<(),
 {
     append_start(out, warrior.start())?;
     append_lines(out, core, warrior.code())
-}
-
-/// Appends the load text of a warrior to `out`. The warrior keeps the rules.
-///
-/// Only want of memory refuses it, and then `out` is as it was. The format is this project's own.
-#[tactic(auto, using(crate::proofs::Appends::cut_back))]
-pub fn write_loadfile(
-    alloc: Global,
-    warrior: &Warrior,
-    rules: &Rules,
-    out: &mut Vec<u8>,
-) -> Result<(), OutOfMemory>
-    requires { Fits rules.now warrior.now }
-    ensures ok { OnOk result (out.new.items ≡ out.old.items ++ load_text rules.now.core warrior.now) }
-    ensures err { OnErr result (out.new.items ≡ out.old.items) }
-{
-    let _ = alloc;
-    let length = out.len();
-    let written = append_warrior(out, rules.core(), warrior);
-    if written.is_err() {
-        out.truncate(length);
-    }
-    written
 }

@@ -1,6 +1,6 @@
 use Rattle.std.proofs.Common.{◌≡◌, ◌≤◌, length, arith, ap, subst}
 use Rattle.std.specs.Prelude.{IfSome}
-use Rattle.cwtune.proofs.Limits.{whole_text}
+use Rattle.cwtune.proofs.ReadLimits.{whole_text}
 use Rattle.cwtune.proofs.reading.read_text.Goals as goal
 
 pub returns-clause-bytes : goal.returns-clause-bytes

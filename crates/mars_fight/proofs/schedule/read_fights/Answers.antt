@@ -7,7 +7,7 @@ use Rattle.mars_fight.proofs.schedule.read_fights.Goals as goal
 pub returns-in_err-read_header-clause-fault : goal.returns-in_err-read_header-clause-fault
 returns-in_err-read_header-clause-fault c =
     let p = err_from_is_err_and c.from_residual.result c.from_residual.ensures.1 in
-    rw (p.1, p.2, ← c.new-rows.ensures) (c.in_err-read_header.ensures.fault c.args.rules.now c.args.opponents)
+    rw (p.1, p.2, ← c.new-records.ensures) (c.in_err-read_header.ensures.fault c.args.rules.now c.args.opponents)
 
 pub loop-fights-preserved : goal.loop-fights-preserved
 loop-fights-preserved c =

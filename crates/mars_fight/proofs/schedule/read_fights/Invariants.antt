@@ -1,13 +1,13 @@
 use Rattle.std.proofs.Common.{◌≤◌, length}
 use Rattle.mars_fight.specs.Records.{records_of}
-use Rattle.mars_fight.specs.ScheduleRefusal.{AreRead}
+use Rattle.mars_fight.specs.ScheduleRefusal.{AreFightsRead}
 use Rattle.mars_fight.proofs.schedule.read_fights.Given as goal
 
 abbrev pub invariant-loop-fights : goal.invariant-loop-fights
 invariant-loop-fights l = record {
-  read : AreRead l.rules l.opponents (records_of l.bytes) l.fights.items l.rows;
+  read : AreFightsRead l.rules l.opponents (records_of l.bytes) l.fights.items l.records;
   few : length l.fights.items ≤ 10000;
 }
 
 abbrev pub decreases-loop-fights : goal.decreases-loop-fights
-decreases-loop-fights l = length l.rows
+decreases-loop-fights l = length l.records

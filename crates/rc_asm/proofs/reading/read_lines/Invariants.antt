@@ -10,4 +10,4 @@ decreases-loop-line l = length l.rest
 
 -- the lines that are left make the whole
 abbrev pub invariant-loop-line : goal.invariant-loop-line
-invariant-loop-line l = Progress l.source (seen_names l.known) l.lines l.rest l.reading.code.items l.reading.starts × All (LineLies l.source) l.rest
+invariant-loop-line l = Progress l.source (seen_names l.context) l.lines l.rest l.reading.code.items l.reading.starts × All (LineLies l.source) l.rest

@@ -11,7 +11,8 @@ use Rattle.rc_expand.proofs.equs.collect_equs.Given as goal
 abbrev pub decreases-loop-head : goal.decreases-loop-head
 decreases-loop-head l = length l.rest
 
--- the EQU names so far and those in the lines still to come are all, and what is wrong with one of them is wrong with one still to come
+-- the EQU names so far and those in the lines still to come are all, and what is wrong with one of
+-- them is wrong with one still to come
 abbrev pub invariant-loop-head : goal.invariant-loop-head
 invariant-loop-head l =
     (equs_of l.source (table_of l.names.constants.now.names.now l.names.constants.now.values.now) l.names.rules.now l.heads

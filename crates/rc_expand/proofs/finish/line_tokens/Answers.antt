@@ -5,9 +5,9 @@ use Rattle.rc_text.specs.Symbols.{LiesIn}
 use Rattle.rc_expand.proofs.Settled.{line_settled}
 use Rattle.rc_expand.proofs.finish.line_tokens.Goals as goal
 
-pub returns-then-stay-clause-tokens : goal.returns-then-stay-clause-tokens
-returns-then-stay-clause-tokens c =
-    line_settled c.args.source.now c.args.equs.now c.args.word c.args.tokens.now c.split_at.result.1.now c.exempt_len.result c.exempt_len.ensures.exempt c.split_at.ensures.back (c.stay.ensures.settled c.if-stay.true) (c.stay.ensures.few c.if-stay.true)
+pub returns-then-needs_no_replacement-clause-tokens : goal.returns-then-needs_no_replacement-clause-tokens
+returns-then-needs_no_replacement-clause-tokens c =
+    line_settled c.args.source.now c.args.equs.now c.args.word c.args.tokens.now c.split_at.result.1.now c.exempt_len.result c.exempt_len.ensures.exempt c.split_at.ensures.back (c.needs_no_replacement.ensures.settled c.if-needs_no_replacement.true) (c.needs_no_replacement.ensures.few c.if-needs_no_replacement.true)
     ∙ ap Some (sym (c.in_ok-with_front.ensures ∙ (ap (λ x. c.args.tokens.now ++ x) c.new.ensures.items ∙ append-nil c.args.tokens.now)))
 
 pub returns-clause-inside : goal.returns-clause-inside

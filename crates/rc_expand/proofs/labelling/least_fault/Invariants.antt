@@ -7,4 +7,4 @@ abbrev pub decreases-loop-head : goal.decreases-loop-head
 decreases-loop-head l = length l.rest.items
 
 abbrev pub invariant-loop-head : goal.invariant-loop-head
-invariant-loop-head l = All (HeadLies l.setting.source.now) l.rest.items
+invariant-loop-head l = All (HeadLies l.context.source.now) l.rest.items

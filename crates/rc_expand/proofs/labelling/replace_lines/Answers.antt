@@ -1,7 +1,7 @@
 use Rattle.std.proofs.Common.{◌∙◌, sym, ◌∷◌}
 use Rattle.std.proofs.lemmas.List.Elements.{All-head, All-rest, All-push, All-same}
 use Rattle.rc_expand.specs.Lines.{HeadLies}
-use Rattle.rc_expand.specs.Setting.{table}
+use Rattle.rc_expand.specs.Context.{table}
 use Rattle.rc_expand.specs.Steps.{names_in}
 use Rattle.rc_expand.specs.Expansion.{LineLies}
 use Rattle.rc_expand.proofs.LineSteps.{kept_equ, kept_other}
@@ -11,16 +11,16 @@ use Rattle.rc_expand.proofs.labelling.replace_lines.Goals.{in-Equ, in_default-wo
 
 pub least_fault-requires : goal.least_fault-requires
 least_fault-requires c =
-    let s = c.args.setting.now.source.now in
+    let s = c.args.context.now.source.now in
     record {
-      setting = c.requires.setting;
+      context = c.requires.context;
       head = All-head (HeadLies s) c.in-Some.head c.pop_front.new.self.items (All-same (HeadLies s) (c.in-Some.head ∷ c.pop_front.new.self.items) c.loop-head.rest.items (sym c.in-Some.ensures.items) c.loop-head.invariant.2);
       rest = All-rest (HeadLies s) c.in-Some.head c.pop_front.new.self.items c.loop-head.rest.items c.in-Some.ensures.items c.loop-head.invariant.2;
     }
 
 pub returns-in-Err : goal.returns-in-Err
 returns-in-Err c =
-    let st = c.args.setting.now in
+    let st = c.args.context.now in
     record {
       lines = λ k. not_taken (table st) st.rules.now st.source.now st.equs.now c.args.heads.items c.loop-head.lines.items c.in-Some.head c.loop-head.rest.items c.pop_front.new.self.items (names_in c.loop-head.seen)
           c.loop-head.invariant.0 c.loop-head.invariant.1
@@ -31,7 +31,7 @@ returns-in-Err c =
 
 pub loop-head-preserved : goal.loop-head-preserved
 loop-head-preserved c =
-    let st = c.args.setting.now in
+    let st = c.args.context.now in
     let k = table st in
     let i = c.loop-head.invariant in
     let behind = All-rest (HeadLies st.source.now) c.in-Some.head c.pop_front.new.self.items c.loop-head.rest.items c.in-Some.ensures.items i.2 in
@@ -56,5 +56,5 @@ loop-head-preserved c =
 
 pub returns-clause-lines : goal.returns-clause-lines
 returns-clause-lines c =
-    let st = c.args.setting.now in
+    let st = c.args.context.now in
     all_taken (table st) st.rules.now st.source.now st.equs.now c.args.heads.items c.loop-head.lines.items c.loop-head.rest.items (names_in c.loop-head.seen) c.loop-head.invariant.0 c.loop-head.invariant.1 (sym c.loop-head.rest.ok.0 ∙ c.in_default.ensures.cases.0)

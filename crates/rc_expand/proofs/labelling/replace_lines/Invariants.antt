@@ -2,7 +2,7 @@ use Rattle.std.proofs.Common.{length}
 use Rattle.std.specs.Prelude.{All}
 use Rattle.rc_expand.specs.Lines.{HeadLies}
 use Rattle.rc_expand.specs.Steps.{names_in}
-use Rattle.rc_expand.specs.Setting.{table}
+use Rattle.rc_expand.specs.Context.{table}
 use Rattle.rc_expand.specs.Expansion.{LineLies}
 use Rattle.rc_expand.proofs.Labelled.{AreTaken, AreMade}
 use Rattle.rc_expand.proofs.labelling.replace_lines.Given as goal
@@ -13,6 +13,6 @@ decreases-loop-head l = length l.rest.items
 -- the lines so far, with their labels, and those still to come
 abbrev pub invariant-loop-head : goal.invariant-loop-head
 invariant-loop-head l =
-    AreMade (table l.setting) l.setting.rules.now l.setting.source.now l.setting.equs.now l.fn.heads.items l.lines.items l.rest.items
-    × AreTaken (table l.setting) l.setting.rules.now l.setting.source.now l.setting.equs.now l.lines.items (names_in l.seen)
-    × All (HeadLies l.setting.source.now) l.rest.items × All (LineLies l.setting.source.now) l.lines.items
+    AreMade (table l.context) l.context.rules.now l.context.source.now l.context.equs.now l.fn.heads.items l.lines.items l.rest.items
+    × AreTaken (table l.context) l.context.rules.now l.context.source.now l.context.equs.now l.lines.items (names_in l.seen)
+    × All (HeadLies l.context.source.now) l.rest.items × All (LineLies l.context.source.now) l.lines.items

@@ -4,13 +4,13 @@ use Rattle.rc_text.specs.Symbols.{symbols_of}
 use Rattle.rc_expand.specs.Replace.{replaced_tokens}
 use Rattle.rc_expand.specs.Names.{given_names}
 use Rattle.rc_expand.specs.Unroll.{small_count}
-use Rattle.rc_expand.specs.Setting.{table}
+use Rattle.rc_expand.specs.Context.{table}
 use Rattle.rc_expand.proofs.CountSteps.{count_made, count_none, no_value}
 use Rattle.rc_expand.proofs.opening.count_of.Goals as goal
 
 pub returns-in-Some : goal.returns-in-Some
 returns-in-Some c =
-    let s = c.args.setting.now in
+    let s = c.args.context.now in
     let fed : replaced_tokens s.source.now s.equs.now c.args.first.now.rest ≡ Some c.as_slice-2.result.now =
     ap (replaced_tokens s.source.now s.equs.now) (sym c.as_slice.ensures) ∙ (c.in-Ok.ensures.tokens ∙ ap Some (sym c.as_slice-2.ensures)) in
     let f : FitsSigned w64 c.in-Ok-eval.value = search rules in
@@ -18,7 +18,7 @@ returns-in-Some c =
 
 pub returns-in-Ok-eval : goal.returns-in-Ok-eval
 returns-in-Ok-eval c =
-    let s = c.args.setting.now in
+    let s = c.args.context.now in
     let fed : replaced_tokens s.source.now s.equs.now c.args.first.now.rest ≡ Some c.as_slice-2.result.now =
     ap (replaced_tokens s.source.now s.equs.now) (sym c.as_slice.ensures) ∙ (c.in-Ok.ensures.tokens ∙ ap Some (sym c.as_slice-2.ensures)) in
     let f : FitsSigned w64 c.in-Ok-eval.value = search rules in
@@ -26,7 +26,7 @@ returns-in-Ok-eval c =
 
 pub returns : goal.returns
 returns c =
-    let s = c.args.setting.now in
+    let s = c.args.context.now in
     let fed : replaced_tokens s.source.now s.equs.now c.args.first.now.rest ≡ Some c.as_slice-2.result.now =
     ap (replaced_tokens s.source.now s.equs.now) (sym c.as_slice.ensures) ∙ (c.in-Ok.ensures.tokens ∙ ap Some (sym c.as_slice-2.ensures)) in
     λ h. count_none s c.args.first.now.rest c.as_slice-2.result.now fed

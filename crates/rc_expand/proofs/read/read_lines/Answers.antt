@@ -5,7 +5,7 @@ use Rattle.rc_text.specs.Symbols.{LiesIn}
 use Rattle.rc_text.proofs.Spans.{all_inside}
 use Rattle.rc_expand.specs.Lines.{HeadLies, has_end, line_of_tokens}
 use Rattle.rc_expand.proofs.ReadSteps.{SoFar, at_first, at_token, at_line}
-use Rattle.rc_expand.proofs.TextFaults.{at_beginning, behind_token}
+use Rattle.rc_expand.proofs.TextFaults.{at_beginning, after_token}
 use Rattle.rc_expand.proofs.read.read_lines.Goals as goal
 
 pub loop-line-init : goal.loop-line-init
@@ -32,7 +32,7 @@ loop-line-preserved-then-is_line_end c =
       All-rest (LiesIn c.args.source.now) c.in-Some.token c.next_token.new.lexer.tokens c.loop-line.lexer.tokens took.0 c.loop-line.invariant.1,
       All-same (LiesIn c.args.source.now) c.clear.new.self.items [] c.clear.ensures.items (All-nil (LiesIn c.args.source.now)),
       c.in_ok-push_line.ensures.after,
-      behind_token c.args.source.now c.loop-line.lexer c.next_token.new.lexer c.in-Some.token took.0 took.1 took.3 c.loop-line.invariant.4,
+      after_token c.args.source.now c.loop-line.lexer c.next_token.new.lexer c.in-Some.token took.0 took.1 took.3 c.loop-line.invariant.4,
     )
 
 pub loop-line-preserved : goal.loop-line-preserved
@@ -47,5 +47,5 @@ loop-line-preserved c =
       All-rest (LiesIn c.args.source.now) c.in-Some.token c.next_token.new.lexer.tokens c.loop-line.lexer.tokens took.0 c.loop-line.invariant.1,
       All-same (LiesIn c.args.source.now) c.push.new.self.items _ c.in_ok-push.ensures.items (All-push (LiesIn c.args.source.now) c.loop-line.line.items c.in-Some.token c.loop-line.invariant.2 lies),
       c.loop-line.invariant.3,
-      behind_token c.args.source.now c.loop-line.lexer c.next_token.new.lexer c.in-Some.token took.0 took.1 took.3 c.loop-line.invariant.4,
+      after_token c.args.source.now c.loop-line.lexer c.next_token.new.lexer c.in-Some.token took.0 took.1 took.3 c.loop-line.invariant.4,
     )

@@ -4,7 +4,7 @@ use Rattle.rc_expand.specs.declared.head.Head.{Head}
 use Rattle.rc_expand.specs.declared.fault.ExpandFault.{ExpandFault}
 use Rattle.rc_expand.specs.Lines.{HeadLies}
 use Rattle.rc_expand.specs.Unroll.{Appends}
-use Rattle.rc_expand.specs.Setting.{lines_of, copies_by, copies_by_from}
+use Rattle.rc_expand.specs.Context.{unrolled_by, copies_by, copies_by_from}
 use Rattle.rc_expand.proofs.unroll.+unroll.Given as goal
 
 abbrev pub decreases-append_lines : goal.decreases-append_lines
@@ -25,16 +25,16 @@ decreases-append_lines-loop-head l = length l.rest
 -- whatever the rest appends, the whole appends
 abbrev pub invariant-append_lines-loop-head : goal.invariant-append_lines-loop-head
 invariant-append_lines-loop-head l =
-    (length l.out.lines.items + l.out.copies ≤ 4096) × All (HeadLies l.setting.source.now) l.rest
+    (length l.out.lines.items + l.out.copies ≤ 4096) × All (HeadLies l.context.source.now) l.rest
     × ((result : Result (Unit {0}) ExpandFault) (new : List Head) (m : ℕ)
-    → Appends l.out.lines.items l.out.copies result (lines_of l.setting l.in_block l.levels l.rest) new m
-    → Appends l.fn.out.lines.items l.fn.out.copies result (lines_of l.setting l.in_block l.levels l.fn.heads) new m)
-    × All (HeadLies l.setting.source.now) l.out.lines.items
+    → Appends l.out.lines.items l.out.copies result (unrolled_by l.context l.in_block l.levels l.rest) new m
+    → Appends l.fn.out.lines.items l.fn.out.copies result (unrolled_by l.context l.in_block l.levels l.fn.heads) new m)
+    × All (HeadLies l.context.source.now) l.out.lines.items
 
 abbrev pub invariant-append_copies-loop-done : goal.invariant-append_copies-loop-done
 invariant-append_copies-loop-done l =
     (length l.out.lines.items + l.out.copies ≤ 4096)
     × ((result : Result (Unit {0}) ExpandFault) (new : List Head) (m : ℕ)
-    → Appends l.out.lines.items l.out.copies result (copies_by_from l.setting l.levels l.counter l.block (l.count - l.done) (l.done + 1)) new m
-    → Appends l.fn.out.lines.items l.fn.out.copies result (copies_by l.setting l.levels l.counter l.block l.count) new m)
-    × All (HeadLies l.setting.source.now) l.out.lines.items
+    → Appends l.out.lines.items l.out.copies result (copies_by_from l.context l.levels l.counter l.block (l.count - l.done) (l.done + 1)) new m
+    → Appends l.fn.out.lines.items l.fn.out.copies result (copies_by l.context l.levels l.counter l.block l.count) new m)
+    × All (HeadLies l.context.source.now) l.out.lines.items

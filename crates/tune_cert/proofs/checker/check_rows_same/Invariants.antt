@@ -1,7 +1,7 @@
 use Rattle.std.proofs.Common.{◌≡◌, ◌<◌, ℕ, Some, slice_get}
 use Rattle.tune_cert.specs.Problem.{problem_of}
-use Rattle.tune_cert.specs.Rejection.{IsRightSame}
-use Rattle.tune_cert.specs.declared.row.Row.{Row}
+use Rattle.tune_cert.specs.Verdict.{IsRightSame}
+use Rattle.tune_cert.specs.declared.cert.Row.{Row}
 use Rattle.tune_cert.proofs.checker.check_rows_same.Given as goal
 
 -- the rows so far that refer to other vectors are right

@@ -1,6 +1,6 @@
 use Rattle.std.proofs.Common.{◌∙◌, ◌<◌, ◌^◌, sym, arith, refl}
 use Rattle.std.proofs.lemmas.Result.{err_from_is_err_and}
-use Rattle.tune_cert.proofs.CertParts.{spelled, best_fault, behind_best, malformed_best, malformed_row}
+use Rattle.tune_cert.proofs.CertParts.{spelled, best_fault, after_best, malformed_best, malformed_row}
 use Rattle.tune_cert.proofs.read.read_cert.Goals as goal
 
 pub returns-in_err-best-clause-only : goal.returns-in_err-best-clause-only
@@ -24,7 +24,7 @@ returns-in_err-rows-clause-only c v h =
     let best_small : c.in_ok-best.best < 2 ^ 32 = omega arith in
     let total_small : c.in_ok-best.total < 2 ^ 32 = omega arith in
     let at = sym c.new-records.ensures ∙ c.in_ok-count.ensures.found in
-    let b = behind_best _ _ _ _ _ _ v count_small best_small total_small at c.in_ok-best.ensures.found h in
+    let b = after_best _ _ _ _ _ _ v count_small best_small total_small at c.in_ok-best.ensures.found h in
     rw (p.1, p.2) (c.in_err-rows.ensures.only v.rows b.3)
 
 pub returns-in_err-rows-clause-fault : goal.returns-in_err-rows-clause-fault
@@ -51,6 +51,6 @@ returns-clause-only c v h =
     let best_small : c.in_ok-best.best < 2 ^ 32 = omega arith in
     let total_small : c.in_ok-best.total < 2 ^ 32 = omega arith in
     let at = sym c.new-records.ensures ∙ c.in_ok-count.ensures.found in
-    let b = behind_best _ _ _ _ _ _ v count_small best_small total_small at c.in_ok-best.ensures.found h in
+    let b = after_best _ _ _ _ _ _ v count_small best_small total_small at c.in_ok-best.ensures.found h in
     let rows = c.from_vec.ensures ∙ c.in_ok-rows.ensures.only v.rows b.3 in
     rw (b.0, b.1, b.2, rows) refl

@@ -2,8 +2,8 @@ use Rattle.std.proofs.Common.{◌≡◌, ◌≤◌, ◌^◌, List, ◌++◌, len
 use Rattle.std.specs.Prelude.{All}
 use Rattle.tune_cert.specs.CertText.{rows_fields}
 use Rattle.tune_cert.specs.Spelling.{IsRow}
-use Rattle.tune_cert.specs.Parts.{AreRows}
-use Rattle.tune_cert.specs.declared.row.Row.{Row}
+use Rattle.tune_cert.specs.Steps.{AreRows}
+use Rattle.tune_cert.specs.declared.cert.Row.{Row}
 use Rattle.tune_cert.proofs.read.read_rows.Given as goal
 
 abbrev pub invariant-loop-rows : goal.invariant-loop-rows

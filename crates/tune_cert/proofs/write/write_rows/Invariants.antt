@@ -1,6 +1,6 @@
 use Rattle.std.proofs.Common.{◌≡◌, ◌++◌, drop}
 use Rattle.tune_cert.specs.CertText.{rows_fields, records_text}
-use Rattle.tune_cert.specs.Writing.{IsReady, so_far}
+use Rattle.tune_cert.specs.Steps.{IsReady, so_far}
 use Rattle.tune_cert.proofs.write.write_rows.Given as goal
 
 -- what is written and the rows that are left make the whole

@@ -8,6 +8,6 @@ use Rattle.tune_template.proofs.template.start_of.Given as goal
 abbrev pub decreases-loop-span : goal.decreases-loop-span
 decreases-loop-span l = length l.rest
 
--- the number so far, and that of the spans still to come
+-- the index so far, and the spans that are left
 abbrev pub invariant-loop-span : goal.invariant-loop-span
 invariant-loop-span l = (start_index l.spans ≡ l.number + start_index l.rest) × (vector_count l.rest ≡ l.size) × All HasValues l.rest

@@ -8,7 +8,7 @@ use Rattle.tune_template.proofs.template.values_of.Given as goal
 abbrev pub decreases-loop-span : goal.decreases-loop-span
 decreases-loop-span l = length l.rest
 
--- the values so far, and those of the spans still to come
+-- the values so far, and the spans that are left
 abbrev pub invariant-loop-span : goal.invariant-loop-span
 invariant-loop-span l =
     (slice_get (vectors_of l.spans) l.number ≡ option_map (λ w. l.vector ++ w) (slice_get (vectors_of l.rest) l.place))

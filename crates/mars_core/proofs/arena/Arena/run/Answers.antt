@@ -5,15 +5,15 @@ use Rattle.mars_core.proofs.arena.Arena.run.Goals as goal
 
 pub returns-in-Candidate-clause-outcome : goal.returns-in-Candidate-clause-outcome
 returns-in-Candidate-clause-outcome g c =
-    outcome_is c.end.result _ _ _ _ _ _ _ _ _ _
+    outcome_is c.finish.result _ _ _ _ _ _ _ _ _ _
     (c.self.invariant.candidate_room ∙ ap (λ a. a.rules.tasks) c.self.view_is)
     (ap (λ a. a.state) c.self.view_is)
     c.in-Candidate.is
     (c.cycles-cycles.ensures.cycles ∙ ap (λ a. a.rules.cycles) c.self.view_is)
     (c.alternate-turns.ensures.turns Candidate)
     (c.alternate-turns.ensures.state Candidate)
-    c.end.ensures.points
-    c.end.ensures.result
+    c.finish.ensures.points
+    c.finish.ensures.result
 
 pub returns-in-Candidate-clause-state : goal.returns-in-Candidate-clause-state
 returns-in-Candidate-clause-state g c =
@@ -21,21 +21,21 @@ returns-in-Candidate-clause-state g c =
     (c.self.invariant.candidate_room ∙ ap (λ a. a.rules.tasks) c.self.view_is)
     (ap (λ a. a.state) c.self.view_is)
     c.in-Candidate.is
-    c.end.ensures.result
-    (ap (λ a. a.state) c.end.ensures.arena)
+    c.finish.ensures.result
+    (ap (λ a. a.state) c.finish.ensures.arena)
     (c.alternate-turns.ensures.state Candidate)
 
 pub returns-in-Opponent-clause-outcome : goal.returns-in-Opponent-clause-outcome
 returns-in-Opponent-clause-outcome g c =
-    outcome_is c.end-in-Opponent.result _ _ _ _ _ _ _ _ _ _
+    outcome_is c.finish-in-Opponent.result _ _ _ _ _ _ _ _ _ _
     (c.self.invariant.opponent_room ∙ ap (λ a. a.rules.tasks) c.self.view_is)
     (ap (λ a. a.state) c.self.view_is)
     c.in-Opponent.is
     (c.cycles-cycles.ensures.cycles ∙ ap (λ a. a.rules.cycles) c.self.view_is)
     (c.alternate-turns-in-Opponent.ensures.turns Opponent)
     (c.alternate-turns-in-Opponent.ensures.state Opponent)
-    c.end-in-Opponent.ensures.points
-    c.end-in-Opponent.ensures.result
+    c.finish-in-Opponent.ensures.points
+    c.finish-in-Opponent.ensures.result
 
 pub returns-in-Opponent-clause-state : goal.returns-in-Opponent-clause-state
 returns-in-Opponent-clause-state g c =
@@ -43,6 +43,6 @@ returns-in-Opponent-clause-state g c =
     (c.self.invariant.opponent_room ∙ ap (λ a. a.rules.tasks) c.self.view_is)
     (ap (λ a. a.state) c.self.view_is)
     c.in-Opponent.is
-    c.end-in-Opponent.ensures.result
-    (ap (λ a. a.state) c.end-in-Opponent.ensures.arena)
+    c.finish-in-Opponent.ensures.result
+    (ap (λ a. a.state) c.finish-in-Opponent.ensures.arena)
     (c.alternate-turns-in-Opponent.ensures.state Opponent)

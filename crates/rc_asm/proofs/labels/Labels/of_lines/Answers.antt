@@ -1,16 +1,16 @@
 use Rattle.std.proofs.Common.{arith, ap, length, ◌∙◌, ◌++◌, map}
 use Rattle.std.proofs.lemmas.List.Elements.{All-rest}
 use Rattle.rc_text.specs.Symbols.{name_of}
-use Rattle.rc_expand.specs.Names.{found}
+use Rattle.rc_expand.specs.Names.{entry_of}
 use Rattle.rc_expand.specs.Expansion.{LineLies}
-use Rattle.rc_asm.proofs.Steps.{behind_most, labels_next}
+use Rattle.rc_asm.proofs.Steps.{after_most, labels_next}
 use Rattle.rc_asm.proofs.labels.Labels.of_lines.Goals as goal
 
 pub loop-line-preserved : goal.loop-line-preserved
 loop-line-preserved c =
-    let most = behind_most c.in-Some.line.now.word c.loop-line.at c.behind-at.result c.behind-at.ensures in (
+    let most = after_most c.in-Some.line.now.word c.loop-line.at c.code_lines_after-at.result c.code_lines_after-at.ensures in (
       omega (arith, most, c.loop-line.invariant.0, ap length c.in-Some.ensures.cases.0),
       labels_next c.args.source.now c.loop-line.rest.now c.in-Some.after.now c.in-Some.line.now c.loop-line.labels _ _ c.loop-line.at _ c.in-Some.ensures.cases.0
-          (λ r name. c.in_ok-insert_all.ensures r name ∙ ap (λ ts. found (c.loop-line.labels ++ (map (λ t. (name_of c.args.source.now t, c.loop-line.at)) ts ++ r)) name) c.as_slice.ensures) c.behind-at.ensures c.loop-line.invariant.1,
+          (λ r name. c.in_ok-insert_all.ensures r name ∙ ap (λ ts. entry_of (c.loop-line.labels ++ (map (λ t. (name_of c.args.source.now t, c.loop-line.at)) ts ++ r)) name) c.as_slice.ensures) c.code_lines_after-at.ensures c.loop-line.invariant.1,
       All-rest (LineLies c.args.source.now) c.in-Some.line.now c.in-Some.after.now c.loop-line.rest.now c.in-Some.ensures.cases.0 c.loop-line.invariant.2,
     )

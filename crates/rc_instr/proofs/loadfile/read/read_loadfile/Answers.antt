@@ -1,6 +1,6 @@
 use Rattle.std.proofs.Common.{◌≡◌, ◌<◌, ◌^◌, sym, ap, arith, subst}
 use Rattle.std.specs.Prelude.{flat_map, MatchResult}
-use Rattle.rc_instr.specs.Warrior.{Fits, IsProgram, Program, program}
+use Rattle.rc_instr.specs.Warrior.{Fits, IsWarrior, WarriorView, warrior_view}
 use Rattle.rc_instr.specs.LoadText.{line_text}
 use Rattle.rc_instr.specs.LoadRefusal.{AreLines}
 use Rattle.rc_instr.specs.declared.loadfile.fault.LoadFault.TheVariants.{OutOfMemory}
@@ -20,9 +20,9 @@ returns-in-Some-clause-only c w h f e =
     let small : w.start < 2 ^ 16 = omega arith in
     let s = c.in-Some.ensures.only w.start (flat_map (line_text c.args.rules.now.core) w.code) small (parted _ _ w e) in
     let lines : AreLines c.args.rules.now.core c.in-Some.lines.now w.code = record { lines = s.1; below = f.numbers } in
-    let p : w ≡ program w.code c.in-Some.start = ap (λ n. program w.code n) (sym s.0) in
-    let all = c.read_warrior.ensures.only w.code lines (subst (λ (v : Program). IsProgram v) p h) (subst (λ (v : Program). Fits c.args.rules.now v) p f) in
-    subst (λ (v : Program). MatchResult c.read_warrior.result (λ u. u ≡ v) (λ e. e ≡ OutOfMemory)) (sym p) all
+    let p : w ≡ warrior_view w.code c.in-Some.start = ap (λ n. warrior_view w.code n) (sym s.0) in
+    let all = c.read_warrior.ensures.only w.code lines (subst (λ (v : WarriorView). IsWarrior v) p h) (subst (λ (v : WarriorView). Fits c.args.rules.now v) p f) in
+    subst (λ (v : WarriorView). MatchResult c.read_warrior.result (λ u. u ≡ v) (λ e. e ≡ OutOfMemory)) (sym p) all
 
 pub returns-in-None-clause-only : goal.returns-in-None-clause-only
 returns-in-None-clause-only c w h f e =

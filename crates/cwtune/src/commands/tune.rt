@@ -1,0 +1,155 @@
+//! The command `tune`: from texts to the certificate of the best setting, and a report.
+ghost use Rattle.std.specs.Prelude.{◌≡◌, ◌≢◌, ◌↔◌, ◌≤◌, ◌<◌, ◌^◌, ◌⊎◌, ℕ, List, Option, map, length, false, IfErr, OnOk, IsErrOf, IsTrue};
+ghost use Rattle.std.specs.Io.KnownBytes.{Appends};
+ghost use Rattle.tune_template.specs.Instances.{InputsView};
+ghost use Rattle.tune_cert.specs.Problem.{problem_of};
+ghost use Rattle.tune_cert.specs.Optimum.{IsCandidate};
+ghost use Rattle.tune_cert.specs.CertText.{cert_text, cert_of};
+ghost use Rattle.cwtune.specs.TuneRun.{Texts, texts, Means, IsTuneRefusal, WritesTuning};
+
+use crate::command_line::TuneWords;
+use crate::fault::RunFault;
+use crate::inputs::inputs_of;
+use crate::raw_rules::rules_of;
+use crate::reading::read_texts;
+use crate::report::report_of;
+use crate::status::{DONE, end_file, end_run};
+use rc_instr::{Outlet, Rules};
+use std::alloc::Global;
+use std::fs;
+use std::io::Write;
+use std::rt::Files;
+use tune_cert::{CertFault, Found, write_cert};
+use tune_search::{SearchFault, search};
+
+/// Finds the optimum of a template, and writes its certificate, then the report.
+///
+/// The optimum is the first setting with the greatest total against the opponents in the fights of
+/// the schedule. The template is a Redcode text with `;@tune` lines, each opponent a Redcode text,
+/// the schedule a table of fights. `capacity`, 1 to 65536, is the number of warriors that the
+/// search may remember. Nothing is written before both texts are made, and the certificate is
+/// written whole before the report begins. Neither outlet must have failed.
+///
+/// # Errors
+///
+/// The first that applies: `TooManyOpponents` for more than 64, `Template` with the fault of its
+/// text, `Opponent` with the index of the first that does not assemble and its fault, `Schedule`
+/// with the fault of its text, `NoCandidate` if no setting assembles. Nothing is written then.
+/// `Write` if a writer failed: an unknown part of its text may be out, and after the certificate's
+/// writer the report's gets nothing. `OutOfMemory` if an allocation failed: nothing is written.
+#[tactic(auto, using(crate::proofs::Tunings::refused_means))]
+pub fn tune_run<W: Write, V: Write>(
+    alloc: Global,
+    template: &[u8],
+    opponents: &[Vec<u8>],
+    schedule: &[u8],
+    rules: &Rules,
+    capacity: u32,
+    report: &mut Outlet<W>,
+    cert: &mut Outlet<V>,
+) -> Result<(), RunFault>
+    requires capacity { (1 ≤ capacity) × (capacity ≤ 65536) }
+    requires report { report.old.failed ≡ false }
+    requires cert { cert.old.failed ≡ false }
+
+    // What was written is a valid certificate for the inputs in the texts, and the report of its
+    // best setting, which is the optimum.
+    ensures tuning { OnOk result (WritesTuning (texts template.now (map (λ o. o.items) opponents.now) schedule.now rules.now)
+        report.old.bytes report.new.bytes cert.old.bytes cert.new.bytes) }
+
+    // Refused texts have no meaning or no candidate, and nothing was written.
+    ensures refused { IfErr result (λ e. e ≢ RunFault.Write →
+        IsTuneRefusal e (texts template.now (map (λ o. o.items) opponents.now) schedule.now rules.now)
+        × (report.new ≡ report.old) × (cert.new ≡ cert.old)) }
+    ensures write { IsErrOf result RunFault.Write ↔ (IsTrue report.new.failed ⊎ IsTrue cert.new.failed) }
+
+    // The report begins only after the certificate is out.
+    ensures order { IsTrue cert.new.failed → report.new ≡ report.old }
+
+    // Texts that have a meaning and a candidate are not refused.
+    ensures meaning { (i : InputsView) (v : ℕ) → Means (texts template.now (map (λ o. o.items) opponents.now) schedule.now rules.now) i
+        → v < (problem_of i).count → IsCandidate (problem_of i) v
+        → IfErr result (λ e. (e ≡ RunFault.Write) ⊎ (e ≡ RunFault.OutOfMemory)) }
+{
+    let inputs = match inputs_of(alloc, template, opponents, schedule, rules) {
+        Ok(inputs) => inputs,
+        Err(fault) => return Err(fault),
+    };
+    let found = match search(alloc, &inputs, capacity) {
+        Ok(found) => found,
+        Err(SearchFault::NoCandidate) => return Err(RunFault::NoCandidate),
+        Err(SearchFault::OutOfMemory) => return Err(RunFault::OutOfMemory),
+    };
+    let text = report_of(alloc, &inputs, &found)?;
+    write_both(alloc, &found, text.as_slice(), report, cert)
+}
+
+// Runs the command on files. Creates the file of the certificate last, just before the search.
+pub(crate) fn tune<F: Files, W: Write, V: Write>(
+    rt: &F,
+    alloc: Global,
+    words: &TuneWords<'_>,
+    capacity: u32,
+    out: &mut Outlet<W>,
+    err: &mut Outlet<V>,
+) -> u8
+    requires capacity { (1 ≤ capacity) × (capacity ≤ 65536) }
+    requires out { out.old.failed ≡ false }
+    requires err { err.old.failed ≡ false }
+    ensures done { result ≡ 0 → (t : Texts) × (cert : Option (List ℕ)) × (written : Option (List ℕ)) × WritesTuning t out.old.bytes out.new.bytes cert written }
+    ensures refused { result ≡ 1 → out.new ≡ out.old }
+    ensures failed { IsTrue out.new.failed → result ≡ 3 }
+    ensures status { (result ≤ 3) × (result ≢ 2) }
+{
+    let rules = match rules_of(words.rules) {
+        Ok(rules) => rules,
+        Err(error) => return end_run(err, RunFault::Rules(error)),
+    };
+    let texts = match read_texts(rt, alloc, words) {
+        Ok(texts) => texts,
+        Err(unread) => return end_file(err, &unread.error, "read", unread.name),
+    };
+    let mut cert = match fs::create(rt, words.cert) {
+        Ok(file) => Outlet::new(file),
+        Err(error) => return end_file(err, &error, "create", words.cert),
+    };
+    match tune_run(
+        alloc,
+        texts.template.as_slice(),
+        texts.opponents.as_slice(),
+        texts.schedule.as_slice(),
+        &rules,
+        capacity,
+        out,
+        &mut cert,
+    ) {
+        Ok(()) => DONE,
+        Err(fault) => end_run(err, fault),
+    }
+}
+
+// Writes the certificate, then the report.
+fn write_both<W: Write, V: Write>(
+    alloc: Global,
+    found: &Found,
+    text: &[u8],
+    report: &mut Outlet<W>,
+    cert: &mut Outlet<V>,
+) -> Result<(), RunFault>
+    requires few { length found.now.rows < 2 ^ 32 }
+    requires report { report.old.failed ≡ false }
+    requires cert { cert.old.failed ≡ false }
+    ensures cert { OnOk result (Appends cert.old.bytes cert.new.bytes (cert_text (cert_of found.now))) }
+    ensures report { OnOk result (Appends report.old.bytes report.new.bytes text.now) }
+    ensures refused { IfErr result (λ e. e ≢ RunFault.Write → (e ≡ RunFault.OutOfMemory) × (report.new ≡ report.old) × (cert.new ≡ cert.old)) }
+    ensures write { IsErrOf result RunFault.Write ↔ (IsTrue report.new.failed ⊎ IsTrue cert.new.failed) }
+    ensures order { IsTrue cert.new.failed → report.new ≡ report.old }
+{
+    match write_cert(alloc, found, cert) {
+        Ok(()) => {}
+        Err(CertFault::Write) => return Err(RunFault::Write),
+        Err(CertFault::OutOfMemory) => return Err(RunFault::OutOfMemory),
+    }
+    report.write_all(text)?;
+    Ok(())
+}

@@ -1,0 +1,114 @@
+//! Reads the texts of a tuning into its inputs.
+ghost use Rattle.std.specs.Prelude.{◌≡◌, ◌≢◌, ◌≤◌, ◌<◌, [], length, map, All, IfOk, IfErr, Some, Err};
+ghost use Rattle.rc_instr.specs.Warrior.{Fits};
+ghost use Rattle.rc_asm.specs.Assembly.{Assembles};
+ghost use Rattle.mars_fight.specs.Placing.{IsPlaced};
+ghost use Rattle.mars_fight.specs.Schedule.{fights_of};
+ghost use Rattle.cwtune.specs.TuneRun.{texts, IsTemplate, AreOpponents, Means, IsTemplateRefusal, IsRefusalOf, AreRefused, HasNoFights, IsTuneRefusal};
+
+use crate::commands::warrior_of;
+use crate::fault::RunFault;
+use mars_fight::{Schedule, ScheduleFaultKind};
+use rc_instr::{Rules, Warrior};
+use std::alloc::Global;
+use tune_template::{Inputs, Template, TemplateKind};
+
+// The most opponents that a tuning may have.
+const MOST_OPPONENTS: usize = 64;
+
+// Reads the inputs of a tuning. Of several faults the first in the order of `RunFault` is returned.
+#[tactic(auto, using(crate::proofs::Tunings::template_refused, crate::proofs::Tunings::opponents_refused, crate::proofs::Tunings::schedule_refused))]
+pub(crate) fn inputs_of(
+    alloc: Global,
+    template: &[u8],
+    opponents: &[Vec<u8>],
+    schedule: &[u8],
+    rules: &Rules,
+) -> Result<Inputs, RunFault>
+    ensures inputs { IfOk result (λ i. Means (texts template.now (map (λ o. o.items) opponents.now) schedule.now rules.now) i) }
+    ensures refused { IfErr result (λ e. IsTuneRefusal e (texts template.now (map (λ o. o.items) opponents.now) schedule.now rules.now)) }
+    ensures candidate { IfErr result (λ e. (e ≢ RunFault.NoCandidate) × (e ≢ RunFault.Write)) }
+{
+    if opponents.len() > MOST_OPPONENTS {
+        return Err(RunFault::TooManyOpponents);
+    }
+    let template = match template_of(alloc, template) {
+        Ok(template) => template,
+        Err(fault) => return Err(fault),
+    };
+    let warriors = match opponents_of(alloc, opponents, rules) {
+        Ok(warriors) => warriors,
+        Err(fault) => return Err(fault),
+    };
+    let schedule = match schedule_of(alloc, schedule, opponents.len() as u32, rules) {
+        Ok(schedule) => schedule,
+        Err(fault) => return Err(fault),
+    };
+    Ok(Inputs::new(template, warriors, schedule, *rules))
+}
+
+fn template_of(alloc: Global, text: &[u8]) -> Result<Template, RunFault>
+    ensures template { IfOk result (λ t. IsTemplate text.now t) }
+    ensures refused { IfErr result (λ e. IsTemplateRefusal e text.now) }
+{
+    match Template::read(alloc, text) {
+        Ok(template) => Ok(template),
+        Err(fault) => match fault.kind {
+            TemplateKind::OutOfMemory => Err(RunFault::OutOfMemory),
+            _ => Err(RunFault::Template(fault)),
+        },
+    }
+}
+
+fn schedule_of(
+    alloc: Global,
+    text: &[u8],
+    opponents: u32,
+    rules: &Rules,
+) -> Result<Schedule, RunFault>
+    ensures schedule { IfOk result (λ s. fights_of rules.now opponents text.now ≡ Some s) }
+    ensures placed { IfOk result (λ s. All (IsPlaced rules.now opponents) s) }
+    ensures refused { IfErr result (λ e. HasNoFights e rules.now opponents text.now) }
+{
+    match Schedule::read(alloc, text, opponents, rules) {
+        Ok(schedule) => Ok(schedule),
+        Err(fault) => match fault.kind {
+            ScheduleFaultKind::OutOfMemory => Err(RunFault::OutOfMemory),
+            _ => Err(RunFault::Schedule(fault)),
+        },
+    }
+}
+
+// Assembles one opponent. `index` is its place among all, for the fault.
+fn opponent_of(alloc: Global, text: &[u8], index: u32, rules: &Rules) -> Result<Warrior, RunFault>
+    ensures warrior { IfOk result (λ w. Assembles text.now [] rules.now w) }
+    ensures fits { IfOk result (Fits rules.now) }
+    ensures refused { IfErr result (λ e. IsRefusalOf index e rules.now text.now) }
+{
+    match warrior_of(alloc, text, rules) {
+        Ok(warrior) => Ok(warrior),
+        Err(RunFault::Asm(fault)) => Err(RunFault::Opponent { index, fault }),
+        Err(_) => Err(RunFault::OutOfMemory),
+    }
+}
+
+// Assembles all opponents, at most 64, up to the first that does not assemble.
+#[tactic(auto, using(crate::proofs::Opponents::opponents_more, crate::proofs::Opponents::opponents_end, crate::proofs::Opponents::opponents_whole))]
+fn opponents_of(alloc: Global, sources: &[Vec<u8>], rules: &Rules) -> Result<Vec<Warrior>, RunFault>
+    requires few { length sources.now ≤ 64 }
+    ensures warriors { IfOk result (λ ws. AreOpponents rules.now (map (λ s. s.items) sources.now) ws.items) }
+    ensures count { IfOk result (λ ws. length ws.items ≡ length sources.now) }
+    ensures fit { IfOk result (λ ws. All (Fits rules.now) ws.items) }
+    ensures refused { IfErr result (λ e. AreRefused e rules.now (map (λ s. s.items) sources.now)) }
+{
+    let mut warriors = Vec::new(alloc);
+    for source in sources {
+        let index = warriors.len() as u32;
+        let warrior = match opponent_of(alloc, source.as_slice(), index, rules) {
+            Ok(warrior) => warrior,
+            Err(fault) => return Err(fault),
+        };
+        warriors.push(warrior)?;
+    }
+    Ok(warriors)
+}

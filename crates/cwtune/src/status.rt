@@ -1,0 +1,60 @@
+//! Exit statuses, and the lines on standard error that go with them.
+ghost use Rattle.std.specs.Prelude.{◌≡◌, ◌≢◌, ◌⊎◌, false};
+
+use crate::fault::RunFault;
+use crate::fault_line::{say_file, say_run};
+use rc_instr::Outlet;
+use std::io;
+use std::io::Write;
+
+// Names the fault of a run on standard error, and returns the exit status.
+pub(crate) fn end_run<V: Write>(err: &mut Outlet<V>, fault: RunFault) -> u8
+    requires { err.old.failed ≡ false }
+    ensures refused { result ≡ 1 → (fault ≢ RunFault.Write) × (fault ≢ RunFault.OutOfMemory) }
+    ensures status { (result ≡ 1) ⊎ (result ≡ 3) }
+{
+    let _ = say_run(err, fault);
+    match fault {
+        RunFault::Write | RunFault::OutOfMemory => FAILED,
+        _ => REFUSED,
+    }
+}
+
+// Says on standard error that memory ran out, and returns the exit status.
+pub(crate) fn end_without_memory<V: Write>(err: &mut Outlet<V>) -> u8
+    requires { err.old.failed ≡ false }
+    ensures { result ≡ 3 }
+{
+    let _ = say_run(err, RunFault::OutOfMemory);
+    FAILED
+}
+
+// Names a file that could not be read or created, and returns the exit status. `action` is the
+// verb.
+pub(crate) fn end_file<V: Write>(
+    err: &mut Outlet<V>,
+    error: &io::Error,
+    action: &str,
+    name: &str,
+) -> u8
+    requires { err.old.failed ≡ false }
+    ensures { result ≡ 3 }
+{
+    if error.kind() == io::ErrorKind::OutOfMemory {
+        return end_without_memory(err);
+    }
+    let _ = say_file(err, action, name);
+    FAILED
+}
+
+// Success, or an accepted certificate.
+pub(crate) const DONE: u8 = 0;
+
+// A refused input, or a rejected certificate.
+pub(crate) const REFUSED: u8 = 1;
+
+// A usage error.
+pub(crate) const MISUSED: u8 = 2;
+
+// An I/O error, or out of memory.
+pub(crate) const FAILED: u8 = 3;

@@ -1,0 +1,23 @@
+use Rattle.std.proofs.Common.{◌≡◌, ◌+◌, ◌*◌, ◌≤◌, length}
+use Rattle.mars_core.specs.Core.{IsCore, AreTasks}
+use Rattle.mars_core.specs.State.{seen_from}
+use Rattle.mars_core.specs.declared.side.Side.{Side}
+use Rattle.mars_core.proofs.Going.{IsGoing}
+use Rattle.mars_core.proofs.fight_loop.alternate.Given as goal
+
+-- whole cycles were made, and both sides have tasks
+abbrev pub invariant-loop-cycle : goal.invariant-loop-cycle
+invariant-loop-cycle g l =
+    let items = g.C.Cells.items in
+    record {
+      going : (first : Side) → IsGoing l.fn.mine.capacity (seen_from first (items l.fn.cells) l.fn.mine.items l.fn.theirs.items) first
+          (2 * l.cycle) (items l.cells) l.mine.items l.theirs.items;
+      mine_some : length l.mine.items ≡ 0 → ⊥;
+      theirs_some : length l.theirs.items ≡ 0 → ⊥;
+      core : IsCore l.size (items l.cells);
+      mine_below : AreTasks l.size l.mine.items;
+      theirs_below : AreTasks l.size l.theirs.items;
+      mine_room : l.mine.capacity ≡ l.fn.mine.capacity;
+      theirs_room : l.theirs.capacity ≡ l.fn.mine.capacity;
+      marks : g.C.Cells.marks l.cells ≤ g.C.Cells.marks l.fn.cells + 6 * l.cycle;
+    }

@@ -1,0 +1,52 @@
+//! The loop of a fight: the sides take turns until one of them has no task.
+ghost use Rattle.std.specs.Prelude.{◌≡◌, ◌+◌, ◌*◌, ◌≤◌};
+ghost use Rattle.mars_core.specs.Core.{IsCore, AreTasks};
+ghost use Rattle.mars_core.specs.State.{seen_from, play_of};
+ghost use Rattle.mars_core.specs.Fight.{turns_of};
+ghost use Rattle.mars_core.specs.declared.side.Side.{Side};
+
+use crate::cells::Cells;
+use crate::turn::take_turn;
+use circular_buffer::HeapCircularBuffer;
+
+// Alternates turns, `mine` first, until a queue is empty or `cycles` are over.
+// Returns the number of turns.
+pub(crate) fn alternate<C: Cells>(
+    cells: &mut C,
+    mine: &mut HeapCircularBuffer<u16>,
+    theirs: &mut HeapCircularBuffer<u16>,
+    size: u32,
+    cycles: u32,
+) -> u32
+    requires core { IsCore size (C.items cells.old) }
+    requires mine { AreTasks size mine.old.items }
+    requires theirs { AreTasks size theirs.old.items }
+    requires room { theirs.old.capacity ≡ mine.old.capacity }
+    requires cycles { cycles ≤ 1000000 }
+
+    // `mine` may be either side, so both clauses hold for every side that moves first.
+    ensures turns { (first : Side) → result ≡ turns_of mine.old.capacity (seen_from first (C.items cells.old) mine.old.items theirs.old.items) first cycles }
+    ensures state { (first : Side) → seen_from first (C.items cells.new) mine.new.items theirs.new.items
+        ≡ play_of mine.old.capacity (seen_from first (C.items cells.old) mine.old.items theirs.old.items) first result }
+
+    ensures core { IsCore size (C.items cells.new) }
+    ensures mine { AreTasks size mine.new.items × (mine.new.capacity ≡ mine.old.capacity) }
+    ensures theirs { AreTasks size theirs.new.items × (theirs.new.capacity ≡ theirs.old.capacity) }
+    ensures within { result ≤ 2 * cycles }
+    ensures marks { C.marks cells.new ≤ C.marks cells.old + 3 * result }
+{
+    if mine.is_empty() || theirs.is_empty() {
+        return 0;
+    }
+    for cycle in 0..cycles {
+        take_turn(cells, mine, size);
+        if mine.is_empty() {
+            return 2 * cycle + 1;
+        }
+        take_turn(cells, theirs, size);
+        if theirs.is_empty() {
+            return 2 * cycle + 2;
+        }
+    }
+    2 * cycles
+}

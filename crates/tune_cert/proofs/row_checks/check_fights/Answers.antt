@@ -1,0 +1,60 @@
+use Rattle.std.proofs.Common.{◌≡◌, ◌∙◌, sym, ap, arith, refl, true, false, ℕ, subst}
+use Rattle.rc_instr.specs.Warrior.{WarriorView}
+use Rattle.tune_cert.specs.Problem.{problem_of}
+use Rattle.tune_cert.specs.Optimum.{cap_of, beats}
+use Rattle.tune_cert.specs.Valid.{numbers, IsCapRow}
+use Rattle.tune_cert.specs.Verdict.{HavePoints}
+use Rattle.tune_cert.specs.Steps.{listed_cap}
+use Rattle.tune_cert.proofs.Certificates.{some_is}
+use Rattle.tune_cert.proofs.Scores.{inputs_problem}
+use Rattle.tune_cert.proofs.RowChecks.{cap_row_of, few_listed, listed_is_cap}
+use Rattle.tune_cert.proofs.row_checks.check_fights.Goals as goal
+
+pub returns-then-vector-cert-clause-right : goal.returns-then-vector-cert-clause-right
+returns-then-vector-cert-clause-right c =
+    let p = problem_of c.args.inputs.now in
+    let w = c.args.warrior.now in (
+      w,
+      c.requires.candidate,
+      cap_row_of p w 0 c.args.listed.now c.requires.rising (c.if-not-have_points.ensures.points.0 refl),
+      λ other. absurd (other c.if-vector-cert.true),
+    )
+
+pub listed_cap-requires-clause-within : goal.listed_cap-requires-clause-within
+listed_cap-requires-clause-within c =
+    let p = problem_of c.args.inputs.now in
+    let w = c.args.warrior.now in
+    let row : IsCapRow p w 0 c.args.listed.now = cap_row_of p w 0 c.args.listed.now c.requires.rising (c.if-not-have_points.ensures.points.0 refl) in
+    omega (arith, few_listed p (inputs_problem c.args.inputs.now) w c.args.listed.now row, c.fight_count.ensures.count)
+
+pub returns-then-is_above-clause-wrong : goal.returns-then-is_above-clause-wrong
+returns-then-is_above-clause-wrong c =
+    let p = problem_of c.args.inputs.now in
+    let w = c.args.warrior.now in
+    let row : IsCapRow p w 0 c.args.listed.now = cap_row_of p w 0 c.args.listed.now c.requires.rising (c.if-not-have_points.ensures.points.0 refl) in
+    let cap : c.listed_cap.result ≡ cap_of p w (numbers c.args.listed.now) =
+    c.listed_cap.ensures ∙ ap (λ (n : ℕ). listed_cap n c.args.listed.now) c.fight_count.ensures.count ∙ listed_is_cap p w c.args.listed.now row in (
+      w,
+      c.if-vector-cert.false,
+      c.requires.candidate,
+      subst (λ (n : ℕ). beats n c.args.vector c.args.cert.now.total c.args.cert.now.best ≡ true) cap (sym c.is_above.ensures ∙ c.if-is_above.true),
+    )
+
+pub returns-clause-right : goal.returns-clause-right
+returns-clause-right c =
+    let p = problem_of c.args.inputs.now in
+    let w = c.args.warrior.now in
+    let row : IsCapRow p w 0 c.args.listed.now = cap_row_of p w 0 c.args.listed.now c.requires.rising (c.if-not-have_points.ensures.points.0 refl) in
+    let cap : c.listed_cap.result ≡ cap_of p w (numbers c.args.listed.now) =
+    c.listed_cap.ensures ∙ ap (λ (n : ℕ). listed_cap n c.args.listed.now) c.fight_count.ensures.count ∙ listed_is_cap p w c.args.listed.now row in (
+      w,
+      c.requires.candidate,
+      row,
+      λ other. subst (λ (n : ℕ). beats n c.args.vector c.args.cert.now.total c.args.cert.now.best ≡ false) cap (sym c.is_above.ensures ∙ c.if-is_above.false),
+    )
+
+pub returns-then-is_above-clause-first : goal.returns-then-is_above-clause-first
+returns-then-is_above-clause-first c =
+    let p = problem_of c.args.inputs.now in
+    let points = c.if-not-have_points.ensures.points.0 refl in
+    (c.requires.rising, λ w is. subst (λ (x : WarriorView). HavePoints p x c.args.listed.now) (some_is _ _ (sym c.requires.candidate ∙ is)) points)

@@ -1,0 +1,43 @@
+use Rattle.std.proofs.Common.{◌≡◌, ◌∙◌, arith, ap, sym, refl, length, false, List, ℕ, subst, Some}
+use Rattle.std.specs.Prelude.{IsTrue}
+use Rattle.tune_cert.specs.Problem.{problem_of}
+use Rattle.tune_cert.specs.Optimum.{all_fights}
+use Rattle.tune_cert.specs.Valid.{numbers}
+use Rattle.tune_cert.specs.Steps.{AreNumbers}
+use Rattle.tune_cert.specs.declared.cert.Row.TheVariants.{Cap}
+use Rattle.tune_cert.proofs.RowChecks.{all_numbers, numbers_all, all_listed}
+use Rattle.tune_cert.proofs.row_checks.is_best_row.Goals as goal
+
+-- a cap row at a vector is the only one there
+one_row : (o : List (ℕ × ℕ)) (r : List (ℕ × ℕ)) → Some (Cap o) ≡ Some (Cap r) → o ≡ r
+one_row o r e = cc
+
+pub returns-then-not-lists_all-clause-no : goal.returns-then-not-lists_all-clause-no
+returns-then-not-lists_all-clause-no c = λ best.
+    let p = problem_of c.args.inputs.now in
+    let row : best.row ≡ c.in-Some.listed.now = one_row _ _ (sym best.here ∙ c.in-Some.ensures.some) in
+    let every : numbers c.in-Some.listed.now ≡ all_fights p = ap numbers (sym row) ∙ best.every in
+    let all : AreNumbers c.fight_count.result 0 c.in-Some.listed.now =
+    subst (λ (n : ℕ). AreNumbers n 0 c.in-Some.listed.now) (sym c.fight_count.ensures.count) (numbers_all p c.in-Some.listed.now every) in
+    let yes : IsTrue false = c.if-not-lists_all.ensures.1 all in
+    yes
+
+pub listed_points-requires : goal.listed_points-requires
+listed_points-requires c =
+    let p = problem_of c.args.inputs.now in
+    let all : AreNumbers p.fights 0 c.in-Some.listed.now =
+    subst (λ (n : ℕ). AreNumbers n 0 c.in-Some.listed.now) c.fight_count.ensures.count (c.if-not-lists_all.ensures.0 refl) in
+    let many : length c.in-Some.listed.now ≡ p.fights = all_listed p c.in-Some.listed.now (all_numbers p c.in-Some.listed.now all) in
+    record { few = omega (arith, many, c.fight_count.ensures.few, c.fight_count.ensures.count) }
+
+pub returns-clause-yes : goal.returns-clause-yes
+returns-clause-yes c = λ equal.
+    let p = problem_of c.args.inputs.now in
+    let all : AreNumbers p.fights 0 c.in-Some.listed.now =
+    subst (λ (n : ℕ). AreNumbers n 0 c.in-Some.listed.now) c.fight_count.ensures.count (c.if-not-lists_all.ensures.0 refl) in
+    record {
+      row = c.in-Some.listed.now;
+      here = c.in-Some.ensures.some;
+      every = all_numbers p c.in-Some.listed.now all;
+      sums = grind (arith, c.listed_points.ensures.sum, equal);
+    }

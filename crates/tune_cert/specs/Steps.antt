@@ -1,0 +1,109 @@
+-- Words that only the contracts of private functions use: parts of certificates, checks under way,
+-- and a certificate that is being written.
+use Rattle.std.specs.Prelude.{◌≡◌, ℕ, suc, ◌+◌, ◌-◌, ◌<◌, ◌≤◌, ◌^◌, List, length, slice_get, Some, All, flat_map, ◌*◌, [], ◌∷◌, ◌++◌, false}
+use Rattle.mars_fight.specs.Records.{Fields}
+use Rattle.tune_cert.specs.CertText.{spaced_text, list_text, rows_fields, count_fields, best_fields}
+use Rattle.tune_cert.specs.Spelling.{IsNumber, IsItem, IsRow, HasForm}
+use Rattle.tune_cert.specs.declared.cert.Row.{Row}
+use Rattle.tune_cert.specs.declared.fault.ReadFault.{ReadFault}
+use Rattle.tune_cert.specs.declared.fault.ReadFault.TheVariants.{Malformed, OutOfMemory}
+use Rattle.std.specs.List.{sum_by}
+use Rattle.tune_cert.specs.Problem.{Problem}
+use Rattle.tune_cert.specs.Verdict.{IsValidCert, IsRejected, IsRightSame, IsFirstOfCap, IsFirstOfSame, IsFirstOfCert}
+use Rattle.tune_cert.specs.declared.cert.Cert.{Cert}
+use Rattle.tune_cert.specs.declared.cert.Row.TheVariants.{Refused, Same, Cap}
+use Rattle.tune_cert.specs.declared.verdict.Reason.{Reason}
+use Rattle.tune_cert.specs.declared.verdict.Verdict.{Verdict}
+use Rattle.tune_cert.specs.declared.verdict.Verdict.TheVariants.{Accepted, Rejected}
+use Rattle.std.specs.declared.alloc.Global.{Global}
+use Rattle.std.specs.declared.vec.Vec.{Vec}
+use Rattle.csv.specs.Writing.{default_writer, writer_setup, fields_written, has_written, writer_under, writer_pending}
+use Rattle.csv.specs.declared.writer.Writer.{Writer}
+
+-- The bytes spell these fights, each after a space.
+pub record AreSpaced (bytes : List ℕ) (items : List (ℕ × ℕ)) : Type 0 where
+  pub text : bytes ≡ flat_map spaced_text items
+  pub each : All IsItem items
+
+-- The bytes spell the list of these fights.
+pub record AreItems (bytes : List ℕ) (items : List (ℕ × ℕ)) : Type 0 where
+  pub text : bytes ≡ list_text items
+  pub each : All IsItem items
+
+-- The records spell these rows, of the settings from v on.
+pub record AreRows (v : ℕ) (records : List Fields) (rows : List Row) : Type 0 where
+  pub text : records ≡ rows_fields rows v
+  pub each : All IsRow rows
+  pub few : v + length rows ≤ 2 ^ 32
+
+-- Record 0 does not spell a count.
+abbrev pub IsBadCount : List Fields → ReadFault → Type 0
+IsBadCount records OutOfMemory = Unit {0}
+IsBadCount records (Malformed row) = (row ≡ 0) × ((count : ℕ) → IsNumber count → slice_get records 0 ≡ Some (count_fields count) → ⊥)
+
+-- Record 1, the first of these, does not spell a best setting.
+abbrev pub IsBadBest : List Fields → ReadFault → Type 0
+IsBadBest records OutOfMemory = Unit {0}
+IsBadBest records (Malformed row) =
+    (row ≡ 1) × ((best total : ℕ) → IsNumber best → IsNumber total → slice_get records 0 ≡ Some (best_fields best total) → ⊥)
+
+-- Setting v has a record of the right form.
+abbrev pub HasRow : List Fields → ℕ → Type 0
+HasRow records v = (fields : Fields) × (slice_get records v ≡ Some fields) × HasForm (suc (suc v)) fields
+
+-- The record of setting v is the first that is malformed.
+pub record IsBadRecord (records : List Fields) (v : ℕ) : Type 0 where
+  pub fields : Fields
+  pub here : slice_get records v ≡ Some fields
+  pub bad : ¬ (HasForm (suc (suc v)) fields)
+  pub before : (u : ℕ) → u < v → HasRow records u
+
+-- That record, by its index among all records.
+abbrev pub IsBadRow : List Fields → ReadFault → Type 0
+IsBadRow records OutOfMemory = Unit {0}
+IsBadRow records (Malformed row) = (2 ≤ row) × IsBadRecord records (row - 2)
+
+-- A cap row lists the fights from a to n - 1, in order.
+abbrev pub AreNumbers : ℕ → ℕ → List (ℕ × ℕ) → Type 0
+AreNumbers n a [] = a ≡ n
+AreNumbers n a (e ∷ row) = (e.0 ≡ a) × AreNumbers n (a + 1) row
+
+-- The cap of a row: the points that it lists, and 3 for each of the other fights.
+abbrev pub listed_cap : ℕ → List (ℕ × ℕ) → ℕ
+listed_cap fights row = sum_by (λ e. e.1) row + 3 * (fights - length row)
+
+-- What is checked of a refused or a cap row before each reason is right.
+abbrev pub IsFirstAlone : Problem → ℕ → Row → Reason → Type 0
+IsFirstAlone p v Refused reason = Unit {0}
+IsFirstAlone p v (Same u) reason = ⊥
+IsFirstAlone p v (Cap row) reason = IsFirstOfCap p v row reason
+
+-- What is checked of a row that refers to another setting before each reason is right.
+abbrev pub IsFirstSame : Problem → Cert → ℕ → Row → Reason → Type 0
+IsFirstSame p c v Refused reason = ⊥
+IsFirstSame p c v (Same u) reason = IsFirstOfSame p c v u reason
+IsFirstSame p c v (Cap row) reason = ⊥
+
+-- All rows that refer to other settings are right.
+pub record AreRightSame (p : Problem) (c : Cert) : Type 0 where
+  pub each : (v : ℕ) (row : Row) → slice_get c.rows v ≡ Some row → IsRightSame p c v row
+
+-- The verdict on a certificate whose form is right.
+abbrev pub IsCertVerdict : Problem → Cert → Verdict → Type 0
+IsCertVerdict p c (Accepted best total) = IsValidCert p c × (best ≡ c.best) × (total ≡ c.total)
+IsCertVerdict p c (Rejected number reason) = IsRejected p c number reason
+
+-- What is checked before a rejection is right.
+abbrev pub IsFirstVerdict : Problem → Cert → Verdict → Type 0
+IsFirstVerdict p c (Accepted best total) = Unit {0}
+IsFirstVerdict p c (Rejected number reason) = IsFirstOfCert p c number reason
+
+-- A writer with the default settings, between two records.
+pub record IsReady {W : Type 0} (writer : Writer W) : Type 0 where
+  pub setup : writer_setup writer ≡ default_writer
+  pub fields : fields_written writer ≡ 0
+  pub wrote : has_written writer ≡ false
+
+-- The text so far: what the inner writer holds, and what is still to be handed to it.
+abbrev pub so_far : Writer (Vec ℕ Global) → List ℕ
+so_far writer = (writer_under writer).items ++ writer_pending writer

@@ -1,0 +1,70 @@
+//! What is searched: the warrior of a setting, and its points in a fight.
+ghost use Rattle.std.specs.Prelude.{◌≡◌, ◌<◌, ◌≤◌, IfOk, IfSome, length};
+ghost use Rattle.rc_instr.specs.Warrior.{Fits};
+ghost use Rattle.tune_cert.specs.Problem.{problem_of};
+ghost use Rattle.mars_core.specs.Arena.{blank_arena};
+ghost use Rattle.mars_fight.specs.Play.{ArePoints};
+
+use mars_core::{Arena, Cells};
+use mars_fight::play;
+use rc_asm::AsmKind;
+use rc_instr::{OutOfMemory, Warrior};
+use std::alloc::Global;
+use tune_template::Inputs;
+
+/// Assembles the template with the values of setting `vector`, which is below the count of
+/// settings.
+///
+/// Returns `None` if the text does not assemble with these values, or not to a warrior that keeps
+/// the rules, and `OutOfMemory` if memory runs out: that says nothing about the setting.
+pub fn setting_warrior(
+    alloc: Global,
+    inputs: &Inputs,
+    vector: u32,
+) -> Result<Option<Warrior>, OutOfMemory>
+    requires inside { vector < (problem_of inputs.now).count }
+    ensures warrior { IfOk result (λ w. w ≡ (problem_of inputs.now).warrior vector) }
+    ensures fits { IfOk result (λ w. IfSome w (Fits inputs.now.rules)) }
+{
+    match inputs.template().instance(alloc, vector, inputs.rules()) {
+        Ok(warrior) => Ok(Some(warrior)),
+        Err(fault) => {
+            if fault.kind == AsmKind::OutOfMemory {
+                return Err(OutOfMemory);
+            }
+            Ok(None)
+        }
+    }
+}
+
+/// Plays fight `index` of the schedule and returns the warrior's points: 3 for a win, 1 for a tie,
+/// 0 for a loss (pMARS).
+///
+/// The warrior must keep the rules of the inputs, and the arena must be blank under them. It is
+/// blank afterwards.
+#[tactic(auto, unfolding(crate::specs::Problem::fight_points))]
+pub fn fight_points<C: Cells>(
+    arena: &mut Arena<C>,
+    inputs: &Inputs,
+    warrior: &Warrior,
+    index: u32,
+) -> u8
+    requires blank { arena.old ≡ blank_arena inputs.now.rules (C.new_marks inputs.now.rules.core) }
+    requires fits { Fits inputs.now.rules warrior.now }
+    requires inside { index < length inputs.now.schedule }
+    ensures points { result ≡ (problem_of inputs.now).points warrior.now index }
+    ensures scores { ArePoints result }
+    ensures blank { arena.new ≡ blank_arena inputs.now.rules (C.new_marks inputs.now.rules.core) }
+{
+    let fight = &inputs.schedule().fights()[index as usize];
+    let opponent = &inputs.opponents()[fight.opponent as usize];
+    play(arena, warrior, opponent, fight)
+}
+
+// Returns the number of fights in the schedule.
+pub(crate) fn fight_count(inputs: &Inputs) -> u32
+    ensures count { result ≡ (problem_of inputs.now).fights }
+    ensures few { result ≤ 10000 }
+{
+    inputs.schedule().fights().len() as u32
+}

@@ -1,0 +1,299 @@
+//! Checks single rows of a certificate.
+ghost use Rattle.std.specs.Prelude.{◌≡◌, ◌↔◌, ◌<◌, None, Some, IsTrue, IfOk, IfSome, IfNone, length, ◌*◌, ◌≤◌, ℕ, List, true, slice_get};
+ghost use Rattle.rc_instr.specs.Warrior.{Fits};
+ghost use Rattle.mars_core.specs.Arena.{blank_arena};
+ghost use Rattle.tune_cert.specs.Problem.{problem_of};
+ghost use Rattle.tune_cert.specs.Valid.{IsRightRow};
+ghost use Rattle.tune_cert.specs.Verdict.{Rises, HavePoints, IsWrongRefused, IsWrongCap, IsWrong, IsWrongSame, IsBestRow, IsRightAlone, IsFirstOfCap, AreRightAlone, IsRightSame, IsFirstOfSame};
+ghost use Rattle.tune_cert.specs.Steps.{IsFirstAlone, IsFirstSame, AreNumbers, listed_cap};
+ghost use Rattle.tune_cert.specs.declared.cert.Row.TheVariants.{Cap, Same};
+ghost use Rattle.std.specs.List.{sum_by};
+ghost use Rattle.tune_cert.specs.Optimum.{beats};
+
+use crate::cert::{Cert, Row};
+use crate::fault::CheckFault;
+use crate::problem::{fight_count, fight_points, setting_warrior};
+use crate::verdict::Reason;
+use mars_core::{Arena, PlainCells};
+use rc_instr::{Instruction, Warrior};
+use std::alloc::Global;
+use tune_template::Inputs;
+
+// Checks a refused or a cap row, and passes over a row that refers to another setting.
+pub(crate) fn check_alone(
+    alloc: Global,
+    arena: &mut Arena<PlainCells>,
+    inputs: &Inputs,
+    cert: &Cert,
+    vector: u32,
+    row: &Row,
+) -> Result<Option<Reason>, CheckFault>
+    requires inside { vector < (problem_of inputs.now).count }
+    requires blank { arena.old ≡ blank_arena inputs.now.rules inputs.now.rules.core }
+    ensures right { IfOk result (λ o. IfNone o (IsRightAlone (problem_of inputs.now) cert.now vector row.now)) }
+    ensures wrong { IfOk result (λ o. IfSome o (IsWrong (problem_of inputs.now) cert.now vector row.now)) }
+    ensures first { IfOk result (λ o. IfSome o (IsFirstAlone (problem_of inputs.now) vector row.now)) }
+    ensures blank { arena.new ≡ blank_arena inputs.now.rules inputs.now.rules.core }
+{
+    match row {
+        Row::Refused => check_refused(alloc, inputs, vector),
+        Row::Same(_) => Ok(None),
+        Row::Cap(listed) => check_cap(alloc, arena, inputs, cert, vector, listed.as_slice()),
+    }
+}
+
+// Checks a row that refers to another setting, and passes over any other row.
+pub(crate) fn check_same(
+    alloc: Global,
+    inputs: &Inputs,
+    cert: &Cert,
+    vector: u32,
+    row: &Row,
+) -> Result<Option<Reason>, CheckFault>
+    requires inside { vector < (problem_of inputs.now).count }
+    requires rows { length cert.now.rows ≡ (problem_of inputs.now).count }
+    requires alone { AreRightAlone (problem_of inputs.now) cert.now }
+    ensures right { IfOk result (λ o. IfNone o (IsRightSame (problem_of inputs.now) cert.now vector row.now)) }
+    ensures wrong { IfOk result (λ o. IfSome o (IsWrong (problem_of inputs.now) cert.now vector row.now)) }
+    ensures first { IfOk result (λ o. IfSome o (IsFirstSame (problem_of inputs.now) cert.now vector row.now)) }
+{
+    match row {
+        Row::Same(other) => check_reference(alloc, inputs, cert, vector, *other),
+        _ => Ok(None),
+    }
+}
+
+// Checks whether the row of the best setting lists every fight in order, with points that add up to
+// the total.
+pub(crate) fn is_best_row(inputs: &Inputs, cert: &Cert) -> bool
+    ensures yes { IsTrue result → IsBestRow (problem_of inputs.now) cert.now }
+    ensures no { IsBestRow (problem_of inputs.now) cert.now → IsTrue result }
+{
+    let Some(listed) = cap_row(cert, cert.best) else {
+        return false;
+    };
+    if !lists_all(fight_count(inputs), listed) {
+        return false;
+    }
+    listed_points(listed) == cert.total
+}
+
+// Checks whether the fights of a cap row rise, so that none is listed twice.
+fn is_rising(listed: &[(u32, u8)]) -> bool
+    ensures { IsTrue result ↔ Rises 0 listed.now }
+{
+    let mut next: u64 = 0;
+    for (number, _) in listed {
+        if u64::from(*number) < next {
+            return false;
+        }
+        next = u64::from(*number) + 1;
+    }
+    true
+}
+
+// Checks whether every listed fight exists and gives the listed points. Plays the fights in order
+// and stops at the first that does not.
+fn have_points(
+    arena: &mut Arena<PlainCells>,
+    inputs: &Inputs,
+    warrior: &Warrior,
+    listed: &[(u32, u8)],
+) -> bool
+    requires blank { arena.old ≡ blank_arena inputs.now.rules inputs.now.rules.core }
+    requires fits { Fits inputs.now.rules warrior.now }
+    ensures points { IsTrue result ↔ HavePoints (problem_of inputs.now) warrior.now listed.now }
+    ensures blank { arena.new ≡ blank_arena inputs.now.rules inputs.now.rules.core }
+{
+    let fights = fight_count(inputs);
+    for (number, points) in listed {
+        if *number >= fights {
+            return false;
+        }
+        if fight_points(arena, inputs, warrior, *number) != *points {
+            return false;
+        }
+    }
+    true
+}
+
+// Checks a refused row: its setting must not assemble.
+fn check_refused(alloc: Global, inputs: &Inputs, vector: u32) -> Result<Option<Reason>, CheckFault>
+    requires inside { vector < (problem_of inputs.now).count }
+    ensures right { IfOk result (λ o. IfNone o ((problem_of inputs.now).warrior vector ≡ None)) }
+    ensures wrong { IfOk result (λ o. IfSome o (IsWrongRefused (problem_of inputs.now) vector)) }
+{
+    match setting_warrior(alloc, inputs, vector)? {
+        Some(_) => Ok(Some(Reason::NotRefused)),
+        None => Ok(None),
+    }
+}
+
+// Checks a cap row whose fights rise against the warrior of its setting.
+fn check_fights(
+    arena: &mut Arena<PlainCells>,
+    inputs: &Inputs,
+    cert: &Cert,
+    vector: u32,
+    warrior: &Warrior,
+    listed: &[(u32, u8)],
+) -> Option<Reason>
+    requires blank { arena.old ≡ blank_arena inputs.now.rules inputs.now.rules.core }
+    requires fits { Fits inputs.now.rules warrior.now }
+    requires candidate { (problem_of inputs.now).warrior vector ≡ Some warrior.now }
+    requires rising { Rises 0 listed.now }
+    ensures right { IfNone result (IsRightRow (problem_of inputs.now) cert.now.best cert.now.total cert.now.rows vector (Cap listed.now)) }
+    ensures wrong { IfSome result (IsWrongCap (problem_of inputs.now) cert.now vector listed.now) }
+    ensures first { IfSome result (IsFirstOfCap (problem_of inputs.now) vector listed.now) }
+    ensures blank { arena.new ≡ blank_arena inputs.now.rules inputs.now.rules.core }
+{
+    if !have_points(arena, inputs, warrior, listed) {
+        return Some(Reason::WrongPoints);
+    }
+    if vector == cert.best {
+        return None;
+    }
+    if is_above(listed_cap(fight_count(inputs), listed), vector, cert) {
+        return Some(Reason::CapTooHigh);
+    }
+    None
+}
+
+// Checks a cap row: its fights, then its points, then its cap.
+fn check_cap(
+    alloc: Global,
+    arena: &mut Arena<PlainCells>,
+    inputs: &Inputs,
+    cert: &Cert,
+    vector: u32,
+    listed: &[(u32, u8)],
+) -> Result<Option<Reason>, CheckFault>
+    requires inside { vector < (problem_of inputs.now).count }
+    requires blank { arena.old ≡ blank_arena inputs.now.rules inputs.now.rules.core }
+    ensures right { IfOk result (λ o. IfNone o (IsRightRow (problem_of inputs.now) cert.now.best cert.now.total cert.now.rows vector (Cap listed.now))) }
+    ensures wrong { IfOk result (λ o. IfSome o (IsWrongCap (problem_of inputs.now) cert.now vector listed.now)) }
+    ensures first { IfOk result (λ o. IfSome o (IsFirstOfCap (problem_of inputs.now) vector listed.now)) }
+    ensures blank { arena.new ≡ blank_arena inputs.now.rules inputs.now.rules.core }
+{
+    if !is_rising(listed) {
+        return Ok(Some(Reason::RepeatedFight));
+    }
+    let Some(warrior) = setting_warrior(alloc, inputs, vector)? else {
+        return Ok(Some(Reason::WrongPoints));
+    };
+    Ok(check_fights(arena, inputs, cert, vector, &warrior, listed))
+}
+
+fn is_same_code(one: &[Instruction], other: &[Instruction]) -> bool
+    ensures { IsTrue result ↔ (one.now ≡ other.now) }
+{
+    let mut rest = other;
+    for mine in one {
+        let Some((theirs, after)) = rest.split_first() else {
+            return false;
+        };
+        if !mine.is_same(theirs) {
+            return false;
+        }
+        rest = after;
+    }
+    rest.is_empty()
+}
+
+fn is_same_warrior(one: &Warrior, other: &Warrior) -> bool
+    ensures { IsTrue result ↔ (one.now ≡ other.now) }
+{
+    one.start() == other.start() && is_same_code(one.code(), other.code())
+}
+
+// Checks the row of setting `vector` that refers to setting `other`, whose row is right: `other`
+// must have a cap row and the same warrior, and the cap must not beat the best for `vector` either.
+fn check_reference(
+    alloc: Global,
+    inputs: &Inputs,
+    cert: &Cert,
+    vector: u32,
+    other: u32,
+) -> Result<Option<Reason>, CheckFault>
+    requires inside { vector < (problem_of inputs.now).count }
+    requires rows { length cert.now.rows ≡ (problem_of inputs.now).count }
+    requires alone { AreRightAlone (problem_of inputs.now) cert.now }
+    ensures right { IfOk result (λ o. IfNone o (IsRightRow (problem_of inputs.now) cert.now.best cert.now.total cert.now.rows vector (Same other))) }
+    ensures wrong { IfOk result (λ o. IfSome o (IsWrongSame (problem_of inputs.now) cert.now vector other)) }
+    ensures first { IfOk result (λ o. IfSome o (IsFirstOfSame (problem_of inputs.now) cert.now vector other)) }
+{
+    let Some(listed) = cap_row(cert, other) else {
+        return Ok(Some(Reason::NotSame));
+    };
+    if other == vector {
+        return Ok(Some(Reason::NotSame));
+    }
+    let Some(own) = setting_warrior(alloc, inputs, vector)? else {
+        return Ok(Some(Reason::NotSame));
+    };
+    let Some(theirs) = setting_warrior(alloc, inputs, other)? else {
+        return Ok(Some(Reason::NotSame));
+    };
+    if !is_same_warrior(&own, &theirs) {
+        return Ok(Some(Reason::NotSame));
+    }
+    if is_above(listed_cap(fight_count(inputs), listed), vector, cert) {
+        return Ok(Some(Reason::CapTooHigh));
+    }
+    Ok(None)
+}
+
+// Checks whether a cap row lists each of the `fights` fights, in order.
+fn lists_all(fights: u32, listed: &[(u32, u8)]) -> bool
+    ensures { IsTrue result ↔ AreNumbers fights 0 listed.now }
+{
+    let mut next: u64 = 0;
+    for (number, _) in listed {
+        if u64::from(*number) != next {
+            return false;
+        }
+        next += 1;
+    }
+    next == u64::from(fights)
+}
+
+// Returns the fights in the row of setting `vector` if that is a cap row.
+fn cap_row(cert: &Cert, vector: u32) -> Option<&[(u32, u8)]>
+    ensures some { IfSome result (λ row. slice_get cert.now.rows vector ≡ Some (Cap row.now)) }
+    ensures none { IfNone result ((row : List (ℕ × ℕ)) → slice_get cert.now.rows vector ≡ Some (Cap row) → ⊥) }
+{
+    match cert.rows.as_slice().get(vector as usize) {
+        Some(Row::Cap(listed)) => Some(listed.as_slice()),
+        _ => None,
+    }
+}
+
+// Adds up the points that a cap row lists.
+fn listed_points(listed: &[(u32, u8)]) -> u32
+    requires few { length listed.now ≤ 10000 }
+    ensures sum { result ≡ sum_by (λ e. e.1) listed.now }
+    ensures small { result ≤ 255 * length listed.now }
+{
+    let mut sum: u32 = 0;
+    for (_, points) in listed {
+        sum += u32::from(*points);
+    }
+    sum
+}
+
+// Returns the cap of a row: the points that it lists, and 3 for each of the other fights.
+fn listed_cap(fights: u32, listed: &[(u32, u8)]) -> u32
+    requires few { fights ≤ 10000 }
+    requires within { length listed.now ≤ fights }
+    ensures { result ≡ listed_cap fights listed.now }
+{
+    listed_points(listed) + 3 * (fights - listed.len() as u32)
+}
+
+// Checks whether `cap` beats the best setting for setting `vector`: an equal cap does if `vector`
+// comes first.
+fn is_above(cap: u32, vector: u32, cert: &Cert) -> bool
+    ensures { result ≡ beats cap vector cert.now.total cert.now.best }
+{
+    cert.total < cap || (cap == cert.total && vector < cert.best)
+}
