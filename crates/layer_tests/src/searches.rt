@@ -6,8 +6,7 @@ use rc_instr::Rules;
 use std::alloc::{AllocError, Global};
 use std::test::Fail;
 use tune_cert::{Found, Row};
-use tune_search::fault::SearchFault;
-use tune_search::tuning::search;
+use tune_search::{SearchFault, search};
 use tune_template::{Inputs, Template};
 
 // The same fight against the first opponent, twice.

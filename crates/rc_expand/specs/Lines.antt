@@ -127,7 +127,8 @@ module _ (source : List ℕ) where
   abbrev pub bytes_of : Token → List ℕ
   bytes_of t = slice_range source t.lo t.hi
 
-  -- a name that is not reserved; with joined counters it ends with a digit, as no reserved word does
+  -- a name that is not reserved; with joined counters it ends with a digit, as no reserved word
+  -- does
   unfoldable pub is_free : Token → Bool
   is_free t = is_name_token t && not (is_unjoined t.joined && is_reserved_class (class_of (bytes_of t)))
 

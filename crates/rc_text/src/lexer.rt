@@ -50,8 +50,8 @@ impl<'a> Lexer<'a> {
         }
     }
 
-    /// Returns the current line, from 1: the line of the last token, the next one after a line feed,
-    /// and the line of the fault after a fault.
+    /// Returns the current line, from 1: the line of the last token, the next one after a line
+    /// feed, and the line of the fault after a fault.
     pub fn line(&self) -> u64
         ensures { result ≡ self.now.line }
     {

@@ -185,14 +185,11 @@ const HELPS: [(&[&str], &str); 11] = [
     (&["fight", "--help"], "\nUsage: cwtune fight\n"),
     (&["asm", "--help"], "\nUsage: cwtune asm [OPTIONS] <FILE>\n"),
     (&["help", "asm"], "\nUsage: cwtune asm [OPTIONS] <FILE>\n"),
-    (
-        &["asm", "--help"],
-        "1 to 1000000, a turn of each warrior in each [default: 80000]\n",
-    ),
+    (&["asm", "--help"], "1 to 1000000 [default: 80000]\n"),
     (&["asm", "--help"], "1 to 8000 [default: 8000]\n"),
     (&["asm", "--help"], "1 to 200 [default: 100]\n"),
     (&["asm", "--help"], "8 to 65535 [default: 8000]\n"),
-    (&["asm", "--help"], "half of the core [default: 100]\n"),
+    (&["asm", "--help"], "half the core [default: 100]\n"),
 ];
 
 #[test]

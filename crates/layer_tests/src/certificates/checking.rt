@@ -5,8 +5,7 @@ use mars_fight::Schedule;
 use rc_instr::Rules;
 use std::alloc::Global;
 use std::test::Fail;
-use tune_cert::checker::check;
-use tune_cert::verdict::{Reason, Verdict};
+use tune_cert::{Reason, Verdict, check};
 use tune_template::{Inputs, Template};
 
 // Four settings with one warrior, an imp, which wins against the first opponent and ties with the

@@ -5,8 +5,8 @@ use std::io;
 use std::io::Write;
 use std::test::Fail;
 
-// A writer that takes at most `most` bytes at a call, fails at call `bad_call` (counted from 1), and
-// counts its calls.
+// A writer that takes at most `most` bytes at a call, fails at call `bad_call` (counted from 1),
+// and counts its calls.
 #[derive(Drop)]
 struct Fake {
     taken: Vec<u8>,
