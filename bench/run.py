@@ -1,9 +1,9 @@
 #!/usr/bin/env python3
-"""Measures how many turns per second `cwtune fight` plays, alone or beside a pMARS server build, and how long `cwtune asm` and `cwtune
-tune` take.
+"""Measures turns per second of `cwtune fight`, and how long `cwtune asm` and `cwtune tune` take.
 
-Each fight of fights/ is played, each text of warriors/ assembled, and the template of examples/tuning/ tuned, several times; the
-fastest run counts. README.md says what is measured.
+Plays each fight of fights/, assembles each text of warriors/, and tunes the template of
+examples/tuning/, several times; the fastest run counts. Given a pMARS server build, plays the fights
+with it too. README.md says what is measured.
 """
 
 import argparse
@@ -23,24 +23,25 @@ EXPECTED = {
     "replicators": "tie 1 turns 2000000",
     "scanner": "tie 1 turns 2000000",
 }
-# A fight that takes less than this many seconds is played so often in a run that the run takes as long.
+# A fight that takes less than this many seconds is repeated in a run until the run takes as long.
 SHORTEST = 0.05
-# The texts that are assembled; beside each stands the load file that it must give.
+# The texts that are assembled; each must give the load file of the same name.
 TEXTS = ["plain", "names", "tables"]
-# The template that is tuned, its opponents in the order of the schedule's numbers, and how many turns all of its fights have.
+# The template that is tuned, its opponents in the order of their indices, and the number of turns of
+# all its fights.
 TUNING = HERE.parent / "examples" / "tuning"
 OPPONENTS = ["dwarf", "imp-ring", "scanner", "replicator", "core-clear"]
 TUNING_TURNS = 257_433_435
-# What is left of the time of a text of one line is the start of the process.
+# The time of this text of one line is taken as the start of the process.
 SMALLEST = "DAT 0\n"
-# A text is told only where its time without the start is at least this part of the start.
+# A text is printed only if its time without the start is at least this part of the start.
 LEAST_PART = 0.05
-# A program that takes longer for one play than this many seconds is given up.
+# A program that takes longer for one run than this many seconds is stopped.
 LONGEST = 120
 
 
 class WrongResult(Exception):
-    """A fight that did not end as it must, or that tells nothing."""
+    """A fight that did not end as it must, or was too short to measure."""
 
 
 class Fight:
@@ -50,7 +51,8 @@ class Fight:
         self.name = path.stem
         self.text = path.read_text(encoding="ascii")
         lines = self.text.splitlines(keepends=True)
-        self.core, self.cycles, self.tasks, self.length, self.distance = map(int, lines[0].split()[1:])
+        rules = map(int, lines[0].split()[1:])
+        self.core, self.cycles, self.tasks, self.length, self.distance = rules
         position, self.first = lines[1].split()[1:]
         self.position = int(position)
         middle = lines.index("opponent\n")
@@ -60,23 +62,25 @@ class Fight:
         self.turns = int(self.expected.split()[-1])
 
     def of_one_cycle(self):
-        """The same fight text with one cycle: what is left of its time is the start of the process."""
+        """Returns this fight text with one cycle: its time is the start of the process."""
         lines = self.text.splitlines(keepends=True)
         lines[0] = f"rules {self.core} 1 {self.tasks} {self.length} {self.distance}\n"
         return "".join(lines)
 
 
 class Cwtune:
-    """The program of this repository: a fight text on standard input, a result line on standard output."""
+    """The program of this repository: reads a fight text, prints a result line."""
 
     def __init__(self, program):
         self.program = [str(program)]
 
     def prepare(self, fight):
-        return lambda: self.play(fight.text, fight.expected), lambda: self.play(fight.of_one_cycle(), None)
+        """Returns two plays: of the fight, and of its start alone."""
+        short = fight.of_one_cycle()
+        return lambda: self.play(fight.text, fight.expected), lambda: self.play(short, None)
 
     def play(self, text, expected):
-        """Plays one fight and answers the seconds that it took."""
+        """Plays one fight and returns its seconds."""
         seconds, output = timed(self.program, text)
         if expected is not None and output != expected + "\n":
             raise WrongResult(f"{self.program[0]} gave {output!r}, expected {expected!r}")
@@ -84,14 +88,16 @@ class Cwtune:
 
 
 class Pmars:
-    """A pMARS server build, which reads load files as Redcode. The candidate stands at 0, as in a fight text."""
+    """A pMARS server build, which reads load files as Redcode. The candidate is loaded at 0."""
 
     def __init__(self, program, folder):
         self.program = str(program)
         self.folder = pathlib.Path(folder)
 
     def prepare(self, fight):
-        # The first warrior named moves first and stands at 0, so a fight that the opponent begins is turned round.
+        """Returns two plays: of the fight, and of its start alone."""
+        # The first warrior named moves first and is at 0, so the two change places if the opponent
+        # moves first.
         position, texts = fight.position, [fight.candidate, fight.opponent]
         if fight.first == "o":
             position = fight.core - position
@@ -102,11 +108,13 @@ class Pmars:
             # Without an assertion pMARS prints a warning for each warrior.
             file.write_text(";assert 1\n" + text, encoding="ascii")
             files.append(str(file))
-        command = [self.program, "-b", "-k", "-r", "1", "-s", str(fight.core), "-p", str(fight.tasks)]
-        command += ["-l", str(fight.length), "-d", str(fight.distance), "-F", str(position)]
+        command = [self.program, "-b", "-k", "-r", "1", "-F", str(position)]
+        command += ["-s", str(fight.core), "-p", str(fight.tasks)]
+        command += ["-l", str(fight.length), "-d", str(fight.distance)]
         long = command + ["-c", str(fight.cycles)] + files
         short = command + ["-c", "1"] + files
-        # With -k pMARS prints a line per warrior: the rounds that it survived alone, and those that both survived.
+        # With -k pMARS prints a line per warrior: the rounds that it survived alone, and those that
+        # both survived.
         scores = {"win": "1 0\n0 0\n", "tie": "0 1\n0 1\n", "loss": "0 0\n1 0\n"}
         outcome = fight.expected.split()[0]
         if fight.first == "o":
@@ -114,7 +122,7 @@ class Pmars:
         return lambda: self.play(long, scores[outcome]), lambda: self.play(short, None)
 
     def play(self, command, expected):
-        """Plays one fight and answers the seconds that it took."""
+        """Plays one fight and returns its seconds."""
         seconds, output = timed(command, "")
         if expected is not None and output != expected:
             raise WrongResult(f"{self.program} gave {output!r}, expected {expected!r}")
@@ -122,12 +130,14 @@ class Pmars:
 
 
 def timed(command, text):
-    """Runs a command on the text and answers its seconds, start and end of the process included, and its output."""
+    """Runs a command on the text. Returns the seconds of the whole process, and its output."""
     with tempfile.TemporaryFile() as source:
         source.write(text.encode("ascii"))
         source.seek(0)
         before = time.perf_counter()
-        done = subprocess.run(command, stdin=source, capture_output=True, timeout=LONGEST, check=False)
+        done = subprocess.run(
+            command, stdin=source, capture_output=True, timeout=LONGEST, check=False
+        )
         seconds = time.perf_counter() - before
     if done.returncode != 0:
         words = done.stderr.decode(errors="replace").strip()
@@ -136,12 +146,15 @@ def timed(command, text):
 
 
 def fastest(play, repeats):
-    """The seconds of the fastest of some plays in a row."""
+    """Plays `repeats` times and returns the least seconds."""
     return min(play() for _ in range(repeats))
 
 
 def best_rates(players, fight, runs):
-    """The best turns per second of each player. The players take turns, so that a busy moment meets both."""
+    """Returns each player's best turns per second.
+
+    The players take turns, so that a busy moment affects both.
+    """
     prepared = [player.prepare(fight) for player in players]
     repeats = [max(1, math.ceil(SHORTEST / play())) for play, _ in prepared]
     whole = [math.inf] * len(players)
@@ -154,14 +167,18 @@ def best_rates(players, fight, runs):
 
 
 def rate(turns, seconds, start):
-    """Turns per second without the start of the process, which must be the small part of the time."""
+    """Returns turns per second without the start, which must be at most half of the time."""
     if seconds < 2 * start:
-        raise WrongResult(f"{turns} turns took {seconds:.6f} s, the start alone {start:.6f} s: too short to tell")
+        took = f"{turns} turns took {seconds:.6f} s, the start alone {start:.6f} s"
+        raise WrongResult(f"{took}: too short to tell")
     return turns / (seconds - start)
 
 
 def fastest_texts(program, runs):
-    """The least seconds of each text and of the text of one line. All take turns, so that a busy moment meets all."""
+    """Returns the least seconds of each text, its lines, and the least seconds of the start.
+
+    The texts take turns, so that a busy moment affects all.
+    """
     with tempfile.TemporaryDirectory() as folder:
         smallest = pathlib.Path(folder) / "smallest.red"
         smallest.write_text(SMALLEST, encoding="ascii")
@@ -174,33 +191,36 @@ def fastest_texts(program, runs):
             for number, file in enumerate(files):
                 seconds, output = timed([str(program), "asm", str(file)], "")
                 if output != expected[number]:
-                    raise WrongResult(f"{program} asm {file} did not give {file.with_suffix('.load')}")
+                    load = file.with_suffix(".load")
+                    raise WrongResult(f"{program} asm {file} did not give {load}")
                 best[number] = min(best[number], seconds)
     lines = [output.count("\n") - 1 for output in expected]
     return best, lines, start
 
 
 def print_texts(program, runs):
-    """A line per text: its assemblies per second and microseconds per line, without the start of the process."""
+    """Prints a line per text: texts per second and microseconds per line, without the start."""
     best, lines, start = fastest_texts(program, runs)
-    print(f"{'text':<14}{'lines':>10}{'texts/s':>12}{'us/line':>10}   (start of the process {start * 1e6:.0f} us, taken off)")
+    note = f"(start of the process {start * 1e6:.0f} us, taken off)"
+    print(f"{'text':<14}{'lines':>10}{'texts/s':>12}{'us/line':>10}   {note}")
     for name, seconds, count in zip(TEXTS, best, lines):
         rest = seconds - start
         if rest < LEAST_PART * start:
             print(f"{name:<14}{count:>10}   too short to tell")
         else:
-            print(f"{name:<14}{count:>10}{1 / rest:>12.0f}{rest / count * 1e6:>10.2f}", flush=True)
+            line = f"{name:<14}{count:>10}{1 / rest:>12.0f}{rest / count * 1e6:>10.2f}"
+            print(line, flush=True)
 
 
 def fastest_tuning(program, runs):
-    """The least seconds of the tuning, and how many settings it has. Its report must be the expected one."""
+    """Returns the least seconds of the tuning, and how many settings it has."""
     report = (TUNING / "report.txt").read_text(encoding="ascii")
     opponents = [str(TUNING.parent / "warriors" / f"{name}.red") for name in OPPONENTS]
     best = math.inf
     with tempfile.TemporaryDirectory() as folder:
-        files = [str(TUNING / "stone.red"), str(TUNING / "schedule.csv"), str(pathlib.Path(folder) / "stone.cert")]
+        files = [TUNING / "stone.red", TUNING / "schedule.csv", pathlib.Path(folder) / "stone.cert"]
         for _ in range(runs):
-            seconds, output = timed([str(program), "tune", *files, *opponents], "")
+            seconds, output = timed([str(program), "tune", *map(str, files), *opponents], "")
             if output != report:
                 raise WrongResult(f"{program} tune did not give {TUNING / 'report.txt'}")
             best = min(best, seconds)
@@ -208,20 +228,23 @@ def fastest_tuning(program, runs):
 
 
 def print_tuning(program, runs):
-    """One line: the tuning's settings and turns per second, the start of the process included."""
+    """Prints the tuning's settings and turns per second, with the start of the process."""
     seconds, settings = fastest_tuning(program, runs)
     print(f"{'tuning':<14}{'settings':>10}{'settings/s':>12}{'M turns/s':>12}")
-    print(f"{'stone':<14}{settings:>10}{settings / seconds:>12.1f}{TUNING_TURNS / seconds / 1e6:>12.1f}", flush=True)
+    turns = TUNING_TURNS / seconds / 1e6
+    print(f"{'stone':<14}{settings:>10}{settings / seconds:>12.1f}{turns:>12.1f}", flush=True)
 
 
 def read_options():
     options = argparse.ArgumentParser(description=__doc__.splitlines()[0])
     path = {"type": pathlib.Path, "metavar": "PATH"}
-    options.add_argument("--bin", default=PROGRAM, help="the program (default: crates/cwtune/out/cwtune)", **path)
+    count = {"type": int, "metavar": "N"}
+    program = "the program (default: crates/cwtune/out/cwtune)"
+    options.add_argument("--bin", default=PROGRAM, help=program, **path)
     options.add_argument("--pmars", help="a pMARS server build to compare with", **path)
-    options.add_argument("--runs", type=int, default=10, metavar="N", help="runs of each fight (default: 10)")
-    options.add_argument("--texts", type=int, default=200, metavar="N", help="runs of each text (default: 200; 0: none)")
-    options.add_argument("--tunings", type=int, default=3, metavar="N", help="runs of the tuning (default: 3; 0: none)")
+    options.add_argument("--runs", default=10, help="runs of each fight (default: 10)", **count)
+    options.add_argument("--texts", default=200, help="runs of each text (default: 200)", **count)
+    options.add_argument("--tunings", default=3, help="runs of the tuning (default: 3)", **count)
     read = options.parse_args()
     if read.runs < 1:
         options.error("--runs is at least 1")

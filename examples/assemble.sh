@@ -1,8 +1,9 @@
 #!/bin/sh
-# Assembles each warrior of warriors/ and compares with the load file beside it, then that load file, which must give itself,
-# and the texts of warriors/refused/, whose fault line must be the one beside them. Says which differ and how many were as
-# expected.
-# Ends with status 0 where all are as expected, else with 1.
+# Assembles each warrior of warriors/ and compares with its load file. Then assembles that load
+# file, which must give itself, and the texts of warriors/refused/, which must give their fault
+# lines.
+# Prints what differs, and how many texts were as expected.
+# Ends with status 0 if all were, otherwise with 1.
 # Use: examples/assemble.sh [PROGRAM]
 
 here=$(dirname "$0")
@@ -18,7 +19,8 @@ fi
 work=$(mktemp -d) || exit 1
 trap 'rm -rf "$work"' EXIT
 
-# Assembles a text and compares its status, standard output and standard error: one TEXT STATUS OUTPUT ERRORS.
+# Assembles a text and compares status, standard output and standard error: one TEXT STATUS OUTPUT
+# ERRORS.
 one() {
     all=$((all + 1))
     "$program" asm "$1" >"$work/output" 2>"$work/errors" </dev/null

@@ -1,8 +1,8 @@
 #!/bin/sh
-# Checks certificates of the tuning of tuning/: the stored one that lists all fights, one that a tuning writes now, and one that
-# tuning/certify.py makes in its own way. Each must be accepted with the best and the total of tuning/report.txt. One in which a byte was
-# changed must be rejected.
-# Prints the line of each check. Ends with status 0 where all are as expected, else with 1.
+# Checks certificates of the tuning of tuning/: the stored one that lists all fights, one that a
+# tuning writes now, and one that tuning/certify.py makes in its own way. Each must be accepted with
+# the best setting and the total of tuning/report.txt. One with a changed byte must be rejected.
+# Prints the line of each check. Ends with status 0 if all are as expected, otherwise with 1.
 # Use: examples/check.sh [PROGRAM]
 
 here=$(dirname "$0")
@@ -19,8 +19,8 @@ trap 'rm -rf "$work"' EXIT
 
 template=$here/tuning/stone.red
 schedule=$here/tuning/schedule.csv
-set -- "$here/warriors/dwarf.red" "$here/warriors/imp-ring.red" "$here/warriors/scanner.red" "$here/warriors/replicator.red" \
-    "$here/warriors/core-clear.red"
+set -- "$here/warriors/dwarf.red" "$here/warriors/imp-ring.red" "$here/warriors/scanner.red" \
+    "$here/warriors/replicator.red" "$here/warriors/core-clear.red"
 
 # Checks a certificate and compares the line and the status: one NAME CERT LINE STATUS OPPONENT..
 one() {
@@ -31,7 +31,8 @@ one() {
     if [ "$status" -eq "$expected_status" ] && [ "$line" = "$expected" ]; then
         printf '%-24s %s\n' "$name" "$line"
     else
-        printf '%-24s %s (status %d; expected: %s, status %d)\n' "$name" "$line" "$status" "$expected" "$expected_status"
+        printf '%-24s %s (status %d; expected: %s, status %d)\n' \
+            "$name" "$line" "$status" "$expected" "$expected_status"
         wrong=1
     fi
 }
@@ -40,17 +41,20 @@ if ! "$program" tune "$template" "$schedule" "$work/tuned.cert" "$@" >"$work/rep
     echo "check.sh: the tuning failed" >&2
     exit 1
 fi
-if ! python3 "$here/tuning/certify.py" "$program" "$template" "$schedule" "$@" >"$work/own.cert"; then
+certify=$here/tuning/certify.py
+if ! python3 "$certify" "$program" "$template" "$schedule" "$@" >"$work/own.cert"; then
     echo "check.sh: certify.py failed" >&2
     exit 1
 fi
 
-accepted=$(sed -n -e 's/^best \(.*\)/accepted best \1/p' -e 's/^total \(.*\) of .*/total \1/p' "$here/tuning/report.txt" | paste -s -d ' ' -)
+accepted=$(sed -n -e 's/^best \(.*\)/accepted best \1/p' -e 's/^total \(.*\) of .*/total \1/p' \
+    "$here/tuning/report.txt" | paste -s -d ' ' -)
 one "the stored certificate" "$here/tuning/all-fights.cert" "$accepted" 0 "$@"
 one "the tuner's certificate" "$work/tuned.cert" "$accepted" 0 "$@"
 one "another certificate" "$work/own.cert" "$accepted" 0 "$@"
 
-# The third line is the row of setting 0, which is not the best; it loses a fight, and here it is said to have tied it.
+# The third line is the row of setting 0, which is not the best. It loses a fight; here it says that
+# it tied it.
 sed '3s/:0/:1/' "$here/tuning/all-fights.cert" >"$work/changed.cert"
 one "one byte changed" "$work/changed.cert" "rejected row 2 WrongPoints" 1 "$@"
 

@@ -1,6 +1,7 @@
 #!/bin/sh
-# Plays the fights that expected.txt lists and compares each result line with the line that stands there.
-# One line of output per fight: its name and its result. Ends with status 0 where all are as expected, else with 1.
+# Plays the fights that expected.txt lists and compares each result line with the expected one.
+# Prints a line for each fight: its name and its result. Ends with status 0 if all are as expected,
+# otherwise with 1.
 # Use: examples/play.sh [PROGRAM]
 
 here=$(dirname "$0")

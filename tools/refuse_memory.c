@@ -1,5 +1,6 @@
-/* Refuses one request for memory: that of the number in REFUSE, counted from 1. With REFUSE_COUNT set, the number of requests is told on
- * standard error at the end. To be loaded before the C library: see refuse_memory.py. */
+/* Refuses the request for memory whose number, from 1, is in REFUSE. With REFUSE_COUNT set, prints
+ * the number of requests on standard error at the end. Loaded before the C library: see
+ * refuse_memory.py. */
 #define _GNU_SOURCE
 #include <dlfcn.h>
 #include <errno.h>
@@ -37,7 +38,7 @@ void *realloc(void *old, size_t size)
     return is_refused() ? NULL : real(old, size);
 }
 
-__attribute__((destructor)) static void tell(void)
+__attribute__((destructor)) static void print_count(void)
 {
     if (getenv("REFUSE_COUNT"))
         fprintf(stderr, "%ld\n", seen);

@@ -1,7 +1,8 @@
 #!/usr/bin/env python3
-"""Runs the built program again and again, each time with another one of its requests for memory refused, the first, the second and so on.
-Each run has to end with its own answer, or with status 3 and `failed: OutOfMemory` and nothing on standard output.
-Use: refuse_memory.py [PROGRAM]. It needs `cc` and a system that knows LD_PRELOAD.
+"""Runs the built program once for each of its requests for memory, with that request refused.
+
+Each run has to end with its own result, or with status 3, `failed: OutOfMemory` and nothing on
+standard output. Use: refuse_memory.py [PROGRAM]. Needs `cc` and a system with LD_PRELOAD.
 """
 import os, pathlib, subprocess, sys, tempfile
 
@@ -20,8 +21,10 @@ texts = {
 
 
 def run(library, words, text, number, count=False):
-    """The status, the standard output and the standard error of a run in which the request of this number is refused."""
-    env = dict(os.environ, LD_PRELOAD=library, REFUSE=str(number), **({"REFUSE_COUNT": "1"} if count else {}))
+    """Returns status, standard output and standard error of a run with request `number` refused."""
+    env = dict(os.environ, LD_PRELOAD=library, REFUSE=str(number))
+    if count:
+        env["REFUSE_COUNT"] = "1"
     done = subprocess.run([program, *words], input=text, capture_output=True, text=True, env=env)
     return done.returncode, done.stdout, done.stderr
 
@@ -30,7 +33,8 @@ def main():
     wrong = 0
     with tempfile.TemporaryDirectory() as work:
         library = f"{work}/refuse.so"
-        subprocess.run(["cc", "-shared", "-fPIC", "-O1", "-o", library, str(here / "refuse_memory.c"), "-ldl"], check=True)
+        source = str(here / "refuse_memory.c")
+        subprocess.run(["cc", "-shared", "-fPIC", "-O1", "-o", library, source, "-ldl"], check=True)
         for name, content in texts.items():
             pathlib.Path(work, name).write_text(content)
         files = [f"{work}/template", f"{work}/schedule"]
@@ -43,17 +47,17 @@ def main():
             ("check, rejected", ["check", *rules, *files, f"{work}/bad", *opponents], ""),
             ("help", ["--help"], ""),
         ]:
-            answer = run(library, words, text, 0)
+            expected = run(library, words, text, 0)
             requests = int(run(library, words, text, 0, count=True)[2].split("\n")[-2])
             refused = 0
             for number in range(1, requests + 1):
                 got = run(library, words, text, number)
                 if got == (3, "", "failed: OutOfMemory\n"):
                     refused += 1
-                elif got != answer:
+                elif got != expected:
                     wrong += 1
                     print(f"{name}: request {number}: {got}")
-            print(f"{name:16} {requests} requests, {refused} refusals answered by OutOfMemory")
+            print(f"{name:16} {requests} requests, {refused} runs ended with OutOfMemory")
     sys.exit(1 if wrong else 0)
 
 

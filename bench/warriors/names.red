@@ -1,7 +1,7 @@
 ;redcode-94
 ;name Names
 ;author this project
-;strategy A hundred lines of which each uses names that stand for names.
+;strategy A hundred lines, each with names that stand for names.
 ;assert 1
 
 e00     EQU   10

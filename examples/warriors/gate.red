@@ -12,10 +12,10 @@ ahead   EQU   2                         ; how far before the gate the trap is
 
         ORG   gate
 
-gate    JMP   gate, <gate-ahead         ; jumps to itself for ever, and lowers a number before itself each time
+gate    JMP   gate, <gate-ahead         ; jumps to itself for ever, and lowers a number each time
 
-; `cell&i&j` becomes one name: the stem and both counters, in at least two digits each. So this makes the labels
-; cell0101, cell0102, .. cell0304, each beside its own line.
+; `cell&i&j` becomes one name: the stem and both counters, in at least two digits each. So this
+; makes the labels cell0101, cell0102, .. cell0304, each on its own line.
 
 i       FOR   rows
 j       FOR   columns

@@ -11,20 +11,20 @@ part    EQU   ((CORESIZE + 1) / points)         ; CORESIZE is the size of the co
 
         ORG   start
 
-; The last label before FOR is the counter of the block, all earlier ones are labels of the next instruction.
+; The last label before FOR is the counter; earlier ones are labels of the next instruction.
 ; `start FOR 3` would make a counter of `start`!
 
 start i FOR   3
         SPL   1                                 ; eight tasks in the end
         ROF
-        JMP   >pick                             ; each task goes to one line of the table, the next one to the next
+        JMP   >pick                             ; each task goes to the next line of the table
 pick    DAT   #0, #table
 
-table i FOR   points                            ; i is 1, 2, .. 7: the block stands here seven times
+table i FOR   points                            ; i is 1, 2, .. 7: the block is here seven times
         JMP   imp + part*(i-1)                  ; an operand is any expression
         ROF
         DAT   0, 0                              ; the eighth task is not needed: it ends here
 
-imp     MOV   0, part                           ; seven of these, a seventh of the core apart, go round for ever
+imp     MOV   0, part                           ; seven imps, a seventh of the core apart
 
         END

@@ -1,7 +1,7 @@
 ;redcode-94
 ;name Quick Look
 ;author this project
-;strategy Looks at ten pairs of cells in its first ten cycles and bombs what it finds; then it waits at a gate.
+;strategy Looks at ten pairs of cells in its first ten cycles, bombs what it finds, waits at a gate.
 ;assert CORESIZE == 8000 && MAXLENGTH >= 38
 
 ; What to learn here: two tables by FOR that belong together through joined names, and CURLINE.
@@ -10,10 +10,10 @@ looks   EQU   10
 far     EQU   (2*MINDISTANCE)                   ; MINDISTANCE: no opponent is nearer than that
 every   EQU   700
 half    EQU   (every/2)
-before  EQU   12                                ; the bombs begin so many cells before what was found
+before  EQU   12                                ; the bombs begin this far before what was found
 
-; Each look compares two cells, `half` apart. Where they are alike, SEQ skips the jump.
-; `scans` is a label, so `scans + 900` is the same place of the core in each line, whichever line it is in.
+; Each look compares two cells, `half` apart. If they are alike, SEQ skips the jump.
+; `scans` is a label, so `scans + 900` is the same place of the core in every line.
 
         ORG   scans
 
@@ -23,7 +23,8 @@ scans i FOR   looks
         ROF
         JMP   gate                              ; all alike: nothing is there
 
-; A jump to hit03 runs through hit03, hit04, .. hit10, so the aim goes on by `every` eight times, which is looks+1-3.
+; A jump to hit03 runs through hit03, hit04, .. hit10, so the aim goes on by `every` eight times,
+; which is looks+1-3.
 
 i       FOR   looks
 hit&i   ADD   by, aim
@@ -35,6 +36,6 @@ gate    JMP   gate, <gate-3
 
 aim     DAT   #scans + far + half - before, #scans + far - before
 by      DAT   #every, #every
-bomb    DAT   CURLINE, 0                        ; CURLINE is the number of instructions before this line
+bomb    DAT   CURLINE, 0                        ; CURLINE: the number of instructions before this
 
         END

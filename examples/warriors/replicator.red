@@ -18,7 +18,7 @@ beyond  EQU   -1111
 ; `{` and `<` lower the number by 1 first, and then use it.
 
 copy    SPL   @copy, there      ; a new task in the copy to be; `@copy` is the B-number of this line
-        MOV   }copy, >copy      ; each task copies one cell: the first task cell 0, the second cell 1, ..
+        MOV   }copy, >copy      ; each task copies one cell: the first cell 0, the second cell 1, ..
         MOV   bomb, >there/5    ; a bomb on the way, wherever that cell points
         MOV   {copy, <leave     ; and a second copy, from its last cell to its first
 leave   JMP   @leave, beyond+size

@@ -1,17 +1,17 @@
 ;redcode-94
 ;name Pair Scanner
 ;author this project
-;strategy Compares two cells that are `gap` apart, goes on by `step`, and bombs both where they differ.
+;strategy Compares two cells that are `gap` apart, goes on by `step`, and bombs both if they differ.
 ;assert CORESIZE % 20 == 0
 
 ; What to learn here: indirect operands, and labels inside an EQU.
 ;
-; The code is eight lines long. The cells that are looked at are line 8 and every tenth cell behind it, round the core:
-; so the scanner never looks at itself. The assertion sees to it that this holds after the first round too.
+; The code is eight lines long. The scanner looks at line 8 and every tenth cell after it, round the
+; core, so it never looks at itself. The assertion makes sure of that after the first round too.
 
 gap     EQU   10
 step    EQU   20
-first   EQU   (last + 1)        ; the line behind the last one, told from the line where `first` is used
+first   EQU   (last + 1)        ; the line after the last one, as seen from where it is used
 
         ORG   look
 

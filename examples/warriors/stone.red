@@ -16,8 +16,8 @@ twice   EQU   2*(jump)          ; so they are written here, else this would be 2
 
 bomb    DAT   >1, 0
 split   SPL   #0, 0             ; SPL.B: goes on at the next line, and makes one more task here
-throw   MOV   bomb, @aim        ; without a modifier: MOV.I, the whole instruction, since no operand is `#`
-        ADD   #jump, aim        ; ADD.AB, since the A-operand is `#`: a number is added to the B-number of `aim`
+throw   MOV   bomb, @aim        ; MOV.I, the whole instruction, since no operand is `#`
+        ADD   #jump, aim        ; ADD.AB, since the A-operand is `#`: adds to the B-number of `aim`
         JMP   throw
 aim     DAT   0, twice          ; DAT.F $0, $6090, which a load file spells $-1910
 

@@ -1,7 +1,7 @@
 ;redcode-94
 ;name For Another Core
 ;author this project
-;strategy Is refused under the standard rules: it is made for a core of 8192 cells. With --core 8192 it assembles.
+;strategy Is refused under the standard rules: it needs a core of 8192 cells (--core 8192).
 ;assert CORESIZE == 8192
 
 step    EQU   CORESIZE/1024
