@@ -4,7 +4,7 @@
 ;strategy Waits for imps at a gate. A scanner that comes by finds the decoys first.
 ;assert MAXLENGTH >= 3*4 + 2
 
-; What to learn here: blocks in one another, and names that are joined from a stem and counters.
+; What to learn here: nested blocks, and names that are joined from a stem and counters.
 
 rows    EQU   3
 columns EQU   4
