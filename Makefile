@@ -1,4 +1,4 @@
-.PHONY: look test build demo bench memory
+.PHONY: look test cases build demo bench memory
 
 PROGRAM = crates/cwtune/out/cwtune
 
@@ -11,10 +11,16 @@ LANES = $(shell awk -v most=$$(nproc) '/MemAvailable/ { lanes = int($$2 / 500000
 look:
 	@sh examples/look.sh
 
-# Runs the whole gate: every proof from nothing, every test, every edit that must be refused. Ends
-# with the gate's last line.
+# Runs the whole gate: every proof from nothing, every test, every edit that must be refused, with
+# the gate's last line. If it passed, plays the cases of input and output against the program that
+# it proved and built, and ends with their last line. Fails if either fails.
 test:
 	@RT_JOBS=$(LANES) rt ci
+	@python3 tools/run_cases.py $(PROGRAM)
+
+# Proves and builds the program, and plays the cases of input and output alone.
+cases: build
+	@python3 tools/run_cases.py $(PROGRAM)
 
 # Proves and builds the program, and runs it once on its stored input.
 build:
