@@ -100,3 +100,28 @@ fn a_certificate_write_failure_is_reported_before_the_report(rt: HostRuntime) ->
     assert!(rt; report.into_inner().is_empty());
     Ok(())
 }
+
+#[test]
+fn a_report_write_failure_is_reported_after_the_certificate(rt: HostRuntime) -> Result<(), Fail> {
+    let rules = Rules::try_new(16, 20, 4, 4, 4)?;
+    let opponents = both_opponents(rt.alloc())?;
+    let mut report = Outlet::new(Broken);
+    let mut cert = Outlet::new(Vec::new(rt.alloc()));
+    let result = tune_run(
+        rt.alloc(),
+        b"MOV 0, 1",
+        opponents.as_slice(),
+        BOTH,
+        &rules,
+        65_536,
+        &mut report,
+        &mut cert,
+    );
+    assert_eq!(rt; result, Err(RunFault::Write));
+    assert!(rt; report.failed());
+    assert_eq!(rt;
+        cert.into_inner().as_slice(),
+        b"cwcert,1,1\nbest,0,4\ncap,0,0:3 1:1\n".as_slice()
+    );
+    Ok(())
+}
