@@ -4,8 +4,8 @@ ghost use Rattle.rc_text.specs.Symbols.{LiesIn};
 ghost use Rattle.rc_text.specs.Tokens.{ahead_of};
 
 use rc_text::{
-    EvalFault, Joined, Kind, LexFault, Lexer, NameClass, Names, Sign, Token, eval, is_opcode_word,
-    name_class,
+    EvalFault, Joined, Kind, LexFault, Lexer, NameClass, Names, Sign, Token, eval, is_blank,
+    is_opcode_word, is_same_word, name_class,
 };
 use std::alloc::Global;
 use std::test::Fail;
@@ -319,4 +319,14 @@ fn faults_have_texts(rt: HostRuntime) -> Result<(), Fail> {
         "more than 64 open parentheses"
     );
     Ok(())
+}
+
+#[test]
+fn blanks_do_not_end_a_line_and_words_ignore_case(rt: HostRuntime) {
+    for byte in [b' ', b'\t', b'\r'] {
+        assert!(rt; is_blank(byte), "{byte}");
+    }
+    assert!(rt; !is_blank(b'\n'));
+    assert!(rt; is_same_word(b"MOV", b"mOv"));
+    assert!(rt; !is_same_word(b"MOV", b"MOVE"));
 }
