@@ -1,4 +1,4 @@
-.PHONY: look test cases build demo bench memory
+.PHONY: look test cases build prove demo bench memory
 
 PROGRAM = crates/cwtune/out/cwtune
 
@@ -22,8 +22,13 @@ test:
 cases: build
 	@python3 tools/run_cases.py $(PROGRAM)
 
+# Proves the crates one by one, with a line for each, if the program is not built yet; otherwise
+# `build` proves what has changed.
+prove:
+	@[ -x $(PROGRAM) ] || sh tools/prove.sh
+
 # Proves and builds the program, and runs it once on its stored input.
-build:
+build: prove
 	@cd crates/cwtune && rt run < stdin > /dev/null
 
 # Plays the example fights, assembles the example warriors, tunes the example template and checks

@@ -1,9 +1,9 @@
 #!/usr/bin/env python3
 """Measures turns per second of `cwtune fight`, and how long `cwtune asm` and `cwtune tune` take.
 
-Plays each fight of fights/, assembles each text of warriors/, and tunes the template of
-examples/tuning/, several times; the fastest run counts. Given a pMARS server build, plays the fights
-with it too. README.md says what is measured.
+Plays each fight of fights/, the same fights cut short, assembles each text of warriors/, and tunes
+the template of examples/tuning/, several times; the fastest run counts. Given a pMARS server build,
+plays the fights with it too. README.md says what is measured.
 """
 
 import argparse
@@ -32,6 +32,8 @@ TEXTS = ["plain", "names", "tables"]
 TUNING = HERE.parent / "examples" / "tuning"
 OPPONENTS = ["dwarf", "imp-ring", "scanner", "replicator", "core-clear"]
 TUNING_TURNS = 257_433_435
+# Short fights: the cycles of each, and how many settings are tuned in how many fights.
+SHORT_CYCLES, SHORT_SETTINGS, SHORT_FIGHTS = 50, 20, 10_000
 # The time of this text of one line is taken as the start of the process.
 SMALLEST = "DAT 0\n"
 # A text is printed only if its time without the start is at least this part of the start.
@@ -79,6 +81,32 @@ class Cwtune:
         short = fight.of_one_cycle()
         return lambda: self.play(fight.text, fight.expected), lambda: self.play(short, None)
 
+    def prepare_short(self, fight, folder):
+        """Returns a play of a tuning in short fights, which gives its seconds and its fights.
+
+        A constant that no instruction reads makes many settings of the candidate. A tuning plays
+        all its fights in one process and one arena.
+        """
+        template = f";@tune K 0 {SHORT_SETTINGS - 1} 1 0\n{fight.candidate}DAT.F $K, $0\n"
+        record = f"0,{fight.position},{fight.first}\n"
+        texts = {
+            "template.red": template,
+            "schedule.csv": "opponent,position,first\n" + record * SHORT_FIGHTS,
+            "cert.csv": "",
+            "opponent.red": fight.opponent,
+        }
+        for name, text in texts.items():
+            (folder / name).write_text(text, encoding="ascii")
+        rules = [f"--core={fight.core}", f"--cycles={SHORT_CYCLES}", f"--tasks={fight.tasks}"]
+        rules += [f"--length={fight.length}", f"--distance={fight.distance}"]
+        command = [*self.program, "tune", *rules, *(str(folder / name) for name in texts)]
+
+        def play():
+            seconds, output = timed(command, "")
+            return seconds, int(output.split("fights ")[1].split()[0])
+
+        return play
+
     def play(self, text, expected):
         """Plays one fight and returns its seconds."""
         seconds, output = timed(self.program, text)
@@ -94,8 +122,8 @@ class Pmars:
         self.program = str(program)
         self.folder = pathlib.Path(folder)
 
-    def prepare(self, fight):
-        """Returns two plays: of the fight, and of its start alone."""
+    def command(self, fight):
+        """Returns the command that plays a fight, without rounds and cycles, and its two files."""
         # The first warrior named moves first and is at 0, so the two change places if the opponent
         # moves first.
         position, texts = fight.position, [fight.candidate, fight.opponent]
@@ -108,11 +136,16 @@ class Pmars:
             # Without an assertion pMARS prints a warning for each warrior.
             file.write_text(";assert 1\n" + text, encoding="ascii")
             files.append(str(file))
-        command = [self.program, "-b", "-k", "-r", "1", "-F", str(position)]
+        command = [self.program, "-b", "-k", "-F", str(position)]
         command += ["-s", str(fight.core), "-p", str(fight.tasks)]
         command += ["-l", str(fight.length), "-d", str(fight.distance)]
-        long = command + ["-c", str(fight.cycles)] + files
-        short = command + ["-c", "1"] + files
+        return command, files
+
+    def prepare(self, fight):
+        """Returns two plays: of the fight, and of its start alone."""
+        command, files = self.command(fight)
+        long = command + ["-r", "1", "-c", str(fight.cycles)] + files
+        short = command + ["-r", "1", "-c", "1"] + files
         # With -k pMARS prints a line per warrior: the rounds that it survived alone, and those that
         # both survived.
         scores = {"win": "1 0\n0 0\n", "tie": "0 1\n0 1\n", "loss": "0 0\n1 0\n"}
@@ -120,6 +153,13 @@ class Pmars:
         if fight.first == "o":
             outcome = {"win": "loss", "tie": "tie", "loss": "win"}[outcome]
         return lambda: self.play(long, scores[outcome]), lambda: self.play(short, None)
+
+    def prepare_short(self, fight, _folder):
+        """Returns a play of as many rounds of short fights, which gives its seconds and fights."""
+        command, files = self.command(fight)
+        rounds = SHORT_SETTINGS * SHORT_FIGHTS
+        command += ["-r", str(rounds), "-c", str(SHORT_CYCLES), *files]
+        return lambda: (self.play(command, None), rounds)
 
     def play(self, command, expected):
         """Plays one fight and returns its seconds."""
@@ -172,6 +212,23 @@ def rate(turns, seconds, start):
         took = f"{turns} turns took {seconds:.6f} s, the start alone {start:.6f} s"
         raise WrongResult(f"{took}: too short to tell")
     return turns / (seconds - start)
+
+
+def print_short(players, fights, runs, folder):
+    """Prints a line per fight: short fights per second, each from its load to its reset."""
+    heads = f"{'pMARS':>10}{'ratio':>8}" if len(players) > 1 else ""
+    print(f"{'short fight':<14}{'turns':>10}{'fights/s':>12}{heads}")
+    for fight in fights:
+        plays = [player.prepare_short(fight, pathlib.Path(folder)) for player in players]
+        best = [0] * len(plays)
+        for _ in range(runs):
+            for number, play in enumerate(plays):
+                seconds, count = play()
+                best[number] = max(best[number], count / seconds)
+        line = f"{fight.name:<14}{2 * SHORT_CYCLES:>10}{best[0]:>12.0f}"
+        if len(best) > 1:
+            line += f"{best[1]:>10.0f}{best[0] / best[1]:>8.2f}"
+        print(line, flush=True)
 
 
 def fastest_texts(program, runs):
@@ -243,15 +300,15 @@ def read_options():
     options.add_argument("--bin", default=PROGRAM, help=program, **path)
     options.add_argument("--pmars", help="a pMARS server build to compare with", **path)
     options.add_argument("--runs", default=10, help="runs of each fight (default: 10)", **count)
+    options.add_argument("--short", default=3, help="runs of short fights (default: 3)", **count)
     options.add_argument("--texts", default=200, help="runs of each text (default: 200)", **count)
     options.add_argument("--tunings", default=3, help="runs of the tuning (default: 3)", **count)
     read = options.parse_args()
     if read.runs < 1:
         options.error("--runs is at least 1")
-    if read.texts < 0:
-        options.error("--texts is at least 0")
-    if read.tunings < 0:
-        options.error("--tunings is at least 0")
+    for name in ("short", "texts", "tunings"):
+        if getattr(read, name) < 0:
+            options.error(f"--{name} is at least 0")
     for program in (read.bin, read.pmars):
         if program is not None and not program.is_file():
             options.error(f"there is no program {program}")
@@ -275,9 +332,12 @@ def main():
                 ratios.append(rates[0] / rates[1])
                 line += f"{rates[1] / 1e6:>10.1f}{ratios[-1]:>8.2f}"
             print(line, flush=True)
-    if ratios:
-        mean = math.exp(sum(map(math.log, ratios)) / len(ratios))
-        print(f"geometric mean of the ratios {mean:.2f}, least {min(ratios):.2f}")
+        if ratios:
+            mean = math.exp(sum(map(math.log, ratios)) / len(ratios))
+            print(f"geometric mean of the ratios {mean:.2f}, least {min(ratios):.2f}")
+        if options.short > 0:
+            print()
+            print_short(players, fights, options.short, folder)
     if options.texts > 0:
         print()
         print_texts(options.bin.resolve(), options.texts)

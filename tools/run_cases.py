@@ -10,6 +10,9 @@ what is not empty of `files` (name to text), `folders` (names), `stdin`, `out` a
 of a whole output it may say `out_begins`, `err_begins` (and a line feed ends it) or `out_contains`
 (a list). `cert` is the text of the file CERT after the run. All other files have to be as before,
 and none may be new. `stdin_from` and `out_to` are paths in place of the standard streams.
+`each` is a list of tables such as `{ files."x.red" = "DAT 0", out = ".." }`: the case is played once
+for each of them, with the table merged over it: its keys replace those of the case, and its files
+are added to the files of the case.
 `each_beginning_of` is `stdin` or the name of a file of the case, which is then played once for each
 beginning of that text, except for the whole.
 
@@ -21,8 +24,8 @@ import concurrent.futures, os, pathlib, shlex, string, subprocess, sys, tempfile
 NEEDED = {"name": str, "words": str, "status": int}
 OPTIONAL = {
     "files": dict, "folders": list, "stdin": str, "stdin_from": str, "out_to": str, "cert": str,
-    "each_beginning_of": str, "out": str, "out_begins": str, "out_contains": list, "err": str,
-    "err_begins": str,
+    "each": list, "each_beginning_of": str, "out": str, "out_begins": str, "out_contains": list,
+    "err": str, "err_begins": str,
 }
 SHARED = {"files": dict, "folders": list, "words": dict, "case": list}
 SECONDS = 60
@@ -33,6 +36,18 @@ def check_keys(table, kinds, needed, where):
     for key in sorted({*needed, *table}):
         if type(table.get(key)) is not kinds.get(key):
             sys.exit(f"{where}: `{key}` is missing or unknown, or its value is of another type")
+
+
+def variants(case):
+    """Returns the case, or one for each table of its list `each`."""
+    if "each" not in case:
+        return [case]
+    cases = []
+    for number, table in enumerate(case["each"], 1):
+        name = f"{case['name']} (table {number})"
+        check_keys(table, {**OPTIONAL, "status": int, "each": None}, [], name)
+        cases.append(case | table | {"name": name, "files": case["files"] | table.get("files", {})})
+    return cases or sys.exit(f"{case['name']}: `each` is empty")
 
 
 def beginnings(case):
@@ -62,7 +77,7 @@ def read_cases(path):
         case["words"] = shlex.split(words)
         case["files"] = table.get("files", {}) | case.get("files", {})
         case["folders"] = table.get("folders", []) + case.get("folders", [])
-        cases += beginnings(case)
+        cases += [cut for variant in variants(case) for cut in beginnings(variant)]
     if len({case["name"] for case in cases}) < len(cases):
         sys.exit(f"{path}: two cases have one name")
     return cases

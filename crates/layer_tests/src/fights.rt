@@ -1,4 +1,140 @@
-//! Tests of `mars_fight`: schedules and fights written by hand, and the texts of faults.
-mod plays;
-mod schedules;
-mod texts;
+//! Tests of `mars_fight`: schedules and fights in a core of 16 cells with distance 4, and the texts
+//! of faults.
+use crate::opponents::IMP;
+use mars_core::{Arena, PlainCells, Side};
+use mars_fight::{Fight, Schedule, ScheduleFault, ScheduleFaultKind as Kind, play};
+use rc_instr::{Instruction, Rules, read_loadfile};
+use std::alloc::{AllocError, Global};
+use std::test::Fail;
+
+#[test]
+fn a_schedule_is_read_and_fits(rt: HostRuntime) -> Result<(), Fail> {
+    let rules = Rules::try_new(16, 20, 4, 4, 4)?;
+    let text = "opponent,position,first\n0,8,c\n1,11,o\n";
+    let schedule = Schedule::read(rt.alloc(), text.as_bytes(), 2, &rules)?;
+    let fights = [
+        Fight {
+            opponent: 0,
+            position: 8,
+            first: Side::Candidate,
+        },
+        Fight {
+            opponent: 1,
+            position: 11,
+            first: Side::Opponent,
+        },
+    ];
+    assert_eq!(rt; schedule.fights(), fights.as_slice());
+    for (core, distance, opponents, want) in [
+        (16, 4, 2, true),
+        (16, 4, 64, true),
+        (16, 4, 1, false),
+        (16, 4, 0, false),
+        (16, 5, 2, true),
+        (16, 6, 2, false),
+        (15, 4, 2, true),
+        (14, 4, 2, false),
+        (8000, 8, 2, true),
+        (8000, 9, 2, false),
+    ] {
+        let rules = Rules::try_new(core, 20, 4, 4, distance)?;
+        assert_eq!(rt;
+            schedule.fits(&rules, opponents),
+            want,
+            "{core} {distance} {opponents}"
+        );
+    }
+    Ok(())
+}
+
+fn fault(row: u64, kind: Kind) -> Option<ScheduleFault> {
+    Some(ScheduleFault { row, kind })
+}
+
+// Returns the header, `fights` equal records, and `last`.
+fn long_text(alloc: Global, fights: u32, last: &str) -> Result<String, AllocError> {
+    let mut text = String::new(alloc);
+    text.push_str("opponent,position,first\n")?;
+    for _ in 0..fights {
+        text.push_str("0,8,c\n")?;
+    }
+    text.push_str(last)?;
+    Ok(text)
+}
+
+#[test]
+fn a_schedule_has_at_most_ten_thousand_fights(rt: HostRuntime) -> Result<(), Fail> {
+    let rules = Rules::try_new(16, 20, 4, 4, 4)?;
+    for (fights, last, want) in [
+        (9999, "1,8,o", None),
+        (10_000, "", None),
+        (10_000, "1,8,o", fault(10_001, Kind::TooMany)),
+        (10_000, "x", fault(10_001, Kind::TooMany)),
+        (
+            9999,
+            "0,3,c\n0,8,c\n0,8,c\n",
+            fault(10_000, Kind::BadPosition),
+        ),
+    ] {
+        let text = long_text(rt.alloc(), fights, last)?;
+        let found = Schedule::read(rt.alloc(), text.as_bytes(), 2, &rules).err();
+        assert_eq!(rt; found, want, "{fights} {last:?}");
+    }
+    Ok(())
+}
+
+const AT_EIGHT: Fight = Fight {
+    opponent: 0,
+    position: 8,
+    first: Side::Candidate,
+};
+
+#[test]
+fn one_arena_for_many_fights(rt: HostRuntime) -> Result<(), Fail> {
+    let rules = Rules::try_new(16, 20, 4, 4, 4)?;
+    let imp = read_loadfile(rt.alloc(), IMP, &rules)?;
+    let lowers_a_cell = read_loadfile(rt.alloc(), b"ORG 0\nMOV.I $0, <1\nDAT.F $0, $4\n", &rules)?;
+    let mut arena = Arena::<PlainCells>::try_new(rt.alloc(), &rules)?;
+    let first = play(&mut arena, &imp, &imp, &AT_EIGHT);
+    let second = play(&mut arena, &imp, &imp, &AT_EIGHT);
+    assert_eq!(rt; (first, second), (1, 1));
+    play(&mut arena, &lowers_a_cell, &imp, &AT_EIGHT);
+    for at in 0..16 {
+        assert_eq!(rt; arena.cell(at), Instruction::empty(), "at {at}");
+    }
+    let counts = (
+        arena.task_count(Side::Candidate),
+        arena.task_count(Side::Opponent),
+        arena.turns(),
+    );
+    assert_eq!(rt; counts, (0, 0, 0));
+    let third = play(&mut arena, &imp, &imp, &AT_EIGHT);
+    assert_eq!(rt; third, 1);
+    Ok(())
+}
+
+#[test]
+fn texts_of_faults(rt: HostRuntime) -> Result<(), Fail> {
+    for (kind, want) in [
+        (
+            Kind::Header,
+            "record 7: first record must be opponent,position,first",
+        ),
+        (Kind::FieldCount, "record 7: expected three fields"),
+        (Kind::BadNumber, "record 7: number must have 1 to 9 digits"),
+        (Kind::NoSuchOpponent, "record 7: no such opponent"),
+        (
+            Kind::BadPosition,
+            "record 7: position closer than the distance",
+        ),
+        (Kind::BadFirst, "record 7: first mover must be c or o"),
+        (Kind::Empty, "record 7: no fights"),
+        (Kind::TooMany, "record 7: more than 10000 fights"),
+        (Kind::OutOfMemory, "record 7: out of memory"),
+    ] {
+        let fault = ScheduleFault { row: 7, kind };
+        let text = format!(in rt.alloc(); "{fault}")?;
+        assert_eq!(rt; text.as_str(), want);
+    }
+    Ok(())
+}

@@ -1,9 +1,10 @@
 //! Tests of the layers below the program: one module for each crate, except that `assembly` tests
 //! both `rc_expand` and `rc_asm`. `opponents` has what several modules share.
 //!
-//! They show what no clause says: what becomes of texts written by hand, the texts of faults, and
-//! that each public call can succeed. They are a crate of their own because a crate with tests is
-//! proved twice, once without its tests and once with them.
+//! They show that each public call can succeed, and what neither a clause says nor a run of the
+//! program shows, such as the texts of faults. What a run shows is a case in `cases/`. They are a
+//! crate of their own because a crate with tests is proved twice, once without its tests and once
+//! with them.
 #![tactic(auto)]
 
 #[cfg(test)]

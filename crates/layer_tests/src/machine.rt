@@ -1,11 +1,14 @@
-//! Tests of `mars_core`: steps and fights worked out by hand from the 1994 draft.
+//! Tests of `mars_core`: steps and fights worked out by hand from the 1994 draft, each on plain and
+//! on packed cells, and arenas that are reset.
 ghost use Rattle.std.specs.Prelude.{◌≡◌, ◌≤◌, ◌<◌, ◌+◌};
 ghost use Rattle.rc_instr.specs.Warrior.{Fits};
-ghost use Rattle.mars_core.specs.Arena.{blank_arena};
+ghost use Rattle.mars_core.specs.Arena.{IsBlank};
 
 use crate::opponents::{DAT, IMP};
-use mars_core::{Arena, Outcome, PlainCells, Side};
+use mars_core::laws::a_reset_sets_few_cells;
+use mars_core::{Arena, Cells, Outcome, PackedCells, PlainCells, Side};
 use rc_instr::{Instruction, Rules, Warrior, read_loadfile};
+use std::process::Abort;
 use std::test::Fail;
 
 // Reads the first instruction of a load file.
@@ -15,46 +18,44 @@ fn instruction(rt: &HostRuntime, core: u32, text: &[u8]) -> Result<Instruction, 
     Ok(warrior.code()[0])
 }
 
-// Returns the cell at `at` and the candidate's first task after one step of the candidate.
-// The opponent is an empty cell at 8.
-fn after_step(
-    rt: &HostRuntime,
-    core: u32,
-    code: &[u8],
-    at: u32,
-) -> Result<(Instruction, Option<u32>), Fail>
-    requires core { 16 ≤ core }
-    requires at { at < core }
+// What a step leaves: a cell, the candidate's first task, and how many cells a reset sets.
+type Step = (Instruction, Option<u32>, u32);
+
+// Loads two warriors, makes one step of the candidate, and resets the arena. Returns what the step
+// left, with the cell at `at`.
+fn step<C: Cells>(arena: &mut Arena<C>, candidate: &Warrior, opponent: &Warrior, at: u32) -> Step
+    requires blank { IsBlank arena.old.rules arena.old }
+    requires cycles { 0 < arena.old.rules.cycles }
+    requires candidate { Fits arena.old.rules candidate.now }
+    requires opponent { Fits arena.old.rules opponent.now }
+    requires eight { (arena.old.rules.distance ≤ 8) × (8 + arena.old.rules.distance ≤ arena.old.rules.core) }
+    requires at { at < arena.old.rules.core }
 {
-    let rules = Rules::try_new(core, 20, 4, 4, 4)?;
-    let candidate = read_loadfile(rt.alloc(), code, &rules)?;
-    let opponent = read_loadfile(rt.alloc(), DAT, &rules)?;
-    let mut arena = Arena::<PlainCells>::try_new(rt.alloc(), &rules)?;
-    arena.load(&candidate, &opponent, 8);
+    arena.load(candidate, opponent, 8);
     arena.step(Side::Candidate);
     let task = if arena.task_count(Side::Candidate) > 0 {
         Some(arena.task(Side::Candidate, 0))
     } else {
         None
     };
-    Ok((arena.cell(at), task))
+    let cell = arena.cell(at);
+    (cell, task, arena.reset())
 }
 
-// Plays a fight in a core of 16 cells, with the opponent at 8.
-fn fight(
-    rt: &HostRuntime,
-    candidate: &[u8],
-    opponent: &[u8],
-    cycles: u32,
-    tasks: u32,
-    first: Side,
-) -> Result<Outcome, Fail> {
-    let rules = Rules::try_new(16, cycles, tasks, 4, 4)?;
-    let candidate = read_loadfile(rt.alloc(), candidate, &rules)?;
-    let opponent = read_loadfile(rt.alloc(), opponent, &rules)?;
-    let mut arena = Arena::<PlainCells>::try_new(rt.alloc(), &rules)?;
-    arena.load(&candidate, &opponent, 8);
-    Ok(arena.run(first))
+// Makes one step of the candidate on plain and on packed cells. The opponent is an empty cell at 8.
+fn steps(rt: &HostRuntime, core: u32, code: &[u8], at: u32) -> Result<(Step, Step), Fail>
+    requires core { 16 ≤ core }
+    requires at { at < core }
+{
+    let rules = Rules::try_new(core, 20, 4, 4, 4)?;
+    let candidate = read_loadfile(rt.alloc(), code, &rules)?;
+    let opponent = read_loadfile(rt.alloc(), DAT, &rules)?;
+    let mut plain = Arena::<PlainCells>::try_new(rt.alloc(), &rules)?;
+    let mut packed = Arena::<PackedCells>::try_new(rt.alloc(), &rules)?;
+    Ok((
+        step(&mut plain, &candidate, &opponent, at),
+        step(&mut packed, &candidate, &opponent, at),
+    ))
 }
 
 // Code, an address, the cell there after one step, and the first task then.
@@ -163,18 +164,21 @@ const CHANGES: [(&[u8], u32, &[u8], Option<u32>); 14] = [
 fn one_step_changes_a_cell(rt: HostRuntime) -> Result<(), Fail> {
     for (code, at, cell, task) in CHANGES {
         if at < 16 {
-            let (got, first) = after_step(&rt, 16, code, at)?;
+            let (plain, packed) = steps(&rt, 16, code, at)?;
+            let cell = instruction(&rt, 16, cell)?;
+            assert_eq!(rt; plain, (cell, task, 16), "cell {at} after {code:?}");
             assert_eq!(rt;
-                got,
-                instruction(&rt, 16, cell)?,
+                (packed.0, packed.1),
+                (cell, task),
                 "cell {at} after {code:?}"
             );
-            assert_eq!(rt; first, task, "task after {code:?}");
         }
     }
     // the greatest product: 65534 * 65534 is 1 modulo 65535
-    let (got, _) = after_step(&rt, 65535, b"ORG 0\nMUL.AB #-1, $1\nDAT.F $0, $-1\n", 1)?;
-    assert_eq!(rt; got, instruction(&rt, 65535, b"ORG 0\nDAT.F $0, $1\n")?);
+    let code = b"ORG 0\nMUL.AB #-1, $1\nDAT.F $0, $-1\n";
+    let (plain, packed) = steps(&rt, 65535, code, 1)?;
+    let one = instruction(&rt, 65535, b"ORG 0\nDAT.F $0, $1\n")?;
+    assert_eq!(rt; (plain.0, packed.0), (one, one));
     Ok(())
 }
 
@@ -206,49 +210,107 @@ const TASKS: [(&[u8], u32); 11] = [
 #[test]
 fn one_step_queues_an_address(rt: HostRuntime) -> Result<(), Fail> {
     for (code, task) in TASKS {
-        let (_, first) = after_step(&rt, 16, code, 0)?;
-        assert_eq!(rt; first, Some(task), "task after {code:?}");
+        let (plain, packed) = steps(&rt, 16, code, 0)?;
+        assert_eq!(rt; plain.1, Some(task), "task after {code:?}");
+        assert_eq!(rt; packed.1, Some(task), "task after {code:?}");
     }
     Ok(())
 }
+
+// Points, turns, and the number of cells that a reset sets.
+type Played = (u8, u32, u32);
+
+// Loads two warriors, plays, and resets the arena.
+fn play<C: Cells>(
+    arena: &mut Arena<C>,
+    candidate: &Warrior,
+    opponent: &Warrior,
+    first: Side,
+) -> Played
+    requires blank { IsBlank arena.old.rules arena.old }
+    requires candidate { Fits arena.old.rules candidate.now }
+    requires opponent { Fits arena.old.rules opponent.now }
+    requires eight { (arena.old.rules.distance ≤ 8) × (8 + arena.old.rules.distance ≤ arena.old.rules.core) }
+    ensures blank { IsBlank arena.old.rules arena.new }
+{
+    arena.load(candidate, opponent, 8);
+    let outcome = arena.run(first);
+    (outcome.points, outcome.turns, arena.reset())
+}
+
+// Plays a fight on plain and on packed cells, in a core of 16 cells.
+fn plays(
+    rt: &HostRuntime,
+    texts: (&[u8], &[u8]),
+    cycles: u32,
+    tasks: u32,
+    first: Side,
+) -> Result<(Played, Played), Fail> {
+    let rules = Rules::try_new(16, cycles, tasks, 4, 4)?;
+    let candidate = read_loadfile(rt.alloc(), texts.0, &rules)?;
+    let opponent = read_loadfile(rt.alloc(), texts.1, &rules)?;
+    let mut plain = Arena::<PlainCells>::try_new(rt.alloc(), &rules)?;
+    let mut packed = Arena::<PackedCells>::try_new(rt.alloc(), &rules)?;
+    Ok((
+        play(&mut plain, &candidate, &opponent, first),
+        play(&mut packed, &candidate, &opponent, first),
+    ))
+}
+
+const DIVIDES: &[u8] = b"ORG 0\nDIV.F #0, $2\nDAT.F $0, $0\nDAT.F #6, #6\n";
+
+const SPLITS: &[u8] = b"ORG 0\nSPL.B $0, $0\n";
+
+const WAITS: &[u8] = b"ORG 0\nJMP.B $0, $0\n";
+
+// Candidate and opponent, cycles, tasks and first mover; points, turns, and the number of cells
+// that were written.
+const FIGHTS: [((&[u8], &[u8]), u32, u32, Side, Played); 7] = [
+    ((IMP, IMP), 20, 4, Side::Candidate, (1, 40, 16)),
+    ((DAT, IMP), 20, 4, Side::Candidate, (0, 1, 2)),
+    ((IMP, DAT), 1, 4, Side::Candidate, (3, 2, 3)),
+    ((IMP, DAT), 1, 4, Side::Opponent, (3, 1, 2)),
+    ((IMP, WAITS), 20, 4, Side::Candidate, (1, 40, 16)),
+    ((DIVIDES, IMP), 20, 4, Side::Candidate, (0, 1, 4)),
+    ((SPLITS, IMP), 20, 1, Side::Candidate, (0, 3, 3)),
+];
 
 #[test]
 fn fights_end_as_worked_out(rt: HostRuntime) -> Result<(), Fail> {
-    let divides: &[u8] = b"ORG 0\nDIV.F #0, $2\nDAT.F $0, $0\nDAT.F #6, #6\n";
-    let splits: &[u8] = b"ORG 0\nSPL.B $0, $0\n";
-    let waits: &[u8] = b"ORG 0\nJMP.B $0, $0\n";
-    // candidate, opponent, cycles, tasks, first mover, points, turns
-    let table: [(&[u8], &[u8], u32, u32, Side, u8, u32); 7] = [
-        (IMP, IMP, 20, 4, Side::Candidate, 1, 40),
-        (DAT, IMP, 20, 4, Side::Candidate, 0, 1),
-        (IMP, DAT, 1, 4, Side::Candidate, 3, 2),
-        (IMP, DAT, 1, 4, Side::Opponent, 3, 1),
-        (IMP, waits, 20, 4, Side::Candidate, 1, 40),
-        (divides, IMP, 20, 4, Side::Candidate, 0, 1),
-        (splits, IMP, 20, 1, Side::Candidate, 0, 3),
-    ];
-    for (candidate, opponent, cycles, tasks, first, points, turns) in table {
-        let outcome = fight(&rt, candidate, opponent, cycles, tasks, first)?;
-        assert_eq!(rt;
-            outcome,
-            Outcome { points, turns },
-            "{candidate:?} against {opponent:?}"
-        );
+    for (texts, cycles, tasks, first, played) in FIGHTS {
+        let (plain, packed) = plays(&rt, texts, cycles, tasks, first)?;
+        assert_eq!(rt; plain, (played.0, played.1, 16), "{texts:?}");
+        assert_eq!(rt; packed, played, "{texts:?}");
     }
     Ok(())
 }
 
-// Loads two warriors, plays, and resets the arena. Returns the points and what the reset returned.
-fn play(arena: &mut Arena<PlainCells>, candidate: &Warrior, opponent: &Warrior) -> (u8, u32)
-    requires blank { arena.old ≡ blank_arena arena.old.rules arena.old.rules.core }
-    requires candidate { Fits arena.old.rules candidate.now }
-    requires opponent { Fits arena.old.rules opponent.now }
-    requires at { (arena.old.rules.distance ≤ 8) × (8 + arena.old.rules.distance ≤ arena.old.rules.core) }
-    ensures blank { arena.new ≡ blank_arena arena.old.rules arena.old.rules.core }
+// Plays a fight and resets, makes a step and resets. Checks that the arena is then blank. Returns
+// how many cells each reset set.
+fn resets<C: Cells>(
+    rt: &impl Abort,
+    arena: &mut Arena<C>,
+    imp: &Warrior,
+    copier: &Warrior,
+) -> (u32, u32)
+    requires blank { IsBlank arena.old.rules arena.old }
+    requires cycles { 0 < arena.old.rules.cycles }
+    requires imp { Fits arena.old.rules imp.now }
+    requires copier { Fits arena.old.rules copier.now }
+    requires core { (arena.old.rules.distance ≤ 8) × (8 + arena.old.rules.distance ≤ arena.old.rules.core) × (16 ≤ arena.old.rules.core) }
 {
-    arena.load(candidate, opponent, 8);
-    let outcome = arena.run(Side::Candidate);
-    (outcome.points, arena.reset())
+    let (_, _, after_run) = play(arena, imp, imp, Side::Candidate);
+    arena.load(copier, imp, 8);
+    arena.step(Side::Candidate);
+    assert_eq!(rt; arena.turns(), 1);
+    let after_step = arena.reset();
+    for at in 0..16u32 {
+        assert_eq!(rt; arena.cell(at), Instruction::empty());
+    }
+    assert_eq!(rt; arena.task_count(Side::Candidate), 0);
+    assert_eq!(rt; arena.task_count(Side::Opponent), 0);
+    assert_eq!(rt; arena.turns(), 0);
+    (after_run, after_step)
 }
 
 #[test]
@@ -256,18 +318,15 @@ fn a_reset_arena_is_blank(rt: HostRuntime) -> Result<(), Fail> {
     let rules = Rules::try_new(16, 20, 4, 4, 4)?;
     let imp = read_loadfile(rt.alloc(), IMP, &rules)?;
     let copier = read_loadfile(rt.alloc(), b"ORG 0\nMOV.I $0, <1\nDAT.F $0, $4\n", &rules)?;
-    let mut arena = Arena::<PlainCells>::try_new(rt.alloc(), &rules)?;
-    assert_eq!(rt; play(&mut arena, &imp, &imp), (1, 16));
-    assert_eq!(rt; play(&mut arena, &imp, &imp), (1, 16));
-    arena.load(&copier, &imp, 8);
-    arena.step(Side::Candidate);
-    assert_eq!(rt; arena.turns(), 1);
-    assert_eq!(rt; arena.reset(), 16);
-    for at in 0..16u32 {
-        assert_eq!(rt; arena.cell(at), Instruction::empty());
-    }
-    assert_eq!(rt; arena.task_count(Side::Candidate), 0);
-    assert_eq!(rt; arena.task_count(Side::Opponent), 0);
-    assert_eq!(rt; arena.turns(), 0);
+    let mut plain = Arena::<PlainCells>::try_new(rt.alloc(), &rules)?;
+    let mut packed = Arena::<PackedCells>::try_new(rt.alloc(), &rules)?;
+    let tie = Outcome {
+        points: 1,
+        turns: 40,
+    };
+    let few = a_reset_sets_few_cells(&mut packed, &imp, &imp, 8, Side::Candidate);
+    assert_eq!(rt; few, (tie, 16));
+    assert_eq!(rt; resets(&rt, &mut plain, &imp, &copier), (16, 16));
+    assert_eq!(rt; resets(&rt, &mut packed, &imp, &copier), (16, 4));
     Ok(())
 }

@@ -4,7 +4,7 @@ ghost use Rattle.rc_text.specs.Symbols.{LiesIn};
 ghost use Rattle.rc_text.specs.Tokens.{ahead_of};
 
 use rc_text::{
-    EvalFault, Joined, Kind, LexFault, Lexer, NameClass, Names, Sign, Token, eval, is_blank,
+    EvalFault, Joined, Kind, LexFault, Lexer, NameClass, Names, Token, eval, is_blank,
     is_opcode_word, is_same_word, name_class,
 };
 use std::alloc::Global;
@@ -45,95 +45,6 @@ fn value_of(
     Ok(eval(text, &tokens, &OneValue { number }))
 }
 
-fn nested(alloc: Global, depth: usize, close: bool) -> Result<Vec<u8>, Fail> {
-    let mut text = Vec::new(alloc);
-    for _ in 0..depth {
-        text.push(b'(')?;
-    }
-    text.push(b'1')?;
-    if close {
-        for _ in 0..depth {
-            text.push(b')')?;
-        }
-    }
-    Ok(text)
-}
-
-// Each sign, and its bytes.
-const SIGNS: [(&[u8], Sign); 25] = [
-    (b".", Sign::Dot),
-    (b",", Sign::Comma),
-    (b":", Sign::Colon),
-    (b"&", Sign::Ampersand),
-    (b"#", Sign::Hash),
-    (b"$", Sign::Dollar),
-    (b"@", Sign::At),
-    (b"{", Sign::OpenBrace),
-    (b"}", Sign::CloseBrace),
-    (b"(", Sign::Open),
-    (b")", Sign::Close),
-    (b"+", Sign::Plus),
-    (b"-", Sign::Minus),
-    (b"*", Sign::Star),
-    (b"/", Sign::Slash),
-    (b"%", Sign::Percent),
-    (b"!", Sign::Bang),
-    (b"<", Sign::Less),
-    (b">", Sign::Greater),
-    (b"<=", Sign::LessEqual),
-    (b">=", Sign::GreaterEqual),
-    (b"==", Sign::Equal),
-    (b"!=", Sign::NotEqual),
-    (b"&&", Sign::And),
-    (b"||", Sign::Or),
-];
-
-#[test]
-fn signs_are_whole_tokens(rt: HostRuntime) -> Result<(), Fail> {
-    for (text, sign) in SIGNS {
-        let tokens = tokens_of(rt.alloc(), text)?;
-        assert_eq!(rt; tokens.len(), 1);
-        for token in &tokens {
-            assert_eq!(rt; token.kind, Kind::Sign(sign));
-        }
-    }
-    Ok(())
-}
-
-#[test]
-fn texts_have_tokens(rt: HostRuntime) -> Result<(), Fail> {
-    let name = Kind::Name;
-    let number = Kind::Number;
-    let plus = Kind::Sign(Sign::Plus);
-    let and = Kind::Sign(Sign::And);
-    for (text, kinds) in [
-        (
-            b"s EQU 2+3".as_slice(),
-            [name, name, number(2), plus, number(3)].as_slice(),
-        ),
-        (b"x&&i+++", &[name, and, name, plus, plus, plus]),
-        (
-            b"4294967295 007 a_1\t\r;\xc3 any bytes",
-            &[number(4294967295), number(7), name],
-        ),
-        (b" ;Assert 1\n", &[Kind::Assert, number(1), Kind::LineEnd]),
-        (b";assert\r\n", &[Kind::Assert, Kind::LineEnd]),
-        (b";assert\n;assert", &[Kind::LineEnd]),
-        (b"x ;assert 1", &[name]),
-        (b"DAT 1\nEND\n;REDCODE-94\nDAT 2", &[name, number(2)]),
-        (b"=?\n;redcodes", &[]),
-        (b" ;redcode\n1", &[Kind::LineEnd, number(1)]),
-        (b"", &[]),
-    ] {
-        let tokens = tokens_of(rt.alloc(), text)?;
-        assert_eq!(rt; tokens.len(), kinds.len());
-        for (token, kind) in tokens.iter().zip(kinds) {
-            assert_eq!(rt; token.kind, *kind);
-        }
-    }
-    Ok(())
-}
-
 // Also shows that a fault is returned again, at its line, by each later call.
 #[test]
 fn tokens_have_spans_and_lines(rt: HostRuntime) -> Result<(), Fail> {
@@ -166,135 +77,39 @@ fn tokens_have_spans_and_lines(rt: HostRuntime) -> Result<(), Fail> {
     Ok(())
 }
 
-#[test]
-fn bad_texts_are_refused(rt: HostRuntime) -> Result<(), Fail> {
-    for (text, fault) in [
-        (b"4294967296".as_slice(), LexFault::NumberTooLarge),
-        (b"99999999999999999999999", LexFault::NumberTooLarge),
-        (b"=", LexFault::BadByte),
-        (b"|", LexFault::BadByte),
-        (b"?", LexFault::BadByte),
-        (b"\xc3", LexFault::BadByte),
-    ] {
-        match Lexer::new(text).next_token() {
-            Err(found) => assert_eq!(rt; found, fault),
-            Ok(_) => assert!(rt; false),
-        }
-    }
-    Ok(())
-}
-
+// The value of an expression in which each name has the value `number`, or none has a value.
 #[test]
 fn expressions_have_values(rt: HostRuntime) -> Result<(), Fail> {
-    for (text, value) in [
-        (b"2+3*2".as_slice(), 8),
-        (b"2+3*4", 14),
-        (b"(1<2)+!0", 2),
-        (b"-7/2", -3),
-        (b"-7%2", -1),
-        (b"7%-2", 1),
-        (b"10-4-3", 3),
-        (b"10-2*3+1", 5),
-        (b"100/10/5", 2),
-        (b"0==2<3", 0),
-        (b"5!=2>3", 1),
-        (b"1||0&&0", 1),
-        (b"7&&-1", 1),
-        (b"2>=2", 1),
-        (b"3<=2", 0),
-        (b"- -+!5", 0),
-        (b"-2*3", -6),
-        (b"(0-4294967295*2147483648-2147483648)%-1", 0),
-        (b"(2+3)*2", 10),
+    for (text, number, value) in [
+        (b"2+3*2".as_slice(), None, Ok(8)),
+        (b"x*2", Some(5), Ok(10)),
+        (b"x", None, Err(EvalFault::UnknownName)),
+        (b"", None, Err(EvalFault::Syntax)),
+        (b"1\n", None, Err(EvalFault::Syntax)),
     ] {
-        assert_eq!(rt; value_of(rt.alloc(), text, None)?, Ok(value));
+        assert_eq!(rt; value_of(rt.alloc(), text, number)?, value);
     }
-    assert_eq!(rt; value_of(rt.alloc(), b"x*2", Some(5))?, Ok(10));
-    assert_eq!(rt;
-        value_of(rt.alloc(), b"CORESIZE % 4 == 0", Some(8000))?,
-        Ok(1)
-    );
-    let deep = nested(rt.alloc(), 64, true)?;
-    assert_eq!(rt; value_of(rt.alloc(), &deep, None)?, Ok(1));
-    Ok(())
-}
-
-// A syntax fault comes before a fault of a value, and values are computed from the left.
-#[test]
-fn faults_come_in_order(rt: HostRuntime) -> Result<(), Fail> {
-    for (text, fault) in [
-        (b"1/0".as_slice(), EvalFault::DivisionByZero),
-        (b"1%0", EvalFault::DivisionByZero),
-        (b"x", EvalFault::UnknownName),
-        (b"1 +", EvalFault::Syntax),
-        (b"", EvalFault::Syntax),
-        (b"1 2", EvalFault::Syntax),
-        (b"1\n", EvalFault::Syntax),
-        (b"#1", EvalFault::Syntax),
-        (b"(1", EvalFault::Syntax),
-        (b"1)", EvalFault::Syntax),
-        (b"4294967295*4294967295", EvalFault::Overflow),
-        (
-            b"(0-4294967295*2147483648-2147483648)/-1",
-            EvalFault::Overflow,
-        ),
-        (
-            b"-(0-4294967295*2147483648-2147483648)",
-            EvalFault::Overflow,
-        ),
-        (b"1/0+x", EvalFault::DivisionByZero),
-        (b"x+1/0", EvalFault::UnknownName),
-        (b"1/0+", EvalFault::Syntax),
-        (b"0&&1/0", EvalFault::DivisionByZero),
-        (b"1||x", EvalFault::UnknownName),
-    ] {
-        assert_eq!(rt; value_of(rt.alloc(), text, None)?, Err(fault));
-    }
-    let closed = nested(rt.alloc(), 65, true)?;
-    assert_eq!(rt;
-        value_of(rt.alloc(), &closed, None)?,
-        Err(EvalFault::TooDeep)
-    );
-    let open = nested(rt.alloc(), 65, false)?;
-    assert_eq!(rt; value_of(rt.alloc(), &open, None)?, Err(EvalFault::TooDeep));
     Ok(())
 }
 
 #[test]
 fn names_have_classes(rt: HostRuntime) {
-    for (name, class) in [
-        (b"".as_slice(), NameClass::NoName),
-        (b"1x", NameClass::NoName),
-        (b"a-b", NameClass::NoName),
-        (b"mov", NameClass::Reserved),
-        (b"Cmp", NameClass::Reserved),
-        (b"NOP", NameClass::Reserved),
-        (b"rof", NameClass::Reserved),
-        (b"CORESIZE", NameClass::Predefined),
-        (b"CURLINE", NameClass::Predefined),
-        (b"coresize", NameClass::Free),
-        (b"movs", NameClass::Free),
-        (b"PIN", NameClass::Free),
-        (b"_x01", NameClass::Free),
+    for (name, class, is_opcode) in [
+        (b"".as_slice(), NameClass::NoName, false),
+        (b"1x", NameClass::NoName, false),
+        (b"a-b", NameClass::NoName, false),
+        (b"dat", NameClass::Reserved, true),
+        (b"Cmp", NameClass::Reserved, true),
+        (b"NOP", NameClass::Reserved, true),
+        (b"rof", NameClass::Reserved, false),
+        (b"CURLINE", NameClass::Predefined, false),
+        (b"coresize", NameClass::Free, false),
+        (b"movs", NameClass::Free, false),
+        (b"PIN", NameClass::Free, false),
+        (b"_x01", NameClass::Free, false),
     ] {
         assert_eq!(rt; name_class(name), class);
-    }
-}
-
-#[test]
-fn directives_are_not_opcode_words(rt: HostRuntime) {
-    for (name, is_one) in [
-        (b"dat".as_slice(), true),
-        (b"CMP", true),
-        (b"Sne", true),
-        (b"nop", true),
-        (b"ORG", false),
-        (b"for", false),
-        (b"PIN", false),
-        (b"movs", false),
-        (b"", false),
-    ] {
-        assert_eq!(rt; is_opcode_word(name), is_one);
+        assert_eq!(rt; is_opcode_word(name), is_opcode);
     }
 }
 

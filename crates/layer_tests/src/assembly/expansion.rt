@@ -8,7 +8,6 @@ use rc_expand::{Constants, ExpandFault, ExpandKind, Line, LineWord, expand, name
 use rc_instr::Rules;
 use rc_text::{Kind, LexFault, Token};
 use std::alloc::Global;
-use std::process::Abort;
 use std::test::Fail;
 
 // Appends each token after a blank: a decimal as its value, a name with its counters.
@@ -80,8 +79,9 @@ fn lines_of(alloc: Global, source: &[u8]) -> Result<Result<Vec<u8>, ExpandFault>
     }
 }
 
-// Texts, and their lines.
-const LINES: [(&[u8], &[u8]); 10] = [
+// Texts, and their lines: EQU names and blocks first, then labels, joined names, dropped lines, and
+// names that EQU does not replace.
+const LINES: [(&[u8], &[u8]); 28] = [
     (b"", b""),
     (b"a: b DAT a, b\nc", b"1 a b: - DAT a , b\n2 c:\n"),
     (b"s EQU 2+3\nDAT #0, #s*2", b"2: - DAT # 0 , # 2 + 3 * 2\n"),
@@ -107,26 +107,6 @@ const LINES: [(&[u8], &[u8]); 10] = [
         b"From: x\n;redcode-94\n;name Dwarf\n;assert CORESIZE % 4 == 0\nstep EQU 4\n  ORG start\nbomb DAT #0, #0\nstart ADD #step, bomb\n  JMP start\n  END\n?",
         b"4: ;assert CORESIZE % 4 == 0\n6: ORG start\n7 bomb: - DAT # 0 , # 0\n8 start: - ADD # 4 , bomb\n9: - JMP start\n10: END\n",
     ),
-];
-
-// Asserts that each text expands to its lines.
-fn assert_lines(rt: &impl Abort, alloc: Global, rows: &[(&[u8], &[u8])]) -> Result<(), Fail> {
-    for (text, lines) in rows {
-        match lines_of(alloc, text)? {
-            Ok(found) => assert_eq!(rt; found.as_slice(), *lines),
-            Err(_) => assert!(rt; false, "{text:?} is refused"),
-        }
-    }
-    Ok(())
-}
-
-#[test]
-fn texts_have_lines(rt: HostRuntime) -> Result<(), Fail> {
-    assert_lines(&rt, rt.alloc(), &LINES)
-}
-
-// Labels, joined names, dropped lines, and names that EQU does not replace: texts and their lines.
-const NAMES: [(&[u8], &[u8]); 18] = [
     (b"x&NOP 1", b"1 x: - & NOP 1\n"),
     (b"i FOR 1\nmov&i 0\nROF", b"2: - mov01 0\n"),
     (b"i FOR 1\ni&i NOP\nROF", b"2 i01: - NOP\n"),
@@ -160,167 +140,44 @@ const NAMES: [(&[u8], &[u8]); 18] = [
 ];
 
 #[test]
-fn names_are_joined_and_replaced(rt: HostRuntime) -> Result<(), Fail> {
-    assert_lines(&rt, rt.alloc(), &NAMES)
-}
-
-// Texts, and the line and kind of their fault.
-const FAULTS: [(&[u8], u64, ExpandKind); 39] = [
-    (b"a a\na EQU", 1, ExpandKind::DuplicateName),
-    (b"a\na\na EQU", 2, ExpandKind::DuplicateName),
-    (b"b a\na\na EQU\nb EQU", 2, ExpandKind::DuplicateName),
-    (
-        b"DAT 4294967296",
-        1,
-        ExpandKind::Text(LexFault::NumberTooLarge),
-    ),
-    (b"NOP\nEND ?", 2, ExpandKind::Text(LexFault::BadByte)),
-    (b"x NOP\nx NOP", 2, ExpandKind::DuplicateName),
-    (b"NOP\nK NOP", 2, ExpandKind::DuplicateName),
-    (b"CURLINE", 1, ExpandKind::DuplicateName),
-    (b"a NOP\nNOP\na EQU 1", 3, ExpandKind::DuplicateName),
-    (b"a EQU 1\na EQU 2", 2, ExpandKind::DuplicateName),
-    (b"MAXCYCLES EQU 1", 1, ExpandKind::DuplicateName),
-    (b"a FOR 1\nROF\na EQU 1", 3, ExpandKind::DuplicateName),
-    (b"K FOR 1\nROF", 1, ExpandKind::DuplicateName),
-    (b"i FOR 2\ni FOR 2\nROF\nROF", 2, ExpandKind::DuplicateName),
-    (
-        b"i FOR 1\nx&i NOP\nROF\nx01 NOP",
-        4,
-        ExpandKind::DuplicateName,
-    ),
-    (b"FOR 3", 1, ExpandKind::ForWithoutRof),
-    (b"NOP\nFOR 1\nFOR 1\nROF", 2, ExpandKind::ForWithoutRof),
-    (b"FOR 1\nEND\nROF", 1, ExpandKind::ForWithoutRof),
-    (b"ROF", 1, ExpandKind::RofWithoutFor),
-    (b"a EQU a\nDAT a", 2, ExpandKind::EquTooDeep),
-    (
-        b"b MOV 0\nDAT 1\nc: JMP c\nc EQU b\nb EQU c",
-        3,
-        ExpandKind::EquTooDeep,
-    ),
-    (b"a EQU a\nNOP\nFOR a\nROF", 3, ExpandKind::EquTooDeep),
-    (b"FOR 4097\nROF", 1, ExpandKind::CountRefused),
-    (b"FOR\nROF", 1, ExpandKind::CountRefused),
-    (b"FOR CURLINE\nROF", 1, ExpandKind::CountRefused),
-    (b"FOR 1/0\nROF", 1, ExpandKind::CountRefused),
-    (b"FOR 1\ns EQU 2\nROF", 2, ExpandKind::BadDirective),
-    (b"EQU 1", 1, ExpandKind::BadDirective),
-    (b"a b EQU 1", 1, ExpandKind::BadDirective),
-    (b"x&i EQU 1", 1, ExpandKind::BadDirective),
-    (b"FOR 0\na ROF", 2, ExpandKind::BadDirective),
-    (b"FOR 0\nROF 1", 2, ExpandKind::BadDirective),
-    (b"i FOR 1\nx&i FOR 2\nROF\nROF", 2, ExpandKind::BadDirective),
-    (
-        b"i FOR 1\nx&i&i&i&i&i&i&i&i&i NOP\nROF",
-        2,
-        ExpandKind::BadDirective,
-    ),
-    (
-        b"a EQU a\nFOR 2\ny NOP\nDAT a\nROF",
-        3,
-        ExpandKind::DuplicateName,
-    ),
-    (b"a EQU a\nx NOP\nx DAT a", 3, ExpandKind::DuplicateName),
-    (b"ROF\n?", 2, ExpandKind::Text(LexFault::BadByte)),
-    (b"EQU 1\nROF", 2, ExpandKind::RofWithoutFor),
-    (b"FOR x\nROF\nEQU 1", 3, ExpandKind::BadDirective),
-];
-
-#[test]
-fn bad_texts_have_faults(rt: HostRuntime) -> Result<(), Fail> {
-    for (text, line, kind) in FAULTS {
+fn texts_have_lines(rt: HostRuntime) -> Result<(), Fail> {
+    for (text, lines) in LINES {
         match lines_of(rt.alloc(), text)? {
-            Ok(_) => assert!(rt; false, "{text:?} has lines"),
-            Err(found) => assert_eq!(rt; found, ExpandFault { line, kind }, "{text:?}"),
+            Ok(found) => assert_eq!(rt; found.as_slice(), lines),
+            Err(_) => assert!(rt; false, "{text:?} is refused"),
         }
     }
     Ok(())
 }
 
-// A piece, its count, another piece that is repeated as often, and an end; and the line and kind of
-// the fault. Line 0 and `OutOfMemory` mean no fault.
-const LIMITS: [(&[u8], usize, &[u8], &[u8], u64, ExpandKind); 10] = [
-    (b"FOR 1\n", 8, b"ROF\n", b"", 0, ExpandKind::OutOfMemory),
-    (b"FOR 1\n", 9, b"ROF\n", b"", 9, ExpandKind::ForTooDeep),
-    (b"NOP\n", 4096, b"", b"", 0, ExpandKind::OutOfMemory),
-    (b"NOP\n", 4096, b"", b"NOP", 4097, ExpandKind::TooManyLines),
-    (
-        b"NOP\n",
-        1,
-        b"",
-        b"FOR 4095\nROF",
-        0,
-        ExpandKind::OutOfMemory,
-    ),
-    (
-        b"NOP\n",
-        1,
-        b"",
-        b"FOR 4096\nROF",
-        2,
-        ExpandKind::TooManyLines,
-    ),
-    (b"1 ", 4096, b"", b"", 0, ExpandKind::OutOfMemory),
-    (b"1 ", 4097, b"", b"", 1, ExpandKind::TooManyTokens),
-    (b"1 e ", 2048, b"", b"\ne EQU", 0, ExpandKind::OutOfMemory),
-    (
-        b"1 e e e ",
-        1367,
-        b"",
-        b"\ne EQU",
-        1,
-        ExpandKind::TooManyTokens,
-    ),
+// A piece, its count, and an end; and the line and kind of the fault, in texts with a name that is
+// a constant and in texts at the limits. Line 0 and `OutOfMemory` mean no fault.
+const FAULTS: [(&[u8], usize, &[u8], u64, ExpandKind); 8] = [
+    (b"NOP\n", 1, b"K NOP", 2, ExpandKind::DuplicateName),
+    (b"K FOR 1\n", 1, b"ROF", 1, ExpandKind::DuplicateName),
+    (b"NOP\n", 4096, b"", 0, ExpandKind::OutOfMemory),
+    (b"NOP\n", 4096, b"NOP", 4097, ExpandKind::TooManyLines),
+    (b"1 ", 4096, b"", 0, ExpandKind::OutOfMemory),
+    (b"1 ", 4097, b"", 1, ExpandKind::TooManyTokens),
+    (b"1 e ", 2048, b"\ne EQU", 0, ExpandKind::OutOfMemory),
+    (b"1 e e e ", 1367, b"\ne EQU", 1, ExpandKind::TooManyTokens),
 ];
 
 #[test]
-fn limits_hold(rt: HostRuntime) -> Result<(), Fail> {
+fn constants_are_taken_and_limits_hold(rt: HostRuntime) -> Result<(), Fail> {
     let none = ExpandFault {
         line: 0,
         kind: ExpandKind::OutOfMemory,
     };
-    for (piece, count, other, back, line, kind) in LIMITS {
+    for (piece, count, back, line, kind) in FAULTS {
         let mut text = Vec::new(rt.alloc());
         push_times(&mut text, piece, count)?;
-        push_times(&mut text, other, count)?;
         text.extend_from_slice(back)?;
         let found = match lines_of(rt.alloc(), &text)? {
             Ok(_) => none,
             Err(fault) => fault,
         };
         assert_eq!(rt; found, ExpandFault { line, kind });
-    }
-    Ok(())
-}
-
-// A chain of 17 EQU names is a fault only if a line uses it.
-#[test]
-fn a_chain_has_at_most_16_names(rt: HostRuntime) -> Result<(), Fail> {
-    let chain =
-        b"b EQU c\nc EQU d\nd EQU e\ne EQU f\nf EQU g\ng EQU h\nh EQU i\ni EQU j\nj EQU k\nk EQU l\nl EQU m\nm EQU n\nn EQU o\no EQU p\np EQU q\nq EQU 5\n".as_slice();
-    for (use_of_it, lines) in [
-        (b"DAT b".as_slice(), b"17: - DAT 5\n".as_slice()),
-        (b"a EQU b\nDAT b", b"18: - DAT 5\n"),
-    ] {
-        let mut text = chain.to_vec(rt.alloc())?;
-        text.extend_from_slice(use_of_it)?;
-        match lines_of(rt.alloc(), &text)? {
-            Ok(found) => assert_eq!(rt; found.as_slice(), lines),
-            Err(_) => assert!(rt; false),
-        }
-    }
-    let mut text = chain.to_vec(rt.alloc())?;
-    text.extend_from_slice(b"a EQU b\nDAT a")?;
-    match lines_of(rt.alloc(), &text)? {
-        Ok(_) => assert!(rt; false),
-        Err(found) => assert_eq!(rt;
-            found,
-            ExpandFault {
-                line: 18,
-                kind: ExpandKind::EquTooDeep
-            }
-        ),
     }
     Ok(())
 }

@@ -8,9 +8,7 @@ use rc_instr::Opcode::{
     Add, Dat, Div, Djn, Jmn, Jmp, Jmz, Mod, Mov, Mul, Nop, Seq, Slt, Sne, Spl, Sub,
 };
 use rc_instr::laws::{equal_load_texts_are_equal_warriors, load_text_reads_as_its_warrior};
-use rc_instr::{
-    Instruction, Mode, Modifier, Opcode, Rules, Warrior, read_loadfile, write_loadfile,
-};
+use rc_instr::{Instruction, Mode, Modifier, Opcode, Rules, read_loadfile, write_loadfile};
 use std::test::Fail;
 
 fn cell(
@@ -73,22 +71,19 @@ fn code_of_text() -> [Instruction; 16] {
 }
 
 #[test]
-fn a_text_of_all_words_is_read(rt: HostRuntime) -> Result<(), Fail> {
-    let warrior = read_loadfile(rt.alloc(), TEXT.as_bytes(), &Rules::standard())?;
+fn a_text_of_all_words_is_read_and_appended(rt: HostRuntime) -> Result<(), Fail> {
+    let rules = Rules::standard();
+    let warrior = read_loadfile(rt.alloc(), TEXT.as_bytes(), &rules)?;
     assert_eq!(rt; warrior.start(), 15);
     assert_eq!(rt; warrior.code(), code_of_text().as_slice());
-    Ok(())
-}
-
-#[test]
-fn a_text_of_all_words_is_appended(rt: HostRuntime) -> Result<(), Fail> {
-    let rules = Rules::standard();
-    let code = Vec::from_slice(rt.alloc(), &code_of_text())?;
-    let warrior = Warrior::try_new(code, 15, &rules)?;
     let mut out = Vec::from_slice(rt.alloc(), b"before\n")?;
     write_loadfile(rt.alloc(), &warrior, &rules, &mut out)?;
     let want = format!(in rt.alloc(); "before\n{TEXT}")?;
     assert_eq!(rt; out.as_slice(), want.as_bytes());
+    let again = load_text_reads_as_its_warrior(rt.alloc(), &warrior, &rules)?;
+    assert_eq!(rt; again.start(), 15);
+    assert_eq!(rt; again.code(), code_of_text().as_slice());
+    equal_load_texts_are_equal_warriors();
     Ok(())
 }
 
@@ -117,17 +112,5 @@ fn a_number_above_half_of_the_core_has_a_minus(rt: HostRuntime) -> Result<(), Fa
         write_loadfile(rt.alloc(), &warrior, &rules, &mut out)?;
         assert_eq!(rt; out.as_slice(), text.as_bytes());
     }
-    Ok(())
-}
-
-#[test]
-fn the_laws_run(rt: HostRuntime) -> Result<(), Fail> {
-    let rules = Rules::standard();
-    let code = Vec::from_slice(rt.alloc(), &code_of_text())?;
-    let warrior = Warrior::try_new(code, 1, &rules)?;
-    let again = load_text_reads_as_its_warrior(rt.alloc(), &warrior, &rules)?;
-    assert_eq!(rt; again.start(), 1);
-    assert_eq!(rt; again.code(), code_of_text().as_slice());
-    equal_load_texts_are_equal_warriors();
     Ok(())
 }
