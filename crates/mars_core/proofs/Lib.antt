@@ -1,5 +1,10 @@
 pub mod Below
+pub mod Packing
+pub mod Stores
+pub mod Written
 pub mod Sums
+pub mod Fields
+pub mod Operands
 pub mod Queues
 pub mod Least
 pub mod Loading

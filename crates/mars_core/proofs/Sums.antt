@@ -13,3 +13,5 @@ pub sum_along : (m x y z : ℕ) → sum_of m (sum_of m x y) z ≡ sum_of m x (su
 unfolding sum_of
 sum_along m x y z =
     mod-add-mod (x + y) m z ∙ ap (λ n. n % m) (add_assoc x y z) ∙ sym (add-mod-mod x (y + z) m)
+
+pub ruleset sums = (sum_zero, sum_along)

@@ -18,9 +18,11 @@ abbrev pub arena : RulesView → List Instruction → List ℕ → List ℕ → 
 arena rules core candidate opponent turns marks =
     record { rules = rules; state = record { core = core; candidate = candidate; opponent = opponent }; turns = turns; marks = marks }
 
--- A blank arena has empty cells, no tasks, no turns made, and the marks of a new store.
-abbrev pub blank_arena : RulesView → ℕ → ArenaView
-blank_arena rules marks = record { rules = rules; state = blank_of rules.core; turns = 0; marks = marks }
+-- A blank arena for these rules: empty cells, no tasks, no turns made, and any marks.
+pub record IsBlank (rules : RulesView) (a : ArenaView) : Type 0 where
+  pub rules_kept : a.rules ≡ rules
+  pub state : a.state ≡ blank_of rules.core
+  pub turns : a.turns ≡ 0
 
 pub record IsArena (rules : RulesView) (core : List Instruction) (candidate opponent : Buffer ℕ) (turns : ℕ) : Type 0 where
   pub rules_hold : IsRules rules

@@ -8,5 +8,7 @@ pub mod Pairs
 pub mod Step
 pub mod State
 pub mod Fight
+pub mod Packed
+pub mod Store
 pub mod Evaluated
 pub mod Arena

@@ -6,6 +6,7 @@ ghost use Rattle.mars_core.specs.State.{blank_of, start_of, turn_of, play_of, ta
 
 use crate::cells::{Cells, PlainCells, load_code};
 use crate::fight_loop::alternate;
+use crate::journal::PackedCells;
 use crate::side::Side;
 use crate::turn::{append, take_turn};
 use circular_buffer::HeapCircularBuffer;
@@ -45,6 +46,7 @@ impl<C: Cells> Model for Arena<C> {
 }
 
 impl<C: Cells> Arena<C> {
+    ghost use Rattle.mars_core.specs.Arena.{IsBlank};
     ghost use Rattle.mars_core.specs.Fight.{outcome_of, points_in};
 
     /// Loads the candidate from address 0 and the opponent from address `at`, and gives each one
@@ -55,7 +57,7 @@ impl<C: Cells> Arena<C> {
     /// two code lengths.
     #[tactic(auto, unfolding(crate::specs::State::start_of))]
     pub fn load(&mut self, candidate: &Warrior, opponent: &Warrior, at: u32)
-        requires blank { (self.old.state ≡ blank_of self.old.rules.core) × (self.old.turns ≡ 0) }
+        requires blank { IsBlank self.old.rules self.old }
         requires candidate { Fits self.old.rules candidate.now }
         requires opponent { Fits self.old.rules opponent.now }
         requires at { (self.old.rules.distance ≤ at) × (at + self.old.rules.distance ≤ self.old.rules.core) }
@@ -143,9 +145,7 @@ impl<C: Cells> Arena<C> {
     /// Makes the arena blank again. Returns the number of cells that this set, which is the marks.
     pub fn reset(&mut self) -> u32
         ensures count { result ≡ self.old.marks }
-        ensures state { self.new.state ≡ blank_of self.old.rules.core }
-        ensures turns { self.new.turns ≡ 0 }
-        ensures rules { self.new.rules ≡ self.old.rules }
+        ensures blank { IsBlank self.old.rules self.new }
         ensures marks { self.new.marks ≡ C.new_marks self.old.rules.core }
     {
         self.candidate.clear();
@@ -193,17 +193,17 @@ impl<C: Cells> Arena<C> {
     }
 }
 
-impl Arena<PlainCells> {
-    ghost use Rattle.mars_core.specs.Arena.{blank_arena};
+impl<C: Cells + Drop> Arena<C> {
+    ghost use Rattle.std.specs.Prelude.{replicate};
+    ghost use Rattle.rc_instr.specs.Instruction.{empty_cell};
+    ghost use Rattle.mars_core.specs.Arena.{IsBlank};
 
-    /// Makes a blank arena over plain cells.
-    ///
-    /// Reserves all the memory that fights in it need: the cells, and for each side a queue of as
-    /// many tasks as the rules allow. Returns `OutOfMemory` if that fails.
-    pub fn try_new(alloc: Global, rules: &Rules) -> Result<Arena<PlainCells>, OutOfMemory>
-        ensures { IfOk result (λ a. a ≡ blank_arena rules.now rules.now.core) }
+    // Makes a blank arena over empty cells.
+    fn over(alloc: Global, cells: C, rules: &Rules) -> Result<Arena<C>, OutOfMemory>
+        requires { C.items cells ≡ replicate rules.now.core empty_cell }
+        ensures blank { IfOk result (IsBlank rules.now) }
+        ensures marks { IfOk result (λ a. a.marks ≡ C.marks cells) }
     {
-        let cells = PlainCells::try_new(alloc, rules.core())?;
         let candidate = HeapCircularBuffer::with_capacity(alloc, rules.tasks() as usize)?;
         let opponent = HeapCircularBuffer::with_capacity(alloc, rules.tasks() as usize)?;
         Ok(Arena {
@@ -213,5 +213,37 @@ impl Arena<PlainCells> {
             turns: 0,
             rules: *rules,
         })
+    }
+}
+
+impl Arena<PlainCells> {
+    ghost use Rattle.mars_core.specs.Arena.{IsBlank};
+
+    /// Makes a blank arena over plain cells. Its marks are the core size.
+    ///
+    /// Reserves all the memory that fights in it need: the cells, and for each side a queue of as
+    /// many tasks as the rules allow. Returns `OutOfMemory` if that fails.
+    pub fn try_new(alloc: Global, rules: &Rules) -> Result<Arena<PlainCells>, OutOfMemory>
+        ensures blank { IfOk result (IsBlank rules.now) }
+        ensures marks { IfOk result (λ a. a.marks ≡ rules.now.core) }
+    {
+        let cells = PlainCells::try_new(alloc, rules.core())?;
+        Arena::over(alloc, cells, rules)
+    }
+}
+
+impl Arena<PackedCells> {
+    ghost use Rattle.mars_core.specs.Arena.{IsBlank};
+
+    /// Makes a blank arena over packed cells. It has no marks.
+    ///
+    /// Reserves all the memory that fights in it need: the cells, their journal, and for each side
+    /// a queue of as many tasks as the rules allow. Returns `OutOfMemory` if that fails.
+    pub fn try_new(alloc: Global, rules: &Rules) -> Result<Arena<PackedCells>, OutOfMemory>
+        ensures blank { IfOk result (IsBlank rules.now) }
+        ensures marks { IfOk result (λ a. a.marks ≡ 0) }
+    {
+        let cells = PackedCells::try_new(alloc, rules.core())?;
+        Arena::over(alloc, cells, rules)
     }
 }

@@ -5,6 +5,7 @@ ghost use Rattle.rc_instr.specs.declared.instruction.Instruction.{Instruction};
 ghost use Rattle.rc_instr.specs.Warrior.{IsBelow};
 ghost use Rattle.mars_core.specs.Core.{cell_at, loaded_at, IsCore};
 
+use crate::cell::Cell;
 use rc_instr::{Instruction, OutOfMemory};
 use std::alloc::Global;
 
@@ -12,6 +13,9 @@ use std::alloc::Global;
 ///
 /// Contracts see a list of instructions and a number, the marks. Addresses count from 0.
 pub trait Cells {
+    /// A cell as the store keeps it.
+    type Kept: Cell;
+
     /// The cells, in the order of their addresses.
     ghost items: { Self → List Instruction };
     /// The number of cells that `restore` would set.
@@ -23,16 +27,33 @@ pub trait Cells {
     fn size(&self) -> u32
         ensures { result ≡ length (items self.now) };
 
+    /// Returns the cell at address `at`, which is below the size, as the store keeps it.
+    fn cell(&self, at: u32) -> Self::Kept
+        requires { at < length (items self.now) }
+        ensures { Self.Kept.held result ≡ cell_at (items self.now) at };
+
+    /// Replaces the cell at address `at`, which is below the size. Adds at most 1 to the marks.
+    fn put(&mut self, at: u32, cell: Self::Kept)
+        requires { at < length (items self.old) }
+        ensures items { items self.new ≡ slice_set (items self.old) at (Self.Kept.held cell) }
+        ensures marks { marks self.new ≤ marks self.old + 1 };
+
     /// Returns the cell at address `at`, which is below the size.
     fn get(&self, at: u32) -> Instruction
         requires { at < length (items self.now) }
-        ensures { result ≡ cell_at (items self.now) at };
+        ensures { result ≡ cell_at (items self.now) at }
+    {
+        self.cell(at).instruction()
+    }
 
     /// Replaces the cell at address `at`, which is below the size. Adds at most 1 to the marks.
     fn set(&mut self, at: u32, instruction: Instruction)
         requires { at < length (items self.old) }
         ensures items { items self.new ≡ slice_set (items self.old) at instruction }
-        ensures marks { marks self.new ≤ marks self.old + 1 };
+        ensures marks { marks self.new ≤ marks self.old + 1 }
+    {
+        self.put(at, Self::Kept::of(instruction));
+    }
 
     /// Empties every cell and returns the number of cells that this set, which is the marks.
     ///
@@ -62,6 +83,8 @@ impl PlainCells {
 }
 
 impl Cells for PlainCells {
+    type Kept = Instruction;
+
     ghost items = { λ s. s.cells.items };
 
     ghost marks = { λ s. length s.cells.items };
@@ -75,13 +98,13 @@ impl Cells for PlainCells {
 
     #[inline(always)]
     #[tactic(auto, unfolding(crate::specs::Core::cell_at))]
-    fn get(&self, at: u32) -> Instruction {
+    fn cell(&self, at: u32) -> Instruction {
         self.cells[at as usize]
     }
 
     #[inline(always)]
-    fn set(&mut self, at: u32, instruction: Instruction) {
-        self.cells[at as usize] = instruction;
+    fn put(&mut self, at: u32, cell: Instruction) {
+        self.cells[at as usize] = cell;
     }
 
     fn restore(&mut self) -> u32 {
@@ -93,27 +116,27 @@ impl Cells for PlainCells {
 // Reads a cell of a core: its numbers are below the core size.
 #[tactic(auto, using(crate::proofs::Below::cell_below))]
 #[inline(always)]
-pub(crate) fn read<C: Cells>(cells: &C, size: u32, at: u32) -> Instruction
+pub(crate) fn read<C: Cells>(cells: &C, size: u32, at: u32) -> C::Kept
     requires core { IsCore size (C.items cells.now) }
     requires at { at < size }
-    ensures value { result ≡ cell_at (C.items cells.now) at }
-    ensures below { IsBelow size result }
+    ensures value { C.Kept.held result ≡ cell_at (C.items cells.now) at }
+    ensures below { IsBelow size (C.Kept.held result) }
 {
-    cells.get(at)
+    cells.cell(at)
 }
 
 // Replaces a cell of a core.
 #[tactic(auto, using(crate::proofs::Below::core_set))]
 #[inline(always)]
-pub(crate) fn write<C: Cells>(cells: &mut C, size: u32, at: u32, instruction: Instruction)
+pub(crate) fn write<C: Cells>(cells: &mut C, size: u32, at: u32, cell: C::Kept)
     requires core { IsCore size (C.items cells.old) }
     requires at { at < size }
-    requires below { IsBelow size instruction }
-    ensures items { C.items cells.new ≡ slice_set (C.items cells.old) at instruction }
+    requires below { IsBelow size (C.Kept.held cell) }
+    ensures items { C.items cells.new ≡ slice_set (C.items cells.old) at (C.Kept.held cell) }
     ensures core { IsCore size (C.items cells.new) }
     ensures marks { C.marks cells.new ≤ C.marks cells.old + 1 }
 {
-    cells.set(at, instruction);
+    cells.put(at, cell);
 }
 
 // Writes code into the cells from address `at` on, without wrapping round the end.
@@ -128,7 +151,7 @@ pub(crate) fn load_code<C: Cells>(cells: &mut C, size: u32, at: u32, code: &[Ins
 {
     let mut to = at;
     for instruction in code {
-        write(cells, size, to, *instruction);
+        write(cells, size, to, C::Kept::of(*instruction));
         to += 1;
     }
 }

@@ -10,7 +10,7 @@ use crate::cells::{Cells, read, write};
 use crate::effect::Queued::{Jump, Next, Nothing, Skip, Split};
 use crate::operand::Evaluated;
 use crate::pairs::{all_equal, all_less, all_tested_are, compute, count_down, divides_by_zero};
-use rc_instr::{Instruction, Modifier, Opcode};
+use rc_instr::{Modifier, Opcode};
 
 // Says which addresses a task queues, in order.
 #[derive(Clone, Copy)]
@@ -36,14 +36,14 @@ pub(crate) fn act<C: Cells>(
     pc: u32,
     opcode: Opcode,
     modifier: Modifier,
-    a: Evaluated,
-    b: Evaluated,
+    a: Evaluated<C::Kept>,
+    b: Evaluated<C::Kept>,
 ) -> Queued
     requires core { IsCore size (C.items cells.old) }
-    requires a { IsBelow size a.copy × (a.address < size) }
-    requires b { IsBelow size b.copy × (b.address < size) }
+    requires a { IsBelow size (C.Kept.held a.copy) × (a.address < size) }
+    requires b { IsBelow size (C.Kept.held b.copy) × (b.address < size) }
     ensures value { leaves (C.items cells.new) (addresses size pc a.address result)
-        ≡ effect_of opcode modifier size (C.items cells.old) pc a.address a.copy b.copy b.address }
+        ≡ effect_of opcode modifier size (C.items cells.old) pc a.address (C.Kept.held a.copy) (C.Kept.held b.copy) b.address }
     ensures core { IsCore size (C.items cells.new) }
     ensures marks { C.marks cells.new ≤ C.marks cells.old + 1 }
 {
@@ -60,14 +60,20 @@ pub(crate) fn act<C: Cells>(
             choose(divides && divides_by_zero(modifier, a.copy), Nothing, Next)
         }
         Opcode::Jmp => Jump,
-        Opcode::Jmz => choose(all_tested_are(modifier, 0, b.copy), Jump, Next),
-        Opcode::Jmn => choose(all_tested_are(modifier, 0, b.copy), Next, Jump),
+        // Where one of the two jumps, the other goes on.
+        Opcode::Jmz | Opcode::Jmn => {
+            let jumps = all_tested_are(modifier, 0, b.copy) == (opcode == Opcode::Jmz);
+            choose(jumps, Jump, Next)
+        }
         Opcode::Djn => {
             apply_count_down(cells, size, modifier, b.address);
             choose(all_tested_are(modifier, 1, b.copy), Next, Jump)
         }
-        Opcode::Seq => choose(all_equal(modifier, a.copy, b.copy), Skip, Next),
-        Opcode::Sne => choose(all_equal(modifier, a.copy, b.copy), Next, Skip),
+        // Where one of the two skips, the other goes on.
+        Opcode::Seq | Opcode::Sne => {
+            let skips = all_equal(modifier, a.copy, b.copy) == (opcode == Opcode::Seq);
+            choose(skips, Skip, Next)
+        }
         Opcode::Slt => choose(all_less(modifier, a.copy, b.copy), Skip, Next),
         Opcode::Spl => Split,
     }
@@ -87,14 +93,14 @@ fn apply<C: Cells>(
     size: u32,
     opcode: Opcode,
     modifier: Modifier,
-    a: Instruction,
-    b: Evaluated,
+    a: C::Kept,
+    b: Evaluated<C::Kept>,
 )
     requires core { IsCore size (C.items cells.old) }
-    requires a { IsBelow size a }
-    requires b { IsBelow size b.copy × (b.address < size) }
+    requires a { IsBelow size (C.Kept.held a) }
+    requires b { IsBelow size (C.Kept.held b.copy) × (b.address < size) }
     ensures items { C.items cells.new ≡ slice_set (C.items cells.old) b.address
-        (computed opcode modifier size a b.copy (cell_at (C.items cells.old) b.address)) }
+        (computed opcode modifier size (C.Kept.held a) (C.Kept.held b.copy) (cell_at (C.items cells.old) b.address)) }
     ensures core { IsCore size (C.items cells.new) }
     ensures marks { C.marks cells.new ≤ C.marks cells.old + 1 }
 {

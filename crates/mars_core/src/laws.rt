@@ -1,9 +1,17 @@
-//! A law of fights. Its function has an empty body: the contract is the law.
-ghost use Rattle.std.specs.Prelude.{◌≡◌, ◌↔◌, ℕ};
+//! Laws of the machine. A law over the definitions has an empty body, a law over calls makes those
+//! calls. The contract is the law.
+ghost use Rattle.std.specs.Prelude.{◌≡◌, ◌↔◌, ℕ, ◌+◌, ◌*◌, ◌≤◌, length};
+ghost use Rattle.rc_instr.specs.Warrior.{Fits};
+ghost use Rattle.mars_core.specs.Arena.{IsBlank};
 ghost use Rattle.mars_core.specs.State.{State};
 ghost use Rattle.mars_core.specs.Fight.{outcome_of, IsOutcome};
 ghost use Rattle.mars_core.specs.declared.side.Side.{Side};
 ghost use Rattle.mars_core.specs.declared.arena.Outcome.{Outcome};
+
+use crate::arena::{Arena, Outcome};
+use crate::journal::PackedCells;
+use crate::side::Side;
+use rc_instr::Warrior;
 
 /// States that a fight has exactly one outcome: the computed one is the only one that the rule
 /// allows.
@@ -11,3 +19,30 @@ pub fn a_fight_has_one_outcome()
     ensures { (limit : ℕ) (start : State) (first : Side) (cycles : ℕ) (o : Outcome)
         → (IsOutcome limit start first cycles o) ↔ (o ≡ outcome_of limit start first cycles) }
 {}
+
+/// Plays a fight on packed cells, then resets the arena. Returns the outcome and how many cells the
+/// reset set: at most the lengths of both codes, and three for each turn.
+///
+/// The arena must be blank and without marks, as it is when new or reset, and is so again
+/// afterwards. Both warriors must keep its rules, and `at` must keep the distance, both ways round
+/// the core.
+pub fn a_reset_sets_few_cells(
+    arena: &mut Arena<PackedCells>,
+    candidate: &Warrior,
+    opponent: &Warrior,
+    at: u32,
+    first: Side,
+) -> (Outcome, u32)
+    requires blank { IsBlank arena.old.rules arena.old }
+    requires marks { arena.old.marks ≡ 0 }
+    requires candidate { Fits arena.old.rules candidate.now }
+    requires opponent { Fits arena.old.rules opponent.now }
+    requires at { (arena.old.rules.distance ≤ at) × (at + arena.old.rules.distance ≤ arena.old.rules.core) }
+    ensures count { result.1 ≤ length candidate.now.code + length opponent.now.code + 3 * result.0.turns }
+    ensures blank { IsBlank arena.old.rules arena.new }
+    ensures marks { arena.new.marks ≡ 0 }
+{
+    arena.load(candidate, opponent, at);
+    let outcome = arena.run(first);
+    (outcome, arena.reset())
+}

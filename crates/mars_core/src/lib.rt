@@ -4,16 +4,20 @@
 #![tactic(auto)]
 
 mod arena;
+mod cell;
 mod cells;
 mod effect;
 mod fight_loop;
+mod journal;
 pub mod laws;
 mod number;
 mod operand;
+mod packed;
 mod pairs;
 mod side;
 mod turn;
 
 pub use arena::{Arena, Outcome};
 pub use cells::{Cells, PlainCells};
+pub use journal::PackedCells;
 pub use side::Side;

@@ -1,53 +1,80 @@
-//! The numbers of a core, 0 to `size - 1`, and arithmetic on them modulo the core size.
+//! The numbers of a core, 0 to `size - 1`: those in a cell, and arithmetic modulo the core size.
 ghost use Rattle.std.specs.Prelude.{◌≡◌, ◌<◌, ◌≤◌};
 ghost use Rattle.rc_instr.specs.Warrior.{IsBelow};
-ghost use Rattle.mars_core.specs.Numbers.{sum_of, difference_of, product_of, field_of, with_field};
+ghost use Rattle.mars_core.specs.Numbers.{sum_of, difference_of, product_of, Field, ANumber, BNumber, field_of, with_field};
 
-use rc_instr::Instruction;
+use crate::cell::Cell;
 
-// Names one of the two numbers of an instruction.
-#[derive(Clone, Copy)]
-pub(crate) enum Field {
-    ANumber,
-    BNumber,
+// Which of a cell's two numbers is meant, as a type, so that it is known at compile time.
+pub(crate) trait Number {
+    ghost field: { Field };
+
+    fn of<W: Cell>(cell: W) -> u32
+        ensures { result ≡ field_of field (W.held cell) };
+
+    fn put<W: Cell>(cell: W, number: u32) -> W
+        requires { number < 65536 }
+        ensures { W.held result ≡ with_field field number (W.held cell) };
 }
 
-// Returns the A-number or the B-number of an instruction.
+pub(crate) struct FieldA;
+
+impl Number for FieldA {
+    ghost field = { ANumber };
+
+    #[inline(always)]
+    fn of<W: Cell>(cell: W) -> u32 {
+        cell.a_number()
+    }
+
+    #[inline(always)]
+    fn put<W: Cell>(cell: W, number: u32) -> W {
+        cell.with_a_number(number)
+    }
+}
+
+pub(crate) struct FieldB;
+
+impl Number for FieldB {
+    ghost field = { BNumber };
+
+    #[inline(always)]
+    fn of<W: Cell>(cell: W) -> u32 {
+        cell.b_number()
+    }
+
+    #[inline(always)]
+    fn put<W: Cell>(cell: W, number: u32) -> W {
+        cell.with_b_number(number)
+    }
+}
+
+// Returns a number of a cell.
+#[tactic(auto, using(crate::proofs::Fields::field_below))]
 #[inline(always)]
-pub(crate) fn field_of(size: u32, field: Field, instruction: Instruction) -> u32
-    requires { IsBelow size instruction }
-    ensures value { result ≡ field_of field instruction }
+pub(crate) fn number_of<N: Number, W: Cell>(size: u32, cell: W) -> u32
+    requires { IsBelow size (W.held cell) }
+    ensures value { result ≡ field_of N.field (W.held cell) }
     ensures below { result < size }
 {
-    match field {
-        Field::ANumber => u32::from(instruction.a_number),
-        Field::BNumber => u32::from(instruction.b_number),
-    }
+    N::of(cell)
 }
 
-// Returns the instruction with one number replaced by `number`.
+// Returns the cell with one number replaced by `number`.
+#[tactic(auto, using(crate::proofs::Fields::with_field_below))]
 #[inline(always)]
-pub(crate) fn with_field(
-    size: u32,
-    field: Field,
-    number: u32,
-    instruction: Instruction,
-) -> Instruction
+pub(crate) fn with_number<N: Number, W: Cell>(size: u32, cell: W, number: u32) -> W
     requires size { size ≤ 65535 }
-    requires instruction { IsBelow size instruction }
+    requires cell { IsBelow size (W.held cell) }
     requires number { number < size }
-    ensures value { result ≡ with_field field number instruction }
-    ensures below { IsBelow size result }
+    ensures value { W.held result ≡ with_field N.field number (W.held cell) }
+    ensures below { IsBelow size (W.held result) }
 {
-    let mut changed = instruction;
-    match field {
-        Field::ANumber => changed.a_number = number as u16,
-        Field::BNumber => changed.b_number = number as u16,
-    }
-    changed
+    N::put(cell, number)
 }
 
-// Adds modulo `size`. Both terms are below it, so one comparison replaces the division.
+// Adds modulo `size`. Both terms are below it, so one subtraction replaces the division. Tests its
+// sign, since the compiler makes a conditional move of that, but a branch of `z < size`.
 #[tactic(auto, unfolding(crate::specs::Numbers::sum_of))]
 #[inline(always)]
 pub(crate) fn sum(size: u32, x: u32, y: u32) -> u32
@@ -58,7 +85,8 @@ pub(crate) fn sum(size: u32, x: u32, y: u32) -> u32
     ensures below { result < size }
 {
     let z = x + y;
-    if z < size { z } else { z - size }
+    let t = z.wrapping_sub(size);
+    if t >= 2147483648 { z } else { t }
 }
 
 // Subtracts modulo `size`, without a division.

@@ -1,148 +1,124 @@
 //! Operands: where they point, and what their modes change.
 ghost use Rattle.std.specs.Prelude.{◌≡◌, ◌<◌, ◌≤◌, ◌+◌};
 ghost use Rattle.rc_instr.specs.Warrior.{IsBelow};
-ghost use Rattle.mars_core.specs.Numbers.{sum_of, difference_of};
-ghost use Rattle.mars_core.specs.Core.{changed_at, IsCore};
-ghost use Rattle.mars_core.specs.Operand.{pointing, indirect, operand_of};
+ghost use Rattle.mars_core.specs.Core.{cell_at, changed_at, IsCore};
+ghost use Rattle.mars_core.specs.Numbers.{sum_of, difference_of, field_of};
+ghost use Rattle.mars_core.specs.Operand.{operand_of};
 ghost use Rattle.mars_core.specs.Evaluated.{located, located_from};
 
+use crate::cell::Cell;
 use crate::cells::{Cells, read, write};
-use crate::number::{Field, difference, field_of, sum, with_field};
-use rc_instr::{Instruction, Mode};
+use crate::number::{FieldA, FieldB, Number, difference, number_of, sum, with_number};
+use rc_instr::Mode;
 
-// The address to which an operand points, and the copy of that cell which the opcode works on.
+// An address, and a copy of the cell there: where an operand points, or what it goes through.
 #[derive(Clone, Copy)]
-pub(crate) struct Evaluated {
+pub(crate) struct Evaluated<W> {
     pub(crate) address: u32,
-    pub(crate) copy: Instruction,
+    pub(crate) copy: W,
 }
 
 // Evaluates an operand of the task at `pc`. Lowers the number that it goes through before its use
 // with a predecrement mode, and raises it after the copy is taken with a postincrement mode.
-#[tactic(auto, unfolding(crate::specs::Operand::operand_of))]
+#[tactic(auto, using(crate::proofs::Sums::sums), unfolding(crate::specs::Operand::operand_of))]
 #[inline(always)]
-pub(crate) fn evaluate<C: Cells>(cells: &mut C, size: u32, pc: u32, mode: Mode, n: u32) -> Evaluated
+pub(crate) fn evaluate<C: Cells>(
+    cells: &mut C,
+    size: u32,
+    pc: u32,
+    mode: Mode,
+    n: u32,
+) -> Evaluated<C::Kept>
     requires core { IsCore size (C.items cells.old) }
     requires pc { pc < size }
     requires n { n < size }
-    ensures value { located result.address result.copy (C.items cells.new) ≡ located_from size pc (operand_of size (C.items cells.old) pc mode n) }
+    ensures value { located result.address (C.Kept.held result.copy) (C.items cells.new) ≡ located_from size pc (operand_of size (C.items cells.old) pc mode n) }
     ensures address { result.address < size }
-    ensures copy { IsBelow size result.copy }
+    ensures copy { IsBelow size (C.Kept.held result.copy) }
     ensures core { IsCore size (C.items cells.new) }
     ensures marks { C.marks cells.new ≤ C.marks cells.old + 1 }
 {
     match mode {
-        Mode::Immediate => immediate(cells, size, pc),
-        Mode::Direct => direct(cells, size, pc, n),
-        Mode::AIndirect => indirect(cells, size, pc, n, Field::ANumber),
-        Mode::BIndirect => indirect(cells, size, pc, n, Field::BNumber),
+        Mode::Immediate => at(cells, size, pc),
+        Mode::Direct => at(cells, size, sum(size, pc, n)),
+        Mode::AIndirect => {
+            let way = at(cells, size, sum(size, pc, n));
+            at(cells, size, sum(size, way.address, way.copy.a_number()))
+        }
+        Mode::BIndirect => {
+            let way = at(cells, size, sum(size, pc, n));
+            at(cells, size, sum(size, way.address, way.copy.b_number()))
+        }
         Mode::APredecrement => {
-            lower(cells, size, sum(size, pc, n), Field::ANumber);
-            indirect(cells, size, pc, n, Field::ANumber)
+            let way = sum(size, pc, n);
+            let lowered = lower::<C, FieldA>(cells, size, way);
+            at(cells, size, sum(size, way, lowered))
         }
         Mode::BPredecrement => {
-            lower(cells, size, sum(size, pc, n), Field::BNumber);
-            indirect(cells, size, pc, n, Field::BNumber)
+            let way = sum(size, pc, n);
+            let lowered = lower::<C, FieldB>(cells, size, way);
+            at(cells, size, sum(size, way, lowered))
         }
         Mode::APostincrement => {
-            let evaluated = indirect(cells, size, pc, n, Field::ANumber);
-            raise(cells, size, sum(size, pc, n), Field::ANumber);
+            let way = at(cells, size, sum(size, pc, n));
+            let evaluated = at(cells, size, sum(size, way.address, way.copy.a_number()));
+            raise::<C, FieldA>(cells, size, way);
             evaluated
         }
         Mode::BPostincrement => {
-            let evaluated = indirect(cells, size, pc, n, Field::BNumber);
-            raise(cells, size, sum(size, pc, n), Field::BNumber);
+            let way = at(cells, size, sum(size, pc, n));
+            let evaluated = at(cells, size, sum(size, way.address, way.copy.b_number()));
+            raise::<C, FieldB>(cells, size, way);
             evaluated
         }
     }
 }
 
-// Lowers one number of a cell by 1.
-#[tactic(auto, unfolding(crate::specs::Core::changed_at))]
+// Lowers one number of the cell at `at` by 1. Returns the lowered number.
+#[tactic(auto, using(crate::proofs::Operands::cell_set), unfolding(crate::specs::Core::changed_at))]
 #[inline(always)]
-fn lower<C: Cells>(cells: &mut C, size: u32, at: u32, field: Field)
+fn lower<C: Cells, N: Number>(cells: &mut C, size: u32, at: u32) -> u32
     requires core { IsCore size (C.items cells.old) }
     requires at { at < size }
-    ensures items { C.items cells.new ≡ changed_at (C.items cells.old) at field (λ x. difference_of size x 1) }
+    ensures items { C.items cells.new ≡ changed_at (C.items cells.old) at N.field (λ x. difference_of size x 1) }
+    ensures number { result ≡ field_of N.field (cell_at (C.items cells.new) at) }
+    ensures below { result < size }
     ensures core { IsCore size (C.items cells.new) }
     ensures marks { C.marks cells.new ≤ C.marks cells.old + 1 }
 {
-    let instruction = read(cells, size, at);
-    let lowered = difference(size, field_of(size, field, instruction), 1);
-    write(
-        cells,
-        size,
-        at,
-        with_field(size, field, lowered, instruction),
-    );
+    let cell = read(cells, size, at);
+    let lowered = difference(size, number_of::<N, C::Kept>(size, cell), 1);
+    let changed = with_number::<N, C::Kept>(size, cell, lowered);
+    write(cells, size, at, changed);
+    lowered
 }
 
-// Raises one number of a cell by 1.
+// Raises one number of the cell at `way.address` by 1. `way.copy` is that cell.
 #[tactic(auto, unfolding(crate::specs::Core::changed_at))]
 #[inline(always)]
-fn raise<C: Cells>(cells: &mut C, size: u32, at: u32, field: Field)
+fn raise<C: Cells, N: Number>(cells: &mut C, size: u32, way: Evaluated<C::Kept>)
     requires core { IsCore size (C.items cells.old) }
-    requires at { at < size }
-    ensures items { C.items cells.new ≡ changed_at (C.items cells.old) at field (λ x. sum_of size x 1) }
+    requires address { way.address < size }
+    requires copy { C.Kept.held way.copy ≡ cell_at (C.items cells.old) way.address }
+    requires below { IsBelow size (C.Kept.held way.copy) }
+    ensures items { C.items cells.new ≡ changed_at (C.items cells.old) way.address N.field (λ x. sum_of size x 1) }
     ensures core { IsCore size (C.items cells.new) }
     ensures marks { C.marks cells.new ≤ C.marks cells.old + 1 }
 {
-    let instruction = read(cells, size, at);
-    let raised = sum(size, field_of(size, field, instruction), 1);
-    write(
-        cells,
-        size,
-        at,
-        with_field(size, field, raised, instruction),
-    );
+    let raised = sum(size, number_of::<N, C::Kept>(size, way.copy), 1);
+    let cell = with_number::<N, C::Kept>(size, way.copy, raised);
+    write(cells, size, way.address, cell);
 }
 
-// Evaluates an immediate operand: it points to the cell of the task itself, at `pc`.
-#[tactic(auto, using(crate::proofs::Sums::sum_zero))]
+// Returns an address, and a copy of the cell there.
 #[inline(always)]
-fn immediate<C: Cells>(cells: &C, size: u32, pc: u32) -> Evaluated
+fn at<C: Cells>(cells: &C, size: u32, address: u32) -> Evaluated<C::Kept>
     requires core { IsCore size (C.items cells.now) }
-    requires pc { pc < size }
-    ensures value { located result.address result.copy (C.items cells.now) ≡ located_from size pc (pointing size (C.items cells.now) pc 0) }
-    ensures address { result.address < size }
-    ensures copy { IsBelow size result.copy }
+    requires address { address < size }
+    ensures address { result.address ≡ address }
+    ensures copy { C.Kept.held result.copy ≡ cell_at (C.items cells.now) address }
+    ensures below { IsBelow size (C.Kept.held result.copy) }
 {
-    Evaluated {
-        address: pc,
-        copy: read(cells, size, pc),
-    }
-}
-
-// Evaluates a direct operand: it points `n` cells on from `pc`.
-#[inline(always)]
-fn direct<C: Cells>(cells: &C, size: u32, pc: u32, n: u32) -> Evaluated
-    requires core { IsCore size (C.items cells.now) }
-    requires pc { pc < size }
-    requires n { n < size }
-    ensures value { located result.address result.copy (C.items cells.now) ≡ located_from size pc (pointing size (C.items cells.now) pc n) }
-    ensures address { result.address < size }
-    ensures copy { IsBelow size result.copy }
-{
-    let address = sum(size, pc, n);
-    Evaluated {
-        address,
-        copy: read(cells, size, address),
-    }
-}
-
-// Evaluates an indirect operand: the cell `n` cells on from `pc` holds the way on, in `field`.
-#[tactic(auto, using(crate::proofs::Sums::sum_along))]
-#[inline(always)]
-fn indirect<C: Cells>(cells: &C, size: u32, pc: u32, n: u32, field: Field) -> Evaluated
-    requires core { IsCore size (C.items cells.now) }
-    requires pc { pc < size }
-    requires n { n < size }
-    ensures value { located result.address result.copy (C.items cells.now) ≡ located_from size pc (indirect size (C.items cells.now) pc n field) }
-    ensures address { result.address < size }
-    ensures copy { IsBelow size result.copy }
-{
-    let way = sum(size, pc, n);
-    let address = sum(size, way, field_of(size, field, read(cells, size, way)));
     Evaluated {
         address,
         copy: read(cells, size, address),

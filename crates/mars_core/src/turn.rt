@@ -6,6 +6,7 @@ ghost use Rattle.mars_core.specs.Step.{step_of, leaves};
 ghost use Rattle.mars_core.specs.State.{appended, core_after, tasks_after};
 ghost use Rattle.mars_core.specs.Evaluated.{addresses};
 
+use crate::cell::Cell;
 use crate::cells::{Cells, read};
 use crate::effect::{Queued, act};
 use crate::number::sum;
@@ -59,30 +60,10 @@ fn execute<C: Cells>(cells: &mut C, size: u32, pc: u32) -> Executed
     ensures jump { result.jump < size }
     ensures marks { C.marks cells.new ≤ C.marks cells.old + 3 }
 {
-    let instruction = read(cells, size, pc);
-    let a = evaluate(
-        cells,
-        size,
-        pc,
-        instruction.a_mode,
-        u32::from(instruction.a_number),
-    );
-    let b = evaluate(
-        cells,
-        size,
-        pc,
-        instruction.b_mode,
-        u32::from(instruction.b_number),
-    );
-    let queued = act(
-        cells,
-        size,
-        pc,
-        instruction.opcode,
-        instruction.modifier,
-        a,
-        b,
-    );
+    let cell = read(cells, size, pc);
+    let a = evaluate(cells, size, pc, cell.a_mode(), cell.a_number());
+    let b = evaluate(cells, size, pc, cell.b_mode(), cell.b_number());
+    let queued = act(cells, size, pc, cell.opcode(), cell.modifier(), a, b);
     Executed {
         queued,
         jump: a.address,

@@ -1,7 +1,7 @@
 //! One fight of a schedule.
 ghost use Rattle.std.specs.Prelude.{◌≡◌, ◌↔◌, IsTrue};
 ghost use Rattle.rc_instr.specs.Warrior.{Fits};
-ghost use Rattle.mars_core.specs.Arena.{blank_arena};
+ghost use Rattle.mars_core.specs.Arena.{IsBlank};
 ghost use Rattle.mars_fight.specs.Placing.{IsPosition, IsPlaced};
 ghost use Rattle.mars_fight.specs.Play.{points_of, ArePoints};
 
@@ -40,13 +40,14 @@ pub fn play<C: Cells>(
     opponent: &Warrior,
     fight: &Fight,
 ) -> u8
-    requires blank { arena.old ≡ blank_arena arena.old.rules (C.new_marks arena.old.rules.core) }
+    requires blank { IsBlank arena.old.rules arena.old }
     requires candidate { Fits arena.old.rules candidate.now }
     requires opponent { Fits arena.old.rules opponent.now }
     requires position { IsPosition arena.old.rules fight.now.position }
     ensures result { result ≡ points_of arena.old.rules candidate.now opponent.now fight.now }
     ensures points { ArePoints result }
-    ensures blank { arena.new ≡ blank_arena arena.old.rules (C.new_marks arena.old.rules.core) }
+    ensures blank { IsBlank arena.old.rules arena.new }
+    ensures marks { arena.new.marks ≡ C.new_marks arena.old.rules.core }
 {
     arena.load(candidate, opponent, fight.position);
     let outcome = arena.run(fight.first);

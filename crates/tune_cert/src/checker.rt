@@ -1,6 +1,6 @@
 //! Checks certificates.
 ghost use Rattle.std.specs.Prelude.{◌≡◌, ◌+◌, length, IfOk, IfSome, IfNone};
-ghost use Rattle.mars_core.specs.Arena.{blank_arena};
+ghost use Rattle.mars_core.specs.Arena.{IsBlank};
 ghost use Rattle.mars_fight.specs.Records.{records_of};
 ghost use Rattle.tune_cert.specs.Problem.{problem_of};
 ghost use Rattle.tune_cert.specs.Spelling.{Spells};
@@ -73,7 +73,7 @@ fn check_rows_alone(
     inputs: &Inputs,
     cert: &Cert,
 ) -> Result<Option<Wrong>, CheckFault>
-    requires blank { arena.old ≡ blank_arena inputs.now.rules inputs.now.rules.core }
+    requires blank { IsBlank inputs.now.rules arena.old }
     requires rows { length cert.now.rows ≡ (problem_of inputs.now).count }
     ensures right { IfOk result (λ o. IfNone o (AreRightAlone (problem_of inputs.now) cert.now)) }
     ensures wrong { IfOk result (λ o. IfSome o (λ w. IsWrongRow (problem_of inputs.now) cert.now w.index w.reason)) }

@@ -2,7 +2,7 @@
 ghost use Rattle.std.specs.Prelude.{◌≡◌, ◌<◌, ◌≤◌, IfOk, IfSome, length};
 ghost use Rattle.rc_instr.specs.Warrior.{Fits};
 ghost use Rattle.tune_cert.specs.Problem.{problem_of};
-ghost use Rattle.mars_core.specs.Arena.{blank_arena};
+ghost use Rattle.mars_core.specs.Arena.{IsBlank};
 ghost use Rattle.mars_fight.specs.Play.{ArePoints};
 
 use mars_core::{Arena, Cells};
@@ -49,12 +49,13 @@ pub fn fight_points<C: Cells>(
     warrior: &Warrior,
     index: u32,
 ) -> u8
-    requires blank { arena.old ≡ blank_arena inputs.now.rules (C.new_marks inputs.now.rules.core) }
+    requires blank { IsBlank inputs.now.rules arena.old }
     requires fits { Fits inputs.now.rules warrior.now }
     requires inside { index < length inputs.now.schedule }
     ensures points { result ≡ (problem_of inputs.now).points warrior.now index }
     ensures scores { ArePoints result }
-    ensures blank { arena.new ≡ blank_arena inputs.now.rules (C.new_marks inputs.now.rules.core) }
+    ensures blank { IsBlank inputs.now.rules arena.new }
+    ensures marks { arena.new.marks ≡ C.new_marks inputs.now.rules.core }
 {
     let fight = &inputs.schedule().fights()[index as usize];
     let opponent = &inputs.opponents()[fight.opponent as usize];

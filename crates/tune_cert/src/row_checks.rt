@@ -1,7 +1,7 @@
 //! Checks single rows of a certificate.
 ghost use Rattle.std.specs.Prelude.{◌≡◌, ◌↔◌, ◌<◌, None, Some, IsTrue, IfOk, IfSome, IfNone, length, ◌*◌, ◌≤◌, ℕ, List, true, slice_get};
 ghost use Rattle.rc_instr.specs.Warrior.{Fits};
-ghost use Rattle.mars_core.specs.Arena.{blank_arena};
+ghost use Rattle.mars_core.specs.Arena.{IsBlank};
 ghost use Rattle.tune_cert.specs.Problem.{problem_of};
 ghost use Rattle.tune_cert.specs.Valid.{IsRightRow};
 ghost use Rattle.tune_cert.specs.Verdict.{Rises, HavePoints, IsWrongRefused, IsWrongCap, IsWrong, IsWrongSame, IsBestRow, IsRightAlone, IsFirstOfCap, AreRightAlone, IsRightSame, IsFirstOfSame};
@@ -29,11 +29,11 @@ pub(crate) fn check_alone(
     row: &Row,
 ) -> Result<Option<Reason>, CheckFault>
     requires inside { vector < (problem_of inputs.now).count }
-    requires blank { arena.old ≡ blank_arena inputs.now.rules inputs.now.rules.core }
+    requires blank { IsBlank inputs.now.rules arena.old }
     ensures right { IfOk result (λ o. IfNone o (IsRightAlone (problem_of inputs.now) cert.now vector row.now)) }
     ensures wrong { IfOk result (λ o. IfSome o (IsWrong (problem_of inputs.now) cert.now vector row.now)) }
     ensures first { IfOk result (λ o. IfSome o (IsFirstAlone (problem_of inputs.now) vector row.now)) }
-    ensures blank { arena.new ≡ blank_arena inputs.now.rules inputs.now.rules.core }
+    ensures blank { IsBlank inputs.now.rules arena.new }
 {
     match row {
         Row::Refused => check_refused(alloc, inputs, vector),
@@ -100,10 +100,10 @@ fn have_points(
     warrior: &Warrior,
     listed: &[(u32, u8)],
 ) -> bool
-    requires blank { arena.old ≡ blank_arena inputs.now.rules inputs.now.rules.core }
+    requires blank { IsBlank inputs.now.rules arena.old }
     requires fits { Fits inputs.now.rules warrior.now }
     ensures points { IsTrue result ↔ HavePoints (problem_of inputs.now) warrior.now listed.now }
-    ensures blank { arena.new ≡ blank_arena inputs.now.rules inputs.now.rules.core }
+    ensures blank { IsBlank inputs.now.rules arena.new }
 {
     let fights = fight_count(inputs);
     for (number, points) in listed {
@@ -138,14 +138,14 @@ fn check_fights(
     warrior: &Warrior,
     listed: &[(u32, u8)],
 ) -> Option<Reason>
-    requires blank { arena.old ≡ blank_arena inputs.now.rules inputs.now.rules.core }
+    requires blank { IsBlank inputs.now.rules arena.old }
     requires fits { Fits inputs.now.rules warrior.now }
     requires candidate { (problem_of inputs.now).warrior vector ≡ Some warrior.now }
     requires rising { Rises 0 listed.now }
     ensures right { IfNone result (IsRightRow (problem_of inputs.now) cert.now.best cert.now.total cert.now.rows vector (Cap listed.now)) }
     ensures wrong { IfSome result (IsWrongCap (problem_of inputs.now) cert.now vector listed.now) }
     ensures first { IfSome result (IsFirstOfCap (problem_of inputs.now) vector listed.now) }
-    ensures blank { arena.new ≡ blank_arena inputs.now.rules inputs.now.rules.core }
+    ensures blank { IsBlank inputs.now.rules arena.new }
 {
     if !have_points(arena, inputs, warrior, listed) {
         return Some(Reason::WrongPoints);
@@ -169,11 +169,11 @@ fn check_cap(
     listed: &[(u32, u8)],
 ) -> Result<Option<Reason>, CheckFault>
     requires inside { vector < (problem_of inputs.now).count }
-    requires blank { arena.old ≡ blank_arena inputs.now.rules inputs.now.rules.core }
+    requires blank { IsBlank inputs.now.rules arena.old }
     ensures right { IfOk result (λ o. IfNone o (IsRightRow (problem_of inputs.now) cert.now.best cert.now.total cert.now.rows vector (Cap listed.now))) }
     ensures wrong { IfOk result (λ o. IfSome o (IsWrongCap (problem_of inputs.now) cert.now vector listed.now)) }
     ensures first { IfOk result (λ o. IfSome o (IsFirstOfCap (problem_of inputs.now) vector listed.now)) }
-    ensures blank { arena.new ≡ blank_arena inputs.now.rules inputs.now.rules.core }
+    ensures blank { IsBlank inputs.now.rules arena.new }
 {
     if !is_rising(listed) {
         return Ok(Some(Reason::RepeatedFight));

@@ -1,7 +1,7 @@
 //! Plays the fights of one warrior.
 ghost use Rattle.std.specs.Prelude.{◌≡◌, ◌≤◌, length, IfOk};
 ghost use Rattle.rc_instr.specs.Warrior.{Fits};
-ghost use Rattle.mars_core.specs.Arena.{blank_arena};
+ghost use Rattle.mars_core.specs.Arena.{IsBlank};
 ghost use Rattle.tune_cert.specs.Problem.{problem_of};
 ghost use Rattle.tune_cert.specs.Optimum.{all_fights, total_of};
 ghost use Rattle.tune_search.specs.Plays.{played};
@@ -27,12 +27,12 @@ pub(crate) fn play_all(
     inputs: &Inputs,
     warrior: &Warrior,
 ) -> Result<Bout, AllocError>
-    requires blank { arena.old ≡ blank_arena inputs.now.rules inputs.now.rules.core }
+    requires blank { IsBlank inputs.now.rules arena.old }
     requires fits { Fits inputs.now.rules warrior.now }
     ensures listing { let p = problem_of inputs.now in IfOk result (λ b. b.listing.items ≡ played p warrior.now (all_fights p)) }
     ensures few { IfOk result (λ b. length b.listing.items ≤ 10000) }
     ensures total { IfOk result (λ b. b.total ≡ total_of (problem_of inputs.now) warrior.now) }
-    ensures blank { arena.new ≡ blank_arena inputs.now.rules inputs.now.rules.core }
+    ensures blank { IsBlank inputs.now.rules arena.new }
 {
     let count = inputs.schedule().fights().len();
     let mut listing = Vec::with_capacity(alloc, count)?;

@@ -1,6 +1,6 @@
 //! What a search has found so far.
 ghost use Rattle.std.specs.Prelude.{◌≡◌, ◌+◌, ◌<◌, ◌≤◌, ℕ, None, length, OnOk, IfOk, IfErr};
-ghost use Rattle.mars_core.specs.Arena.{blank_arena};
+ghost use Rattle.mars_core.specs.Arena.{IsBlank};
 ghost use Rattle.tune_cert.specs.Problem.{problem_of};
 ghost use Rattle.tune_search.specs.Progress.{IsState, lead_after};
 
@@ -50,12 +50,12 @@ impl Progress {
         inputs: &Inputs,
         vector: u32,
     ) -> Result<(), SearchFault>
-        requires blank { arena.old ≡ blank_arena inputs.now.rules inputs.now.rules.core }
+        requires blank { IsBlank inputs.now.rules arena.old }
         requires inside { vector < (problem_of inputs.now).count }
         requires few { (problem_of inputs.now).count ≤ 1000000 }
         requires state { IsState (problem_of inputs.now) vector self.old }
         ensures state { OnOk result (IsState (problem_of inputs.now) (vector + 1) self.new) }
-        ensures blank { arena.new ≡ blank_arena inputs.now.rules inputs.now.rules.core }
+        ensures blank { IsBlank inputs.now.rules arena.new }
         ensures err { IfErr result (λ e. e ≡ SearchFault.OutOfMemory) }
     {
         let Some(warrior) = setting_warrior(alloc, inputs, vector)? else {

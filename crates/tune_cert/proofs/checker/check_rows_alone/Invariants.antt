@@ -1,5 +1,5 @@
 use Rattle.std.proofs.Common.{◌≡◌, ◌<◌, ℕ, Some, slice_get}
-use Rattle.mars_core.specs.Arena.{blank_arena}
+use Rattle.mars_core.specs.Arena.{IsBlank}
 use Rattle.tune_cert.specs.Problem.{problem_of}
 use Rattle.tune_cert.specs.Verdict.{IsRightAlone}
 use Rattle.tune_cert.specs.declared.cert.Row.{Row}
@@ -8,6 +8,6 @@ use Rattle.tune_cert.proofs.checker.check_rows_alone.Given as goal
 -- the refused and the cap rows so far are right
 abbrev pub invariant-loop-vector : goal.invariant-loop-vector
 invariant-loop-vector l = record {
-  blank : l.arena ≡ blank_arena l.fn.inputs.rules l.fn.inputs.rules.core;
+  blank : IsBlank l.fn.inputs.rules l.arena;
   right : (v : ℕ) (row : Row) → v < l.vector → slice_get l.fn.cert.rows v ≡ Some row → IsRightAlone (problem_of l.fn.inputs) l.fn.cert v row;
 }

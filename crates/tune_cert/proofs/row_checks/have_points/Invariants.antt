@@ -1,5 +1,5 @@
 use Rattle.std.proofs.Common.{◌≡◌, ◌↔◌, drop}
-use Rattle.mars_core.specs.Arena.{blank_arena}
+use Rattle.mars_core.specs.Arena.{IsBlank}
 use Rattle.tune_cert.specs.Problem.{problem_of}
 use Rattle.tune_cert.specs.Verdict.{HavePoints}
 use Rattle.tune_cert.proofs.row_checks.have_points.Given as goal
@@ -8,5 +8,5 @@ use Rattle.tune_cert.proofs.row_checks.have_points.Given as goal
 abbrev pub invariant-loop-number : goal.invariant-loop-number
 invariant-loop-number l = record {
   points : HavePoints (problem_of l.inputs) l.warrior (drop l.number-index l.listed) ↔ HavePoints (problem_of l.inputs) l.warrior l.listed;
-  blank : l.arena ≡ blank_arena l.inputs.rules l.inputs.rules.core;
+  blank : IsBlank l.inputs.rules l.arena;
 }

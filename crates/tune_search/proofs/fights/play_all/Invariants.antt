@@ -1,6 +1,6 @@
 use Rattle.std.proofs.Common.{◌≡◌, ◌≤◌, ◌*◌}
 use Rattle.std.specs.List.{sum_by, range_with_len}
-use Rattle.mars_core.specs.Arena.{blank_arena}
+use Rattle.mars_core.specs.Arena.{IsBlank}
 use Rattle.tune_cert.specs.Problem.{fight_points, problem_of}
 use Rattle.tune_search.specs.Plays.{played}
 use Rattle.tune_search.proofs.fights.play_all.Given as goal
@@ -11,5 +11,5 @@ invariant-loop-index l = record {
   fought : l.listing.items ≡ played (problem_of l.fn.inputs) l.fn.warrior (range_with_len 0 l.index);
   made : l.total ≡ sum_by (fight_points l.fn.inputs.rules l.fn.inputs.opponents l.fn.inputs.schedule l.fn.warrior) (range_with_len 0 l.index);
   few : l.total ≤ 3 * l.index;
-  blank : l.arena ≡ blank_arena l.fn.inputs.rules l.fn.inputs.rules.core;
+  blank : IsBlank l.fn.inputs.rules l.arena;
 }

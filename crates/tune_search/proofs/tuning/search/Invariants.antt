@@ -1,5 +1,5 @@
 use Rattle.std.proofs.Common.{◌≡◌}
-use Rattle.mars_core.specs.Arena.{blank_arena}
+use Rattle.mars_core.specs.Arena.{IsBlank}
 use Rattle.tune_cert.specs.Problem.{problem_of}
 use Rattle.tune_search.specs.Progress.{IsState}
 use Rattle.tune_search.proofs.tuning.search.Given as goal
@@ -8,5 +8,5 @@ use Rattle.tune_search.proofs.tuning.search.Given as goal
 abbrev pub invariant-loop-vector : goal.invariant-loop-vector
 invariant-loop-vector l = record {
   state : IsState (problem_of l.fn.inputs) l.vector l.progress;
-  blank : l.arena ≡ blank_arena l.fn.inputs.rules l.fn.inputs.rules.core;
+  blank : IsBlank l.fn.inputs.rules l.arena;
 }

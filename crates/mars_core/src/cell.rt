@@ -1,0 +1,117 @@
+//! One cell as a turn works on it, in the form in which its store keeps it.
+ghost use Rattle.std.specs.Prelude.{◌≡◌, ◌<◌};
+ghost use Rattle.rc_instr.specs.Instruction.{same_instruction};
+ghost use Rattle.rc_instr.specs.declared.instruction.Instruction.{Instruction};
+ghost use Rattle.mars_core.specs.Numbers.{with_field};
+ghost use Rattle.mars_core.specs.Numbers.{ANumber, BNumber};
+
+use rc_instr::{Instruction, Mode, Modifier, Opcode};
+
+/// A cell in the form in which a store keeps it.
+pub trait Cell: Copy {
+    /// The instruction in the cell.
+    ghost held: { Self → Instruction };
+
+    /// Returns the cell that holds `instruction`.
+    fn of(instruction: Instruction) -> Self
+        ensures { held result ≡ instruction };
+
+    /// Returns the instruction in the cell.
+    fn instruction(self) -> Instruction
+        ensures { result ≡ held self };
+
+    fn opcode(self) -> Opcode
+        ensures { result ≡ (held self).opcode };
+
+    fn modifier(self) -> Modifier
+        ensures { result ≡ (held self).modifier };
+
+    fn a_mode(self) -> Mode
+        ensures { result ≡ (held self).a_mode };
+
+    fn b_mode(self) -> Mode
+        ensures { result ≡ (held self).b_mode };
+
+    fn a_number(self) -> u32
+        ensures { result ≡ (held self).a_number };
+
+    fn b_number(self) -> u32
+        ensures { result ≡ (held self).b_number };
+
+    fn with_a_number(self, number: u32) -> Self
+        requires { number < 65536 }
+        ensures { held result ≡ with_field ANumber number (held self) };
+
+    fn with_b_number(self, number: u32) -> Self
+        requires { number < 65536 }
+        ensures { held result ≡ with_field BNumber number (held self) };
+
+    /// Checks whether both cells hold the same instruction.
+    fn is_same(self, other: Self) -> bool
+        ensures { result ≡ same_instruction (held self) (held other) };
+}
+
+impl Cell for Instruction {
+    ghost held = { λ i. i };
+
+    #[inline(always)]
+    fn of(instruction: Instruction) -> Instruction {
+        instruction
+    }
+
+    #[inline(always)]
+    fn instruction(self) -> Instruction {
+        self
+    }
+
+    #[inline(always)]
+    fn opcode(self) -> Opcode {
+        self.opcode
+    }
+
+    #[inline(always)]
+    fn modifier(self) -> Modifier {
+        self.modifier
+    }
+
+    #[inline(always)]
+    fn a_mode(self) -> Mode {
+        self.a_mode
+    }
+
+    #[inline(always)]
+    fn b_mode(self) -> Mode {
+        self.b_mode
+    }
+
+    #[inline(always)]
+    fn a_number(self) -> u32 {
+        u32::from(self.a_number)
+    }
+
+    #[inline(always)]
+    fn b_number(self) -> u32 {
+        u32::from(self.b_number)
+    }
+
+    #[inline(always)]
+    fn with_a_number(self, number: u32) -> Instruction {
+        Instruction {
+            a_number: number as u16,
+            ..self
+        }
+    }
+
+    #[inline(always)]
+    fn with_b_number(self, number: u32) -> Instruction {
+        Instruction {
+            b_number: number as u16,
+            ..self
+        }
+    }
+
+    #[inline(always)]
+    fn is_same(self, other: Instruction) -> bool {
+        Instruction::is_same(&self, &other)
+    }
+}

@@ -1,0 +1,127 @@
+//! Cells in words, with a journal of those that were written.
+ghost use Rattle.std.specs.Prelude.{◌≡◌, ◌<◌, ◌≤◌, ◌+◌, slice_set, replicate, length, true, IfOk};
+ghost use Rattle.rc_instr.specs.Instruction.{empty_cell};
+ghost use Rattle.mars_core.specs.Packed.{unpacked, is_marked, empty_word};
+ghost use Rattle.mars_core.specs.Store.{IsStore, ListsWritten};
+
+use crate::cells::Cells;
+use crate::packed::PackedCell;
+use rc_instr::OutOfMemory;
+use std::alloc::Global;
+use std::marker::Model;
+
+/// Keeps each cell in a word of 8 bytes, and in a journal the address of each cell that was written
+/// since the last reset. `restore` empties only these, so the marks are their number.
+#[derive(Drop)]
+pub struct PackedCells {
+    words: Vec<u64>,
+    // Of full length from the start, so that no write grows it. The first `count` items count.
+    journal: Vec<u16>,
+    count: usize,
+}
+
+impl Model for PackedCells {
+    ghost use Rattle.mars_core.specs.Store.{StoreView, store_view, IsStore};
+
+    ghost Value = { StoreView };
+
+    ghost view = { λ s. store_view s.words.items s.count };
+
+    ghost invariant = { λ s. IsStore s.words.items s.journal.items s.count };
+}
+
+// Writes a marked word, and adds its address to the journal if no mark was there. Returns how many
+// addresses the journal has.
+#[tactic(auto, using(crate::proofs::Stores::stores))]
+#[inline(always)]
+fn put(words: &mut Vec<u64>, journal: &mut Vec<u16>, count: usize, at: u32, word: u64) -> usize
+    requires store { IsStore words.old.items journal.old.items count }
+    requires at { at < length words.old.items }
+    requires marked { is_marked word ≡ true }
+    ensures words { words.new.items ≡ slice_set words.old.items at word }
+    ensures store { IsStore words.new.items journal.new.items result }
+    ensures marks { result ≤ count + 1 }
+{
+    let old = PackedCell {
+        word: words[at as usize],
+    };
+    words[at as usize] = word;
+    if old.is_marked() {
+        return count;
+    }
+    journal[count] = at as u16;
+    count + 1
+}
+
+// Empties the cells whose addresses are in `journal`.
+#[tactic(auto, using(crate::proofs::Stores::emptied))]
+fn clear(words: &mut Vec<u64>, journal: &[u16])
+    requires listed { ListsWritten words.old.items journal.now }
+    ensures { words.new.items ≡ replicate (length words.old.items) empty_word }
+{
+    let empty = PackedCell::empty().word;
+    for at in journal {
+        words[*at as usize] = empty;
+    }
+}
+
+impl PackedCells {
+    // Makes `size` empty cells, and a journal with room for all their addresses.
+    #[tactic(auto, using(crate::proofs::Stores::stores, crate::proofs::Stores::blanks))]
+    pub(crate) fn try_new(alloc: Global, size: u32) -> Result<PackedCells, OutOfMemory>
+        requires { size ≤ 65535 }
+        ensures items { IfOk result (λ s. s.items ≡ replicate size empty_cell) }
+        ensures marks { IfOk result (λ s. s.marks ≡ 0) }
+    {
+        let words = vec![in alloc; PackedCell::empty().word; size as usize]?;
+        let journal = vec![in alloc; 0; size as usize]?;
+        Ok(PackedCells {
+            words,
+            journal,
+            count: 0,
+        })
+    }
+}
+
+impl Cells for PackedCells {
+    type Kept = PackedCell;
+
+    ghost items = { λ s. s.items };
+
+    ghost marks = { λ s. s.marks };
+
+    ghost new_marks = { λ m. 0 };
+
+    #[inline(always)]
+    fn size(&self) -> u32 {
+        self.words.len() as u32
+    }
+
+    #[tactic(auto, using(crate::proofs::Stores::item_at), unfolding(crate::specs::Core::cell_at))]
+    #[inline(always)]
+    fn cell(&self, at: u32) -> PackedCell {
+        PackedCell {
+            word: self.words[at as usize],
+        }
+    }
+
+    #[tactic(auto, using(crate::proofs::Stores::item_set, crate::proofs::Stores::marked_is, crate::proofs::Stores::marked_holds))]
+    #[inline(always)]
+    fn put(&mut self, at: u32, cell: PackedCell) {
+        self.count = put(
+            &mut self.words,
+            &mut self.journal,
+            self.count,
+            at,
+            cell.marked().word,
+        );
+    }
+
+    #[tactic(auto, using(crate::proofs::Stores::stores, crate::proofs::Stores::blanks_of, crate::proofs::Stores::written_listed))]
+    fn restore(&mut self) -> u32 {
+        clear(&mut self.words, &self.journal[..self.count]);
+        let count = self.count as u32;
+        self.count = 0;
+        count
+    }
+}

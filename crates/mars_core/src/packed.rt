@@ -1,0 +1,251 @@
+//! An instruction in one word.
+ghost use Rattle.std.specs.Prelude.{◌≡◌, ◌<◌, ◌%◌};
+ghost use Rattle.rc_instr.specs.Instruction.{opcode_number, modifier_number, mode_number};
+ghost use Rattle.rc_instr.specs.declared.instruction.Instruction.{Instruction};
+ghost use Rattle.mars_core.specs.Packed.{packed, unpacked, is_marked, marked, empty_word, same_parts, opcode_of, modifier_of, mode_of};
+
+use crate::cell::Cell;
+use rc_instr::{Instruction, Mode, Modifier, Opcode};
+
+/// A cell in one word: its instruction, and the mark of a cell that was written.
+#[derive(Clone, Copy, Drop)]
+pub struct PackedCell {
+    pub(crate) word: u64,
+}
+
+#[inline(always)]
+fn opcode_from(number: u64) -> Opcode
+    requires { number < 16 }
+    ensures { result ≡ opcode_of number }
+{
+    match number {
+        0 => Opcode::Dat,
+        1 => Opcode::Mov,
+        2 => Opcode::Add,
+        3 => Opcode::Sub,
+        4 => Opcode::Mul,
+        5 => Opcode::Div,
+        6 => Opcode::Mod,
+        7 => Opcode::Jmp,
+        8 => Opcode::Jmz,
+        9 => Opcode::Jmn,
+        10 => Opcode::Djn,
+        11 => Opcode::Seq,
+        12 => Opcode::Sne,
+        13 => Opcode::Slt,
+        14 => Opcode::Spl,
+        _ => Opcode::Nop,
+    }
+}
+
+#[inline(always)]
+fn modifier_from(number: u64) -> Modifier
+    requires { number < 8 }
+    ensures { result ≡ modifier_of number }
+{
+    match number {
+        0 => Modifier::A,
+        1 => Modifier::B,
+        2 => Modifier::AB,
+        3 => Modifier::BA,
+        4 => Modifier::F,
+        5 => Modifier::X,
+        _ => Modifier::I,
+    }
+}
+
+#[inline(always)]
+fn mode_from(number: u64) -> Mode
+    requires { number < 8 }
+    ensures { result ≡ mode_of number }
+{
+    match number {
+        0 => Mode::Immediate,
+        1 => Mode::Direct,
+        2 => Mode::AIndirect,
+        3 => Mode::BIndirect,
+        4 => Mode::APredecrement,
+        5 => Mode::BPredecrement,
+        6 => Mode::APostincrement,
+        _ => Mode::BPostincrement,
+    }
+}
+
+#[inline(always)]
+fn opcode_code(opcode: Opcode) -> u64
+    ensures value { result ≡ opcode_number opcode }
+    ensures small { result < 16 }
+{
+    opcode as u64
+}
+
+#[inline(always)]
+fn modifier_code(modifier: Modifier) -> u64
+    ensures value { result ≡ modifier_number modifier }
+    ensures small { result < 7 }
+{
+    modifier as u64
+}
+
+#[inline(always)]
+fn mode_code(mode: Mode) -> u64
+    ensures value { result ≡ mode_number mode }
+    ensures small { result < 8 }
+{
+    mode as u64
+}
+
+// Packs an instruction, without a mark.
+#[tactic(auto, unfolding(crate::specs::Packed::packed))]
+#[inline(always)]
+fn pack(instruction: Instruction) -> u64
+    ensures { result ≡ packed instruction }
+{
+    let key = modifier_code(instruction.modifier) + 8 * opcode_code(instruction.opcode);
+    let modes = mode_code(instruction.a_mode) + 8 * mode_code(instruction.b_mode);
+    let a = u64::from(instruction.a_number);
+    let b = u64::from(instruction.b_number);
+    key + 256 * modes + 65536 * a + 281474976710656 * b
+}
+
+impl PackedCell {
+    // Returns the empty cell, without a mark.
+    #[tactic(auto, unfolding(crate::specs::Packed::empty_word))]
+    #[inline(always)]
+    pub(crate) fn empty() -> PackedCell
+        ensures { result.word ≡ empty_word }
+    {
+        PackedCell {
+            word: pack(Instruction::empty()),
+        }
+    }
+
+    // Returns the cell with a mark.
+    #[tactic(auto, unfolding(crate::specs::Packed::mark_of, crate::specs::Packed::marked))]
+    #[inline(always)]
+    pub(crate) fn marked(self) -> PackedCell
+        ensures { result.word ≡ marked self.word }
+    {
+        let mark = self.word / 32768 % 2;
+        PackedCell {
+            word: self.word + 32768 * (1 - mark),
+        }
+    }
+
+    // Checks whether the cell has a mark.
+    #[tactic(auto, unfolding(crate::specs::Packed::mark_of))]
+    #[inline(always)]
+    pub(crate) fn is_marked(self) -> bool
+        ensures { result ≡ is_marked self.word }
+    {
+        self.word / 32768 % 2 == 1
+    }
+}
+
+impl Cell for PackedCell {
+    ghost held = { λ c. unpacked c.word };
+
+    #[tactic(auto, using(crate::proofs::Packing::unpacked_packed))]
+    #[inline(always)]
+    fn of(instruction: Instruction) -> PackedCell {
+        PackedCell {
+            word: pack(instruction),
+        }
+    }
+
+    #[tactic(auto, unfolding(crate::specs::Packed::unpacked))]
+    #[inline(always)]
+    fn instruction(self) -> Instruction {
+        Instruction {
+            opcode: self.opcode(),
+            modifier: self.modifier(),
+            a_mode: self.a_mode(),
+            a_number: (self.word / 65536 % 65536) as u16,
+            b_mode: self.b_mode(),
+            b_number: (self.word / 281474976710656) as u16,
+        }
+    }
+
+    #[tactic(auto, unfolding(crate::specs::Packed::unpacked))]
+    #[inline(always)]
+    fn opcode(self) -> Opcode {
+        opcode_from(self.word / 8 % 16)
+    }
+
+    #[tactic(auto, unfolding(crate::specs::Packed::unpacked))]
+    #[inline(always)]
+    fn modifier(self) -> Modifier {
+        modifier_from(self.word % 8)
+    }
+
+    #[tactic(auto, unfolding(crate::specs::Packed::unpacked))]
+    #[inline(always)]
+    fn a_mode(self) -> Mode {
+        mode_from(self.word / 256 % 8)
+    }
+
+    #[tactic(auto, unfolding(crate::specs::Packed::unpacked))]
+    #[inline(always)]
+    fn b_mode(self) -> Mode {
+        mode_from(self.word / 2048 % 8)
+    }
+
+    #[tactic(auto, unfolding(crate::specs::Packed::unpacked))]
+    #[inline(always)]
+    fn a_number(self) -> u32 {
+        (self.word / 65536 % 65536) as u32
+    }
+
+    #[tactic(auto, unfolding(crate::specs::Packed::unpacked))]
+    #[inline(always)]
+    fn b_number(self) -> u32 {
+        (self.word / 281474976710656) as u32
+    }
+
+    #[inline(always)]
+    fn with_a_number(self, number: u32) -> PackedCell {
+        let low = self.word % 65536;
+        let high = self.word / 4294967296;
+        PackedCell {
+            word: low + 65536 * u64::from(number) + 4294967296 * high,
+        }
+    }
+
+    #[inline(always)]
+    fn with_b_number(self, number: u32) -> PackedCell {
+        let low = self.word % 281474976710656;
+        PackedCell {
+            word: low + 281474976710656 * u64::from(number),
+        }
+    }
+
+    #[tactic(auto, using(crate::proofs::Packing::same_packed))]
+    #[inline(always)]
+    fn is_same(self, other: PackedCell) -> bool {
+        are_same(self.word, other.word)
+    }
+}
+
+// Checks whether two words hold the same instruction, part by part.
+#[tactic(auto, unfolding(crate::specs::Packed::same_parts))]
+#[inline(always)]
+fn are_same(x: u64, y: u64) -> bool
+    ensures { result ≡ same_parts x y }
+{
+    x / 8 % 16 == y / 8 % 16
+        && modifier_code_in(x) == modifier_code_in(y)
+        && x / 256 % 8 == y / 256 % 8
+        && x / 65536 % 65536 == y / 65536 % 65536
+        && x / 2048 % 8 == y / 2048 % 8
+        && x / 281474976710656 == y / 281474976710656
+}
+
+// Returns the number of the modifier in a word. 7, which `pack` never makes, is `I` too.
+#[tactic(auto, using(crate::proofs::Packing::modifier_capped))]
+#[inline(always)]
+fn modifier_code_in(word: u64) -> u64
+    ensures { result ≡ modifier_number (modifier_of (word % 8)) }
+{
+    let number = word % 8;
+    if number == 7 { 6 } else { number }
+}
