@@ -1,7 +1,7 @@
 //! Tests of `mars_fight`: schedules and fights in a core of 16 cells with distance 4, and the texts
 //! of faults.
 use crate::opponents::IMP;
-use mars_core::{Arena, PlainCells, Side};
+use mars_core::{Arena, PackedCells, Side};
 use mars_fight::{Fight, Schedule, ScheduleFault, ScheduleFaultKind as Kind, play};
 use rc_instr::{Instruction, Rules, read_loadfile};
 use std::alloc::{AllocError, Global};
@@ -94,7 +94,7 @@ fn one_arena_for_many_fights(rt: HostRuntime) -> Result<(), Fail> {
     let rules = Rules::try_new(16, 20, 4, 4, 4)?;
     let imp = read_loadfile(rt.alloc(), IMP, &rules)?;
     let lowers_a_cell = read_loadfile(rt.alloc(), b"ORG 0\nMOV.I $0, <1\nDAT.F $0, $4\n", &rules)?;
-    let mut arena = Arena::<PlainCells>::try_new(rt.alloc(), &rules)?;
+    let mut arena = Arena::<PackedCells>::try_new(rt.alloc(), &rules)?;
     let first = play(&mut arena, &imp, &imp, &AT_EIGHT);
     let second = play(&mut arena, &imp, &imp, &AT_EIGHT);
     assert_eq!(rt; (first, second), (1, 1));

@@ -330,3 +330,16 @@ fn a_reset_arena_is_blank(rt: HostRuntime) -> Result<(), Fail> {
     assert_eq!(rt; resets(&rt, &mut packed, &imp, &copier), (16, 4));
     Ok(())
 }
+
+// Nothing was loaded, so the opponent has no task.
+#[test]
+fn a_fight_without_tasks_is_over_at_once(rt: HostRuntime) -> Result<(), Fail> {
+    let rules = Rules::try_new(16, 20, 4, 4, 4)?;
+    let mut arena = Arena::<PackedCells>::try_new(rt.alloc(), &rules)?;
+    let over = Outcome {
+        points: 3,
+        turns: 0,
+    };
+    assert_eq!(rt; arena.run(Side::Candidate), over);
+    Ok(())
+}

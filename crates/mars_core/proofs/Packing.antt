@@ -1,6 +1,6 @@
 -- Words and their parts.
-use Rattle.std.specs.Prelude.{Bool, ◌&&◌, ◌==◌, if◌then◌else◌}
-use Rattle.std.proofs.Common.{◌≡◌, ℕ, zero, suc, sym, ◌∙◌, ◌<◌, ◌≤◌, ◌+◌, ◌*◌, ◌-◌, ◌/◌, ◌%◌, refl, arith}
+use Rattle.std.specs.Prelude.{Bool, ◌==◌, if◌then◌else◌}
+use Rattle.std.proofs.Common.{◌≡◌, ℕ, zero, suc, sym, ◌∙◌, ◌<◌, ◌≤◌, ◌+◌, ◌*◌, ◌-◌, ◌/◌, ◌%◌, ◌⊎◌, inl, inr, ap, refl, arith}
 use Rattle.rc_instr.specs.Instruction.{opcode_number, modifier_number, mode_number, same_instruction}
 use Rattle.rc_instr.specs.declared.instruction.Instruction.{Instruction}
 use Rattle.rc_instr.specs.declared.instruction.Opcode.{Opcode}
@@ -165,3 +165,56 @@ same_packed x y b e =
       number_mode (x / 2048 % 8) bx,
       number_mode (y / 2048 % 8) bj,
     ) e
+
+-- the words of MOV.I: opcode 1, and a modifier from 6 on
+i_from : (n k : ℕ) → n ≡ 6 + k → k < 2 → modifier_of n ≡ I
+i_from n zero e l = rw e refl
+i_from n (suc zero) e l = rw e refl
+i_from n (suc (suc k)) e l = absurd (omega arith)
+
+from_i : (n : ℕ) → n < 8 → modifier_of n ≡ I → 6 ≤ n
+from_i zero l e = absurd (cc)
+from_i (suc zero) l e = absurd (cc)
+from_i (suc (suc zero)) l e = absurd (cc)
+from_i (suc (suc (suc zero))) l e = absurd (cc)
+from_i (suc (suc (suc (suc zero)))) l e = absurd (cc)
+from_i (suc (suc (suc (suc (suc zero))))) l e = absurd (cc)
+from_i (suc (suc (suc (suc (suc (suc n)))))) l e = omega arith
+
+pub moves_whole : (w : ℕ) → w / 2 % 64 ≡ 7 → (opcode_of (w / 8 % 16) ≡ Mov) × (modifier_of (w % 8) ≡ I)
+moves_whole w e =
+    let o : w / 8 % 16 ≡ 1 = omega arith in
+    let k : w % 8 ≡ 6 + w % 2 = omega arith in
+    (rw o refl, i_from (w % 8) (w % 2) k (omega arith))
+
+pub whole_moves : (w : ℕ) → opcode_of (w / 8 % 16) ≡ Mov → modifier_of (w % 8) ≡ I → w / 2 % 64 ≡ 7
+whole_moves w o i =
+    let l : w / 8 % 16 < 16 = omega arith in
+    let k : w / 8 % 16 ≡ 1 = sym (number_opcode (w / 8 % 16) l) ∙ ap opcode_number o in
+    let j : 6 ≤ w % 8 = from_i (w % 8) (omega arith) i in
+    omega arith
+
+-- the words of SPL and NOP: opcodes from 14 on
+queue_from : (n k : ℕ) → n ≡ 14 + k → k < 2 → (opcode_of n ≡ Spl) ⊎ (opcode_of n ≡ Nop)
+queue_from n zero e l = rw e (inl refl)
+queue_from n (suc zero) e l = rw e (inr refl)
+queue_from n (suc (suc k)) e l = absurd (omega arith)
+
+pub only_queues : (w : ℕ) → 14 ≤ w / 8 % 16 → (opcode_of (w / 8 % 16) ≡ Spl) ⊎ (opcode_of (w / 8 % 16) ≡ Nop)
+only_queues w l =
+    let k : w / 8 % 16 ≡ 14 + (w / 8 % 16 - 14) = omega arith in
+    queue_from (w / 8 % 16) (w / 8 % 16 - 14) k (omega arith)
+
+pub splits : (w : ℕ) → opcode_of (w / 8 % 16) ≡ Spl → 14 ≤ w / 8 % 16
+splits w o =
+    let l : w / 8 % 16 < 16 = omega arith in
+    let k : w / 8 % 16 ≡ 14 = sym (number_opcode (w / 8 % 16) l) ∙ ap opcode_number o in
+    omega arith
+
+pub goes_on : (w : ℕ) → opcode_of (w / 8 % 16) ≡ Nop → 14 ≤ w / 8 % 16
+goes_on w o =
+    let l : w / 8 % 16 < 16 = omega arith in
+    let k : w / 8 % 16 ≡ 15 = sym (number_opcode (w / 8 % 16) l) ∙ ap opcode_number o in
+    omega arith
+
+pub ruleset fast = (moves_whole, whole_moves, only_queues, splits, goes_on)

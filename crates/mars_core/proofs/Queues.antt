@@ -1,7 +1,7 @@
 -- Queues of tasks.
 use Rattle.std.proofs.Common.{◌≡◌, ℕ, ◌<◌, List, [], ◌∷◌, ◌++◌, length, drop, true, false, refl, subst}
-use Rattle.std.specs.Prelude.{Some, slice_get, nat_lt, if◌then◌else◌}
-use Rattle.std.proofs.lemmas.List.Elements.{All-tail, All-drop, All-push, All-head}
+use Rattle.std.specs.Prelude.{Some, slice_get, slice_index, nat_lt, if◌then◌else◌}
+use Rattle.std.proofs.lemmas.List.Elements.{All-tail, All-drop, All-push, All-head, All-get_or}
 use Rattle.mars_core.specs.Core.{AreTasks}
 use Rattle.mars_core.specs.State.{appended}
 
@@ -25,5 +25,9 @@ appended_below m limit (t ∷ ts) tasks h k =
     (elim (nat_lt (length tasks) limit) as (λ b. AreTasks m (if b then tasks ++ t ∷ [] else tasks))
     [ true ↦ record { each = All-push (λ t. t < m) tasks t h.each (All-head (λ t. t < m) t ts k.each) } | false ↦ h ])
     (record { each = All-tail (λ t. t < m) t ts k.each })
+
+-- each task is below the size
+pub item_below : (m : ℕ) (tasks : List ℕ) (i x : ℕ) → AreTasks m tasks → i < length tasks → x ≡ slice_index tasks i → x < m
+item_below m tasks i x h l e = rw e (All-get_or (λ t. t < m) tasks i 0 l h.each)
 
 pub ruleset queues = (first_is, first_below, rest_below, appended_below)

@@ -1,5 +1,5 @@
 -- Words and their journal.
-use Rattle.std.proofs.Common.{◌≡◌, ◌≢◌, ℕ, zero, suc, ◌<◌, ◌≤◌, ◌+◌, List, [], ◌∷◌, ◌++◌, length, take, Bool, true, false, get_or, refl, sym, ◌∙◌, ap, arith, cond, length-set, length-append, get_or-set_other, get_or-set_same, subst, inl, inr, ◌⊎◌}
+use Rattle.std.proofs.Common.{◌≡◌, ◌≢◌, ℕ, zero, suc, ◌<◌, ◌≤◌, ◌+◌, List, [], ◌∷◌, ◌++◌, length, take, Bool, true, false, get_or, refl, sym, ◌∙◌, ap, arith, cond, length-set, get_or-set_other, get_or-set_same, subst, inl, inr, ◌⊎◌}
 use Rattle.std.specs.Prelude.{slice_set, count_by, Contains, All, map, replicate}
 use Rattle.std.proofs.lemmas.Bool.Decides.{eqb_tells}
 use Rattle.std.proofs.lemmas.List.Sums.{sum_by-set, sum_by-cons, count_by-le-length}
@@ -66,7 +66,7 @@ at_or_other words at w k l = elim (eqb_tells k at) [
   | inr p ↦ let n : k ≢ at = p.1 in inr (p.1, get_or-set_other words at k w 0 n)
 ]
 
--- in any journal that has what this one has, and `at`: the words with a marked one there are a store
+-- in any journal that has what this one has, and `at`: words with a marked one there are a store
 stored : (words journal journal' : List ℕ) (count count' at w : ℕ) → IsStore words journal count → at < length words → is_marked w ≡ true →
     length words ≤ length journal' → count' ≡ count_by is_marked (slice_set words at w) →
     ((k : ℕ) → Contains (take count journal) k → Contains (take count' journal') k) → Contains (take count' journal') at →

@@ -1,11 +1,8 @@
 -- The values of the code, seen as those of the definitions.
-use Rattle.std.specs.Prelude.{ℕ, List, [], ◌∷◌, Option, Some, None}
+use Rattle.std.specs.Prelude.{ℕ, List, [], ◌∷◌}
 use Rattle.rc_instr.specs.declared.instruction.Instruction.{Instruction}
-use Rattle.rc_instr.specs.declared.instruction.Modifier.{Modifier}
-use Rattle.rc_instr.specs.declared.instruction.Modifier.TheVariants.{A, B, AB, BA, F, X, I}
 use Rattle.mars_core.specs.Numbers.{sum_of}
-use Rattle.mars_core.specs.Numbers.{Field, ANumber, BNumber}
-use Rattle.mars_core.specs.Operand.{Operand}
+use Rattle.mars_core.specs.Operand.{Operand, operand_of}
 use Rattle.mars_core.specs.declared.effect.Queued.{Queued}
 use Rattle.mars_core.specs.declared.effect.Queued.TheVariants.{Nothing, Next, Skip, Jump, Split}
 
@@ -21,6 +18,14 @@ located address copy core = record { address = address; copy = copy; core = core
 abbrev pub located_from : ℕ → ℕ → Operand → Located
 located_from m pc o = located (sum_of m pc o.pointer) o.copy o.core
 
+-- The operands of the instruction at pc: the A-operand is evaluated first, and the B-operand in the
+-- core that this leaves.
+abbrev pub a_operand : ℕ → List Instruction → ℕ → Instruction → Operand
+a_operand m core pc i = operand_of m core pc i.a_mode i.a_number
+
+abbrev pub b_operand : ℕ → List Instruction → ℕ → Instruction → Operand
+b_operand m core pc i = operand_of m (a_operand m core pc i).core pc i.b_mode i.b_number
+
 -- The addresses that the task at pc queues, in order; `jump` is where its A-operand points.
 abbrev pub addresses : ℕ → ℕ → ℕ → Queued → List ℕ
 addresses m pc jump Nothing = []
@@ -28,20 +33,3 @@ addresses m pc jump Next = sum_of m pc 1 ∷ []
 addresses m pc jump Skip = sum_of m pc 2 ∷ []
 addresses m pc jump Jump = jump ∷ []
 addresses m pc jump Split = sum_of m pc 1 ∷ jump ∷ []
-
--- The A-value of the pair that leads to this number of the B-instruction; None if no pair does.
-abbrev pub value_into : Field → Modifier → Instruction → Option ℕ
-value_into ANumber A a = Some a.a_number
-value_into ANumber B a = None
-value_into ANumber AB a = None
-value_into ANumber BA a = Some a.b_number
-value_into ANumber F a = Some a.a_number
-value_into ANumber X a = Some a.b_number
-value_into ANumber I a = Some a.a_number
-value_into BNumber A a = None
-value_into BNumber B a = Some a.b_number
-value_into BNumber AB a = Some a.a_number
-value_into BNumber BA a = None
-value_into BNumber F a = Some a.b_number
-value_into BNumber X a = Some a.a_number
-value_into BNumber I a = Some a.b_number

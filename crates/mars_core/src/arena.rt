@@ -1,10 +1,11 @@
 //! The arena in which two warriors fight.
 ghost use Rattle.std.specs.Prelude.{◌≡◌, ◌+◌, ◌*◌, ◌<◌, ◌≤◌, length, slice_index, IfOk};
-ghost use Rattle.rc_instr.specs.Warrior.{Fits};
+ghost use Rattle.rc_instr.specs.Warrior.{Fits, IsBelow};
 ghost use Rattle.mars_core.specs.Core.{cell_at};
 ghost use Rattle.mars_core.specs.State.{blank_of, start_of, turn_of, play_of, tasks_of};
 
-use crate::cells::{Cells, PlainCells, load_code};
+use crate::cell::Cell;
+use crate::cells::{Cells, PlainCells, load_code, read};
 use crate::fight_loop::alternate;
 use crate::journal::PackedCells;
 use crate::side::Side;
@@ -90,7 +91,7 @@ impl<C: Cells> Arena<C> {
         match side {
             Side::Candidate => take_turn(&mut self.cells, &mut self.candidate, size),
             Side::Opponent => take_turn(&mut self.cells, &mut self.opponent, size),
-        }
+        };
         self.turns += 1;
     }
 
@@ -113,14 +114,17 @@ impl<C: Cells> Arena<C> {
     }
 
     /// Plays a fight to its end: turns alternate, `first` moving first, until a side has no task or
-    /// the cycles of the rules are over. A cycle is one turn of each side.
+    /// the cycles of the rules are over. A cycle is one turn of each side, so there are at most two
+    /// turns for each cycle.
     ///
-    /// No turn was made since the load. The candidate gets 3 points if the opponent has no task
+    /// No turn was made since the load. On a blank arena no side has a task: the answer is 3 points
+    /// after 0 turns. The candidate gets 3 points if the opponent has no task
     /// left, 0 if it has none itself, and 1 if both still have tasks (pMARS, for two warriors). The
     /// marks grow by at most 3 a turn.
     pub fn run(&mut self, first: Side) -> Outcome
         requires { self.old.turns ≡ 0 }
         ensures outcome { result ≡ outcome_of self.old.rules.tasks self.old.state first self.old.rules.cycles }
+        ensures within { result.turns ≤ 2 * self.old.rules.cycles }
         ensures state { self.new.state ≡ play_of self.old.rules.tasks self.old.state first result.turns }
         ensures turns { self.new.turns ≡ result.turns }
         ensures rules { self.new.rules ≡ self.old.rules }
@@ -154,17 +158,19 @@ impl<C: Cells> Arena<C> {
         self.cells.restore()
     }
 
-    /// Returns the cell at address `at`, which is below the core size.
+    /// Returns the cell at address `at`, which is below the core size. Both its numbers are too.
     pub fn cell(&self, at: u32) -> Instruction
         requires { at < self.now.rules.core }
-        ensures { result ≡ cell_at self.now.state.core at }
+        ensures value { result ≡ cell_at self.now.state.core at }
+        ensures below { IsBelow self.now.rules.core result }
     {
-        self.cells.get(at)
+        read(&self.cells, self.rules.core(), at).instruction()
     }
 
-    /// Returns the number of tasks of `side`.
+    /// Returns the number of tasks of `side`, at most the tasks of the rules.
     pub fn task_count(&self, side: Side) -> u32
-        ensures { result ≡ length (tasks_of side self.now.state) }
+        ensures value { result ≡ length (tasks_of side self.now.state) }
+        ensures within { result ≤ self.now.rules.tasks }
     {
         match side {
             Side::Candidate => self.candidate.len() as u32,
@@ -173,10 +179,12 @@ impl<C: Cells> Arena<C> {
     }
 
     /// Returns the address of the task at `index` in the queue of `side`. Index 0 moves next;
-    /// `index` is below the number of tasks.
+    /// `index` is below the number of tasks, and the address is below the core size.
+    #[tactic(auto, using(crate::proofs::Queues::item_below))]
     pub fn task(&self, side: Side, index: u32) -> u32
         requires { index < length (tasks_of side self.now.state) }
-        ensures { result ≡ slice_index (tasks_of side self.now.state) index }
+        ensures value { result ≡ slice_index (tasks_of side self.now.state) index }
+        ensures below { result < self.now.rules.core }
     {
         let task = match side {
             Side::Candidate => self.candidate.get(index as usize),

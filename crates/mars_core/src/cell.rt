@@ -1,5 +1,7 @@
 //! One cell as a turn works on it, in the form in which its store keeps it.
-ghost use Rattle.std.specs.Prelude.{◌≡◌, ◌<◌};
+ghost use Rattle.std.specs.Prelude.{◌≡◌, ◌<◌, ◌⊎◌, ◌↔◌, IsTrue};
+ghost use Rattle.rc_instr.specs.declared.instruction.Opcode.{Opcode};
+ghost use Rattle.rc_instr.specs.declared.instruction.Modifier.{Modifier};
 ghost use Rattle.rc_instr.specs.Instruction.{same_instruction};
 ghost use Rattle.rc_instr.specs.declared.instruction.Instruction.{Instruction};
 ghost use Rattle.mars_core.specs.Numbers.{with_field};
@@ -22,6 +24,14 @@ pub trait Cell: Copy {
 
     fn opcode(self) -> Opcode
         ensures { result ≡ (held self).opcode };
+
+    /// Checks whether the instruction is MOV.I.
+    fn moves_whole(self) -> bool
+        ensures { IsTrue result ↔ ((held self).opcode ≡ Opcode.Mov) × ((held self).modifier ≡ Modifier.I) };
+
+    /// Checks whether the opcode is SPL or NOP, which only queue tasks.
+    fn only_queues(self) -> bool
+        ensures { IsTrue result ↔ ((held self).opcode ≡ Opcode.Spl) ⊎ ((held self).opcode ≡ Opcode.Nop) };
 
     fn modifier(self) -> Modifier
         ensures { result ≡ (held self).modifier };
@@ -54,47 +64,57 @@ pub trait Cell: Copy {
 impl Cell for Instruction {
     ghost held = { λ i. i };
 
-    #[inline(always)]
+    #[inline]
     fn of(instruction: Instruction) -> Instruction {
         instruction
     }
 
-    #[inline(always)]
+    #[inline]
     fn instruction(self) -> Instruction {
         self
     }
 
-    #[inline(always)]
+    #[inline]
     fn opcode(self) -> Opcode {
         self.opcode
     }
 
-    #[inline(always)]
+    #[inline]
+    fn moves_whole(self) -> bool {
+        self.opcode == Opcode::Mov && self.modifier == Modifier::I
+    }
+
+    #[inline]
+    fn only_queues(self) -> bool {
+        self.opcode == Opcode::Spl || self.opcode == Opcode::Nop
+    }
+
+    #[inline]
     fn modifier(self) -> Modifier {
         self.modifier
     }
 
-    #[inline(always)]
+    #[inline]
     fn a_mode(self) -> Mode {
         self.a_mode
     }
 
-    #[inline(always)]
+    #[inline]
     fn b_mode(self) -> Mode {
         self.b_mode
     }
 
-    #[inline(always)]
+    #[inline]
     fn a_number(self) -> u32 {
         u32::from(self.a_number)
     }
 
-    #[inline(always)]
+    #[inline]
     fn b_number(self) -> u32 {
         u32::from(self.b_number)
     }
 
-    #[inline(always)]
+    #[inline]
     fn with_a_number(self, number: u32) -> Instruction {
         Instruction {
             a_number: number as u16,
@@ -102,7 +122,7 @@ impl Cell for Instruction {
         }
     }
 
-    #[inline(always)]
+    #[inline]
     fn with_b_number(self, number: u32) -> Instruction {
         Instruction {
             b_number: number as u16,
@@ -110,7 +130,7 @@ impl Cell for Instruction {
         }
     }
 
-    #[inline(always)]
+    #[inline]
     fn is_same(self, other: Instruction) -> bool {
         Instruction::is_same(&self, &other)
     }

@@ -91,18 +91,18 @@ impl Cells for PlainCells {
 
     ghost new_marks = { λ m. m };
 
-    #[inline(always)]
+    #[inline]
     fn size(&self) -> u32 {
         self.cells.len() as u32
     }
 
-    #[inline(always)]
+    #[inline]
     #[tactic(auto, unfolding(crate::specs::Core::cell_at))]
     fn cell(&self, at: u32) -> Instruction {
         self.cells[at as usize]
     }
 
-    #[inline(always)]
+    #[inline]
     fn put(&mut self, at: u32, cell: Instruction) {
         self.cells[at as usize] = cell;
     }
@@ -115,7 +115,7 @@ impl Cells for PlainCells {
 
 // Reads a cell of a core: its numbers are below the core size.
 #[tactic(auto, using(crate::proofs::Below::cell_below))]
-#[inline(always)]
+#[inline]
 pub(crate) fn read<C: Cells>(cells: &C, size: u32, at: u32) -> C::Kept
     requires core { IsCore size (C.items cells.now) }
     requires at { at < size }
@@ -127,7 +127,7 @@ pub(crate) fn read<C: Cells>(cells: &C, size: u32, at: u32) -> C::Kept
 
 // Replaces a cell of a core.
 #[tactic(auto, using(crate::proofs::Below::core_set))]
-#[inline(always)]
+#[inline]
 pub(crate) fn write<C: Cells>(cells: &mut C, size: u32, at: u32, cell: C::Kept)
     requires core { IsCore size (C.items cells.old) }
     requires at { at < size }

@@ -1,15 +1,21 @@
 //! The opcodes: what each writes, and what it queues.
 ghost use Rattle.std.specs.Prelude.{◌≡◌, ◌<◌, ◌≤◌, ◌+◌, slice_set, if◌then◌else◌};
 ghost use Rattle.rc_instr.specs.Warrior.{IsBelow};
+ghost use Rattle.rc_instr.specs.declared.instruction.Opcode.{Opcode};
 ghost use Rattle.mars_core.specs.Core.{cell_at, IsCore};
-ghost use Rattle.mars_core.specs.Pairs.{computed, counted_down};
+ghost use Rattle.mars_core.specs.Pairs.{computed, counted_down, has_zero_divisor, pairs_of, written, written_value};
 ghost use Rattle.mars_core.specs.Step.{leaves, effect_of};
 ghost use Rattle.mars_core.specs.Evaluated.{addresses};
+ghost use Rattle.mars_core.specs.declared.effect.Queued.{Queued};
 
+use crate::cell::Cell;
 use crate::cells::{Cells, read, write};
 use crate::effect::Queued::{Jump, Next, Nothing, Skip, Split};
 use crate::operand::Evaluated;
-use crate::pairs::{all_equal, all_less, all_tested_are, compute, count_down, divides_by_zero};
+use crate::pairs::{
+    Adding, Dividing, Moving, Multiplying, Operation, Remaining, Subtracting, all_equal, all_less,
+    all_tested_are, count_down, divides_by_zero, write_pairs,
+};
 use rc_instr::{Modifier, Opcode};
 
 // Says which addresses a task queues, in order.
@@ -27,15 +33,17 @@ pub(crate) enum Queued {
     Split,
 }
 
-// Runs an opcode on its evaluated operands, for the task at `pc`. Returns what the task queues.
+// Runs `instruction` on its evaluated operands, for the task at `pc`. Returns what the task queues.
+//
+// Each arm decodes the modifier anew, so that the compiler makes one jump of that and of the match
+// on it.
 #[tactic(auto, unfolding(crate::specs::Step::effect_of, crate::specs::Pairs::computed))]
 #[inline(always)]
 pub(crate) fn act<C: Cells>(
     cells: &mut C,
     size: u32,
     pc: u32,
-    opcode: Opcode,
-    modifier: Modifier,
+    instruction: C::Kept,
     a: Evaluated<C::Kept>,
     b: Evaluated<C::Kept>,
 ) -> Queued
@@ -43,74 +51,111 @@ pub(crate) fn act<C: Cells>(
     requires a { IsBelow size (C.Kept.held a.copy) × (a.address < size) }
     requires b { IsBelow size (C.Kept.held b.copy) × (b.address < size) }
     ensures value { leaves (C.items cells.new) (addresses size pc a.address result)
-        ≡ effect_of opcode modifier size (C.items cells.old) pc a.address (C.Kept.held a.copy) (C.Kept.held b.copy) b.address }
+        ≡ effect_of (C.Kept.held instruction).opcode (C.Kept.held instruction).modifier size (C.items cells.old) pc a.address (C.Kept.held a.copy) (C.Kept.held b.copy) b.address }
     ensures core { IsCore size (C.items cells.new) }
     ensures marks { C.marks cells.new ≤ C.marks cells.old + 1 }
 {
-    if opcode == Opcode::Mov && modifier == Modifier::I {
-        write(cells, size, b.address, a.copy);
-        return Next;
-    }
-    match opcode {
+    let (x, y) = (a.copy, b.copy);
+    match instruction.opcode() {
         Opcode::Dat => Nothing,
-        Opcode::Nop => Next,
-        Opcode::Mov | Opcode::Add | Opcode::Sub | Opcode::Mul | Opcode::Div | Opcode::Mod => {
-            apply(cells, size, opcode, modifier, a.copy, b);
-            let divides = opcode == Opcode::Div || opcode == Opcode::Mod;
-            choose(divides && divides_by_zero(modifier, a.copy), Nothing, Next)
-        }
+        Opcode::Mov => move_numbers(cells, size, instruction.modifier(), x, b),
+        Opcode::Add => apply::<C, Adding>(cells, size, instruction.modifier(), x, b),
+        Opcode::Sub => apply::<C, Subtracting>(cells, size, instruction.modifier(), x, b),
+        Opcode::Mul => apply::<C, Multiplying>(cells, size, instruction.modifier(), x, b),
+        Opcode::Div => divide::<C, Dividing>(cells, size, instruction.modifier(), x, b),
+        Opcode::Mod => divide::<C, Remaining>(cells, size, instruction.modifier(), x, b),
         Opcode::Jmp => Jump,
-        // Where one of the two jumps, the other goes on.
-        Opcode::Jmz | Opcode::Jmn => {
-            let jumps = all_tested_are(modifier, 0, b.copy) == (opcode == Opcode::Jmz);
-            choose(jumps, Jump, Next)
-        }
+        Opcode::Jmz => choose(all_tested_are(instruction.modifier(), 0, y), Jump, Next),
+        Opcode::Jmn => choose(all_tested_are(instruction.modifier(), 0, y), Next, Jump),
         Opcode::Djn => {
-            apply_count_down(cells, size, modifier, b.address);
-            choose(all_tested_are(modifier, 1, b.copy), Next, Jump)
+            apply_count_down(cells, size, instruction.modifier(), b.address);
+            choose(all_tested_are(instruction.modifier(), 1, y), Next, Jump)
         }
-        // Where one of the two skips, the other goes on.
-        Opcode::Seq | Opcode::Sne => {
-            let skips = all_equal(modifier, a.copy, b.copy) == (opcode == Opcode::Seq);
-            choose(skips, Skip, Next)
-        }
-        Opcode::Slt => choose(all_less(modifier, a.copy, b.copy), Skip, Next),
+        Opcode::Seq => choose(all_equal(instruction.modifier(), x, y), Skip, Next),
+        Opcode::Sne => choose(all_equal(instruction.modifier(), x, y), Next, Skip),
+        Opcode::Slt => choose(all_less(instruction.modifier(), x, y), Skip, Next),
         Opcode::Spl => Split,
+        Opcode::Nop => Next,
     }
 }
 
-#[inline(always)]
+#[inline]
 fn choose(test: bool, yes: Queued, no: Queued) -> Queued
     ensures { result ≡ (if test then yes else no) }
 {
     if test { yes } else { no }
 }
 
-// Writes the result of MOV, ADD, SUB, MUL, DIV or MOD into the cell of the B-operand.
+// Runs MOV: writes the A-values into the cell of the B-operand, with I the whole instruction.
+#[tactic(auto, using(crate::proofs::Written::computed_pairs), unfolding(crate::specs::Pairs::computed))]
 #[inline(always)]
-fn apply<C: Cells>(
+fn move_numbers<C: Cells>(
     cells: &mut C,
     size: u32,
-    opcode: Opcode,
     modifier: Modifier,
     a: C::Kept,
     b: Evaluated<C::Kept>,
-)
+) -> Queued
     requires core { IsCore size (C.items cells.old) }
     requires a { IsBelow size (C.Kept.held a) }
     requires b { IsBelow size (C.Kept.held b.copy) × (b.address < size) }
+    ensures queued { result ≡ Queued.Next }
     ensures items { C.items cells.new ≡ slice_set (C.items cells.old) b.address
-        (computed opcode modifier size (C.Kept.held a) (C.Kept.held b.copy) (cell_at (C.items cells.old) b.address)) }
+        (computed Opcode.Mov modifier size (C.Kept.held a) (C.Kept.held b.copy) (cell_at (C.items cells.old) b.address)) }
+    ensures core { IsCore size (C.items cells.new) }
+    ensures marks { C.marks cells.new ≤ C.marks cells.old + 1 }
+{
+    if modifier == Modifier::I {
+        write(cells, size, b.address, a);
+        return Next;
+    }
+    apply::<C, Moving>(cells, size, modifier, a, b)
+}
+
+// Writes the values of an operation into the cell of the B-operand. The task goes on.
+#[inline(always)]
+fn apply<C: Cells, O: Operation>(
+    cells: &mut C,
+    size: u32,
+    modifier: Modifier,
+    a: C::Kept,
+    b: Evaluated<C::Kept>,
+) -> Queued
+    requires core { IsCore size (C.items cells.old) }
+    requires a { IsBelow size (C.Kept.held a) }
+    requires b { IsBelow size (C.Kept.held b.copy) × (b.address < size) }
+    ensures queued { result ≡ Queued.Next }
+    ensures items { C.items cells.new ≡ slice_set (C.items cells.old) b.address
+        (written (written_value O.opcode size) (pairs_of modifier) (C.Kept.held a) (C.Kept.held b.copy) (cell_at (C.items cells.old) b.address)) }
     ensures core { IsCore size (C.items cells.new) }
     ensures marks { C.marks cells.new ≤ C.marks cells.old + 1 }
 {
     let target = read(cells, size, b.address);
-    write(
-        cells,
-        size,
-        b.address,
-        compute(opcode, modifier, size, a, b.copy, target),
-    );
+    let changed = write_pairs::<O, C::Kept>(modifier, size, a, b.copy, target);
+    write(cells, size, b.address, changed);
+    Next
+}
+
+// Runs DIV or MOD: writes its values, and ends the task if some A-value is 0.
+#[inline(always)]
+fn divide<C: Cells, O: Operation>(
+    cells: &mut C,
+    size: u32,
+    modifier: Modifier,
+    a: C::Kept,
+    b: Evaluated<C::Kept>,
+) -> Queued
+    requires core { IsCore size (C.items cells.old) }
+    requires a { IsBelow size (C.Kept.held a) }
+    requires b { IsBelow size (C.Kept.held b.copy) × (b.address < size) }
+    ensures queued { result ≡ (if has_zero_divisor modifier (C.Kept.held a) then Queued.Nothing else Queued.Next) }
+    ensures items { C.items cells.new ≡ slice_set (C.items cells.old) b.address
+        (written (written_value O.opcode size) (pairs_of modifier) (C.Kept.held a) (C.Kept.held b.copy) (cell_at (C.items cells.old) b.address)) }
+    ensures core { IsCore size (C.items cells.new) }
+    ensures marks { C.marks cells.new ≤ C.marks cells.old + 1 }
+{
+    apply::<C, O>(cells, size, modifier, a, b);
+    choose(divides_by_zero(modifier, a), Nothing, Next)
 }
 
 // Lowers the numbers that DJN tests, in the cell at `at`.

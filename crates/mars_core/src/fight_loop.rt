@@ -39,12 +39,10 @@ pub(crate) fn alternate<C: Cells>(
         return 0;
     }
     for cycle in 0..cycles {
-        take_turn(cells, mine, size);
-        if mine.is_empty() {
+        if take_turn(cells, mine, size) {
             return 2 * cycle + 1;
         }
-        take_turn(cells, theirs, size);
-        if theirs.is_empty() {
+        if take_turn(cells, theirs, size) {
             return 2 * cycle + 2;
         }
     }

@@ -30,27 +30,26 @@ impl Model for PackedCells {
     ghost invariant = { λ s. IsStore s.words.items s.journal.items s.count };
 }
 
-// Writes a marked word, and adds its address to the journal if no mark was there. Returns how many
-// addresses the journal has.
+// Writes a marked word, and adds its address to the journal if no mark was there. `count` is the
+// number of addresses that the journal has.
 #[tactic(auto, using(crate::proofs::Stores::stores))]
-#[inline(always)]
-fn put(words: &mut Vec<u64>, journal: &mut Vec<u16>, count: usize, at: u32, word: u64) -> usize
-    requires store { IsStore words.old.items journal.old.items count }
+#[inline]
+fn put(words: &mut Vec<u64>, journal: &mut Vec<u16>, count: &mut usize, at: u32, word: u64)
+    requires store { IsStore words.old.items journal.old.items count.old }
     requires at { at < length words.old.items }
     requires marked { is_marked word ≡ true }
     ensures words { words.new.items ≡ slice_set words.old.items at word }
-    ensures store { IsStore words.new.items journal.new.items result }
-    ensures marks { result ≤ count + 1 }
+    ensures store { IsStore words.new.items journal.new.items count.new }
+    ensures marks { count.new ≤ count.old + 1 }
 {
     let old = PackedCell {
         word: words[at as usize],
     };
     words[at as usize] = word;
-    if old.is_marked() {
-        return count;
+    if !old.is_marked() {
+        journal[*count] = at as u16;
+        *count += 1;
     }
-    journal[count] = at as u16;
-    count + 1
 }
 
 // Empties the cells whose addresses are in `journal`.
@@ -92,13 +91,13 @@ impl Cells for PackedCells {
 
     ghost new_marks = { λ m. 0 };
 
-    #[inline(always)]
+    #[inline]
     fn size(&self) -> u32 {
         self.words.len() as u32
     }
 
     #[tactic(auto, using(crate::proofs::Stores::item_at), unfolding(crate::specs::Core::cell_at))]
-    #[inline(always)]
+    #[inline]
     fn cell(&self, at: u32) -> PackedCell {
         PackedCell {
             word: self.words[at as usize],
@@ -106,14 +105,15 @@ impl Cells for PackedCells {
     }
 
     #[tactic(auto, using(crate::proofs::Stores::item_set, crate::proofs::Stores::marked_is, crate::proofs::Stores::marked_holds))]
-    #[inline(always)]
+    #[inline]
     fn put(&mut self, at: u32, cell: PackedCell) {
-        self.count = put(
+        let word = cell.marked().word;
+        put(
             &mut self.words,
             &mut self.journal,
-            self.count,
+            &mut self.count,
             at,
-            cell.marked().word,
+            word,
         );
     }
 

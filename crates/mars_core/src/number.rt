@@ -9,12 +9,12 @@ use crate::cell::Cell;
 pub(crate) trait Number {
     ghost field: { Field };
 
-    fn of<W: Cell>(cell: W) -> u32
-        ensures { result ≡ field_of field (W.held cell) };
+    fn of<K: Cell>(cell: K) -> u32
+        ensures { result ≡ field_of field (K.held cell) };
 
-    fn put<W: Cell>(cell: W, number: u32) -> W
+    fn put<K: Cell>(cell: K, number: u32) -> K
         requires { number < 65536 }
-        ensures { W.held result ≡ with_field field number (W.held cell) };
+        ensures { K.held result ≡ with_field field number (K.held cell) };
 }
 
 pub(crate) struct FieldA;
@@ -22,13 +22,13 @@ pub(crate) struct FieldA;
 impl Number for FieldA {
     ghost field = { ANumber };
 
-    #[inline(always)]
-    fn of<W: Cell>(cell: W) -> u32 {
+    #[inline]
+    fn of<K: Cell>(cell: K) -> u32 {
         cell.a_number()
     }
 
-    #[inline(always)]
-    fn put<W: Cell>(cell: W, number: u32) -> W {
+    #[inline]
+    fn put<K: Cell>(cell: K, number: u32) -> K {
         cell.with_a_number(number)
     }
 }
@@ -38,23 +38,23 @@ pub(crate) struct FieldB;
 impl Number for FieldB {
     ghost field = { BNumber };
 
-    #[inline(always)]
-    fn of<W: Cell>(cell: W) -> u32 {
+    #[inline]
+    fn of<K: Cell>(cell: K) -> u32 {
         cell.b_number()
     }
 
-    #[inline(always)]
-    fn put<W: Cell>(cell: W, number: u32) -> W {
+    #[inline]
+    fn put<K: Cell>(cell: K, number: u32) -> K {
         cell.with_b_number(number)
     }
 }
 
 // Returns a number of a cell.
 #[tactic(auto, using(crate::proofs::Fields::field_below))]
-#[inline(always)]
-pub(crate) fn number_of<N: Number, W: Cell>(size: u32, cell: W) -> u32
-    requires { IsBelow size (W.held cell) }
-    ensures value { result ≡ field_of N.field (W.held cell) }
+#[inline]
+pub(crate) fn number_of<N: Number, K: Cell>(size: u32, cell: K) -> u32
+    requires { IsBelow size (K.held cell) }
+    ensures value { result ≡ field_of N.field (K.held cell) }
     ensures below { result < size }
 {
     N::of(cell)
@@ -62,13 +62,13 @@ pub(crate) fn number_of<N: Number, W: Cell>(size: u32, cell: W) -> u32
 
 // Returns the cell with one number replaced by `number`.
 #[tactic(auto, using(crate::proofs::Fields::with_field_below))]
-#[inline(always)]
-pub(crate) fn with_number<N: Number, W: Cell>(size: u32, cell: W, number: u32) -> W
+#[inline]
+pub(crate) fn with_number<N: Number, K: Cell>(size: u32, cell: K, number: u32) -> K
     requires size { size ≤ 65535 }
-    requires cell { IsBelow size (W.held cell) }
+    requires cell { IsBelow size (K.held cell) }
     requires number { number < size }
-    ensures value { W.held result ≡ with_field N.field number (W.held cell) }
-    ensures below { IsBelow size (W.held result) }
+    ensures value { K.held result ≡ with_field N.field number (K.held cell) }
+    ensures below { IsBelow size (K.held result) }
 {
     N::put(cell, number)
 }
@@ -76,7 +76,7 @@ pub(crate) fn with_number<N: Number, W: Cell>(size: u32, cell: W, number: u32) -
 // Adds modulo `size`. Both terms are below it, so one subtraction replaces the division. Tests its
 // sign, since the compiler makes a conditional move of that, but a branch of `z < size`.
 #[tactic(auto, unfolding(crate::specs::Numbers::sum_of))]
-#[inline(always)]
+#[inline]
 pub(crate) fn sum(size: u32, x: u32, y: u32) -> u32
     requires size { size ≤ 65535 }
     requires x { x < size }
@@ -89,9 +89,9 @@ pub(crate) fn sum(size: u32, x: u32, y: u32) -> u32
     if t >= 2147483648 { z } else { t }
 }
 
-// Subtracts modulo `size`, without a division.
+// Subtracts modulo `size`, without a division and without a branch.
 #[tactic(auto, unfolding(crate::specs::Numbers::difference_of))]
-#[inline(always)]
+#[inline]
 pub(crate) fn difference(size: u32, x: u32, y: u32) -> u32
     requires size { size ≤ 65535 }
     requires x { x < size }
@@ -99,12 +99,17 @@ pub(crate) fn difference(size: u32, x: u32, y: u32) -> u32
     ensures value { result ≡ difference_of size x y }
     ensures below { result < size }
 {
-    if y <= x { x - y } else { x + (size - y) }
+    let t = x.wrapping_sub(y);
+    if t >= 2147483648 {
+        t.wrapping_add(size)
+    } else {
+        t
+    }
 }
 
 // Multiplies modulo `size`. This is the only operation that divides by the core size.
 #[tactic(auto, unfolding(crate::specs::Numbers::product_of))]
-#[inline(always)]
+#[inline]
 pub(crate) fn product(size: u32, x: u32, y: u32) -> u32
     requires size { size ≤ 65535 }
     requires x { x < size }

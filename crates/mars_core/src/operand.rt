@@ -4,7 +4,7 @@ ghost use Rattle.rc_instr.specs.Warrior.{IsBelow};
 ghost use Rattle.mars_core.specs.Core.{cell_at, changed_at, IsCore};
 ghost use Rattle.mars_core.specs.Numbers.{sum_of, difference_of, field_of};
 ghost use Rattle.mars_core.specs.Operand.{operand_of};
-ghost use Rattle.mars_core.specs.Evaluated.{located, located_from};
+ghost use Rattle.mars_core.specs.Evaluated.{located, located_from, a_operand, b_operand};
 
 use crate::cell::Cell;
 use crate::cells::{Cells, read, write};
@@ -13,9 +13,36 @@ use rc_instr::Mode;
 
 // An address, and a copy of the cell there: where an operand points, or what it goes through.
 #[derive(Clone, Copy)]
-pub(crate) struct Evaluated<W> {
+pub(crate) struct Evaluated<K> {
     pub(crate) address: u32,
-    pub(crate) copy: W,
+    pub(crate) copy: K,
+}
+
+// Both operands of an instruction.
+type Operands<K> = (Evaluated<K>, Evaluated<K>);
+
+// Evaluates the A-operand of `cell`, which is at `pc`, and then its B-operand (1994 draft).
+#[inline(always)]
+pub(crate) fn operands<C: Cells>(
+    cells: &mut C,
+    size: u32,
+    pc: u32,
+    cell: C::Kept,
+) -> Operands<C::Kept>
+    requires core { IsCore size (C.items cells.old) }
+    requires pc { pc < size }
+    requires below { IsBelow size (C.Kept.held cell) }
+    ensures a { (result.0.address ≡ sum_of size pc (a_operand size (C.items cells.old) pc (C.Kept.held cell)).pointer)
+        × (C.Kept.held result.0.copy ≡ (a_operand size (C.items cells.old) pc (C.Kept.held cell)).copy) }
+    ensures b { located result.1.address (C.Kept.held result.1.copy) (C.items cells.new) ≡ located_from size pc (b_operand size (C.items cells.old) pc (C.Kept.held cell)) }
+    ensures a_below { (result.0.address < size) × IsBelow size (C.Kept.held result.0.copy) }
+    ensures b_below { (result.1.address < size) × IsBelow size (C.Kept.held result.1.copy) }
+    ensures core { IsCore size (C.items cells.new) }
+    ensures marks { C.marks cells.new ≤ C.marks cells.old + 2 }
+{
+    let a = evaluate(cells, size, pc, cell.a_mode(), cell.a_number());
+    let b = evaluate(cells, size, pc, cell.b_mode(), cell.b_number());
+    (a, b)
 }
 
 // Evaluates an operand of the task at `pc`. Lowers the number that it goes through before its use
@@ -76,7 +103,7 @@ pub(crate) fn evaluate<C: Cells>(
 
 // Lowers one number of the cell at `at` by 1. Returns the lowered number.
 #[tactic(auto, using(crate::proofs::Operands::cell_set), unfolding(crate::specs::Core::changed_at))]
-#[inline(always)]
+#[inline]
 fn lower<C: Cells, N: Number>(cells: &mut C, size: u32, at: u32) -> u32
     requires core { IsCore size (C.items cells.old) }
     requires at { at < size }
@@ -95,7 +122,7 @@ fn lower<C: Cells, N: Number>(cells: &mut C, size: u32, at: u32) -> u32
 
 // Raises one number of the cell at `way.address` by 1. `way.copy` is that cell.
 #[tactic(auto, unfolding(crate::specs::Core::changed_at))]
-#[inline(always)]
+#[inline]
 fn raise<C: Cells, N: Number>(cells: &mut C, size: u32, way: Evaluated<C::Kept>)
     requires core { IsCore size (C.items cells.old) }
     requires address { way.address < size }
@@ -111,7 +138,7 @@ fn raise<C: Cells, N: Number>(cells: &mut C, size: u32, way: Evaluated<C::Kept>)
 }
 
 // Returns an address, and a copy of the cell there.
-#[inline(always)]
+#[inline]
 fn at<C: Cells>(cells: &C, size: u32, address: u32) -> Evaluated<C::Kept>
     requires core { IsCore size (C.items cells.now) }
     requires address { address < size }

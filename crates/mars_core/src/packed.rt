@@ -13,7 +13,7 @@ pub struct PackedCell {
     pub(crate) word: u64,
 }
 
-#[inline(always)]
+#[inline]
 fn opcode_from(number: u64) -> Opcode
     requires { number < 16 }
     ensures { result ≡ opcode_of number }
@@ -38,7 +38,7 @@ fn opcode_from(number: u64) -> Opcode
     }
 }
 
-#[inline(always)]
+#[inline]
 fn modifier_from(number: u64) -> Modifier
     requires { number < 8 }
     ensures { result ≡ modifier_of number }
@@ -54,7 +54,7 @@ fn modifier_from(number: u64) -> Modifier
     }
 }
 
-#[inline(always)]
+#[inline]
 fn mode_from(number: u64) -> Mode
     requires { number < 8 }
     ensures { result ≡ mode_of number }
@@ -71,7 +71,7 @@ fn mode_from(number: u64) -> Mode
     }
 }
 
-#[inline(always)]
+#[inline]
 fn opcode_code(opcode: Opcode) -> u64
     ensures value { result ≡ opcode_number opcode }
     ensures small { result < 16 }
@@ -79,7 +79,7 @@ fn opcode_code(opcode: Opcode) -> u64
     opcode as u64
 }
 
-#[inline(always)]
+#[inline]
 fn modifier_code(modifier: Modifier) -> u64
     ensures value { result ≡ modifier_number modifier }
     ensures small { result < 7 }
@@ -87,7 +87,7 @@ fn modifier_code(modifier: Modifier) -> u64
     modifier as u64
 }
 
-#[inline(always)]
+#[inline]
 fn mode_code(mode: Mode) -> u64
     ensures value { result ≡ mode_number mode }
     ensures small { result < 8 }
@@ -97,7 +97,7 @@ fn mode_code(mode: Mode) -> u64
 
 // Packs an instruction, without a mark.
 #[tactic(auto, unfolding(crate::specs::Packed::packed))]
-#[inline(always)]
+#[inline]
 fn pack(instruction: Instruction) -> u64
     ensures { result ≡ packed instruction }
 {
@@ -111,7 +111,7 @@ fn pack(instruction: Instruction) -> u64
 impl PackedCell {
     // Returns the empty cell, without a mark.
     #[tactic(auto, unfolding(crate::specs::Packed::empty_word))]
-    #[inline(always)]
+    #[inline]
     pub(crate) fn empty() -> PackedCell
         ensures { result.word ≡ empty_word }
     {
@@ -122,7 +122,7 @@ impl PackedCell {
 
     // Returns the cell with a mark.
     #[tactic(auto, unfolding(crate::specs::Packed::mark_of, crate::specs::Packed::marked))]
-    #[inline(always)]
+    #[inline]
     pub(crate) fn marked(self) -> PackedCell
         ensures { result.word ≡ marked self.word }
     {
@@ -134,7 +134,7 @@ impl PackedCell {
 
     // Checks whether the cell has a mark.
     #[tactic(auto, unfolding(crate::specs::Packed::mark_of))]
-    #[inline(always)]
+    #[inline]
     pub(crate) fn is_marked(self) -> bool
         ensures { result ≡ is_marked self.word }
     {
@@ -146,7 +146,7 @@ impl Cell for PackedCell {
     ghost held = { λ c. unpacked c.word };
 
     #[tactic(auto, using(crate::proofs::Packing::unpacked_packed))]
-    #[inline(always)]
+    #[inline]
     fn of(instruction: Instruction) -> PackedCell {
         PackedCell {
             word: pack(instruction),
@@ -154,7 +154,7 @@ impl Cell for PackedCell {
     }
 
     #[tactic(auto, unfolding(crate::specs::Packed::unpacked))]
-    #[inline(always)]
+    #[inline]
     fn instruction(self) -> Instruction {
         Instruction {
             opcode: self.opcode(),
@@ -167,42 +167,54 @@ impl Cell for PackedCell {
     }
 
     #[tactic(auto, unfolding(crate::specs::Packed::unpacked))]
-    #[inline(always)]
+    #[inline]
     fn opcode(self) -> Opcode {
         opcode_from(self.word / 8 % 16)
     }
 
+    #[tactic(auto, using(crate::proofs::Packing::fast), unfolding(crate::specs::Packed::unpacked))]
+    #[inline]
+    fn moves_whole(self) -> bool {
+        self.word / 2 % 64 == 7
+    }
+
+    #[tactic(auto, using(crate::proofs::Packing::fast), unfolding(crate::specs::Packed::unpacked))]
+    #[inline]
+    fn only_queues(self) -> bool {
+        self.word / 8 % 16 >= 14
+    }
+
     #[tactic(auto, unfolding(crate::specs::Packed::unpacked))]
-    #[inline(always)]
+    #[inline]
     fn modifier(self) -> Modifier {
         modifier_from(self.word % 8)
     }
 
     #[tactic(auto, unfolding(crate::specs::Packed::unpacked))]
-    #[inline(always)]
+    #[inline]
     fn a_mode(self) -> Mode {
         mode_from(self.word / 256 % 8)
     }
 
     #[tactic(auto, unfolding(crate::specs::Packed::unpacked))]
-    #[inline(always)]
+    #[inline]
     fn b_mode(self) -> Mode {
         mode_from(self.word / 2048 % 8)
     }
 
     #[tactic(auto, unfolding(crate::specs::Packed::unpacked))]
-    #[inline(always)]
+    #[inline]
     fn a_number(self) -> u32 {
         (self.word / 65536 % 65536) as u32
     }
 
     #[tactic(auto, unfolding(crate::specs::Packed::unpacked))]
-    #[inline(always)]
+    #[inline]
     fn b_number(self) -> u32 {
         (self.word / 281474976710656) as u32
     }
 
-    #[inline(always)]
+    #[inline]
     fn with_a_number(self, number: u32) -> PackedCell {
         let low = self.word % 65536;
         let high = self.word / 4294967296;
@@ -211,7 +223,7 @@ impl Cell for PackedCell {
         }
     }
 
-    #[inline(always)]
+    #[inline]
     fn with_b_number(self, number: u32) -> PackedCell {
         let low = self.word % 281474976710656;
         PackedCell {
@@ -220,7 +232,7 @@ impl Cell for PackedCell {
     }
 
     #[tactic(auto, using(crate::proofs::Packing::same_packed))]
-    #[inline(always)]
+    #[inline]
     fn is_same(self, other: PackedCell) -> bool {
         are_same(self.word, other.word)
     }
@@ -228,7 +240,7 @@ impl Cell for PackedCell {
 
 // Checks whether two words hold the same instruction, part by part.
 #[tactic(auto, unfolding(crate::specs::Packed::same_parts))]
-#[inline(always)]
+#[inline]
 fn are_same(x: u64, y: u64) -> bool
     ensures { result ≡ same_parts x y }
 {
@@ -242,7 +254,7 @@ fn are_same(x: u64, y: u64) -> bool
 
 // Returns the number of the modifier in a word. 7, which `pack` never makes, is `I` too.
 #[tactic(auto, using(crate::proofs::Packing::modifier_capped))]
-#[inline(always)]
+#[inline]
 fn modifier_code_in(word: u64) -> u64
     ensures { result ≡ modifier_number (modifier_of (word % 8)) }
 {

@@ -2,83 +2,139 @@
 //! skips.
 ghost use Rattle.std.specs.Prelude.{◌≡◌, ◌<◌, ◌≤◌, IfSome};
 ghost use Rattle.rc_instr.specs.Warrior.{IsBelow};
+ghost use Rattle.rc_instr.specs.declared.instruction.Opcode.{Opcode};
 ghost use Rattle.mars_core.specs.Numbers.{ANumber, BNumber, difference_of, field_of, with_field};
-ghost use Rattle.mars_core.specs.Pairs.{written_value, put, computed, counted_down, has_zero_divisor, all_are, are_equal, are_less};
-ghost use Rattle.mars_core.specs.Evaluated.{value_into};
+ghost use Rattle.mars_core.specs.Pairs.{written_value, put, pairs_of, written, counted_down, has_zero_divisor, all_are, are_equal, are_less};
 
 use crate::cell::Cell;
 use crate::number::{FieldA, FieldB, Number, difference, number_of, product, sum, with_number};
-use rc_instr::{Modifier, Opcode};
+use rc_instr::Modifier;
 
-// Returns the target as MOV, ADD, SUB, MUL, DIV or MOD leaves it.
-#[tactic(auto, using(crate::proofs::Written::computed_written, crate::proofs::Written::computed_whole))]
+// What an opcode computes for one pair from its A-value and its B-value. A type stands for each
+// opcode, so that it is known at compile time.
+pub(crate) trait Operation {
+    ghost opcode: { Opcode };
+
+    // `None` if it writes nothing, as DIV and MOD do with a zero divisor.
+    fn value(size: u32, a: u32, b: u32) -> Option<u32>
+        requires size { size ≤ 65535 }
+        requires a { a < size }
+        requires b { b < size }
+        ensures value { result ≡ written_value opcode size a b }
+        ensures below { IfSome result (λ n. n < size) };
+}
+
+pub(crate) struct Moving;
+
+impl Operation for Moving {
+    ghost opcode = { Opcode.Mov };
+
+    #[tactic(auto, unfolding(crate::specs::Pairs::written_value))]
+    #[inline]
+    fn value(_size: u32, a: u32, _b: u32) -> Option<u32> {
+        Some(a)
+    }
+}
+
+pub(crate) struct Adding;
+
+impl Operation for Adding {
+    ghost opcode = { Opcode.Add };
+
+    #[tactic(auto, unfolding(crate::specs::Pairs::written_value))]
+    #[inline]
+    fn value(size: u32, a: u32, b: u32) -> Option<u32> {
+        Some(sum(size, b, a))
+    }
+}
+
+pub(crate) struct Subtracting;
+
+impl Operation for Subtracting {
+    ghost opcode = { Opcode.Sub };
+
+    #[tactic(auto, unfolding(crate::specs::Pairs::written_value))]
+    #[inline]
+    fn value(size: u32, a: u32, b: u32) -> Option<u32> {
+        Some(difference(size, b, a))
+    }
+}
+
+pub(crate) struct Multiplying;
+
+impl Operation for Multiplying {
+    ghost opcode = { Opcode.Mul };
+
+    #[tactic(auto, unfolding(crate::specs::Pairs::written_value))]
+    #[inline]
+    fn value(size: u32, a: u32, b: u32) -> Option<u32> {
+        Some(product(size, b, a))
+    }
+}
+
+pub(crate) struct Dividing;
+
+impl Operation for Dividing {
+    ghost opcode = { Opcode.Div };
+
+    #[tactic(auto, unfolding(crate::specs::Pairs::written_value))]
+    #[inline]
+    fn value(_size: u32, a: u32, b: u32) -> Option<u32> {
+        b.checked_div(a)
+    }
+}
+
+pub(crate) struct Remaining;
+
+impl Operation for Remaining {
+    ghost opcode = { Opcode.Mod };
+
+    #[tactic(auto, unfolding(crate::specs::Pairs::written_value))]
+    #[inline]
+    fn value(_size: u32, a: u32, b: u32) -> Option<u32> {
+        b.checked_rem(a)
+    }
+}
+
+// Returns the target after the value of each pair is written to the number that the pair leads to.
 #[inline(always)]
-pub(crate) fn compute<W: Cell>(
-    opcode: Opcode,
+pub(crate) fn write_pairs<O: Operation, K: Cell>(
     modifier: Modifier,
     size: u32,
-    a: W,
-    b: W,
-    target: W,
-) -> W
+    a: K,
+    b: K,
+    target: K,
+) -> K
     requires size { size ≤ 65535 }
-    requires a { IsBelow size (W.held a) }
-    requires b { IsBelow size (W.held b) }
-    requires target { IsBelow size (W.held target) }
-    ensures value { W.held result ≡ computed opcode modifier size (W.held a) (W.held b) (W.held target) }
-    ensures below { IsBelow size (W.held result) }
-{
-    if opcode == Opcode::Mov && modifier == Modifier::I {
-        return a;
-    }
-    let a_value = match into_a_number(size, modifier, a) {
-        Some(number) => written_value(opcode, size, number, b.a_number()),
-        None => None,
-    };
-    let b_value = match into_b_number(size, modifier, a) {
-        Some(number) => written_value(opcode, size, number, b.b_number()),
-        None => None,
-    };
-    put_b_number(size, b_value, put_a_number(size, a_value, target))
-}
-
-// Returns the A-value of the pair that leads to the A-number of the B-instruction; `None` if no
-// pair does.
-#[inline(always)]
-fn into_a_number<W: Cell>(size: u32, modifier: Modifier, a: W) -> Option<u32>
-    requires { IsBelow size (W.held a) }
-    ensures value { result ≡ value_into ANumber modifier (W.held a) }
-    ensures below { IfSome result (λ n. n < size) }
+    requires a { IsBelow size (K.held a) }
+    requires b { IsBelow size (K.held b) }
+    requires target { IsBelow size (K.held target) }
+    ensures value { K.held result ≡ written (written_value O.opcode size) (pairs_of modifier) (K.held a) (K.held b) (K.held target) }
+    ensures below { IsBelow size (K.held result) }
 {
     match modifier {
-        Modifier::A | Modifier::F | Modifier::I => Some(a.a_number()),
-        Modifier::BA | Modifier::X => Some(a.b_number()),
-        Modifier::B | Modifier::AB => None,
+        Modifier::A => put_a_number(size, O::value(size, a.a_number(), b.a_number()), target),
+        Modifier::B => put_b_number(size, O::value(size, a.b_number(), b.b_number()), target),
+        Modifier::AB => put_b_number(size, O::value(size, a.a_number(), b.b_number()), target),
+        Modifier::BA => put_a_number(size, O::value(size, a.b_number(), b.a_number()), target),
+        Modifier::F | Modifier::I => {
+            let half = put_a_number(size, O::value(size, a.a_number(), b.a_number()), target);
+            put_b_number(size, O::value(size, a.b_number(), b.b_number()), half)
+        }
+        Modifier::X => {
+            let half = put_b_number(size, O::value(size, a.a_number(), b.b_number()), target);
+            put_a_number(size, O::value(size, a.b_number(), b.a_number()), half)
+        }
     }
 }
 
-// Returns the A-value of the pair that leads to the B-number of the B-instruction; `None` if no
-// pair does.
-#[inline(always)]
-fn into_b_number<W: Cell>(size: u32, modifier: Modifier, a: W) -> Option<u32>
-    requires { IsBelow size (W.held a) }
-    ensures value { result ≡ value_into BNumber modifier (W.held a) }
-    ensures below { IfSome result (λ n. n < size) }
-{
-    match modifier {
-        Modifier::B | Modifier::F | Modifier::I => Some(a.b_number()),
-        Modifier::AB | Modifier::X => Some(a.a_number()),
-        Modifier::A | Modifier::BA => None,
-    }
-}
-
-#[inline(always)]
-fn put_a_number<W: Cell>(size: u32, number: Option<u32>, cell: W) -> W
+#[inline]
+fn put_a_number<K: Cell>(size: u32, number: Option<u32>, cell: K) -> K
     requires size { size ≤ 65535 }
     requires number { IfSome number (λ n. n < size) }
-    requires cell { IsBelow size (W.held cell) }
-    ensures value { W.held result ≡ put ANumber number (W.held cell) }
-    ensures below { IsBelow size (W.held result) }
+    requires cell { IsBelow size (K.held cell) }
+    ensures value { K.held result ≡ put ANumber number (K.held cell) }
+    ensures below { IsBelow size (K.held result) }
 {
     match number {
         Some(number) => cell.with_a_number(number),
@@ -86,13 +142,13 @@ fn put_a_number<W: Cell>(size: u32, number: Option<u32>, cell: W) -> W
     }
 }
 
-#[inline(always)]
-fn put_b_number<W: Cell>(size: u32, number: Option<u32>, cell: W) -> W
+#[inline]
+fn put_b_number<K: Cell>(size: u32, number: Option<u32>, cell: K) -> K
     requires size { size ≤ 65535 }
     requires number { IfSome number (λ n. n < size) }
-    requires cell { IsBelow size (W.held cell) }
-    ensures value { W.held result ≡ put BNumber number (W.held cell) }
-    ensures below { IsBelow size (W.held result) }
+    requires cell { IsBelow size (K.held cell) }
+    ensures value { K.held result ≡ put BNumber number (K.held cell) }
+    ensures below { IsBelow size (K.held result) }
 {
     match number {
         Some(number) => cell.with_b_number(number),
@@ -103,18 +159,18 @@ fn put_b_number<W: Cell>(size: u32, number: Option<u32>, cell: W) -> W
 // Returns the target as DJN leaves it: the numbers that it tests, lowered by 1.
 #[tactic(auto, unfolding(crate::specs::Pairs::counted_down))]
 #[inline(always)]
-pub(crate) fn count_down<W: Cell>(modifier: Modifier, size: u32, target: W) -> W
+pub(crate) fn count_down<K: Cell>(modifier: Modifier, size: u32, target: K) -> K
     requires size { (1 < size) × (size ≤ 65535) }
-    requires target { IsBelow size (W.held target) }
-    ensures value { W.held result ≡ counted_down modifier size (W.held target) }
-    ensures below { IsBelow size (W.held result) }
+    requires target { IsBelow size (K.held target) }
+    ensures value { K.held result ≡ counted_down modifier size (K.held target) }
+    ensures below { IsBelow size (K.held result) }
 {
     match modifier {
-        Modifier::A | Modifier::BA => lowered::<FieldA, W>(size, target),
-        Modifier::B | Modifier::AB => lowered::<FieldB, W>(size, target),
+        Modifier::A | Modifier::BA => lowered::<FieldA, K>(size, target),
+        Modifier::B | Modifier::AB => lowered::<FieldB, K>(size, target),
         Modifier::F | Modifier::X | Modifier::I => {
-            let changed = lowered::<FieldA, W>(size, target);
-            lowered::<FieldB, W>(size, changed)
+            let changed = lowered::<FieldA, K>(size, target);
+            lowered::<FieldB, K>(size, changed)
         }
     }
 }
@@ -122,8 +178,8 @@ pub(crate) fn count_down<W: Cell>(modifier: Modifier, size: u32, target: W) -> W
 // Checks whether some A-value is 0, in which case DIV and MOD end the task.
 #[tactic(auto, unfolding(crate::specs::Pairs::has_zero_divisor))]
 #[inline(always)]
-pub(crate) fn divides_by_zero<W: Cell>(modifier: Modifier, a: W) -> bool
-    ensures { result ≡ has_zero_divisor modifier (W.held a) }
+pub(crate) fn divides_by_zero<K: Cell>(modifier: Modifier, a: K) -> bool
+    ensures { result ≡ has_zero_divisor modifier (K.held a) }
 {
     match modifier {
         Modifier::A | Modifier::AB => a.a_number() == 0,
@@ -135,8 +191,8 @@ pub(crate) fn divides_by_zero<W: Cell>(modifier: Modifier, a: W) -> bool
 // Checks whether all numbers that JMZ, JMN or DJN tests are `n`.
 #[tactic(auto, unfolding(crate::specs::Pairs::all_are))]
 #[inline(always)]
-pub(crate) fn all_tested_are<W: Cell>(modifier: Modifier, n: u32, b: W) -> bool
-    ensures { result ≡ all_are modifier n (W.held b) }
+pub(crate) fn all_tested_are<K: Cell>(modifier: Modifier, n: u32, b: K) -> bool
+    ensures { result ≡ all_are modifier n (K.held b) }
 {
     match modifier {
         Modifier::A | Modifier::BA => b.a_number() == n,
@@ -148,8 +204,8 @@ pub(crate) fn all_tested_are<W: Cell>(modifier: Modifier, n: u32, b: W) -> bool
 // Checks whether the values of every pair are equal; with I, whether the instructions are.
 #[tactic(auto, unfolding(crate::specs::Pairs::are_equal))]
 #[inline(always)]
-pub(crate) fn all_equal<W: Cell>(modifier: Modifier, a: W, b: W) -> bool
-    ensures { result ≡ are_equal modifier (W.held a) (W.held b) }
+pub(crate) fn all_equal<K: Cell>(modifier: Modifier, a: K, b: K) -> bool
+    ensures { result ≡ are_equal modifier (K.held a) (K.held b) }
 {
     match modifier {
         Modifier::A => a.a_number() == b.a_number(),
@@ -165,8 +221,8 @@ pub(crate) fn all_equal<W: Cell>(modifier: Modifier, a: W, b: W) -> bool
 // Checks whether every A-value is less than its B-value.
 #[tactic(auto, unfolding(crate::specs::Pairs::are_less))]
 #[inline(always)]
-pub(crate) fn all_less<W: Cell>(modifier: Modifier, a: W, b: W) -> bool
-    ensures { result ≡ are_less modifier (W.held a) (W.held b) }
+pub(crate) fn all_less<K: Cell>(modifier: Modifier, a: K, b: K) -> bool
+    ensures { result ≡ are_less modifier (K.held a) (K.held b) }
 {
     match modifier {
         Modifier::A => a.a_number() < b.a_number(),
@@ -178,36 +234,14 @@ pub(crate) fn all_less<W: Cell>(modifier: Modifier, a: W, b: W) -> bool
     }
 }
 
-// Computes what an opcode writes for one pair, from its A-value and its B-value. `None` if it
-// writes nothing, as DIV and MOD do with a zero divisor.
-#[tactic(auto, unfolding(crate::specs::Pairs::written_value))]
-#[inline(always)]
-fn written_value(opcode: Opcode, size: u32, a: u32, b: u32) -> Option<u32>
-    requires size { size ≤ 65535 }
-    requires a { a < size }
-    requires b { b < size }
-    ensures value { result ≡ written_value opcode size a b }
-    ensures below { IfSome result (λ n. n < size) }
-{
-    match opcode {
-        Opcode::Mov => Some(a),
-        Opcode::Add => Some(sum(size, b, a)),
-        Opcode::Sub => Some(difference(size, b, a)),
-        Opcode::Mul => Some(product(size, b, a)),
-        Opcode::Div => b.checked_div(a),
-        Opcode::Mod => b.checked_rem(a),
-        _ => None,
-    }
-}
-
 // Returns the cell with one number lowered by 1.
-#[inline(always)]
-fn lowered<N: Number, W: Cell>(size: u32, cell: W) -> W
+#[inline]
+fn lowered<N: Number, K: Cell>(size: u32, cell: K) -> K
     requires size { (1 < size) × (size ≤ 65535) }
-    requires cell { IsBelow size (W.held cell) }
-    ensures value { W.held result ≡ with_field N.field (difference_of size (field_of N.field (W.held cell)) 1) (W.held cell) }
-    ensures below { IsBelow size (W.held result) }
+    requires cell { IsBelow size (K.held cell) }
+    ensures value { K.held result ≡ with_field N.field (difference_of size (field_of N.field (K.held cell)) 1) (K.held cell) }
+    ensures below { IsBelow size (K.held result) }
 {
-    let number = difference(size, number_of::<N, W>(size, cell), 1);
-    with_number::<N, W>(size, cell, number)
+    let number = difference(size, number_of::<N, K>(size, cell), 1);
+    with_number::<N, K>(size, cell, number)
 }

@@ -13,7 +13,7 @@ use crate::fault::{CheckFault, ReadFault};
 use crate::read::read_cert;
 use crate::row_checks::{check_alone, check_same, is_best_row};
 use crate::verdict::{Reason, Verdict};
-use mars_core::{Arena, PlainCells};
+use mars_core::{Arena, PackedCells};
 use std::alloc::Global;
 use tune_template::Inputs;
 
@@ -69,7 +69,7 @@ pub fn check(alloc: Global, inputs: &Inputs, bytes: &[u8]) -> Result<Verdict, Ch
 // first.
 fn check_rows_alone(
     alloc: Global,
-    arena: &mut Arena<PlainCells>,
+    arena: &mut Arena<PackedCells>,
     inputs: &Inputs,
     cert: &Cert,
 ) -> Result<Option<Wrong>, CheckFault>
@@ -137,7 +137,7 @@ fn check_rows(alloc: Global, inputs: &Inputs, cert: &Cert) -> Result<Option<Wron
     ensures wrong { IfOk result (λ o. IfSome o (λ w. IsWrongRow (problem_of inputs.now) cert.now w.index w.reason)) }
     ensures first { IfOk result (λ o. IfSome o (λ w. IsFirstRow (problem_of inputs.now) cert.now w.index w.reason)) }
 {
-    let mut arena = Arena::<PlainCells>::try_new(alloc, inputs.rules())?;
+    let mut arena = Arena::<PackedCells>::try_new(alloc, inputs.rules())?;
     if let Some(wrong) = check_rows_alone(alloc, &mut arena, inputs, cert)? {
         return Ok(Some(wrong));
     }

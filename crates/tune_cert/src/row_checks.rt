@@ -14,7 +14,7 @@ use crate::cert::{Cert, Row};
 use crate::fault::CheckFault;
 use crate::problem::{fight_count, fight_points, setting_warrior};
 use crate::verdict::Reason;
-use mars_core::{Arena, PlainCells};
+use mars_core::{Arena, PackedCells};
 use rc_instr::{Instruction, Warrior};
 use std::alloc::Global;
 use tune_template::Inputs;
@@ -22,7 +22,7 @@ use tune_template::Inputs;
 // Checks a refused or a cap row, and passes over a row that refers to another setting.
 pub(crate) fn check_alone(
     alloc: Global,
-    arena: &mut Arena<PlainCells>,
+    arena: &mut Arena<PackedCells>,
     inputs: &Inputs,
     cert: &Cert,
     vector: u32,
@@ -95,7 +95,7 @@ fn is_rising(listed: &[(u32, u8)]) -> bool
 // Checks whether every listed fight exists and gives the listed points. Plays the fights in order
 // and stops at the first that does not.
 fn have_points(
-    arena: &mut Arena<PlainCells>,
+    arena: &mut Arena<PackedCells>,
     inputs: &Inputs,
     warrior: &Warrior,
     listed: &[(u32, u8)],
@@ -131,7 +131,7 @@ fn check_refused(alloc: Global, inputs: &Inputs, vector: u32) -> Result<Option<R
 
 // Checks a cap row whose fights rise against the warrior of its setting.
 fn check_fights(
-    arena: &mut Arena<PlainCells>,
+    arena: &mut Arena<PackedCells>,
     inputs: &Inputs,
     cert: &Cert,
     vector: u32,
@@ -162,7 +162,7 @@ fn check_fights(
 // Checks a cap row: its fights, then its points, then its cap.
 fn check_cap(
     alloc: Global,
-    arena: &mut Arena<PlainCells>,
+    arena: &mut Arena<PackedCells>,
     inputs: &Inputs,
     cert: &Cert,
     vector: u32,

@@ -15,7 +15,7 @@ use crate::lines::result_line;
 use crate::raw_rules::rules_of;
 use crate::reading::read_text;
 use crate::status::{DONE, end_file, end_run};
-use mars_core::{Arena, Outcome, PlainCells, Side};
+use mars_core::{Arena, Outcome, PackedCells, Side};
 use rc_instr::{LoadFault, OutOfMemory, Outlet, Rules, Warrior, read_loadfile};
 use std::alloc::Global;
 use std::io::{Read, Write};
@@ -153,7 +153,7 @@ fn play(alloc: Global, fight: &NamedFight) -> Result<Outcome, OutOfMemory>
     ensures { IfOk result (λ o. o ≡ outcome_of fight.now.rules.tasks
         (start_of fight.now.rules.core fight.now.candidate fight.now.opponent fight.now.position) fight.now.first fight.now.rules.cycles) }
 {
-    let mut arena = Arena::<PlainCells>::try_new(alloc, &fight.rules)?;
+    let mut arena = Arena::<PackedCells>::try_new(alloc, &fight.rules)?;
     arena.load(&fight.candidate, &fight.opponent, fight.position);
     Ok(arena.run(fight.first))
 }

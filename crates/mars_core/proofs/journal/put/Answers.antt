@@ -4,7 +4,7 @@ use Rattle.mars_core.specs.Packed.{is_marked}
 use Rattle.mars_core.proofs.Stores.{stored_first}
 use Rattle.mars_core.proofs.journal.put.Goals as goal
 
-pub returns-clause-store : goal.returns-clause-store
-returns-clause-store c =
+pub returns-then-not-is_marked-clause-store : goal.returns-then-not-is_marked-clause-store
+returns-then-not-is_marked-clause-store c =
     let low : is_marked (get_or c.args.words.now.items c.args.at 0) ≡ false = grind (arith, common_steps) in
     stored_first _ _ _ _ _ c.requires.store c.requires.at low c.requires.marked

@@ -1,4 +1,4 @@
-use Rattle.std.proofs.Common.{◌≡◌, ◌∙◌, ap}
+use Rattle.std.proofs.Common.{◌∙◌, ap}
 use Rattle.std.specs.Prelude.{slice_set}
 use Rattle.mars_core.proofs.Operands.{cell_set}
 use Rattle.mars_core.proofs.operand.lower.Goals as goal
