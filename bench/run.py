@@ -27,11 +27,9 @@ EXPECTED = {
 SHORTEST = 0.05
 # The texts that are assembled; each must give the load file of the same name.
 TEXTS = ["plain", "names", "tables"]
-# The template that is tuned, its opponents in the order of their indices, and the number of turns of
-# all its fights.
+# The template that is tuned, and its opponents in the order of their indices.
 TUNING = HERE.parent / "examples" / "tuning"
 OPPONENTS = ["dwarf", "imp-ring", "scanner", "replicator", "core-clear"]
-TUNING_TURNS = 257_433_435
 # Short fights: the cycles of each, and how many settings are tuned in how many fights.
 SHORT_CYCLES, SHORT_SETTINGS, SHORT_FIGHTS = 50, 20, 10_000
 # The time of this text of one line is taken as the start of the process.
@@ -285,11 +283,10 @@ def fastest_tuning(program, runs):
 
 
 def print_tuning(program, runs):
-    """Prints the tuning's settings and turns per second, with the start of the process."""
+    """Prints the tuning's settings per second, with the start of the process."""
     seconds, settings = fastest_tuning(program, runs)
-    print(f"{'tuning':<14}{'settings':>10}{'settings/s':>12}{'M turns/s':>12}")
-    turns = TUNING_TURNS / seconds / 1e6
-    print(f"{'stone':<14}{settings:>10}{settings / seconds:>12.1f}{turns:>12.1f}", flush=True)
+    print(f"{'tuning':<14}{'settings':>10}{'settings/s':>12}")
+    print(f"{'stone':<14}{settings:>10}{settings / seconds:>12.1f}", flush=True)
 
 
 def read_options():

@@ -1,26 +1,64 @@
-//! Tests of `tune_search`: a small search that was worked out by hand, and the texts of faults.
+//! Tests of `tune_search`: small searches that were worked out by hand, and the texts of faults.
 use crate::opponents::{BOTH, two_opponents};
 use mars_fight::Schedule;
 use rc_instr::Rules;
+use std::alloc::Global;
 use std::test::Fail;
 use tune_cert::Row;
-use tune_search::{SearchFault, search};
+use tune_search::{SearchFault, plain_search, search};
 use tune_template::{Inputs, Template};
 
-// Three settings: the first does not assemble, the others are imps.
+// Three settings: the first does not assemble, the others are imps. The search starts with the
+// second.
 const THREE: &[u8] = b";@tune K 0 2 1 1\nMOV 0, 1\nDAT 1/K";
 
 // The fights of an imp: it wins against the first opponent and ties with the second.
 const FIGHTS: [(u32, u8); 2] = [(0, 3), (1, 1)];
 
-#[test]
-fn finds_the_optimum(rt: HostRuntime) -> Result<(), Fail> {
+// Templates without a setting that fails, with one, with unequal warriors, with equal totals before
+// and after the start setting, and with two constants.
+const TEMPLATES: [&[u8]; 8] = [
+    b"MOV 0, 1",
+    THREE,
+    b";@tune K 0 3 1 2\nMOV 0, 1",
+    b";@tune K 0 2 1 1\nMOV 0, 1\nDAT K",
+    b";@tune K 0 1 1 0\nJMP K",
+    b";@tune K 0 5 1 0\nMOV 0, 1\nDAT K % 2",
+    b";@tune K 0 4 1 0\nMOV 0, 1\nDAT K%2*(K+1)/2",
+    b";@tune STEP -3 3 2 1\n;@tune LEAP 0 1 1 1\nJMP LEAP\nDAT STEP",
+];
+
+// Reads the inputs of a tuning of `text` with one fight against each of two opponents.
+fn inputs_of(alloc: Global, text: &[u8]) -> Result<Inputs, Fail> {
     let rules = Rules::try_new(16, 20, 4, 4, 4)?;
-    let template = Template::read(rt.alloc(), THREE)?;
-    let opponents = two_opponents(rt.alloc(), &rules)?;
-    let schedule = Schedule::read(rt.alloc(), BOTH, 2, &rules)?;
-    let inputs = Inputs::new(template, opponents, schedule, rules);
+    let template = Template::read(alloc, text)?;
+    let opponents = two_opponents(alloc, &rules)?;
+    let schedule = Schedule::read(alloc, BOTH, 2, &rules)?;
+    Ok(Inputs::new(template, opponents, schedule, rules))
+}
+
+// The start setting is fought first. The third setting plays the fight with fewer points, and then
+// has 4 points at most, as the start setting has.
+#[test]
+fn drops_a_setting_that_comes_later(rt: HostRuntime) -> Result<(), Fail> {
+    let inputs = inputs_of(rt.alloc(), THREE)?;
     let found = search(rt.alloc(), &inputs, 1)?;
+    assert_eq!(rt; (found.best, found.total), (1, 4));
+    assert_eq!(rt; (found.candidates, found.fights), (2, 3));
+    match found.rows.as_slice() {
+        [Row::Refused, Row::Cap(second), Row::Cap(third)] => {
+            assert_eq!(rt; second.as_slice(), FIGHTS.as_slice());
+            assert_eq!(rt; third.as_slice(), &FIGHTS[1..]);
+        }
+        _ => assert!(rt; false, "the rows are of other kinds"),
+    }
+    Ok(())
+}
+
+#[test]
+fn the_plain_search_plays_everything(rt: HostRuntime) -> Result<(), Fail> {
+    let inputs = inputs_of(rt.alloc(), THREE)?;
+    let found = plain_search(rt.alloc(), &inputs)?;
     assert_eq!(rt; (found.best, found.total), (1, 4));
     assert_eq!(rt; (found.candidates, found.fights), (2, 4));
     match found.rows.as_slice() {
@@ -29,6 +67,19 @@ fn finds_the_optimum(rt: HostRuntime) -> Result<(), Fail> {
             assert_eq!(rt; third.as_slice(), FIGHTS.as_slice());
         }
         _ => assert!(rt; false, "the rows are of other kinds"),
+    }
+    Ok(())
+}
+
+#[test]
+fn both_searches_agree(rt: HostRuntime) -> Result<(), Fail> {
+    for text in TEMPLATES {
+        let inputs = inputs_of(rt.alloc(), text)?;
+        let found = search(rt.alloc(), &inputs, 1)?;
+        let plain = plain_search(rt.alloc(), &inputs)?;
+        assert_eq!(rt; (found.best, found.total), (plain.best, plain.total));
+        assert_eq!(rt; found.candidates, plain.candidates);
+        assert!(rt; found.fights <= plain.fights);
     }
     Ok(())
 }

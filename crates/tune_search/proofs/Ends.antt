@@ -6,7 +6,7 @@ use Rattle.tune_cert.specs.Optimum.{total_of, HasTotal, IsOptimum, candidates_of
 use Rattle.tune_cert.specs.declared.cert.Row.{Row}
 use Rattle.tune_search.specs.Plays.{row_of, rows_of}
 use Rattle.tune_search.specs.Progress.{IsBest, IsLead, IsProgress}
-use Rattle.tune_search.specs.declared.progress.Lead.{Lead}
+use Rattle.tune_search.specs.declared.lead.Lead.{Lead}
 use Rattle.tune_cert.specs.Valid.{listed_fights, IsValid}
 use Rattle.tune_search.proofs.Listed.{listed_rows}
 use Rattle.tune_search.proofs.Rightness.{rows_valid}

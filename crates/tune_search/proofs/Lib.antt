@@ -3,3 +3,14 @@ pub mod Visits
 pub mod Ends
 pub mod Rightness
 pub mod Listed
+pub mod Caps
+pub mod Enough
+pub mod Orders
+pub mod Places
+pub mod Slots
+pub mod Totals
+pub mod ListedFights
+pub mod Leads
+pub mod Steps
+pub mod Visiting
+pub mod Finish

@@ -8,7 +8,7 @@ up : (a n : ℕ) → range_with_len a (suc n) ≡ range_with_len a n ++ (a + n) 
 up a zero = let e : a ≡ a + 0 = omega arith in ap (λ k. k ∷ []) e
 up a (suc n) = let e : (a + 1) + n ≡ a + suc n = omega arith in ap (λ l. a ∷ l) (up (a + 1) n ∙ ap (λ k. range_with_len (a + 1) n ++ k ∷ []) e)
 
-range_more : (n : ℕ) → range_with_len 0 (n + 1) ≡ range_with_len 0 n ++ n ∷ []
+pub range_more : (n : ℕ) → range_with_len 0 (n + 1) ≡ range_with_len 0 n ++ n ∷ []
 range_more n = ap (range_with_len 0) (add-one n) ∙ up 0 n ∙ ap (λ k. range_with_len 0 n ++ k ∷ []) (zero-add n)
 
 -- a sum over one more number

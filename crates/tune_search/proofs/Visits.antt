@@ -11,7 +11,7 @@ use Rattle.tune_cert.specs.declared.cert.Row.{Row}
 use Rattle.tune_cert.specs.declared.cert.Row.TheVariants.{Refused, Cap}
 use Rattle.tune_search.specs.Plays.{played, row_with, row_of}
 use Rattle.tune_search.specs.Progress.{IsBest, IsLead, lead_after, IsProgress}
-use Rattle.tune_search.specs.declared.progress.Lead.{Lead}
+use Rattle.tune_search.specs.declared.lead.Lead.{Lead}
 use Rattle.tune_search.proofs.Ranges.{sum_more, map_more}
 
 some_is : {X : Type 0} (x y : X) → Some x ≡ Some y → x ≡ y

@@ -1,5 +1,9 @@
--- The search plays all fights of each setting and returns the first one with the greatest total.
--- Its certificate has a row for each setting: refused if it does not assemble, else all its fights.
--- After each setting the lead is the optimum of the settings so far, if one of them assembles.
+-- A search visits the start setting first, then the others in order, and keeps the lead, the best
+-- setting visited. It plays the fights of a setting in an order, as many as are enough to see that
+-- the setting does not beat the lead, or all. Its certificate lists the fights that it played. The
+-- plain search plays all fights of each setting, and finds the same one.
 pub mod Plays
 pub mod Progress
+pub mod Order
+pub mod Visits
+pub mod Dropping

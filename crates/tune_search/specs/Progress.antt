@@ -7,7 +7,7 @@ use Rattle.tune_cert.specs.Problem.{Problem}
 use Rattle.tune_cert.specs.Optimum.{total_of}
 use Rattle.tune_cert.specs.declared.cert.Row.{Row}
 use Rattle.tune_search.specs.Plays.{row_of}
-use Rattle.tune_search.specs.declared.progress.Lead.{Lead}
+use Rattle.tune_search.specs.declared.lead.Lead.{Lead}
 use Rattle.tune_search.specs.declared.progress.Progress.{Progress}
 
 -- Setting v, with total t, is the first of the greatest total among the settings before k.

@@ -1,29 +1,33 @@
 //! Plays the fights of one warrior.
-ghost use Rattle.std.specs.Prelude.{◌≡◌, ◌≤◌, length, IfOk};
+ghost use Rattle.std.specs.Prelude.{◌≡◌, ◌<◌, ◌≤◌, length, take, IfOk, All};
 ghost use Rattle.rc_instr.specs.Warrior.{Fits};
 ghost use Rattle.mars_core.specs.Arena.{IsBlank};
 ghost use Rattle.tune_cert.specs.Problem.{problem_of};
-ghost use Rattle.tune_cert.specs.Optimum.{all_fights, total_of};
+ghost use Rattle.tune_cert.specs.Optimum.{all_fights, total_of, cap_of};
+ghost use Rattle.tune_search.specs.Order.{enough};
 ghost use Rattle.tune_search.specs.Plays.{played};
 
-use mars_core::{Arena, PlainCells};
+use crate::counts::fight_count;
+use crate::lead::{Lead, beats};
+use mars_core::{Arena, PackedCells};
 use rc_instr::Warrior;
 use std::alloc::{AllocError, Global};
 use tune_cert::fight_points;
 use tune_template::Inputs;
 
-// The fights of a warrior in order, each with its points, and their sum.
+// Fights of a warrior in the order in which they were played, each with its points, and the cap of
+// the warrior by them: its total, if these are all fights.
 #[derive(Drop)]
 pub(crate) struct Bout {
     pub(crate) listing: Vec<(u32, u8)>,
-    pub(crate) total: u32,
+    pub(crate) cap: u32,
 }
 
 // Plays all fights of the schedule, in order.
 #[tactic(auto, unfolding(tune_cert::specs::Optimum::total_of))]
 pub(crate) fn play_all(
     alloc: Global,
-    arena: &mut Arena<PlainCells>,
+    arena: &mut Arena<PackedCells>,
     inputs: &Inputs,
     warrior: &Warrior,
 ) -> Result<Bout, AllocError>
@@ -31,7 +35,7 @@ pub(crate) fn play_all(
     requires fits { Fits inputs.now.rules warrior.now }
     ensures listing { let p = problem_of inputs.now in IfOk result (λ b. b.listing.items ≡ played p warrior.now (all_fights p)) }
     ensures few { IfOk result (λ b. length b.listing.items ≤ 10000) }
-    ensures total { IfOk result (λ b. b.total ≡ total_of (problem_of inputs.now) warrior.now) }
+    ensures total { IfOk result (λ b. b.cap ≡ total_of (problem_of inputs.now) warrior.now) }
     ensures blank { IsBlank inputs.now.rules arena.new }
 {
     let count = inputs.schedule().fights().len();
@@ -42,5 +46,42 @@ pub(crate) fn play_all(
         listing.push((index, points))?;
         total += u32::from(points);
     }
-    Ok(Bout { listing, total })
+    Ok(Bout {
+        listing,
+        cap: total,
+    })
+}
+
+// Plays fights of setting `vector`, whose warrior is given, in this order, until its cap does not
+// beat the lead.
+#[tactic(auto, using(crate::proofs::Enough::enough_is, crate::proofs::Caps::cap_more, crate::proofs::Caps::played_more, crate::proofs::Caps::cap_none))]
+pub(crate) fn play_enough(
+    alloc: Global,
+    arena: &mut Arena<PackedCells>,
+    inputs: &Inputs,
+    warrior: &Warrior,
+    vector: u32,
+    order: &[u32],
+    lead: Option<Lead>,
+) -> Result<Bout, AllocError>
+    requires blank { IsBlank inputs.now.rules arena.old }
+    requires fits { Fits inputs.now.rules warrior.now }
+    requires all { length order.now ≡ (problem_of inputs.now).fights }
+    requires below { All (λ k. k < (problem_of inputs.now).fights) order.now }
+    ensures listing { let p = problem_of inputs.now in IfOk result (λ b. b.listing.items ≡ played p warrior.now (take (enough p warrior.now order.now vector lead) order.now)) }
+    ensures cap { let p = problem_of inputs.now in IfOk result (λ b. b.cap ≡ cap_of p warrior.now (take (enough p warrior.now order.now vector lead) order.now)) }
+    ensures few { IfOk result (λ b. length b.listing.items ≤ 10000) }
+    ensures blank { IsBlank inputs.now.rules arena.new }
+{
+    let mut listing = Vec::new(alloc);
+    let mut cap = 3 * fight_count(inputs);
+    for index in order {
+        if !beats(cap, vector, lead) {
+            return Ok(Bout { listing, cap });
+        }
+        let points = fight_points(arena, inputs, warrior, *index);
+        listing.push((*index, points))?;
+        cap -= 3 - u32::from(points);
+    }
+    Ok(Bout { listing, cap })
 }

@@ -6,17 +6,11 @@ ghost use Rattle.tune_search.specs.Progress.{IsState, lead_after};
 
 use crate::fault::SearchFault;
 use crate::fights::play_all;
-use mars_core::{Arena, PlainCells};
+use crate::lead::Lead;
+use mars_core::{Arena, PackedCells};
 use std::alloc::Global;
 use tune_cert::{Listing, Row, setting_warrior};
 use tune_template::Inputs;
-
-// The best setting so far, and its total.
-#[derive(Clone, Copy)]
-pub(crate) struct Lead {
-    pub(crate) vector: u32,
-    pub(crate) total: u32,
-}
 
 // The rows of the settings so far, the lead, and counts of candidates and of fights played.
 #[derive(Drop)]
@@ -46,7 +40,7 @@ impl Progress {
     pub(crate) fn visit(
         &mut self,
         alloc: Global,
-        arena: &mut Arena<PlainCells>,
+        arena: &mut Arena<PackedCells>,
         inputs: &Inputs,
         vector: u32,
     ) -> Result<(), SearchFault>
@@ -65,7 +59,7 @@ impl Progress {
         let bout = play_all(alloc, arena, inputs, &warrior)?;
         self.fights += bout.listing.len() as u64;
         self.candidates += 1;
-        self.lead = lead_after(vector, bout.total, self.lead);
+        self.lead = lead_after(vector, bout.cap, self.lead);
         self.rows.push(Row::Cap(Listing::from_vec(bout.listing)))?;
         Ok(())
     }

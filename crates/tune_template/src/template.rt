@@ -120,6 +120,7 @@ impl Template {
 
     /// Returns the index of the setting of the start values.
     pub fn start_number(&self) -> u32
+        ensures index { result ≡ start_index self.now.ranges.spans }
         ensures start { slice_get (vectors_of self.now.ranges.spans) result ≡ Some (start_vector self.now.ranges.spans) }
         ensures inside { result < length (vectors_of self.now.ranges.spans) }
     {
@@ -232,6 +233,7 @@ fn values_of(spans: &[Span], count: u32, number: u32) -> Vector
 fn start_of(spans: &[Span], count: u32) -> u32
     requires values { All HasValues spans.now }
     requires count { vector_count spans.now ≡ count }
+    ensures index { result ≡ start_index spans.now }
     ensures start { slice_get (vectors_of spans.now) result ≡ Some (start_vector spans.now) }
     ensures inside { result < length (vectors_of spans.now) }
 {

@@ -42,11 +42,11 @@ fn the_report_and_the_certificate_give_the_optimum(rt: HostRuntime) -> Result<()
     assert_eq!(rt; result, Ok(()));
     assert_eq!(rt;
         report.into_inner().as_slice(),
-        b"vectors 3\ncandidates 2\nbest 1\nconstants K=1\ntotal 4 of 6\nfights 4 of 4\n".as_slice()
+        b"vectors 3\ncandidates 2\nbest 1\nconstants K=1\ntotal 4 of 6\nfights 3 of 4\n".as_slice()
     );
     assert_eq!(rt;
         cert.into_inner().as_slice(),
-        b"cwcert,1,3\nbest,1,4\nrefused,0,-\ncap,1,0:3 1:1\ncap,2,0:3 1:1\n".as_slice()
+        b"cwcert,1,3\nbest,1,4\nrefused,0,-\ncap,1,0:3 1:1\ncap,2,1:1\n".as_slice()
     );
     Ok(())
 }

@@ -1,57 +1,71 @@
-use Rattle.std.proofs.Common.{List, length, subst, sym, ap, arith, ◌≡◌, ◌∙◌}
+use Rattle.std.proofs.Common.{arith, ◌≡◌, ◌∙◌, ap, sym, subst, ℕ, ◌<◌, List, None, Some, Option}
+use Rattle.std.specs.List.{slice_get}
+use Rattle.rc_instr.specs.Warrior.{WarriorView}
 use Rattle.tune_cert.specs.Problem.{problem_of}
-use Rattle.tune_cert.specs.Valid.{IsValid, listed_fights}
+use Rattle.tune_cert.specs.Valid.{IsValid}
 use Rattle.tune_cert.specs.declared.cert.Row.{Row}
-use Rattle.tune_search.proofs.Ends.{ends_optimum, ends_total, ends_none, ends_rows, ends_candidates, ends_listed, ends_valid}
+use Rattle.tune_cert.specs.declared.cert.Row.TheVariants.{Refused}
+use Rattle.tune_cert.proofs.Scores.{inputs_problem}
+use Rattle.tune_search.specs.Visits.{IsExplained, IsFought}
+use Rattle.tune_search.specs.Dropping.{IsState}
+use Rattle.tune_search.proofs.Finish.{all_told, finds_candidates, finds_optimum, finds_valid, finds_none}
 use Rattle.tune_search.proofs.tuning.search.Goals as goal
 
 pub returns-in-None-clause-none : goal.returns-in-None-clause-none
 returns-in-None-clause-none c =
-    let p = problem_of c.args.inputs.now in
-    let e : c.loop-vector.vector ≡ p.count = omega (arith, c.loop-vector-test.false, c.loop-vector.auto.vector-end, c.setting_count-vector-end.ensures.count) in
-    λ f. ends_none p c.loop-vector.vector _ _ _ _ c.loop-vector.invariant.state e c.in-None.is
+    let i = c.args.inputs.now in
+    let p = problem_of i in
+    let s = c.loop-visits.state in
+    let e : c.loop-visits.visits ≡ p.count = omega (arith, c.loop-visits-test.false, c.loop-visits.auto.visits-end, c.setting_count-visits-end.ensures.count) in
+    let state : IsState p p.count s = subst (λ (k : ℕ). IsState p k s) e c.loop-visits.invariant.state in
+    λ f. finds_none p (inputs_problem i) state.start_inside s.rows.items s.lead s.order.items s.fights s.candidates state.going c.in-None.is
 
 pub returns-clause-optimum : goal.returns-clause-optimum
 returns-clause-optimum c =
-    let p = problem_of c.args.inputs.now in
-    let e : c.loop-vector.vector ≡ p.count = omega (arith, c.loop-vector-test.false, c.loop-vector.auto.vector-end, c.setting_count-vector-end.ensures.count) in
-    ends_optimum p c.loop-vector.vector _ _ _ _ c.loop-vector.invariant.state e c.in-Some.lead c.in-Some.is
-
-pub returns-clause-total : goal.returns-clause-total
-returns-clause-total c =
-    let p = problem_of c.args.inputs.now in
-    let e : c.loop-vector.vector ≡ p.count = omega (arith, c.loop-vector-test.false, c.loop-vector.auto.vector-end, c.setting_count-vector-end.ensures.count) in
-    ends_total p c.loop-vector.vector _ _ _ _ c.loop-vector.invariant.state e c.in-Some.lead c.in-Some.is
-
-pub returns-clause-candidates : goal.returns-clause-candidates
-returns-clause-candidates c =
-    let p = problem_of c.args.inputs.now in
-    let e : c.loop-vector.vector ≡ p.count = omega (arith, c.loop-vector-test.false, c.loop-vector.auto.vector-end, c.setting_count-vector-end.ensures.count) in
-    ends_candidates p c.loop-vector.vector _ _ _ _ c.loop-vector.invariant.state e
-
-pub returns-clause-rows : goal.returns-clause-rows
-returns-clause-rows c =
-    let p = problem_of c.args.inputs.now in
-    let e : c.loop-vector.vector ≡ p.count = omega (arith, c.loop-vector-test.false, c.loop-vector.auto.vector-end, c.setting_count-vector-end.ensures.count) in
-    c.from_vec.ensures ∙ ends_rows p c.loop-vector.vector _ _ _ _ c.loop-vector.invariant.state e
-
-pub returns-clause-listed : goal.returns-clause-listed
-returns-clause-listed c =
-    let p = problem_of c.args.inputs.now in
-    let e : c.loop-vector.vector ≡ p.count = omega (arith, c.loop-vector-test.false, c.loop-vector.auto.vector-end, c.setting_count-vector-end.ensures.count) in
-    ends_listed p c.loop-vector.vector _ _ _ _ c.loop-vector.invariant.state e ∙ sym (ap listed_fights c.from_vec.ensures)
+    let i = c.args.inputs.now in
+    let p = problem_of i in
+    let s = c.loop-visits.state in
+    let e : c.loop-visits.visits ≡ p.count = omega (arith, c.loop-visits-test.false, c.loop-visits.auto.visits-end, c.setting_count-visits-end.ensures.count) in
+    let state : IsState p p.count s = subst (λ (k : ℕ). IsState p k s) e c.loop-visits.invariant.state in
+    finds_optimum p (inputs_problem i) state.start_inside s.rows.items s.lead s.order.items s.fights s.candidates state.going c.in-Some.lead c.in-Some.is
 
 pub returns-clause-valid : goal.returns-clause-valid
 returns-clause-valid c =
-    let p = problem_of c.args.inputs.now in
-    let lead = c.in-Some.lead in
-    let e : c.loop-vector.vector ≡ p.count = omega (arith, c.loop-vector-test.false, c.loop-vector.auto.vector-end, c.setting_count-vector-end.ensures.count) in
-    subst (λ (l : List Row). IsValid p p.count lead.vector lead.total l) (sym c.from_vec.ensures) (ends_valid p c.loop-vector.vector _ _ _ _ c.loop-vector.invariant.state e lead c.in-Some.is)
+    let i = c.args.inputs.now in
+    let p = problem_of i in
+    let s = c.loop-visits.state in
+    let e : c.loop-visits.visits ≡ p.count = omega (arith, c.loop-visits-test.false, c.loop-visits.auto.visits-end, c.setting_count-visits-end.ensures.count) in
+    let state : IsState p p.count s = subst (λ (k : ℕ). IsState p k s) e c.loop-visits.invariant.state in
+    subst (λ (l : List Row). IsValid p p.count c.in-Some.lead.vector c.in-Some.lead.total l) (sym c.from_vec.ensures)
+    (finds_valid p (inputs_problem i) state.start_inside s.rows.items s.lead s.order.items s.fights s.candidates state.going c.in-Some.lead c.in-Some.is)
 
-pub returns-clause-few : goal.returns-clause-few
-returns-clause-few c =
-    let p = problem_of c.args.inputs.now in
-    let e : c.loop-vector.vector ≡ p.count = omega (arith, c.loop-vector-test.false, c.loop-vector.auto.vector-end, c.setting_count-vector-end.ensures.count) in
-    let valid = ends_valid p c.loop-vector.vector _ _ _ _ c.loop-vector.invariant.state e c.in-Some.lead c.in-Some.is in
-    let as_many : length c.from_vec.result ≡ p.count = ap length c.from_vec.ensures ∙ valid.rows_are in
-    omega (arith, as_many, c.setting_count-vector-end.ensures.count, c.setting_count-vector-end.ensures.few)
+pub returns-clause-candidates : goal.returns-clause-candidates
+returns-clause-candidates c =
+    let i = c.args.inputs.now in
+    let p = problem_of i in
+    let s = c.loop-visits.state in
+    let e : c.loop-visits.visits ≡ p.count = omega (arith, c.loop-visits-test.false, c.loop-visits.auto.visits-end, c.setting_count-visits-end.ensures.count) in
+    let state : IsState p p.count s = subst (λ (k : ℕ). IsState p k s) e c.loop-visits.invariant.state in
+    finds_candidates p (inputs_problem i) state.start_inside s.rows.items s.lead s.order.items s.fights s.candidates state.going
+
+pub returns-clause-fought : goal.returns-clause-fought
+returns-clause-fought c =
+    let i = c.args.inputs.now in
+    let p = problem_of i in
+    let s = c.loop-visits.state in
+    let e : c.loop-visits.visits ≡ p.count = omega (arith, c.loop-visits-test.false, c.loop-visits.auto.visits-end, c.setting_count-visits-end.ensures.count) in
+    let state : IsState p p.count s = subst (λ (k : ℕ). IsState p k s) e c.loop-visits.invariant.state in
+    let told = all_told p (inputs_problem i) state.start_inside s.rows.items s.lead s.order.items s.fights s.candidates state.going in
+    subst (λ (l : List Row). (v : ℕ) (w : WarriorView) → v < p.count → p.warrior v ≡ Some w → IsFought p l v w) (sym c.from_vec.ensures)
+    (λ v w l is. subst (λ (o : Option WarriorView). IsExplained p s.rows.items v o) is (told v l))
+
+pub returns-clause-refused : goal.returns-clause-refused
+returns-clause-refused c =
+    let i = c.args.inputs.now in
+    let p = problem_of i in
+    let s = c.loop-visits.state in
+    let e : c.loop-visits.visits ≡ p.count = omega (arith, c.loop-visits-test.false, c.loop-visits.auto.visits-end, c.setting_count-visits-end.ensures.count) in
+    let state : IsState p p.count s = subst (λ (k : ℕ). IsState p k s) e c.loop-visits.invariant.state in
+    let told = all_told p (inputs_problem i) state.start_inside s.rows.items s.lead s.order.items s.fights s.candidates state.going in
+    subst (λ (l : List Row). (v : ℕ) → v < p.count → p.warrior v ≡ None → slice_get l v ≡ Some Refused) (sym c.from_vec.ensures)
+    (λ v l is. subst (λ (o : Option WarriorView). IsExplained p s.rows.items v o) is (told v l))

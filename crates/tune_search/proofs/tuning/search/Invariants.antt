@@ -1,12 +1,12 @@
 use Rattle.std.proofs.Common.{◌≡◌}
 use Rattle.mars_core.specs.Arena.{IsBlank}
 use Rattle.tune_cert.specs.Problem.{problem_of}
-use Rattle.tune_search.specs.Progress.{IsState}
+use Rattle.tune_search.specs.Dropping.{IsState}
 use Rattle.tune_search.proofs.tuning.search.Given as goal
 
--- so many vectors were visited
-abbrev pub invariant-loop-vector : goal.invariant-loop-vector
-invariant-loop-vector l = record {
-  state : IsState (problem_of l.fn.inputs) l.vector l.progress;
+-- so many settings were visited
+abbrev pub invariant-loop-visits : goal.invariant-loop-visits
+invariant-loop-visits l = record {
+  state : IsState (problem_of l.fn.inputs) l.visits l.state;
   blank : IsBlank l.fn.inputs.rules l.arena;
 }

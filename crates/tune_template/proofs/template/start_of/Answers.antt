@@ -1,4 +1,4 @@
-use Rattle.std.proofs.Common.{◌≡◌, ◌<◌, ◌/◌, refl, arith, length}
+use Rattle.std.proofs.Common.{◌≡◌, ◌<◌, ◌/◌, refl, sym, arith, length}
 use Rattle.tune_template.specs.Ranges.{vector_count}
 use Rattle.tune_template.specs.Vectors.{vectors_of, start_index}
 use Rattle.tune_template.proofs.VectorSteps.{start_next, start_end, start_vector_at, vectors_len}
@@ -24,3 +24,6 @@ returns-clause-inside c =
     let low : start_index c.args.spans.now < vector_count c.args.spans.now = (start_vector_at c.args.spans.now c.requires.values).0 in
     let len : length (vectors_of c.args.spans.now) ≡ vector_count c.args.spans.now = vectors_len c.args.spans.now in
     omega (arith, e, low, len)
+
+pub returns-clause-index : goal.returns-clause-index
+returns-clause-index c = sym (start_end c.args.spans.now c.loop-span.rest.now c.loop-span.number c.in_default.ensures.cases c.loop-span.invariant.0)

@@ -1,0 +1,97 @@
+-- How the lead goes on.
+use Rattle.std.proofs.Common.{◌≡◌, ℕ, suc, ◌<◌, ◌≤◌, arith, Bool, true, false, not, ◌&&◌, nat_lt, ◌==◌, List, Option, Some, None, take, refl, sym, ◌∙◌, ap, ◌⊎◌, inl, inr}
+use Rattle.std.proofs.lemmas.Bool.Decides.{nat_tests, leb_tells}
+use Rattle.rc_instr.specs.Warrior.{WarriorView}
+use Rattle.tune_cert.specs.Problem.{Problem}
+use Rattle.tune_cert.specs.Optimum.{total_of, cap_of, beats}
+use Rattle.tune_search.specs.Order.{beats_lead, enough}
+use Rattle.tune_search.specs.Visits.{visit, place, IsLeadAfter}
+use Rattle.tune_search.specs.declared.lead.Lead.{Lead}
+use Rattle.tune_search.proofs.Enough.{least_cases}
+use Rattle.tune_search.proofs.Places.{place_visit, is_visit, lesser}
+use Rattle.tune_cert.proofs.Certificates.{Trails, trails, not_beats, some_is, same_number}
+
+not_true : (b : Bool) → not b ≡ true → b ≡ false
+not_true true h = absurd (cc)
+not_true false h = refl
+
+-- what is beaten trails the one that beat it
+overtaken : (c u t z d v : ℕ) → beats c u t z ≡ false → beats d v t z ≡ true → beats c u d v ≡ false
+overtaken c u t z d v a b = grind (arith, nat_tests)
+
+-- so many fights were enough: all, or the cap then does not beat the lead
+pub enough_cases : (p : Problem) (w : WarriorView) (order : List ℕ) (v : ℕ) (lead : Option Lead) →
+    (enough p w order v lead ≡ p.fights) ⊎ (beats_lead (cap_of p w (take (enough p w order v lead) order)) v lead ≡ false)
+unfolding enough
+enough_cases p w order v lead =
+    elim (least_cases (λ j. not (beats_lead (cap_of p w (take j order)) v lead)) p.fights) [
+      | inl e ↦ inl e
+      | inr h ↦ inr (not_true _ h)
+    ]
+
+-- where the cap at the end beats the lead, all were fought
+pub all_fought : (p : Problem) (w : WarriorView) (order : List ℕ) (v : ℕ) (lead : Option Lead) →
+    beats_lead (cap_of p w (take (enough p w order v lead) order)) v lead ≡ true → enough p w order v lead ≡ p.fights
+all_fought p w order v lead h = elim (enough_cases p w order v lead) [ inl e ↦ e | inr n ↦ absurd (cc) ]
+
+module _ (p : Problem) (k v : ℕ) (at : v ≡ visit p.start k) where
+  here : place p.start v ≡ k
+  here = ap (place p.start) at ∙ place_visit p.start k
+
+  -- those visited by then are those before, and v
+  pub by_then : (u : ℕ) → place p.start u < suc k → (place p.start u < k) ⊎ (u ≡ v)
+  by_then u h = elim (leb_tells k (place p.start u)) [
+    | inl q ↦ let e : place p.start u ≡ k = omega arith in inr (is_visit p.start u k e ∙ sym at)
+    | inr q ↦ inl (omega arith)
+  ]
+
+  -- v is no candidate
+  pub lead_refused : (lead : Option Lead) → p.warrior v ≡ None → IsLeadAfter p k lead → IsLeadAfter p (suc k) lead
+  lead_refused None none h = λ u l b. elim (by_then u b) [ inl c ↦ h u l c | inr e ↦ ap p.warrior e ∙ none ]
+  lead_refused (Some lead) none h = record {
+    warrior = h.warrior;
+    inside = h.inside;
+    visited = let before : place p.start lead.vector < k = h.visited in omega arith;
+    candidate = h.candidate;
+    scores = h.scores;
+    best = λ u x l b is. elim (by_then u b) [ inl c ↦ h.best u x l c is | inr e ↦ let no : p.warrior u ≡ None = ap p.warrior e ∙ none in absurd (cc) ];
+  }
+
+  module _ (w : WarriorView) (inside : v < p.count) (is : p.warrior v ≡ Some w) where
+    -- v's total does not beat the lead
+    pub lead_stays : (lead : Option Lead) → beats_lead (total_of p w) v lead ≡ false → IsLeadAfter p k lead → IsLeadAfter p (suc k) lead
+    lead_stays None behind h = absurd (cc)
+    lead_stays (Some lead) behind h = record {
+      warrior = h.warrior;
+      inside = h.inside;
+      visited = let before : place p.start lead.vector < k = h.visited in omega arith;
+      candidate = h.candidate;
+      scores = h.scores;
+      best = λ u x l b at_u. elim (by_then u b) [
+        | inl c ↦ h.best u x l c at_u
+        | inr e ↦
+            let same : w ≡ x = some_is w x (sym is ∙ ap p.warrior (sym e) ∙ at_u) in
+            ap (λ n. beats (total_of p x) n lead.total lead.vector) e ∙ ap (λ y. beats (total_of p y) v lead.total lead.vector) (sym same) ∙ behind
+      ];
+    }
+
+    -- v beats the lead, or there is none
+    pub lead_new : (lead : Option Lead) (t : ℕ) → total_of p w ≡ t → beats_lead t v lead ≡ true → IsLeadAfter p k lead → IsLeadAfter p (suc k) (Some (record { total = t; vector = v }))
+    lead_new lead t score beat h = record {
+      warrior = w;
+      inside = inside;
+      visited = let e : place p.start v ≡ k = here in omega arith;
+      candidate = is;
+      scores = score;
+      best = λ u x l b at_u. elim (by_then u b) [
+        | inl c ↦ older lead beat h u x l c at_u
+        | inr e ↦
+            let same : w ≡ x = some_is w x (sym is ∙ ap p.warrior (sym e) ∙ at_u) in
+            let even : total_of p x ≡ t = ap (total_of p) (sym same) ∙ score in
+            not_beats (total_of p x) u t v (record { no_more = omega arith; later = λ f. omega arith })
+      ];
+    }
+      where
+        older : (lead : Option Lead) → beats_lead t v lead ≡ true → IsLeadAfter p k lead → (u : ℕ) (x : WarriorView) → u < p.count → place p.start u < k → p.warrior u ≡ Some x → beats (total_of p x) u t v ≡ false
+        older None y h u x l c at_u = let none : p.warrior u ≡ None = h u l c in absurd (cc)
+        older (Some lead) y h u x l c at_u = overtaken (total_of p x) u lead.total lead.vector t v (h.best u x l c at_u) y

@@ -1,0 +1,35 @@
+use Rattle.std.proofs.Common.{arith, ◌≡◌, ◌∙◌, ◌*◌, ◌≤◌, ap, sym, below_more, get_or}
+use Rattle.tune_cert.specs.Problem.{problem_of}
+use Rattle.tune_cert.proofs.CapRows.{few_points}
+use Rattle.tune_search.specs.Order.{beats_lead}
+use Rattle.tune_search.proofs.Caps.{cap_none, cap_more, played_more}
+use Rattle.tune_search.proofs.fights.play_enough.Goals as goal
+
+pub loop-index-init : goal.loop-index-init
+loop-index-init c =
+    let p = problem_of c.args.inputs.now in
+    record {
+      fought = c.new-listing.ensures.items;
+      holds = cap_none p c.args.warrior.now c.args.order.now (3 * c.fight_count-cap.result) (ap (λ n. 3 * n) c.fight_count-cap.ensures.count);
+      room = omega (arith, c.requires.all, c.fight_count-cap.ensures.count);
+      beat = λ j l. absurd (omega arith);
+      blank = c.requires.blank;
+    }
+
+pub loop-index-preserved : goal.loop-index-preserved
+loop-index-preserved c =
+    let p = problem_of c.args.inputs.now in
+    let w = c.args.warrior.now in
+    let order = c.args.order.now in
+    let i = c.loop-index.index-index in
+    let points : c.fight_points-points.result ≡ p.points w (get_or order i 0) = c.fight_points-points.ensures.points in
+    let few : c.fight_points-points.result ≤ 3 = few_points _ c.fight_points-points.ensures.scores in
+    let same : c.from.result ≡ c.fight_points-points.result = c.from.ensures in
+    let less : c.from.result ≤ 3 = omega (arith, same, few) in
+    record {
+      fought = c.in_ok-push.ensures.items ∙ played_more p w order i _ _ c.loop-index-test.true points c.loop-index.invariant.fought;
+      holds = cap_more p w order i _ _ c.loop-index-test.true c.requires.all (same ∙ points) less c.loop-index.invariant.holds;
+      room = omega (arith, c.loop-index.invariant.room, c.loop-index-test.true, less);
+      beat = below_more _ _ c.loop-index.invariant.beat (ap (λ n. beats_lead n c.args.vector c.args.lead) (sym c.loop-index.invariant.holds) ∙ sym c.beats.ensures ∙ c.if-not-beats.false);
+      blank = c.fight_points-points.ensures.blank;
+    }

@@ -1,0 +1,20 @@
+use Rattle.std.proofs.Common.{◌≡◌, ℕ, ◌-◌, ◌*◌, ◌<◌, ◌≤◌, take, length, true}
+use Rattle.mars_core.specs.Arena.{IsBlank}
+use Rattle.tune_cert.specs.Problem.{problem_of}
+use Rattle.tune_cert.specs.Optimum.{cap_of}
+use Rattle.tune_search.specs.Plays.{played}
+use Rattle.tune_search.specs.Order.{beats_lead}
+use Rattle.tune_search.proofs.fights.play_enough.Given as goal
+
+-- the fights so far, in order, with their cap; each cap before beat the lead
+abbrev pub invariant-loop-index : goal.invariant-loop-index
+invariant-loop-index l =
+    let p = problem_of l.fn.inputs in
+    let w = l.fn.warrior in
+    record {
+      fought : l.listing.items ≡ played p w (take l.index-index l.order);
+      holds : l.cap ≡ cap_of p w (take l.index-index l.order);
+      room : 3 * (length l.order - l.index-index) ≤ l.cap;
+      beat : (j : ℕ) → j < l.index-index → beats_lead (cap_of p w (take j l.order)) l.vector l.lead ≡ true;
+      blank : IsBlank l.fn.inputs.rules l.arena;
+    }

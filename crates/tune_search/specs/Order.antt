@@ -1,0 +1,38 @@
+-- The order in which the fights of a setting are played, and how many of them are.
+use Rattle.std.specs.Prelude.{ℕ, Bool, true, false, not, ◌==◌, List, ◌++◌, map, take, Option, Some, None}
+use Rattle.std.specs.List.{filter}
+use Rattle.rc_instr.specs.Warrior.{WarriorView}
+use Rattle.mars_core.specs.Fight.{least}
+use Rattle.tune_cert.specs.Problem.{Problem}
+use Rattle.tune_cert.specs.Optimum.{all_fights, cap_of, beats}
+use Rattle.tune_search.specs.Plays.{played}
+use Rattle.tune_search.specs.declared.lead.Lead.{Lead}
+
+-- The fights that gave these points, in their order.
+abbrev pub with_points : ℕ → List (ℕ × ℕ) → List ℕ
+with_points x fights = map (λ e. e.0) (filter (λ e. e.1 == x) fights)
+
+-- The fights by rising points. Fights with equal points keep their order.
+abbrev pub by_points : List (ℕ × ℕ) → List ℕ
+by_points fights = with_points 0 fights ++ with_points 1 fights ++ with_points 3 fights
+
+-- The order of a setting's fights, given whether it is the start setting, and that one's warrior.
+abbrev pub order_after : Problem → Bool → Option WarriorView → List ℕ
+order_after p true start = all_fights p
+order_after p false None = all_fights p
+order_after p false (Some w) = by_points (played p w (all_fights p))
+
+-- The order of setting v's fights: by the points of the start setting in them, then by index. By
+-- index alone for the start setting itself, and for all if the start setting does not assemble.
+unfoldable pub fight_order : Problem → ℕ → List ℕ
+fight_order p v = order_after p (v == p.start) (p.warrior p.start)
+
+-- Cap c of setting v beats the lead. Every cap does if there is none.
+abbrev pub beats_lead : ℕ → ℕ → Option Lead → Bool
+beats_lead c v None = true
+beats_lead c v (Some lead) = beats c v lead.total lead.vector
+
+-- How many fights of an order are played: as few as bring the cap to where it does not beat the
+-- lead, or all of them. None at all may be enough.
+unfoldable pub enough : Problem → WarriorView → List ℕ → ℕ → Option Lead → ℕ
+enough p w order v lead = least (λ k. not (beats_lead (cap_of p w (take k order)) v lead)) p.fights

@@ -1,0 +1,29 @@
+//! What a search reads of its inputs, as the problem that they pose has it.
+ghost use Rattle.std.specs.Prelude.{◌≡◌, ◌<◌, ◌≤◌};
+ghost use Rattle.tune_cert.specs.Problem.{problem_of};
+
+use tune_template::Inputs;
+
+// Returns the number of settings.
+pub(crate) fn setting_count(inputs: &Inputs) -> u32
+    ensures count { result ≡ (problem_of inputs.now).count }
+    ensures few { result ≤ 1000000 }
+{
+    inputs.template().count()
+}
+
+// Returns the number of fights.
+pub(crate) fn fight_count(inputs: &Inputs) -> u32
+    ensures count { result ≡ (problem_of inputs.now).fights }
+    ensures few { result ≤ 10000 }
+{
+    inputs.schedule().fights().len() as u32
+}
+
+// Returns the index of the start setting.
+pub(crate) fn start_setting(inputs: &Inputs) -> u32
+    ensures start { result ≡ (problem_of inputs.now).start }
+    ensures inside { result < (problem_of inputs.now).count }
+{
+    inputs.template().start_number()
+}

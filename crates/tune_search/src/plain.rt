@@ -1,0 +1,60 @@
+//! The search that plays every fight of every setting.
+ghost use Rattle.std.specs.Prelude.{◌≡◌, ◌*◌, ◌<◌, ◌≤◌, ℕ, None, length, IfOk, IfErr};
+ghost use Rattle.tune_cert.specs.Problem.{problem_of};
+ghost use Rattle.tune_cert.specs.Optimum.{IsOptimum, HasTotal, candidates_of};
+ghost use Rattle.tune_cert.specs.Valid.{IsValid, listed_fights};
+ghost use Rattle.tune_search.specs.Plays.{rows_of};
+
+use crate::counts::setting_count;
+use crate::fault::SearchFault;
+use crate::progress::Progress;
+use mars_core::{Arena, PackedCells};
+use std::alloc::Global;
+use tune_cert::{Found, Rows};
+use tune_template::Inputs;
+
+/// Finds the optimum: the first setting of the template with the greatest total in the fights of
+/// the schedule.
+///
+/// Plays all fights of every candidate, in order and in one arena, as the optimum is defined. The
+/// row of a setting is `Refused` if it does not assemble, and else `Cap` with all fights and their
+/// points. `search` finds the same setting with fewer fights.
+///
+/// # Errors
+///
+/// `NoCandidate` if no setting assembles. `OutOfMemory` if an allocation failed.
+pub fn plain_search(alloc: Global, inputs: &Inputs) -> Result<Found, SearchFault>
+    ensures optimum { IfOk result (λ f. IsOptimum (problem_of inputs.now) f.best) }
+    ensures total { IfOk result (λ f. HasTotal (problem_of inputs.now) f.best f.total) }
+    ensures valid { let p = problem_of inputs.now in IfOk result (λ f. IsValid p p.count f.best f.total f.rows) }
+    ensures candidates { IfOk result (λ f. f.candidates ≡ candidates_of (problem_of inputs.now)) }
+    ensures rows { IfOk result (λ f. f.rows ≡ rows_of (problem_of inputs.now)) }
+    ensures few { IfOk result (λ f. length f.rows ≤ 1000000) }
+    ensures fights { IfOk result (λ f. f.fights ≡ f.candidates * (problem_of inputs.now).fights) }
+    ensures listed { IfOk result (λ f. f.fights ≡ listed_fights f.rows) }
+    ensures copied { IfOk result (λ f. f.copied ≡ None) }
+    ensures none { let p = problem_of inputs.now in IfErr result (λ e. e ≡ SearchFault.NoCandidate → (v : ℕ) → v < p.count → p.warrior v ≡ None) }
+{
+    let mut arena = Arena::<PackedCells>::try_new(alloc, inputs.rules())?;
+    let mut progress = Progress::begin(alloc, inputs)?;
+    for vector in 0..setting_count(inputs) {
+        progress.visit(alloc, &mut arena, inputs, vector)?;
+    }
+    let Progress {
+        rows,
+        lead,
+        candidates,
+        fights,
+    } = progress;
+    match lead {
+        None => Err(SearchFault::NoCandidate),
+        Some(lead) => Ok(Found {
+            best: lead.vector,
+            total: lead.total,
+            rows: Rows::from_vec(rows),
+            fights,
+            candidates,
+            copied: None,
+        }),
+    }
+}
