@@ -117,8 +117,8 @@ impl<C: Cells> Arena<C> {
     /// the cycles of the rules are over. A cycle is one turn of each side, so there are at most two
     /// turns for each cycle.
     ///
-    /// No turn was made since the load. On a blank arena no side has a task: the answer is 3 points
-    /// after 0 turns. The candidate gets 3 points if the opponent has no task
+    /// Requires that no turn was made since the load. On a blank arena no side has a task: returns
+    /// 3 points after 0 turns. The candidate gets 3 points if the opponent has no task
     /// left, 0 if it has none itself, and 1 if both still have tasks (pMARS, for two warriors). The
     /// marks grow by at most 3 a turn.
     pub fn run(&mut self, first: Side) -> Outcome
@@ -158,7 +158,8 @@ impl<C: Cells> Arena<C> {
         self.cells.restore()
     }
 
-    /// Returns the cell at address `at`, which is below the core size. Both its numbers are too.
+    /// Returns the cell at address `at`, which must be below the core size. Its numbers are below
+    /// the core size.
     pub fn cell(&self, at: u32) -> Instruction
         requires { at < self.now.rules.core }
         ensures value { result ≡ cell_at self.now.state.core at }

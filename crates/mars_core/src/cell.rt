@@ -26,11 +26,11 @@ pub trait Cell: Copy {
         ensures { result ≡ (held self).opcode };
 
     /// Checks whether the instruction is MOV.I.
-    fn moves_whole(self) -> bool
+    fn is_mov_i(self) -> bool
         ensures { IsTrue result ↔ ((held self).opcode ≡ Opcode.Mov) × ((held self).modifier ≡ Modifier.I) };
 
-    /// Checks whether the opcode is SPL or NOP, which only queue tasks.
-    fn only_queues(self) -> bool
+    /// Checks whether the opcode is SPL or NOP.
+    fn is_spl_or_nop(self) -> bool
         ensures { IsTrue result ↔ ((held self).opcode ≡ Opcode.Spl) ⊎ ((held self).opcode ≡ Opcode.Nop) };
 
     fn modifier(self) -> Modifier
@@ -80,12 +80,12 @@ impl Cell for Instruction {
     }
 
     #[inline]
-    fn moves_whole(self) -> bool {
+    fn is_mov_i(self) -> bool {
         self.opcode == Opcode::Mov && self.modifier == Modifier::I
     }
 
     #[inline]
-    fn only_queues(self) -> bool {
+    fn is_spl_or_nop(self) -> bool {
         self.opcode == Opcode::Spl || self.opcode == Opcode::Nop
     }
 

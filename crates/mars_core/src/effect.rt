@@ -35,8 +35,8 @@ pub(crate) enum Queued {
 
 // Runs `instruction` on its evaluated operands, for the task at `pc`. Returns what the task queues.
 //
-// Each arm decodes the modifier anew, so that the compiler makes one jump of that and of the match
-// on it.
+// Each arm decodes the modifier anew, so that the compiler merges the decoding and the match on it
+// into one jump. MOV.I, SPL and NOP have arms too, though `execute` runs them itself.
 #[tactic(auto, unfolding(crate::specs::Step::effect_of, crate::specs::Pairs::computed))]
 #[inline(always)]
 pub(crate) fn act<C: Cells>(
@@ -67,6 +67,7 @@ pub(crate) fn act<C: Cells>(
         Opcode::Jmp => Jump,
         Opcode::Jmz => choose(all_tested_are(instruction.modifier(), 0, y), Jump, Next),
         Opcode::Jmn => choose(all_tested_are(instruction.modifier(), 0, y), Next, Jump),
+        // `b` was copied before the numbers are lowered, so 1 is 0 afterwards.
         Opcode::Djn => {
             apply_count_down(cells, size, instruction.modifier(), b.address);
             choose(all_tested_are(instruction.modifier(), 1, y), Next, Jump)

@@ -15,7 +15,7 @@ use std::marker::Model;
 #[derive(Drop)]
 pub struct PackedCells {
     words: Vec<u64>,
-    // Of full length from the start, so that no write grows it. The first `count` items count.
+    // Of full length from the start, so that no write grows it. The first `count` items are in use.
     journal: Vec<u16>,
     count: usize,
 }

@@ -174,13 +174,14 @@ impl Cell for PackedCell {
 
     #[tactic(auto, using(crate::proofs::Packing::fast), unfolding(crate::specs::Packed::unpacked))]
     #[inline]
-    fn moves_whole(self) -> bool {
+    fn is_mov_i(self) -> bool {
+        // MOV is opcode 1, and I is modifier 6; 7 is read as I too
         self.word / 2 % 64 == 7
     }
 
     #[tactic(auto, using(crate::proofs::Packing::fast), unfolding(crate::specs::Packed::unpacked))]
     #[inline]
-    fn only_queues(self) -> bool {
+    fn is_spl_or_nop(self) -> bool {
         self.word / 8 % 16 >= 14
     }
 

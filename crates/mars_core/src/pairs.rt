@@ -10,8 +10,8 @@ use crate::cell::Cell;
 use crate::number::{FieldA, FieldB, Number, difference, number_of, product, sum, with_number};
 use rc_instr::Modifier;
 
-// What an opcode computes for one pair from its A-value and its B-value. A type stands for each
-// opcode, so that it is known at compile time.
+// What an opcode computes for one pair from its A-value and its B-value. Each opcode is a type, so
+// that it is known at compile time.
 pub(crate) trait Operation {
     ghost opcode: { Opcode };
 

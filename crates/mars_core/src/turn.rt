@@ -2,11 +2,9 @@
 ghost use Rattle.std.specs.Prelude.{◌≡◌, ◌<◌, ◌≤◌, ◌==◌, ◌+◌, ◌∷◌, [], ◌++◌, length, if◌then◌else◌, nat_lt};
 ghost use Rattle.circular_buffer.specs.Buffer.{buffer};
 ghost use Rattle.mars_core.specs.Core.{IsCore, AreTasks};
-ghost use Rattle.mars_core.specs.Numbers.{sum_of};
 ghost use Rattle.mars_core.specs.Step.{step_of, leaves};
 ghost use Rattle.mars_core.specs.State.{appended, core_after, tasks_after};
-ghost use Rattle.mars_core.specs.Evaluated.{addresses, located, located_from, a_operand, b_operand};
-ghost use Rattle.rc_instr.specs.Warrior.{IsBelow};
+ghost use Rattle.mars_core.specs.Evaluated.{addresses};
 
 use crate::cell::Cell;
 use crate::cells::{Cells, read, write};
@@ -23,8 +21,8 @@ pub(crate) struct Executed {
     pub(crate) jump: u32,
 }
 
-// Appends a task if there is room; else the task is lost (1994 draft). Returns whether no task is
-// queued then.
+// Appends a task if there is room; else the task is lost (1994 draft). Returns whether the queue is
+// empty afterwards.
 #[inline(always)]
 pub(crate) fn append(tasks: &mut HeapCircularBuffer<u16>, task: u32) -> bool
     requires { task < 65536 }
@@ -38,7 +36,7 @@ pub(crate) fn append(tasks: &mut HeapCircularBuffer<u16>, task: u32) -> bool
 }
 
 // Takes one turn of the side with these tasks. Changes nothing if there are none. Returns whether
-// none is left.
+// the queue is empty afterwards.
 #[tactic(auto, using(crate::proofs::Queues::queues), unfolding(crate::specs::State::core_after, crate::specs::State::tasks_after))]
 #[inline(always)]
 pub(crate) fn take_turn<C: Cells>(
@@ -78,7 +76,7 @@ fn execute<C: Cells>(cells: &mut C, size: u32, pc: u32) -> Executed
     ensures marks { C.marks cells.new ≤ C.marks cells.old + 3 }
 {
     let cell = read(cells, size, pc);
-    if cell.moves_whole() {
+    if cell.is_mov_i() {
         let (a, b) = operands(cells, size, pc, cell);
         write(cells, size, b.address, a.copy);
         return Executed {
@@ -86,7 +84,7 @@ fn execute<C: Cells>(cells: &mut C, size: u32, pc: u32) -> Executed
             jump: a.address,
         };
     }
-    if cell.only_queues() {
+    if cell.is_spl_or_nop() {
         let (a, _) = operands(cells, size, pc, cell);
         let queued = if cell.opcode() == Opcode::Spl {
             Queued::Split
@@ -106,8 +104,8 @@ fn execute<C: Cells>(cells: &mut C, size: u32, pc: u32) -> Executed
     }
 }
 
-// Appends what the task at `pc` queued, in order, each address if there is room. Returns whether no
-// task is queued then.
+// Appends the addresses that the task at `pc` queues, in order, each if there is room. Returns
+// whether the queue is empty afterwards.
 #[inline(always)]
 fn append_queued(
     tasks: &mut HeapCircularBuffer<u16>,

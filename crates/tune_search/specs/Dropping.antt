@@ -34,8 +34,8 @@ is_filled Refused = false
 is_filled (Same u) = true
 is_filled (Cap row) = true
 
--- After k visits: the rows of the settings visited are explained, and the others not yet written.
--- The order is that of the next visit.
+-- After k visits: the rows of the settings visited are explained, and the others are `Refused`. The
+-- order is that of the next visit.
 pub record IsDropping (p : Problem) (k : ℕ) (rows : List Row) (lead : Option Lead) (order : List ℕ) (fights candidates : ℕ) : Type 0 where
   pub rows_are : length rows ≡ p.count
   pub lead_is : IsLeadAfter p k lead

@@ -1,7 +1,7 @@
 -- A search visits the start setting first, then the others in order, and keeps the lead, the best
 -- setting visited. It plays the fights of a setting in an order, as many as are enough to see that
 -- the setting does not beat the lead, or all. Its certificate lists the fights that it played. The
--- plain search plays all fights of each setting, and finds the same one.
+-- plain search plays all fights of each setting, and finds the same setting.
 pub mod Plays
 pub mod Progress
 pub mod Order

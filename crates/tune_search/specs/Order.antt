@@ -16,7 +16,8 @@ with_points x fights = map (λ e. e.0) (filter (λ e. e.1 == x) fights)
 abbrev pub by_points : List (ℕ × ℕ) → List ℕ
 by_points fights = with_points 0 fights ++ with_points 1 fights ++ with_points 3 fights
 
--- The order of a setting's fights, given whether it is the start setting, and that one's warrior.
+-- The order of a setting's fights, given whether it is the start setting, and the start setting's
+-- warrior.
 abbrev pub order_after : Problem → Bool → Option WarriorView → List ℕ
 order_after p true start = all_fights p
 order_after p false None = all_fights p
@@ -32,7 +33,7 @@ abbrev pub beats_lead : ℕ → ℕ → Option Lead → Bool
 beats_lead c v None = true
 beats_lead c v (Some lead) = beats c v lead.total lead.vector
 
--- How many fights of an order are played: as few as bring the cap to where it does not beat the
--- lead, or all of them. None at all may be enough.
+-- How many fights of an order are played: the least number after which the cap does not beat the
+-- lead, or all of them. It may be 0.
 unfoldable pub enough : Problem → WarriorView → List ℕ → ℕ → Option Lead → ℕ
 enough p w order v lead = least (λ k. not (beats_lead (cap_of p w (take k order)) v lead)) p.fights

@@ -1,4 +1,4 @@
--- A search under way, as the contracts of private functions see it.
+-- A plain search under way, as the contracts of private functions see it.
 use Rattle.std.specs.Prelude.{◌≡◌, ℕ, ◌*◌, ◌<◌, ◌≤◌, nat_lt, if◌then◌else◌, List, map, Option, Some, None}
 use Rattle.std.specs.List.{count_by, range_with_len}
 use Rattle.std.specs.Option.{is_some}
@@ -38,5 +38,5 @@ pub record IsProgress (p : Problem) (k : ℕ) (rows : List Row) (lead : Option L
   pub room : fights ≤ 10000 * candidates
   pub work : fights ≡ candidates * p.fights
 
-abbrev pub IsState : Problem → ℕ → Progress → Type 0
-IsState p k s = IsProgress p k s.rows.items s.lead s.candidates s.fights
+abbrev pub IsPlainState : Problem → ℕ → Progress → Type 0
+IsPlainState p k s = IsProgress p k s.rows.items s.lead s.candidates s.fights

@@ -1,4 +1,4 @@
-//! What a search reads of its inputs, as the problem that they pose has it.
+//! The counts and the start setting of the inputs.
 ghost use Rattle.std.specs.Prelude.{◌≡◌, ◌<◌, ◌≤◌};
 ghost use Rattle.tune_cert.specs.Problem.{problem_of};
 

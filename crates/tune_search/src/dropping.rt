@@ -14,8 +14,8 @@ use std::alloc::{AllocError, Global};
 use tune_cert::{Listing, Row, setting_warrior};
 use tune_template::Inputs;
 
-// The start setting, the rows so far, by setting, the lead, the order of the next setting's fights,
-// and counts of fights played and of candidates.
+// The start setting, a row for each setting, `Refused` until it is visited, the lead, the order of
+// the next setting's fights, and counts of fights played and of candidates.
 #[derive(Drop)]
 pub(crate) struct Dropping {
     pub(crate) start: u32,
@@ -27,7 +27,7 @@ pub(crate) struct Dropping {
 }
 
 impl Dropping {
-    // Starts before the first visit. The row of each setting is `Refused` until it is visited.
+    // Starts before the first visit.
     pub(crate) fn begin(alloc: Global, inputs: &Inputs) -> Result<Dropping, SearchFault>
         ensures state { IfOk result (IsState (problem_of inputs.now) 0) }
         ensures err { IfErr result (λ e. e ≡ SearchFault.OutOfMemory) }
@@ -82,7 +82,7 @@ impl Dropping {
     }
 }
 
-// Returns the rows of settings none of which was visited.
+// Returns `count` rows `Refused`.
 fn blank_rows(alloc: Global, count: u32) -> Result<Vec<Row>, AllocError>
     ensures { IfOk result (λ rows. rows.items ≡ replicate count Row.Refused) }
 {

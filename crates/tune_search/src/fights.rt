@@ -52,8 +52,8 @@ pub(crate) fn play_all(
     })
 }
 
-// Plays fights of setting `vector`, whose warrior is given, in this order, until its cap does not
-// beat the lead.
+// Plays the fights of `order` for setting `vector`, whose warrior is given, until its cap does not
+// beat the lead, or none is left.
 #[tactic(auto, using(crate::proofs::Enough::enough_is, crate::proofs::Caps::cap_more, crate::proofs::Caps::played_more, crate::proofs::Caps::cap_none))]
 pub(crate) fn play_enough(
     alloc: Global,

@@ -10,8 +10,8 @@ pub(crate) struct Lead {
     pub(crate) total: u32,
 }
 
-// Checks whether cap `cap` of setting `vector` beats the lead: it is greater than its total, or
-// equal while the setting comes first. Every cap does if there is no lead.
+// Checks whether cap `cap` of setting `vector` beats the lead: it is greater than the lead's total,
+// or equal to it and the setting has the smaller index. Every cap does if there is no lead.
 pub(crate) fn beats(cap: u32, vector: u32, lead: Option<Lead>) -> bool
     ensures { result ≡ beats_lead cap vector lead }
 {
@@ -21,7 +21,8 @@ pub(crate) fn beats(cap: u32, vector: u32, lead: Option<Lead>) -> bool
     }
 }
 
-// Returns the lead after setting `vector` was fought down to cap `cap`.
+// Returns the lead after the fights of setting `vector` left it cap `cap`. A cap that still beats
+// the lead counts all fights, so it is the total.
 pub(crate) fn next_lead(cap: u32, vector: u32, lead: Option<Lead>) -> Option<Lead>
     ensures { result ≡ next_lead cap vector lead }
 {

@@ -34,8 +34,7 @@ pub(crate) fn all_in_order(alloc: Global, fights: u32) -> Result<Vec<u32>, Alloc
     Ok(order)
 }
 
-// Takes up the order of the fights by the points that the first setting visited made in them, once
-// these are known.
+// If `first`, replaces `order` by `fights`, those of the start setting, in rising points.
 pub(crate) fn learn_order(
     alloc: Global,
     order: &mut Vec<u32>,

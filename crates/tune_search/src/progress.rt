@@ -1,8 +1,8 @@
-//! What a search has found so far.
+//! What a plain search has found so far.
 ghost use Rattle.std.specs.Prelude.{◌≡◌, ◌+◌, ◌<◌, ◌≤◌, ℕ, None, length, OnOk, IfOk, IfErr};
 ghost use Rattle.mars_core.specs.Arena.{IsBlank};
 ghost use Rattle.tune_cert.specs.Problem.{problem_of};
-ghost use Rattle.tune_search.specs.Progress.{IsState, lead_after};
+ghost use Rattle.tune_search.specs.Progress.{IsPlainState, lead_after};
 
 use crate::fault::SearchFault;
 use crate::fights::play_all;
@@ -24,7 +24,7 @@ pub(crate) struct Progress {
 impl Progress {
     // Starts before the first setting. Reserves the rows of all settings at once.
     pub(crate) fn begin(alloc: Global, inputs: &Inputs) -> Result<Progress, SearchFault>
-        ensures state { IfOk result (IsState (problem_of inputs.now) 0) }
+        ensures state { IfOk result (IsPlainState (problem_of inputs.now) 0) }
         ensures err { IfErr result (λ e. e ≡ SearchFault.OutOfMemory) }
     {
         let rows = Vec::with_capacity(alloc, inputs.template().count() as usize)?;
@@ -47,8 +47,8 @@ impl Progress {
         requires blank { IsBlank inputs.now.rules arena.old }
         requires inside { vector < (problem_of inputs.now).count }
         requires few { (problem_of inputs.now).count ≤ 1000000 }
-        requires state { IsState (problem_of inputs.now) vector self.old }
-        ensures state { OnOk result (IsState (problem_of inputs.now) (vector + 1) self.new) }
+        requires state { IsPlainState (problem_of inputs.now) vector self.old }
+        ensures state { OnOk result (IsPlainState (problem_of inputs.now) (vector + 1) self.new) }
         ensures blank { IsBlank inputs.now.rules arena.new }
         ensures err { IfErr result (λ e. e ≡ SearchFault.OutOfMemory) }
     {

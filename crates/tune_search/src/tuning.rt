@@ -20,11 +20,12 @@ use tune_template::Inputs;
 ///
 /// Visits the start setting first, then the others in order. The fights of the start setting go by
 /// index, and those of the others by the points that it made in them, the fewest first, and by
-/// index where these are equal. A setting is dropped as soon as its cap does not beat the lead, the
-/// best setting visited before: its points so far and 3 for each fight left are less than the
-/// lead's total, or equal while the lead comes first. The row of a setting is `Refused` if it does
-/// not assemble, and else `Cap` with the fights that were played, by index. `capacity`, 1 to 65536,
-/// is the number of warriors that a search may remember; this search remembers none and ignores it.
+/// index where these are equal; all by index if it does not assemble. A setting is dropped as soon
+/// as its cap does not beat the lead, the best setting visited so far: its points and 3 for each
+/// fight left are less than the lead's total, or equal and the lead has the smaller index. The row
+/// of a setting is `Refused` if it does not assemble, and else `Cap` with the fights that were
+/// played, by index. `capacity`, 1 to 65536, is the number of warriors that a search may remember;
+/// this search remembers none and ignores it.
 ///
 /// # Errors
 ///
