@@ -12,7 +12,7 @@ use Rattle.tune_search.specs.Visits.{place, IsLeadAfter, IsExplained}
 use Rattle.tune_search.specs.declared.lead.Lead.{Lead}
 use Rattle.tune_search.specs.declared.dropping.Dropping.{Dropping}
 
--- The lead after setting v was fought down to cap c, given whether this beats the lead before.
+-- The lead after the fights of setting v left it cap c, given whether this beats the lead before.
 abbrev pub lead_by : ℕ → ℕ → Option Lead → Bool → Option Lead
 lead_by c v lead true = Some (record { total = c; vector = v })
 lead_by c v lead false = lead
