@@ -1,5 +1,5 @@
 -- Cap rows.
-use Rattle.std.proofs.Common.{◌≡◌, ℕ, zero, suc, ◌+◌, ◌*◌, ◌≤◌, arith, List, [], ◌∷◌, length, get_or, refl, sym, ◌∙◌, ap, ◌⊎◌, inl, inr, subst}
+use Rattle.std.proofs.Common.{◌≡◌, ℕ, zero, suc, ◌+◌, ◌-◌, ◌*◌, ◌≤◌, arith, List, [], ◌∷◌, length, get_or, refl, sym, ◌∙◌, ap, ◌⊎◌, inl, inr, subst}
 use Rattle.std.specs.List.{sum_by, range_with_len}
 use Rattle.std.proofs.lemmas.List.{length-map}
 use Rattle.std.proofs.lemmas.List.Sums.{sum_by-cons, sum_by-le}
@@ -7,7 +7,7 @@ use Rattle.std.proofs.lemmas.List.FromFn.{length-range_with_len}
 use Rattle.std.proofs.lemmas.Bool.Decides.{leb_tells}
 use Rattle.rc_instr.specs.Warrior.{WarriorView}
 use Rattle.tune_cert.specs.Problem.{Problem, IsProblem}
-use Rattle.tune_cert.specs.Optimum.{total_of, cap_of}
+use Rattle.tune_cert.specs.Optimum.{all_fights, most_of, total_of, greatest_of, most_besides, cap_of}
 use Rattle.tune_cert.specs.Valid.{numbers, IsCapRow}
 use Rattle.mars_fight.specs.Play.{ArePoints}
 
@@ -22,6 +22,28 @@ cons_sum p w k ks = sum_by-cons (p.points w) k ks
 
 none_sum : (p : Problem) → IsProblem p → (w : WarriorView) (ks : List ℕ) → sum_by (p.points w) ks ≤ 3 * length ks
 none_sum p laws w ks = omega (arith, sum_by-le (p.points w) 3 ks (λ k d l. few_points _ (laws.scores w (get_or ks k d))))
+
+most_sum : (p : Problem) (ks : List ℕ) → sum_by (most_of p) ks ≡ 3 * length ks
+most_sum p [] = refl
+most_sum p (k ∷ ks) = omega (arith, sum_by-cons (most_of p) k ks, most_sum p ks)
+
+-- the greatest total is 3 for each fight
+pub greatest_is : (p : Problem) → greatest_of p ≡ 3 * p.fights
+unfolding greatest_of
+greatest_is p = omega (arith, most_sum p (all_fights p), length-range_with_len 0 p.fights)
+
+pub besides_is : (p : Problem) (ks : List ℕ) → most_besides p ks ≡ 3 * (p.fights - length ks)
+unfolding most_besides
+besides_is p ks = omega (arith, greatest_is p, most_sum p ks)
+
+-- a cap in numbers
+pub cap_is : (p : Problem) (w : WarriorView) (ks : List ℕ) → cap_of p w ks ≡ sum_by (p.points w) ks + 3 * (p.fights - length ks)
+unfolding cap_of
+cap_is p w ks = omega (arith, besides_is p ks)
+
+-- the cap that a row lists, in numbers
+pub besides_row : (p : Problem) (row : List (ℕ × ℕ)) → most_besides p (numbers row) ≡ 3 * (p.fights - length row)
+besides_row p row = omega (arith, besides_is p (numbers row), length-map row (λ e. e.0))
 
 -- a row's points and 3 for each other fight from a on, against all fights from a on
 pub capped : (p : Problem) → IsProblem p → (w : WarriorView) (m a : ℕ) (row : List (ℕ × ℕ)) → a + m ≡ p.fights → IsCapRow p w a row →
@@ -67,10 +89,14 @@ row_sum p w a (x ∷ row) h =
     sum_by-cons (λ e. e.1) x row ∙ ap (λ n. n + sum_by (λ e. e.1) row) h.2 ∙ ap (λ n. p.points w x.0 + n) i ∙ sym (cons_sum p w x.0 (numbers row))
 
 pub row_cap : (p : Problem) → IsProblem p → (w : WarriorView) (row : List (ℕ × ℕ)) → IsCapRow p w 0 row → total_of p w ≤ cap_of p w (numbers row)
-unfolding total_of cap_of
+unfolding total_of
 row_cap p laws w row h =
     let c = capped p laws w p.fights 0 row (omega arith) h in
-    omega (arith, c.0, c.1, length-map row (λ e. e.0))
+    omega (arith, c.0, c.1, cap_is p w (numbers row), length-map row (λ e. e.0))
+
+pub total_few : (p : Problem) → IsProblem p → (w : WarriorView) → total_of p w ≤ 3 * p.fights
+unfolding total_of
+total_few p laws w = omega (arith, none_sum p laws w (all_fights p), length-range_with_len 0 p.fights)
 
 pub row_total : (p : Problem) → IsProblem p → (w : WarriorView) (row : List (ℕ × ℕ)) → IsCapRow p w 0 row → length row ≡ p.fights → sum_by (λ e. e.1) row ≡ total_of p w
 unfolding total_of

@@ -13,8 +13,8 @@ use Rattle.tune_cert.proofs.Certificates.{valid_is_optimum, valid_total}
 
 optimal : (p : Problem) → IsProblem p → (c : Cert) (v : Verdict) → IsCertVerdict p c v → IsOptimal p v
 optimal p laws c (Accepted best total) h =
-    let best_is : IsOptimum p best = subst (λ (w : ℕ). IsOptimum p w) (sym h.1) (valid_is_optimum p laws c.count c.best c.total c.rows h.0) in
-    let has : HasTotal p best c.total = subst (λ (w : ℕ). HasTotal p w c.total) (sym h.1) (valid_total p laws c.count c.best c.total c.rows h.0) in
+    let best_is : IsOptimum p best = subst (λ (w : ℕ). IsOptimum p w) (sym h.1) (valid_is_optimum p laws c h.0) in
+    let has : HasTotal p best c.total = subst (λ (w : ℕ). HasTotal p w c.total) (sym h.1) (valid_total p laws c h.0) in
     (best_is, subst (λ (t : ℕ). HasTotal p best t) (sym h.2) has)
 optimal p laws c (Rejected number reason) h = tt
 

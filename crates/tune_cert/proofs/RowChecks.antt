@@ -5,7 +5,7 @@ use Rattle.std.proofs.lemmas.List.{length-map}
 use Rattle.std.proofs.lemmas.List.FromFn.{length-range_with_len}
 use Rattle.rc_instr.specs.Warrior.{WarriorView}
 use Rattle.tune_cert.specs.Problem.{Problem, IsProblem}
-use Rattle.tune_cert.specs.Optimum.{cap_of, all_fights}
+use Rattle.tune_cert.specs.Optimum.{most_besides, cap_of, all_fights}
 use Rattle.tune_cert.specs.Valid.{numbers, IsCapRow}
 use Rattle.tune_cert.specs.Verdict.{Rises, HavePoints}
 use Rattle.tune_cert.specs.Steps.{AreNumbers, listed_cap}
@@ -29,9 +29,9 @@ pub few_listed : (p : Problem) → IsProblem p → (w : WarriorView) (row : List
 few_listed p laws w row h = (capped p laws w p.fights 0 row (omega arith) h).0
 
 -- the cap by the points that a cap row lists
-pub listed_is_cap : (p : Problem) (w : WarriorView) (row : List (ℕ × ℕ)) → IsCapRow p w 0 row → listed_cap p.fights row ≡ cap_of p w (numbers row)
+pub listed_is_cap : (p : Problem) (w : WarriorView) (row : List (ℕ × ℕ)) → IsCapRow p w 0 row → listed_cap p row ≡ cap_of p w (numbers row)
 unfolding cap_of
-listed_is_cap p w row h = omega (arith, row_sum p w 0 row h, length-map row (λ e. e.0))
+listed_is_cap p w row h = ap (λ n. n + most_besides p (numbers row)) (row_sum p w 0 row h)
 
 -- all fights by number
 up_to : (n a : ℕ) (row : List (ℕ × ℕ)) → AreNumbers n a row → n ≡ a + length row

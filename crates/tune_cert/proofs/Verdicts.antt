@@ -6,9 +6,9 @@ use Rattle.rc_instr.specs.Warrior.{WarriorView}
 use Rattle.mars_fight.specs.Records.{Fields}
 use Rattle.tune_cert.specs.Problem.{Problem, IsProblem}
 use Rattle.tune_cert.specs.Optimum.{cap_of, beats}
-use Rattle.tune_cert.specs.Valid.{numbers, IsRightRow}
+use Rattle.tune_cert.specs.Valid.{numbers, IsRightRow, IsValid}
 use Rattle.tune_cert.specs.Spelling.{Spells}
-use Rattle.tune_cert.specs.Verdict.{IsValidCert, IsBestRow, IsWrongRefused, IsWrongCap, IsWrongSame, IsWrong, IsWrongRow, IsRejected, IsVerdict, IsRightAlone, IsRightSame, AreRightAlone, IsFirstRow, IsFirstOfCert, IsFirst}
+use Rattle.tune_cert.specs.Verdict.{IsBestRow, IsWrongRefused, IsWrongCap, IsWrongSame, IsWrong, IsWrongRow, IsRejected, IsVerdict, IsRightAlone, IsRightSame, AreRightAlone, IsFirstRow, IsFirstOfCert, IsFirst}
 use Rattle.tune_cert.specs.Steps.{AreRightSame, IsCertVerdict, IsFirstVerdict}
 use Rattle.tune_cert.specs.declared.cert.Cert.{Cert}
 use Rattle.tune_cert.specs.declared.fault.CheckFault.{CheckFault}
@@ -22,13 +22,13 @@ use Rattle.tune_cert.proofs.CapRows.{whole}
 use Rattle.tune_cert.proofs.Certificates.{some_is}
 use Rattle.tune_cert.proofs.RowChecks.{cap_row_rises, cap_row_points, all_listed}
 
-right_of : (p : Problem) (c : Cert) (v : ℕ) (row : Row) → IsRightAlone p c v row → IsRightSame p c v row → IsRightRow p c.best c.total c.rows v row
+right_of : (p : Problem) (c : Cert) (v : ℕ) (row : Row) → IsRightAlone p c v row → IsRightSame p c v row → IsRightRow p c v row
 right_of p c v Refused a s = a
 right_of p c v (Same u) a s = s
 right_of p c v (Cap row) a s = a
 
 -- a certificate whose parts are right is valid
-pub valid_of : (p : Problem) (c : Cert) → AreRightAlone p c → AreRightSame p c → c.count ≡ p.count → length c.rows ≡ p.count → IsBestRow p c → IsValidCert p c
+pub valid_of : (p : Problem) (c : Cert) → AreRightAlone p c → AreRightSame p c → c.count ≡ p.count → length c.rows ≡ p.count → IsBestRow p c → IsValid p c
 valid_of p c alone same count rows best = record {
   count_is = count;
   rows_are = rows;
@@ -54,7 +54,7 @@ not_refused p v CapTooHigh w h = w
 not_refused p v NotSame w h = w
 
 not_cap : (p : Problem) (c : Cert) (v : ℕ) (row : List (ℕ × ℕ)) (reason : Reason) → IsWrongCap p c v row reason →
-    IsRightRow p c.best c.total c.rows v (Cap row) → ⊥
+    IsRightRow p c v (Cap row) → ⊥
 not_cap p c v row RepeatedFight w h = w (cap_row_rises p h.0 0 row h.2)
 not_cap p c v row WrongPoints w h = w h.0 h.1 (cap_row_points p h.0 0 row h.2)
 not_cap p c v row CapTooHigh w h =
@@ -67,7 +67,7 @@ not_cap p c v row BestRow w h = w
 not_cap p c v row NotSame w h = w
 
 not_same : (p : Problem) (c : Cert) (v u : ℕ) (reason : Reason) → IsWrongSame p c v u reason →
-    IsRightRow p c.best c.total c.rows v (Same u) → ⊥
+    IsRightRow p c v (Same u) → ⊥
 not_same p c v u NotSame w h = w (record { other = h.2; inside = h.3; row = h.1; here = h.6; warrior = h.0; has = h.4; other_has = h.5 })
 not_same p c v u CapTooHigh w h =
     let same : w.0 ≡ h.0 = some_is _ _ (sym w.2 ∙ h.5) in
@@ -82,18 +82,18 @@ not_same p c v u Malformed w h = w
 not_same p c v u RowCount w h = w
 not_same p c v u BestRow w h = w
 
-not_right : (p : Problem) (c : Cert) (v : ℕ) (row : Row) (reason : Reason) → IsWrong p c v row reason → IsRightRow p c.best c.total c.rows v row → ⊥
+not_right : (p : Problem) (c : Cert) (v : ℕ) (row : Row) (reason : Reason) → IsWrong p c v row reason → IsRightRow p c v row → ⊥
 not_right p c v Refused reason w h = not_refused p v reason w h
 not_right p c v (Same u) reason w h = not_same p c v u reason w h
 not_right p c v (Cap row) reason w h = not_cap p c v row reason w h
 
-best_row_of : (p : Problem) → IsProblem p → (c : Cert) → IsValidCert p c → IsBestRow p c
+best_row_of : (p : Problem) → IsProblem p → (c : Cert) → IsValid p c → IsBestRow p c
 best_row_of p laws c valid =
     let h = valid.right c.best (Cap valid.best_row) valid.best_at in
     record { row = valid.best_row; here = valid.best_at; every = whole p laws h.0 p.fights 0 valid.best_row (omega arith) h.2 valid.whole; sums = valid.sums }
 
 -- a certificate that is rejected is not valid
-pub not_valid : (p : Problem) → IsProblem p → (c : Cert) (number : ℕ) (reason : Reason) → IsRejected p c number reason → IsValidCert p c → ⊥
+pub not_valid : (p : Problem) → IsProblem p → (c : Cert) (number : ℕ) (reason : Reason) → IsRejected p c number reason → IsValid p c → ⊥
 not_valid p laws c number reason (inl w) h = elim w.2 [ inl n ↦ n h.count_is | inr n ↦ n h.rows_are ]
 not_valid p laws c number reason (inr (inl w)) h = w.2 (best_row_of p laws c h)
 not_valid p laws c number reason (inr (inr w)) h = not_right p c w.vector w.row reason w.wrong (h.right w.vector w.row w.here)
@@ -104,11 +104,11 @@ answered p records c (Accepted best total) s h = (c, s, h.0, h.1, h.2)
 answered p records c (Rejected number reason) s h = inr (c, s, h)
 
 -- a valid certificate is accepted
-pub accepts : (p : Problem) → IsProblem p → (c d : Cert) (v : Verdict) → c ≡ d → IsCertVerdict p c v → IsValidCert p d → v ≡ Accepted d.best d.total
+pub accepts : (p : Problem) → IsProblem p → (c d : Cert) (v : Verdict) → c ≡ d → IsCertVerdict p c v → IsValid p d → v ≡ Accepted d.best d.total
 accepts p laws c d (Accepted best total) e h valid = rw (h.1, h.2, e) refl
-accepts p laws c d (Rejected number reason) e h valid = absurd (not_valid p laws c number reason h (subst (λ (x : Cert). IsValidCert p x) (sym e) valid))
+accepts p laws c d (Rejected number reason) e h valid = absurd (not_valid p laws c number reason h (subst (λ (x : Cert). IsValid p x) (sym e) valid))
 
-pub accepts_if : (p : Problem) → IsProblem p → (c d : Cert) (r : Result Verdict CheckFault) → c ≡ d → IfOk r (IsCertVerdict p c) → IsValidCert p d →
+pub accepts_if : (p : Problem) → IsProblem p → (c d : Cert) (r : Result Verdict CheckFault) → c ≡ d → IfOk r (IsCertVerdict p c) → IsValid p d →
     IfOk r (λ v. v ≡ Accepted d.best d.total)
 accepts_if p laws c d (Ok v) e h valid = accepts p laws c d v e h valid
 accepts_if p laws c d (Err f) e h valid = tt

@@ -1,6 +1,6 @@
 -- Words that only the contracts of private functions use: parts of certificates, checks under way,
 -- and a certificate that is being written.
-use Rattle.std.specs.Prelude.{◌≡◌, ℕ, suc, ◌+◌, ◌-◌, ◌<◌, ◌≤◌, ◌^◌, List, length, slice_get, Some, All, flat_map, ◌*◌, [], ◌∷◌, ◌++◌, false}
+use Rattle.std.specs.Prelude.{◌≡◌, ℕ, suc, ◌+◌, ◌-◌, ◌<◌, ◌≤◌, ◌^◌, List, length, slice_get, Some, All, flat_map, [], ◌∷◌, ◌++◌, false}
 use Rattle.mars_fight.specs.Records.{Fields}
 use Rattle.tune_cert.specs.CertText.{spaced_text, list_text, rows_fields, count_fields, best_fields}
 use Rattle.tune_cert.specs.Spelling.{IsNumber, IsItem, IsRow, HasForm}
@@ -9,7 +9,9 @@ use Rattle.tune_cert.specs.declared.fault.ReadFault.{ReadFault}
 use Rattle.tune_cert.specs.declared.fault.ReadFault.TheVariants.{Malformed, OutOfMemory}
 use Rattle.std.specs.List.{sum_by}
 use Rattle.tune_cert.specs.Problem.{Problem}
-use Rattle.tune_cert.specs.Verdict.{IsValidCert, IsRejected, IsRightSame, IsFirstOfCap, IsFirstOfSame, IsFirstOfCert}
+use Rattle.tune_cert.specs.Optimum.{most_besides}
+use Rattle.tune_cert.specs.Valid.{numbers, IsValid}
+use Rattle.tune_cert.specs.Verdict.{IsRejected, IsRightSame, IsFirstOfCap, IsFirstOfSame, IsFirstOfCert}
 use Rattle.tune_cert.specs.declared.cert.Cert.{Cert}
 use Rattle.tune_cert.specs.declared.cert.Row.TheVariants.{Refused, Same, Cap}
 use Rattle.tune_cert.specs.declared.verdict.Reason.{Reason}
@@ -68,9 +70,9 @@ abbrev pub AreNumbers : ℕ → ℕ → List (ℕ × ℕ) → Type 0
 AreNumbers n a [] = a ≡ n
 AreNumbers n a (e ∷ row) = (e.0 ≡ a) × AreNumbers n (a + 1) row
 
--- The cap of a row: the points that it lists, and 3 for each of the other fights.
-abbrev pub listed_cap : ℕ → List (ℕ × ℕ) → ℕ
-listed_cap fights row = sum_by (λ e. e.1) row + 3 * (fights - length row)
+-- The cap of a row: the points that it lists, and the most that the other fights can give.
+abbrev pub listed_cap : Problem → List (ℕ × ℕ) → ℕ
+listed_cap p row = sum_by (λ e. e.1) row + most_besides p (numbers row)
 
 -- What is checked of a refused or a cap row before each reason is right.
 abbrev pub IsFirstAlone : Problem → ℕ → Row → Reason → Type 0
@@ -90,7 +92,7 @@ pub record AreRightSame (p : Problem) (c : Cert) : Type 0 where
 
 -- The verdict on a certificate whose form is right.
 abbrev pub IsCertVerdict : Problem → Cert → Verdict → Type 0
-IsCertVerdict p c (Accepted best total) = IsValidCert p c × (best ≡ c.best) × (total ≡ c.total)
+IsCertVerdict p c (Accepted best total) = IsValid p c × (best ≡ c.best) × (total ≡ c.total)
 IsCertVerdict p c (Rejected number reason) = IsRejected p c number reason
 
 -- What is checked before a rejection is right.

@@ -4,6 +4,7 @@ use Rattle.std.specs.List.{sum_by}
 use Rattle.rc_instr.specs.Warrior.{WarriorView}
 use Rattle.tune_cert.specs.Problem.{Problem}
 use Rattle.tune_cert.specs.Optimum.{cap_of, beats}
+use Rattle.tune_cert.specs.declared.cert.Cert.{Cert}
 use Rattle.tune_cert.specs.declared.cert.Row.{Row}
 use Rattle.tune_cert.specs.declared.cert.Row.TheVariants.{Refused, Same, Cap}
 
@@ -26,27 +27,30 @@ listed_in (Cap row) = length row
 unfoldable pub listed_fights : List Row → ℕ
 listed_fights rows = sum_by listed_in rows
 
--- The row of setting v is right, given the best setting w and its total t, in one of three cases.
--- Refused: v does not assemble. Cap: the row is a cap row of v's warrior, and unless v is w its cap
--- does not beat w. Same: another setting u has the same warrior and a cap row, and that cap does
--- not beat w for v.
-abbrev pub IsRightRow : Problem → ℕ → ℕ → List Row → ℕ → Row → Type 0
-IsRightRow p w t rows v Refused = p.warrior v ≡ None
-IsRightRow p w t rows v (Cap row) =
-    (x : WarriorView) × (p.warrior v ≡ Some x) × IsCapRow p x 0 row × (v ≢ w → beats (cap_of p x (numbers row)) v t w ≡ false)
-IsRightRow p w t rows v (Same u) =
-    (x : WarriorView) × (row : List (ℕ × ℕ)) × (u ≢ v) × (u < p.count) × (p.warrior v ≡ Some x) × (p.warrior u ≡ Some x)
-    × (slice_get rows u ≡ Some (Cap row)) × (beats (cap_of p x (numbers row)) v t w ≡ false)
+-- A cap of setting v does not beat the best setting of the certificate.
+abbrev pub IsNoBetter : Cert → ℕ → ℕ → Type 0
+IsNoBetter c cap v = beats cap v c.total c.best ≡ false
 
--- The rows are a valid certificate that setting w, with total t, is the best of all `count`
--- settings.
-pub record IsValid (p : Problem) (count w t : ℕ) (rows : List Row) : Type 0 where
-  pub count_is : count ≡ p.count
-  pub rows_are : length rows ≡ p.count
-  -- the row of the best setting lists every fight, and its points add up to the total
+-- The row of setting v is right, in one of three cases. Refused: v does not assemble. Cap: the row
+-- is a cap row of v's warrior, and unless v is the best setting its cap does not beat that one.
+-- Same: another setting u has the same warrior and a cap row, and that cap, as one of v, does not
+-- beat the best setting.
+abbrev pub IsRightRow : Problem → Cert → ℕ → Row → Type 0
+IsRightRow p c v Refused = p.warrior v ≡ None
+IsRightRow p c v (Cap row) =
+    (w : WarriorView) × (p.warrior v ≡ Some w) × IsCapRow p w 0 row × (v ≢ c.best → IsNoBetter c (cap_of p w (numbers row)) v)
+IsRightRow p c v (Same u) =
+    (w : WarriorView) × (row : List (ℕ × ℕ)) × (u ≢ v) × (u < p.count) × (p.warrior v ≡ Some w) × (p.warrior u ≡ Some w)
+    × (slice_get c.rows u ≡ Some (Cap row)) × IsNoBetter c (cap_of p w (numbers row)) v
+
+-- A valid certificate has a right row for each setting. The row of the best setting lists every
+-- fight, and its points add up to the total.
+pub record IsValid (p : Problem) (c : Cert) : Type 0 where
+  pub count_is : c.count ≡ p.count
+  pub rows_are : length c.rows ≡ p.count
   pub best_row : List (ℕ × ℕ)
-  pub best_inside : w < p.count
-  pub best_at : slice_get rows w ≡ Some (Cap best_row)
+  pub best_inside : c.best < p.count
+  pub best_at : slice_get c.rows c.best ≡ Some (Cap best_row)
   pub whole : length best_row ≡ p.fights
-  pub sums : sum_by (λ e. e.1) best_row ≡ t
-  pub right : (v : ℕ) (row : Row) → slice_get rows v ≡ Some row → IsRightRow p w t rows v row
+  pub sums : sum_by (λ e. e.1) best_row ≡ c.total
+  pub right : (v : ℕ) (row : Row) → slice_get c.rows v ≡ Some row → IsRightRow p c v row

@@ -15,9 +15,6 @@ use Rattle.tune_cert.specs.declared.verdict.Reason.TheVariants.{Malformed, RowCo
 use Rattle.tune_cert.specs.declared.verdict.Verdict.{Verdict}
 use Rattle.tune_cert.specs.declared.verdict.Verdict.TheVariants.{Accepted, Rejected}
 
-abbrev pub IsValidCert : Problem → Cert → Type 0
-IsValidCert p c = IsValid p c.count c.best c.total c.rows
-
 -- The row of the best setting lists every fight in order, and its points add up to the total.
 pub record IsBestRow (p : Problem) (c : Cert) : Type 0 where
   pub row : List (ℕ × ℕ)
@@ -88,7 +85,7 @@ IsRejected p c number reason =
 -- Accepted: the records spell a valid certificate with this best setting and total. Rejected: a
 -- record is malformed, or they spell a certificate of which the reason holds at that record.
 abbrev pub IsVerdict : Problem → List Fields → Verdict → Type 0
-IsVerdict p records (Accepted best total) = (c : Cert) × Spells records c × IsValidCert p c × (best ≡ c.best) × (total ≡ c.total)
+IsVerdict p records (Accepted best total) = (c : Cert) × Spells records c × IsValid p c × (best ≡ c.best) × (total ≡ c.total)
 IsVerdict p records (Rejected number reason) =
     ((reason ≡ Malformed) × IsMalformed records number) ⊎ ((c : Cert) × Spells records c × IsRejected p c number reason)
 
@@ -103,14 +100,14 @@ HasRowCount p c = (c.count ≡ p.count) × (length c.rows ≡ p.count)
 
 -- The row is right, unless it refers to another setting.
 abbrev pub IsRightAlone : Problem → Cert → ℕ → Row → Type 0
-IsRightAlone p c v Refused = IsRightRow p c.best c.total c.rows v Refused
+IsRightAlone p c v Refused = IsRightRow p c v Refused
 IsRightAlone p c v (Same u) = Unit {0}
-IsRightAlone p c v (Cap row) = IsRightRow p c.best c.total c.rows v (Cap row)
+IsRightAlone p c v (Cap row) = IsRightRow p c v (Cap row)
 
 -- The row is right if it refers to another setting.
 abbrev pub IsRightSame : Problem → Cert → ℕ → Row → Type 0
 IsRightSame p c v Refused = Unit {0}
-IsRightSame p c v (Same u) = IsRightRow p c.best c.total c.rows v (Same u)
+IsRightSame p c v (Same u) = IsRightRow p c v (Same u)
 IsRightSame p c v (Cap row) = Unit {0}
 
 -- All refused and cap rows are right.

@@ -1,6 +1,7 @@
 //! Certificates, and what a search finds: their rows and the fights that the rows list.
-ghost use Rattle.std.specs.Prelude.{◌≡◌};
+ghost use Rattle.std.specs.Prelude.{◌≡◌, IfOk};
 
+use std::alloc::{AllocError, Global};
 use std::marker::Model;
 
 /// A certificate as its text spells it. `check` decides whether it is right.
@@ -25,6 +26,22 @@ pub enum Row {
     Same(u32),
     /// It makes this many points in these fights, which is not enough to be better.
     Cap(Listing),
+}
+
+impl Row {
+    /// Returns a copy. Fails only if out of memory.
+    pub fn copy(&self, alloc: Global) -> Result<Row, AllocError>
+        ensures { IfOk result (λ row. row ≡ self.now) }
+    {
+        match self {
+            Row::Refused => Ok(Row::Refused),
+            Row::Same(other) => Ok(Row::Same(*other)),
+            Row::Cap(listing) => {
+                let listing = listing.copy(alloc)?;
+                Ok(Row::Cap(listing))
+            }
+        }
+    }
 }
 
 /// Fights of the schedule by index, from 0, each with the points that a warrior made in it.
@@ -56,6 +73,14 @@ impl Listing {
         ensures { result.now ≡ self.now }
     {
         self.fights.as_slice()
+    }
+
+    /// Returns a copy. Fails only if out of memory.
+    pub fn copy(&self, alloc: Global) -> Result<Listing, AllocError>
+        ensures { IfOk result (λ listing. listing ≡ self.now) }
+    {
+        let fights = Vec::from_slice(alloc, self.fights.as_slice())?;
+        Ok(Listing { fights })
     }
 
     /// Returns the pairs as a `Vec`.
@@ -119,6 +144,7 @@ pub struct Found {
     pub fights: u64,
     /// The number of settings that assemble.
     pub candidates: u32,
-    /// The index of the setting whose row was copied from another with the same warrior, if any.
+    /// The index of the setting whose row is a copy of the start setting's, if there is one: it has
+    /// the same warrior and the smaller index.
     pub copied: Option<u32>,
 }

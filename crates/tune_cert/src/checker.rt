@@ -4,7 +4,8 @@ ghost use Rattle.mars_core.specs.Arena.{IsBlank};
 ghost use Rattle.mars_fight.specs.Records.{records_of};
 ghost use Rattle.tune_cert.specs.Problem.{problem_of};
 ghost use Rattle.tune_cert.specs.Spelling.{Spells};
-ghost use Rattle.tune_cert.specs.Verdict.{IsValidCert, IsWrongRow, IsVerdict, IsOptimal, AreRightAlone, IsFirstRow, IsFirst};
+ghost use Rattle.tune_cert.specs.Valid.{IsValid};
+ghost use Rattle.tune_cert.specs.Verdict.{IsWrongRow, IsVerdict, IsOptimal, AreRightAlone, IsFirstRow, IsFirst};
 ghost use Rattle.tune_cert.specs.Steps.{AreRightSame, IsCertVerdict, IsFirstVerdict};
 ghost use Rattle.tune_cert.specs.declared.cert.Cert.{Cert};
 
@@ -55,7 +56,7 @@ pub fn check(alloc: Global, inputs: &Inputs, bytes: &[u8]) -> Result<Verdict, Ch
     ensures optimum { IfOk result (IsOptimal (problem_of inputs.now)) }
 
     // A valid certificate is accepted, unless memory runs out.
-    ensures accepted { (c : Cert) → Spells (records_of bytes.now) c → IsValidCert (problem_of inputs.now) c
+    ensures accepted { (c : Cert) → Spells (records_of bytes.now) c → IsValid (problem_of inputs.now) c
         → IfOk result (λ v. v ≡ Verdict.Accepted c.best c.total) }
 {
     match read_cert(alloc, bytes) {

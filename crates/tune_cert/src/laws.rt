@@ -8,14 +8,14 @@ ghost use Rattle.tune_cert.specs.Valid.{IsValid};
 ghost use Rattle.tune_cert.specs.CertText.{cert_text};
 ghost use Rattle.tune_cert.specs.Spelling.{IsCert, Spells};
 
-use crate::cert::{Cert, Row};
+use crate::cert::Cert;
 
 /// States that a valid certificate names the optimum and its total, and that there is only one
 /// optimum.
 ///
 /// The first needs one fact, which holds for any inputs: a fight gives 0, 1 or 3 points.
 pub fn a_valid_certificate_names_the_optimum()
-    ensures names { (p : Problem) (count w t : ℕ) (rows : List Row) → IsProblem p → IsValid p count w t rows → IsOptimum p w × HasTotal p w t }
+    ensures names { (p : Problem) (c : Cert) → IsProblem p → IsValid p c → IsOptimum p c.best × HasTotal p c.best c.total }
     ensures one { (p : Problem) (v w : ℕ) → IsOptimum p v → IsOptimum p w → v ≡ w }
     ensures inputs { (i : InputsView) → IsProblem (problem_of i) }
 {}

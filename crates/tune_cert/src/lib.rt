@@ -17,7 +17,7 @@ mod write;
 pub use cert::{Cert, Found, Listing, Row, Rows};
 pub use checker::check;
 pub use fault::{CertFault, CheckFault, ReadFault};
-pub use problem::{fight_points, setting_warrior};
+pub use problem::{MOST_POINTS, fight_points, greatest_total, setting_warrior};
 pub use read::read_cert;
 pub use verdict::{Reason, Verdict};
 pub use write::write_cert;

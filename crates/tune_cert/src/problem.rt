@@ -1,7 +1,8 @@
 //! What is searched: the warrior of a setting, and its points in a fight.
 ghost use Rattle.std.specs.Prelude.{◌≡◌, ◌<◌, ◌≤◌, IfOk, IfSome, length};
-ghost use Rattle.rc_instr.specs.Warrior.{Fits};
+ghost use Rattle.rc_instr.specs.Warrior.{IsWarrior, Fits};
 ghost use Rattle.tune_cert.specs.Problem.{problem_of};
+ghost use Rattle.tune_cert.specs.Optimum.{greatest_of};
 ghost use Rattle.mars_core.specs.Arena.{IsBlank};
 ghost use Rattle.mars_fight.specs.Play.{ArePoints};
 
@@ -11,6 +12,9 @@ use rc_asm::AsmKind;
 use rc_instr::{OutOfMemory, Warrior};
 use std::alloc::Global;
 use tune_template::Inputs;
+
+/// The most points that a fight gives: 3, for a win.
+pub const MOST_POINTS: u32 = 3;
 
 /// Assembles the template with the values of setting `vector`, which is below the count of
 /// settings.
@@ -24,6 +28,7 @@ pub fn setting_warrior(
 ) -> Result<Option<Warrior>, OutOfMemory>
     requires inside { vector < (problem_of inputs.now).count }
     ensures warrior { IfOk result (λ w. w ≡ (problem_of inputs.now).warrior vector) }
+    ensures is_warrior { IfOk result (λ w. IfSome w IsWarrior) }
     ensures fits { IfOk result (λ w. IfSome w (Fits inputs.now.rules)) }
 {
     match inputs.template().instance(alloc, vector, inputs.rules()) {
@@ -60,6 +65,15 @@ pub fn fight_points<C: Cells>(
     let fight = &inputs.schedule().fights()[index as usize];
     let opponent = &inputs.opponents()[fight.opponent as usize];
     play(arena, warrior, opponent, fight)
+}
+
+/// Returns the greatest total that a setting can have: 3 points in each of at most 10000 fights.
+#[tactic(auto, using(crate::proofs::CapRows::greatest_is))]
+pub fn greatest_total(inputs: &Inputs) -> u32
+    ensures greatest { result ≡ greatest_of (problem_of inputs.now) }
+    ensures few { (problem_of inputs.now).fights ≤ 10000 }
+{
+    MOST_POINTS * fight_count(inputs)
 }
 
 // Returns the number of fights in the schedule.

@@ -12,7 +12,7 @@ ghost use Rattle.tune_cert.specs.Optimum.{beats};
 
 use crate::cert::{Cert, Row};
 use crate::fault::CheckFault;
-use crate::problem::{fight_count, fight_points, setting_warrior};
+use crate::problem::{MOST_POINTS, fight_count, fight_points, setting_warrior};
 use crate::verdict::Reason;
 use mars_core::{Arena, PackedCells};
 use rc_instr::{Instruction, Warrior};
@@ -142,7 +142,7 @@ fn check_fights(
     requires fits { Fits inputs.now.rules warrior.now }
     requires candidate { (problem_of inputs.now).warrior vector ≡ Some warrior.now }
     requires rising { Rises 0 listed.now }
-    ensures right { IfNone result (IsRightRow (problem_of inputs.now) cert.now.best cert.now.total cert.now.rows vector (Cap listed.now)) }
+    ensures right { IfNone result (IsRightRow (problem_of inputs.now) cert.now vector (Cap listed.now)) }
     ensures wrong { IfSome result (IsWrongCap (problem_of inputs.now) cert.now vector listed.now) }
     ensures first { IfSome result (IsFirstOfCap (problem_of inputs.now) vector listed.now) }
     ensures blank { IsBlank inputs.now.rules arena.new }
@@ -153,7 +153,7 @@ fn check_fights(
     if vector == cert.best {
         return None;
     }
-    if is_above(listed_cap(fight_count(inputs), listed), vector, cert) {
+    if is_above(listed_cap(inputs, listed), vector, cert) {
         return Some(Reason::CapTooHigh);
     }
     None
@@ -170,7 +170,7 @@ fn check_cap(
 ) -> Result<Option<Reason>, CheckFault>
     requires inside { vector < (problem_of inputs.now).count }
     requires blank { IsBlank inputs.now.rules arena.old }
-    ensures right { IfOk result (λ o. IfNone o (IsRightRow (problem_of inputs.now) cert.now.best cert.now.total cert.now.rows vector (Cap listed.now))) }
+    ensures right { IfOk result (λ o. IfNone o (IsRightRow (problem_of inputs.now) cert.now vector (Cap listed.now))) }
     ensures wrong { IfOk result (λ o. IfSome o (IsWrongCap (problem_of inputs.now) cert.now vector listed.now)) }
     ensures first { IfOk result (λ o. IfSome o (IsFirstOfCap (problem_of inputs.now) vector listed.now)) }
     ensures blank { IsBlank inputs.now.rules arena.new }
@@ -218,7 +218,7 @@ fn check_reference(
     requires inside { vector < (problem_of inputs.now).count }
     requires rows { length cert.now.rows ≡ (problem_of inputs.now).count }
     requires alone { AreRightAlone (problem_of inputs.now) cert.now }
-    ensures right { IfOk result (λ o. IfNone o (IsRightRow (problem_of inputs.now) cert.now.best cert.now.total cert.now.rows vector (Same other))) }
+    ensures right { IfOk result (λ o. IfNone o (IsRightRow (problem_of inputs.now) cert.now vector (Same other))) }
     ensures wrong { IfOk result (λ o. IfSome o (IsWrongSame (problem_of inputs.now) cert.now vector other)) }
     ensures first { IfOk result (λ o. IfSome o (IsFirstOfSame (problem_of inputs.now) cert.now vector other)) }
 {
@@ -237,7 +237,7 @@ fn check_reference(
     if !is_same_warrior(&own, &theirs) {
         return Ok(Some(Reason::NotSame));
     }
-    if is_above(listed_cap(fight_count(inputs), listed), vector, cert) {
+    if is_above(listed_cap(inputs, listed), vector, cert) {
         return Ok(Some(Reason::CapTooHigh));
     }
     Ok(None)
@@ -281,13 +281,14 @@ fn listed_points(listed: &[(u32, u8)]) -> u32
     sum
 }
 
-// Returns the cap of a row: the points that it lists, and 3 for each of the other fights.
-fn listed_cap(fights: u32, listed: &[(u32, u8)]) -> u32
-    requires few { fights ≤ 10000 }
-    requires within { length listed.now ≤ fights }
-    ensures { result ≡ listed_cap fights listed.now }
+// Returns the cap of a row: the points that it lists, and the most that the other fights can give.
+#[tactic(auto, using(crate::proofs::CapRows::besides_row))]
+fn listed_cap(inputs: &Inputs, listed: &[(u32, u8)]) -> u32
+    requires within { length listed.now ≤ (problem_of inputs.now).fights }
+    ensures { result ≡ listed_cap (problem_of inputs.now) listed.now }
 {
-    listed_points(listed) + 3 * (fights - listed.len() as u32)
+    let fights = fight_count(inputs);
+    listed_points(listed) + MOST_POINTS * (fights - listed.len() as u32)
 }
 
 // Checks whether `cap` beats the best setting for setting `vector`: an equal cap does if `vector`

@@ -1,10 +1,9 @@
-use Rattle.std.proofs.Common.{◌≡◌, ◌∙◌, sym, ap, arith, refl, true, false, ℕ, subst}
+use Rattle.std.proofs.Common.{◌≡◌, ◌∙◌, sym, arith, refl, true, false, ℕ, subst}
 use Rattle.rc_instr.specs.Warrior.{WarriorView}
 use Rattle.tune_cert.specs.Problem.{problem_of}
 use Rattle.tune_cert.specs.Optimum.{cap_of, beats}
 use Rattle.tune_cert.specs.Valid.{numbers, IsCapRow}
 use Rattle.tune_cert.specs.Verdict.{HavePoints}
-use Rattle.tune_cert.specs.Steps.{listed_cap}
 use Rattle.tune_cert.proofs.Certificates.{some_is}
 use Rattle.tune_cert.proofs.Scores.{inputs_problem}
 use Rattle.tune_cert.proofs.RowChecks.{cap_row_of, few_listed, listed_is_cap}
@@ -20,12 +19,12 @@ returns-then-vector-cert-clause-right c =
       λ other. absurd (other c.if-vector-cert.true),
     )
 
-pub listed_cap-requires-clause-within : goal.listed_cap-requires-clause-within
-listed_cap-requires-clause-within c =
+pub listed_cap-requires : goal.listed_cap-requires
+listed_cap-requires c =
     let p = problem_of c.args.inputs.now in
     let w = c.args.warrior.now in
     let row : IsCapRow p w 0 c.args.listed.now = cap_row_of p w 0 c.args.listed.now c.requires.rising (c.if-not-have_points.ensures.points.0 refl) in
-    omega (arith, few_listed p (inputs_problem c.args.inputs.now) w c.args.listed.now row, c.fight_count.ensures.count)
+    record { within = omega (arith, few_listed p (inputs_problem c.args.inputs.now) w c.args.listed.now row) }
 
 pub returns-then-is_above-clause-wrong : goal.returns-then-is_above-clause-wrong
 returns-then-is_above-clause-wrong c =
@@ -33,7 +32,7 @@ returns-then-is_above-clause-wrong c =
     let w = c.args.warrior.now in
     let row : IsCapRow p w 0 c.args.listed.now = cap_row_of p w 0 c.args.listed.now c.requires.rising (c.if-not-have_points.ensures.points.0 refl) in
     let cap : c.listed_cap.result ≡ cap_of p w (numbers c.args.listed.now) =
-    c.listed_cap.ensures ∙ ap (λ (n : ℕ). listed_cap n c.args.listed.now) c.fight_count.ensures.count ∙ listed_is_cap p w c.args.listed.now row in (
+    c.listed_cap.ensures ∙ listed_is_cap p w c.args.listed.now row in (
       w,
       c.if-vector-cert.false,
       c.requires.candidate,
@@ -46,7 +45,7 @@ returns-clause-right c =
     let w = c.args.warrior.now in
     let row : IsCapRow p w 0 c.args.listed.now = cap_row_of p w 0 c.args.listed.now c.requires.rising (c.if-not-have_points.ensures.points.0 refl) in
     let cap : c.listed_cap.result ≡ cap_of p w (numbers c.args.listed.now) =
-    c.listed_cap.ensures ∙ ap (λ (n : ℕ). listed_cap n c.args.listed.now) c.fight_count.ensures.count ∙ listed_is_cap p w c.args.listed.now row in (
+    c.listed_cap.ensures ∙ listed_is_cap p w c.args.listed.now row in (
       w,
       c.requires.candidate,
       row,

@@ -3,25 +3,24 @@ use Rattle.std.proofs.lemmas.Option.{slice_get_within}
 use Rattle.tune_cert.specs.Problem.{problem_of}
 use Rattle.tune_cert.specs.Optimum.{cap_of, beats}
 use Rattle.tune_cert.specs.Valid.{numbers}
-use Rattle.tune_cert.specs.Steps.{listed_cap}
 use Rattle.tune_cert.specs.declared.cert.Row.TheVariants.{Cap}
 use Rattle.tune_cert.proofs.Certificates.{some_is}
 use Rattle.tune_cert.proofs.Scores.{inputs_problem}
 use Rattle.tune_cert.proofs.RowChecks.{few_listed, listed_is_cap}
 use Rattle.tune_cert.proofs.row_checks.check_reference.Goals as goal
 
-pub listed_cap-requires-clause-within : goal.listed_cap-requires-clause-within
-listed_cap-requires-clause-within c =
+pub listed_cap-requires : goal.listed_cap-requires
+listed_cap-requires c =
     let p = problem_of c.args.inputs.now in
     let row = c.requires.alone.each c.args.other (Cap c.in-Some.listed.now) c.in-Some.ensures.some in
-    omega (arith, few_listed p (inputs_problem c.args.inputs.now) row.0 c.in-Some.listed.now row.2, c.fight_count.ensures.count)
+    record { within = omega (arith, few_listed p (inputs_problem c.args.inputs.now) row.0 c.in-Some.listed.now row.2) }
 
 pub returns-then-is_above-clause-wrong : goal.returns-then-is_above-clause-wrong
 returns-then-is_above-clause-wrong c =
     let p = problem_of c.args.inputs.now in
     let row = c.requires.alone.each c.args.other (Cap c.in-Some.listed.now) c.in-Some.ensures.some in
     let cap : c.listed_cap.result ≡ cap_of p row.0 (numbers c.in-Some.listed.now) =
-    c.listed_cap.ensures ∙ ap (λ (n : ℕ). listed_cap n c.in-Some.listed.now) c.fight_count.ensures.count ∙ listed_is_cap p row.0 c.in-Some.listed.now row.2 in (
+    c.listed_cap.ensures ∙ listed_is_cap p row.0 c.in-Some.listed.now row.2 in (
       row.0,
       c.in-Some.listed.now,
       row.1,
@@ -34,7 +33,7 @@ returns-clause-right c =
     let p = problem_of c.args.inputs.now in
     let row = c.requires.alone.each c.args.other (Cap c.in-Some.listed.now) c.in-Some.ensures.some in
     let cap : c.listed_cap.result ≡ cap_of p row.0 (numbers c.in-Some.listed.now) =
-    c.listed_cap.ensures ∙ ap (λ (n : ℕ). listed_cap n c.in-Some.listed.now) c.fight_count.ensures.count ∙ listed_is_cap p row.0 c.in-Some.listed.now row.2 in
+    c.listed_cap.ensures ∙ listed_is_cap p row.0 c.in-Some.listed.now row.2 in
     let within : c.args.other < length c.args.cert.now.rows = slice_get_within c.args.cert.now.rows c.args.other (Cap c.in-Some.listed.now) c.in-Some.ensures.some in
     let theirs : p.warrior c.args.other ≡ Some c.in-Some-3.theirs = sym c.in_ok-theirs.ensures.warrior ∙ c.in-Some-3.is in
     let own : p.warrior c.args.vector ≡ Some c.in-Some-2.own = sym c.in_ok-own.ensures.warrior ∙ c.in-Some-2.is in
