@@ -1,5 +1,5 @@
 -- What was found after all vectors.
-use Rattle.std.proofs.Common.{◌≡◌, ℕ, ◌*◌, ◌<◌, ◌≤◌, arith, List, Option, Some, None, ◌∙◌, ap, sym, subst, map}
+use Rattle.std.proofs.Common.{◌≡◌, ℕ, ◌*◌, ◌<◌, ◌≤◌, arith, List, Option, Some, None, ◌∙◌, ap, sym, subst, map, length}
 use Rattle.std.specs.List.{range_with_len}
 use Rattle.tune_cert.specs.Problem.{Problem}
 use Rattle.tune_cert.specs.Optimum.{total_of, HasTotal, IsOptimum, candidates_of}
@@ -48,5 +48,5 @@ module _ (p : Problem) (k : ℕ) (rows : List Row) (lead : Option Lead) (candida
   pub ends_listed : fights ≡ listed_fights rows
   ends_listed = h.work ∙ ap (λ n. n * p.fights) ends_candidates ∙ sym (listed_rows p) ∙ ap listed_fights (sym ends_rows)
 
-  pub ends_valid : (best : Lead) → lead ≡ Some best → IsValid p p.count best.vector best.total rows
+  pub ends_valid : (best : Lead) → lead ≡ Some best → IsValid p (record { count = length rows; best = best.vector; total = best.total; rows = rows })
   ends_valid best is = rows_valid p rows ends_rows best.vector best.total (ends_best best is)

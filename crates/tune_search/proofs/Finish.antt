@@ -1,27 +1,32 @@
--- After the last visit the rows are a valid certificate.
-use Rattle.std.proofs.Common.{◌≡◌, ℕ, zero, suc, ◌+◌, ◌<◌, ◌≤◌, arith, Bool, true, false, cond, List, [], ◌∷◌, Option, Some, None, length, take, replicate, refl, sym, ◌∙◌, ap, inl, inr, subst}
+-- After the last visit the certificate is valid.
+use Rattle.std.proofs.Common.{◌≡◌, ◌≢◌, ℕ, zero, suc, ◌+◌, ◌<◌, ◌≤◌, arith, Bool, true, false, not, ◌&&◌, cond, List, [], ◌∷◌, Option, Some, None, length, take, replicate, refl, sym, ◌∙◌, ap, inl, inr, subst}
 use Rattle.std.specs.List.{slice_get, sum_by, count_by, range_with_len}
 use Rattle.std.specs.List.Sorted.{IsPermutation}
 use Rattle.std.specs.Option.{is_some}
+use Rattle.std.proofs.lemmas.Bool.Decides.{nat_tests}
 use Rattle.std.proofs.lemmas.List.Sums.{sum_by-cons}
 use Rattle.std.proofs.lemmas.Option.{slice_get_within}
+use Rattle.rc_instr.specs.Rules.{RulesView}
 use Rattle.rc_instr.specs.Warrior.{WarriorView}
-use Rattle.tune_cert.specs.Problem.{Problem, IsProblem}
-use Rattle.tune_cert.specs.Optimum.{total_of, cap_of, all_fights, IsOptimum, HasTotal, candidates_of}
-use Rattle.tune_cert.specs.Valid.{numbers, IsCapRow, IsRightRow, IsValid, listed_in, listed_fights}
+use Rattle.tune_cert.specs.Problem.{IsProblem, Problem}
+use Rattle.tune_cert.specs.Optimum.{HasTotal, IsOptimum, all_fights, candidates_of, cap_of, total_of}
+use Rattle.tune_cert.specs.Valid.{IsCapRow, IsRightRow, IsValid, listed_fights, listed_in, numbers}
 use Rattle.tune_cert.specs.declared.cert.Row.{Row}
-use Rattle.tune_cert.specs.declared.cert.Row.TheVariants.{Refused, Cap}
-use Rattle.tune_cert.proofs.Certificates.{Trails, trails, not_beats, some_is}
+use Rattle.tune_cert.specs.declared.cert.Cert.{Cert}
+use Rattle.tune_cert.specs.declared.cert.Row.TheVariants.{Cap, Refused, Same}
+use Rattle.tune_cert.proofs.Certificates.{Trails, not_beats, same_number, some_is, trails}
 use Rattle.tune_cert.proofs.CapRows.{row_total}
 use Rattle.tune_search.specs.Order.{beats_lead, enough, fight_order}
-use Rattle.tune_search.specs.Visits.{place, IsBestAfter, IsLeadAfter, IsExplained, IsFought}
-use Rattle.tune_search.specs.Dropping.{IsDropping, IsWhole, is_filled}
+use Rattle.tune_search.specs.Visits.{IsBestAfter, IsFought, IsLeadAfter, place}
+use Rattle.tune_search.specs.Sharing.{HasRowOf, IsExplained, IsVisited}
+use Rattle.tune_search.specs.Found.{IsSearch, is_cap, is_copied}
+use Rattle.tune_search.specs.State.{IsCopied, IsUnderWay, IsWhole, is_filled}
 use Rattle.tune_search.specs.declared.lead.Lead.{Lead}
 use Rattle.tune_search.proofs.Totals.{cap_all}
 use Rattle.tune_search.proofs.Orders.{order_permutes}
-use Rattle.tune_search.proofs.ListedFights.{listed_is_row, listed_cap, order_below, All-take}
-use Rattle.tune_search.proofs.Leads.{enough_cases}
-use Rattle.tune_search.proofs.Places.{place_below}
+use Rattle.tune_search.proofs.ListedFights.{All-take, listed_cap, listed_is_row, order_below}
+use Rattle.tune_search.proofs.Leads.{all_fought, enough_cases}
+use Rattle.tune_search.proofs.Places.{lesser, place_below, start_place}
 
 chained : (c u t z d v : ℕ) → Trails c u t z → Trails t z d v → Trails c u d v
 chained c u t z d v a b =
@@ -46,6 +51,10 @@ module _ (p : Problem) (laws : IsProblem p) (start : p.start < p.count) (rows : 
 
   pub best_total : HasTotal p lead.vector lead.total
   best_total = (best.warrior, best.candidate, best.scores)
+
+  -- the certificate of these rows
+  abbrev cert : Cert
+  cert = record { count = length rows; best = lead.vector; total = lead.total; rows = rows }
 
   lead_behind : (k : ℕ) (l : Lead) → IsBestAfter p k l → Trails l.total l.vector lead.total lead.vector
   lead_behind k l h = subst (λ (n : ℕ). Trails n l.vector lead.total lead.vector) h.scores (behind l.vector h.warrior h.inside h.candidate)
@@ -80,27 +89,73 @@ module _ (p : Problem) (laws : IsProblem p) (start : p.start < p.count) (rows : 
       | inr n ↦ short_behind h.lead h.is_lead (ap (λ m. beats_lead m u h.lead) row_cap_is ∙ n)
     ]
 
-  module _ (rows_are : length rows ≡ p.count) (told : (v : ℕ) → v < p.count → IsExplained p rows v (p.warrior v)) where
-    right_of : (v : ℕ) (o : Option WarriorView) → v < p.count → p.warrior v ≡ o → IsExplained p rows v o → (row : Row) → slice_get rows v ≡ Some row → IsRightRow p lead.vector lead.total rows v row
-    right_of v None l is h row at =
-        let same : row ≡ Refused = some_is _ _ (sym at ∙ h) in
-        subst (λ (r : Row). IsRightRow p lead.vector lead.total rows v r) (sym same) is
-    right_of v (Some x) l is h row at =
-        let same : row ≡ Cap h.row = some_is _ _ (sym at ∙ h.at) in
-        subst (λ (r : Row). IsRightRow p lead.vector lead.total rows v r) (sym same)
-        (x, is, fought_row v x l is h, λ ne. not_beats _ _ _ _ (fought_behind v x l is h))
+    no_lead_first : (l : Option Lead) → u ≡ p.start → IsLeadAfter p (place p.start u) l → l ≡ None
+    no_lead_first None e g = refl
+    no_lead_first (Some l) e g =
+        let none : place p.start u ≡ 0 = ap (place p.start) e ∙ start_place p.start in
+        let some : place p.start l.vector < place p.start u = g.visited in
+        absurd (omega arith)
 
-    right : (v : ℕ) (row : Row) → slice_get rows v ≡ Some row → IsRightRow p lead.vector lead.total rows v row
+    -- and so for each vector with the same warrior that is visited later
+    pub shared_behind : (v : ℕ) → v < p.count → p.warrior v ≡ Some x → place p.start u < place p.start v → Trails (cap_of p x (numbers h.row)) v lead.total lead.vector
+    shared_behind v l is_v before = elim (same_number u p.start) [
+      | inl first ↦
+          let none : h.lead ≡ None = no_lead_first h.lead first h.is_lead in
+          let all : enough p x order u h.lead ≡ p.fights = all_fought p x order u h.lead (ap (λ l. beats_lead (cap_of p x (take (enough p x order u h.lead) order)) u l) none) in
+          subst (λ (n : ℕ). Trails n v lead.total lead.vector) (sym (all_cap all)) (behind v x l is_v)
+      | inr other ↦
+          let less : u < v = lesser p.start u v before (λ e. absurd (other e)) in
+          let c : cap_of p x (numbers h.row) ≤ lead.total = fought_behind.no_more in
+          let d : cap_of p x (numbers h.row) ≡ lead.total → lead.vector ≤ u = fought_behind.later in
+          record { no_more = c; later = λ e. let f : lead.vector ≤ u = d e in omega arith }
+    ]
+
+  module _ (c : ℕ) (copied : Option ℕ) (rows_are : length rows ≡ p.count)
+      (told : (v : ℕ) → v < p.count → IsExplained p c rows copied v (p.warrior v)) where
+    shared_right : (u v : ℕ) (x : WarriorView) (b : Bool) (row : Row) → v < p.count → p.warrior v ≡ Some x → p.warrior u ≡ Some x → u < p.count →
+        (f : IsFought p rows u x) → place p.start u < place p.start v → HasRowOf rows copied u v b → slice_get rows v ≡ Some row → IsRightRow p cert v row
+    shared_right u v x true row l is_v is_u inside f before h at =
+        let same : row ≡ Cap f.row = some_is _ _ (sym at ∙ h.1 ∙ f.at) in
+        subst (λ (r : Row). IsRightRow p cert v r) (sym same)
+        (x, is_v, fought_row u x inside is_u f, λ ne. not_beats _ _ _ _ (shared_behind u x inside is_u f v l is_v before))
+    shared_right u v x false row l is_v is_u inside f before h at =
+        let same : row ≡ Same u = some_is _ _ (sym at ∙ h.1) in
+        subst (λ (r : Row). IsRightRow p cert v r) (sym same) (
+          x,
+          f.row,
+          (λ e. let even : place p.start u ≡ place p.start v = ap (place p.start) e in omega arith),
+          inside,
+          is_v,
+          is_u,
+          f.at,
+          not_beats _ _ _ _ (shared_behind u x inside is_u f v l is_v before),
+        )
+
+    right_of : (v : ℕ) (o : Option WarriorView) → v < p.count → p.warrior v ≡ o → IsExplained p c rows copied v o → (row : Row) → slice_get rows v ≡ Some row → IsRightRow p cert v row
+    right_of v None l is h row at =
+        let same : row ≡ Refused = some_is _ _ (sym at ∙ h.1) in
+        subst (λ (r : Row). IsRightRow p cert v r) (sym same) is
+    right_of v (Some x) l is h row at = elim h.row [
+      | inl f ↦
+          let same : row ≡ Cap f.2.row = some_is _ _ (sym at ∙ f.2.at) in
+          subst (λ (r : Row). IsRightRow p cert v r) (sym same)
+          (x, is, fought_row v x l is f.2, λ ne. not_beats _ _ _ _ (fought_behind v x l is f.2))
+      | inr s ↦
+          let inside : s.0 < p.count = subst (λ (n : ℕ). s.0 < n) rows_are (slice_get_within rows s.0 _ s.2.fought.at) in
+          shared_right s.0 v x _ row l is s.1.alike inside s.2.fought s.2.before s.2.row at
+    ]
+
+    pub right : (v : ℕ) (row : Row) → slice_get rows v ≡ Some row → IsRightRow p cert v row
     right v row at =
         let l : v < p.count = subst (λ (n : ℕ). v < n) rows_are (slice_get_within rows v row at) in
         right_of v (p.warrior v) l refl (told v l) row at
 
-    pub is_valid : IsWhole p rows (Some lead) → IsValid p p.count lead.vector lead.total rows
+    pub is_valid : IsWhole p rows (Some lead) → IsValid p cert
     is_valid whole =
         let r = right lead.vector (Cap whole.0) whole.1 in
         let same : r.0 ≡ best.warrior = some_is _ _ (sym r.1 ∙ best.candidate) in
         record {
-          count_is = refl;
+          count_is = rows_are;
           rows_are = rows_are;
           best_row = whole.0;
           best_inside = best.inside;
@@ -110,7 +165,7 @@ module _ (p : Problem) (laws : IsProblem p) (start : p.start < p.count) (rows : 
           right = right;
         }
 
--- sums over the rows and over the settings, where each row's share is its setting's
+-- sums over the rows and over the vectors, where each row's share is its vector's
 same_sums : (f : Row → ℕ) (g : ℕ → ℕ) (rows : List Row) (a : ℕ) → ((k : ℕ) (r : Row) → slice_get rows k ≡ Some r → f r ≡ g (a + k)) → sum_by f rows ≡ sum_by g (range_with_len a (length rows))
 same_sums f g [] a each = refl
 same_sums f g (r ∷ rows) a each =
@@ -122,14 +177,21 @@ same_sums f g (r ∷ rows) a each =
 abbrev bit : Bool → ℕ
 bit b = cond b 1 0
 
-module _ (p : Problem) (rows : List Row) (rows_are : length rows ≡ p.count)
-    (told : (v : ℕ) → v < p.count → IsExplained p rows v (p.warrior v)) where
-  filled_is : (v : ℕ) (o : Option WarriorView) → IsExplained p rows v o → (r : Row) → slice_get rows v ≡ Some r → is_filled r ≡ is_some o
-  filled_is v None h r at = ap is_filled (some_is r Refused (sym at ∙ h))
-  filled_is v (Some x) h r at = ap is_filled (some_is r (Cap h.row) (sym at ∙ h.at))
+module _ (p : Problem) (c : ℕ) (rows : List Row) (copied : Option ℕ) (rows_are : length rows ≡ p.count)
+    (told : (v : ℕ) → v < p.count → IsExplained p c rows copied v (p.warrior v)) where
+  filled_shared : (u v : ℕ) (x : WarriorView) (b : Bool) (r : Row) → IsFought p rows u x → HasRowOf rows copied u v b → slice_get rows v ≡ Some r → is_filled r ≡ true
+  filled_shared u v x true r f h at = ap is_filled (some_is r (Cap f.row) (sym at ∙ h.1 ∙ f.at))
+  filled_shared u v x false r f h at = ap is_filled (some_is r (Same u) (sym at ∙ h.1))
+
+  filled_is : (v : ℕ) (o : Option WarriorView) → IsExplained p c rows copied v o → (r : Row) → slice_get rows v ≡ Some r → is_filled r ≡ is_some o
+  filled_is v None h r at = ap is_filled (some_is r Refused (sym at ∙ h.1))
+  filled_is v (Some x) h r at = elim h.row [
+    | inl f ↦ ap is_filled (some_is r (Cap f.2.row) (sym at ∙ f.2.at))
+    | inr s ↦ filled_shared s.0 v x _ r s.2.fought s.2.row at
+  ]
 
   -- the rows that are filled are those of the candidates
-  filled_candidates : count_by is_filled rows ≡ candidates_of p
+  pub filled_candidates : count_by is_filled rows ≡ candidates_of p
   unfolding candidates_of
   filled_candidates =
       same_sums (λ r. bit (is_filled r)) (λ v. bit (is_some (p.warrior v))) rows 0 (λ k r at.
@@ -152,40 +214,90 @@ blank_length : (n : ℕ) → length (replicate n Refused) ≡ n
 blank_length zero = refl
 blank_length (suc n) = ap suc (blank_length n)
 
-pub starts : (p : Problem) → IsDropping p 0 (replicate p.count Refused) None (all_fights p) 0 0
+pub starts : (p : Problem) (rules : RulesView) (c : ℕ) → IsUnderWay p rules c 0 (replicate p.count Refused) None (all_fights p) 0 0 None []
 unfolding listed_fights
-starts p = record {
+starts p rules c = record {
   rows_are = blank_length p.count;
   lead_is = λ v l before. absurd (omega arith);
   whole = tt;
   told = λ v l before. absurd (omega arith);
   left = λ v l later. blank_at p.count v l;
   order_is = refl;
+  recent = refl;
+  all_known = tt;
+  copied_is = tt;
   work = sym (blank_sum listed_in refl p.count);
   count = sym (blank_sum (λ r. bit (is_filled r)) refl p.count);
   room = omega arith;
 }
 
+-- a row that was fought is a cap row, and not the copied one
+pub cap_listed : (o : Option Row) (b : Bool) → is_cap o && b ≡ true → (list : List (ℕ × ℕ)) × (o ≡ Some (Cap list))
+cap_listed None b h = absurd (cc)
+cap_listed (Some Refused) b h = absurd (cc)
+cap_listed (Some (Same u)) b h = absurd (cc)
+cap_listed (Some (Cap list)) b h = (list, refl)
+
+pub own_row : (copied : Option ℕ) (v : ℕ) (b : Bool) → b && not (is_copied copied v) ≡ true → copied ≢ Some v
+own_row None v b h e = cc
+own_row (Some u) v b h e = let same : u ≡ v = cc in grind (arith, nat_tests, h, same)
+
 -- after the last
-module _ (p : Problem) (laws : IsProblem p) (start : p.start < p.count) (rows : List Row) (lead : Option Lead) (order : List ℕ) (f n : ℕ)
-    (s : IsDropping p p.count rows lead order f n) where
-  pub all_told : (v : ℕ) → v < p.count → IsExplained p rows v (p.warrior v)
+module _ (p : Problem) (laws : IsProblem p) (start : p.start < p.count) (rules : RulesView) (c : ℕ)
+    (rows : List Row) (lead : Option Lead) (order : List ℕ) (f n : ℕ) (copied : Option ℕ) (known : List (List ℕ × ℕ))
+    (s : IsUnderWay p rules c p.count rows lead order f n copied known) where
+  all_told : (v : ℕ) → v < p.count → IsExplained p c rows copied v (p.warrior v)
   all_told v l = s.told v l (place_below p.start p.count v start l)
 
-  pub finds_candidates : n ≡ candidates_of p
-  finds_candidates = s.count ∙ filled_candidates p rows s.rows_are all_told
+  told_refused : (v : ℕ) (o : Option WarriorView) → o ≡ None → IsExplained p c rows copied v o → slice_get rows v ≡ Some Refused
+  told_refused v None e h = h.1
+  told_refused v (Some w) e h = absurd (cc)
 
-  pub finds_optimum : (l : Lead) → lead ≡ Some l → IsOptimum p l.vector
-  finds_optimum l e = best_is_optimum p laws start rows l (subst (λ (o : Option Lead). IsLeadAfter p p.count o) e s.lead_is)
+  told_copied : (v : ℕ) (o : Option WarriorView) → copied ≡ Some v → IsExplained p c rows copied v o → o ≢ None
+  told_copied v None is h = λ e. h.0 is
+  told_copied v (Some w) is h = λ e. cc
 
-  pub finds_total : (l : Lead) → lead ≡ Some l → HasTotal p l.vector l.total
-  finds_total l e = best_total p laws start rows l (subst (λ (o : Option Lead). IsLeadAfter p p.count o) e s.lead_is)
+  inside_copied : (v : ℕ) (o : Option ℕ) → o ≡ Some v → IsCopied p p.count lead o → v < p.count
+  inside_copied v None e h = absurd (cc)
+  inside_copied v (Some u) e h = let same : u ≡ v = cc in subst (λ (n : ℕ). n < p.count) same h.0
 
-  pub finds_valid : (l : Lead) → lead ≡ Some l → IsValid p p.count l.vector l.total rows
-  finds_valid l e =
-      is_valid p laws start rows l (subst (λ (o : Option Lead). IsLeadAfter p p.count o) e s.lead_is) s.rows_are all_told (subst (λ (o : Option Lead). IsWhole p rows o) e s.whole)
+  shares_no_cap : (u v : ℕ) (b : Bool) (list : List (ℕ × ℕ)) → copied ≢ Some v → slice_get rows v ≡ Some (Cap list) → HasRowOf rows copied u v b → ⊥
+  shares_no_cap u v true list other at h = other h.0
+  shares_no_cap u v false list other at h = let e : Some (Cap list) ≡ Some (Same u) = sym at ∙ h.1 in absurd (cc)
+
+  told_fought : (v : ℕ) (w : WarriorView) (list : List (ℕ × ℕ)) → copied ≢ Some v → slice_get rows v ≡ Some (Cap list) → IsVisited p c rows copied v w → IsFought p rows v w
+  told_fought v w list other at h = elim h.row [
+    | inl g ↦ g.2
+    | inr g ↦ absurd (shares_no_cap g.0 v _ list other at g.2.row)
+  ]
+
+  told_shared : (v : ℕ) (w : WarriorView) → v < p.count → p.warrior v ≡ Some w → IsVisited p c rows copied v w
+  told_shared v w l is = subst (λ (o : Option WarriorView). IsExplained p c rows copied v o) is (all_told v l)
 
   pub finds_none : lead ≡ None → (v : ℕ) → v < p.count → p.warrior v ≡ None
   finds_none e v l =
       let h : IsLeadAfter p p.count None = subst (λ (o : Option Lead). IsLeadAfter p p.count o) e s.lead_is in
       h v l (place_below p.start p.count v start l)
+
+  -- what was found is what a search promises
+  pub finds : (l : Lead) → lead ≡ Some l → p.count ≤ 1000000 →
+      IsSearch p c (record { best = l.vector; total = l.total; rows = rows; fights = f; candidates = n; copied = copied })
+  finds l e few =
+      let best : IsLeadAfter p p.count (Some l) = subst (λ (o : Option Lead). IsLeadAfter p p.count o) e s.lead_is in
+      let all : length rows ≡ p.count = s.rows_are in
+      record {
+        optimum = best_is_optimum p laws start rows l best;
+        total_is = best_total p laws start rows l best;
+        valid = is_valid p laws start rows l best c copied s.rows_are all_told (subst (λ (o : Option Lead). IsWhole p rows o) e s.whole);
+        count = s.count ∙ filled_candidates p c rows copied s.rows_are all_told;
+        few = omega (arith, all, few);
+        refused = λ v i none. told_refused v (p.warrior v) none (all_told v i);
+        fought = λ v w i is own.
+            let list = cap_listed (slice_get rows v) _ own in
+            told_fought v w list.0 (own_row copied v _ own) list.1 (told_shared v w i is);
+        shared = told_shared;
+        copied = λ v is.
+            let i : v < p.count = inside_copied v copied is s.copied_is in
+            (i, told_copied v (p.warrior v) is (all_told v i));
+        work = s.work;
+      }

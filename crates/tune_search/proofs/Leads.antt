@@ -3,13 +3,14 @@ use Rattle.std.proofs.Common.{◌≡◌, ℕ, suc, ◌<◌, ◌≤◌, arith, Bo
 use Rattle.std.proofs.lemmas.Bool.Decides.{nat_tests, leb_tells}
 use Rattle.rc_instr.specs.Warrior.{WarriorView}
 use Rattle.tune_cert.specs.Problem.{Problem}
-use Rattle.tune_cert.specs.Optimum.{total_of, cap_of, beats}
+use Rattle.tune_cert.specs.Optimum.{beats, cap_of, total_of}
+use Rattle.tune_cert.proofs.Certificates.{Trails, not_beats, same_number, some_is, trails}
 use Rattle.tune_search.specs.Order.{beats_lead, enough}
-use Rattle.tune_search.specs.Visits.{visit, place, IsLeadAfter}
+use Rattle.tune_search.specs.Visits.{IsLeadAfter, place, visit}
+use Rattle.tune_search.specs.Sharing.{copies}
 use Rattle.tune_search.specs.declared.lead.Lead.{Lead}
 use Rattle.tune_search.proofs.Enough.{least_cases}
-use Rattle.tune_search.proofs.Places.{place_visit, is_visit, lesser}
-use Rattle.tune_cert.proofs.Certificates.{Trails, trails, not_beats, some_is, same_number}
+use Rattle.tune_search.proofs.Places.{is_visit, lesser, place_visit}
 
 not_true : (b : Bool) → not b ≡ true → b ≡ false
 not_true true h = absurd (cc)
@@ -18,6 +19,9 @@ not_true false h = refl
 -- what is beaten trails the one that beat it
 overtaken : (c u t z d v : ℕ) → beats c u t z ≡ false → beats d v t z ≡ true → beats c u d v ≡ false
 overtaken c u t z d v a b = grind (arith, nat_tests)
+
+not_copied : (s u v z : ℕ) → (u == s) && (z == u) && nat_lt v u ≡ false → u ≡ s → z ≡ u → u ≤ v
+not_copied s u v z h a b = grind (arith, nat_tests)
 
 -- so many fights were enough: all, or the cap then does not beat the lead
 pub enough_cases : (p : Problem) (w : WarriorView) (order : List ℕ) (v : ℕ) (lead : Option Lead) →
@@ -95,3 +99,27 @@ module _ (p : Problem) (k v : ℕ) (at : v ≡ visit p.start k) where
         older : (lead : Option Lead) → beats_lead t v lead ≡ true → IsLeadAfter p k lead → (u : ℕ) (x : WarriorView) → u < p.count → place p.start u < k → p.warrior u ≡ Some x → beats (total_of p x) u t v ≡ false
         older None y h u x l c at_u = let none : p.warrior u ≡ None = h u l c in absurd (cc)
         older (Some lead) y h u x l c at_u = overtaken (total_of p x) u lead.total lead.vector t v (h.best u x l c at_u) y
+
+    -- v has the warrior of u, which was visited, and does not copy
+    pub lead_shares : (lead : Option Lead) (u : ℕ) → u < p.count → place p.start u < k → p.warrior u ≡ Some w → copies p.start u v lead ≡ false → IsLeadAfter p k lead → beats_lead (total_of p w) v lead ≡ false
+    lead_shares None u l before is_u apart h = let none : p.warrior u ≡ None = h u l before in absurd (cc)
+    lead_shares (Some lead) u l before is_u apart h =
+        let behind : Trails (total_of p w) u lead.total lead.vector = trails _ _ _ _ (h.best u w l before is_u) in
+        shares_trails u lead.total lead.vector (total_of p w) before h.visited apart behind
+      where
+        shares_trails : (u t z c : ℕ) → place p.start u < k → place p.start z < k → (u == p.start) && (z == u) && nat_lt v u ≡ false → Trails c u t z → beats c v t z ≡ false
+        shares_trails u t z c before visited apart behind =
+            let at_v : place p.start v ≡ k = here in
+            let bu : place p.start u < place p.start v = omega arith in
+            let bz : place p.start z < place p.start v = omega arith in
+            not_beats c v t z (record {
+              no_more = behind.no_more;
+              later = λ e. let zu : z ≤ u = behind.later e in
+                  elim (same_number u p.start) [
+                    | inl us ↦ elim (same_number z u) [
+                      | inl zs ↦ let uv : u ≤ v = not_copied p.start u v z apart us zs in omega arith
+                      | inr zs ↦ let zv : z < v = lesser p.start z v bz (λ f. absurd (omega arith)) in omega arith
+                    ]
+                    | inr us ↦ let uv : u < v = lesser p.start u v bu (λ f. absurd (us f)) in omega arith
+                  ];
+            })

@@ -12,5 +12,9 @@ pub mod Totals
 pub mod ListedFights
 pub mod Leads
 pub mod Steps
+pub mod Cached
+pub mod Recalls
 pub mod Visiting
+pub mod Unique
 pub mod Finish
+pub mod Apart

@@ -12,9 +12,10 @@ use Rattle.std.proofs.lemmas.Map.Keys.{IsDistinct-IsPermutation, IsDistinct-from
 use Rattle.rc_instr.specs.Warrior.{WarriorView}
 use Rattle.tune_cert.specs.Problem.{Problem}
 use Rattle.tune_cert.specs.Optimum.{cap_of, all_fights}
+use Rattle.tune_cert.proofs.CapRows.{cap_is}
 use Rattle.tune_search.specs.Plays.{played}
 use Rattle.tune_search.specs.Visits.{IsListed}
-use Rattle.tune_search.specs.Dropping.{by_index}
+use Rattle.tune_search.specs.State.{by_index}
 use Rattle.tune_cert.specs.Valid.{numbers, IsCapRow}
 
 apart_tests : (a b : ℕ) → nat_eq a b ≡ false → a ≢ b
@@ -72,12 +73,11 @@ listed_numbers p w ks row h = subst (λ (l : List ℕ). IsPermutation l (numbers
 
 -- the caps are the same
 pub listed_cap : (p : Problem) (w : WarriorView) (ks : List ℕ) (row : List (ℕ × ℕ)) → IsListed p w ks row → cap_of p w (numbers row) ≡ cap_of p w ks
-unfolding cap_of
 listed_cap p w ks row h =
     let ns : IsPermutation ks (numbers row) = listed_numbers p w ks row h in
     let a : sum_by (p.points w) (numbers row) ≡ sum_by (p.points w) ks = sum_by-IsPermutation (p.points w) ks (numbers row) ns in
     let b : length (numbers row) ≡ length ks = length_permutation ks (numbers row) ns in
-    omega arith
+    omega (arith, cap_is p w (numbers row), cap_is p w ks)
 
 pub listed_length : (p : Problem) (w : WarriorView) (ks : List ℕ) (row : List (ℕ × ℕ)) → IsListed p w ks row → length row ≡ length ks
 listed_length p w ks row h = length_permutation (played p w ks) row h.same ∙ length-map ks (λ k. (k, p.points w k))

@@ -1,5 +1,5 @@
 -- The order of the visits.
-use Rattle.std.proofs.Common.{◌≡◌, ℕ, ◌<◌, arith, sym, ◌∙◌, ap}
+use Rattle.std.proofs.Common.{◌≡◌, ℕ, suc, ◌<◌, ◌≤◌, arith, sym, ◌∙◌, ap}
 use Rattle.std.proofs.lemmas.Bool.Decides.{nat_tests}
 use Rattle.tune_search.specs.Visits.{visit, place}
 
@@ -27,3 +27,9 @@ lesser s u v h other = grind (arith, nat_tests)
 
 pub is_visit : (s v k : ℕ) → place s v ≡ k → v ≡ visit s k
 is_visit s v k h = sym (visit_place s v) ∙ ap (visit s) h
+
+pub visit_early : (s k : ℕ) → suc k ≤ s → visit s (suc k) ≡ k
+visit_early s k l = grind (arith, nat_tests)
+
+pub visit_late : (s k : ℕ) → s < k → visit s k ≡ k
+visit_late s k l = grind (arith, nat_tests)

@@ -7,10 +7,11 @@ use Rattle.rc_instr.specs.Warrior.{WarriorView}
 use Rattle.tune_cert.specs.Problem.{Problem}
 use Rattle.tune_cert.specs.Optimum.{total_of, all_fights, cap_of}
 use Rattle.tune_cert.specs.Valid.{numbers, IsCapRow, IsRightRow, IsValid}
+use Rattle.tune_cert.specs.declared.cert.Cert.{Cert}
 use Rattle.tune_cert.specs.declared.cert.Row.{Row}
 use Rattle.tune_cert.specs.declared.cert.Row.TheVariants.{Refused}
 use Rattle.tune_cert.proofs.Certificates.{Trails, not_beats, some_is}
-use Rattle.tune_cert.proofs.CapRows.{row_sum}
+use Rattle.tune_cert.proofs.CapRows.{row_sum, cap_is}
 use Rattle.tune_search.specs.Plays.{played, row_with, row_of, rows_of}
 use Rattle.tune_search.specs.Progress.{IsBest}
 
@@ -25,8 +26,8 @@ numbers_played p w (k ∷ ks) = ap (λ l. k ∷ l) (numbers_played p w ks)
 
 -- the cap by all fights is the total
 cap_all : (p : Problem) (w : WarriorView) → cap_of p w (all_fights p) ≡ total_of p w
-unfolding cap_of total_of
-cap_all p w = omega (arith, length-range_with_len 0 p.fights)
+unfolding total_of
+cap_all p w = omega (arith, cap_is p w (all_fights p), length-range_with_len 0 p.fights)
 
 points_all : (p : Problem) (w : WarriorView) → sum_by (λ e. e.1) (played p w (all_fights p)) ≡ total_of p w
 unfolding total_of
@@ -46,26 +47,30 @@ module _ (p : Problem) (rows : List Row) (are : rows ≡ rows_of p) where
       slice_get-get_or rows v Refused i ∙ ap (λ r. Some r) h
 
   module _ (w t : ℕ) (best : IsBest p p.count w t) where
+    -- the certificate of these rows
+    abbrev cert : Cert
+    cert = record { count = length rows; best = w; total = t; rows = rows }
+
     trails_best : (v : ℕ) (x : WarriorView) → v < p.count → p.warrior v ≡ Some x → Trails (cap_of p x (numbers (played p x (all_fights p)))) v t w
     trails_best v x l is =
         let c : cap_of p x (numbers (played p x (all_fights p))) ≡ total_of p x = ap (cap_of p x) (numbers_played p x (all_fights p)) ∙ cap_all p x in
         let le : total_of p x ≤ t = best.greatest v x l is in
         record { no_more = omega (arith, c, le); later = λ e. best.first v x l is (sym c ∙ e) }
 
-    right_with : (v : ℕ) (o : Option WarriorView) → v < p.count → p.warrior v ≡ o → IsRightRow p w t rows v (row_with p o)
+    right_with : (v : ℕ) (o : Option WarriorView) → v < p.count → p.warrior v ≡ o → IsRightRow p cert v (row_with p o)
     right_with v None l is = is
     right_with v (Some x) l is = (x, is, played_row p x p.fights 0 (omega arith), λ other. not_beats _ v t w (trails_best v x l is))
 
-    right_row : (v : ℕ) (row : Row) → slice_get rows v ≡ Some row → IsRightRow p w t rows v row
+    right_row : (v : ℕ) (row : Row) → slice_get rows v ≡ Some row → IsRightRow p cert v row
     right_row v row at =
         let n = as_many in
         let i : v < length rows = slice_get_within rows v row at in
         let l : v < p.count = omega (arith, n, i) in
-        subst (λ (r : Row). IsRightRow p w t rows v r) (some_is _ _ (sym (row_here v l) ∙ at)) (right_with v (p.warrior v) l refl)
+        subst (λ (r : Row). IsRightRow p cert v r) (some_is _ _ (sym (row_here v l) ∙ at)) (right_with v (p.warrior v) l refl)
 
-    pub rows_valid : IsValid p p.count w t rows
+    pub rows_valid : IsValid p cert
     rows_valid = record {
-      count_is = refl;
+      count_is = as_many;
       rows_are = as_many;
       best_row = played p best.warrior (all_fights p);
       best_inside = best.inside;

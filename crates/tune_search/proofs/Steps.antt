@@ -1,17 +1,20 @@
 -- One visit: what was explained stays so, and the new row is explained.
-use Rattle.std.proofs.Common.{◌≡◌, ◌≢◌, ℕ, suc, ◌+◌, ◌<◌, ◌≤◌, arith, Bool, true, cond, List, ◌∷◌, Option, Some, None, length, get_or, sym, ◌∙◌, ap, inl, inr, subst}
-use Rattle.std.specs.List.{slice_get, slice_set, sum_by, count_by}
+use Rattle.std.proofs.Common.{◌≡◌, ◌≢◌, ℕ, suc, ◌+◌, ◌<◌, ◌≤◌, arith, Bool, true, false, cond, List, [], ◌∷◌, Option, Some, None, length, get_or, sym, ◌∙◌, ap, inl, inr, subst}
+use Rattle.std.specs.List.{AllByRecursion, slice_get, slice_set, sum_by, count_by}
 use Rattle.std.proofs.lemmas.Option.{slice_get_within, get_or_from_slice_get}
 use Rattle.std.proofs.lemmas.List.Sums.{sum_by-set}
+use Rattle.rc_instr.specs.Rules.{RulesView}
 use Rattle.rc_instr.specs.Warrior.{WarriorView}
 use Rattle.tune_cert.specs.Problem.{Problem}
-use Rattle.tune_cert.specs.Valid.{listed_in, listed_fights}
+use Rattle.tune_cert.specs.Valid.{listed_fights, listed_in}
 use Rattle.tune_cert.specs.declared.cert.Row.{Row}
-use Rattle.tune_cert.specs.declared.cert.Row.TheVariants.{Refused, Cap}
-use Rattle.tune_search.specs.Visits.{visit, place, IsExplained, IsFought}
-use Rattle.tune_search.specs.Dropping.{IsWhole, is_filled}
+use Rattle.tune_cert.specs.declared.cert.Row.TheVariants.{Cap, Refused}
+use Rattle.tune_search.specs.Visits.{IsFought, place, visit}
+use Rattle.tune_search.specs.Sharing.{HasRowOf, IsExplained}
+use Rattle.tune_search.specs.Found.{copied_fights, listed_at}
+use Rattle.tune_search.specs.State.{IsKnown, IsWhole, is_filled}
 use Rattle.tune_search.specs.declared.lead.Lead.{Lead}
-use Rattle.tune_search.proofs.Slots.{slot_other}
+use Rattle.tune_search.proofs.Slots.{slot_other, slot_same}
 use Rattle.tune_search.proofs.Leads.{by_then}
 use Rattle.tune_search.proofs.Places.{place_visit}
 
@@ -19,7 +22,7 @@ abbrev bit : Bool → ℕ
 bit b = cond b 1 0
 
 -- the row of v is written, which was not before
-module _ (p : Problem) (k v : ℕ) (at : v ≡ visit p.start k) (rows : List Row) (row : Row) (blank : slice_get rows v ≡ Some Refused) where
+module _ (p : Problem) (rules : RulesView) (c k v : ℕ) (at : v ≡ visit p.start k) (rows : List Row) (row : Row) (blank : slice_get rows v ≡ Some Refused) where
   abbrev after : List Row
   after = slice_set rows v row
 
@@ -28,7 +31,7 @@ module _ (p : Problem) (k v : ℕ) (at : v ≡ visit p.start k) (rows : List Row
       let same : slice_get rows u ≡ Some Refused = ap (slice_get rows) e ∙ blank in
       absurd (cc)
 
-  fought_stays : (u : ℕ) (w : WarriorView) → IsFought p rows u w → IsFought p after u w
+  pub fought_stays : (u : ℕ) (w : WarriorView) → IsFought p rows u w → IsFought p after u w
   fought_stays u w h = record {
     lead = h.lead;
     is_lead = h.is_lead;
@@ -38,23 +41,71 @@ module _ (p : Problem) (k v : ℕ) (at : v ≡ visit p.start k) (rows : List Row
   }
 
   -- nothing changes at other settings
-  explained_stays : (u : ℕ) (o : Option WarriorView) → u ≢ v → IsExplained p rows u o → IsExplained p after u o
-  explained_stays u None ne h = slot_other rows v u row ne ∙ h
-  explained_stays u (Some w) ne h = fought_stays u w h
+  pub record Keeps (old new : Option ℕ) : Type 0 where
+    pub yes_stays : (u : ℕ) → u ≢ v → old ≡ Some u → new ≡ Some u
+    pub no_stays : (u : ℕ) → u ≢ v → old ≢ Some u → new ≢ Some u
 
-  -- all that were visited, and v
-  pub told_more : ((u : ℕ) → u < p.count → place p.start u < k → IsExplained p rows u (p.warrior u)) →
-      IsExplained p after v (p.warrior v) → (u : ℕ) → u < p.count → place p.start u < suc k → IsExplained p after u (p.warrior u)
-  told_more told one u l before =
-      elim (by_then p k v at u before) [
-        | inl b ↦ explained_stays u (p.warrior u) (λ e. let same : place p.start u ≡ k = ap (place p.start) (e ∙ at) ∙ place_visit p.start k in omega arith) (told u l b)
-        | inr e ↦ subst (λ (n : ℕ). IsExplained p after n (p.warrior n)) (sym e) one
-      ]
+  pub keeps_same : (old : Option ℕ) → Keeps old old
+  keeps_same old = record { yes_stays = λ u ne e. e; no_stays = λ u ne e. e }
+
+  pub keeps_new : Keeps None (Some v)
+  keeps_new = record { yes_stays = λ u ne e. absurd (cc); no_stays = λ u ne e f. ne (let g : v ≡ u = cc in sym g) }
+
+  module _ (old new : Option ℕ) (keeps : Keeps old new) where
+    shared_stays : (u t : ℕ) (b : Bool) → u ≢ v → t ≢ v → HasRowOf rows old t u b → HasRowOf after new t u b
+    shared_stays u t true nu nt h = (keeps.yes_stays u nu h.0, slot_other rows v u row nu ∙ h.1 ∙ sym (slot_other rows v t row nt))
+    shared_stays u t false nu nt h = (keeps.no_stays u nu h.0, slot_other rows v u row nu ∙ h.1)
+
+    explained_stays : (u : ℕ) (o : Option WarriorView) → u ≢ v → IsExplained p c rows old u o → IsExplained p c after new u o
+    explained_stays u None ne h = (keeps.no_stays u ne h.0, slot_other rows v u row ne ∙ h.1)
+    explained_stays u (Some w) ne h = record {
+      recent = h.recent;
+      is_recent = h.is_recent;
+      row = elim h.row [
+        | inl f ↦ inl (f.0, keeps.no_stays u ne f.1, fought_stays u w f.2)
+        | inr s ↦ inr (
+          s.0,
+          s.1,
+          record {
+            fought = fought_stays s.0 w s.2.fought;
+            before = s.2.before;
+            lead = s.2.lead;
+            is_lead = s.2.is_lead;
+            row = shared_stays u s.0 _ ne (other_than s.0 s.2.fought.row s.2.fought.at) s.2.row;
+          },
+        )
+      ];
+    }
+
+    -- all that were visited, and v
+    pub told_more : ((u : ℕ) → u < p.count → place p.start u < k → IsExplained p c rows old u (p.warrior u)) →
+        IsExplained p c after new v (p.warrior v) → (u : ℕ) → u < p.count → place p.start u < suc k → IsExplained p c after new u (p.warrior u)
+    told_more told one u l before =
+        elim (by_then p k v at u before) [
+          | inl b ↦ explained_stays u (p.warrior u) (λ e. let same : place p.start u ≡ k = ap (place p.start) (e ∙ at) ∙ place_visit p.start k in omega arith) (told u l b)
+          | inr e ↦ subst (λ (n : ℕ). IsExplained p c after new n (p.warrior n)) (sym e) one
+        ]
 
   pub left_more : ((u : ℕ) → u < p.count → k ≤ place p.start u → slice_get rows u ≡ Some Refused) →
       (u : ℕ) → u < p.count → suc k ≤ place p.start u → slice_get after u ≡ Some Refused
   left_more left u l later =
       slot_other rows v u row (λ e. let same : place p.start u ≡ k = ap (place p.start) (e ∙ at) ∙ place_visit p.start k in omega arith) ∙ left u l (omega arith)
+
+  known_one : (e : List ℕ × ℕ) → IsKnown p rules rows k e → IsKnown p rules after (suc k) e
+  known_one e h = record {
+    warrior = h.warrior;
+    inside = h.inside;
+    before = let b : place p.start e.1 < k = h.before in omega arith;
+    candidate = h.candidate;
+    is_warrior = h.is_warrior;
+    fits = h.fits;
+    text = h.text;
+    fought = fought_stays e.1 h.warrior h.fought;
+  }
+
+  pub known_more : (known : List (List ℕ × ℕ)) → AllByRecursion (IsKnown p rules rows k) known → AllByRecursion (IsKnown p rules after (suc k)) known
+  known_more [] h = tt
+  known_more (e ∷ es) h = (known_one e h.0, known_more es h.1)
 
   pub whole_stays : (lead : Option Lead) → IsWhole p rows lead → IsWhole p after lead
   whole_stays None h = tt
@@ -75,9 +126,21 @@ module _ (p : Problem) (k v : ℕ) (at : v ≡ visit p.start k) (rows : List Row
       let new : bit (is_filled row) ≡ 1 = ap bit filled in
       omega arith
 
-  pub work_more : (f : ℕ) → f ≡ listed_fights rows → f + listed_in row ≡ listed_fights after
+  sum_more : listed_fights after ≡ listed_fights rows + listed_in row
   unfolding listed_fights
-  work_more f e =
+  sum_more =
       let more : sum_by listed_in after + listed_in (get_or rows v Refused) ≡ sum_by listed_in rows + listed_in row = sum_by-set listed_in rows v row Refused inside_rows in
       let old : listed_in (get_or rows v Refused) ≡ 0 = ap listed_in was in
       omega arith
+
+  pub work_more : (f : ℕ) (copied : Option ℕ) → f + copied_fights rows copied ≡ listed_fights rows → copied ≢ Some v →
+      (f + listed_in row) + copied_fights after copied ≡ listed_fights after
+  work_more f None e other = let more = sum_more in omega (arith, more)
+  work_more f (Some u) e other =
+      let same : listed_at (slice_get after u) ≡ listed_at (slice_get rows u) = ap listed_at (slot_other rows v u row (λ same. other (ap Some same))) in
+      let more = sum_more in omega (arith, more, same)
+
+  pub work_copied : (f : ℕ) → f + 0 ≡ listed_fights rows → f + copied_fights after (Some v) ≡ listed_fights after
+  work_copied f e =
+      let same : listed_at (slice_get after v) ≡ listed_in row = ap listed_at (slot_same rows v row inside_rows) in
+      let more = sum_more in omega (arith, more, same)

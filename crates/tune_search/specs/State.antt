@@ -1,16 +1,33 @@
--- A dropping search under way, as the contracts of private functions see it.
-use Rattle.std.specs.Prelude.{◌≡◌, ℕ, ◌*◌, ◌<◌, ◌≤◌, Bool, true, false, ◌==◌, if◌then◌else◌, List, length, slice_get, Option, Some, None}
-use Rattle.std.specs.List.{count_by}
+-- A search under way, as the contracts of private functions see it.
+use Rattle.std.specs.Prelude.{◌≡◌, ℕ, ◌+◌, ◌*◌, ◌<◌, ◌≤◌, Bool, true, false, ◌==◌, List, length, map, slice_get, Option, Some, None}
+use Rattle.std.specs.List.{AllByRecursion, count_by}
 use Rattle.std.specs.Ordering.{nat_cmp, ordering_then}
 use Rattle.std.specs.declared.cmp.Ordering.{Ordering}
-use Rattle.tune_cert.specs.Problem.{Problem}
+use Rattle.rc_instr.specs.Rules.{RulesView, IsRules}
+use Rattle.rc_instr.specs.Warrior.{WarriorView, IsWarrior, Fits}
+use Rattle.rc_instr.specs.LoadText.{load_text}
+use Rattle.tune_template.specs.Instances.{InputsView}
+use Rattle.tune_cert.specs.Problem.{Problem, problem_of}
 use Rattle.tune_cert.specs.Valid.{listed_fights}
 use Rattle.tune_cert.specs.declared.cert.Row.{Row}
 use Rattle.tune_cert.specs.declared.cert.Row.TheVariants.{Refused, Same, Cap}
 use Rattle.tune_search.specs.Order.{beats_lead, order_after}
-use Rattle.tune_search.specs.Visits.{place, IsLeadAfter, IsExplained}
+use Rattle.tune_search.specs.Visits.{place, IsLeadAfter, IsFought}
+use Rattle.tune_search.specs.Recent.{IsRecent}
+use Rattle.tune_search.specs.Sharing.{leads, IsExplained}
+use Rattle.tune_search.specs.Found.{copied_fights}
 use Rattle.tune_search.specs.declared.lead.Lead.{Lead}
-use Rattle.tune_search.specs.declared.dropping.Dropping.{Dropping}
+use Rattle.tune_search.specs.declared.candidate.Candidate.{Candidate}
+use Rattle.tune_search.specs.declared.state.State.{State}
+
+-- A candidate: setting v with its warrior, and the load file of that.
+pub record IsCandidateAt (i : InputsView) (v : ℕ) (c : Candidate) : Type 0 where
+  pub vector_is : c.vector ≡ v
+  pub rules_hold : IsRules i.rules
+  pub warrior_is : (problem_of i).warrior v ≡ Some c.warrior
+  pub is_warrior : IsWarrior c.warrior
+  pub fits : Fits i.rules c.warrior
+  pub text_is : c.text.items ≡ load_text i.rules.core c.warrior
 
 -- The lead after the fights of setting v left it cap c, given whether this beats the lead before.
 abbrev pub lead_by : ℕ → ℕ → Option Lead → Bool → Option Lead
@@ -19,6 +36,11 @@ lead_by c v lead false = lead
 
 abbrev pub next_lead : ℕ → ℕ → Option Lead → Option Lead
 next_lead c v lead = lead_by c v lead (beats_lead c v lead)
+
+-- The lead with setting v in its place, which has the same total.
+abbrev pub lead_taken : ℕ → Option Lead → Option Lead
+lead_taken v None = None
+lead_taken v (Some lead) = Some (record { total = lead.total; vector = v })
 
 -- Fights with points, by the index of the fight.
 abbrev pub by_index : ℕ × ℕ → ℕ × ℕ → Ordering
@@ -29,6 +51,22 @@ abbrev pub IsWhole : Problem → List Row → Option Lead → Type 0
 IsWhole p rows None = Unit {0}
 IsWhole p rows (Some lead) = (row : List (ℕ × ℕ)) × (slice_get rows lead.vector ≡ Some (Cap row)) × (length row ≡ p.fights)
 
+-- A copied setting was visited, and the start setting leads no more.
+abbrev pub IsCopied : Problem → ℕ → Option Lead → Option ℕ → Type 0
+IsCopied p k lead None = Unit {0}
+IsCopied p k lead (Some v) = (v < p.count) × (place p.start v < k) × (leads p.start lead ≡ false)
+
+-- A setting in the cache after k visits: it was fought, and is there under its load file.
+pub record IsKnown (p : Problem) (rules : RulesView) (rows : List Row) (k : ℕ) (e : List ℕ × ℕ) : Type 0 where
+  pub warrior : WarriorView
+  pub inside : e.1 < p.count
+  pub before : place p.start e.1 < k
+  pub candidate : p.warrior e.1 ≡ Some warrior
+  pub is_warrior : IsWarrior warrior
+  pub fits : Fits rules warrior
+  pub text : e.0 ≡ load_text rules.core warrior
+  pub fought : IsFought p rows e.1 warrior
+
 abbrev pub is_filled : Row → Bool
 is_filled Refused = false
 is_filled (Same u) = true
@@ -36,18 +74,22 @@ is_filled (Cap row) = true
 
 -- After k visits: the rows of the settings visited are explained, and the others are `Refused`. The
 -- order is that of the next visit.
-pub record IsDropping (p : Problem) (k : ℕ) (rows : List Row) (lead : Option Lead) (order : List ℕ) (fights candidates : ℕ) : Type 0 where
+pub record IsUnderWay (p : Problem) (rules : RulesView) (capacity k : ℕ) (rows : List Row) (lead : Option Lead) (order : List ℕ) (fights candidates : ℕ) (copied : Option ℕ) (known : List (List ℕ × ℕ)) : Type 0 where
   pub rows_are : length rows ≡ p.count
   pub lead_is : IsLeadAfter p k lead
   pub whole : IsWhole p rows lead
-  pub told : (v : ℕ) → v < p.count → place p.start v < k → IsExplained p rows v (p.warrior v)
+  pub told : (v : ℕ) → v < p.count → place p.start v < k → IsExplained p capacity rows copied v (p.warrior v)
   pub left : (v : ℕ) → v < p.count → k ≤ place p.start v → slice_get rows v ≡ Some Refused
   pub order_is : order ≡ order_after p (k == 0) (p.warrior p.start)
-  pub work : fights ≡ listed_fights rows
+  pub recent : IsRecent p capacity k (map (λ e. e.1) known)
+  pub all_known : AllByRecursion (IsKnown p rules rows k) known
+  pub copied_is : IsCopied p k lead copied
+  pub work : fights + copied_fights rows copied ≡ listed_fights rows
   pub count : candidates ≡ count_by is_filled rows
   pub room : fights ≤ 10000 * k
 
-pub record IsState (p : Problem) (k : ℕ) (s : Dropping) : Type 0 where
-  pub start_is : s.start ≡ p.start
-  pub start_inside : p.start < p.count
-  pub going : IsDropping p k s.rows.items s.lead s.order.items s.fights s.candidates
+pub record IsState (i : InputsView) (capacity k : ℕ) (s : State) : Type 0 where
+  pub start_is : s.start ≡ (problem_of i).start
+  pub start_inside : (problem_of i).start < (problem_of i).count
+  pub capacity_is : s.cache.capacity ≡ capacity
+  pub going : IsUnderWay (problem_of i) i.rules capacity k s.rows.items s.lead s.order.items s.fights s.candidates s.copied s.cache.known

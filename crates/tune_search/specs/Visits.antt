@@ -5,7 +5,7 @@ use Rattle.rc_instr.specs.Warrior.{WarriorView}
 use Rattle.tune_cert.specs.Problem.{Problem}
 use Rattle.tune_cert.specs.Optimum.{total_of, beats}
 use Rattle.tune_cert.specs.declared.cert.Row.{Row}
-use Rattle.tune_cert.specs.declared.cert.Row.TheVariants.{Refused, Cap}
+use Rattle.tune_cert.specs.declared.cert.Row.TheVariants.{Cap}
 use Rattle.tune_search.specs.Plays.{played}
 use Rattle.tune_search.specs.Order.{fight_order, enough}
 use Rattle.tune_search.specs.declared.lead.Lead.{Lead}
@@ -45,8 +45,3 @@ pub record IsFought (p : Problem) (rows : List Row) (v : ℕ) (w : WarriorView) 
   pub row : List (ℕ × ℕ)
   pub at : slice_get rows v ≡ Some (Cap row)
   pub listed : IsListed p w (take (enough p w (fight_order p v) v lead) (fight_order p v)) row
-
--- The row of setting v: refused if it does not assemble, else what was fought.
-abbrev pub IsExplained : Problem → List Row → ℕ → Option WarriorView → Type 0
-IsExplained p rows v None = slice_get rows v ≡ Some Refused
-IsExplained p rows v (Some w) = IsFought p rows v w

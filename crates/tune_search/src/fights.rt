@@ -7,12 +7,11 @@ ghost use Rattle.tune_cert.specs.Optimum.{all_fights, total_of, cap_of};
 ghost use Rattle.tune_search.specs.Order.{enough};
 ghost use Rattle.tune_search.specs.Plays.{played};
 
-use crate::counts::fight_count;
 use crate::lead::{Lead, beats};
 use mars_core::{Arena, PackedCells};
 use rc_instr::Warrior;
 use std::alloc::{AllocError, Global};
-use tune_cert::fight_points;
+use tune_cert::{MOST_POINTS, fight_points, greatest_total};
 use tune_template::Inputs;
 
 // Fights of a warrior in the order in which they were played, each with its points, and the cap of
@@ -54,7 +53,7 @@ pub(crate) fn play_all(
 
 // Plays the fights of `order` for setting `vector`, whose warrior is given, until its cap does not
 // beat the lead, or none is left.
-#[tactic(auto, using(crate::proofs::Enough::enough_is, crate::proofs::Caps::cap_more, crate::proofs::Caps::played_more, crate::proofs::Caps::cap_none))]
+#[tactic(auto, using(tune_cert::proofs::CapRows::greatest_is, crate::proofs::Enough::enough_is, crate::proofs::Caps::cap_more, crate::proofs::Caps::played_more, crate::proofs::Caps::cap_none))]
 pub(crate) fn play_enough(
     alloc: Global,
     arena: &mut Arena<PackedCells>,
@@ -74,14 +73,14 @@ pub(crate) fn play_enough(
     ensures blank { IsBlank inputs.now.rules arena.new }
 {
     let mut listing = Vec::new(alloc);
-    let mut cap = 3 * fight_count(inputs);
+    let mut cap = greatest_total(inputs);
     for index in order {
         if !beats(cap, vector, lead) {
             return Ok(Bout { listing, cap });
         }
         let points = fight_points(arena, inputs, warrior, *index);
         listing.push((*index, points))?;
-        cap -= 3 - u32::from(points);
+        cap -= MOST_POINTS - u32::from(points);
     }
     Ok(Bout { listing, cap })
 }

@@ -1,7 +1,8 @@
 //! The best setting so far.
 ghost use Rattle.std.specs.Prelude.{◌≡◌};
 ghost use Rattle.tune_search.specs.Order.{beats_lead};
-ghost use Rattle.tune_search.specs.Dropping.{next_lead};
+ghost use Rattle.tune_search.specs.Sharing.{copies};
+ghost use Rattle.tune_search.specs.State.{next_lead, lead_taken};
 
 // The best setting so far, and its total.
 #[derive(Clone, Copy)]
@@ -31,4 +32,25 @@ pub(crate) fn next_lead(cap: u32, vector: u32, lead: Option<Lead>) -> Option<Lea
     } else {
         lead
     }
+}
+
+// Checks whether setting `vector` copies the row of setting `other`, which has the same warrior:
+// `other` is the start setting and the lead, and `vector` has the smaller index.
+pub(crate) fn copies(start: u32, other: u32, vector: u32, lead: Option<Lead>) -> bool
+    ensures { result ≡ copies start other vector lead }
+{
+    match lead {
+        None => false,
+        Some(lead) => other == start && lead.vector == other && vector < other,
+    }
+}
+
+// Puts setting `vector` in the place of the lead, with the same total.
+pub(crate) fn take_lead(vector: u32, lead: Option<Lead>) -> Option<Lead>
+    ensures { result ≡ lead_taken vector lead }
+{
+    lead.map(|lead| Lead {
+        vector,
+        total: lead.total,
+    })
 }

@@ -1,14 +1,17 @@
 //! The search for the optimum of a tuning.
 #![tactic(auto)]
 
+mod cache;
+mod candidate;
 mod counts;
-mod dropping;
 mod fault;
 mod fights;
+pub mod laws;
 mod lead;
 mod order;
 mod plain;
 mod progress;
+mod state;
 mod tuning;
 
 pub use fault::SearchFault;

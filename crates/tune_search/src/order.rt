@@ -4,7 +4,7 @@ ghost use Rattle.std.specs.List.{range_with_len};
 ghost use Rattle.std.specs.List.Sorted.{IsPermutation, IsSorted};
 ghost use Rattle.tune_search.specs.Order.{with_points, by_points};
 ghost use Rattle.tune_search.specs.Visits.{visit};
-ghost use Rattle.tune_search.specs.Dropping.{by_index};
+ghost use Rattle.tune_search.specs.State.{by_index};
 
 use std::alloc::{AllocError, Global};
 

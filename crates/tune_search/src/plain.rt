@@ -3,6 +3,7 @@ ghost use Rattle.std.specs.Prelude.{◌≡◌, ◌*◌, ◌<◌, ◌≤◌, ℕ,
 ghost use Rattle.tune_cert.specs.Problem.{problem_of};
 ghost use Rattle.tune_cert.specs.Optimum.{IsOptimum, HasTotal, candidates_of};
 ghost use Rattle.tune_cert.specs.Valid.{IsValid, listed_fights};
+ghost use Rattle.tune_cert.specs.CertText.{cert_of};
 ghost use Rattle.tune_search.specs.Plays.{rows_of};
 
 use crate::counts::setting_count;
@@ -26,7 +27,7 @@ use tune_template::Inputs;
 pub fn plain_search(alloc: Global, inputs: &Inputs) -> Result<Found, SearchFault>
     ensures optimum { IfOk result (λ f. IsOptimum (problem_of inputs.now) f.best) }
     ensures total { IfOk result (λ f. HasTotal (problem_of inputs.now) f.best f.total) }
-    ensures valid { let p = problem_of inputs.now in IfOk result (λ f. IsValid p p.count f.best f.total f.rows) }
+    ensures valid { let p = problem_of inputs.now in IfOk result (λ f. IsValid p (cert_of f)) }
     ensures candidates { IfOk result (λ f. f.candidates ≡ candidates_of (problem_of inputs.now)) }
     ensures rows { IfOk result (λ f. f.rows ≡ rows_of (problem_of inputs.now)) }
     ensures few { IfOk result (λ f. length f.rows ≤ 1000000) }

@@ -1,69 +1,123 @@
-//! A search under way, which drops a setting as soon as its remaining fights cannot help it.
-ghost use Rattle.std.specs.Prelude.{◌≡◌, ◌+◌, ◌<◌, ◌≤◌, replicate, OnOk, IfOk, IfErr};
+//! A search under way: what it has found, and what it needs for the next visit.
+ghost use Rattle.std.specs.Prelude.{◌≡◌, ◌+◌, ◌<◌, ◌≤◌, None, replicate, OnOk, IfOk, IfErr};
+ghost use Rattle.std.specs.Map.{lookup};
 ghost use Rattle.mars_core.specs.Arena.{IsBlank};
 ghost use Rattle.tune_cert.specs.Problem.{problem_of};
-ghost use Rattle.tune_search.specs.Dropping.{IsState};
+ghost use Rattle.tune_search.specs.Cache.{same_text};
+ghost use Rattle.tune_search.specs.Visits.{visit};
+ghost use Rattle.tune_search.specs.State.{IsCandidateAt, IsState};
 
+use crate::cache::Cache;
+use crate::candidate::{Candidate, candidate_at};
 use crate::counts::{fight_count, setting_count, start_setting};
 use crate::fault::SearchFault;
 use crate::fights::play_enough;
-use crate::lead::{Lead, next_lead};
+use crate::lead::{Lead, copies, next_lead, take_lead};
 use crate::order::{all_in_order, learn_order, sort_by_index, visited};
 use mars_core::{Arena, PackedCells};
 use std::alloc::{AllocError, Global};
-use tune_cert::{Listing, Row, setting_warrior};
+use tune_cert::{Listing, Row};
 use tune_template::Inputs;
 
 // The start setting, a row for each setting, `Refused` until it is visited, the lead, the order of
-// the next setting's fights, and counts of fights played and of candidates.
+// the next setting's fights, counts of fights played and of candidates, the setting whose row was
+// copied, and the settings fought by their load files.
 #[derive(Drop)]
-pub(crate) struct Dropping {
+pub(crate) struct State {
     pub(crate) start: u32,
     pub(crate) rows: Vec<Row>,
     pub(crate) lead: Option<Lead>,
     pub(crate) order: Vec<u32>,
     pub(crate) fights: u64,
     pub(crate) candidates: u32,
+    pub(crate) copied: Option<u32>,
+    pub(crate) cache: Cache,
 }
 
-impl Dropping {
-    // Starts before the first visit.
-    pub(crate) fn begin(alloc: Global, inputs: &Inputs) -> Result<Dropping, SearchFault>
-        ensures state { IfOk result (IsState (problem_of inputs.now) 0) }
+impl State {
+    // Starts before the first visit, with room for `capacity` settings in the cache.
+    pub(crate) fn begin(alloc: Global, inputs: &Inputs, capacity: u32) -> Result<State, SearchFault>
+        requires capacity { 1 ≤ capacity }
+        ensures state { IfOk result (IsState inputs.now capacity 0) }
         ensures err { IfErr result (λ e. e ≡ SearchFault.OutOfMemory) }
     {
         let rows = blank_rows(alloc, setting_count(inputs))?;
         let order = all_in_order(alloc, fight_count(inputs))?;
-        Ok(Dropping {
+        let cache = Cache::with_capacity(alloc, capacity)?;
+        Ok(State {
             start: start_setting(inputs),
             rows,
             lead: None,
             order,
             fights: 0,
             candidates: 0,
+            copied: None,
+            cache,
         })
     }
 
-    // Visits the setting that comes after `visits` others. Writes its row if it assembles.
+    // Visits the setting that comes after `visits` others. Writes its row if it assembles: a
+    // setting with the load file of one in the cache shares its fights, any other is fought.
     pub(crate) fn visit(
         &mut self,
         alloc: Global,
         arena: &mut Arena<PackedCells>,
         inputs: &Inputs,
+        capacity: u32,
         visits: u32,
     ) -> Result<(), SearchFault>
         requires blank { IsBlank inputs.now.rules arena.old }
         requires visits { visits < (problem_of inputs.now).count }
         requires few { (problem_of inputs.now).count ≤ 1000000 }
-        requires state { IsState (problem_of inputs.now) visits self.old }
-        ensures state { OnOk result (IsState (problem_of inputs.now) (visits + 1) self.new) }
+        requires state { IsState inputs.now capacity visits self.old }
+        ensures state { OnOk result (IsState inputs.now capacity (visits + 1) self.new) }
         ensures blank { IsBlank inputs.now.rules arena.new }
         ensures err { IfErr result (λ e. e ≡ SearchFault.OutOfMemory) }
     {
         let vector = visited(self.start, visits);
-        let Some(warrior) = setting_warrior(alloc, inputs, vector)? else {
+        let Some(entrant) = candidate_at(alloc, inputs, vector)? else {
             return Ok(());
         };
+        let Some(other) = self.cache.recall(&entrant.text) else {
+            return self.fight(alloc, arena, inputs, capacity, visits, entrant);
+        };
+        self.candidates += 1;
+        if copies(self.start, other, vector, self.lead) {
+            let row = self.rows[other as usize].copy(alloc)?;
+            self.rows[vector as usize] = row;
+            self.lead = take_lead(vector, self.lead);
+            self.copied = Some(vector);
+            return Ok(());
+        }
+        self.rows[vector as usize] = Row::Same(other);
+        Ok(())
+    }
+
+    // Plays the fights of a candidate whose load file is not in the cache, and puts it there.
+    fn fight(
+        &mut self,
+        alloc: Global,
+        arena: &mut Arena<PackedCells>,
+        inputs: &Inputs,
+        capacity: u32,
+        visits: u32,
+        entrant: Candidate,
+    ) -> Result<(), SearchFault>
+        requires blank { IsBlank inputs.now.rules arena.old }
+        requires visits { visits < (problem_of inputs.now).count }
+        requires few { (problem_of inputs.now).count ≤ 1000000 }
+        requires state { IsState inputs.now capacity visits self.old }
+        requires candidate { IsCandidateAt inputs.now (visit (problem_of inputs.now).start visits) entrant }
+        requires unknown { lookup (same_text entrant.text.items) self.old.cache.known ≡ None }
+        ensures state { OnOk result (IsState inputs.now capacity (visits + 1) self.new) }
+        ensures blank { IsBlank inputs.now.rules arena.new }
+        ensures err { IfErr result (λ e. e ≡ SearchFault.OutOfMemory) }
+    {
+        let Candidate {
+            vector,
+            warrior,
+            text,
+        } = entrant;
         let bout = play_enough(
             alloc,
             arena,
@@ -78,6 +132,7 @@ impl Dropping {
         self.candidates += 1;
         self.lead = next_lead(bout.cap, vector, self.lead);
         self.rows[vector as usize] = Row::Cap(Listing::from_vec(sort_by_index(bout.listing)));
+        self.cache.remember(text, vector)?;
         Ok(())
     }
 }

@@ -1,15 +1,11 @@
 //! The search for the optimum.
-ghost use Rattle.std.specs.Prelude.{◌≡◌, ◌<◌, ◌≤◌, ℕ, None, Some, length, slice_get, IfOk, IfErr};
-ghost use Rattle.rc_instr.specs.Warrior.{WarriorView};
+ghost use Rattle.std.specs.Prelude.{◌≡◌, ◌<◌, ◌≤◌, ℕ, None, IfOk, IfErr};
 ghost use Rattle.tune_cert.specs.Problem.{problem_of};
-ghost use Rattle.tune_cert.specs.Optimum.{IsOptimum, HasTotal, candidates_of};
-ghost use Rattle.tune_cert.specs.Valid.{IsValid, listed_fights};
-ghost use Rattle.tune_cert.specs.declared.cert.Row.{Row};
-ghost use Rattle.tune_search.specs.Visits.{IsFought};
+ghost use Rattle.tune_search.specs.Found.{IsSearch};
 
 use crate::counts::setting_count;
-use crate::dropping::Dropping;
 use crate::fault::SearchFault;
+use crate::state::State;
 use mars_core::{Arena, PackedCells};
 use std::alloc::Global;
 use tune_cert::{Found, Rows};
@@ -22,37 +18,37 @@ use tune_template::Inputs;
 /// index, and those of the others by the points that it made in them, the fewest first, and by
 /// index where these are equal; all by index if it does not assemble. A setting is dropped as soon
 /// as its cap does not beat the lead, the best setting visited so far: its points and 3 for each
-/// fight left are less than the lead's total, or equal and the lead has the smaller index. The row
-/// of a setting is `Refused` if it does not assemble, and else `Cap` with the fights that were
-/// played, by index. `capacity`, 1 to 65536, is the number of warriors that a search may remember;
-/// this search remembers none and ignores it.
+/// fight left are less than the lead's total, or equal and the lead has the smaller index.
+///
+/// The last `capacity` settings that were fought, 1 to 65536, are remembered; which are the last
+/// goes by use. A setting with the warrior of one of them is not fought, and is a use of that one:
+/// its row is `Same` with the index of that one. Only if that one is the start setting and the
+/// lead, and the setting comes before it, its row is a copy, and the setting is the lead and
+/// `copied`. The row of any other setting is `Refused` if it does not assemble, and else `Cap` with
+/// the fights that were played, by index.
 ///
 /// # Errors
 ///
 /// `NoCandidate` if no setting assembles. `OutOfMemory` if an allocation failed.
 pub fn search(alloc: Global, inputs: &Inputs, capacity: u32) -> Result<Found, SearchFault>
     requires capacity { (1 ≤ capacity) × (capacity ≤ 65536) }
-    ensures optimum { IfOk result (λ f. IsOptimum (problem_of inputs.now) f.best) }
-    ensures total { IfOk result (λ f. HasTotal (problem_of inputs.now) f.best f.total) }
-    ensures valid { let p = problem_of inputs.now in IfOk result (λ f. IsValid p p.count f.best f.total f.rows) }
-    ensures candidates { IfOk result (λ f. f.candidates ≡ candidates_of (problem_of inputs.now)) }
-    ensures fought { let p = problem_of inputs.now in IfOk result (λ f. (v : ℕ) (w : WarriorView) → v < p.count → p.warrior v ≡ Some w → IsFought p f.rows v w) }
-    ensures refused { let p = problem_of inputs.now in IfOk result (λ f. (v : ℕ) → v < p.count → p.warrior v ≡ None → slice_get f.rows v ≡ Some Row.Refused) }
-    ensures few { IfOk result (λ f. length f.rows ≤ 1000000) }
-    ensures fights { IfOk result (λ f. f.fights ≡ listed_fights f.rows) }
-    ensures copied { IfOk result (λ f. f.copied ≡ None) }
+
+    // The best setting is the optimum, the rows are a valid certificate of it, and the fights
+    // played are exactly those that the rule above asks for.
+    ensures found { IfOk result (IsSearch (problem_of inputs.now) capacity) }
     ensures none { let p = problem_of inputs.now in IfErr result (λ e. e ≡ SearchFault.NoCandidate → (v : ℕ) → v < p.count → p.warrior v ≡ None) }
 {
     let mut arena = Arena::<PackedCells>::try_new(alloc, inputs.rules())?;
-    let mut state = Dropping::begin(alloc, inputs)?;
+    let mut state = State::begin(alloc, inputs, capacity)?;
     for visits in 0..setting_count(inputs) {
-        state.visit(alloc, &mut arena, inputs, visits)?;
+        state.visit(alloc, &mut arena, inputs, capacity, visits)?;
     }
-    let Dropping {
+    let State {
         rows,
         lead,
         fights,
         candidates,
+        copied,
         ..
     } = state;
     match lead {
@@ -63,7 +59,7 @@ pub fn search(alloc: Global, inputs: &Inputs, capacity: u32) -> Result<Found, Se
             rows: Rows::from_vec(rows),
             fights,
             candidates,
-            copied: None,
+            copied,
         }),
     }
 }

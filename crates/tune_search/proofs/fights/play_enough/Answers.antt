@@ -1,6 +1,6 @@
-use Rattle.std.proofs.Common.{arith, ◌≡◌, ◌∙◌, ◌*◌, ◌≤◌, ap, sym, below_more, get_or}
+use Rattle.std.proofs.Common.{arith, ◌≡◌, ◌∙◌, ◌≤◌, ap, sym, below_more, get_or}
 use Rattle.tune_cert.specs.Problem.{problem_of}
-use Rattle.tune_cert.proofs.CapRows.{few_points}
+use Rattle.tune_cert.proofs.CapRows.{few_points, greatest_is}
 use Rattle.tune_search.specs.Order.{beats_lead}
 use Rattle.tune_search.proofs.Caps.{cap_none, cap_more, played_more}
 use Rattle.tune_search.proofs.fights.play_enough.Goals as goal
@@ -10,8 +10,8 @@ loop-index-init c =
     let p = problem_of c.args.inputs.now in
     record {
       fought = c.new-listing.ensures.items;
-      holds = cap_none p c.args.warrior.now c.args.order.now (3 * c.fight_count-cap.result) (ap (λ n. 3 * n) c.fight_count-cap.ensures.count);
-      room = omega (arith, c.requires.all, c.fight_count-cap.ensures.count);
+      holds = cap_none p c.args.warrior.now c.args.order.now c.greatest_total-cap.result c.greatest_total-cap.ensures.greatest;
+      room = omega (arith, c.requires.all, c.greatest_total-cap.ensures.greatest, greatest_is p);
       beat = λ j l. absurd (omega arith);
       blank = c.requires.blank;
     }

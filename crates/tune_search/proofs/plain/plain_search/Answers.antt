@@ -46,7 +46,7 @@ returns-clause-valid c =
     let p = problem_of c.args.inputs.now in
     let lead = c.in-Some.lead in
     let e : c.loop-vector.vector ≡ p.count = omega (arith, c.loop-vector-test.false, c.loop-vector.auto.vector-end, c.setting_count-vector-end.ensures.count) in
-    subst (λ (l : List Row). IsValid p p.count lead.vector lead.total l) (sym c.from_vec.ensures) (ends_valid p c.loop-vector.vector _ _ _ _ c.loop-vector.invariant.state e lead c.in-Some.is)
+    subst (λ (l : List Row). IsValid p (record { count = length l; best = lead.vector; total = lead.total; rows = l })) (sym c.from_vec.ensures) (ends_valid p c.loop-vector.vector _ _ _ _ c.loop-vector.invariant.state e lead c.in-Some.is)
 
 pub returns-clause-few : goal.returns-clause-few
 returns-clause-few c =

@@ -1,6 +1,6 @@
 use Rattle.std.proofs.Common.{◌≡◌, replicate}
 use Rattle.tune_cert.specs.declared.cert.Row.TheVariants.{Refused}
-use Rattle.tune_search.proofs.dropping.blank_rows.Given as goal
+use Rattle.tune_search.proofs.state.blank_rows.Given as goal
 
 abbrev pub invariant-loop-row : goal.invariant-loop-row
 invariant-loop-row l = l.rows.items ≡ replicate l._row Refused

@@ -1,12 +1,10 @@
-use Rattle.std.proofs.Common.{◌≡◌}
 use Rattle.mars_core.specs.Arena.{IsBlank}
-use Rattle.tune_cert.specs.Problem.{problem_of}
-use Rattle.tune_search.specs.Dropping.{IsState}
+use Rattle.tune_search.specs.State.{IsState}
 use Rattle.tune_search.proofs.tuning.search.Given as goal
 
 -- so many settings were visited
 abbrev pub invariant-loop-visits : goal.invariant-loop-visits
 invariant-loop-visits l = record {
-  state : IsState (problem_of l.fn.inputs) l.visits l.state;
+  state : IsState l.fn.inputs l.fn.capacity l.visits l.state;
   blank : IsBlank l.fn.inputs.rules l.arena;
 }

@@ -2,17 +2,21 @@ use Rattle.std.proofs.Common.{◌<◌, ◌∙◌, ap, sym, refl, subst, replicat
 use Rattle.std.specs.List.{range_with_len}
 use Rattle.tune_cert.specs.Problem.{problem_of}
 use Rattle.tune_cert.specs.declared.cert.Row.TheVariants.{Refused}
-use Rattle.tune_search.proofs.Visiting.{dropping_along}
+use Rattle.tune_search.specs.Cache.{CacheView}
+use Rattle.tune_search.proofs.Visiting.{under_way_along}
 use Rattle.tune_search.proofs.Finish.{starts}
-use Rattle.tune_search.proofs.dropping.Dropping.begin.Goals as goal
+use Rattle.tune_search.proofs.state.State.begin.Goals as goal
 
 pub returns-clause-state : goal.returns-clause-state
 returns-clause-state c =
-    let p = problem_of c.args.inputs.now in
+    let i = c.args.inputs.now in
+    let p = problem_of i in
     record {
       start_is = c.start_setting.ensures.start;
       start_inside = subst (λ (n : ℕ). n < p.count) c.start_setting.ensures.start c.start_setting.ensures.inside;
-      going = dropping_along _ _ _ _ _ _ _ _ _ _ _ (starts p)
+      capacity_is = ap (λ (m : CacheView). m.capacity) c.in_ok-cache.ensures;
+      going = under_way_along p i.rules c.args.capacity 0 _ _ _ _ _ _ _ _ _ _ _ _ (starts p i.rules c.args.capacity)
           (sym (c.in_ok-rows.ensures ∙ ap (λ n. replicate n Refused) c.setting_count.ensures.count)) refl
-          (sym (c.in_ok-order.ensures ∙ ap (range_with_len 0) c.fight_count.ensures.count)) refl;
+          (sym (c.in_ok-order.ensures ∙ ap (range_with_len 0) c.fight_count.ensures.count)) refl
+          (sym (ap (λ (m : CacheView). m.known) c.in_ok-cache.ensures));
     }

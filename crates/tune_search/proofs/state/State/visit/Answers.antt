@@ -1,21 +1,24 @@
-use Rattle.std.proofs.Common.{◌≡◌, ◌+◌, ◌==◌, ◌<◌, ◌∙◌, if◌then◌else◌, ap, sym, subst, length, List, ℕ, All, take, Some}
-use Rattle.std.specs.List.{slice_set}
+use Rattle.std.proofs.Common.{◌≡◌, ◌+◌, ◌∙◌, ◌<◌, ap, sym, refl, subst, ℕ, Option, None, Some, true, false, get_or}
+use Rattle.std.specs.Map.{lookup}
+use Rattle.std.specs.Prelude.{IfSome, IfNone}
+use Rattle.lru.specs.LruCache.{promoted}
+use Rattle.rc_instr.specs.LoadText.{load_text}
 use Rattle.tune_cert.specs.Problem.{problem_of}
-use Rattle.tune_cert.specs.Optimum.{cap_of}
-use Rattle.tune_cert.specs.declared.cert.Row.TheVariants.{Cap}
 use Rattle.tune_cert.proofs.Scores.{inputs_problem}
-use Rattle.tune_search.specs.Plays.{played}
-use Rattle.tune_search.specs.Order.{by_points, enough}
+use Rattle.tune_search.specs.Cache.{CacheView, cache_view, same_text}
 use Rattle.tune_search.specs.Visits.{visit}
+use Rattle.tune_search.specs.Sharing.{copies}
+use Rattle.tune_search.specs.State.{IsCandidateAt, IsUnderWay}
+use Rattle.tune_search.specs.declared.candidate.Candidate.{Candidate}
+use Rattle.tune_search.proofs.Cached.{promoted_none}
 use Rattle.tune_search.proofs.Places.{visit_below}
-use Rattle.tune_search.proofs.Totals.{order_length}
-use Rattle.tune_search.proofs.ListedFights.{order_below}
-use Rattle.tune_search.proofs.Visiting.{fought_visit, refused_visit, permutes, dropping_along}
-use Rattle.tune_search.proofs.dropping.Dropping.visit.Goals as goal
+use Rattle.tune_search.proofs.Visiting.{refused_visit, shared_visit, copied_visit, under_way_along}
+use Rattle.tune_search.proofs.state.State.visit.Goals as goal
 
 pub returns-in_default-clause-state : goal.returns-in_default-clause-state
 returns-in_default-clause-state c =
-    let p = problem_of c.args.inputs.now in
+    let i = c.args.inputs.now in
+    let p = problem_of i in
     let s = c.args.self.now in
     let k = c.args.visits in
     let v = c.visited-vector.result in
@@ -24,56 +27,95 @@ returns-in_default-clause-state c =
     record {
       start_is = c.requires.state.start_is;
       start_inside = c.requires.state.start_inside;
-      going = refused_visit p (inputs_problem c.args.inputs.now) k v at inside s.rows.items s.lead s.order.items s.fights s.candidates c.requires.state.going
-          (sym c.in_ok-warrior.ensures.warrior ∙ c.in_default.is);
+      capacity_is = c.requires.state.capacity_is;
+      going = refused_visit p (inputs_problem i) i.rules c.args.capacity k v at inside
+          s.rows.items s.lead s.order.items s.fights s.candidates s.copied s.cache.known c.requires.state.going
+          (subst (λ (o : Option Candidate). IfNone o (p.warrior v ≡ None)) c.in_default.is c.in_ok-entrant.ensures.none);
     }
 
-pub play_enough-requires-clause-all : goal.play_enough-requires-clause-all
-play_enough-requires-clause-all c =
-    let p = problem_of c.args.inputs.now in
-    let s = c.args.self.now in
-    let k = c.args.visits in
-    let v = c.visited-vector.result in
-    let at : v ≡ visit p.start k = c.visited-vector.ensures ∙ ap (λ n. visit n k) c.requires.state.start_is in
-    let inside : v < p.count = subst (λ (n : ℕ). n < p.count) (sym at) (visit_below p.start p.count k c.requires.state.start_inside c.requires.visits) in
-    ap length c.deref.ensures.value
-    ∙ order_length p s.order.items (permutes p (inputs_problem c.args.inputs.now) k v at inside s.rows.items s.lead s.order.items s.fights s.candidates c.requires.state.going)
+pub fight-requires-clause-unknown : goal.fight-requires-clause-unknown
+fight-requires-clause-unknown c =
+    let t = c.deref.result.now in
+    let known = c.args.self.now.cache.known in
+    let none : lookup (same_text t) known ≡ None = sym c.in_default-recall.ensures.value in
+    ap (λ l. lookup (same_text l) c.recall.new.self.known) (sym c.deref.ensures.value)
+    ∙ ap (λ (m : CacheView). lookup (same_text t) m.known) c.in_default-recall.ensures.known
+    ∙ ap (lookup (same_text t)) (promoted_none (same_text t) known none) ∙ none
 
-pub play_enough-requires-clause-below : goal.play_enough-requires-clause-below
-play_enough-requires-clause-below c =
-    let p = problem_of c.args.inputs.now in
+pub fight-requires-clause-state : goal.fight-requires-clause-state
+fight-requires-clause-state c =
+    let i = c.args.inputs.now in
+    let p = problem_of i in
+    let s = c.args.self.now in
+    let t = c.deref.result.now in
+    let none : lookup (same_text t) s.cache.known ≡ None = sym c.in_default-recall.ensures.value in
+    let same : c.recall.new.self ≡ s.cache =
+    c.in_default-recall.ensures.known ∙ ap (λ l. cache_view l s.cache.capacity) (promoted_none (same_text t) s.cache.known none) in
+    record {
+      start_is = c.requires.state.start_is;
+      start_inside = c.requires.state.start_inside;
+      capacity_is = ap (λ (m : CacheView). m.capacity) same ∙ c.requires.state.capacity_is;
+      going = subst (λ (m : CacheView). IsUnderWay p i.rules c.args.capacity c.args.visits s.rows.items s.lead s.order.items s.fights s.candidates s.copied m.known) (sym same) c.requires.state.going;
+    }
+
+pub returns-then-copies-clause-state : goal.returns-then-copies-clause-state
+returns-then-copies-clause-state c =
+    let i = c.args.inputs.now in
+    let p = problem_of i in
     let s = c.args.self.now in
     let k = c.args.visits in
     let v = c.visited-vector.result in
+    let u = c.in-Some-recall.other in
+    let e = c.in-Some.entrant in
+    let is : IsCandidateAt i c.visited-vector.result e = subst (λ (o : Option Candidate). IfSome o (IsCandidateAt i c.visited-vector.result)) c.in-Some.is c.in_ok-entrant.ensures.some in
     let at : v ≡ visit p.start k = c.visited-vector.ensures ∙ ap (λ n. visit n k) c.requires.state.start_is in
     let inside : v < p.count = subst (λ (n : ℕ). n < p.count) (sym at) (visit_below p.start p.count k c.requires.state.start_inside c.requires.visits) in
-    subst (λ (l : List ℕ). All (λ k. k < p.fights) l) (sym c.deref.ensures.value)
-    (order_below p s.order.items (permutes p (inputs_problem c.args.inputs.now) k v at inside s.rows.items s.lead s.order.items s.fights s.candidates c.requires.state.going))
+    let text : c.deref.result.now ≡ load_text i.rules.core e.warrior = c.deref.ensures.value ∙ is.text_is in
+    let look : lookup (same_text (load_text i.rules.core e.warrior)) s.cache.known ≡ Some u = ap (λ t. lookup (same_text t) s.cache.known) (sym text) ∙ sym c.in-Some-recall.ensures.value in
+    let row = c.in_ok-row.row in
+    let row_of : row ≡ get_or s.rows.items u row = c.in_ok-row.ensures ∙ c.index.ensures ∙ ap (λ d. get_or s.rows.items u d) (sym c.in_ok-row.ensures) in
+    let apart : copies p.start u v s.lead ≡ true = ap (λ n. copies n u v s.lead) (sym c.requires.state.start_is) ∙ sym c.copies.ensures ∙ c.if-copies.true in
+    record {
+      start_is = c.requires.state.start_is;
+      start_inside = c.requires.state.start_inside;
+      capacity_is = ap (λ (m : CacheView). m.capacity) c.in-Some-recall.ensures.known ∙ c.requires.state.capacity_is;
+      going = under_way_along p i.rules c.args.capacity (k + 1) _ _ _ _ _ _ _ _ _ _ _ _
+          (copied_visit p (inputs_problem i) i.rules c.args.capacity k v at inside
+          s.rows.items s.lead s.order.items s.fights s.candidates s.copied s.cache.known c.requires.state.going
+          e.warrior is.warrior_is is.rules_hold is.is_warrior is.fits u look row row_of apart)
+          refl
+          (sym c.take_lead-self.ensures)
+          refl
+          refl
+          (ap (λ t. promoted (same_text t) s.cache.known) (sym text) ∙ sym (ap (λ (m : CacheView). m.known) c.in-Some-recall.ensures.known));
+    }
 
 pub returns-clause-state : goal.returns-clause-state
 returns-clause-state c =
-    let p = problem_of c.args.inputs.now in
+    let i = c.args.inputs.now in
+    let p = problem_of i in
     let s = c.args.self.now in
     let k = c.args.visits in
     let v = c.visited-vector.result in
+    let u = c.in-Some-recall.other in
+    let e = c.in-Some.entrant in
+    let is : IsCandidateAt i c.visited-vector.result e = subst (λ (o : Option Candidate). IfSome o (IsCandidateAt i c.visited-vector.result)) c.in-Some.is c.in_ok-entrant.ensures.some in
     let at : v ≡ visit p.start k = c.visited-vector.ensures ∙ ap (λ n. visit n k) c.requires.state.start_is in
     let inside : v < p.count = subst (λ (n : ℕ). n < p.count) (sym at) (visit_below p.start p.count k c.requires.state.start_inside c.requires.visits) in
-    let w = c.in-Some.warrior in
-    let bout = c.in_ok-bout.bout in
-    let is : p.warrior v ≡ Some w = sym c.in_ok-warrior.ensures.warrior ∙ c.in-Some.is in
-    let in_order = c.deref.ensures.value in
-    let listed = c.deref-2.ensures.value in
+    let text : c.deref.result.now ≡ load_text i.rules.core e.warrior = c.deref.ensures.value ∙ is.text_is in
+    let look : lookup (same_text (load_text i.rules.core e.warrior)) s.cache.known ≡ Some u = ap (λ t. lookup (same_text t) s.cache.known) (sym text) ∙ sym c.in-Some-recall.ensures.value in
+    let apart : copies p.start u v s.lead ≡ false = ap (λ n. copies n u v s.lead) (sym c.requires.state.start_is) ∙ sym c.copies.ensures ∙ c.if-copies.false in
     record {
       start_is = c.requires.state.start_is;
       start_inside = c.requires.state.start_inside;
-      going = dropping_along p (k + 1) _ _ _ _ _ _ _ _ _
-          (fought_visit p (inputs_problem c.args.inputs.now) k v at inside s.rows.items s.lead s.order.items s.fights s.candidates c.requires.state.going
-          w is bout.listing.items bout.cap c.sort_by_index.result.items
-          (c.in_ok-bout.ensures.listing ∙ ap (λ l. played p w (take (enough p w l v s.lead) l)) in_order)
-          (c.in_ok-bout.ensures.cap ∙ ap (λ l. cap_of p w (take (enough p w l v s.lead) l)) in_order)
-          c.in_ok-bout.ensures.few c.sort_by_index.ensures.same c.sort_by_index.ensures.sorted)
-          (ap (λ (l : List (ℕ × ℕ)). slice_set s.rows.items v (Cap l)) (sym c.from_vec.ensures))
-          (sym c.next_lead-self.ensures)
-          (sym (c.in_ok-learn_order.ensures ∙ ap (λ l. if k == 0 then by_points l else s.order.items) listed))
-          (ap (λ n. s.fights + n) (sym (c.len.ensures ∙ sym c.deref-2.ensures.len ∙ ap length listed)));
+      capacity_is = ap (λ (m : CacheView). m.capacity) c.in-Some-recall.ensures.known ∙ c.requires.state.capacity_is;
+      going = under_way_along p i.rules c.args.capacity (k + 1) _ _ _ _ _ _ _ _ _ _ _ _
+          (shared_visit p (inputs_problem i) i.rules c.args.capacity k v at inside
+          s.rows.items s.lead s.order.items s.fights s.candidates s.copied s.cache.known c.requires.state.going
+          e.warrior is.warrior_is is.rules_hold is.is_warrior is.fits u look apart)
+          refl
+          refl
+          refl
+          refl
+          (ap (λ t. promoted (same_text t) s.cache.known) (sym text) ∙ sym (ap (λ (m : CacheView). m.known) c.in-Some-recall.ensures.known));
     }

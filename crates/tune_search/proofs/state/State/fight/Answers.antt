@@ -1,0 +1,77 @@
+use Rattle.std.proofs.Common.{◌≡◌, ◌+◌, ◌==◌, ◌<◌, ◌∙◌, ◌∷◌, if◌then◌else◌, ap, sym, refl, subst, length, List, ℕ, All, take}
+use Rattle.std.specs.List.{slice_set}
+use Rattle.tune_cert.specs.Problem.{problem_of}
+use Rattle.tune_cert.specs.Optimum.{cap_of}
+use Rattle.tune_cert.specs.declared.cert.Row.TheVariants.{Cap}
+use Rattle.tune_cert.proofs.Scores.{inputs_problem}
+use Rattle.tune_search.specs.Plays.{played}
+use Rattle.tune_search.specs.Order.{by_points, enough}
+use Rattle.tune_search.specs.Visits.{visit}
+use Rattle.tune_search.specs.State.{next_lead}
+use Rattle.tune_search.specs.Cache.{CacheView}
+use Rattle.tune_search.proofs.Places.{visit_below}
+use Rattle.tune_search.proofs.Totals.{order_length}
+use Rattle.tune_search.proofs.ListedFights.{order_below}
+use Rattle.tune_search.proofs.Visiting.{fought_visit, permutes, under_way_along}
+use Rattle.tune_search.proofs.state.State.fight.Goals as goal
+
+pub play_enough-requires-clause-all : goal.play_enough-requires-clause-all
+play_enough-requires-clause-all c =
+    let i = c.args.inputs.now in
+    let p = problem_of i in
+    let s = c.args.self.now in
+    let k = c.args.visits in
+    let v = visit p.start k in
+    let inside : v < p.count = visit_below p.start p.count k c.requires.state.start_inside c.requires.visits in
+    ap length c.deref.ensures.value
+    ∙ order_length p s.order.items (permutes p (inputs_problem i) i.rules c.args.capacity k v refl inside
+    s.rows.items s.lead s.order.items s.fights s.candidates s.copied s.cache.known c.requires.state.going)
+
+pub play_enough-requires-clause-below : goal.play_enough-requires-clause-below
+play_enough-requires-clause-below c =
+    let i = c.args.inputs.now in
+    let p = problem_of i in
+    let s = c.args.self.now in
+    let k = c.args.visits in
+    let v = visit p.start k in
+    let inside : v < p.count = visit_below p.start p.count k c.requires.state.start_inside c.requires.visits in
+    subst (λ (l : List ℕ). All (λ k. k < p.fights) l) (sym c.deref.ensures.value)
+    (order_below p s.order.items (permutes p (inputs_problem i) i.rules c.args.capacity k v refl inside
+    s.rows.items s.lead s.order.items s.fights s.candidates s.copied s.cache.known c.requires.state.going))
+
+pub returns-clause-state : goal.returns-clause-state
+returns-clause-state c =
+    let i = c.args.inputs.now in
+    let p = problem_of i in
+    let s = c.args.self.now in
+    let k = c.args.visits in
+    let v = visit p.start k in
+    let e = c.args.entrant in
+    let is = c.requires.candidate in
+    let inside : v < p.count = visit_below p.start p.count k c.requires.state.start_inside c.requires.visits in
+    let bout = c.in_ok-bout.bout in
+    let in_order = c.deref.ensures.value in
+    let listed = c.deref-2.ensures.value in
+    let own : e.vector ≡ v = is.vector_is in
+    record {
+      start_is = c.requires.state.start_is;
+      start_inside = c.requires.state.start_inside;
+      capacity_is = ap (λ (m : CacheView). m.capacity) c.in_ok-remember.ensures ∙ c.requires.state.capacity_is;
+      going = under_way_along p i.rules c.args.capacity (k + 1) _ _ _ _ _ _ _ _ _ _ _ _
+          (fought_visit p (inputs_problem i) i.rules c.args.capacity k v refl inside
+          s.rows.items s.lead s.order.items s.fights s.candidates s.copied s.cache.known c.requires.state.going
+          e.warrior is.warrior_is bout.listing.items bout.cap c.sort_by_index.result.items
+          (c.in_ok-bout.ensures.listing ∙ ap (λ l. played p e.warrior (take (enough p e.warrior l e.vector s.lead) l)) in_order
+          ∙ ap (λ n. played p e.warrior (take (enough p e.warrior s.order.items n s.lead) s.order.items)) own)
+          (c.in_ok-bout.ensures.cap ∙ ap (λ l. cap_of p e.warrior (take (enough p e.warrior l e.vector s.lead) l)) in_order
+          ∙ ap (λ n. cap_of p e.warrior (take (enough p e.warrior s.order.items n s.lead) s.order.items)) own)
+          c.in_ok-bout.ensures.few c.sort_by_index.ensures.same c.sort_by_index.ensures.sorted
+          e.text.items is.text_is is.rules_hold is.is_warrior is.fits c.requires.unknown)
+          (ap (λ n. slice_set s.rows.items n (Cap c.sort_by_index.result.items)) (sym own) ∙ ap (λ (l : List (ℕ × ℕ)). slice_set s.rows.items e.vector (Cap l)) (sym c.from_vec.ensures))
+          (ap (λ n. next_lead bout.cap n s.lead) (sym own) ∙ sym c.next_lead-self.ensures)
+          (sym (c.in_ok-learn_order.ensures ∙ ap (λ l. if k == 0 then by_points l else s.order.items) listed))
+          (ap (λ n. s.fights + n) (sym (c.len.ensures ∙ sym c.deref-2.ensures.len ∙ ap length listed)))
+          (ap (λ n. take c.args.capacity ((e.text.items, n) ∷ s.cache.known)) (sym own)
+          ∙ ap (λ n. take n ((e.text.items, e.vector) ∷ s.cache.known)) (sym c.requires.state.capacity_is)
+          ∙ sym (ap (λ (m : CacheView). m.known) c.in_ok-remember.ensures));
+    }

@@ -1,0 +1,15 @@
+-- What contracts see of a cache of load files.
+use Rattle.std.specs.Prelude.{ℕ, Bool, List, nat_eq}
+use Rattle.std.specs.Cmp.Lexicographic.{pointwise}
+
+-- Load files with the settings that were fought under them, the last used first, and how many there
+-- may be.
+pub record CacheView : Type 0 where
+  pub known : List (List ℕ × ℕ)
+  pub capacity : ℕ
+
+abbrev pub cache_view : List (List ℕ × ℕ) → ℕ → CacheView
+cache_view known capacity = record { known = known; capacity = capacity }
+
+abbrev pub same_text : List ℕ → List ℕ → Bool
+same_text a b = pointwise nat_eq a b

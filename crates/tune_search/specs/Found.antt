@@ -1,0 +1,59 @@
+-- What a search finds, and the work that it does for it.
+use Rattle.std.specs.Prelude.{◌≡◌, ◌≢◌, ℕ, ◌+◌, ◌<◌, ◌≤◌, Bool, true, false, not, ◌&&◌, ◌==◌, List, length, slice_get, Option, Some, None}
+use Rattle.std.specs.List.{count_by, range_with_len}
+use Rattle.rc_instr.specs.Warrior.{WarriorView}
+use Rattle.tune_cert.specs.Problem.{Problem}
+use Rattle.tune_cert.specs.Optimum.{IsOptimum, HasTotal, candidates_of}
+use Rattle.tune_cert.specs.Valid.{IsValid, listed_in, listed_fights}
+use Rattle.tune_cert.specs.CertText.{cert_of}
+use Rattle.tune_cert.specs.declared.cert.Found.{Found}
+use Rattle.tune_cert.specs.declared.cert.Row.{Row}
+use Rattle.tune_cert.specs.declared.cert.Row.TheVariants.{Refused, Cap}
+use Rattle.tune_search.specs.Visits.{IsFought}
+use Rattle.tune_search.specs.Sharing.{IsVisited}
+
+abbrev pub is_cap : Option Row → Bool
+is_cap (Some (Cap row)) = true
+is_cap _ = false
+
+abbrev pub is_copied : Option ℕ → ℕ → Bool
+is_copied None v = false
+is_copied (Some u) v = u == v
+
+-- Setting v was fought if its row is a cap row, and not a copied one.
+abbrev pub was_fought : Found → ℕ → Bool
+was_fought f v = is_cap (slice_get f.rows v) && not (is_copied f.copied v)
+
+-- The number of settings that were fought.
+unfoldable pub fought_count : Found → ℕ
+fought_count f = count_by (was_fought f) (range_with_len 0 (length f.rows))
+
+abbrev pub listed_at : Option Row → ℕ
+listed_at None = 0
+listed_at (Some row) = listed_in row
+
+-- The fights that the copied row lists.
+abbrev pub copied_fights : List Row → Option ℕ → ℕ
+copied_fights rows None = 0
+copied_fights rows (Some v) = listed_at (slice_get rows v)
+
+-- The answer of a search that remembers up to `capacity` settings.
+pub record IsSearch (p : Problem) (capacity : ℕ) (f : Found) : Type 0 where
+  -- the best setting is the optimum, and the rows are a valid certificate of it
+  pub optimum : IsOptimum p f.best
+  pub total_is : HasTotal p f.best f.total
+  pub valid : IsValid p (cert_of f)
+  pub count : f.candidates ≡ candidates_of p
+  pub few : length f.rows ≤ 1000000
+  -- a setting that does not assemble has the row `Refused`
+  pub refused : (v : ℕ) → v < p.count → p.warrior v ≡ None → slice_get f.rows v ≡ Some Refused
+  -- the fights of a fought setting are the first ones of its order, exactly as many as are enough
+  pub fought : (v : ℕ) (w : WarriorView) → v < p.count → p.warrior v ≡ Some w → was_fought f v ≡ true → IsFought p f.rows v w
+  -- a setting is fought exactly if no recent one has its warrior, and else shares the fights of
+  -- that one
+  pub shared : (v : ℕ) (w : WarriorView) → v < p.count → p.warrior v ≡ Some w → IsVisited p capacity f.rows f.copied v w
+  -- a copied row is that of a setting that assembles; `shared` says of which one
+  pub copied : (v : ℕ) → f.copied ≡ Some v → (v < p.count) × (p.warrior v ≢ None)
+  -- the fights played are those of the fought settings: all that the rows list, the copied row
+  -- aside
+  pub work : f.fights + copied_fights f.rows f.copied ≡ listed_fights f.rows

@@ -1,0 +1,44 @@
+-- Which settings are fought, and what the others share.
+use Rattle.std.specs.Prelude.{◌≡◌, ◌≢◌, ℕ, ◌<◌, ◌⊎◌, Bool, true, false, ◌&&◌, nat_lt, ◌==◌, List, slice_get, Option, Some, None}
+use Rattle.rc_instr.specs.Warrior.{WarriorView}
+use Rattle.tune_cert.specs.Problem.{Problem}
+use Rattle.tune_cert.specs.declared.cert.Row.{Row}
+use Rattle.tune_cert.specs.declared.cert.Row.TheVariants.{Refused, Same}
+use Rattle.tune_search.specs.Visits.{place, IsLeadAfter, IsFought}
+use Rattle.tune_search.specs.Recent.{NoneHas, Has, IsRecent}
+use Rattle.tune_search.specs.declared.lead.Lead.{Lead}
+
+abbrev pub leads : ℕ → Option Lead → Bool
+leads v None = false
+leads v (Some lead) = lead.vector == v
+
+-- Setting v copies the row of u if u is the start setting and the lead, and v comes before it: then
+-- v is the better one.
+abbrev pub copies : ℕ → ℕ → ℕ → Option Lead → Bool
+copies start u v lead = (u == start) && leads u lead && nat_lt v u
+
+-- Setting v has a copy of the row of u, and is the one that is `copied`; or it refers to u.
+abbrev pub HasRowOf : List Row → Option ℕ → ℕ → ℕ → Bool → Type 0
+HasRowOf rows copied u v true = (copied ≡ Some v) × (slice_get rows v ≡ slice_get rows u)
+HasRowOf rows copied u v false = (copied ≢ Some v) × (slice_get rows v ≡ Some (Same u))
+
+-- Setting v shares the fights of u, which was fought before.
+pub record Shares (p : Problem) (rows : List Row) (copied : Option ℕ) (u v : ℕ) (w : WarriorView) : Type 0 where
+  pub fought : IsFought p rows u w
+  pub before : place p.start u < place p.start v
+  pub lead : Option Lead
+  pub is_lead : IsLeadAfter p (place p.start v) lead
+  pub row : HasRowOf rows copied u v (copies p.start u v lead)
+
+-- Setting v is fought exactly if none of the recent settings before it has its warrior. Else it
+-- shares the fights of the one that has it.
+pub record IsVisited (p : Problem) (capacity : ℕ) (rows : List Row) (copied : Option ℕ) (v : ℕ) (w : WarriorView) : Type 0 where
+  pub recent : List ℕ
+  pub is_recent : IsRecent p capacity (place p.start v) recent
+  pub row : (NoneHas p w recent × (copied ≢ Some v) × IsFought p rows v w)
+      ⊎ ((u : ℕ) × Has p w u recent × Shares p rows copied u v w)
+
+-- The row of setting v: refused if it does not assemble, else what its visit made.
+abbrev pub IsExplained : Problem → ℕ → List Row → Option ℕ → ℕ → Option WarriorView → Type 0
+IsExplained p capacity rows copied v None = (copied ≢ Some v) × (slice_get rows v ≡ Some Refused)
+IsExplained p capacity rows copied v (Some w) = IsVisited p capacity rows copied v w

@@ -1,0 +1,42 @@
+//! Settings that assemble.
+ghost use Rattle.std.specs.Prelude.{◌≡◌, ◌<◌, None, IfOk, IfErr, IfSome, IfNone};
+ghost use Rattle.tune_cert.specs.Problem.{problem_of};
+ghost use Rattle.tune_search.specs.State.{IsCandidateAt};
+
+use crate::fault::SearchFault;
+use rc_instr::{Warrior, write_loadfile};
+use std::alloc::Global;
+use tune_cert::setting_warrior;
+use tune_template::Inputs;
+
+// A setting that assembles, its warrior, and the load file of that.
+#[derive(Drop)]
+pub(crate) struct Candidate {
+    pub(crate) vector: u32,
+    pub(crate) warrior: Warrior,
+    pub(crate) text: Vec<u8>,
+}
+
+// Assembles setting `vector`. Returns `None` if it does not assemble.
+pub(crate) fn candidate_at(
+    alloc: Global,
+    inputs: &Inputs,
+    vector: u32,
+) -> Result<Option<Candidate>, SearchFault>
+    requires inside { vector < (problem_of inputs.now).count }
+    ensures some { IfOk result (λ o. IfSome o (IsCandidateAt inputs.now vector)) }
+    ensures none { IfOk result (λ o. IfNone o ((problem_of inputs.now).warrior vector ≡ None)) }
+    ensures err { IfErr result (λ e. e ≡ SearchFault.OutOfMemory) }
+{
+    let Some(warrior) = setting_warrior(alloc, inputs, vector)? else {
+        return Ok(None);
+    };
+    prove!(0 < inputs.rules().core());
+    let mut text = Vec::new(alloc);
+    write_loadfile(alloc, &warrior, inputs.rules(), &mut text)?;
+    Ok(Some(Candidate {
+        vector,
+        warrior,
+        text,
+    }))
+}

@@ -1,0 +1,23 @@
+//! Laws of the search. A law is a function with an empty body: its contract is what is proved.
+ghost use Rattle.std.specs.Prelude.{◌≡◌, ◌<◌, ◌≤◌, ℕ, List, Option, Some, true};
+ghost use Rattle.rc_instr.specs.Warrior.{WarriorView};
+ghost use Rattle.tune_cert.specs.Problem.{Problem};
+ghost use Rattle.tune_search.specs.Visits.{IsLeadAfter};
+ghost use Rattle.tune_search.specs.Recent.{IsRecent};
+ghost use Rattle.tune_search.specs.Found.{IsSearch, was_fought, fought_count};
+
+use crate::lead::Lead;
+use tune_cert::Found;
+
+/// States that after any number of visits there is one lead, and one list of recent settings.
+pub fn visits_determine_the_rest()
+    ensures lead { (p : Problem) (k : ℕ) (a b : Option Lead) → IsLeadAfter p k a → IsLeadAfter p k b → a ≡ b }
+    ensures recent { (p : Problem) (capacity k : ℕ) (us vs : List ℕ) → IsRecent p capacity k us → IsRecent p capacity k vs → us ≡ vs }
+{}
+
+/// States that no two settings that were fought have equal warriors, if the search may remember as
+/// many as were fought. The start setting must be one of the settings, as it is for all inputs.
+pub fn fought_settings_differ()
+    ensures { (p : Problem) (capacity : ℕ) (f : Found) (v u : ℕ) (w : WarriorView) → IsSearch p capacity f → p.start < p.count → fought_count f ≤ capacity
+        → v < p.count → u < p.count → p.warrior v ≡ Some w → p.warrior u ≡ Some w → was_fought f v ≡ true → was_fought f u ≡ true → v ≡ u }
+{}
