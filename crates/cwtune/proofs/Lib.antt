@@ -4,4 +4,7 @@ pub mod Refusals
 pub mod Words
 pub mod Opponents
 pub mod Constants
+pub mod Meaning
 pub mod Tunings
+pub mod Writable
+pub mod Certified

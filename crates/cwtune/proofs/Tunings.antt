@@ -9,6 +9,7 @@ use Rattle.tune_cert.specs.Problem.{problem_of}
 use Rattle.tune_cert.specs.Optimum.{IsCandidate}
 use Rattle.cwtune.specs.TuneRun.{Texts, IsTemplate, AreOpponents, Means, HasNoCandidate, IsTemplateRefusal, AreRefused, HasNoFights, IsTuneRefusal}
 use Rattle.cwtune.specs.declared.fault.RunFault.{RunFault}
+use Rattle.cwtune.proofs.Meaning.{template_one}
 use Rattle.cwtune.specs.declared.fault.RunFault.TheVariants.{FightText, Rules, Load, Position, Asm, TooManyOpponents, Template, Opponent, Schedule, NoCandidate, Write, OutOfMemory}
 
 pub template_refused : (e : RunFault) (t : Texts) → length t.opponents ≤ 64 → IsTemplateRefusal e t.template → IsTuneRefusal e t
@@ -62,12 +63,6 @@ opponent_assembles rules [] ws k text are at = absurd (cc)
 opponent_assembles rules (x ∷ xs) [] k text are at = absurd are
 opponent_assembles rules (x ∷ xs) (w ∷ ws) zero text are at = let e : x ≡ text = cc in (w, subst (λ y. Assembles y [] rules w) e are.0)
 opponent_assembles rules (x ∷ xs) (w ∷ ws) (suc k) text are at = opponent_assembles rules xs ws k text are.1 at
-
--- a text is one template
-template_one : (text : List ℕ) (a b : TemplateView) → IsTemplate text a → IsTemplate text b → a ≡ b
-template_one text a b p q =
-    let ranges_same : a.ranges ≡ b.ranges = cc in
-    ap (λ x. record { text = x; ranges = a.ranges }) (p.0 ∙ sym q.0) ∙ ap (λ y. record { text = b.text; ranges = y }) ranges_same
 
 -- no other inputs have a candidate, where these have none
 no_candidate : (t : Texts) (i j : InputsView) (v : ℕ) → Means t i → Means t j → HasNoCandidate j → v < (problem_of i).count → IsCandidate (problem_of i) v → ⊥

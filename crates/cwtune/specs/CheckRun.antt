@@ -6,7 +6,8 @@ use Rattle.mars_fight.specs.Records.{Fields, records_of}
 use Rattle.tune_template.specs.Instances.{InputsView}
 use Rattle.tune_cert.specs.Problem.{Problem, problem_of}
 use Rattle.tune_cert.specs.Spelling.{Spells}
-use Rattle.tune_cert.specs.Verdict.{IsValidCert, IsVerdict, IsFirst}
+use Rattle.tune_cert.specs.Valid.{IsValid}
+use Rattle.tune_cert.specs.Verdict.{IsVerdict, IsFirst}
 use Rattle.tune_cert.specs.declared.cert.Cert.{Cert}
 use Rattle.tune_cert.specs.declared.verdict.Reason.{Reason}
 use Rattle.tune_cert.specs.declared.verdict.Reason.TheVariants.{Malformed, RowCount, BestRow, WrongPoints, RepeatedFight, CapTooHigh, NotSame, NotRefused}
@@ -37,7 +38,7 @@ accepts (Rejected row reason) = false
 -- a valid certificate is accepted.
 abbrev pub IsRightVerdict : Problem → List Fields → Verdict → Type 0
 IsRightVerdict p records verdict =
-    IsVerdict p records verdict × IsFirst p records verdict × ((c : Cert) → Spells records c → IsValidCert p c → verdict ≡ Accepted c.best c.total)
+    IsVerdict p records verdict × IsFirst p records verdict × ((c : Cert) → Spells records c → IsValid p c → verdict ≡ Accepted c.best c.total)
 
 -- The line of the right verdict on the bytes was written; `accepted` says whether it accepts.
 abbrev pub WritesVerdict : Texts → List ℕ → Bool → Option (List ℕ) → Option (List ℕ) → Type 0

@@ -4,9 +4,8 @@ use Rattle.std.specs.Fmt.{decimal, signed_decimal}
 use Rattle.rc_expand.specs.Names.{Table}
 use Rattle.tune_template.specs.Instances.{InputsView, constants_of}
 use Rattle.tune_cert.specs.Problem.{problem_of}
-use Rattle.tune_cert.specs.Optimum.{candidates_of}
-use Rattle.tune_cert.specs.Valid.{listed_fights}
-use Rattle.tune_cert.specs.declared.cert.Cert.{Cert}
+use Rattle.tune_cert.specs.Optimum.{greatest_of, candidates_of}
+use Rattle.tune_cert.specs.declared.cert.Found.{Found}
 
 -- What a report says.
 pub record Report : Type 0 where
@@ -56,16 +55,15 @@ report_text r =
     ++ share_line (codes "total ") r.total r.most
     ++ share_line (codes "fights ") r.fights r.all_fights
 
--- The report that goes with a certificate, whose best setting gives the constants these values. The
--- fights played are those that the certificate lists.
-abbrev pub report_for : InputsView → Cert → List ℤ → Report
-report_for i c values = record {
+-- The report of what a search found. The best setting gives the constants these values.
+abbrev pub report_for : InputsView → Found → List ℤ → Report
+report_for i f values = record {
   vectors = (problem_of i).count;
   candidates = candidates_of (problem_of i);
-  best = c.best;
+  best = f.best;
   constants = constants_of i.template.ranges.names values;
-  total = c.total;
-  most = 3 * length i.schedule;
-  fights = listed_fights c.rows;
+  total = f.total;
+  most = greatest_of (problem_of i);
+  fights = f.fights;
   all_fights = candidates_of (problem_of i) * length i.schedule;
 }

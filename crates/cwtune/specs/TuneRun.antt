@@ -14,10 +14,9 @@ use Rattle.tune_template.specs.Ranges.{ranges_of, HasRanges}
 use Rattle.tune_template.specs.Vectors.{vectors_of}
 use Rattle.tune_template.specs.Instances.{TemplateView, InputsView}
 use Rattle.tune_cert.specs.Problem.{problem_of}
-use Rattle.tune_cert.specs.Optimum.{IsOptimum, HasTotal}
-use Rattle.tune_cert.specs.CertText.{cert_text}
-use Rattle.tune_cert.specs.Verdict.{IsValidCert}
-use Rattle.tune_cert.specs.declared.cert.Cert.{Cert}
+use Rattle.tune_cert.specs.CertText.{cert_text, cert_of}
+use Rattle.tune_cert.specs.declared.cert.Found.{Found}
+use Rattle.tune_search.specs.Found.{IsSearch}
 use Rattle.cwtune.specs.AsmRun.{IsAsmRefusal}
 use Rattle.cwtune.specs.Report.{report_text, report_for}
 use Rattle.cwtune.specs.declared.fault.RunFault.{RunFault}
@@ -100,10 +99,14 @@ IsTuneRefusal NoCandidate t = (i : InputsView) × Means t i × HasNoCandidate i
 IsTuneRefusal OutOfMemory t = Unit {0}
 IsTuneRefusal _ t = ⊥
 
--- A valid certificate was written, and the report of its best setting. That setting is the optimum:
--- the first, in order, of those with the greatest total among all that assemble.
-abbrev pub WritesTuning : Texts → Option (List ℕ) → Option (List ℕ) → Option (List ℕ) → Option (List ℕ) → Type 0
-WritesTuning t report_old report_new cert_old cert_new =
-    (i : InputsView) × (c : Cert) × (values : List ℤ) × Means t i × IsOptimum (problem_of i) c.best × HasTotal (problem_of i) c.best c.total
-    × IsValidCert (problem_of i) c × (slice_get (vectors_of i.template.ranges.spans) c.best ≡ Some values)
-    × Appends cert_old cert_new (cert_text c) × Appends report_old report_new (report_text (report_for i c values))
+-- What a tuning finds: the inputs that the texts mean, the answer of a search for them that
+-- remembers up to `capacity` settings, and the values that its best setting gives the constants.
+abbrev pub IsTuning : Texts → ℕ → InputsView → Found → List ℤ → Type 0
+IsTuning t capacity i f values =
+    Means t i × IsSearch (problem_of i) capacity f × (slice_get (vectors_of i.template.ranges.spans) f.best ≡ Some values)
+
+-- The certificate and the report of what the tuning finds were written.
+abbrev pub WritesTuning : Texts → ℕ → Option (List ℕ) → Option (List ℕ) → Option (List ℕ) → Option (List ℕ) → Type 0
+WritesTuning t capacity report_old report_new cert_old cert_new =
+    (i : InputsView) × (f : Found) × (values : List ℤ) × IsTuning t capacity i f values
+    × Appends cert_old cert_new (cert_text (cert_of f)) × Appends report_old report_new (report_text (report_for i f values))

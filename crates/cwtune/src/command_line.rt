@@ -27,7 +27,7 @@ pub(crate) enum Request<'a> {
     Fight,
     // Assembles a file.
     Asm { rules: RawRules, file: &'a str },
-    // Tunes a template; the search may remember `capacity` warriors.
+    // Tunes a template; the search may remember `capacity` settings.
     Tune { words: TuneWords<'a>, capacity: u32 },
     // Checks a certificate of a tuning.
     Check(TuneWords<'a>),
@@ -170,7 +170,9 @@ fn tune<'a>(alloc: Global) -> Result<Command<'a>, AllocError> {
         .value_name("NUMBER")
         .action(ArgAction::Set)
         .value_parser(value_parser!(u32).range(1..65_537))
-        .help("Most warriors to remember, 1 to 65536; has no effect yet [default: 4096]");
+        .help(
+            "Settings to remember, so that equal warriors share fights, 1 to 65536 [default: 4096]",
+        );
     let command = Command::new(alloc, "tune")
         .about(
             "Find the best setting of a template, write its certificate to CERT, and print a report",

@@ -8,6 +8,7 @@ mod fault;
 mod fault_line;
 mod fight_text;
 mod inputs;
+pub mod laws;
 mod lines;
 pub mod program;
 mod raw_rules;

@@ -4,14 +4,12 @@ ghost use Rattle.tune_template.specs.Instances.{constants_of};
 ghost use Rattle.tune_template.specs.Vectors.{vectors_of};
 ghost use Rattle.tune_cert.specs.Problem.{problem_of};
 ghost use Rattle.tune_cert.specs.Optimum.{candidates_of};
-ghost use Rattle.tune_cert.specs.Valid.{listed_fights};
-ghost use Rattle.tune_cert.specs.CertText.{cert_of};
 ghost use Rattle.cwtune.specs.Report.{number_line, share_line, constant_text, constants_text, constants_or_none, constants_line, report_text, report_for};
 
 use itoa::Buffer;
 use rc_instr::OutOfMemory;
 use std::alloc::Global;
-use tune_cert::Found;
+use tune_cert::{Found, greatest_total};
 use tune_template::Inputs;
 
 // Makes the report of what a search found.
@@ -23,9 +21,8 @@ pub(crate) fn report_of(
 ) -> Result<Vec<u8>, OutOfMemory>
     requires inside { found.now.best < (problem_of inputs.now).count }
     requires candidates { found.now.candidates ≡ candidates_of (problem_of inputs.now) }
-    requires fights { found.now.fights ≡ listed_fights found.now.rows }
     ensures { IfOk result (λ text. (values : List ℤ) × (slice_get (vectors_of inputs.now.template.ranges.spans) found.now.best ≡ Some values)
-        × (text.items ≡ report_text (report_for inputs.now (cert_of found.now) values))) }
+        × (text.items ≡ report_text (report_for inputs.now found.now values))) }
 {
     let template = inputs.template();
     let fights = inputs.schedule().fights().len() as u64;
@@ -35,7 +32,12 @@ pub(crate) fn report_of(
     add_number(&mut text, b"candidates ", found.candidates)?;
     add_number(&mut text, b"best ", found.best)?;
     add_constants(&mut text, template.names(), values.as_slice())?;
-    add_share(&mut text, b"total ", found.total as u64, 3 * fights)?;
+    add_share(
+        &mut text,
+        b"total ",
+        found.total as u64,
+        greatest_total(inputs) as u64,
+    )?;
     add_share(
         &mut text,
         b"fights ",

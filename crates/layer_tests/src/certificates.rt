@@ -9,8 +9,8 @@ use std::io;
 use std::io::Write;
 use std::test::Fail;
 use tune_cert::{
-    CertFault, CheckFault, Found, Listing, ReadFault, Reason, Row, Rows, Verdict, check, read_cert,
-    write_cert,
+    CertFault, CheckFault, Found, Listing, MOST_POINTS, ReadFault, Reason, Row, Rows, Verdict,
+    check, greatest_total, read_cert, write_cert,
 };
 use tune_template::{Inputs, Template};
 
@@ -102,12 +102,36 @@ fn lists_are_handed_back(rt: HostRuntime) -> Result<(), Fail> {
 }
 
 #[test]
+fn rows_are_copied(rt: HostRuntime) -> Result<(), Fail> {
+    let rows = five_rows(rt.alloc())?.rows.into_vec();
+    let mut copies = Vec::new(rt.alloc());
+    for row in rows.as_slice() {
+        copies.push(row.copy(rt.alloc())?)?;
+    }
+    match copies.as_slice() {
+        [
+            Row::Refused,
+            Row::Cap(falling),
+            Row::Cap(_),
+            Row::Cap(_),
+            Row::Same(of),
+        ] => {
+            assert_eq!(rt; falling.as_slice(), [(10, 0), (4, 3)].as_slice());
+            assert_eq!(rt; *of, 4_294_967_295);
+        }
+        _ => assert!(rt; false, "the rows are of other kinds"),
+    }
+    Ok(())
+}
+
+#[test]
 fn a_certificate_is_accepted_or_rejected(rt: HostRuntime) -> Result<(), Fail> {
     let rules = Rules::try_new(16, 20, 4, 4, 4)?;
     let template = Template::read(rt.alloc(), IMPS)?;
     let opponents = two_opponents(rt.alloc(), &rules)?;
     let schedule = Schedule::read(rt.alloc(), BOTH, 2, &rules)?;
     let inputs = Inputs::new(template, opponents, schedule, rules);
+    assert_eq!(rt; greatest_total(&inputs), 2 * MOST_POINTS);
     for (cert, want) in VERDICTS {
         assert_eq!(rt; check(rt.alloc(), &inputs, cert)?, want, "{cert:?}");
     }

@@ -1,4 +1,6 @@
 //! Tests of `tune_search`: small searches that were worked out by hand, and the texts of faults.
+ghost use Rattle.std.specs.Prelude.{◌≤◌};
+
 use crate::opponents::{BOTH, two_opponents};
 use mars_fight::Schedule;
 use rc_instr::Rules;
@@ -71,15 +73,51 @@ fn the_plain_search_plays_everything(rt: HostRuntime) -> Result<(), Fail> {
     Ok(())
 }
 
+// Four settings with one warrior, of which the third is the start setting. The first comes before
+// it and is the better one: it has a copy of the start setting's row. The others refer to that row.
+#[test]
+fn equal_warriors_share_their_fights(rt: HostRuntime) -> Result<(), Fail> {
+    let inputs = inputs_of(rt.alloc(), b";@tune K 0 3 1 2\nMOV 0, 1")?;
+    let found = search(rt.alloc(), &inputs, 1)?;
+    assert_eq!(rt; (found.best, found.total), (0, 4));
+    assert_eq!(rt; (found.candidates, found.fights), (4, 2));
+    assert_eq!(rt; found.copied, Some(0));
+    match found.rows.as_slice() {
+        [
+            Row::Cap(first),
+            Row::Same(second),
+            Row::Cap(third),
+            Row::Same(fourth),
+        ] => {
+            assert_eq!(rt; first.as_slice(), FIGHTS.as_slice());
+            assert_eq!(rt; third.as_slice(), FIGHTS.as_slice());
+            assert_eq!(rt; (*second, *fourth), (2, 2));
+        }
+        _ => assert!(rt; false, "the rows are of other kinds"),
+    }
+    Ok(())
+}
+
+// Checks that a search that remembers `capacity` settings finds what the plain search finds, with
+// no more fights.
+fn agrees(alloc: Global, inputs: &Inputs, capacity: u32) -> Result<bool, Fail>
+    requires { (1 ≤ capacity) × (capacity ≤ 65536) }
+{
+    let found = search(alloc, inputs, capacity)?;
+    let plain = plain_search(alloc, inputs)?;
+    Ok(
+        (found.best, found.total, found.candidates) == (plain.best, plain.total, plain.candidates)
+            && found.fights <= plain.fights,
+    )
+}
+
 #[test]
 fn both_searches_agree(rt: HostRuntime) -> Result<(), Fail> {
     for text in TEMPLATES {
         let inputs = inputs_of(rt.alloc(), text)?;
-        let found = search(rt.alloc(), &inputs, 1)?;
-        let plain = plain_search(rt.alloc(), &inputs)?;
-        assert_eq!(rt; (found.best, found.total), (plain.best, plain.total));
-        assert_eq!(rt; found.candidates, plain.candidates);
-        assert!(rt; found.fights <= plain.fights);
+        assert!(rt; agrees(rt.alloc(), &inputs, 1)?);
+        assert!(rt; agrees(rt.alloc(), &inputs, 2)?);
+        assert!(rt; agrees(rt.alloc(), &inputs, 65_536)?);
     }
     Ok(())
 }

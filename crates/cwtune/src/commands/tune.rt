@@ -26,9 +26,10 @@ use tune_search::{SearchFault, search};
 ///
 /// The optimum is the first setting with the greatest total against the opponents in the fights of
 /// the schedule. The template is a Redcode text with `;@tune` lines, each opponent a Redcode text,
-/// the schedule a table of fights. `capacity`, 1 to 65536, is the number of warriors that the
-/// search may remember. Nothing is written before both texts are made, and the certificate is
-/// written whole before the report begins. Neither outlet must have failed.
+/// the schedule a table of fights. `capacity`, 1 to 65536, is the number of settings that the
+/// search may remember, so that equal warriors share their fights. Nothing is written before both
+/// texts are made, and the certificate is written whole before the report begins. Neither outlet
+/// must have failed.
 ///
 /// # Errors
 ///
@@ -52,9 +53,9 @@ pub fn tune_run<W: Write, V: Write>(
     requires report { report.old.failed ≡ false }
     requires cert { cert.old.failed ≡ false }
 
-    // What was written is a valid certificate for the inputs in the texts, and the report of its
-    // best setting, which is the optimum.
-    ensures tuning { OnOk result (WritesTuning (texts template.now (map (λ o. o.items) opponents.now) schedule.now rules.now)
+    // What was written is the certificate of what a search finds for the inputs in the texts, which
+    // is valid, and the report of the best setting, which is the optimum.
+    ensures tuning { OnOk result (WritesTuning (texts template.now (map (λ o. o.items) opponents.now) schedule.now rules.now) capacity
         report.old.bytes report.new.bytes cert.old.bytes cert.new.bytes) }
 
     // Refused texts have no meaning or no candidate, and nothing was written.
@@ -96,7 +97,7 @@ pub(crate) fn tune<F: Files, W: Write, V: Write>(
     requires capacity { (1 ≤ capacity) × (capacity ≤ 65536) }
     requires out { out.old.failed ≡ false }
     requires err { err.old.failed ≡ false }
-    ensures done { result ≡ 0 → (t : Texts) × (cert : Option (List ℕ)) × (written : Option (List ℕ)) × WritesTuning t out.old.bytes out.new.bytes cert written }
+    ensures done { result ≡ 0 → (t : Texts) × (cert : Option (List ℕ)) × (written : Option (List ℕ)) × WritesTuning t capacity out.old.bytes out.new.bytes cert written }
     ensures refused { result ≡ 1 → out.new ≡ out.old }
     ensures failed { IsTrue out.new.failed → result ≡ 3 }
     ensures status { (result ≤ 3) × (result ≢ 2) }

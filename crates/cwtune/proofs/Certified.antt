@@ -1,0 +1,47 @@
+-- What a tuning wrote is accepted, and what is accepted names what the tuning found.
+use Rattle.std.proofs.Common.{◌≡◌, ℕ, ℤ, List, Option, true, sym, ◌∙◌, ap, subst}
+use Rattle.std.specs.Io.KnownBytes.{Appends}
+use Rattle.mars_fight.specs.Records.{Fields, records_of}
+use Rattle.tune_template.specs.Instances.{InputsView}
+use Rattle.tune_cert.specs.Problem.{Problem, IsProblem, problem_of}
+use Rattle.tune_cert.specs.CertText.{cert_text, cert_of}
+use Rattle.tune_cert.specs.Spelling.{Spells}
+use Rattle.tune_cert.specs.Verdict.{IsVerdict}
+use Rattle.tune_cert.specs.declared.cert.Found.{Found}
+use Rattle.tune_cert.specs.declared.verdict.Verdict.{Verdict}
+use Rattle.tune_cert.specs.declared.verdict.Verdict.TheVariants.{Accepted, Rejected}
+use Rattle.tune_cert.proofs.Certificates.{valid_is_optimum, valid_total, optimum_one, total_one}
+use Rattle.tune_cert.proofs.Scores.{inputs_problem}
+use Rattle.tune_cert.proofs.WrittenBack.{written}
+use Rattle.tune_search.specs.Found.{IsSearch}
+use Rattle.cwtune.specs.Report.{report_text, report_for}
+use Rattle.cwtune.specs.TuneRun.{Texts, Means, IsTuning, WritesTuning}
+use Rattle.cwtune.specs.CheckRun.{accepts, check_line, IsRightVerdict, WritesVerdict}
+use Rattle.cwtune.proofs.Meaning.{one_meaning}
+use Rattle.cwtune.proofs.Writable.{few_fights, writable}
+
+pub spelled : (t : Texts) (capacity : ℕ) (i : InputsView) (f : Found) → Means t i → IsSearch (problem_of i) capacity f → Spells (records_of (cert_text (cert_of f))) (cert_of f)
+spelled t capacity i f m s = written (cert_of f) (writable (problem_of i) (inputs_problem i) (few_fights _ _ _ i.schedule m.schedule) capacity f s)
+
+pub accepted : (t : Texts) (capacity : ℕ) (i : InputsView) (f : Found) (v : Verdict) → Means t i → IsSearch (problem_of i) capacity f →
+    IsRightVerdict (problem_of i) (records_of (cert_text (cert_of f))) v → v ≡ Accepted f.best f.total
+accepted t capacity i f v m s right = right.2 (cert_of f) (spelled t capacity i f m s) s.valid
+
+-- a verdict that accepts names the optimum
+named : (p : Problem) → IsProblem p → (capacity : ℕ) (f : Found) (records : List Fields) (v : Verdict) → IsSearch p capacity f → accepts v ≡ true → IsVerdict p records v →
+    v ≡ Accepted f.best f.total
+named p laws capacity f records (Accepted best total) s e (c, spells, valid, best_is, total_is) =
+    let same : c.best ≡ f.best = optimum_one p c.best f.best (valid_is_optimum p laws c valid) s.optimum in
+    let even : c.total ≡ f.total = total_one p c.best f.best c.total f.total same (valid_total p laws c valid) s.total_is in
+    ap (λ b. Accepted b total) (best_is ∙ same) ∙ ap (λ n. Accepted f.best n) (total_is ∙ even)
+named p laws capacity f records (Rejected row reason) s e h = absurd (cc)
+
+pub certified : (t : Texts) (capacity : ℕ) (bytes : List ℕ) (report report_after cert cert_after out out_after : Option (List ℕ)) →
+    WritesTuning t capacity report report_after cert cert_after → WritesVerdict t bytes true out out_after →
+    (i : InputsView) × (f : Found) × (values : List ℤ) × IsTuning t capacity i f values
+    × Appends report report_after (report_text (report_for i f values)) × Appends out out_after (check_line (Accepted f.best f.total))
+certified t capacity bytes report report_after cert cert_after out out_after (i, f, values, tuning, wrote_cert, wrote_report) (j, v, means, right, accepted_is, wrote_line) =
+    let same : j ≡ i = one_meaning t j i means tuning.0 in
+    let here : IsVerdict (problem_of i) (records_of bytes) v = subst (λ (x : InputsView). IsVerdict (problem_of x) (records_of bytes) v) same right.0 in
+    let name : v ≡ Accepted f.best f.total = named (problem_of i) (inputs_problem i) capacity f (records_of bytes) v tuning.1 (sym accepted_is) here in
+    (i, f, values, tuning, wrote_report, subst (λ (x : Verdict). Appends out out_after (check_line x)) name wrote_line)

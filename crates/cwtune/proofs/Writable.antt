@@ -1,0 +1,78 @@
+-- What a search found can be written down as a certificate.
+use Rattle.std.proofs.Common.{◌≡◌, ℕ, suc, ◌+◌, ◌^◌, ◌<◌, ◌≤◌, arith, Bool, true, false, ◌&&◌, nat_lt, if◌then◌else◌, List, [], ◌∷◌, Option, Some, None, All, length, drop, refl, sym, subst}
+use Rattle.std.specs.Prelude.{nat_le, option_and_then}
+use Rattle.std.specs.List.{slice_get}
+use Rattle.std.proofs.lemmas.Bool.Decides.{nat_tests}
+use Rattle.std.proofs.lemmas.List.Elements.{All-nil, All-cons}
+use Rattle.rc_instr.specs.Rules.{RulesView}
+use Rattle.rc_instr.specs.Warrior.{WarriorView}
+use Rattle.mars_fight.specs.Play.{ArePoints}
+use Rattle.mars_fight.specs.Records.{records_of}
+use Rattle.mars_fight.specs.Schedule.{is_headed, fights_in, within_limit, fights_of}
+use Rattle.mars_fight.specs.declared.fight.Fight.{Fight}
+use Rattle.tune_cert.specs.Problem.{Problem, IsProblem}
+use Rattle.tune_cert.specs.Optimum.{total_of}
+use Rattle.tune_cert.specs.Valid.{IsCapRow, IsRightRow}
+use Rattle.tune_cert.specs.CertText.{cert_of}
+use Rattle.tune_cert.specs.Spelling.{IsItem, IsRow, IsCert}
+use Rattle.tune_cert.specs.declared.cert.Found.{Found}
+use Rattle.tune_cert.specs.declared.cert.Row.{Row}
+use Rattle.tune_cert.specs.declared.cert.Row.TheVariants.{Refused, Same, Cap}
+use Rattle.tune_cert.proofs.CapRows.{total_few}
+use Rattle.tune_search.specs.Found.{IsSearch}
+
+-- a schedule has at most 10000 fights
+kept : (b : Bool) (x y : List Fight) → (if b then Some x else None) ≡ Some y → (b ≡ true) × (x ≡ y)
+kept true x y e = (refl, cc)
+kept false x y e = absurd (cc)
+
+limited : (x y : List Fight) → within_limit x ≡ Some y → length y ≤ 10000
+limited x y e =
+    let k = kept (nat_lt 0 (length x) && nat_le (length x) 10000) x y e in
+    let few : length x ≤ 10000 = grind (arith, nat_tests, k.0) in
+    subst (λ (l : List Fight). length l ≤ 10000) k.1 few
+
+limited_of : (o : Option (List Fight)) (y : List Fight) → option_and_then within_limit o ≡ Some y → length y ≤ 10000
+limited_of None y e = absurd (cc)
+limited_of (Some x) y e = limited x y e
+
+headed : (b : Bool) (o : Option (List Fight)) (y : List Fight) → (if b then option_and_then within_limit o else None) ≡ Some y → length y ≤ 10000
+headed true o y e = limited_of o y e
+headed false o y e = absurd (cc)
+
+pub few_fights : (rules : RulesView) (opponents : ℕ) (bytes : List ℕ) (fights : List Fight) → fights_of rules opponents bytes ≡ Some fights → length fights ≤ 10000
+unfolding fights_of
+few_fights rules opponents bytes fights e = headed (is_headed (records_of bytes)) (fights_in rules opponents (drop 1 (records_of bytes))) fights e
+
+module _ (p : Problem) (laws : IsProblem p) (few : p.fights ≤ 10000) where
+  items_of : (x : WarriorView) (a : ℕ) (row : List (ℕ × ℕ)) → IsCapRow p x a row → All IsItem row
+  items_of x a [] h = All-nil IsItem
+  items_of x a (e ∷ row) h =
+      let small : e.0 < 2 ^ 32 = omega (arith, few, h.1) in
+      All-cons IsItem e row (small, subst ArePoints (sym h.2) (laws.scores x e.0)) (items_of x (e.0 + 1) row h.3)
+
+  module _ (capacity : ℕ) (f : Found) (s : IsSearch p capacity f) where
+    all_rows : length f.rows ≡ p.count
+    all_rows = s.valid.rows_are
+
+    row_of : (v : ℕ) (row : Row) → IsRightRow p (cert_of f) v row → IsRow row
+    row_of v Refused h = tt
+    row_of v (Same u) h = let few_rows : length f.rows ≤ 1000000 = s.few in omega (arith, h.3, all_rows)
+    row_of v (Cap row) h = items_of h.0 0 row h.2
+
+    rows_of : (rows : List Row) → ((v : ℕ) (row : Row) → slice_get rows v ≡ Some row → IsRow row) → All IsRow rows
+    rows_of [] h = All-nil IsRow
+    rows_of (row ∷ rows) h = All-cons IsRow row rows (h 0 row refl) (rows_of rows (λ v r at. h (suc v) r at))
+
+    pub writable : IsCert (cert_of f)
+    writable =
+        let few_rows : length f.rows ≤ 1000000 = s.few in
+        let inside : f.best < p.count = s.valid.best_inside in
+        let total : total_of p s.total_is.0 ≡ f.total = s.total_is.2 in
+        record {
+          count = omega arith;
+          best = omega (arith, all_rows);
+          total = omega (arith, few, total_few p laws s.total_is.0);
+          rows = rows_of f.rows (λ v row at. row_of v row (s.valid.right v row at));
+          few = omega arith;
+        }

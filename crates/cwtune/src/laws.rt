@@ -1,0 +1,39 @@
+//! Laws of tunings and their certificates. A law is a function with an empty body: its contract is
+//! what is proved.
+ghost use Rattle.std.specs.Prelude.{◌≡◌, ℕ, ℤ, List, Option, true};
+ghost use Rattle.std.specs.Io.KnownBytes.{Appends};
+ghost use Rattle.mars_fight.specs.Records.{records_of};
+ghost use Rattle.tune_template.specs.Instances.{InputsView};
+ghost use Rattle.tune_cert.specs.Problem.{problem_of};
+ghost use Rattle.tune_cert.specs.CertText.{cert_text, cert_of};
+ghost use Rattle.tune_cert.specs.Spelling.{Spells};
+ghost use Rattle.tune_search.specs.Found.{IsSearch};
+ghost use Rattle.cwtune.specs.Report.{report_text, report_for};
+ghost use Rattle.cwtune.specs.TuneRun.{Texts, Means, IsTuning, WritesTuning};
+ghost use Rattle.cwtune.specs.CheckRun.{IsRightVerdict, WritesVerdict, check_line};
+
+use tune_cert::{Found, Verdict};
+
+/// States that the texts of a tuning have at most one meaning.
+pub fn texts_have_one_meaning()
+    ensures { (t : Texts) (i j : InputsView) → Means t i → Means t j → i ≡ j }
+{}
+
+/// States that the certificate that a tuning writes spells what it found, and that the right
+/// verdict on it accepts exactly the best setting that was found, with its total.
+pub fn a_written_certificate_is_accepted()
+    ensures spelled { (t : Texts) (capacity : ℕ) (i : InputsView) (f : Found) → Means t i → IsSearch (problem_of i) capacity f
+        → Spells (records_of (cert_text (cert_of f))) (cert_of f) }
+    ensures accepted { (t : Texts) (capacity : ℕ) (i : InputsView) (f : Found) (v : Verdict) → Means t i → IsSearch (problem_of i) capacity f
+        → IsRightVerdict (problem_of i) (records_of (cert_text (cert_of f))) v → v ≡ Verdict.Accepted f.best f.total }
+{}
+
+/// States the certified optimum: if a tuning wrote its certificate and its report, then whatever
+/// bytes a check accepts for the same texts, its line names the best setting and the total of that
+/// report.
+pub fn an_accepted_certificate_names_the_optimum()
+    ensures { (t : Texts) (capacity : ℕ) (bytes : List ℕ) (report report_after cert cert_after out out_after : Option (List ℕ))
+        → WritesTuning t capacity report report_after cert cert_after → WritesVerdict t bytes true out out_after
+        → (i : InputsView) × (f : Found) × (values : List ℤ) × IsTuning t capacity i f values
+        × Appends report report_after (report_text (report_for i f values)) × Appends out out_after (check_line (Verdict.Accepted f.best f.total)) }
+{}
