@@ -2,7 +2,7 @@
 """Measures turns per second of `cwtune fight`, and how long `cwtune asm` and `cwtune tune` take.
 
 Plays each fight of fights/, the same fights cut short, assembles each text of warriors/, and tunes
-the template of examples/tuning/, several times; the fastest run counts. Given a pMARS server build,
+the templates of examples/tuning/, several times; the fastest run counts. Given a pMARS server build,
 plays the fights with it too. README.md says what is measured.
 """
 
@@ -27,8 +27,10 @@ EXPECTED = {
 SHORTEST = 0.05
 # The texts that are assembled; each must give the load file of the same name.
 TEXTS = ["plain", "names", "tables"]
-# The template that is tuned, and its opponents in the order of their indices.
+# The templates that are tuned with the report that each must give, and the opponents in the order
+# of their indices.
 TUNING = HERE.parent / "examples" / "tuning"
+TEMPLATES = {"stone": "report.txt", "decoy": "decoy-report.txt"}
 OPPONENTS = ["dwarf", "imp-ring", "scanner", "replicator", "core-clear"]
 # Short fights: the cycles of each, and how many settings are tuned in how many fights.
 SHORT_CYCLES, SHORT_SETTINGS, SHORT_FIGHTS = 50, 20, 10_000
@@ -267,26 +269,28 @@ def print_texts(program, runs):
             print(line, flush=True)
 
 
-def fastest_tuning(program, runs):
-    """Returns the least seconds of the tuning, and how many settings it has."""
-    report = (TUNING / "report.txt").read_text(encoding="ascii")
+def fastest_tuning(program, name, runs):
+    """Returns the least seconds of the tuning of a template, and how many settings it has."""
+    report = (TUNING / TEMPLATES[name]).read_text(encoding="ascii")
     opponents = [str(TUNING.parent / "warriors" / f"{name}.red") for name in OPPONENTS]
     best = math.inf
     with tempfile.TemporaryDirectory() as folder:
-        files = [TUNING / "stone.red", TUNING / "schedule.csv", pathlib.Path(folder) / "stone.cert"]
+        template, cert = TUNING / f"{name}.red", pathlib.Path(folder) / f"{name}.cert"
+        files = [template, TUNING / "schedule.csv", cert]
         for _ in range(runs):
             seconds, output = timed([str(program), "tune", *map(str, files), *opponents], "")
             if output != report:
-                raise WrongResult(f"{program} tune did not give {TUNING / 'report.txt'}")
+                raise WrongResult(f"{program} tune did not give {TUNING / TEMPLATES[name]}")
             best = min(best, seconds)
     return best, int(report.split()[1])
 
 
 def print_tuning(program, runs):
-    """Prints the tuning's settings per second, with the start of the process."""
-    seconds, settings = fastest_tuning(program, runs)
+    """Prints the settings per second of each tuning, with the start of the process."""
     print(f"{'tuning':<14}{'settings':>10}{'settings/s':>12}")
-    print(f"{'stone':<14}{settings:>10}{settings / seconds:>12.1f}", flush=True)
+    for name in TEMPLATES:
+        seconds, settings = fastest_tuning(program, name, runs)
+        print(f"{name:<14}{settings:>10}{settings / seconds:>12.1f}", flush=True)
 
 
 def read_options():
@@ -299,7 +303,7 @@ def read_options():
     options.add_argument("--runs", default=10, help="runs of each fight (default: 10)", **count)
     options.add_argument("--short", default=3, help="runs of short fights (default: 3)", **count)
     options.add_argument("--texts", default=200, help="runs of each text (default: 200)", **count)
-    options.add_argument("--tunings", default=3, help="runs of the tuning (default: 3)", **count)
+    options.add_argument("--tunings", default=3, help="runs of each tuning (default: 3)", **count)
     read = options.parse_args()
     if read.runs < 1:
         options.error("--runs is at least 1")
