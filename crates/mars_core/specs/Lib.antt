@@ -11,4 +11,5 @@ pub mod Fight
 pub mod Packed
 pub mod Store
 pub mod Evaluated
+pub mod Queue
 pub mod Arena

@@ -9,8 +9,8 @@ use crate::cells::{Cells, PlainCells, load_code, read};
 use crate::fight_loop::alternate;
 use crate::journal::PackedCells;
 use crate::side::Side;
-use crate::turn::{append, take_turn};
-use circular_buffer::HeapCircularBuffer;
+use crate::tasks::Tasks;
+use crate::turn::take_turn;
 use rc_instr::{Instruction, OutOfMemory, Rules, Warrior};
 use std::alloc::Global;
 use std::marker::Model;
@@ -30,8 +30,8 @@ pub struct Outcome {
 #[derive(Drop)]
 pub struct Arena<C: Cells> {
     cells: C,
-    candidate: HeapCircularBuffer<u16>,
-    opponent: HeapCircularBuffer<u16>,
+    candidate: Tasks,
+    opponent: Tasks,
     turns: u32,
     rules: Rules,
 }
@@ -70,8 +70,8 @@ impl<C: Cells> Arena<C> {
         let size = self.rules.core();
         load_code(&mut self.cells, size, 0, candidate.code());
         load_code(&mut self.cells, size, at, opponent.code());
-        append(&mut self.candidate, candidate.start());
-        append(&mut self.opponent, at + opponent.start());
+        self.candidate.append(candidate.start());
+        self.opponent.append(at + opponent.start());
     }
 
     /// Runs one turn of `side`: pops its first task, executes that instruction, and appends what it
@@ -191,7 +191,7 @@ impl<C: Cells> Arena<C> {
             Side::Candidate => self.candidate.get(index as usize),
             Side::Opponent => self.opponent.get(index as usize),
         };
-        task.copied().map_or(0, u32::from)
+        task.map_or(0, u32::from)
     }
 
     /// Returns the turns of both sides since the load.
@@ -213,8 +213,8 @@ impl<C: Cells + Drop> Arena<C> {
         ensures blank { IfOk result (IsBlank rules.now) }
         ensures marks { IfOk result (λ a. a.marks ≡ C.marks cells) }
     {
-        let candidate = HeapCircularBuffer::with_capacity(alloc, rules.tasks() as usize)?;
-        let opponent = HeapCircularBuffer::with_capacity(alloc, rules.tasks() as usize)?;
+        let candidate = Tasks::with_capacity(alloc, rules.tasks() as usize)?;
+        let opponent = Tasks::with_capacity(alloc, rules.tasks() as usize)?;
         Ok(Arena {
             cells,
             candidate,

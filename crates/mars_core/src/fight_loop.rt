@@ -6,15 +6,15 @@ ghost use Rattle.mars_core.specs.Fight.{turns_of};
 ghost use Rattle.mars_core.specs.declared.side.Side.{Side};
 
 use crate::cells::Cells;
+use crate::tasks::Tasks;
 use crate::turn::take_turn;
-use circular_buffer::HeapCircularBuffer;
 
 // Alternates turns, `mine` first, until a queue is empty or `cycles` are over.
 // Returns the number of turns.
 pub(crate) fn alternate<C: Cells>(
     cells: &mut C,
-    mine: &mut HeapCircularBuffer<u16>,
-    theirs: &mut HeapCircularBuffer<u16>,
+    mine: &mut Tasks,
+    theirs: &mut Tasks,
     size: u32,
     cycles: u32,
 ) -> u32

@@ -15,6 +15,7 @@ mod operand;
 mod packed;
 mod pairs;
 mod side;
+mod tasks;
 mod turn;
 
 pub use arena::{Arena, Outcome};

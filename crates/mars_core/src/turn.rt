@@ -1,5 +1,5 @@
 //! One turn of a side: its first task executes an instruction, and queues what follows.
-ghost use Rattle.std.specs.Prelude.{◌≡◌, ◌<◌, ◌≤◌, ◌==◌, ◌+◌, ◌∷◌, [], ◌++◌, length, if◌then◌else◌, nat_lt};
+ghost use Rattle.std.specs.Prelude.{◌≡◌, false, ◌<◌, ◌≤◌, ◌==◌, ◌+◌, ◌∷◌, [], ◌++◌, length, drop, if◌then◌else◌, nat_lt};
 ghost use Rattle.circular_buffer.specs.Buffer.{buffer};
 ghost use Rattle.mars_core.specs.Core.{IsCore, AreTasks};
 ghost use Rattle.mars_core.specs.Step.{step_of, leaves};
@@ -11,7 +11,7 @@ use crate::cells::{Cells, read, write};
 use crate::effect::{Queued, act};
 use crate::number::sum;
 use crate::operand::operands;
-use circular_buffer::HeapCircularBuffer;
+use crate::tasks::Tasks;
 use rc_instr::Opcode;
 
 // What a task queues, and the address to which its A-operand points.
@@ -21,29 +21,11 @@ pub(crate) struct Executed {
     pub(crate) jump: u32,
 }
 
-// Appends a task if there is room; else the task is lost (1994 draft). Returns whether the queue is
-// empty afterwards.
-#[inline(always)]
-pub(crate) fn append(tasks: &mut HeapCircularBuffer<u16>, task: u32) -> bool
-    requires { task < 65536 }
-    ensures tasks { tasks.new ≡ buffer (if nat_lt (length tasks.old.items) tasks.old.capacity then tasks.old.items ++ task ∷ [] else tasks.old.items) tasks.old.capacity }
-    ensures over { result ≡ (length tasks.new.items == 0) }
-{
-    match tasks.try_push_back(task as u16) {
-        Ok(()) => false,
-        Err(_) => tasks.is_empty(),
-    }
-}
-
 // Takes one turn of the side with these tasks. Changes nothing if there are none. Returns whether
 // the queue is empty afterwards.
 #[tactic(auto, using(crate::proofs::Queues::queues), unfolding(crate::specs::State::core_after, crate::specs::State::tasks_after))]
 #[inline(always)]
-pub(crate) fn take_turn<C: Cells>(
-    cells: &mut C,
-    tasks: &mut HeapCircularBuffer<u16>,
-    size: u32,
-) -> bool
+pub(crate) fn take_turn<C: Cells>(cells: &mut C, tasks: &mut Tasks, size: u32) -> bool
     requires core { IsCore size (C.items cells.old) }
     requires tasks { AreTasks size tasks.old.items }
     ensures cells { C.items cells.new ≡ core_after (C.items cells.old) tasks.old.items }
@@ -53,14 +35,12 @@ pub(crate) fn take_turn<C: Cells>(
     ensures below { AreTasks size tasks.new.items }
     ensures marks { C.marks cells.new ≤ C.marks cells.old + 3 }
 {
-    match tasks.pop_front() {
-        Some(task) => {
-            let pc = u32::from(task);
-            let executed = execute(cells, size, pc);
-            append_queued(tasks, size, pc, executed)
-        }
-        None => true,
+    if tasks.is_empty() {
+        return true;
     }
+    let pc = tasks.first();
+    let executed = execute(cells, size, pc);
+    requeue(tasks, size, pc, executed)
 }
 
 // Executes the instruction at `pc` (1994 draft). MOV.I, SPL and NOP come before the match of
@@ -104,30 +84,41 @@ fn execute<C: Cells>(cells: &mut C, size: u32, pc: u32) -> Executed
     }
 }
 
-// Appends the addresses that the task at `pc` queues, in order, each if there is room. Returns
-// whether the queue is empty afterwards.
+// Takes the task at `pc`, the first one, out of its queue, and appends the addresses that it
+// queues, in order, each if there is room. Returns whether the queue is empty afterwards.
+#[tactic(auto, using(crate::proofs::Queues::room_test))]
 #[inline(always)]
-fn append_queued(
-    tasks: &mut HeapCircularBuffer<u16>,
-    size: u32,
-    pc: u32,
-    executed: Executed,
-) -> bool
+fn requeue(tasks: &mut Tasks, size: u32, pc: u32, executed: Executed) -> bool
     requires size { (2 < size) × (size ≤ 65535) }
     requires pc { pc < size }
     requires jump { executed.jump < size }
-    ensures tasks { tasks.new ≡ buffer (appended tasks.old.capacity tasks.old.items (addresses size pc executed.jump executed.queued)) tasks.old.capacity }
+    requires some { 0 < length tasks.old.items }
+    ensures tasks { tasks.new ≡ buffer (appended tasks.old.capacity (drop 1 tasks.old.items) (addresses size pc executed.jump executed.queued)) tasks.old.capacity }
     ensures below { AreTasks size (addresses size pc executed.jump executed.queued) }
     ensures over { result ≡ (length tasks.new.items == 0) }
 {
     match executed.queued {
-        Queued::Nothing => tasks.is_empty(),
-        Queued::Next => append(tasks, sum(size, pc, 1)),
-        Queued::Skip => append(tasks, sum(size, pc, 2)),
-        Queued::Jump => append(tasks, executed.jump),
+        Queued::Nothing => {
+            tasks.remove_first();
+            tasks.is_empty()
+        }
+        Queued::Next => {
+            tasks.replace_first(sum(size, pc, 1));
+            false
+        }
+        Queued::Skip => {
+            tasks.replace_first(sum(size, pc, 2));
+            false
+        }
+        Queued::Jump => {
+            tasks.replace_first(executed.jump);
+            false
+        }
         Queued::Split => {
-            append(tasks, sum(size, pc, 1));
-            append(tasks, executed.jump)
+            let next = sum(size, pc, 1);
+            tasks.replace_first(next);
+            tasks.append(executed.jump);
+            false
         }
     }
 }

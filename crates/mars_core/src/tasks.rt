@@ -1,0 +1,141 @@
+//! The tasks of a warrior: a queue of addresses, of which the first moves next.
+ghost use Rattle.std.specs.Prelude.{◌≡◌, ◌<◌, ◌≤◌, ◌==◌, ◌∷◌, [], ◌++◌, Some, false, length, drop, slice_get, if◌then◌else◌, nat_lt, IfOk};
+ghost use Rattle.circular_buffer.specs.Buffer.{buffer};
+
+use circular_buffer::HeapCircularBuffer;
+use std::alloc::{AllocError, Global};
+use std::marker::Model;
+
+// A queue of tasks, for speed: the first is kept apart from those that wait, so a turn of a warrior
+// with a single task writes no ring.
+//
+// Contracts see the list of the tasks, and how many there may be.
+#[derive(Drop)]
+pub(crate) struct Tasks {
+    first: u16,
+    alive: bool,
+    waiting: HeapCircularBuffer<u16>,
+}
+
+impl Model for Tasks {
+    ghost use Rattle.std.specs.Prelude.{ℕ, ◌+◌};
+    ghost use Rattle.circular_buffer.specs.Buffer.{Buffer, buffer};
+    ghost use Rattle.mars_core.specs.Queue.{queue_of, IsQueue};
+
+    ghost Value = { Buffer ℕ };
+
+    ghost view = { λ t. buffer (queue_of t.alive t.first t.waiting.items) (t.waiting.capacity + 1) };
+
+    ghost invariant = { λ t. IsQueue t.alive t.waiting.items };
+}
+
+impl Tasks {
+    // Makes an empty queue for at most `capacity` tasks.
+    pub(crate) fn with_capacity(alloc: Global, capacity: usize) -> Result<Tasks, AllocError>
+        requires { 1 ≤ capacity }
+        ensures { IfOk result (λ t. t ≡ buffer [] capacity) }
+    {
+        let waiting = HeapCircularBuffer::with_capacity(alloc, capacity - 1)?;
+        Ok(Tasks {
+            first: 0,
+            alive: false,
+            waiting,
+        })
+    }
+
+    // Checks whether there is no task.
+    #[inline]
+    pub(crate) fn is_empty(&self) -> bool
+        ensures { result ≡ (length self.now.items == 0) }
+    {
+        !self.alive
+    }
+
+    // Returns the number of tasks.
+    pub(crate) fn len(&self) -> usize
+        ensures len { result ≡ length self.now.items }
+        ensures within { result ≤ self.now.capacity }
+    {
+        if self.alive {
+            self.waiting.len() + 1
+        } else {
+            0
+        }
+    }
+
+    // Returns the task at `index`; index 0 moves next.
+    pub(crate) fn get(&self, index: usize) -> Option<u16>
+        ensures { result ≡ slice_get self.now.items index }
+    {
+        if !self.alive {
+            return None;
+        }
+        if index == 0 {
+            return Some(self.first);
+        }
+        self.waiting.get(index - 1).copied()
+    }
+
+    // Takes all tasks out.
+    pub(crate) fn clear(&mut self)
+        ensures { self.new ≡ buffer [] self.old.capacity }
+    {
+        self.alive = false;
+        self.waiting.clear();
+    }
+
+    // Returns the first task of a queue that has one.
+    #[inline]
+    pub(crate) fn first(&self) -> u32
+        requires { 0 < length self.now.items }
+        ensures { Some result ≡ slice_get self.now.items 0 }
+    {
+        u32::from(self.first)
+    }
+
+    // Appends a task if there is room; else the task is lost (1994 draft).
+    #[inline]
+    pub(crate) fn append(&mut self, task: u32)
+        requires { task < 65536 }
+        ensures { self.new ≡ buffer (if nat_lt (length self.old.items) self.old.capacity then self.old.items ++ task ∷ [] else self.old.items) self.old.capacity }
+    {
+        if !self.alive {
+            self.first = task as u16;
+            self.alive = true;
+            return;
+        }
+        let _ = self.waiting.try_push_back(task as u16);
+    }
+
+    // Takes the first task out of a queue that has one.
+    #[inline]
+    pub(crate) fn remove_first(&mut self)
+        requires { 0 < length self.old.items }
+        ensures { self.new ≡ buffer (drop 1 self.old.items) self.old.capacity }
+    {
+        match self.waiting.pop_front() {
+            Some(next) => self.first = next,
+            None => self.alive = false,
+        }
+    }
+
+    // Takes the first task out of a queue that has one, and appends `last`, for which there is
+    // room then.
+    #[inline]
+    pub(crate) fn replace_first(&mut self, last: u32)
+        requires last { last < 65536 }
+        requires some { 0 < length self.old.items }
+        ensures tasks { self.new ≡ buffer (drop 1 self.old.items ++ last ∷ []) self.old.capacity }
+        ensures room { length self.old.items ≤ self.old.capacity }
+        ensures some { (length self.new.items == 0) ≡ false }
+    {
+        prove!(self.waiting.len() <= self.waiting.capacity());
+        match self.waiting.pop_front() {
+            Some(next) => {
+                self.first = next;
+                let _ = self.waiting.try_push_back(last as u16);
+            }
+            None => self.first = last as u16,
+        }
+    }
+}
