@@ -3,6 +3,7 @@ pub mod CapRows
 pub mod Certificates
 pub mod Scores
 pub mod RowChecks
+pub mod Assembled
 pub mod Verdicts
 pub mod ItemText
 pub mod Spaced

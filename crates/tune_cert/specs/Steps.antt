@@ -1,6 +1,6 @@
 -- Words that only the contracts of private functions use: parts of certificates, checks under way,
 -- and a certificate that is being written.
-use Rattle.std.specs.Prelude.{◌≡◌, ℕ, suc, ◌+◌, ◌-◌, ◌<◌, ◌≤◌, ◌^◌, List, length, slice_get, Some, All, flat_map, [], ◌∷◌, ◌++◌, false}
+use Rattle.std.specs.Prelude.{◌≡◌, ℕ, suc, ◌+◌, ◌-◌, ◌<◌, ◌≤◌, ◌^◌, List, length, slice_get, Option, Some, All, flat_map, [], ◌∷◌, ◌++◌, false}
 use Rattle.mars_fight.specs.Records.{Fields}
 use Rattle.tune_cert.specs.CertText.{spaced_text, list_text, rows_fields, count_fields, best_fields}
 use Rattle.tune_cert.specs.Spelling.{IsNumber, IsItem, IsRow, HasForm}
@@ -8,6 +8,7 @@ use Rattle.tune_cert.specs.declared.cert.Row.{Row}
 use Rattle.tune_cert.specs.declared.fault.ReadFault.{ReadFault}
 use Rattle.tune_cert.specs.declared.fault.ReadFault.TheVariants.{Malformed, OutOfMemory}
 use Rattle.std.specs.List.{sum_by}
+use Rattle.rc_instr.specs.Warrior.{WarriorView}
 use Rattle.tune_cert.specs.Problem.{Problem}
 use Rattle.tune_cert.specs.Optimum.{most_besides}
 use Rattle.tune_cert.specs.Valid.{numbers, IsValid}
@@ -99,6 +100,11 @@ IsCertVerdict p c (Rejected number reason) = IsRejected p c number reason
 abbrev pub IsFirstVerdict : Problem → Cert → Verdict → Type 0
 IsFirstVerdict p c (Accepted best total) = Unit {0}
 IsFirstVerdict p c (Rejected number reason) = IsFirstOfCert p c number reason
+
+-- Warriors that were assembled, each at the place of its setting; the others are None.
+pub record AreAssembled (p : Problem) (warriors : List (Option WarriorView)) : Type 0 where
+  pub as_many : length warriors ≡ p.count
+  pub each : (v : ℕ) (w : WarriorView) → slice_get warriors v ≡ Some (Some w) → p.warrior v ≡ Some w
 
 -- A writer with the default settings, between two records.
 pub record IsReady {W : Type 0} (writer : Writer W) : Type 0 where

@@ -14,6 +14,7 @@ use crate::fault::{CheckFault, ReadFault};
 use crate::read::read_cert;
 use crate::row_checks::{check_alone, check_same, is_best_row};
 use crate::verdict::{Reason, Verdict};
+use crate::warriors::no_warriors;
 use mars_core::{Arena, PackedCells};
 use std::alloc::Global;
 use tune_template::Inputs;
@@ -38,8 +39,8 @@ struct Wrong {
 ///    then `CapTooHigh`),
 /// 5. the rows that refer to other settings in order (`NotSame`, then `CapTooHigh`).
 ///
-/// Plays each fight that a cap row lists once, up to the first whose points are wrong. Reserves
-/// nothing for what the certificate merely claims.
+/// Plays each fight that a cap row lists once, up to the first whose points are wrong. Assembles
+/// each setting at most twice. Reserves nothing for what the certificate merely claims.
 ///
 /// # Errors
 ///
@@ -94,7 +95,8 @@ fn check_rows_alone(
     Ok(None)
 }
 
-// Checks the rows that refer to other settings, in order. All other rows are right by now.
+// Checks the rows that refer to other settings, in order. All other rows are right by now. A
+// setting is assembled once more, however many rows refer to it.
 fn check_rows_same(alloc: Global, inputs: &Inputs, cert: &Cert) -> Result<Option<Wrong>, CheckFault>
     requires rows { length cert.now.rows ≡ (problem_of inputs.now).count }
     requires alone { AreRightAlone (problem_of inputs.now) cert.now }
@@ -104,9 +106,10 @@ fn check_rows_same(alloc: Global, inputs: &Inputs, cert: &Cert) -> Result<Option
 {
     let rows = cert.rows.as_slice();
     let count = inputs.template().count();
+    let mut warriors = no_warriors(alloc, count)?;
     for vector in 0..count {
         let row = &rows[vector as usize];
-        if let Some(reason) = check_same(alloc, inputs, cert, vector, row)? {
+        if let Some(reason) = check_same(alloc, inputs, cert, &mut warriors, vector, row)? {
             return Ok(Some(Wrong {
                 index: record_of(vector),
                 reason,

@@ -12,6 +12,7 @@ mod problem;
 mod read;
 mod row_checks;
 mod verdict;
+mod warriors;
 mod write;
 
 pub use cert::{Cert, Found, Listing, Row, Rows};

@@ -5,7 +5,7 @@ ghost use Rattle.mars_core.specs.Arena.{IsBlank};
 ghost use Rattle.tune_cert.specs.Problem.{problem_of};
 ghost use Rattle.tune_cert.specs.Valid.{IsRightRow};
 ghost use Rattle.tune_cert.specs.Verdict.{Rises, HavePoints, IsWrongRefused, IsWrongCap, IsWrong, IsWrongSame, IsBestRow, IsRightAlone, IsFirstOfCap, AreRightAlone, IsRightSame, IsFirstOfSame};
-ghost use Rattle.tune_cert.specs.Steps.{IsFirstAlone, IsFirstSame, AreNumbers, listed_cap};
+ghost use Rattle.tune_cert.specs.Steps.{IsFirstAlone, IsFirstSame, AreNumbers, AreAssembled, listed_cap};
 ghost use Rattle.tune_cert.specs.declared.cert.Row.TheVariants.{Cap, Same};
 ghost use Rattle.std.specs.List.{sum_by};
 ghost use Rattle.tune_cert.specs.Optimum.{beats};
@@ -14,6 +14,7 @@ use crate::cert::{Cert, Row};
 use crate::fault::CheckFault;
 use crate::problem::{MOST_POINTS, fight_count, fight_points, setting_warrior};
 use crate::verdict::Reason;
+use crate::warriors::assemble_once;
 use mars_core::{Arena, PackedCells};
 use rc_instr::{Instruction, Warrior};
 use std::alloc::Global;
@@ -42,23 +43,27 @@ pub(crate) fn check_alone(
     }
 }
 
-// Checks a row that refers to another setting, and passes over any other row.
+// Checks a row that refers to another setting, and passes over any other row. `warriors` has those
+// of the settings to which rows referred before.
 pub(crate) fn check_same(
     alloc: Global,
     inputs: &Inputs,
     cert: &Cert,
+    warriors: &mut Vec<Option<Warrior>>,
     vector: u32,
     row: &Row,
 ) -> Result<Option<Reason>, CheckFault>
     requires inside { vector < (problem_of inputs.now).count }
+    requires assembled { AreAssembled (problem_of inputs.now) warriors.old.items }
     requires rows { length cert.now.rows ≡ (problem_of inputs.now).count }
     requires alone { AreRightAlone (problem_of inputs.now) cert.now }
     ensures right { IfOk result (λ o. IfNone o (IsRightSame (problem_of inputs.now) cert.now vector row.now)) }
     ensures wrong { IfOk result (λ o. IfSome o (IsWrong (problem_of inputs.now) cert.now vector row.now)) }
     ensures first { IfOk result (λ o. IfSome o (IsFirstSame (problem_of inputs.now) cert.now vector row.now)) }
+    ensures assembled { AreAssembled (problem_of inputs.now) warriors.new.items }
 {
     match row {
-        Row::Same(other) => check_reference(alloc, inputs, cert, vector, *other),
+        Row::Same(other) => check_reference(alloc, inputs, cert, warriors, vector, *other),
         _ => Ok(None),
     }
 }
@@ -212,15 +217,18 @@ fn check_reference(
     alloc: Global,
     inputs: &Inputs,
     cert: &Cert,
+    warriors: &mut Vec<Option<Warrior>>,
     vector: u32,
     other: u32,
 ) -> Result<Option<Reason>, CheckFault>
     requires inside { vector < (problem_of inputs.now).count }
+    requires assembled { AreAssembled (problem_of inputs.now) warriors.old.items }
     requires rows { length cert.now.rows ≡ (problem_of inputs.now).count }
     requires alone { AreRightAlone (problem_of inputs.now) cert.now }
     ensures right { IfOk result (λ o. IfNone o (IsRightRow (problem_of inputs.now) cert.now vector (Same other))) }
     ensures wrong { IfOk result (λ o. IfSome o (IsWrongSame (problem_of inputs.now) cert.now vector other)) }
     ensures first { IfOk result (λ o. IfSome o (IsFirstOfSame (problem_of inputs.now) cert.now vector other)) }
+    ensures assembled { AreAssembled (problem_of inputs.now) warriors.new.items }
 {
     let Some(listed) = cap_row(cert, other) else {
         return Ok(Some(Reason::NotSame));
@@ -231,10 +239,11 @@ fn check_reference(
     let Some(own) = setting_warrior(alloc, inputs, vector)? else {
         return Ok(Some(Reason::NotSame));
     };
-    let Some(theirs) = setting_warrior(alloc, inputs, other)? else {
+    assemble_once(alloc, inputs, warriors, other)?;
+    let Some(theirs) = &warriors[other as usize] else {
         return Ok(Some(Reason::NotSame));
     };
-    if !is_same_warrior(&own, &theirs) {
+    if !is_same_warrior(&own, theirs) {
         return Ok(Some(Reason::NotSame));
     }
     if is_above(listed_cap(inputs, listed), vector, cert) {

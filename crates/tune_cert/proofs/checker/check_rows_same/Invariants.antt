@@ -1,6 +1,7 @@
 use Rattle.std.proofs.Common.{◌≡◌, ◌<◌, ℕ, Some, slice_get}
 use Rattle.tune_cert.specs.Problem.{problem_of}
 use Rattle.tune_cert.specs.Verdict.{IsRightSame}
+use Rattle.tune_cert.specs.Steps.{AreAssembled}
 use Rattle.tune_cert.specs.declared.cert.Row.{Row}
 use Rattle.tune_cert.proofs.checker.check_rows_same.Given as goal
 
@@ -8,4 +9,5 @@ use Rattle.tune_cert.proofs.checker.check_rows_same.Given as goal
 abbrev pub invariant-loop-vector : goal.invariant-loop-vector
 invariant-loop-vector l = record {
   right : (v : ℕ) (row : Row) → v < l.vector → slice_get l.fn.cert.rows v ≡ Some row → IsRightSame (problem_of l.fn.inputs) l.fn.cert v row;
+  assembled : AreAssembled (problem_of l.fn.inputs) l.warriors.items;
 }

@@ -1,5 +1,5 @@
 use Rattle.std.proofs.Common.{◌≡◌, ◌<◌, ◌∙◌, sym, ap, arith, refl, length, true, false, Some, ℕ, subst}
-use Rattle.std.proofs.lemmas.Option.{slice_get_within}
+use Rattle.std.proofs.lemmas.Option.{slice_get_within, get_or_from_slice_get}
 use Rattle.tune_cert.specs.Problem.{problem_of}
 use Rattle.tune_cert.specs.Optimum.{cap_of, beats}
 use Rattle.tune_cert.specs.Valid.{numbers}
@@ -35,7 +35,9 @@ returns-clause-right c =
     let cap : c.listed_cap.result ≡ cap_of p row.0 (numbers c.in-Some.listed.now) =
     c.listed_cap.ensures ∙ listed_is_cap p row.0 c.in-Some.listed.now row.2 in
     let within : c.args.other < length c.args.cert.now.rows = slice_get_within c.args.cert.now.rows c.args.other (Cap c.in-Some.listed.now) c.in-Some.ensures.some in
-    let theirs : p.warrior c.args.other ≡ Some c.in-Some-3.theirs = sym c.in_ok-theirs.ensures.warrior ∙ c.in-Some-3.is in
+    let theirs : p.warrior c.args.other ≡ Some c.in-Some-index.theirs =
+    sym (get_or_from_slice_get c.assemble_once.new.warriors.items c.args.other (p.warrior c.args.other) c.index.result.now c.in_ok-assemble_once.ensures.warrior)
+    ∙ sym c.index.ensures ∙ c.in-Some-index.is in
     let own : p.warrior c.args.vector ≡ Some c.in-Some-2.own = sym c.in_ok-own.ensures.warrior ∙ c.in-Some-2.is in
     let equal = c.if-not-is_same_warrior.ensures.0 refl in
     let one = some_is _ _ (sym theirs ∙ row.1) in (
@@ -53,7 +55,9 @@ pub returns-then-is_above-clause-first : goal.returns-then-is_above-clause-first
 returns-then-is_above-clause-first c =
     let p = problem_of c.args.inputs.now in
     let within : c.args.other < length c.args.cert.now.rows = slice_get_within c.args.cert.now.rows c.args.other (Cap c.in-Some.listed.now) c.in-Some.ensures.some in
-    let theirs : p.warrior c.args.other ≡ Some c.in-Some-3.theirs = sym c.in_ok-theirs.ensures.warrior ∙ c.in-Some-3.is in
+    let theirs : p.warrior c.args.other ≡ Some c.in-Some-index.theirs =
+    sym (get_or_from_slice_get c.assemble_once.new.warriors.items c.args.other (p.warrior c.args.other) c.index.result.now c.in_ok-assemble_once.ensures.warrior)
+    ∙ sym c.index.ensures ∙ c.in-Some-index.is in
     let own : p.warrior c.args.vector ≡ Some c.in-Some-2.own = sym c.in_ok-own.ensures.warrior ∙ c.in-Some-2.is in
     let equal = c.if-not-is_same_warrior.ensures.0 refl in
     record {
@@ -61,7 +65,7 @@ returns-then-is_above-clause-first c =
       inside = omega (arith, within, c.requires.rows);
       row = c.in-Some.listed.now;
       here = c.in-Some.ensures.some;
-      warrior = c.in-Some-3.theirs;
+      warrior = c.in-Some-index.theirs;
       has = own ∙ ap (λ x. Some x) equal;
       other_has = theirs;
     }

@@ -1,0 +1,38 @@
+//! The warriors of settings, each assembled once.
+ghost use Rattle.std.specs.Prelude.{◌≡◌, ◌<◌, None, Some, slice_get, replicate, IfOk, OnOk};
+ghost use Rattle.tune_cert.specs.Problem.{problem_of};
+ghost use Rattle.tune_cert.specs.Steps.{AreAssembled};
+
+use crate::problem::setting_warrior;
+use rc_instr::{OutOfMemory, Warrior};
+use std::alloc::{AllocError, Global};
+use tune_template::Inputs;
+
+// Returns a place for the warrior of each of `count` settings, none of them assembled yet.
+pub(crate) fn no_warriors(alloc: Global, count: u32) -> Result<Vec<Option<Warrior>>, AllocError>
+    ensures { IfOk result (λ ws. ws.items ≡ replicate count None) }
+{
+    let mut warriors = Vec::with_capacity(alloc, count as usize)?;
+    for _setting in 0..count {
+        warriors.push(None)?;
+    }
+    Ok(warriors)
+}
+
+// Assembles setting `vector`, unless it was assembled before.
+pub(crate) fn assemble_once(
+    alloc: Global,
+    inputs: &Inputs,
+    warriors: &mut Vec<Option<Warrior>>,
+    vector: u32,
+) -> Result<(), OutOfMemory>
+    requires inside { vector < (problem_of inputs.now).count }
+    requires assembled { AreAssembled (problem_of inputs.now) warriors.old.items }
+    ensures assembled { AreAssembled (problem_of inputs.now) warriors.new.items }
+    ensures warrior { OnOk result (slice_get warriors.new.items vector ≡ Some ((problem_of inputs.now).warrior vector)) }
+{
+    if warriors[vector as usize].is_none() {
+        warriors[vector as usize] = setting_warrior(alloc, inputs, vector)?;
+    }
+    Ok(())
+}
