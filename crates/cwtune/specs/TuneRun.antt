@@ -99,8 +99,8 @@ IsTuneRefusal NoCandidate t = (i : InputsView) × Means t i × HasNoCandidate i
 IsTuneRefusal OutOfMemory t = Unit {0}
 IsTuneRefusal _ t = ⊥
 
--- What a tuning finds: the inputs that the texts mean, the answer of a search for them that
--- remembers up to `capacity` settings, and the values that its best setting gives the constants.
+-- What a tuning finds: the inputs that the texts mean, what a search with this capacity finds for
+-- these inputs, and the values that its best setting gives the constants.
 abbrev pub IsTuning : Texts → ℕ → InputsView → Found → List ℤ → Type 0
 IsTuning t capacity i f values =
     Means t i × IsSearch (problem_of i) capacity f × (slice_get (vectors_of i.template.ranges.spans) f.best ≡ Some values)

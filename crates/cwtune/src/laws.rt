@@ -19,8 +19,8 @@ pub fn texts_have_one_meaning()
     ensures { (t : Texts) (i j : InputsView) → Means t i → Means t j → i ≡ j }
 {}
 
-/// States that the certificate that a tuning writes spells what it found, and that the right
-/// verdict on it accepts exactly the best setting that was found, with its total.
+/// States of whatever a search may find: the text of its certificate spells that certificate, and
+/// the right verdict on this text is Accepted, with its best setting and total.
 pub fn a_written_certificate_is_accepted()
     ensures spelled { (t : Texts) (capacity : ℕ) (i : InputsView) (f : Found) → Means t i → IsSearch (problem_of i) capacity f
         → Spells (records_of (cert_text (cert_of f))) (cert_of f) }
@@ -28,9 +28,9 @@ pub fn a_written_certificate_is_accepted()
         → IsRightVerdict (problem_of i) (records_of (cert_text (cert_of f))) v → v ≡ Verdict.Accepted f.best f.total }
 {}
 
-/// States the certified optimum: if a tuning wrote its certificate and its report, then whatever
-/// bytes a check accepts for the same texts, its line names the best setting and the total of that
-/// report.
+/// States the certified optimum: if a tuning wrote its certificate and its report, and a check of
+/// any bytes for the same texts accepts them, then the check's line names the best setting and the
+/// total of that report.
 pub fn an_accepted_certificate_names_the_optimum()
     ensures { (t : Texts) (capacity : ℕ) (bytes : List ℕ) (report report_after cert cert_after out out_after : Option (List ℕ))
         → WritesTuning t capacity report report_after cert cert_after → WritesVerdict t bytes true out out_after

@@ -1,4 +1,4 @@
-//! The tasks of a warrior: a queue of addresses, of which the first moves next.
+//! The queue of a warrior's tasks: their addresses, the next to execute first.
 ghost use Rattle.std.specs.Prelude.{◌≡◌, ◌<◌, ◌≤◌, ◌==◌, ◌∷◌, [], ◌++◌, Some, false, length, drop, slice_get, if◌then◌else◌, nat_lt, IfOk};
 ghost use Rattle.circular_buffer.specs.Buffer.{buffer};
 
@@ -6,8 +6,8 @@ use circular_buffer::HeapCircularBuffer;
 use std::alloc::{AllocError, Global};
 use std::marker::Model;
 
-// A queue of tasks, for speed: the first is kept apart from those that wait, so a turn of a warrior
-// with a single task writes no ring.
+// A queue of tasks. For speed, the first is kept apart from those that wait: a turn of a single
+// task that does not split leaves the ring buffer `waiting` alone.
 //
 // Contracts see the list of the tasks, and how many there may be.
 #[derive(Drop)]
@@ -63,7 +63,7 @@ impl Tasks {
         }
     }
 
-    // Returns the task at `index`; index 0 moves next.
+    // Returns the task at `index`; the one at 0 executes next.
     pub(crate) fn get(&self, index: usize) -> Option<u16>
         ensures { result ≡ slice_get self.now.items index }
     {

@@ -84,8 +84,8 @@ fn execute<C: Cells>(cells: &mut C, size: u32, pc: u32) -> Executed
     }
 }
 
-// Takes the task at `pc`, the first one, out of its queue, and appends the addresses that it
-// queues, in order, each if there is room. Returns whether the queue is empty afterwards.
+// Takes out the first task, which is at `pc`, and appends what its step queued, in order, each if
+// there is room. Returns whether the queue is empty afterwards.
 #[tactic(auto, using(crate::proofs::Queues::room_test))]
 #[inline(always)]
 fn requeue(tasks: &mut Tasks, size: u32, pc: u32, executed: Executed) -> bool

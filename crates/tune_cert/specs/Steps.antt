@@ -101,7 +101,7 @@ abbrev pub IsFirstVerdict : Problem → Cert → Verdict → Type 0
 IsFirstVerdict p c (Accepted best total) = Unit {0}
 IsFirstVerdict p c (Rejected number reason) = IsFirstOfCert p c number reason
 
--- Warriors that were assembled, each at the place of its setting; the others are None.
+-- An entry for each setting, at its index: its warrior, or None if that was not needed yet.
 pub record AreAssembled (p : Problem) (warriors : List (Option WarriorView)) : Type 0 where
   pub as_many : length warriors ≡ p.count
   pub each : (v : ℕ) (w : WarriorView) → slice_get warriors v ≡ Some (Some w) → p.warrior v ≡ Some w

@@ -39,7 +39,7 @@ struct Wrong {
 ///    then `CapTooHigh`),
 /// 5. the rows that refer to other settings in order (`NotSame`, then `CapTooHigh`).
 ///
-/// Plays each fight that a cap row lists once, up to the first whose points are wrong. Assembles
+/// Plays once each fight that a cap row lists, up to the first whose points are wrong. Assembles
 /// each setting at most twice. Reserves nothing for what the certificate merely claims.
 ///
 /// # Errors
@@ -95,8 +95,9 @@ fn check_rows_alone(
     Ok(None)
 }
 
-// Checks the rows that refer to other settings, in order. All other rows are right by now. A
-// setting is assembled once more, however many rows refer to it.
+// Checks the rows that refer to other settings, in order. All other rows are right by now.
+// Assembles the setting of each such row, and once a setting to which rows refer, however many they
+// are.
 fn check_rows_same(alloc: Global, inputs: &Inputs, cert: &Cert) -> Result<Option<Wrong>, CheckFault>
     requires rows { length cert.now.rows ≡ (problem_of inputs.now).count }
     requires alone { AreRightAlone (problem_of inputs.now) cert.now }

@@ -67,7 +67,8 @@ pub fn fight_points<C: Cells>(
     play(arena, warrior, opponent, fight)
 }
 
-/// Returns the greatest total that a setting can have: 3 points in each of at most 10000 fights.
+/// Returns the greatest total that a setting can have: 3 points in each fight of the schedule,
+/// which has at most 10000.
 #[tactic(auto, using(crate::proofs::CapRows::greatest_is))]
 pub fn greatest_total(inputs: &Inputs) -> u32
     ensures greatest { result ≡ greatest_of (problem_of inputs.now) }

@@ -1,4 +1,4 @@
-//! The warriors of settings, each assembled once.
+//! The warriors of settings to which rows refer, kept so that each is assembled once.
 ghost use Rattle.std.specs.Prelude.{◌≡◌, ◌<◌, None, Some, slice_get, replicate, IfOk, OnOk};
 ghost use Rattle.tune_cert.specs.Problem.{problem_of};
 ghost use Rattle.tune_cert.specs.Steps.{AreAssembled};
@@ -8,7 +8,7 @@ use rc_instr::{OutOfMemory, Warrior};
 use std::alloc::{AllocError, Global};
 use tune_template::Inputs;
 
-// Returns a place for the warrior of each of `count` settings, none of them assembled yet.
+// Returns `None` for each of `count` settings: no warrior is made yet.
 pub(crate) fn no_warriors(alloc: Global, count: u32) -> Result<Vec<Option<Warrior>>, AllocError>
     ensures { IfOk result (λ ws. ws.items ≡ replicate count None) }
 {
@@ -19,7 +19,7 @@ pub(crate) fn no_warriors(alloc: Global, count: u32) -> Result<Vec<Option<Warrio
     Ok(warriors)
 }
 
-// Assembles setting `vector`, unless it was assembled before.
+// Makes the warrior of setting `vector`, unless `warriors` has it already.
 pub(crate) fn assemble_once(
     alloc: Global,
     inputs: &Inputs,

@@ -165,7 +165,7 @@ module _ (p : Problem) (laws : IsProblem p) (start : p.start < p.count) (rows : 
           right = right;
         }
 
--- sums over the rows and over the vectors, where each row's share is its vector's
+-- a sum over the rows is the sum over the settings if each row adds what its setting does
 same_sums : (f : Row → ℕ) (g : ℕ → ℕ) (rows : List Row) (a : ℕ) → ((k : ℕ) (r : Row) → slice_get rows k ≡ Some r → f r ≡ g (a + k)) → sum_by f rows ≡ sum_by g (range_with_len a (length rows))
 same_sums f g [] a each = refl
 same_sums f g (r ∷ rows) a each =

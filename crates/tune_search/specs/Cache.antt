@@ -2,8 +2,8 @@
 use Rattle.std.specs.Prelude.{ℕ, Bool, List, nat_eq}
 use Rattle.std.specs.Cmp.Lexicographic.{pointwise}
 
--- Load files with the settings that were fought under them, the last used first, and how many there
--- may be.
+-- Load files with the fought settings whose warriors they are, the last used first, and how many
+-- there may be.
 pub record CacheView : Type 0 where
   pub known : List (List ℕ × ℕ)
   pub capacity : ℕ

@@ -32,12 +32,12 @@ abbrev pub listed_at : Option Row → ℕ
 listed_at None = 0
 listed_at (Some row) = listed_in row
 
--- The fights that the copied row lists.
+-- The number of fights that the copied row lists, 0 if there is none.
 abbrev pub copied_fights : List Row → Option ℕ → ℕ
 copied_fights rows None = 0
 copied_fights rows (Some v) = listed_at (slice_get rows v)
 
--- The answer of a search that remembers up to `capacity` settings.
+-- What a search finds that remembers up to `capacity` settings.
 pub record IsSearch (p : Problem) (capacity : ℕ) (f : Found) : Type 0 where
   -- the best setting is the optimum, and the rows are a valid certificate of it
   pub optimum : IsOptimum p f.best
@@ -49,11 +49,10 @@ pub record IsSearch (p : Problem) (capacity : ℕ) (f : Found) : Type 0 where
   pub refused : (v : ℕ) → v < p.count → p.warrior v ≡ None → slice_get f.rows v ≡ Some Refused
   -- the fights of a fought setting are the first ones of its order, exactly as many as are enough
   pub fought : (v : ℕ) (w : WarriorView) → v < p.count → p.warrior v ≡ Some w → was_fought f v ≡ true → IsFought p f.rows v w
-  -- a setting is fought exactly if no recent one has its warrior, and else shares the fights of
-  -- that one
+  -- a setting is fought exactly if none of the settings that are recent at its visit has its
+  -- warrior; otherwise it shares the fights of the one that has it
   pub shared : (v : ℕ) (w : WarriorView) → v < p.count → p.warrior v ≡ Some w → IsVisited p capacity f.rows f.copied v w
-  -- a copied row is that of a setting that assembles; `shared` says of which one
+  -- only a setting that assembles has a copied row; `shared` says whose row it copies
   pub copied : (v : ℕ) → f.copied ≡ Some v → (v < p.count) × (p.warrior v ≢ None)
-  -- the fights played are those of the fought settings: all that the rows list, the copied row
-  -- aside
+  -- the number of fights played is that of the fights that all rows list, without the copied row's
   pub work : f.fights + copied_fights f.rows f.copied ≡ listed_fights f.rows

@@ -17,7 +17,8 @@ leads v (Some lead) = lead.vector == v
 abbrev pub copies : ℕ → ℕ → ℕ → Option Lead → Bool
 copies start u v lead = (u == start) && leads u lead && nat_lt v u
 
--- Setting v has a copy of the row of u, and is the one that is `copied`; or it refers to u.
+-- If v copies the row of u, v is `copied` and has an equal row; otherwise it is not, and its row is
+-- `Same u`.
 abbrev pub HasRowOf : List Row → Option ℕ → ℕ → ℕ → Bool → Type 0
 HasRowOf rows copied u v true = (copied ≡ Some v) × (slice_get rows v ≡ slice_get rows u)
 HasRowOf rows copied u v false = (copied ≢ Some v) × (slice_get rows v ≡ Some (Same u))
@@ -30,8 +31,8 @@ pub record Shares (p : Problem) (rows : List Row) (copied : Option ℕ) (u v : �
   pub is_lead : IsLeadAfter p (place p.start v) lead
   pub row : HasRowOf rows copied u v (copies p.start u v lead)
 
--- Setting v is fought exactly if none of the recent settings before it has its warrior. Else it
--- shares the fights of the one that has it.
+-- Setting v is fought exactly if none of the settings that are recent at its visit has its warrior.
+-- Otherwise it shares the fights of the one that has it.
 pub record IsVisited (p : Problem) (capacity : ℕ) (rows : List Row) (copied : Option ℕ) (v : ℕ) (w : WarriorView) : Type 0 where
   pub recent : List ℕ
   pub is_recent : IsRecent p capacity (place p.start v) recent

@@ -29,7 +29,7 @@ pub record IsCandidateAt (i : InputsView) (v : ℕ) (c : Candidate) : Type 0 whe
   pub fits : Fits i.rules c.warrior
   pub text_is : c.text.items ≡ load_text i.rules.core c.warrior
 
--- The lead after the fights of setting v left it cap c, given whether this beats the lead before.
+-- The lead after a visit that left setting v with cap c, given whether c beats the lead before.
 abbrev pub lead_by : ℕ → ℕ → Option Lead → Bool → Option Lead
 lead_by c v lead true = Some (record { total = c; vector = v })
 lead_by c v lead false = lead
@@ -51,7 +51,7 @@ abbrev pub IsWhole : Problem → List Row → Option Lead → Type 0
 IsWhole p rows None = Unit {0}
 IsWhole p rows (Some lead) = (row : List (ℕ × ℕ)) × (slice_get rows lead.vector ≡ Some (Cap row)) × (length row ≡ p.fights)
 
--- A copied setting was visited, and the start setting leads no more.
+-- The setting with the copied row was visited, and the start setting leads no more.
 abbrev pub IsCopied : Problem → ℕ → Option Lead → Option ℕ → Type 0
 IsCopied p k lead None = Unit {0}
 IsCopied p k lead (Some v) = (v < p.count) × (place p.start v < k) × (leads p.start lead ≡ false)

@@ -1,4 +1,4 @@
-//! The settings that were fought, by their load files.
+//! The recent settings, by their load files.
 ghost use Rattle.std.specs.Prelude.{◌≡◌, ◌≤◌, ◌∷◌, [], None, take, OnOk, IfOk};
 ghost use Rattle.std.specs.Map.{lookup};
 ghost use Rattle.lru.specs.LruCache.{promoted};
@@ -9,7 +9,7 @@ use std::alloc::{AllocError, AllocFailed, Global};
 use std::marker::Model;
 use std::num::NonZeroUsize;
 
-// A bounded map from load files to the settings that were fought under them.
+// A bounded map from load files to the fought settings whose warriors they are.
 #[derive(Drop)]
 pub(crate) struct Cache {
     settings: LruCache<Vec<u8>, u32>,
@@ -51,8 +51,8 @@ impl Cache {
         Some(*setting)
     }
 
-    // Puts a setting under a load file that is not there. Drops the one used least recently if the
-    // cache is full.
+    // Puts `setting` under `text`, a load file that the cache does not have. If the cache is full,
+    // forgets the setting used least recently.
     pub(crate) fn remember(
         &mut self,
         text: Vec<u8>,

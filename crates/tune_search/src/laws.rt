@@ -9,7 +9,8 @@ ghost use Rattle.tune_search.specs.Found.{IsSearch, was_fought, fought_count};
 use crate::lead::Lead;
 use tune_cert::Found;
 
-/// States that after any number of visits there is one lead, and one list of recent settings.
+/// States that after any number of visits there is at most one value of the lead, `None` included,
+/// and at most one list of recent settings.
 pub fn visits_determine_the_rest()
     ensures lead { (p : Problem) (k : ℕ) (a b : Option Lead) → IsLeadAfter p k a → IsLeadAfter p k b → a ≡ b }
     ensures recent { (p : Problem) (capacity k : ℕ) (us vs : List ℕ) → IsRecent p capacity k us → IsRecent p capacity k vs → us ≡ vs }

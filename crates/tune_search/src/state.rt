@@ -19,9 +19,9 @@ use std::alloc::{AllocError, Global};
 use tune_cert::{Listing, Row};
 use tune_template::Inputs;
 
-// The start setting, a row for each setting, `Refused` until it is visited, the lead, the order of
-// the next setting's fights, counts of fights played and of candidates, the setting whose row was
-// copied, and the settings fought by their load files.
+// `rows` has a row for each setting, `Refused` until it is visited. `order` is that of the next
+// setting's fights. `fights` and `candidates` are counts so far. `copied` is the setting that has a
+// copy of the start setting's row. `cache` has the recent settings.
 #[derive(Drop)]
 pub(crate) struct State {
     pub(crate) start: u32,

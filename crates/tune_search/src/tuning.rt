@@ -20,12 +20,12 @@ use tune_template::Inputs;
 /// as its cap does not beat the lead, the best setting visited so far: its points and 3 for each
 /// fight left are less than the lead's total, or equal and the lead has the smaller index.
 ///
-/// The last `capacity` settings that were fought, 1 to 65536, are remembered; which are the last
-/// goes by use. A setting with the warrior of one of them is not fought, and is a use of that one:
-/// its row is `Same` with the index of that one. Only if that one is the start setting and the
-/// lead, and the setting comes before it, its row is a copy, and the setting is the lead and
-/// `copied`. The row of any other setting is `Refused` if it does not assemble, and else `Cap` with
-/// the fights that were played, by index.
+/// Remembers up to `capacity` fought settings, 1 to 65536, and forgets the one used least recently
+/// to make room. A setting v with the warrior of a remembered setting u is not fought, and u
+/// becomes the last used. The row of v is `Same` with the index of u, unless u is the start setting
+/// and the lead and v comes before it: then v has a copy of u's row, becomes the lead, and is
+/// `copied`. The row of any other setting is `Refused` if it does not assemble, else `Cap` with the
+/// fights played, by index.
 ///
 /// # Errors
 ///
@@ -33,8 +33,9 @@ use tune_template::Inputs;
 pub fn search(alloc: Global, inputs: &Inputs, capacity: u32) -> Result<Found, SearchFault>
     requires capacity { (1 ≤ capacity) × (capacity ≤ 65536) }
 
-    // The best setting is the optimum, the rows are a valid certificate of it, and the fights
-    // played are exactly those that the rule above asks for.
+    // The best setting is the optimum, the rows are a valid certificate of it, the row of each
+    // fought setting lists exactly the fights that the rule above asks for, and `fights` counts
+    // these.
     ensures found { IfOk result (IsSearch (problem_of inputs.now) capacity) }
     ensures none { let p = problem_of inputs.now in IfErr result (λ e. e ≡ SearchFault.NoCandidate → (v : ℕ) → v < p.count → p.warrior v ≡ None) }
 {

@@ -53,8 +53,8 @@ pub fn tune_run<W: Write, V: Write>(
     requires report { report.old.failed ≡ false }
     requires cert { cert.old.failed ≡ false }
 
-    // What was written is the certificate of what a search finds for the inputs in the texts, which
-    // is valid, and the report of the best setting, which is the optimum.
+    // Both texts are of one `Found` for which `IsSearch` holds: a valid certificate was written,
+    // and the report of its best setting, the optimum.
     ensures tuning { OnOk result (WritesTuning (texts template.now (map (λ o. o.items) opponents.now) schedule.now rules.now) capacity
         report.old.bytes report.new.bytes cert.old.bytes cert.new.bytes) }
 
