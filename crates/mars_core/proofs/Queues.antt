@@ -1,5 +1,5 @@
 -- Queues of tasks.
-use Rattle.std.proofs.Common.{◌≡◌, ℕ, ◌<◌, ◌≤◌, ◌==◌, arith, List, [], ◌∷◌, ◌++◌, length, drop, true, false, refl, subst}
+use Rattle.std.proofs.Common.{◌≡◌, ℕ, ◌<◌, ◌≤◌, arith, List, [], ◌∷◌, ◌++◌, length, drop, true, false, refl, subst}
 use Rattle.std.proofs.lemmas.Bool.Decides.{nat_tests}
 use Rattle.std.specs.Prelude.{Some, slice_get, slice_index, nat_lt, if◌then◌else◌}
 use Rattle.std.proofs.lemmas.List.Elements.{All-tail, All-drop, All-push, All-head, All-get_or}
@@ -34,11 +34,6 @@ room (x ∷ xs) limit some le = omega arith
 
 pub room_test : (xs : List ℕ) (limit : ℕ) → 0 < length xs → length xs ≤ limit → nat_lt (length (drop 1 xs)) limit ≡ true
 room_test xs limit some le = let l : length (drop 1 xs) < limit = room xs limit some le in grind (arith, nat_tests)
-
--- a queue to which a task was appended is not empty
-pub not_empty : (xs : List ℕ) (t : ℕ) → (length (xs ++ t ∷ []) == 0) ≡ false
-not_empty [] t = refl
-not_empty (x ∷ xs) t = grind (arith, nat_tests)
 
 -- each task is below the size
 pub item_below : (m : ℕ) (tasks : List ℕ) (i x : ℕ) → AreTasks m tasks → i < length tasks → x ≡ slice_index tasks i → x < m
