@@ -1,6 +1,6 @@
 -- Steps of the copies.
 use Rattle.std.proofs.Common.{◌≡◌, ℕ, ◌+◌, ◌≤◌, ◌<◌, Bool, true, false, List, [], ◌∷◌, ◌++◌, get_or, take, drop, drop-cons, length, length-drop, refl, arith, sym, ◌∙◌, ap, append_assoc, add-one, Option, Some, None, subst}
-use Rattle.std.specs.Prelude.{◌&&◌, option_map, option_and_then, nat_lt, if◌then◌else◌, All}
+use Rattle.std.specs.Prelude.{◌&&◌, not, option_map, option_and_then, nat_lt, if◌then◌else◌, All}
 use Rattle.std.proofs.lemmas.List.{drop_all, drop-drop}
 use Rattle.std.proofs.lemmas.Bool.Decides.{nat_tests}
 use Rattle.rc_text.specs.declared.token.Token.{Token}
@@ -32,8 +32,8 @@ lies_anyway source n t true h = record { order = h.order; inside = h.inside }
 lies_anyway source n t false h = h
 
 -- a number in place of a counter keeps the span
-pub numbered_lies : (source counter : List ℕ) (n : ℕ) (t u : Token) → u ≡ numbered source counter n t → LiesIn source t → LiesIn source u
-numbered_lies source counter n t u e h = subst (LiesIn source) (sym e) (lies_anyway source n t (is_use source counter t) h)
+pub numbered_lies : (source counter : List ℕ) (n : ℕ) (made : Bool) (t u : Token) → u ≡ numbered source counter n made t → LiesIn source t → LiesIn source u
+numbered_lies source counter n made t u e h = subst (LiesIn source) (sym e) (lies_anyway source n t (not made && is_use source counter t) h)
 
 -- a name keeps its span when a counter is joined to it
 pub joined_lies : (source : List ℕ) (t : Token) (ks : List ℕ) → LiesIn source t → LiesIn source (record t { joined = ks })
@@ -55,23 +55,23 @@ module _ (source : List ℕ) (counter : List ℕ) where
   joins_at t ts i u v h e f = ap (joins source counter t) (split_two ts i u v h e f)
 
   module _ (k : ℕ) where
-    from_list : (t : Token) (ts : List Token) → joins source counter t ts ≡ true → copied_from source counter k t ts ≡ option_and_then (λ j. copied_from source counter k j (drop 2 ts)) (joined source k t)
-    from_list t [] h = cc
-    from_list t (u ∷ []) h = cc
-    from_list t (u ∷ v ∷ ts) h = rw h
+    from_list : (m : Bool) (t : Token) (ts : List Token) → joins source counter t ts ≡ true → copied_from source counter k m t ts ≡ option_and_then (λ j. copied_from source counter k true j (drop 2 ts)) (joined source k t)
+    from_list m t [] h = cc
+    from_list m t (u ∷ []) h = cc
+    from_list m t (u ∷ v ∷ ts) h = rw h
 
     -- a name that is joined no more
-    passed_list : (t u : Token) (ts : List Token) → joins source counter t (u ∷ ts) ≡ false
-        → copied_from source counter k t (u ∷ ts) ≡ option_map (λ r. numbered source counter k t ∷ r) (copied_from source counter k u ts)
-    passed_list t u [] h = refl
-    passed_list t u (v ∷ ts) h = rw h
+    passed_list : (m : Bool) (t u : Token) (ts : List Token) → joins source counter t (u ∷ ts) ≡ false
+        → copied_from source counter k m t (u ∷ ts) ≡ option_map (λ r. numbered source counter k m t ∷ r) (copied_from source counter k false u ts)
+    passed_list m t u [] h = refl
+    passed_list m t u (v ∷ ts) h = rw h
 
     -- a token that joins nothing is copied
-    pub is_passed : (t u : Token) (ts : List Token) (i : ℕ) → i < length ts → u ≡ get_or ts i u → joins source counter t (drop i ts) ≡ false
-        → copied_from source counter k t (drop i ts) ≡ option_map (λ r. numbered source counter k t ∷ r) (copied_from source counter k u (drop (i + 1) ts))
-    is_passed t u ts i h e j =
+    pub is_passed : (m : Bool) (t u : Token) (ts : List Token) (i : ℕ) → i < length ts → u ≡ get_or ts i u → joins source counter t (drop i ts) ≡ false
+        → copied_from source counter k m t (drop i ts) ≡ option_map (λ r. numbered source counter k m t ∷ r) (copied_from source counter k false u (drop (i + 1) ts))
+    is_passed m t u ts i h e j =
         let s = split_at ts i u h e in
-        ap (copied_from source counter k t) s ∙ passed_list t u (drop (i + 1) ts) (ap (joins source counter t) (sym s) ∙ j)
+        ap (copied_from source counter k m t) s ∙ passed_list m t u (drop (i + 1) ts) (ap (joins source counter t) (sym s) ∙ j)
 
     -- the tokens so far, and what is still to come
     abbrev pub Rest : List Token → List Token → Option (List Token) → Type 0
@@ -82,30 +82,30 @@ module _ (source : List ℕ) (counter : List ℕ) where
     more copied t (Some r) = ap Some (sym (append_assoc copied (t ∷ []) r))
 
     -- the copy goes on after a token
-    pub rest_passed : (tokens copied : List Token) (t u : Token) (i : ℕ) → i < length tokens → u ≡ get_or tokens i u → false ≡ joins source counter t (drop i tokens)
-        → Rest tokens copied (copied_from source counter k t (drop i tokens)) → Rest tokens (copied ++ (numbered source counter k t ∷ [])) (copied_from source counter k u (drop (i + 1) tokens))
-    rest_passed tokens copied t u i h e j r = r ∙ (ap (option_map (λ r. copied ++ r)) (is_passed t u tokens i h e (sym j)) ∙ more copied (numbered source counter k t) (copied_from source counter k u (drop (i + 1) tokens)))
+    pub rest_passed : (tokens copied : List Token) (m : Bool) (t u : Token) (i : ℕ) → i < length tokens → u ≡ get_or tokens i u → false ≡ joins source counter t (drop i tokens)
+        → Rest tokens copied (copied_from source counter k m t (drop i tokens)) → Rest tokens (copied ++ (numbered source counter k m t ∷ [])) (copied_from source counter k false u (drop (i + 1) tokens))
+    rest_passed tokens copied m t u i h e j r = r ∙ (ap (option_map (λ r. copied ++ r)) (is_passed m t u tokens i h e (sym j)) ∙ more copied (numbered source counter k m t) (copied_from source counter k false u (drop (i + 1) tokens)))
 
     drop_two : (ts : List Token) (i : ℕ) → drop 2 (drop i ts) ≡ drop (i + 2) ts
     drop_two ts i = drop-drop 2 i ts
 
-    joined_at : (t : Token) (ts : List Token) (i : ℕ) → true ≡ joins source counter t (drop i ts)
-        → copied_from source counter k t (drop i ts) ≡ option_and_then (λ j. copied_from source counter k j (drop (i + 2) ts)) (joined source k t)
-    joined_at t ts i j = from_list t (drop i ts) (sym j) ∙ ap (λ r. option_and_then (λ n. copied_from source counter k n r) (joined source k t)) (drop_two ts i)
+    joined_at : (m : Bool) (t : Token) (ts : List Token) (i : ℕ) → true ≡ joins source counter t (drop i ts)
+        → copied_from source counter k m t (drop i ts) ≡ option_and_then (λ j. copied_from source counter k true j (drop (i + 2) ts)) (joined source k t)
+    joined_at m t ts i j = from_list m t (drop i ts) (sym j) ∙ ap (λ r. option_and_then (λ n. copied_from source counter k true n r) (joined source k t)) (drop_two ts i)
 
     room : (t : Token) → length t.joined < 8 → joined source k t ≡ Some (record t { joined = t.joined ++ (k ∷ []) })
     room t h = let e : nat_lt (length t.joined) 8 ≡ true = grind (arith, nat_tests) in rw e
 
     -- the copy goes on after a counter that is joined
-    pub rest_joined : (tokens copied : List Token) (t : Token) (i : ℕ) → length t.joined < 8 → true ≡ joins source counter t (drop i tokens)
-        → Rest tokens copied (copied_from source counter k t (drop i tokens)) → Rest tokens copied (copied_from source counter k (record t { joined = t.joined ++ (k ∷ []) }) (drop (i + 2) tokens))
-    rest_joined tokens copied t i h j r =
-        r ∙ ap (option_map (λ r. copied ++ r)) (joined_at t tokens i j ∙ ap (option_and_then (λ n. copied_from source counter k n (drop (i + 2) tokens))) (room t h))
+    pub rest_joined : (tokens copied : List Token) (m : Bool) (t : Token) (i : ℕ) → length t.joined < 8 → true ≡ joins source counter t (drop i tokens)
+        → Rest tokens copied (copied_from source counter k m t (drop i tokens)) → Rest tokens copied (copied_from source counter k true (record t { joined = t.joined ++ (k ∷ []) }) (drop (i + 2) tokens))
+    rest_joined tokens copied m t i h j r =
+        r ∙ ap (option_map (λ r. copied ++ r)) (joined_at m t tokens i j ∙ ap (option_and_then (λ n. copied_from source counter k true n (drop (i + 2) tokens))) (room t h))
 
     -- the copy begins with the first token
-    pub rest_first : (tokens : List Token) (t : Token) → 0 < length tokens → t ≡ get_or tokens 0 t → Rest tokens [] (copied_from source counter k t (drop 1 tokens))
+    pub rest_first : (tokens : List Token) (t : Token) → 0 < length tokens → t ≡ get_or tokens 0 t → Rest tokens [] (copied_from source counter k false t (drop 1 tokens))
     rest_first [] t h e = absurd (omega arith)
-    rest_first (u ∷ ts) t h e = ap (λ v. copied_from source counter k v ts) (sym e) ∙ same_option (copied_from source counter k t ts)
+    rest_first (u ∷ ts) t h e = ap (λ v. copied_from source counter k false v ts) (sym e) ∙ same_option (copied_from source counter k false t ts)
 
 -- an equal item
 pub same_read : {A : Type 0} (xs : List A) (i : ℕ) (x y : A) → x ≡ y → y ≡ get_or xs i y → x ≡ get_or xs i x

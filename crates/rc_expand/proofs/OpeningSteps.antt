@@ -8,57 +8,44 @@ use Rattle.rc_expand.specs.declared.context.Context.{Context}
 use Rattle.rc_expand.specs.Unroll.{counter_token, earlier_of, is_bare_rof, counted, opening}
 use Rattle.rc_expand.specs.Context.{table, count_by, is_new_by, opening_by}
 
-and_false : (b : Bool) → b && false ≡ false
-and_false true = refl
-and_false false = refl
-
 -- the name of a borrowed token
 pub names_are : (source : List ℕ) (o : Option (Bor Token)) → option_map (λ t. name_of source t.now) o ≡ option_map (name_of source) (option_map (λ t. t.now) o)
 names_are source None = refl
 names_are source (Some t) = refl
 
-module _ (s : Context) (f rof : Head) where
+module _ (s : Context) (f : Head) where
   -- a spoiled FOR opens nothing
-  pub opening_spoiled : f.spoiled ≡ true → opening_by s f rof ≡ None
+  pub opening_spoiled : f.spoiled ≡ true → opening_by s f ≡ None
   unfolding opening
   opening_spoiled e = rw e
 
-  -- nor does one whose ROF is not bare
-  pub opening_beside_rof : false ≡ is_bare_rof rof → opening_by s f rof ≡ None
-  unfolding opening
-  opening_beside_rof e =
-      let n : not f.spoiled && is_bare_rof rof ≡ false = ap (λ b. not f.spoiled && b) (sym e) ∙ and_false (not f.spoiled) in
-      rw n
-
-  module _ (plain : f.spoiled ≡ false) (bare : true ≡ is_bare_rof rof) where
-    tested : opening_by s f rof ≡ option_and_then (counted s.source.now (table s) s.rules.now s.equs.now f) (counter_token s.source.now f.labels)
+  module _ (plain : f.spoiled ≡ false) where
+    tested : opening_by s f ≡ option_and_then (counted s.source.now (table s) s.rules.now s.equs.now f) (counter_token s.source.now f.labels)
     unfolding opening
-    tested =
-        let n : not f.spoiled && is_bare_rof rof ≡ true = ap (λ b. not b && is_bare_rof rof) plain ∙ sym bare in
-        rw n
+    tested = rw plain
 
     -- nor one whose last label is not plain
-    pub no_counter : counter_token s.source.now f.labels ≡ None → opening_by s f rof ≡ None
+    pub no_counter : counter_token s.source.now f.labels ≡ None → opening_by s f ≡ None
     no_counter e = tested ∙ ap (option_and_then (counted s.source.now (table s) s.rules.now s.equs.now f)) e
 
     module _ (o : Option Token) (is : counter_token s.source.now f.labels ≡ Some o) where
-      named : opening_by s f rof ≡ counted s.source.now (table s) s.rules.now s.equs.now f o
+      named : opening_by s f ≡ counted s.source.now (table s) s.rules.now s.equs.now f o
       named = tested ∙ ap (option_and_then (counted s.source.now (table s) s.rules.now s.equs.now f)) is
 
       -- nor one whose counter is taken
-      pub known_counter : is_new_by s o ≡ false → opening_by s f rof ≡ None
+      pub known_counter : is_new_by s o ≡ false → opening_by s f ≡ None
       known_counter e = named ∙ rw e
 
-      new_counter : is_new_by s o ≡ true → opening_by s f rof ≡ option_map (λ n. record { counter = option_map (name_of s.source.now) o; earlier = earlier_of f.labels; count = n }) (count_by s f.rest)
+      new_counter : is_new_by s o ≡ true → opening_by s f ≡ option_map (λ n. record { counter = option_map (name_of s.source.now) o; earlier = earlier_of f.labels; count = n }) (count_by s f.rest)
       new_counter e = named ∙ rw e
 
       -- nor one without a count
-      pub no_count : is_new_by s o ≡ true → count_by s f.rest ≡ None → opening_by s f rof ≡ None
+      pub no_count : is_new_by s o ≡ true → count_by s f.rest ≡ None → opening_by s f ≡ None
       no_count e k = new_counter e ∙ ap (option_map (λ n. record { counter = option_map (name_of s.source.now) o; earlier = earlier_of f.labels; count = n })) k
 
       -- what a FOR opens
       pub opening_is : (name : Option (List ℕ)) (earlier : List (List Token)) (n : ℕ) → is_new_by s o ≡ true → count_by s f.rest ≡ Some n → name ≡ option_map (name_of s.source.now) o → earlier ≡ earlier_of f.labels
-          → opening_by s f rof ≡ Some (record { counter = name; earlier = earlier; count = n })
+          → opening_by s f ≡ Some (record { counter = name; earlier = earlier; count = n })
       opening_is name earlier n e k m l =
           new_counter e
           ∙ (ap (option_map (λ n. record { counter = option_map (name_of s.source.now) o; earlier = earlier_of f.labels; count = n })) k

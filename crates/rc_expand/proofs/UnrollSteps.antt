@@ -1,7 +1,7 @@
 -- Steps of the unrolling.
-use Rattle.std.proofs.Common.{◌≡◌, ◌≢◌, ℕ, zero, suc, ◌+◌, ◌-◌, ◌≤◌, ◌<◌, Bool, List, [], ◌∷◌, ◌++◌, length, Option, Some, None, refl, sym, ◌∙◌, ap, arith, append_assoc, length-append, subst}
+use Rattle.std.proofs.Common.{◌≡◌, ◌≢◌, ℕ, zero, suc, ◌+◌, ◌-◌, ◌≤◌, ◌<◌, Bool, true, false, List, [], ◌∷◌, ◌++◌, length, Option, Some, None, refl, sym, ◌∙◌, ap, arith, append_assoc, length-append, subst}
 use Rattle.std.proofs.lemmas.List.{append-nil}
-use Rattle.std.specs.Prelude.{Result, Ok, Err, IfSome, option_map, option_and_then}
+use Rattle.std.specs.Prelude.{Result, Ok, Err, MatchResult, IfSome, option_map, option_and_then, if◌then◌else◌}
 use Rattle.rc_expand.specs.declared.head.Head.{Head}
 use Rattle.rc_expand.specs.declared.head.HeadWord.{HeadWord}
 use Rattle.rc_expand.specs.declared.head.HeadWord.TheVariants as word
@@ -11,7 +11,7 @@ use Rattle.rc_expand.specs.declared.fault.ExpandKind.TheVariants.{OutOfMemory}
 use Rattle.rc_expand.specs.declared.head.Opening.{Opening}
 use Rattle.rc_expand.specs.Names.{Table}
 use Rattle.rc_expand.specs.Replace.{Equs}
-use Rattle.rc_expand.specs.Unroll.{Unrolled, nothing, unrolled_both, one_more_copy, copies_from, Cut, longer, cut_by, cut, Appends, Deeper, block_of, one_line, opening, opened, outside, inside, line_inside, line_outside}
+use Rattle.rc_expand.specs.Unroll.{Unrolled, nothing, unrolled_both, one_more_copy, copies_from, Cut, longer, cut_by, cut, Appends, Deeper, is_bare_rof, block_of, one_line, opening, opened, outside, inside, line_inside, line_outside}
 
 -- first one part, then the rest
 pub more : (old mid new : List Head) (n k m : ℕ) (u : Unit {0}) (result : Result (Unit {0}) ExpandFault) (a b : Option Unrolled)
@@ -62,6 +62,10 @@ module _ (source : List ℕ) (constants : Table) (rules : RulesView) (equs : Equ
     by_word word.Rof (suc n) ih = ih n
     by_word _ n ih = ih n
 
+none_anyway : (b : Bool) (none : Option Unrolled) → none ≡ None → (if b then none else None) ≡ None
+none_anyway true none e = e
+none_anyway false none e = refl
+
 -- a line that is a FOR, and one that is not
 module _ (source : List ℕ) (constants : Table) (rules : RulesView) (equs : Equs) where
   at_for : (w : HeadWord) (f g : Unit {0} → Option Unrolled) → w ≡ word.For → line_outside source constants rules equs w f g ≡ f tt
@@ -93,17 +97,30 @@ module _ (source : List ℕ) (constants : Table) (rules : RulesView) (equs : Equ
         ap (outside source constants rules equs b deeper) l
         ∙ at_other h.word (λ u. inside source constants rules equs b deeper h 0 [] hs) (λ u. unrolled_both (one_line source constants rules equs b h) (outside source constants rules equs b deeper hs)) e
 
-  -- a block by what it opens
-  pub block_opened : (deeper : Deeper source constants rules equs) (f : Head) (block : List Head) (rof : Head) (o : Opening) → opening source constants rules equs f rof ≡ Some o
-      → block_of source constants rules equs deeper f block rof ≡ opened source constants rules equs deeper f block o
+  -- a block by what its FOR opens and by its ROF
+  pub block_opened : (deeper : Deeper source constants rules equs) (f : Head) (block : List Head) (rof : Head) (o : Opening) → opening source constants rules equs f ≡ Some o
+      → block_of source constants rules equs deeper f block rof ≡ (if is_bare_rof rof then opened source constants rules equs deeper f block o else None)
   unfolding block_of
-  block_opened deeper f block rof o e = ap (option_and_then (opened source constants rules equs deeper f block)) e
+  block_opened deeper f block rof o e = ap (λ r. if is_bare_rof rof then option_and_then (opened source constants rules equs deeper f block) r else None) e
 
-  -- a block that opens nothing
-  pub block_refused : (deeper : Deeper source constants rules equs) (f : Head) (block : List Head) (rof : Head) → opening source constants rules equs f rof ≡ None
+  -- a block whose FOR opens nothing
+  pub block_refused : (deeper : Deeper source constants rules equs) (f : Head) (block : List Head) (rof : Head) → opening source constants rules equs f ≡ None
       → block_of source constants rules equs deeper f block rof ≡ None
   unfolding block_of
-  block_refused deeper f block rof e = ap (option_and_then (opened source constants rules equs deeper f block)) e
+  block_refused deeper f block rof e = ap (λ r. if is_bare_rof rof then option_and_then (opened source constants rules equs deeper f block) r else None) e ∙ none_anyway (is_bare_rof rof) None refl
+
+-- a fault in a block is one, whatever its ROF is like
+pub fails_before_rof : (old new : List Head) (n m : ℕ) (e : ExpandFault) (b : Bool) (r : Option Unrolled) → Appends old n (Err e) r new m → Appends old n (Err e) (if b then r else None) new m
+fails_before_rof old new n m e true r f = f
+fails_before_rof old new n m e false r f = λ h. tt
+
+-- a block is what was appended, if its ROF is bare
+pub ends_at_rof : (old new : List Head) (n m : ℕ) (u : Unit {0}) (b : Bool) (r : Option Unrolled) (result : Result (Unit {0}) ExpandFault) → Appends old n (Ok u) r new m
+    → MatchResult result (λ v. b ≡ true) (λ e. b ≡ false) → Appends old n result (if b then r else None) new m
+ends_at_rof old new n m u true r (Ok v) f h = f
+ends_at_rof old new n m u true r (Err e) f h = cc
+ends_at_rof old new n m u false r (Ok v) f h = cc
+ends_at_rof old new n m u false r (Err e) f h = λ h. tt
 
 -- one of the parts, where it comes first
 pub more_at : (old mid new : List Head) (n k m : ℕ) (u : Unit {0}) (result : Result (Unit {0}) ExpandFault) (a b o : Option Unrolled)

@@ -26,8 +26,8 @@ unrolled_by s b levels hs = outside s.source.now (table s) s.rules.now s.equs.no
 abbrev pub block_by : Context → ℕ → Head → List Head → Head → Option Unrolled
 block_by s levels f block rof = block_of s.source.now (table s) s.rules.now s.equs.now (deeper_at s.source.now (table s) s.rules.now s.equs.now levels) f block rof
 
-abbrev pub opening_by : Context → Head → Head → Option Opening
-opening_by s f rof = opening s.source.now (table s) s.rules.now s.equs.now f rof
+abbrev pub opening_by : Context → Head → Option Opening
+opening_by s f = opening s.source.now (table s) s.rules.now s.equs.now f
 
 abbrev pub copy_by : Context → ℕ → Option (List ℕ) → List Head → ℕ → Option Unrolled
 copy_by s levels counter block k = option_map one_more_copy (deeper_at s.source.now (table s) s.rules.now s.equs.now levels (copied_block s.source.now counter k block))

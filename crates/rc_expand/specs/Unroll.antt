@@ -85,9 +85,10 @@ module _ (source : List ℕ) where
   abbrev pub is_use : List ℕ → Token → Bool
   is_use counter t = is_name_token t && bytes_eq (name_of source t) counter
 
-  -- the name of the counter becomes its number, unless it is joined to another name
-  abbrev pub numbered : List ℕ → ℕ → Token → Token
-  numbered counter k t = if is_use counter t then record t { kind = Number k } else t
+  -- the name of the counter becomes its number, unless it is joined to another name; a name that
+  -- this copy `made` by joining stays a name, whatever it spells
+  abbrev pub numbered : List ℕ → ℕ → (made : Bool) → Token → Token
+  numbered counter k made t = if not made && is_use counter t then record t { kind = Number k } else t
 
   -- at most eight counters are joined to a name
   abbrev pub joined : ℕ → Token → Option Token
@@ -98,17 +99,18 @@ module _ (source : List ℕ) where
   joins counter t (u ∷ v ∷ ts) = is_name_token t && (is_ampersand u && is_use counter v)
   joins counter t _ = false
 
-  -- the tokens in the copy for `k`; `t` is the first of them, to which counters may yet be joined
-  abbrev pub copied_from : List ℕ → ℕ → Token → List Token → Option (List Token)
-  copied_from counter k t [] = Some (numbered counter k t ∷ [])
-  copied_from counter k t (u ∷ []) = option_map (λ r. numbered counter k t ∷ r) (copied_from counter k u [])
-  copied_from counter k t (u ∷ v ∷ ts) =
-      choose (is_name_token t && (is_ampersand u && is_use counter v)) (λ i. option_and_then (λ j. copied_from counter k j ts) (joined k t))
-      (λ i. option_map (λ r. numbered counter k t ∷ r) (copied_from counter k u (v ∷ ts)))
+  -- the tokens in the copy for `k`; `t` is the first of them, to which counters may yet be joined,
+  -- and `made` says whether one was
+  abbrev pub copied_from : List ℕ → ℕ → (made : Bool) → Token → List Token → Option (List Token)
+  copied_from counter k made t [] = Some (numbered counter k made t ∷ [])
+  copied_from counter k made t (u ∷ []) = option_map (λ r. numbered counter k made t ∷ r) (copied_from counter k false u [])
+  copied_from counter k made t (u ∷ v ∷ ts) =
+      choose (is_name_token t && (is_ampersand u && is_use counter v)) (λ i. option_and_then (λ j. copied_from counter k true j ts) (joined k t))
+      (λ i. option_map (λ r. numbered counter k made t ∷ r) (copied_from counter k false u (v ∷ ts)))
 
   abbrev pub copied_tokens : List ℕ → ℕ → List Token → Option (List Token)
   copied_tokens counter k [] = Some []
-  copied_tokens counter k (t ∷ ts) = copied_from counter k t ts
+  copied_tokens counter k (t ∷ ts) = copied_from counter k false t ts
 
   -- the modifier after an opcode and a dot is left alone
   abbrev pub copied_code : List ℕ → ℕ → List Token → Option (List Token)
@@ -186,13 +188,13 @@ module _ (source : List ℕ) where
           option_map (λ n. record { counter = option_map (name_of source) counter; earlier = earlier_of f.labels; count = n }) (count_of f.rest)
           else None
 
-      -- what FOR and ROF say: the counter, the labels before it and the count
-      unfoldable pub opening : Head → Head → Option Opening
-      opening f rof = if not f.spoiled && is_bare_rof rof then option_and_then (counted f) (counter_token f.labels) else None
+      -- what FOR says: the counter, the labels before it and the count
+      unfoldable pub opening : Head → Option Opening
+      opening f = if not f.spoiled then option_and_then (counted f) (counter_token f.labels) else None
 
       -- a whole block: its FOR, the lines in it, and its ROF
       unfoldable pub block_of : Deeper → Head → List Head → Head → Option Unrolled
-      block_of deeper f block rof = option_and_then (opened deeper f block) (opening f rof)
+      block_of deeper f block rof = if is_bare_rof rof then option_and_then (opened deeper f block) (opening f) else None
 
       -- a line other than FOR; EQU is allowed only outside blocks
       abbrev pub by_word : HeadWord → (in_block spoiled : Bool) → Head → Option Unrolled

@@ -29,6 +29,7 @@ pub(crate) fn copy_tokens(
         return Ok(Some(Tokens::from_vec(copied)));
     }
     let mut token = clone_token(&tokens[0])?;
+    let mut made = false;
     let mut at = 1;
     while at < tokens.len() {
         if is_joined(source, counter, &token, tokens, at) {
@@ -36,14 +37,16 @@ pub(crate) fn copy_tokens(
                 return Ok(None);
             }
             token.joined.push(number);
+            made = true;
             at += 2;
         } else {
-            copied.push(numbered(source, counter, number, token))?;
+            copied.push(numbered(source, counter, number, made, token))?;
             token = clone_token(&tokens[at])?;
+            made = false;
             at += 1;
         }
     }
-    copied.push(numbered(source, counter, number, token))?;
+    copied.push(numbered(source, counter, number, made, token))?;
     Ok(Some(Tokens::from_vec(copied)))
 }
 
@@ -155,13 +158,14 @@ fn is_use(source: &[u8], counter: &[u8], token: &Token) -> bool
     is_name_token(token) && spells(source, token, counter)
 }
 
-// Turns the name of the counter into its number; any other token stays as it is.
-fn numbered(source: &[u8], counter: &[u8], number: u16, token: Token) -> Token
+// Turns the name of the counter into its number; any other token stays as it is, and so does a name
+// that this copy `made` by joining.
+fn numbered(source: &[u8], counter: &[u8], number: u16, made: bool, token: Token) -> Token
     requires { LiesIn source.now token }
-    ensures { result ≡ numbered source.now counter.now number token }
+    ensures { result ≡ numbered source.now counter.now number made token }
 {
     let mut token = token;
-    if is_use(source, counter, &token) {
+    if !made && is_use(source, counter, &token) {
         token.kind = Kind::Number(u32::from(number));
     }
     token

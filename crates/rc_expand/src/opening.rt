@@ -1,4 +1,4 @@
-//! The beginning of a FOR block: its counter, the labels before it, and its count.
+//! What the FOR of a block says: its counter, the labels before it, and its count; and its ROF.
 ghost use Rattle.std.specs.Prelude.{◌≡◌, [], true, false, Some, None, All, IfOk, IfSome, MatchResult, option_map};
 ghost use Rattle.rc_text.specs.Symbols.{LiesIn, name_of};
 ghost use Rattle.rc_expand.specs.Lines.{HeadLies};
@@ -28,24 +28,15 @@ pub(crate) fn replace_fault(line: u64, cause: ReplaceFault) -> ExpandFault
     ExpandFault { line, kind }
 }
 
-// Reads the FOR and the ROF of a block. A spoiled FOR is reported first, then a ROF with something
-// beside it, then the counter and the count.
-pub(crate) fn begin_block(
-    context: &Context,
-    first: &Head,
-    rof: &Head,
-) -> Result<Opening, ExpandFault>
+// Reads the FOR of a block: whether it is spoiled, then its counter, then its count.
+pub(crate) fn begin_block(context: &Context, first: &Head) -> Result<Opening, ExpandFault>
     requires context { IsContext context.now }
     requires first { HeadLies context.now.source.now first.now }
-    requires rof { HeadLies context.now.source.now rof.now }
-    ensures opening { Gives result (opening_by context.now first.now rof.now) }
+    ensures opening { Gives result (opening_by context.now first.now) }
     ensures inside { IfOk result (λ o. All (All (LiesIn context.now.source.now)) o.earlier) }
 {
     if first.spoiled {
         return Err(fault(first.number, ExpandKind::BadDirective));
-    }
-    if !is_bare_rof(rof) {
-        return Err(fault(rof.number, ExpandKind::BadDirective));
     }
     let token = counter_token(context.source, first)?;
     check_counter(context, token, first.number)?;
@@ -130,6 +121,17 @@ fn count_of(context: &Context, first: &Head) -> Result<u16, ExpandFault>
             None => Err(fault(first.number, ExpandKind::CountRefused)),
         },
         Err(_) => Err(fault(first.number, ExpandKind::CountRefused)),
+    }
+}
+
+// Refuses a ROF with something before or after it on its line.
+pub(crate) fn check_rof(rof: &Head) -> Result<(), ExpandFault>
+    ensures { MatchResult result (λ u. is_bare_rof rof.now ≡ true) (λ e. is_bare_rof rof.now ≡ false) }
+{
+    if is_bare_rof(rof) {
+        Ok(())
+    } else {
+        Err(fault(rof.number, ExpandKind::BadDirective))
     }
 }
 

@@ -12,7 +12,7 @@ use crate::copy::{clone_head, clone_labels, copy_block};
 use crate::fault::{ExpandFault, ExpandKind, fault};
 use crate::head::{Head, HeadWord, Labels, Name};
 use crate::line::Tokens;
-use crate::opening::begin_block;
+use crate::opening::{begin_block, check_rof};
 
 // The lines so far, and the number of copies of blocks. Together they are at most 4096.
 #[derive(Drop)]
@@ -233,7 +233,8 @@ fn append_copies(
     Ok(())
 }
 
-// Appends a block unrolled: the labels before its counter, then its copies.
+// Appends a block unrolled: the labels before its counter, then its copies. Its ROF is looked at
+// when it is reached, after the lines of the block.
 #[cycle(unroll)]
 fn append_block(
     out: &mut Unrolling,
@@ -252,7 +253,7 @@ fn append_block(
     ensures adds { Appends out.old.lines.items out.old.copies result (block_by context.now levels first.now block.now rof.now) out.new.lines.items out.new.copies }
     ensures after { OnOk result (All (HeadLies context.now.source.now) out.new.lines.items) }
 {
-    let opening = begin_block(context, first, rof)?;
+    let opening = begin_block(context, first)?;
     append_earlier(out, context, first.number, &opening.earlier)?;
     append_copies(
         out,
@@ -262,7 +263,8 @@ fn append_block(
         first.number,
         block,
         levels,
-    )
+    )?;
+    check_rof(rof)
 }
 
 // Checks for a line that unrolling leaves as it is.

@@ -7,7 +7,7 @@ use Rattle.rc_expand.proofs.copy.copy_tokens.Given as goal
 
 abbrev pub invariant-loop-at : goal.invariant-loop-at
 invariant-loop-at l =
-    Rest l.source l.counter l.number l.tokens l.copied.items (copied_from l.source l.counter l.number l.token (drop l.at l.tokens))
+    Rest l.source l.counter l.number l.tokens l.copied.items (copied_from l.source l.counter l.number l.made l.token (drop l.at l.tokens))
     × LiesIn l.source l.token × All (LiesIn l.source) l.copied.items
 
 abbrev pub decreases-loop-at : goal.decreases-loop-at

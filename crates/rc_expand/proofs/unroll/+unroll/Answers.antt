@@ -3,10 +3,9 @@ use Rattle.std.specs.Prelude.{Ok, Err, Some}
 use Rattle.std.proofs.lemmas.Result.{err_from_is_err_and}
 use Rattle.std.proofs.lemmas.List.Elements.{All-rest}
 use Rattle.rc_expand.specs.Lines.{HeadLies}
-use Rattle.rc_expand.specs.Unroll.{copied_line, earlier_line}
-use Rattle.rc_expand.specs.Context.{copies_by}
+use Rattle.rc_expand.specs.Unroll.{copied_line}
 use Rattle.rc_expand.proofs.UnrollSteps.{more_at, fails_at, refused_at, nothing_at, counts_copy}
-use Rattle.rc_expand.proofs.ContextSteps.{refused_by, opened_by, block_first, for_alone, line_first, no_lines, copy_first, no_copies, copy_is}
+use Rattle.rc_expand.proofs.ContextSteps.{refused_by, earlier_fails, copies_fail, block_ends, block_first, for_alone, line_first, no_lines, copy_first, no_copies, copy_is}
 use Rattle.rc_expand.proofs.unroll.+unroll.Goals as goal
 
 pub append_block-returns-in_err-opening-clause-adds : goal.append_block-returns-in_err-opening-clause-adds
@@ -17,11 +16,16 @@ append_block-returns-in_err-opening-clause-adds t c =
 pub append_block-returns-in_err-append_earlier-clause-adds : goal.append_block-returns-in_err-append_earlier-clause-adds
 append_block-returns-in_err-append_earlier-clause-adds t c =
     let p = err_from_is_err_and c.from_residual-in_err-append_earlier.result c.from_residual-in_err-append_earlier.ensures.1 in
-    rw (p.1, p.2) (fails_at c.args.out.now.lines.items c.append_earlier.new.out.lines.items c.args.out.now.copies c.append_earlier.new.out.copies c.in_err-append_earlier.field-0.0 (Some (record { lines = earlier_line c.args.first.now.number c.in_ok-opening.opening.earlier; copies = 0 })) (copies_by c.args.context.now c.args.levels c.in_ok-opening.opening.counter c.args.block.now c.in_ok-opening.opening.count) _ (opened_by c.args.context.now c.args.levels c.args.first.now c.args.block.now c.args.rof.now c.in_ok-opening.opening c.in_ok-opening.ensures.opening) c.in_err-append_earlier.ensures.adds)
+    rw (p.1, p.2) (earlier_fails c.args.context.now c.args.levels c.args.first.now c.args.block.now c.args.rof.now c.in_ok-opening.opening c.in_ok-opening.ensures.opening c.args.out.now.lines.items c.args.out.now.copies c.in_err-append_earlier.field-0.0 c.append_earlier.new.out.lines.items c.append_earlier.new.out.copies c.in_err-append_earlier.ensures.adds)
+
+pub append_block-returns-in_err-append_copies-clause-adds : goal.append_block-returns-in_err-append_copies-clause-adds
+append_block-returns-in_err-append_copies-clause-adds t c =
+    let p = err_from_is_err_and c.from_residual-in_err-append_copies.result c.from_residual-in_err-append_copies.ensures.1 in
+    rw (p.1, p.2) (copies_fail c.args.context.now c.args.levels c.args.first.now c.args.block.now c.args.rof.now c.in_ok-opening.opening c.in_ok-opening.ensures.opening c.args.out.now.lines.items c.args.out.now.copies c.append_earlier.new.out.lines.items c.append_earlier.new.out.copies tt c.in_ok-append_earlier.ensures.adds c.append_copies.new.out.lines.items c.append_copies.new.out.copies c.in_err-append_copies.field-0.0 c.in_err-append_copies.ensures.adds)
 
 pub append_block-returns-clause-adds : goal.append_block-returns-clause-adds
 append_block-returns-clause-adds t c =
-    more_at c.args.out.now.lines.items c.append_earlier.new.out.lines.items c.append_copies.new.out.lines.items c.args.out.now.copies c.append_earlier.new.out.copies c.append_copies.new.out.copies tt c.append_copies.result (Some (record { lines = earlier_line c.args.first.now.number c.in_ok-opening.opening.earlier; copies = 0 })) (copies_by c.args.context.now c.args.levels c.in_ok-opening.opening.counter c.args.block.now c.in_ok-opening.opening.count) _ (opened_by c.args.context.now c.args.levels c.args.first.now c.args.block.now c.args.rof.now c.in_ok-opening.opening c.in_ok-opening.ensures.opening) c.in_ok-append_earlier.ensures.adds c.append_copies.ensures.adds
+    block_ends c.args.context.now c.args.levels c.args.first.now c.args.block.now c.args.rof.now c.in_ok-opening.opening c.in_ok-opening.ensures.opening c.args.out.now.lines.items c.args.out.now.copies c.append_earlier.new.out.lines.items c.append_earlier.new.out.copies tt c.in_ok-append_earlier.ensures.adds c.append_copies.new.out.lines.items c.append_copies.new.out.copies tt c.check_rof.result c.in_ok-append_copies.ensures.adds c.check_rof.ensures
 
 pub append_copies-returns-in_err-append_copy-clause-adds : goal.append_copies-returns-in_err-append_copy-clause-adds
 append_copies-returns-in_err-append_copy-clause-adds t c =
