@@ -4,6 +4,7 @@ pub mod Copies
 pub mod Each
 pub mod EquSteps
 pub mod UnrollSteps
+pub mod Reaching
 pub mod ContextSteps
 pub mod TableSteps
 pub mod CountSteps
@@ -18,7 +19,6 @@ pub mod TableFound
 pub mod TablePlaces
 pub mod PlainHeads
 pub mod PlainLines
-pub mod FlatLines
 pub mod Settled
 pub mod FaultSteps
 pub mod TextFaults

@@ -8,10 +8,9 @@ use Rattle.rc_expand.specs.declared.head.HeadWord.TheVariants as word
 use Rattle.rc_instr.specs.Rules.{RulesView}
 use Rattle.rc_expand.specs.declared.fault.ExpandFault.{ExpandFault}
 use Rattle.rc_expand.specs.declared.fault.ExpandKind.TheVariants.{OutOfMemory}
-use Rattle.rc_expand.specs.declared.head.Opening.{Opening}
 use Rattle.rc_expand.specs.Names.{Table}
 use Rattle.rc_expand.specs.Replace.{Equs}
-use Rattle.rc_expand.specs.Unroll.{Unrolled, nothing, unrolled_both, one_more_copy, copies_from, Cut, longer, cut_by, cut, Appends, Deeper, is_bare_rof, block_of, one_line, opening, opened, outside, inside, line_inside, line_outside}
+use Rattle.rc_expand.specs.Unroll.{Opening, Unrolled, nothing, unrolled_both, one_more_copy, copies_from, Cut, longer, cut_by, cut, Appends, Deeper, is_bare_rof, block_of, one_line, opening, opened, outside, inside, line_inside, line_outside}
 
 -- first one part, then the rest
 pub more : (old mid new : List Head) (n k m : ℕ) (u : Unit {0}) (result : Result (Unit {0}) ExpandFault) (a b : Option Unrolled)
@@ -62,9 +61,9 @@ module _ (source : List ℕ) (constants : Table) (rules : RulesView) (equs : Equ
     by_word word.Rof (suc n) ih = ih n
     by_word _ n ih = ih n
 
-none_anyway : (b : Bool) (none : Option Unrolled) → none ≡ None → (if b then none else None) ≡ None
-none_anyway true none e = e
-none_anyway false none e = refl
+none_anyway : (b : Bool) (o : Option Unrolled) → o ≡ None → (if b then o else None) ≡ None
+none_anyway true o e = e
+none_anyway false o e = refl
 
 -- a line that is a FOR, and one that is not
 module _ (source : List ℕ) (constants : Table) (rules : RulesView) (equs : Equs) where

@@ -5,6 +5,7 @@ pub mod Names
 pub mod Lines
 pub mod Replace
 pub mod Unroll
+pub mod Reached
 pub mod Nesting
 pub mod Heads
 pub mod Expansion

@@ -1,6 +1,6 @@
 -- Names that are tested one after the other. For contracts of private functions; Heads and
 -- Expansion say what has to hold.
-use Rattle.std.specs.Prelude.{is_some, ◌≡◌, ◌≢◌, ℕ, Bool, true, false, ◌&&◌, not, List, [], ◌∷◌, ◌++◌, Option, Some, None, if◌then◌else◌, option_and_then, Result, Ok, Err, IfSome, map}
+use Rattle.std.specs.Prelude.{is_some, ◌≡◌, ◌≢◌, ℕ, Bool, true, false, ◌&&◌, not, List, [], ◌∷◌, ◌++◌, Option, Some, None, if◌then◌else◌, option_and_then, option_map, Result, Ok, Err, IfSome, map}
 use Rattle.std.specs.Global.{Vec}
 use Rattle.std.specs.List.{list_all}
 use Rattle.rc_text.specs.declared.token.Token.{Token}
@@ -14,8 +14,11 @@ use Rattle.rc_expand.specs.declared.fault.ExpandFault.{ExpandFault}
 use Rattle.rc_expand.specs.declared.fault.ExpandKind.TheVariants.{OutOfMemory}
 use Rattle.rc_expand.specs.Names.{is_among, Table}
 use Rattle.rc_expand.specs.Replace.{Equs, equ_at}
-use Rattle.rc_expand.specs.Unroll.{is_known}
+use Rattle.rc_expand.specs.declared.head.BlockStart.{BlockStart}
+use Rattle.rc_expand.specs.Unroll.{is_known, Opening}
 use Rattle.rc_expand.specs.Heads.{equ_of_line, Heads}
+use Rattle.rc_expand.specs.declared.reached.Reached.{Reached}
+use Rattle.rc_expand.specs.Reached.{reached_lines}
 
 -- each name passes the test, is not in `seen`, and differs from those before it
 abbrev pub are_fresh : (List ℕ → Bool) → List (List ℕ) → List (List ℕ) → Bool
@@ -56,14 +59,17 @@ abbrev pub GivesHeads : Result (Vec Head × Equs) ExpandFault → Option Heads �
 GivesHeads (Ok p) o = o ≡ Some (record { lines = p.0.items; equs = p.1 })
 GivesHeads (Err e) o = (e.kind ≢ OutOfMemory) → o ≡ None
 
--- a line that unrolling leaves as it is: not a FOR, not a ROF, and not spoiled
-abbrev pub is_flat_by : HeadWord → Bool → Bool
-is_flat_by word.For spoiled = false
-is_flat_by word.Rof spoiled = false
-is_flat_by _ spoiled = not spoiled
+-- what the FOR of a block says, as the definition has it; a fault other than OutOfMemory means that
+-- it opens nothing
+abbrev pub Starts : Result BlockStart ExpandFault → Option Opening → Type 0
+Starts (Ok s) o = o ≡ Some (record { counter = option_map (λ b. b.now) s.counter; earlier = s.earlier; count = s.count })
+Starts (Err e) o = (e.kind ≢ OutOfMemory) → o ≡ None
 
-abbrev pub is_flat_line : Head → Bool
-is_flat_line h = is_flat_by h.word h.spoiled
+-- the lines of the definition, each made from one that was reached; a fault other than OutOfMemory
+-- means that it gives none
+abbrev pub GivesLines : List ℕ → Result (Vec Reached) ExpandFault → Option (List Head) → Type 0
+GivesLines source (Ok v) o = o ≡ Some (reached_lines source v.items)
+GivesLines source (Err e) o = (e.kind ≢ OutOfMemory) → o ≡ None
 
 -- no token is an EQU name
 abbrev pub are_settled : List ℕ → Equs → List Token → Bool

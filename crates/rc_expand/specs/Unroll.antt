@@ -11,7 +11,6 @@ use Rattle.rc_text.specs.Reading.{evaluation_of}
 use Rattle.rc_expand.specs.declared.head.Head.{Head}
 use Rattle.rc_expand.specs.declared.head.HeadWord.{HeadWord}
 use Rattle.rc_expand.specs.declared.head.HeadWord.TheVariants as word
-use Rattle.rc_expand.specs.declared.head.Opening.{Opening}
 use Rattle.rc_expand.specs.declared.fault.ExpandFault.{ExpandFault}
 use Rattle.rc_expand.specs.declared.fault.ExpandKind.{ExpandKind}
 use Rattle.rc_expand.specs.declared.fault.ExpandKind.TheVariants.{OutOfMemory, EquTooDeep, TooManyTokens}
@@ -21,6 +20,12 @@ use Rattle.rc_instr.specs.Rules.{RulesView}
 use Rattle.rc_expand.specs.Names.{Table, entry_of, given_names, CURLINE}
 use Rattle.rc_expand.specs.Lines.{choose, is_name_token, is_ampersand, is_colon, is_free, has_modifier, is_unjoined, bare_line}
 use Rattle.rc_expand.specs.Replace.{Equs, replaced_tokens}
+
+-- what the FOR of a block says: its counter, the labels before the counter, and the number of copies
+pub record Opening : Type 0 where
+  pub counter : Option (List ℕ)
+  pub earlier : List (List Token)
+  pub count : ℕ
 
 -- unrolled lines, and the number of copies of blocks that were made for them
 pub record Unrolled : Type 0 where

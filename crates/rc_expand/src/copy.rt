@@ -105,25 +105,6 @@ pub(crate) fn copy_line(
     }
 }
 
-// Copies all lines of a block for one `number` of its counter.
-pub(crate) fn copy_block(
-    alloc: Global,
-    source: &[u8],
-    counter: &[u8],
-    number: u16,
-    block: &[Head],
-) -> Result<Vec<Head>, AllocError>
-    requires { All (HeadLies source.now) block.now }
-    ensures copied { IfOk result (λ v. v.items ≡ map (copied_line source.now counter.now number) block.now) }
-    ensures inside { IfOk result (λ v. All (HeadLies source.now) v.items) }
-{
-    let mut copied = Vec::new(alloc);
-    for head in block {
-        copied.push(copy_line(alloc, source, counter, number, head)?)?;
-    }
-    Ok(copied)
-}
-
 pub(crate) fn clone_labels(alloc: Global, labels: &[Tokens]) -> Result<Labels, AllocError>
     ensures { IfOk result (λ l. l ≡ labels.now) }
 {

@@ -112,8 +112,8 @@ fn expand_text(
         equs: &equs,
         links: &links,
     };
-    let unrolled = unroll(&context, heads)?;
-    let lines = replace_lines(&context, unrolled)?;
+    let reached = unroll(&context, &heads)?;
+    let lines = replace_lines(&context, &reached)?;
     Ok(Expanded {
         lines: Lines::from_vec(lines),
     })

@@ -95,11 +95,11 @@ impl Name {
     }
 }
 
-// What the FOR of a block says: its counter, the labels before the counter, and the number of
-// copies.
+// What the FOR of a block says: its counter, as the text spells it, the labels before the counter,
+// and the number of copies.
 #[derive(Debug, Drop)]
-pub(crate) struct Opening {
-    pub counter: Option<Name>,
+pub(crate) struct BlockStart<'a> {
+    pub counter: Option<&'a [u8]>,
     pub earlier: Labels,
     pub count: u16,
 }

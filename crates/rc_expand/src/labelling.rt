@@ -4,7 +4,8 @@ ghost use Rattle.rc_text.specs.Symbols.{LiesIn, name_of};
 ghost use Rattle.rc_expand.specs.declared.fault.ExpandKind.TheVariants.{OutOfMemory};
 ghost use Rattle.rc_expand.specs.Lines.{HeadLies};
 ghost use Rattle.rc_expand.specs.Names.{is_among};
-ghost use Rattle.rc_expand.specs.Unroll.{GivesItems};
+ghost use Rattle.rc_expand.specs.Unroll.{Gives, GivesItems};
+ghost use Rattle.rc_expand.specs.Reached.{reached_line, reached_lines, ReachedLies};
 ghost use Rattle.rc_expand.specs.Steps.{names_in, Freshens, Takes};
 ghost use Rattle.rc_expand.specs.Context.{table, IsContext, is_new_label_by};
 ghost use Rattle.rc_expand.specs.Expansion.{LineLies, line_of, replaced};
@@ -15,28 +16,31 @@ use crate::finish::{line_of, split_labels};
 use crate::head::{Head, HeadWord};
 use crate::line::Line;
 use crate::names::name_of;
+use crate::reached::Reached;
 use crate::table::NameTable;
 use rc_text::Token;
 use std::alloc::AllocError;
-use std::collections::VecDeque;
 
 // Makes the lines of the expansion. EQU lines are dropped, EQU names replaced, and each label is
 // new.
-pub(crate) fn replace_lines(context: &Context, heads: Vec<Head>) -> Result<Vec<Line>, ExpandFault>
+pub(crate) fn replace_lines(
+    context: &Context,
+    reached: &[Reached],
+) -> Result<Vec<Line>, ExpandFault>
     requires context { IsContext context.now }
-    requires heads { All (HeadLies context.now.source.now) heads.items }
-    ensures lines { GivesItems result (replaced (table context.now) context.now.rules.now context.now.source.now context.now.equs.now heads.items) }
+    requires lies { All (ReachedLies context.now.source.now) reached.now }
+    ensures lines { GivesItems result (replaced (table context.now) context.now.rules.now context.now.source.now context.now.equs.now (reached_lines context.now.source.now reached.now)) }
     ensures inside { IfOk result (λ v. All (LineLies context.now.source.now) v.items) }
 {
     let mut lines = Vec::new(context.alloc);
     let mut seen = NameTable::new(context.alloc);
-    let mut rest = VecDeque::from_vec(heads);
-    while let Some(head) = rest.pop_front() {
-        match head.word {
+    for i in 0..reached.len() {
+        let one = &reached[i];
+        match one.word() {
             HeadWord::Equ => {}
-            _ => match take_line(context, &mut seen, &head) {
+            _ => match take_line(context, &mut seen, one) {
                 Ok(line) => lines.push(line)?,
-                Err(found) => return Err(least_fault(context, seen, found, head, rest)?),
+                Err(found) => return Err(least_fault(context, seen, found, &reached[i..])?),
             },
         }
     }
@@ -110,10 +114,28 @@ fn least_line(
     for token in labels {
         least = lesser_line(least, clash_with_given(context, token, line));
         least = lesser_line(least, seen_line(seen, context.source, token, line));
-        let name = name_of(context.alloc, context.source, token)?;
-        seen.insert(name, line)?;
+        keep_least(context, seen, token, line)?;
     }
     Ok(least)
+}
+
+// Keeps the least line at which the name of a label stands. Copies run ahead of line numbers, so
+// the first that is met need not be the least.
+fn keep_least(
+    context: &Context,
+    seen: &mut NameTable<u64>,
+    token: &Token,
+    line: u64,
+) -> Result<(), AllocError>
+    requires { LiesIn context.now.source.now token.now }
+{
+    match seen.get(context.source, token) {
+        Some(least) if *least <= line => Ok(()),
+        _ => {
+            let name = name_of(context.alloc, context.source, token)?;
+            seen.put(name, line)
+        }
+    }
 }
 
 // A label of this line clashes: returns the clash at the earliest line. `OutOfMemory` passes
@@ -153,14 +175,32 @@ fn check_line(context: &Context, seen: &mut NameTable<u64>, line: &Line) -> Resu
     Ok(())
 }
 
-// Makes the line of the expansion for an unrolled line, and adds its labels to those seen.
-fn take_line(context: &Context, seen: &mut NameTable<u64>, head: &Head) -> Result<Line, ExpandFault>
+// Makes the line of the expansion for a line that was reached.
+fn line_of_reached(context: &Context, one: &Reached) -> Result<Line, ExpandFault>
     requires context { IsContext context.now }
-    requires head { HeadLies context.now.source.now head.now }
-    ensures line { Takes (is_new_label_by context.now) context.now.source.now (names_in seen.old) result (line_of context.now.source.now context.now.equs.now head.now) (names_in seen.new) }
+    requires lies { ReachedLies context.now.source.now one.now }
+    ensures line { Gives result (line_of context.now.source.now context.now.equs.now (reached_line context.now.source.now one.now)) }
     ensures inside { IfOk result (LineLies context.now.source.now) }
 {
-    let line = line_of(context, head)?;
+    if one.is_as_written() {
+        return line_of(context, one.head);
+    }
+    let head = one.make(context.alloc, context.source)?;
+    line_of(context, &head)
+}
+
+// Makes the line of the expansion for a line that was reached, and adds its labels to those seen.
+fn take_line(
+    context: &Context,
+    seen: &mut NameTable<u64>,
+    one: &Reached,
+) -> Result<Line, ExpandFault>
+    requires context { IsContext context.now }
+    requires lies { ReachedLies context.now.source.now one.now }
+    ensures line { Takes (is_new_label_by context.now) context.now.source.now (names_in seen.old) result (line_of context.now.source.now context.now.equs.now (reached_line context.now.source.now one.now)) (names_in seen.new) }
+    ensures inside { IfOk result (LineLies context.now.source.now) }
+{
+    let line = line_of_reached(context, one)?;
     check_line(context, seen, &line)?;
     Ok(line)
 }
@@ -197,8 +237,8 @@ fn first_of(other: ExpandFault, least: ExpandFault) -> ExpandFault {
     }
 }
 
-// Returns the first of `least` and the faults of an unrolled line, of its labels and of its tokens.
-fn lesser_fault(
+// Returns the first of `least` and the faults of a line, of its labels and of its tokens.
+fn lesser_of_line(
     context: &Context,
     seen: &mut NameTable<u64>,
     head: &Head,
@@ -207,32 +247,56 @@ fn lesser_fault(
     requires context { IsContext context.now }
     requires head { HeadLies context.now.source.now head.now }
 {
-    if head.word == HeadWord::Equ {
-        return Ok(least);
-    }
     let least = match label_fault(context, seen, head)? {
         Some(other) => first_of(other, least),
         None => least,
     };
+    if head.number >= least.line {
+        return Ok(least);
+    }
     match line_of(context, head) {
         Ok(_) => Ok(least),
         Err(other) => Ok(first_of(other, least)),
     }
 }
 
-// Returns the fault at the earliest line. A fault was found at `head`, and the lines after it may
-// still clash with a label before it, or come from an earlier line of the source. `OutOfMemory`
-// passes through.
+// Checks for a line none of whose faults comes before `least`: each is at the line or after it.
+fn comes_after(head: &Head, least: &ExpandFault) -> bool {
+    head.number > least.line
+        || head.number == least.line && least.kind == ExpandKind::DuplicateName
+}
+
+// Returns the first of `least` and the faults of a line that was reached.
+fn lesser_fault(
+    context: &Context,
+    seen: &mut NameTable<u64>,
+    one: &Reached,
+    least: ExpandFault,
+) -> Result<ExpandFault, AllocError>
+    requires context { IsContext context.now }
+    requires lies { ReachedLies context.now.source.now one.now }
+{
+    if one.word() == HeadWord::Equ || comes_after(one.head, &least) {
+        return Ok(least);
+    }
+    if one.is_as_written() {
+        return lesser_of_line(context, seen, one.head, least);
+    }
+    let head = one.make(context.alloc, context.source)?;
+    lesser_of_line(context, seen, &head, least)
+}
+
+// Returns the fault at the earliest line. A fault was found at the first of `rest`, and the lines
+// after it may still clash with a label before it, or come from an earlier line of the source.
+// `OutOfMemory` passes through.
 fn least_fault(
     context: &Context,
     seen: NameTable<u64>,
     found: ExpandFault,
-    head: Head,
-    rest: VecDeque<Head>,
+    rest: &[Reached],
 ) -> Result<ExpandFault, AllocError>
     requires context { IsContext context.now }
-    requires head { HeadLies context.now.source.now head }
-    requires rest { All (HeadLies context.now.source.now) rest.items }
+    requires rest { All (ReachedLies context.now.source.now) rest.now }
     ensures { IfOk result (λ f. found.kind ≡ OutOfMemory → f.kind ≡ OutOfMemory) }
 {
     if found.kind == ExpandKind::OutOfMemory {
@@ -240,12 +304,8 @@ fn least_fault(
     }
     let mut seen = seen;
     let mut least = found;
-    if found.kind != ExpandKind::DuplicateName {
-        least = lesser_fault(context, &mut seen, &head, least)?;
-    }
-    let mut rest = rest;
-    while let Some(head) = rest.pop_front() {
-        least = lesser_fault(context, &mut seen, &head, least)?;
+    for one in rest {
+        least = lesser_fault(context, &mut seen, one, least)?;
     }
     Ok(least)
 }

@@ -17,6 +17,7 @@ mod line;
 mod links;
 mod names;
 mod opening;
+mod reached;
 mod read;
 mod replace;
 mod table;

@@ -3,13 +3,14 @@ ghost use Rattle.std.specs.Prelude.{◌≡◌, [], true, false, Some, None, All,
 ghost use Rattle.rc_text.specs.Symbols.{LiesIn, name_of};
 ghost use Rattle.rc_expand.specs.Lines.{HeadLies};
 ghost use Rattle.rc_expand.specs.Unroll.{Gives, counter_token, small_count, earlier_of, is_bare_rof, IsReplaceFault};
+ghost use Rattle.rc_expand.specs.Steps.{Starts};
 ghost use Rattle.rc_expand.specs.Context.{IsContext, opening_by, count_by, is_new_by};
 
 use crate::context::{Context, clash_with_given};
 use crate::copy::clone_labels;
 use crate::fault::{ExpandFault, ExpandKind, fault};
-use crate::head::{Head, Labels, Name, Opening};
-use crate::labels::{plain_name, plain_token};
+use crate::head::{BlockStart, Head, Labels};
+use crate::labels::plain_token;
 use crate::line::Tokens;
 use crate::names::GivenNames;
 use crate::replace::{ReplaceFault, replace_tokens};
@@ -29,11 +30,14 @@ pub(crate) fn replace_fault(line: u64, cause: ReplaceFault) -> ExpandFault
 }
 
 // Reads the FOR of a block: whether it is spoiled, then its counter, then its count.
-pub(crate) fn begin_block(context: &Context, first: &Head) -> Result<Opening, ExpandFault>
+pub(crate) fn begin_block<'a>(
+    context: &Context<'a>,
+    first: &Head,
+) -> Result<BlockStart<'a>, ExpandFault>
     requires context { IsContext context.now }
     requires first { HeadLies context.now.source.now first.now }
-    ensures opening { Gives result (opening_by context.now first.now) }
-    ensures inside { IfOk result (λ o. All (All (LiesIn context.now.source.now)) o.earlier) }
+    ensures opening { Starts result (opening_by context.now first.now) }
+    ensures earlier { IfOk result (λ o. o.earlier ≡ earlier_of first.now.labels) }
 {
     if first.spoiled {
         return Err(fault(first.number, ExpandKind::BadDirective));
@@ -41,9 +45,9 @@ pub(crate) fn begin_block(context: &Context, first: &Head) -> Result<Opening, Ex
     let token = counter_token(context.source, first)?;
     check_counter(context, token, first.number)?;
     let count = count_of(context, first)?;
-    let counter = counter_name(context, token)?;
+    let counter = counter_name(context, token);
     let earlier = earlier_labels(context.alloc, context.source, first.labels.as_slice())?;
-    Ok(Opening {
+    Ok(BlockStart {
         counter,
         earlier,
         count,
@@ -151,23 +155,24 @@ fn is_bare_rof(rof: &Head) -> bool
     }
 }
 
-// Copies the name of a counter.
-fn counter_name(context: &Context, counter: Option<&Token>) -> Result<Option<Name>, AllocError>
+// Returns the name of a counter.
+fn counter_name<'a>(context: &Context<'a>, counter: Option<&Token>) -> Option<&'a [u8]>
     requires inside { IfSome counter (λ t. LiesIn context.now.source.now t.now) }
     requires written { IfSome counter (λ t. t.now.joined ≡ []) }
-    ensures { IfOk result (λ o. o ≡ option_map (λ t. name_of context.now.source.now t.now) counter.entry) }
+    ensures { option_map (λ b. b.now) result ≡ option_map (λ t. name_of context.now.source.now t.now) counter.entry }
 {
     match counter {
-        None => Ok(None),
-        Some(token) => {
-            let bytes = plain_name(context.alloc, context.source, token)?;
-            Ok(Some(Name::from_vec(bytes)))
-        }
+        None => None,
+        Some(token) => Some(&context.source[token.lo..token.hi]),
     }
 }
 
 // Copies all labels but the last.
-fn earlier_labels(alloc: Global, source: &[u8], labels: &[Tokens]) -> Result<Labels, AllocError>
+pub(crate) fn earlier_labels(
+    alloc: Global,
+    source: &[u8],
+    labels: &[Tokens],
+) -> Result<Labels, AllocError>
     requires { All (All (LiesIn source.now)) labels.now }
     ensures earlier { IfOk result (λ l. l ≡ earlier_of labels.now) }
     ensures inside { IfOk result (All (All (LiesIn source.now))) }

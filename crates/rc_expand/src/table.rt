@@ -5,6 +5,7 @@ ghost use Rattle.std.specs.Str.{bytes_eq};
 ghost use Rattle.std.specs.Int.Digits.{digits_of};
 ghost use Rattle.rc_text.specs.Symbols.{LiesIn, name_of, counter_text};
 ghost use Rattle.rc_expand.specs.Names.{entry_of};
+ghost use Rattle.indexmap.specs.IndexMap.{insert_entry};
 ghost use Rattle.rc_expand.specs.NameTables.{joined_name, with_name, at_place};
 
 use crate::names::is_joined_name;
@@ -148,6 +149,16 @@ impl<V: Drop> NameTable<V> {
         }
         self.entries.insert(name, value)?;
         Ok(true)
+    }
+
+    // Gives a name a value, whether it is in the table or not. Fails only if out of memory; the
+    // table then stays as it is.
+    pub(crate) fn put(&mut self, name: Vec<u8>, value: V) -> Result<(), AllocError>
+        ensures table { OnOk result (self.new ≡ insert_entry bytes_eq self.old name.items value) }
+        ensures refused { OnErr result (self.new ≡ self.old) }
+    {
+        self.entries.insert(KeptName { bytes: name }, value)?;
+        Ok(())
     }
 
     /// Returns the value of the name that a token spells, joined counters included. The token's

@@ -1,41 +1,41 @@
 //! Unrolling: FOR blocks are replaced by their copies, outer blocks first.
-ghost use Rattle.std.specs.Prelude.{◌≡◌, List, ℕ, Bool, ◌++◌, ◌∷◌, [], ◌+◌, ◌<◌, ◌≤◌, length, All, IfOk, IfSome, OnOk, MatchOption, Some, None, true, false};
-ghost use Rattle.rc_text.specs.Symbols.{LiesIn};
+ghost use Rattle.std.specs.Prelude.{◌≡◌, ◌≢◌, List, ℕ, Bool, ◌++◌, ◌∷◌, [], ◌+◌, ◌<◌, ◌≤◌, length, All, IfOk, IfSome, OnOk, MatchOption, MatchResult, option_map, Some, None, true, false};
 ghost use Rattle.rc_expand.specs.Lines.{HeadLies};
-ghost use Rattle.rc_expand.specs.Unroll.{Cut, cut, Unrolled, Appends, earlier_line, unrolled, GivesItems};
-ghost use Rattle.std.specs.List.{list_all};
-ghost use Rattle.rc_expand.specs.Steps.{is_flat_line};
+ghost use Rattle.rc_expand.specs.Unroll.{Cut, cut, Unrolled, Appends, earlier_line, earlier_of, unrolled};
+ghost use Rattle.rc_expand.specs.Steps.{GivesLines};
+ghost use Rattle.rc_expand.specs.Reached.{line_in, lines_in, reached_part, reached_lines, ReachedLies};
+ghost use Rattle.rc_expand.specs.declared.fault.ExpandKind.TheVariants.{OutOfMemory};
 ghost use Rattle.rc_expand.specs.Context.{table, IsContext, unrolled_by, block_by, copy_by, copies_by, unrolled_line_by};
 
 use crate::context::Context;
-use crate::copy::{clone_head, clone_labels, copy_block};
 use crate::fault::{ExpandFault, ExpandKind, fault};
-use crate::head::{Head, HeadWord, Labels, Name};
-use crate::line::Tokens;
+use crate::head::{Head, HeadWord, Labels};
 use crate::opening::{begin_block, check_rof};
+use crate::reached::{Copying, Reached, clone_copies, make_line, with_copy};
 
 // The lines so far, and the number of copies of blocks. Together they are at most 4096.
 #[derive(Drop)]
-pub(crate) struct Unrolling {
-    lines: Vec<Head>,
+pub(crate) struct Unrolling<'a> {
+    lines: Vec<Reached<'a>>,
     copies: usize,
 }
 
-// Appends lines with their blocks unrolled, which may nest `levels` deep.
+// Appends lines as they stand in `copies`, with their blocks unrolled, which may nest `levels` deep.
 #[cycle(unroll)]
-pub(crate) fn append_lines(
-    out: &mut Unrolling,
-    context: &Context,
-    heads: &[Head],
+pub(crate) fn append_lines<'a>(
+    out: &mut Unrolling<'a>,
+    context: &Context<'a>,
+    copies: &[Copying<'a>],
+    heads: &'a [Head],
     in_block: bool,
     levels: u8,
 ) -> Result<(), ExpandFault>
     requires context { IsContext context.now }
     requires lies { All (HeadLies context.now.source.now) heads.now }
-    requires room { length out.old.lines.items + out.old.copies ≤ 4096 }
-    requires before { All (HeadLies context.now.source.now) out.old.lines.items }
-    ensures adds { Appends out.old.lines.items out.old.copies result (unrolled_by context.now in_block levels heads.now) out.new.lines.items out.new.copies }
-    ensures after { OnOk result (All (HeadLies context.now.source.now) out.new.lines.items) }
+    requires room { length (reached_lines context.now.source.now out.old.lines.items) + out.old.copies ≤ 4096 }
+    requires before { All (ReachedLies context.now.source.now) out.old.lines.items }
+    ensures adds { Appends (reached_lines context.now.source.now out.old.lines.items) out.old.copies result (unrolled_by context.now in_block levels (lines_in context.now.source.now copies.now heads.now)) (reached_lines context.now.source.now out.new.lines.items) out.new.copies }
+    ensures after { OnOk result (All (ReachedLies context.now.source.now) out.new.lines.items) }
 {
     let mut rest = heads;
     while let Some((head, after)) = rest.split_first() {
@@ -43,12 +43,12 @@ pub(crate) fn append_lines(
             HeadWord::For => match cut_block(context.source, after) {
                 None => return Err(fault(head.number, ExpandKind::ForWithoutRof)),
                 Some((block, rof, following)) => {
-                    append_block(out, context, head, block, rof, levels)?;
+                    append_block(out, context, copies, head, block, rof, levels)?;
                     rest = following;
                 }
             },
             _ => {
-                append_line(out, context, head, in_block)?;
+                append_line(out, context, copies, head, in_block)?;
                 rest = after;
             }
         }
@@ -56,19 +56,23 @@ pub(crate) fn append_lines(
     Ok(())
 }
 
-// Unrolls the blocks of lines. Lines without blocks are returned as they are, and none is copied.
-#[tactic(auto, using(crate::proofs::FlatLines::flat_unrolled))]
-pub(crate) fn unroll(context: &Context, heads: Vec<Head>) -> Result<Vec<Head>, ExpandFault>
+// Unrolls the blocks of lines.
+#[tactic(auto, unfolding(crate::specs::Unroll::unrolled))]
+pub(crate) fn unroll<'a>(
+    context: &Context<'a>,
+    heads: &'a [Head],
+) -> Result<Vec<Reached<'a>>, ExpandFault>
     requires context { IsContext context.now }
-    requires lies { All (HeadLies context.now.source.now) heads.items }
-    ensures lines { GivesItems result (unrolled context.now.source.now (table context.now) context.now.rules.now context.now.equs.now heads.items) }
-    ensures inside { IfOk result (λ v. All (HeadLies context.now.source.now) v.items) }
+    requires lies { All (HeadLies context.now.source.now) heads.now }
+    ensures lines { GivesLines context.now.source.now result (unrolled context.now.source.now (table context.now) context.now.rules.now context.now.equs.now heads.now) }
+    ensures inside { IfOk result (λ v. All (ReachedLies context.now.source.now) v.items) }
 {
-    if heads.len() <= 4096 && are_flat(&heads) {
-        Ok(heads)
-    } else {
-        unroll_blocks(context, &heads)
-    }
+    let mut out = Unrolling {
+        lines: Vec::new(context.alloc),
+        copies: 0,
+    };
+    append_lines(&mut out, context, &[], heads, false, 8)?;
+    Ok(out.lines)
 }
 
 // Splits the lines after a FOR into its block, its ROF and the lines after that, or returns `None`
@@ -98,33 +102,37 @@ fn cut_block<'a>(source: &[u8], lines: &'a [Head]) -> Option<(&'a [Head], &'a He
 }
 
 // Appends one line. `TooManyLines` if there is no room.
-fn append(out: &mut Unrolling, source: &[u8], head: Head) -> Result<(), ExpandFault>
-    requires head { HeadLies source.now head }
-    requires room { length out.old.lines.items + out.old.copies ≤ 4096 }
-    requires before { All (HeadLies source.now) out.old.lines.items }
-    ensures adds { Appends out.old.lines.items out.old.copies result (Some (record { lines = head ∷ []; copies = 0 })) out.new.lines.items out.new.copies }
-    ensures after { OnOk result (All (HeadLies source.now) out.new.lines.items) }
+fn append<'a>(
+    out: &mut Unrolling<'a>,
+    context: &Context<'a>,
+    copies: &[Copying<'a>],
+    head: &'a Head,
+    is_earlier: bool,
+) -> Result<(), ExpandFault>
+    requires head { HeadLies context.now.source.now head.now }
+    requires room { length (reached_lines context.now.source.now out.old.lines.items) + out.old.copies ≤ 4096 }
+    requires before { All (ReachedLies context.now.source.now) out.old.lines.items }
+    ensures adds { Appends (reached_lines context.now.source.now out.old.lines.items) out.old.copies result (Some (record { lines = reached_part context.now.source.now is_earlier (line_in context.now.source.now copies.now head.now) ∷ []; copies = 0 })) (reached_lines context.now.source.now out.new.lines.items) out.new.copies }
+    ensures after { OnOk result (All (ReachedLies context.now.source.now) out.new.lines.items) }
 {
     if out.lines.len() + out.copies == 4096 {
         return Err(fault(head.number, ExpandKind::TooManyLines));
     }
-    out.lines.push(head)?;
+    let copies = clone_copies(context.alloc, copies)?;
+    out.lines.push(Reached {
+        head,
+        copies,
+        is_earlier,
+    })?;
     Ok(())
 }
 
-// Appends a line other than FOR. EQU is refused in a block.
+// Refuses a ROF alone, an EQU in a block, and a line to which a ninth counter was to be joined.
 #[tactic(auto, unfolding(crate::specs::Unroll::one_line))]
-fn append_line(
-    out: &mut Unrolling,
-    context: &Context,
-    head: &Head,
-    in_block: bool,
-) -> Result<(), ExpandFault>
-    requires head { HeadLies context.now.source.now head.now }
-    requires room { length out.old.lines.items + out.old.copies ≤ 4096 }
-    requires before { All (HeadLies context.now.source.now) out.old.lines.items }
-    ensures adds { Appends out.old.lines.items out.old.copies result (unrolled_line_by context.now in_block head.now) out.new.lines.items out.new.copies }
-    ensures after { OnOk result (All (HeadLies context.now.source.now) out.new.lines.items) }
+fn check_line(context: &Context, head: &Head, in_block: bool) -> Result<(), ExpandFault>
+    ensures { MatchResult result
+        (λ u. unrolled_line_by context.now in_block head.now ≡ Some (record { lines = head.now ∷ []; copies = 0 }))
+        (λ e. unrolled_line_by context.now in_block head.now ≡ None) }
 {
     match head.word {
         HeadWord::Rof => return Err(fault(head.number, ExpandKind::RofWithoutFor)),
@@ -136,56 +144,87 @@ fn append_line(
     if head.spoiled {
         return Err(fault(head.number, ExpandKind::BadDirective));
     }
-    append(out, context.source, clone_head(context.alloc, head)?)
+    Ok(())
 }
 
-// Appends the labels before a counter as a line of their own.
-fn append_earlier(
-    out: &mut Unrolling,
+// Checks a line as it stands in `copies`.
+fn check_copied_line(
     context: &Context,
-    number: u64,
+    copies: &[Copying],
+    head: &Head,
+    in_block: bool,
+) -> Result<(), ExpandFault>
+    requires { HeadLies context.now.source.now head.now }
+    ensures { MatchResult result
+        (λ u. unrolled_line_by context.now in_block (line_in context.now.source.now copies.now head.now) ≡ Some (record { lines = line_in context.now.source.now copies.now head.now ∷ []; copies = 0 }))
+        (λ e. e.kind ≢ OutOfMemory → unrolled_line_by context.now in_block (line_in context.now.source.now copies.now head.now) ≡ None) }
+{
+    match copies {
+        [] => check_line(context, head, in_block),
+        _ => {
+            let made = make_line(context.alloc, context.source, copies, head)?;
+            check_line(context, &made, in_block)
+        }
+    }
+}
+
+// Appends a line other than FOR, as it stands in `copies`.
+fn append_line<'a>(
+    out: &mut Unrolling<'a>,
+    context: &Context<'a>,
+    copies: &[Copying<'a>],
+    head: &'a Head,
+    in_block: bool,
+) -> Result<(), ExpandFault>
+    requires head { HeadLies context.now.source.now head.now }
+    requires room { length (reached_lines context.now.source.now out.old.lines.items) + out.old.copies ≤ 4096 }
+    requires before { All (ReachedLies context.now.source.now) out.old.lines.items }
+    ensures adds { Appends (reached_lines context.now.source.now out.old.lines.items) out.old.copies result (unrolled_line_by context.now in_block (line_in context.now.source.now copies.now head.now)) (reached_lines context.now.source.now out.new.lines.items) out.new.copies }
+    ensures after { OnOk result (All (ReachedLies context.now.source.now) out.new.lines.items) }
+{
+    check_copied_line(context, copies, head, in_block)?;
+    append(out, context, copies, head, false)
+}
+
+// Appends the labels before a counter as a line of their own, if there are any.
+fn append_earlier<'a>(
+    out: &mut Unrolling<'a>,
+    context: &Context<'a>,
+    copies: &[Copying<'a>],
+    first: &'a Head,
     labels: &Labels,
 ) -> Result<(), ExpandFault>
-    requires labels { All (All (LiesIn context.now.source.now)) labels.now }
-    requires room { length out.old.lines.items + out.old.copies ≤ 4096 }
-    requires before { All (HeadLies context.now.source.now) out.old.lines.items }
-    ensures adds { Appends out.old.lines.items out.old.copies result (Some (record { lines = earlier_line number labels.now; copies = 0 })) out.new.lines.items out.new.copies }
-    ensures after { OnOk result (All (HeadLies context.now.source.now) out.new.lines.items) }
+    requires first { HeadLies context.now.source.now first.now }
+    requires labels { labels.now ≡ earlier_of (line_in context.now.source.now copies.now first.now).labels }
+    requires room { length (reached_lines context.now.source.now out.old.lines.items) + out.old.copies ≤ 4096 }
+    requires before { All (ReachedLies context.now.source.now) out.old.lines.items }
+    ensures adds { Appends (reached_lines context.now.source.now out.old.lines.items) out.old.copies result (Some (record { lines = earlier_line (line_in context.now.source.now copies.now first.now).number labels.now; copies = 0 })) (reached_lines context.now.source.now out.new.lines.items) out.new.copies }
+    ensures after { OnOk result (All (ReachedLies context.now.source.now) out.new.lines.items) }
 {
     if labels.as_slice().is_empty() {
         return Ok(());
     }
-    append(
-        out,
-        context.source,
-        Head {
-            number,
-            labels: clone_labels(context.alloc, labels.as_slice())?,
-            word: HeadWord::Bare,
-            directive: None,
-            rest: Tokens::from_vec(Vec::new(context.alloc)),
-            spoiled: false,
-        },
-    )
+    append(out, context, copies, first, true)
 }
 
 // Appends the copy of a block for one `number` of its counter. `line` is the line of its FOR.
 #[cycle(unroll)]
-fn append_copy(
-    out: &mut Unrolling,
-    context: &Context,
-    counter: &Option<Name>,
+fn append_copy<'a>(
+    out: &mut Unrolling<'a>,
+    context: &Context<'a>,
+    copies: &[Copying<'a>],
+    counter: Option<&'a [u8]>,
     number: u16,
     line: u64,
-    block: &[Head],
+    block: &'a [Head],
     levels: u8,
 ) -> Result<(), ExpandFault>
     requires context { IsContext context.now }
     requires block { All (HeadLies context.now.source.now) block.now }
-    requires room { length out.old.lines.items + out.old.copies ≤ 4096 }
-    requires before { All (HeadLies context.now.source.now) out.old.lines.items }
-    ensures adds { Appends out.old.lines.items out.old.copies result (copy_by context.now levels counter.now block.now number) out.new.lines.items out.new.copies }
-    ensures after { OnOk result (All (HeadLies context.now.source.now) out.new.lines.items) }
+    requires room { length (reached_lines context.now.source.now out.old.lines.items) + out.old.copies ≤ 4096 }
+    requires before { All (ReachedLies context.now.source.now) out.old.lines.items }
+    ensures adds { Appends (reached_lines context.now.source.now out.old.lines.items) out.old.copies result (copy_by context.now levels (option_map (λ b. b.now) counter.entry) (lines_in context.now.source.now copies.now block.now) number) (reached_lines context.now.source.now out.new.lines.items) out.new.copies }
+    ensures after { OnOk result (All (ReachedLies context.now.source.now) out.new.lines.items) }
 {
     if out.lines.len() + out.copies == 4096 {
         return Err(fault(line, ExpandKind::TooManyLines));
@@ -195,40 +234,35 @@ fn append_copy(
         return Err(fault(line, ExpandKind::ForTooDeep));
     }
     match counter {
-        None => append_lines(out, context, block, true, levels - 1),
+        None => append_lines(out, context, copies, block, true, levels - 1),
         Some(name) => {
-            let copied = copy_block(
-                context.alloc,
-                context.source,
-                name.as_slice(),
-                number,
-                block,
-            )?;
-            append_lines(out, context, &copied, true, levels - 1)
+            let copies = with_copy(context.alloc, copies, name, number)?;
+            append_lines(out, context, &copies, block, true, levels - 1)
         }
     }
 }
 
 // Appends `count` copies of a block.
 #[cycle(unroll)]
-fn append_copies(
-    out: &mut Unrolling,
-    context: &Context,
-    counter: &Option<Name>,
+fn append_copies<'a>(
+    out: &mut Unrolling<'a>,
+    context: &Context<'a>,
+    copies: &[Copying<'a>],
+    counter: Option<&'a [u8]>,
     count: u16,
     line: u64,
-    block: &[Head],
+    block: &'a [Head],
     levels: u8,
 ) -> Result<(), ExpandFault>
     requires context { IsContext context.now }
     requires block { All (HeadLies context.now.source.now) block.now }
-    requires room { length out.old.lines.items + out.old.copies ≤ 4096 }
-    requires before { All (HeadLies context.now.source.now) out.old.lines.items }
-    ensures adds { Appends out.old.lines.items out.old.copies result (copies_by context.now levels counter.now block.now count) out.new.lines.items out.new.copies }
-    ensures after { OnOk result (All (HeadLies context.now.source.now) out.new.lines.items) }
+    requires room { length (reached_lines context.now.source.now out.old.lines.items) + out.old.copies ≤ 4096 }
+    requires before { All (ReachedLies context.now.source.now) out.old.lines.items }
+    ensures adds { Appends (reached_lines context.now.source.now out.old.lines.items) out.old.copies result (copies_by context.now levels (option_map (λ b. b.now) counter.entry) (lines_in context.now.source.now copies.now block.now) count) (reached_lines context.now.source.now out.new.lines.items) out.new.copies }
+    ensures after { OnOk result (All (ReachedLies context.now.source.now) out.new.lines.items) }
 {
     for done in 0..count {
-        append_copy(out, context, counter, done + 1, line, block, levels)?;
+        append_copy(out, context, copies, counter, done + 1, line, block, levels)?;
     }
     Ok(())
 }
@@ -236,11 +270,12 @@ fn append_copies(
 // Appends a block unrolled: the labels before its counter, then its copies. Its ROF is looked at
 // when it is reached, after the lines of the block.
 #[cycle(unroll)]
-fn append_block(
-    out: &mut Unrolling,
-    context: &Context,
-    first: &Head,
-    block: &[Head],
+fn append_block<'a>(
+    out: &mut Unrolling<'a>,
+    context: &Context<'a>,
+    copies: &[Copying<'a>],
+    first: &'a Head,
+    block: &'a [Head],
     rof: &Head,
     levels: u8,
 ) -> Result<(), ExpandFault>
@@ -248,54 +283,24 @@ fn append_block(
     requires first { HeadLies context.now.source.now first.now }
     requires block { All (HeadLies context.now.source.now) block.now }
     requires rof { HeadLies context.now.source.now rof.now }
-    requires room { length out.old.lines.items + out.old.copies ≤ 4096 }
-    requires before { All (HeadLies context.now.source.now) out.old.lines.items }
-    ensures adds { Appends out.old.lines.items out.old.copies result (block_by context.now levels first.now block.now rof.now) out.new.lines.items out.new.copies }
-    ensures after { OnOk result (All (HeadLies context.now.source.now) out.new.lines.items) }
+    requires room { length (reached_lines context.now.source.now out.old.lines.items) + out.old.copies ≤ 4096 }
+    requires before { All (ReachedLies context.now.source.now) out.old.lines.items }
+    ensures adds { Appends (reached_lines context.now.source.now out.old.lines.items) out.old.copies result (block_by context.now levels (line_in context.now.source.now copies.now first.now) (lines_in context.now.source.now copies.now block.now) (line_in context.now.source.now copies.now rof.now)) (reached_lines context.now.source.now out.new.lines.items) out.new.copies }
+    ensures after { OnOk result (All (ReachedLies context.now.source.now) out.new.lines.items) }
 {
-    let opening = begin_block(context, first)?;
-    append_earlier(out, context, first.number, &opening.earlier)?;
+    let opened = make_line(context.alloc, context.source, copies, first)?;
+    let closed = make_line(context.alloc, context.source, copies, rof)?;
+    let opening = begin_block(context, &opened)?;
+    append_earlier(out, context, copies, first, &opening.earlier)?;
     append_copies(
         out,
         context,
-        &opening.counter,
+        copies,
+        opening.counter,
         opening.count,
         first.number,
         block,
         levels,
     )?;
-    check_rof(rof)
-}
-
-// Checks for a line that unrolling leaves as it is.
-fn is_flat_line(head: &Head) -> bool
-    ensures { result ≡ is_flat_line head.now }
-{
-    match head.word {
-        HeadWord::For => false,
-        HeadWord::Rof => false,
-        _ => !head.spoiled,
-    }
-}
-
-fn are_flat(heads: &[Head]) -> bool
-    ensures { result ≡ list_all is_flat_line heads.now }
-{
-    heads.iter().all(|head| is_flat_line(head))
-}
-
-// Unrolls the blocks of lines.
-#[tactic(auto, unfolding(crate::specs::Unroll::unrolled))]
-fn unroll_blocks(context: &Context, heads: &[Head]) -> Result<Vec<Head>, ExpandFault>
-    requires context { IsContext context.now }
-    requires lies { All (HeadLies context.now.source.now) heads.now }
-    ensures lines { GivesItems result (unrolled context.now.source.now (table context.now) context.now.rules.now context.now.equs.now heads.now) }
-    ensures inside { IfOk result (λ v. All (HeadLies context.now.source.now) v.items) }
-{
-    let mut out = Unrolling {
-        lines: Vec::new(context.alloc),
-        copies: 0,
-    };
-    append_lines(&mut out, context, heads, false, 8)?;
-    Ok(out.lines)
+    check_rof(&closed)
 }

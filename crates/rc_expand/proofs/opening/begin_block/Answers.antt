@@ -26,6 +26,6 @@ returns-in_err-count-clause-opening c =
 pub returns-clause-opening : goal.returns-clause-opening
 returns-clause-opening c =
     opening_is c.args.context.now c.args.first.now c.if-first.false (option_map (λ t. t.now) c.in_ok-token.token) c.in_ok-token.ensures.token
-    c.in_ok-counter.counter c.in_ok-earlier.earlier c.in_ok-count.count c.in_ok-check_counter.ensures c.in_ok-count.ensures
-    (c.in_ok-counter.ensures ∙ names_are c.args.context.now.source.now c.in_ok-token.token)
+    (option_map (λ b. b.now) c.counter_name-counter.result) c.in_ok-earlier.earlier c.in_ok-count.count c.in_ok-check_counter.ensures c.in_ok-count.ensures
+    (c.counter_name-counter.ensures ∙ names_are c.args.context.now.source.now c.in_ok-token.token)
     (c.in_ok-earlier.ensures.earlier ∙ ap earlier_of c.as_slice.ensures)
