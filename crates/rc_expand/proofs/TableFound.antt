@@ -1,5 +1,5 @@
 -- What a table of names finds, and what is fed for a name.
-use Rattle.std.proofs.Common.{◌≡◌, ℕ, ◌+◌, ◌<◌, ◌/◌, ◌%◌, Bool, true, false, cond, ◌&&◌, ◌||◌, not, List, [], ◌∷◌, ◌++◌, Option, None, Some, refl, sym, ◌∙◌, ap}
+use Rattle.std.proofs.Common.{◌≡◌, ℕ, ◌+◌, ◌<◌, ◌/◌, ◌%◌, Bool, true, false, cond, ◌&&◌, ◌||◌, not, List, [], ◌∷◌, ◌++◌, Option, None, Some, length, refl, sym, ◌∙◌, ap, arith}
 use Rattle.std.specs.Prelude.{is_some, if◌then◌else◌, flat_map, fold}
 use Rattle.std.specs.Hash as fed
 use Rattle.std.specs.Hash.{fed_then}
@@ -20,6 +20,11 @@ unseen false b h = cc
 none_there : {A : Type 0} (o : Option A) → is_some o ≡ false → o ≡ None
 none_there None h = refl
 none_there (Some x) h = cc
+
+-- an empty table has no name
+pub finds_none : {A : Type 0} (name : List ℕ) (table seen : List (List ℕ × A)) → table ≡ seen → length table ≡ 0 → None ≡ entry_of seen name
+finds_none name [] seen e h = ap (λ t. entry_of t name) e
+finds_none name (x ∷ xs) seen e h = absurd (omega arith)
 
 module _ {A : Type 0} (name : List ℕ) where
   -- the first entry with the name

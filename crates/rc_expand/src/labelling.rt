@@ -262,8 +262,7 @@ fn lesser_of_line(
 
 // Checks for a line none of whose faults comes before `least`: each is at the line or after it.
 fn comes_after(head: &Head, least: &ExpandFault) -> bool {
-    head.number > least.line
-        || head.number == least.line && least.kind == ExpandKind::DuplicateName
+    head.number > least.line || head.number == least.line && least.kind == ExpandKind::DuplicateName
 }
 
 // Returns the first of `least` and the faults of a line that was reached.

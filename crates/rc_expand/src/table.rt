@@ -167,6 +167,9 @@ impl<V: Drop> NameTable<V> {
         requires { LiesIn source.now token.now }
         ensures { option_map (λ v. v.now) result ≡ entry_of self.now (name_of source.now token.now) }
     {
+        if self.entries.len() == 0 {
+            return None;
+        }
         self.entries.get(spelled(source, token))
     }
 
@@ -175,6 +178,9 @@ impl<V: Drop> NameTable<V> {
         requires { LiesIn source.now token.now }
         ensures { at_place self.now result ≡ entry_of self.now (name_of source.now token.now) }
     {
+        if self.entries.len() == 0 {
+            return None;
+        }
         self.entries.get_index_of(spelled(source, token))
     }
 

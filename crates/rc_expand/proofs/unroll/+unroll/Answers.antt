@@ -55,7 +55,7 @@ append_copy-returns-in_ok-copies-in-Some-clause-adds t c =
     let made : map (copied_line s c.in-Some.name.now c.args.number) (lines_in s c.args.copies.now c.args.block.now) ≡ lines_in s c.deref.result.now c.args.block.now =
     c.in_ok-copies-in-Some.ensures s c.args.block.now ∙ ap (λ cs. lines_in s cs c.args.block.now) (sym c.deref.ensures.value) in
     let e = copy_is c.args.context.now c.args.levels c.in-Some.name.now (option_map (λ b. b.now) c.args.counter) (lines_in s c.args.copies.now c.args.block.now) (lines_in s c.deref.result.now c.args.block.now) c.args.number h
-        (ap (option_map (λ b. b.now)) c.in-Some.is) made in
+    (ap (option_map (λ b. b.now)) c.in-Some.is) made in
     rw e (counts_copy (reached_lines s c.args.out.now.lines.items) (reached_lines s c.append_lines-in-Some.new.out.lines.items) c.args.out.now.copies (c.args.out.now.copies + 1) c.append_lines-in-Some.new.out.copies c.append_lines-in-Some.result _ refl c.append_lines-in-Some.ensures.adds)
 
 pub append_lines-returns-in-None-clause-adds : goal.append_lines-returns-in-None-clause-adds
