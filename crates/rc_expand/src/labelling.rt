@@ -303,8 +303,14 @@ fn least_fault(
     }
     let mut seen = seen;
     let mut least = found;
-    for one in rest {
-        least = lesser_fault(context, &mut seen, one, least)?;
+    // The labels of a line that clashes are among those seen already.
+    let from = if found.kind == ExpandKind::DuplicateName {
+        1
+    } else {
+        0
+    };
+    for i in from..rest.len() {
+        least = lesser_fault(context, &mut seen, &rest[i], least)?;
     }
     Ok(least)
 }
