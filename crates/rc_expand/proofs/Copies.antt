@@ -55,13 +55,13 @@ module _ (source : List ℕ) (counter : List ℕ) where
   joins_at t ts i u v h e f = ap (joins source counter t) (split_two ts i u v h e f)
 
   module _ (k : ℕ) where
-    from_list : (m : Bool) (t : Token) (ts : List Token) → joins source counter t ts ≡ true → copied_from source counter k m t ts ≡ option_and_then (λ j. copied_from source counter k true j (drop 2 ts)) (joined source k t)
+    pub from_list : (m : Bool) (t : Token) (ts : List Token) → joins source counter t ts ≡ true → copied_from source counter k m t ts ≡ option_and_then (λ j. copied_from source counter k true j (drop 2 ts)) (joined source k t)
     from_list m t [] h = cc
     from_list m t (u ∷ []) h = cc
     from_list m t (u ∷ v ∷ ts) h = rw h
 
     -- a name that is joined no more
-    passed_list : (m : Bool) (t u : Token) (ts : List Token) → joins source counter t (u ∷ ts) ≡ false
+    pub passed_list : (m : Bool) (t u : Token) (ts : List Token) → joins source counter t (u ∷ ts) ≡ false
         → copied_from source counter k m t (u ∷ ts) ≡ option_map (λ r. numbered source counter k m t ∷ r) (copied_from source counter k false u ts)
     passed_list m t u [] h = refl
     passed_list m t u (v ∷ ts) h = rw h

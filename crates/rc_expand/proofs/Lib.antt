@@ -5,6 +5,7 @@ pub mod Each
 pub mod EquSteps
 pub mod UnrollSteps
 pub mod Reaching
+pub mod Short
 pub mod ContextSteps
 pub mod TableSteps
 pub mod CountSteps

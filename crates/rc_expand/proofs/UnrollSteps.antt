@@ -10,7 +10,8 @@ use Rattle.rc_expand.specs.declared.fault.ExpandFault.{ExpandFault}
 use Rattle.rc_expand.specs.declared.fault.ExpandKind.TheVariants.{OutOfMemory}
 use Rattle.rc_expand.specs.Names.{Table}
 use Rattle.rc_expand.specs.Replace.{Equs}
-use Rattle.rc_expand.specs.Unroll.{Opening, Unrolled, nothing, unrolled_both, one_more_copy, copies_from, Cut, longer, cut_by, cut, Appends, Deeper, is_bare_rof, block_of, one_line, opening, opened, outside, inside, line_inside, line_outside}
+use Rattle.rc_expand.specs.Steps.{is_allowed}
+use Rattle.rc_expand.specs.Unroll.{Opening, Unrolled, nothing, unrolled_both, one_more_copy, copies_from, Cut, longer, cut_by, cut, Appends, Deeper, is_bare_rof, block_of, by_word, one_line, opening, opened, outside, inside, line_inside, line_outside}
 
 -- first one part, then the rest
 pub more : (old mid new : List Head) (n k m : ℕ) (u : Unit {0}) (result : Result (Unit {0}) ExpandFault) (a b : Option Unrolled)
@@ -146,3 +147,37 @@ copies_step f count done h = let e : count - done ≡ suc (count - (done + 1)) =
 -- no copy is left
 pub copies_done : (f : ℕ → Option Unrolled) (count done : ℕ) → count ≤ done → copies_from f (count - done) (done + 1) ≡ Some nothing
 copies_done f count done h = let e : count - done ≡ 0 = omega arith in ap (λ n. copies_from f n (done + 1)) e
+
+-- a line that is kept, or refused, by its word and by whether it is spoiled
+module _ (source : List ℕ) (constants : Table) (rules : RulesView) (equs : Equs) (h : Head) where
+  abbrev itself : Option Unrolled
+  itself = Some (record { lines = h ∷ []; copies = 0 })
+
+  by_word_is : (w : HeadWord) (b s : Bool) → by_word source constants rules equs w b s h ≡ (if is_allowed w b s then itself else None)
+  by_word_is word.Rof b s = refl
+  by_word_is word.Equ true s = refl
+  by_word_is word.Equ false true = refl
+  by_word_is word.Equ false false = refl
+  by_word_is word.Bare b true = refl
+  by_word_is word.Bare b false = refl
+  by_word_is word.Code b true = refl
+  by_word_is word.Code b false = refl
+  by_word_is word.Org b true = refl
+  by_word_is word.Org b false = refl
+  by_word_is word.End b true = refl
+  by_word_is word.End b false = refl
+  by_word_is word.Assert b true = refl
+  by_word_is word.Assert b false = refl
+  by_word_is word.For b true = refl
+  by_word_is word.For b false = refl
+
+  module _ (w : HeadWord) (b s : Bool) (same_word : h.word ≡ w) (same : h.spoiled ≡ s) where
+    one_line_is : one_line source constants rules equs b h ≡ (if is_allowed w b s then itself else None)
+    unfolding one_line
+    one_line_is = ap (λ v. by_word source constants rules equs v b h.spoiled h) same_word ∙ ap (λ r. by_word source constants rules equs w b r h) same ∙ by_word_is w b s
+
+    -- what a test of its word and of whether it is spoiled says of a line
+    pub allowed_is : (result : Result (Unit {0}) ExpandFault) → MatchResult result (λ u. is_allowed w b s ≡ true) (λ e. is_allowed w b s ≡ false)
+        → MatchResult result (λ u. one_line source constants rules equs b h ≡ itself) (λ e. e.kind ≢ OutOfMemory → one_line source constants rules equs b h ≡ None)
+    allowed_is (Ok u) t = one_line_is ∙ ap (λ a. if a then itself else None) t
+    allowed_is (Err e) t = λ k. one_line_is ∙ ap (λ a. if a then itself else None) t

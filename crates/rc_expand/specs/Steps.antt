@@ -1,6 +1,6 @@
 -- Names that are tested one after the other. For contracts of private functions; Heads and
 -- Expansion say what has to hold.
-use Rattle.std.specs.Prelude.{is_some, ◌≡◌, ◌≢◌, ℕ, Bool, true, false, ◌&&◌, not, List, [], ◌∷◌, ◌++◌, Option, Some, None, if◌then◌else◌, option_and_then, option_map, Result, Ok, Err, IfSome, map}
+use Rattle.std.specs.Prelude.{is_some, ◌≡◌, ◌≢◌, ℕ, Bool, true, false, ◌&&◌, not, List, [], ◌∷◌, ◌++◌, Option, Some, None, if◌then◌else◌, option_and_then, option_map, nat_le, ◌+◌, ◌*◌, length, Result, Ok, Err, IfSome, map}
 use Rattle.std.specs.Global.{Vec}
 use Rattle.std.specs.List.{list_all}
 use Rattle.rc_text.specs.declared.token.Token.{Token}
@@ -58,6 +58,23 @@ module _ (source : List ℕ) (constants : Table) (rules : RulesView) where
 abbrev pub GivesHeads : Result (Vec Head × Equs) ExpandFault → Option Heads → Type 0
 GivesHeads (Ok p) o = o ≡ Some (record { lines = p.0.items; equs = p.1 })
 GivesHeads (Err e) o = (e.kind ≢ OutOfMemory) → o ≡ None
+
+-- a line other than FOR that unrolling keeps
+abbrev pub is_allowed : HeadWord → (in_block spoiled : Bool) → Bool
+is_allowed word.Rof b s = false
+is_allowed word.Equ true s = false
+is_allowed _ b s = not s
+
+-- tokens to which no ninth counter can be joined, in however many copies: joining one takes two
+-- tokens away, and adds one counter to another
+abbrev pub has_room : ℕ → Token → Bool
+has_room n t = nat_le (2 * length t.joined + n) 18
+
+abbrev pub is_short : List Token → Bool
+is_short ts = list_all (has_room (length ts)) ts
+
+abbrev pub is_short_line : Head → Bool
+is_short_line h = list_all is_short h.labels && is_short h.rest
 
 -- what the FOR of a block says, as the definition has it; a fault other than OutOfMemory means that
 -- it opens nothing

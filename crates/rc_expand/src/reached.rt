@@ -3,12 +3,15 @@ ghost use Rattle.std.specs.Prelude.{◌≡◌, List, ℕ, map, true, [], IfOk};
 ghost use Rattle.rc_expand.specs.Lines.{HeadLies, bare_line};
 ghost use Rattle.rc_expand.specs.declared.head.Head.{Head};
 ghost use Rattle.rc_expand.specs.Unroll.{earlier_of, copied_line};
+ghost use Rattle.std.specs.List.{list_all};
+ghost use Rattle.rc_expand.specs.Steps.{has_room, is_short, is_short_line};
 ghost use Rattle.rc_expand.specs.Reached.{line_in, lines_in, reached_line};
 
 use crate::copy::{clone_head, copy_line};
 use crate::head::{Head, HeadWord};
 use crate::line::Tokens;
 use crate::opening::earlier_labels;
+use rc_text::Token;
 use std::alloc::{AllocError, Global};
 
 // A copy of a block: its counter, and the counter's number.
@@ -70,6 +73,32 @@ pub(crate) fn with_copy<'a>(
     let mut all = clone_copies(alloc, copies)?;
     all.push(Copying { counter, number })?;
     Ok(all)
+}
+
+// Checks for a line to which no ninth counter can be joined, in however many copies it stands.
+pub(crate) fn is_short_line(head: &Head) -> bool
+    ensures { result ≡ is_short_line head.now }
+{
+    are_short(head.labels.as_slice()) && is_short(head.rest.as_slice())
+}
+
+fn are_short(labels: &[Tokens]) -> bool
+    ensures { result ≡ list_all is_short labels.now }
+{
+    labels.iter().all(|label| is_short(label.as_slice()))
+}
+
+fn is_short(tokens: &[Token]) -> bool
+    ensures { result ≡ is_short tokens.now }
+{
+    tokens.iter().all(|token| has_room(token, tokens.len()))
+}
+
+// Checks whether counters may be joined to one of `len` tokens: joining one takes two tokens away.
+fn has_room(token: &Token, len: usize) -> bool
+    ensures { result ≡ has_room len token.now }
+{
+    len <= 18 && 2 * token.joined.len() + len <= 18
 }
 
 impl<'a> Reached<'a> {

@@ -2,7 +2,7 @@
 ghost use Rattle.std.specs.Prelude.{◌≡◌, ◌≢◌, List, ℕ, Bool, ◌++◌, ◌∷◌, [], ◌+◌, ◌<◌, ◌≤◌, length, All, IfOk, IfSome, OnOk, MatchOption, MatchResult, option_map, Some, None, true, false};
 ghost use Rattle.rc_expand.specs.Lines.{HeadLies};
 ghost use Rattle.rc_expand.specs.Unroll.{Cut, cut, Unrolled, Appends, earlier_line, earlier_of, unrolled};
-ghost use Rattle.rc_expand.specs.Steps.{GivesLines};
+ghost use Rattle.rc_expand.specs.Steps.{GivesLines, is_allowed};
 ghost use Rattle.rc_expand.specs.Reached.{line_in, lines_in, reached_part, reached_lines, ReachedLies};
 ghost use Rattle.rc_expand.specs.declared.fault.ExpandKind.TheVariants.{OutOfMemory};
 ghost use Rattle.rc_expand.specs.Context.{table, IsContext, unrolled_by, block_by, copy_by, copies_by, unrolled_line_by};
@@ -11,7 +11,7 @@ use crate::context::Context;
 use crate::fault::{ExpandFault, ExpandKind, fault};
 use crate::head::{Head, HeadWord, Labels};
 use crate::opening::{begin_block, check_rof};
-use crate::reached::{Copying, Reached, clone_copies, make_line, with_copy};
+use crate::reached::{Copying, Reached, clone_copies, is_short_line, make_line, with_copy};
 
 // The lines so far, and the number of copies of blocks. Together they are at most 4096.
 #[derive(Drop)]
@@ -127,12 +127,10 @@ fn append<'a>(
     Ok(())
 }
 
-// Refuses a ROF alone, an EQU in a block, and a line to which a ninth counter was to be joined.
-#[tactic(auto, unfolding(crate::specs::Unroll::one_line))]
-fn check_line(context: &Context, head: &Head, in_block: bool) -> Result<(), ExpandFault>
-    ensures { MatchResult result
-        (λ u. unrolled_line_by context.now in_block head.now ≡ Some (record { lines = head.now ∷ []; copies = 0 }))
-        (λ e. unrolled_line_by context.now in_block head.now ≡ None) }
+// Refuses a ROF alone, an EQU in a block, and a line to which a ninth counter was to be joined. What
+// is said of the line holds of every one with its word and as spoiled as it is.
+fn check_line(head: &Head, in_block: bool) -> Result<(), ExpandFault>
+    ensures { MatchResult result (λ u. is_allowed head.now.word in_block head.now.spoiled ≡ true) (λ e. is_allowed head.now.word in_block head.now.spoiled ≡ false) }
 {
     match head.word {
         HeadWord::Rof => return Err(fault(head.number, ExpandKind::RofWithoutFor)),
@@ -159,13 +157,11 @@ fn check_copied_line(
         (λ u. unrolled_line_by context.now in_block (line_in context.now.source.now copies.now head.now) ≡ Some (record { lines = line_in context.now.source.now copies.now head.now ∷ []; copies = 0 }))
         (λ e. e.kind ≢ OutOfMemory → unrolled_line_by context.now in_block (line_in context.now.source.now copies.now head.now) ≡ None) }
 {
-    match copies {
-        [] => check_line(context, head, in_block),
-        _ => {
-            let made = make_line(context.alloc, context.source, copies, head)?;
-            check_line(context, &made, in_block)
-        }
+    if copies.is_empty() || is_short_line(head) {
+        return check_line(head, in_block);
     }
+    let made = make_line(context.alloc, context.source, copies, head)?;
+    check_line(&made, in_block)
 }
 
 // Appends a line other than FOR, as it stands in `copies`.
