@@ -12,14 +12,18 @@ look:
 	@sh examples/look.sh
 
 # Runs the whole gate: every proof from nothing, every test, every edit that must be refused, with
-# the gate's last line. If it passed, plays the cases of input and output against the program that
-# it proved and built, and ends with their last line. Fails if either fails.
+# the gate's last line. If it passed, assembles the texts that ask for much with the program that it
+# proved and built, plays the cases of input and output against it, and ends with their last line.
+# Fails if one of these fails.
 test:
 	@RT_JOBS=$(LANES) rt ci
+	@python3 tools/large_texts.py $(PROGRAM)
 	@python3 tools/run_cases.py $(PROGRAM)
 
-# Proves and builds the program, and plays the cases of input and output alone.
+# Proves and builds the program, assembles the texts that ask for much, and plays the cases of input
+# and output alone.
 cases: build
+	@python3 tools/large_texts.py $(PROGRAM)
 	@python3 tools/run_cases.py $(PROGRAM)
 
 # Proves the crates one by one, with a line for each, if the program is not built yet; otherwise
