@@ -34,14 +34,46 @@ LONG = "n" * 60000
 
 # Name, text, and the fault that is told.
 TEXTS = [
-    ("a long line in many copies", filled("FOR 2048\n", "1 ", "\nROF\n"), "line 2 Expand TooManyTokens"),
-    ("many operands in many copies", filled("FOR 2048\nDAT 1", ",1", "\nROF\n"), "line 2 Expand TooManyTokens"),
-    ("a dropped block in many copies", filled("i FOR 4096\nFOR 0\n", "x\n", "ROF\nROF\n"), "line 0 Warrior Empty"),
-    ("blocks in a dropped block", filled("i FOR 4096\nFOR 0\n", "FOR 1\nx\nROF\n", "ROF\nROF\n"), "line 0 Warrior Empty"),
-    ("many labels in many copies", f"i FOR 2048\n{LABELS}\nROF\nDAT 0\n", "line 4 Expand TooManyLines"),
-    ("joined labels in many copies", filled("i FOR 2048\n", "a&i ", "\nROF\nDAT 0\n"), "line 4 Expand TooManyLines"),
-    ("a long name in many copies", f"FOR 1365\nDAT {LONG}\nNOP\nROF\n", "line 2 Value UnknownName"),
-    ("a long label in many copies", f"i FOR 2048\n{LONG}&i NOP\nROF\n", "line 0 Warrior TooLong"),
+    (
+        "a long line in many copies",
+        filled("FOR 2048\n", "1 ", "\nROF\n"),
+        "line 2 Expand TooManyTokens",
+    ),
+    (
+        "many operands in many copies",
+        filled("FOR 2048\nDAT 1", ",1", "\nROF\n"),
+        "line 2 Expand TooManyTokens",
+    ),
+    (
+        "a dropped block in many copies",
+        filled("i FOR 4096\nFOR 0\n", "x\n", "ROF\nROF\n"),
+        "line 0 Warrior Empty",
+    ),
+    (
+        "blocks in a dropped block",
+        filled("i FOR 4096\nFOR 0\n", "FOR 1\nx\nROF\n", "ROF\nROF\n"),
+        "line 0 Warrior Empty",
+    ),
+    (
+        "many labels in many copies",
+        f"i FOR 2048\n{LABELS}\nROF\nDAT 0\n",
+        "line 4 Expand TooManyLines",
+    ),
+    (
+        "joined labels in many copies",
+        filled("i FOR 2048\n", "a&i ", "\nROF\nDAT 0\n"),
+        "line 4 Expand TooManyLines",
+    ),
+    (
+        "a long name in many copies",
+        f"FOR 1365\nDAT {LONG}\nNOP\nROF\n",
+        "line 2 Value UnknownName",
+    ),
+    (
+        "a long label in many copies",
+        f"i FOR 2048\n{LONG}&i NOP\nROF\n",
+        "line 0 Warrior TooLong",
+    ),
     ("EQU names that double", chain(), "line 16 Expand TooManyTokens"),
     ("a line of signs", "DAT " + "-" * 65000 + "1\n", "line 1 Expand TooManyTokens"),
 ]
