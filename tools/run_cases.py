@@ -12,7 +12,11 @@ of a whole output it may say `out_begins`, `err_begins` (and a line feed ends it
 and none may be new. `stdin_from` and `out_to` are paths in place of the standard streams.
 `each` is a list of tables such as `{ files."x.red" = "DAT 0", out = ".." }`: the case is played once
 for each of them, with the table merged over it: its keys replace those of the case, and its files
-are added to the files of the case.
+are added to the files of the case. `runs` is such a list too, whose tables may have `words`: the
+case is played once for each pair of a run and a table of `each`. With `fill.place = "Asm"`, in a
+case or in a table, `$place` stands for `Asm` in `words`, `stdin`, `out` and `err`.
+`long` makes long files: `long."x.red" = { text = ";", times = 65537 }`, also with a `head` that
+comes once before the text.
 `each_beginning_of` is `stdin` or the name of a file of the case, which is then played once for each
 beginning of that text, except for the whole.
 
@@ -21,12 +25,15 @@ or there is none. A case that says anything else, or no `status`, is an error.
 """
 import concurrent.futures, os, pathlib, shlex, string, subprocess, sys, tempfile, tomllib
 
-NEEDED = {"name": str, "words": str, "status": int}
+NEEDED = {"name": str, "status": int}
 OPTIONAL = {
     "files": dict, "folders": list, "stdin": str, "stdin_from": str, "out_to": str, "cert": str,
     "each": list, "each_beginning_of": str, "out": str, "out_begins": str, "out_contains": list,
-    "err": str, "err_begins": str,
+    "err": str, "err_begins": str, "words": str, "runs": list, "fill": dict, "long": dict,
 }
+# what the tables of `runs` and `each` may say
+MERGED = {**OPTIONAL, "status": int, "runs": None, "each": None}
+LONG = {"head": str, "text": str, "times": int}
 SHARED = {"files": dict, "folders": list, "words": dict, "case": list}
 SECONDS = 60
 
@@ -38,16 +45,37 @@ def check_keys(table, kinds, needed, where):
             sys.exit(f"{where}: `{key}` is missing or unknown, or its value is of another type")
 
 
-def variants(case):
-    """Returns the case, or one for each table of its list `each`."""
-    if "each" not in case:
+def variants(case, key):
+    """Returns the case, or one for each table of its list `each` or `runs`."""
+    if key not in case:
         return [case]
     cases = []
-    for number, table in enumerate(case["each"], 1):
-        name = f"{case['name']} (table {number})"
-        check_keys(table, {**OPTIONAL, "status": int, "each": None}, [], name)
-        cases.append(case | table | {"name": name, "files": case["files"] | table.get("files", {})})
-    return cases or sys.exit(f"{case['name']}: `each` is empty")
+    for number, table in enumerate(case[key], 1):
+        name = f"{case['name']} ({'table' if key == 'each' else 'run'} {number})"
+        check_keys(table, MERGED, [], name)
+        merged = {"name": name}
+        for part in ["files", "fill", "long"]:
+            merged[part] = case[part] | table.get(part, {})
+        cases.append(case | table | merged)
+    return cases or sys.exit(f"{case['name']}: `{key}` is empty")
+
+
+def filled(case):
+    """Returns the case with its words parted, its long files made, and names put in by `fill`."""
+    if "words" not in case:
+        sys.exit(f"{case['name']}: `words` is missing")
+    files = dict(case["files"])
+    for name, long in case["long"].items():
+        check_keys(long, LONG, ["text", "times"], case["name"])
+        files[name] = long.get("head", "") + long["text"] * long["times"]
+    words = string.Template(case["words"]).substitute(case["shared_words"] | case["fill"])
+    made = {"files": files, "words": shlex.split(words)}
+    for key in ["stdin", "out", "err"] if case["fill"] else []:
+        if key in case:
+            # twice, since what is put in may have a name
+            once = string.Template(case[key]).safe_substitute(case["fill"])
+            made[key] = string.Template(once).safe_substitute(case["fill"])
+    return case | made
 
 
 def beginnings(case):
@@ -73,11 +101,12 @@ def read_cases(path):
         name = f"{path}: {case.get('name')}"
         check_keys(case, NEEDED | OPTIONAL, NEEDED, name)
         case["name"] = name
-        words = string.Template(case["words"]).substitute(table.get("words", {}))
-        case["words"] = shlex.split(words)
+        case["shared_words"] = table.get("words", {})
         case["files"] = table.get("files", {}) | case.get("files", {})
         case["folders"] = table.get("folders", []) + case.get("folders", [])
-        cases += [cut for variant in variants(case) for cut in beginnings(variant)]
+        case = {"fill": {}, "long": {}} | case
+        tables = [one for run in variants(case, "runs") for one in variants(run, "each")]
+        cases += [cut for one in tables for cut in beginnings(filled(one))]
     if len({case["name"] for case in cases}) < len(cases):
         sys.exit(f"{path}: two cases have one name")
     return cases
