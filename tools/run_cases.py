@@ -10,11 +10,11 @@ what is not empty of `files` (name to text), `folders` (names), `stdin`, `out` a
 of a whole output it may say `out_begins`, `err_begins` (and a line feed ends it) or `out_contains`
 (a list). `cert` is the text of the file CERT after the run. All other files have to be as before,
 and none may be new. `stdin_from` and `out_to` are paths in place of the standard streams.
-`each` is a list of tables such as `{ files."x.red" = "DAT 0", out = ".." }`: the case is played once
-for each of them, with the table merged over it: its keys replace those of the case, and its files
-are added to the files of the case. `runs` is such a list too, whose tables may have `words`: the
-case is played once for each pair of a run and a table of `each`. With `fill.place = "Asm"`, in a
-case or in a table, `$place` stands for `Asm` in `words`, `stdin`, `out` and `err`.
+`each` is a list of tables such as `{ files."x.red" = "DAT 0", out = ".." }`: the case is played
+once for each of them, with the table merged over it: its keys replace those of the case, and its
+files are added to the files of the case. `runs` is such a list too: a case that has both is played
+once for each pair of a run and a table of `each`. With `fill.place = "Asm"`, in a
+case or in a table, `$place` stands for `Asm` in `words`, `files`, `stdin`, `out` and `err`.
 `long` makes long files: `long."x.red" = { text = ";", times = 65537 }`, also with a `head` that
 comes once before the text.
 `each_beginning_of` is `stdin` or the name of a file of the case, which is then played once for each
@@ -60,22 +60,25 @@ def variants(case, key):
     return cases or sys.exit(f"{case['name']}: `{key}` is empty")
 
 
+def fill(text, names):
+    """Puts in what names stand for, which may have names in turn, up to three deep."""
+    for _ in range(3 if names else 0):
+        text = string.Template(text).safe_substitute(names)
+    return text
+
+
 def filled(case):
     """Returns the case with its words parted, its long files made, and names put in by `fill`."""
     if "words" not in case:
         sys.exit(f"{case['name']}: `words` is missing")
-    files = dict(case["files"])
+    names = case["fill"]
+    words = string.Template(case["words"]).substitute(case["shared_words"] | names)
+    files = {name: fill(text, names) for name, text in case["files"].items()}
     for name, long in case["long"].items():
         check_keys(long, LONG, ["text", "times"], case["name"])
         files[name] = long.get("head", "") + long["text"] * long["times"]
-    words = string.Template(case["words"]).substitute(case["shared_words"] | case["fill"])
-    made = {"files": files, "words": shlex.split(words)}
-    for key in ["stdin", "out", "err"] if case["fill"] else []:
-        if key in case:
-            # twice, since what is put in may have a name
-            once = string.Template(case[key]).safe_substitute(case["fill"])
-            made[key] = string.Template(once).safe_substitute(case["fill"])
-    return case | made
+    made = {key: fill(case[key], names) for key in ["stdin", "out", "err"] if key in case}
+    return case | made | {"files": files, "words": shlex.split(words)}
 
 
 def beginnings(case):
