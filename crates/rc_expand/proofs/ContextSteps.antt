@@ -110,13 +110,6 @@ module _ (s : Context) (levels : ℕ) where
       ∙ (ap (λ hs. option_map one_more_copy (deeper hs)) d
       ∙ ap (λ n. option_map one_more_copy (deeper_at s.source.now (table s) s.rules.now s.equs.now n copied)) n)
 
-  -- the lines of a copy without a counter
-  pub same_copy_is : (counter : Option (List ℕ)) (block : List Head) (k : ℕ) → 0 < levels → counter ≡ None → copy_by s levels counter block k ≡ option_map one_more_copy (unrolled_by s true (levels - 1) block)
-  same_copy_is counter block k h e =
-      let n : levels ≡ suc (levels - 1) = omega arith in
-      ap (λ c. copy_by s levels c block k) e
-      ∙ ap (λ n. option_map one_more_copy (deeper_at s.source.now (table s) s.rules.now s.equs.now n block)) n
-
   -- the same for lines of the text as they stand in copies
   module _ (cs : List Copying) (b : Bool) (lines : List Head) where
     pub block_first_in : (h : Head) (hs : List Head) (c : Cut) → lines ≡ h ∷ hs → h.word ≡ word.For → cut 0 hs ≡ Some c

@@ -66,13 +66,3 @@ module _ (source : List ℕ) where
   pub reached_length : (rs : List Reached) → length (reached_lines source rs) ≡ length rs
   reached_length [] = refl
   reached_length (r ∷ rs) = ap suc (reached_length rs)
-
-  -- one more line was reached
-  pub reached_push : (rs : List Reached) (r : Reached) → reached_lines source (rs ++ (r ∷ [])) ≡ reached_lines source rs ++ (reached_line source r ∷ [])
-  reached_push [] r = refl
-  reached_push (s ∷ rs) r = ap (λ xs. reached_line source s ∷ xs) (reached_push rs r)
-
--- labels before a counter are one line
-pub earlier_is : (n : ℕ) (ls : List (List Token)) → 0 < length ls → earlier_line n ls ≡ bare_line n ls ∷ []
-earlier_is n [] h = absurd (omega arith)
-earlier_is n (l ∷ ls) h = refl

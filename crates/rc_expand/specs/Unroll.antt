@@ -21,7 +21,8 @@ use Rattle.rc_expand.specs.Names.{Table, entry_of, given_names, CURLINE}
 use Rattle.rc_expand.specs.Lines.{choose, is_name_token, is_ampersand, is_colon, is_free, has_modifier, is_unjoined, bare_line}
 use Rattle.rc_expand.specs.Replace.{Equs, replaced_tokens}
 
--- what the FOR of a block says: its counter, the labels before the counter, and the number of copies
+-- what the FOR of a block says: its counter, the labels before the counter, and the number of
+-- copies
 pub record Opening : Type 0 where
   pub counter : Option (List ℕ)
   pub earlier : List (List Token)

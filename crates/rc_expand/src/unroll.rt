@@ -20,7 +20,8 @@ pub(crate) struct Unrolling<'a> {
     copies: usize,
 }
 
-// Appends lines as they stand in `copies`, with their blocks unrolled, which may nest `levels` deep.
+// Appends lines as they stand in `copies`, with their blocks unrolled. Blocks may nest `levels`
+// deep.
 #[cycle(unroll)]
 pub(crate) fn append_lines<'a>(
     out: &mut Unrolling<'a>,
@@ -127,8 +128,8 @@ fn append<'a>(
     Ok(())
 }
 
-// Refuses a ROF alone, an EQU in a block, and a line to which a ninth counter was to be joined. What
-// is said of the line holds of every one with its word and as spoiled as it is.
+// Refuses a ROF alone, an EQU in a block, and a line to which a ninth counter was to be joined. This
+// depends on nothing of a line but its word and whether it is spoiled.
 fn check_line(head: &Head, in_block: bool) -> Result<(), ExpandFault>
     ensures { MatchResult result (λ u. is_allowed head.now.word in_block head.now.spoiled ≡ true) (λ e. is_allowed head.now.word in_block head.now.spoiled ≡ false) }
 {
