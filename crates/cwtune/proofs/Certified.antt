@@ -1,9 +1,11 @@
 -- What a tuning wrote is accepted, and what is accepted names what the tuning found.
-use Rattle.std.proofs.Common.{◌≡◌, ℕ, ℤ, List, Option, true, sym, ◌∙◌, ap, subst}
+use Rattle.std.proofs.Common.{◌≡◌, ◌≤◌, ℕ, ℤ, List, Option, true, sym, ◌∙◌, ap, subst}
 use Rattle.std.specs.Io.KnownBytes.{Appends}
 use Rattle.mars_fight.specs.Records.{Fields, records_of}
 use Rattle.tune_template.specs.Instances.{InputsView}
 use Rattle.tune_cert.specs.Problem.{Problem, IsProblem, problem_of}
+use Rattle.tune_cert.specs.Optimum.{greatest_of}
+use Rattle.tune_cert.proofs.Weights.{greatest_is}
 use Rattle.tune_cert.specs.CertText.{cert_text, cert_of}
 use Rattle.tune_cert.specs.Spelling.{Spells}
 use Rattle.tune_cert.specs.Verdict.{IsVerdict}
@@ -18,10 +20,12 @@ use Rattle.cwtune.specs.Report.{report_text, report_for}
 use Rattle.cwtune.specs.TuneRun.{Texts, Means, IsTuning, WritesTuning}
 use Rattle.cwtune.specs.CheckRun.{accepts, check_line, IsRightVerdict, WritesVerdict}
 use Rattle.cwtune.proofs.Meaning.{one_meaning}
-use Rattle.cwtune.proofs.Writable.{few_fights, writable}
+use Rattle.cwtune.proofs.Writable.{few_fights, most_points, writable}
 
 pub spelled : (t : Texts) (capacity : ℕ) (i : InputsView) (f : Found) → Means t i → IsSearch (problem_of i) capacity f → Spells (records_of (cert_text (cert_of f))) (cert_of f)
-spelled t capacity i f m s = written (cert_of f) (writable (problem_of i) (inputs_problem i) (few_fights _ _ _ i.schedule m.schedule) capacity f s)
+spelled t capacity i f m s =
+    let most : greatest_of (problem_of i) ≤ 30000000 = subst (λ (n : ℕ). n ≤ 30000000) (greatest_is i) (most_points _ _ _ i.schedule m.schedule) in
+    written (cert_of f) (writable (problem_of i) (inputs_problem i) (few_fights _ _ _ i.schedule m.schedule) most capacity f s)
 
 pub accepted : (t : Texts) (capacity : ℕ) (i : InputsView) (f : Found) (v : Verdict) → Means t i → IsSearch (problem_of i) capacity f →
     IsRightVerdict (problem_of i) (records_of (cert_text (cert_of f))) v → v ≡ Accepted f.best f.total

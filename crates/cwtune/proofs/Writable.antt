@@ -1,20 +1,23 @@
 -- What a search found can be written down as a certificate.
-use Rattle.std.proofs.Common.{◌≡◌, ℕ, suc, ◌+◌, ◌^◌, ◌<◌, ◌≤◌, arith, Bool, true, false, ◌&&◌, nat_lt, if◌then◌else◌, List, [], ◌∷◌, Option, Some, None, All, length, drop, refl, sym, subst}
+use Rattle.std.proofs.Common.{◌≡◌, ℕ, suc, ◌+◌, ◌*◌, ◌^◌, ◌<◌, ◌≤◌, arith, Bool, true, false, ◌&&◌, nat_lt, if◌then◌else◌, List, [], ◌∷◌, Option, Some, None, All, length, drop, refl, sym, subst, inl, inr}
 use Rattle.std.specs.Prelude.{nat_le, option_and_then}
-use Rattle.std.specs.List.{slice_get}
+use Rattle.std.specs.List.{slice_get, sum_by}
+use Rattle.std.proofs.lemmas.List.Sums.{sum_by-le}
 use Rattle.std.proofs.lemmas.Bool.Decides.{nat_tests}
 use Rattle.std.proofs.lemmas.List.Elements.{All-nil, All-cons}
 use Rattle.rc_instr.specs.Rules.{RulesView}
 use Rattle.rc_instr.specs.Warrior.{WarriorView}
 use Rattle.mars_fight.specs.Play.{ArePoints}
 use Rattle.mars_fight.specs.Records.{records_of}
-use Rattle.mars_fight.specs.Schedule.{is_headed, fights_in, within_limit, fights_of}
+use Rattle.mars_fight.specs.Schedule.{header_of, fights_in, fights_under, within_limit, fights_of}
+use Rattle.mars_fight.specs.Listed.{IsFight, greatest_points}
+use Rattle.mars_fight.proofs.Listed.{scheduled_fights}
 use Rattle.mars_fight.specs.declared.fight.Fight.{Fight}
 use Rattle.tune_cert.specs.Problem.{Problem, IsProblem}
-use Rattle.tune_cert.specs.Optimum.{total_of}
-use Rattle.tune_cert.specs.Valid.{IsCapRow, IsRightRow}
+use Rattle.tune_cert.specs.Optimum.{total_of, greatest_of}
+use Rattle.tune_cert.specs.Valid.{IsCapRow, IsRightRow, IsOwnVersion}
 use Rattle.tune_cert.specs.CertText.{cert_of}
-use Rattle.tune_cert.specs.Spelling.{IsItem, IsRow, IsCert}
+use Rattle.tune_cert.specs.Spelling.{IsVersion, IsItem, IsRow, IsCert}
 use Rattle.tune_cert.specs.declared.cert.Found.{Found}
 use Rattle.tune_cert.specs.declared.cert.Row.{Row}
 use Rattle.tune_cert.specs.declared.cert.Row.TheVariants.{Refused, Same, Cap}
@@ -36,15 +39,33 @@ limited_of : (o : Option (List Fight)) (y : List Fight) → option_and_then with
 limited_of None y e = absurd (cc)
 limited_of (Some x) y e = limited x y e
 
-headed : (b : Bool) (o : Option (List Fight)) (y : List Fight) → (if b then option_and_then within_limit o else None) ≡ Some y → length y ≤ 10000
-headed true o y e = limited_of o y e
-headed false o y e = absurd (cc)
+-- fights under a header, whatever it says of the columns
+by_header : {K : Type 0} (under : Option K → Option (List Fight)) (header : Option K) (y : List Fight) → (under None ≡ Some y → length y ≤ 10000)
+    → ((columns : K) → under (Some columns) ≡ Some y → length y ≤ 10000) → under header ≡ Some y → length y ≤ 10000
+by_header under None y none some e = none e
+by_header under (Some columns) y none some e = some columns e
 
 pub few_fights : (rules : RulesView) (opponents : ℕ) (bytes : List ℕ) (fights : List Fight) → fights_of rules opponents bytes ≡ Some fights → length fights ≤ 10000
 unfolding fights_of
-few_fights rules opponents bytes fights e = headed (is_headed (records_of bytes)) (fights_in rules opponents (drop 1 (records_of bytes))) fights e
+few_fights rules opponents bytes fights e =
+    by_header (λ header. fights_under rules opponents header (drop 1 (records_of bytes))) (header_of (records_of bytes)) fights (λ none. absurd (cc))
+    (λ columns some. limited_of (fights_in rules opponents columns (drop 1 (records_of bytes))) fights some) e
 
-module _ (p : Problem) (laws : IsProblem p) (few : p.fights ≤ 10000) where
+-- the fights of a schedule cannot give more than 30000000
+pub most_points : (rules : RulesView) (opponents : ℕ) (bytes : List ℕ) (fights : List Fight) → fights_of rules opponents bytes ≡ Some fights → greatest_points fights ≤ 30000000
+unfolding fights_of greatest_points
+most_points rules opponents bytes fights e =
+    let all : All (IsFight rules opponents) fights = scheduled_fights rules opponents (records_of bytes) fights e in
+    let few : length fights ≤ 10000 = few_fights rules opponents bytes fights e in
+    let most : sum_by (λ (f : Fight). 3 * f.weight) fights ≤ length fights * 3000 =
+    sum_by-le (λ (f : Fight). 3 * f.weight) 3000 fights (λ k d l. let h = all k d l in omega (arith, h.weight.most)) in
+    omega (arith, few, most)
+
+-- a version that a search writes can be written down
+is_version : (p : Problem) (version : ℕ) → IsOwnVersion p version → IsVersion version
+is_version p version h = elim h [ inl a ↦ inl a.0 | inr b ↦ inr b.0 ]
+
+module _ (p : Problem) (laws : IsProblem p) (few : p.fights ≤ 10000) (most : greatest_of p ≤ 30000000) where
   items_of : (x : WarriorView) (a : ℕ) (row : List (ℕ × ℕ)) → IsCapRow p x a row → All IsItem row
   items_of x a [] h = All-nil IsItem
   items_of x a (e ∷ row) h =
@@ -70,9 +91,10 @@ module _ (p : Problem) (laws : IsProblem p) (few : p.fights ≤ 10000) where
         let inside : f.best < p.count = s.valid.best_inside in
         let total : total_of p s.total_is.0 ≡ f.total = s.total_is.2 in
         record {
+          version = is_version p f.version s.version;
           count = omega arith;
           best = omega (arith, all_rows);
-          total = omega (arith, few, total_few p laws s.total_is.0);
+          total = omega (arith, most, total_few p laws s.total_is.0);
           rows = rows_of f.rows (λ v row at. row_of v row (s.valid.right v row at));
           few = omega arith;
         }

@@ -10,7 +10,7 @@ use Rattle.tune_cert.specs.Valid.{IsValid}
 use Rattle.tune_cert.specs.Verdict.{IsVerdict, IsFirst}
 use Rattle.tune_cert.specs.declared.cert.Cert.{Cert}
 use Rattle.tune_cert.specs.declared.verdict.Reason.{Reason}
-use Rattle.tune_cert.specs.declared.verdict.Reason.TheVariants.{Malformed, RowCount, BestRow, WrongPoints, RepeatedFight, CapTooHigh, NotSame, NotRefused}
+use Rattle.tune_cert.specs.declared.verdict.Reason.TheVariants.{Malformed, RowCount, BestRow, WrongPoints, RepeatedFight, CapTooHigh, NotSame, NotRefused, Version}
 use Rattle.tune_cert.specs.declared.verdict.Verdict.{Verdict}
 use Rattle.tune_cert.specs.declared.verdict.Verdict.TheVariants.{Accepted, Rejected}
 use Rattle.cwtune.specs.TuneRun.{Texts, Means}
@@ -24,6 +24,7 @@ reason_text RepeatedFight = codes "RepeatedFight"
 reason_text CapTooHigh = codes "CapTooHigh"
 reason_text NotSame = codes "NotSame"
 reason_text NotRefused = codes "NotRefused"
+reason_text Version = codes "Version"
 
 -- `accepted best W total T`, or `rejected row R REASON`.
 abbrev pub check_line : Verdict → List ℕ

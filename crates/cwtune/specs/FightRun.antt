@@ -10,7 +10,7 @@ use Rattle.rc_instr.specs.declared.loadfile.fault.LoadFault.{LoadFault}
 use Rattle.rc_instr.specs.declared.loadfile.fault.LoadFault.TheVariants.{OutOfMemory as MemoryFault}
 use Rattle.mars_core.specs.State.{start_of}
 use Rattle.mars_core.specs.Fight.{outcome_of}
-use Rattle.mars_fight.specs.Placing.{IsPosition}
+use Rattle.mars_fight.specs.Listed.{IsPosition}
 use Rattle.mars_core.specs.declared.arena.Outcome.{Outcome}
 use Rattle.mars_core.specs.declared.side.Side.{Side}
 use Rattle.mars_core.specs.declared.side.Side.TheVariants.{Candidate, Opponent}

@@ -139,6 +139,7 @@ fn schedule_name(kind: ScheduleFaultKind) -> &'static str {
         ScheduleFaultKind::Empty => "Empty",
         ScheduleFaultKind::TooMany => "TooMany",
         ScheduleFaultKind::OutOfMemory => "OutOfMemory",
+        ScheduleFaultKind::BadWeight => "BadWeight",
     }
 }
 

@@ -2,7 +2,7 @@
 ghost use Rattle.std.specs.Prelude.{◌≡◌, ◌≢◌, ◌≤◌, ◌<◌, [], length, map, All, IfOk, IfErr, Some, Err};
 ghost use Rattle.rc_instr.specs.Warrior.{Fits};
 ghost use Rattle.rc_asm.specs.Assembly.{Assembles};
-ghost use Rattle.mars_fight.specs.Placing.{IsPlaced};
+ghost use Rattle.mars_fight.specs.Listed.{IsFight};
 ghost use Rattle.mars_fight.specs.Schedule.{fights_of};
 ghost use Rattle.cwtune.specs.TuneRun.{texts, IsTemplate, AreOpponents, Means, IsTemplateRefusal, IsRefusalOf, AreRefused, HasNoFights, IsTuneRefusal};
 
@@ -67,7 +67,7 @@ fn schedule_of(
     rules: &Rules,
 ) -> Result<Schedule, RunFault>
     ensures schedule { IfOk result (λ s. fights_of rules.now opponents text.now ≡ Some s) }
-    ensures placed { IfOk result (λ s. All (IsPlaced rules.now opponents) s) }
+    ensures fights { IfOk result (λ s. All (IsFight rules.now opponents) s) }
     ensures refused { IfErr result (λ e. HasNoFights e rules.now opponents text.now) }
 {
     match Schedule::read(alloc, text, opponents, rules) {

@@ -56,6 +56,7 @@ fn reason_word(reason: Reason) -> &'static [u8]
         Reason::CapTooHigh => b"CapTooHigh",
         Reason::NotSame => b"NotSame",
         Reason::NotRefused => b"NotRefused",
+        Reason::Version => b"Version",
     }
 }
 

@@ -7,11 +7,13 @@ use Rattle.rc_instr.specs.Rules.{RulesView}
 use Rattle.mars_core.specs.declared.side.Side.{Side}
 use Rattle.mars_fight.specs.Records.{Fields}
 use Rattle.mars_fight.specs.Decimal.{padded_decimal}
-use Rattle.mars_fight.specs.Schedule.{opponent_of, position_of, mover_named, fight_made, fight_of, fights_in, within_limit, is_headed, scheduled}
+use Rattle.mars_fight.specs.Schedule.{opponent_of, position_of, mover_named, weight_of, fight_made, plain_fight, weighted_fight, fight_of, fights_in, within_limit, header_of, scheduled}
 use Rattle.mars_fight.specs.ScheduleRefusal.{AreFightsRead, IsFirstWrong, IsOneTooMany, IsScheduleFault}
 use Rattle.mars_fight.specs.declared.fight.Fight.{Fight}
+use Rattle.mars_fight.specs.declared.record.Columns.{Columns}
+use Rattle.mars_fight.specs.declared.record.Columns.TheVariants.{Plain, Weighted}
 use Rattle.mars_fight.specs.declared.fault.ScheduleFaultKind.{ScheduleFaultKind}
-use Rattle.mars_fight.specs.declared.fault.ScheduleFaultKind.TheVariants.{Header, FieldCount, BadNumber, NoSuchOpponent, BadPosition, BadFirst, Empty, TooMany, OutOfMemory}
+use Rattle.mars_fight.specs.declared.fault.ScheduleFaultKind.TheVariants.{Header, FieldCount, BadNumber, NoSuchOpponent, BadPosition, BadFirst, Empty, TooMany, OutOfMemory, BadWeight}
 use Rattle.mars_fight.proofs.Meant.{joined, fights_in-append, as_many}
 
 -- the faults that one record can have
@@ -25,6 +27,7 @@ IsRowKind BadNumber = Unit {0}
 IsRowKind NoSuchOpponent = Unit {0}
 IsRowKind BadPosition = Unit {0}
 IsRowKind BadFirst = Unit {0}
+IsRowKind BadWeight = Unit {0}
 
 -- every fault of a result is one that a record can have
 abbrev IsRowResult : {A : Type 0} → Result A ScheduleFaultKind → Type 0
@@ -52,21 +55,45 @@ mover_row [] = tt
 mover_row (x ∷ []) = chosen (x == byte "c") _ _ tt (chosen (x == byte "o") _ (Err BadFirst) tt tt)
 mover_row (x ∷ y ∷ more) = tt
 
--- three fields have no other fault
-made_row : (o p : Result ℕ ScheduleFaultKind) (f : Result Side ScheduleFaultKind) → IsRowResult o → IsRowResult p → IsRowResult f → IsRowResult (fight_made o p f)
-made_row (Err kind) p f a b c = a
-made_row (Ok o) (Err kind) f a b c = b
-made_row (Ok o) (Ok p) (Err kind) a b c = c
-made_row (Ok o) (Ok p) (Ok f) a b c = tt
+-- a weight has no other fault
+weight_row : (number : Option ℕ) → IsRowResult (weight_of number)
+weight_row None = tt
+weight_row (Some number) = chosen (nat_le 1 number && nat_le number 1000) (Ok number) (Err BadWeight) tt tt
+
+-- parts of a fight have no other fault
+made_row : (o p : Result ℕ ScheduleFaultKind) (f : Result Side ScheduleFaultKind) (w : Result ℕ ScheduleFaultKind)
+    → IsRowResult o → IsRowResult p → IsRowResult f → IsRowResult w → IsRowResult (fight_made o p f w)
+made_row (Err kind) p f w a b c d = a
+made_row (Ok o) (Err kind) f w a b c d = b
+made_row (Ok o) (Ok p) (Err kind) w a b c d = c
+made_row (Ok o) (Ok p) (Ok f) (Err kind) a b c d = d
+made_row (Ok o) (Ok p) (Ok f) (Ok w) a b c d = tt
+
+-- a record of three fields has no other fault
+plain_row : (r : RulesView) (n : ℕ) (fields : Fields) → IsRowResult (plain_fight r n fields)
+plain_row r n [] = tt
+plain_row r n (a ∷ []) = tt
+plain_row r n (a ∷ b ∷ []) = tt
+plain_row r n (a ∷ b ∷ c ∷ []) =
+    made_row (opponent_of n (padded_decimal a)) (position_of r (padded_decimal b)) (mover_named c) (Ok 1) (opponent_row n (padded_decimal a)) (position_row r (padded_decimal b)) (mover_row c) tt
+plain_row r n (a ∷ b ∷ c ∷ d ∷ more) = tt
+
+-- a record of four fields has no other fault
+weighted_row : (r : RulesView) (n : ℕ) (fields : Fields) → IsRowResult (weighted_fight r n fields)
+weighted_row r n [] = tt
+weighted_row r n (a ∷ []) = tt
+weighted_row r n (a ∷ b ∷ []) = tt
+weighted_row r n (a ∷ b ∷ c ∷ []) = tt
+weighted_row r n (a ∷ b ∷ c ∷ d ∷ []) =
+    made_row (opponent_of n (padded_decimal a)) (position_of r (padded_decimal b)) (mover_named c) (weight_of (padded_decimal d))
+    (opponent_row n (padded_decimal a)) (position_row r (padded_decimal b)) (mover_row c) (weight_row (padded_decimal d))
+weighted_row r n (a ∷ b ∷ c ∷ d ∷ e ∷ more) = tt
 
 -- a record has no other fault
-fight_row : (r : RulesView) (n : ℕ) (fields : Fields) → IsRowResult (fight_of r n fields)
+fight_row : (r : RulesView) (n : ℕ) (m : Columns) (fields : Fields) → IsRowResult (fight_of r n m fields)
 unfolding fight_of
-fight_row r n [] = tt
-fight_row r n (a ∷ []) = tt
-fight_row r n (a ∷ b ∷ []) = tt
-fight_row r n (a ∷ b ∷ c ∷ []) = made_row (opponent_of n (padded_decimal a)) (position_of r (padded_decimal b)) (mover_named c) (opponent_row n (padded_decimal a)) (position_row r (padded_decimal b)) (mover_row c)
-fight_row r n (a ∷ b ∷ c ∷ d ∷ more) = tt
+fight_row r n Plain fields = plain_row r n fields
+fight_row r n Weighted fields = weighted_row r n fields
 
 -- the fault of a record is one that a record can have
 row_kind : (x : Result Fight ScheduleFaultKind) (kind : ScheduleFaultKind) → IsRowResult x → x ≡ Err kind → IsRowKind kind
@@ -83,31 +110,33 @@ by_kind r n rows row BadNumber h w = w
 by_kind r n rows row NoSuchOpponent h w = w
 by_kind r n rows row BadPosition h w = w
 by_kind r n rows row BadFirst h w = w
+by_kind r n rows row BadWeight h w = w
 
 -- the first record that is wrong is a fault
 pub wrong_fault : (r : RulesView) (n : ℕ) (rows : List Fields) (row : ℕ) (kind : ScheduleFaultKind) → IsFirstWrong r n rows row kind → IsScheduleFault r n rows row kind
-wrong_fault r n rows row kind w = by_kind r n rows row kind (row_kind (fight_of r n w.fields) kind (fight_row r n w.fields) w.wrong) w
+wrong_fault r n rows row kind w = by_kind r n rows row kind (row_kind (fight_of r n w.columns w.fields) kind (fight_row r n w.columns w.fields) w.wrong) w
 
 -- the fights of all records, if some of them were read
-pub read_meant : (r : RulesView) (n : ℕ) (rows : List Fields) (fights : List Fight) (left : List Fields) → AreFightsRead r n rows fights left
-    → fights_in r n (drop 1 rows) ≡ joined (Some fights) (fights_in r n left)
-read_meant r n rows fights left h =
-    ap (λ (l : List Fields). fights_in r n l) h.parted ∙ fights_in-append r n h.before left
-    ∙ ap (λ (o : Option (List Fight)). joined o (fights_in r n left)) h.meant
+pub read_meant : (r : RulesView) (n : ℕ) (m : Columns) (rows : List Fields) (fights : List Fight) (left : List Fields) → AreFightsRead r n m rows fights left
+    → fights_in r n m (drop 1 rows) ≡ joined (Some fights) (fights_in r n m left)
+read_meant r n m rows fights left h =
+    ap (λ (l : List Fields). fights_in r n m l) h.parted ∙ fights_in-append r n m h.before left
+    ∙ ap (λ (o : Option (List Fight)). joined o (fights_in r n m left)) h.meant
 
 -- records without the header are not a schedule
-not_headed : (r : RulesView) (n : ℕ) (rows : List Fields) → is_headed rows ≡ false → scheduled r n rows ≡ None
+not_headed : (r : RulesView) (n : ℕ) (rows : List Fields) → header_of rows ≡ None → scheduled r n rows ≡ None
 not_headed r n rows e = rw e refl
 
 -- the schedule of a header and the records after it
-headed_as : (r : RulesView) (n : ℕ) (rows : List Fields) (o : Option (List Fight)) → is_headed rows ≡ true → fights_in r n (drop 1 rows) ≡ o → scheduled r n rows ≡ option_and_then within_limit o
-headed_as r n rows o h e = rw (h, e) refl
+headed_as : (r : RulesView) (n : ℕ) (m : Columns) (rows : List Fields) (o : Option (List Fight)) → header_of rows ≡ Some m → fights_in r n m (drop 1 rows) ≡ o
+    → scheduled r n rows ≡ option_and_then within_limit o
+headed_as r n m rows o h e = rw (h, e) refl
 
 -- records with a faulty one are not a schedule
 wrong_none : (r : RulesView) (n : ℕ) (rows : List Fields) (row : ℕ) (kind : ScheduleFaultKind) → IsFirstWrong r n rows row kind → scheduled r n rows ≡ None
 wrong_none r n rows row kind w =
-    let none : fights_in r n (w.fields ∷ w.rest) ≡ None = rw w.wrong refl in
-    headed_as r n rows None w.read.headed (read_meant r n rows w.fights (w.fields ∷ w.rest) w.read ∙ rw none refl)
+    let none : fights_in r n w.columns (w.fields ∷ w.rest) ≡ None = rw w.wrong refl in
+    headed_as r n w.columns rows None w.read.headed (read_meant r n w.columns rows w.fights (w.fields ∷ w.rest) w.read ∙ rw none refl)
 
 -- more than 10000 fights are too many
 within_limit-many : (fights : List Fight) → 10000 < length fights → within_limit fights ≡ None
@@ -128,8 +157,8 @@ too_many_joined fights (Some more) many some = within_limit-many (fights ++ more
 -- more than 10000 records are not a schedule
 too_many_none : (r : RulesView) (n : ℕ) (rows : List Fields) (row : ℕ) → IsOneTooMany r n rows row → scheduled r n rows ≡ None
 too_many_none r n rows row w =
-    headed_as r n rows _ w.read.headed (read_meant r n rows w.fights (w.fields ∷ w.rest) w.read)
-    ∙ too_many_joined w.fights (fights_in r n (w.fields ∷ w.rest)) w.many (λ more e. omega (arith, as_many r n (w.fields ∷ w.rest) more e))
+    headed_as r n w.columns rows _ w.read.headed (read_meant r n w.columns rows w.fights (w.fields ∷ w.rest) w.read)
+    ∙ too_many_joined w.fights (fights_in r n w.columns (w.fields ∷ w.rest)) w.many (λ more e. omega (arith, as_many r n w.columns (w.fields ∷ w.rest) more e))
 
 -- nothing comes after a lone record
 alone : (rows : List Fields) → length rows ≡ 1 → drop 1 rows ≡ []
@@ -145,6 +174,7 @@ fault_none r n rows row BadNumber w k = wrong_none r n rows row BadNumber w
 fault_none r n rows row NoSuchOpponent w k = wrong_none r n rows row NoSuchOpponent w
 fault_none r n rows row BadPosition w k = wrong_none r n rows row BadPosition w
 fault_none r n rows row BadFirst w k = wrong_none r n rows row BadFirst w
-fault_none r n rows row Empty w k = headed_as r n rows (Some []) w.1 (rw (alone rows w.2) refl)
+fault_none r n rows row Empty w k = headed_as r n w.1.columns rows (Some []) w.1.headed (rw (alone rows w.1.alone) refl)
 fault_none r n rows row TooMany w k = too_many_none r n rows row w
 fault_none r n rows row OutOfMemory w k = absurd (k refl)
+fault_none r n rows row BadWeight w k = wrong_none r n rows row BadWeight w

@@ -4,5 +4,5 @@ pub mod Powers
 pub mod Meant
 pub mod Faults
 pub mod Walking
-pub mod Placed
+pub mod Listed
 pub mod Points

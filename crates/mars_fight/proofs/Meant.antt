@@ -5,6 +5,7 @@ use Rattle.rc_instr.specs.Rules.{RulesView}
 use Rattle.mars_fight.specs.Records.{Fields}
 use Rattle.mars_fight.specs.Schedule.{fight_of, fights_in, with_first}
 use Rattle.mars_fight.specs.declared.fight.Fight.{Fight}
+use Rattle.mars_fight.specs.declared.record.Columns.{Columns}
 use Rattle.mars_fight.specs.declared.fault.ScheduleFaultKind.{ScheduleFaultKind}
 
 -- the fights of both lists, if both are fights
@@ -26,10 +27,10 @@ none_joined None = refl
 none_joined (Some ys) = refl
 
 -- records in front of others
-pub fights_in-append : (r : RulesView) (n : ℕ) (a b : List Fields) → fights_in r n (a ++ b) ≡ joined (fights_in r n a) (fights_in r n b)
-fights_in-append r n [] b = none_joined (fights_in r n b)
-fights_in-append r n (fields ∷ a) b =
-    ap (λ o. with_first (fight_of r n fields) o) (fights_in-append r n a b) ∙ with_first_joined (fight_of r n fields) (fights_in r n a) (fights_in r n b)
+pub fights_in-append : (r : RulesView) (n : ℕ) (m : Columns) (a b : List Fields) → fights_in r n m (a ++ b) ≡ joined (fights_in r n m a) (fights_in r n m b)
+fights_in-append r n m [] b = none_joined (fights_in r n m b)
+fights_in-append r n m (fields ∷ a) b =
+    ap (λ o. with_first (fight_of r n m fields) o) (fights_in-append r n m a b) ∙ with_first_joined (fight_of r n m fields) (fights_in r n m a) (fights_in r n m b)
 
 -- one more record and one more fight keep the counts alike
 alike_first : (x : Result Fight ScheduleFaultKind) (o : Option (List Fight)) (k : ℕ) (fights : List Fight)
@@ -41,7 +42,7 @@ alike_first (Ok f) (Some more) k fights h e =
     omega (arith, h more refl, ap length same)
 
 -- there are as many fights as records
-pub as_many : (r : RulesView) (n : ℕ) (rows : List Fields) (fights : List Fight) → fights_in r n rows ≡ Some fights → length rows ≡ length fights
-as_many r n [] fights e = let same : [] ≡ fights = cc in ap length same
-as_many r n (fields ∷ rows) fights e =
-    omega (arith, alike_first (fight_of r n fields) (fights_in r n rows) (length rows) fights (λ more h. as_many r n rows more h) e)
+pub as_many : (r : RulesView) (n : ℕ) (m : Columns) (rows : List Fields) (fights : List Fight) → fights_in r n m rows ≡ Some fights → length rows ≡ length fights
+as_many r n m [] fights e = let same : [] ≡ fights = cc in ap length same
+as_many r n m (fields ∷ rows) fights e =
+    omega (arith, alike_first (fight_of r n m fields) (fights_in r n m rows) (length rows) fights (λ more h. as_many r n m rows more h) e)

@@ -3,7 +3,7 @@
 -- A fight gives the candidate the points of the machine's outcome, and leaves a blank arena blank.
 pub mod Records
 pub mod Decimal
-pub mod Placing
+pub mod Listed
 pub mod Schedule
 pub mod ScheduleRefusal
 pub mod Play

@@ -1,5 +1,5 @@
 -- The fights of a schedule.
-use Rattle.std.specs.Prelude.{ℕ, ◌+◌, ◌==◌, nat_lt, nat_le, ◌&&◌, if◌then◌else◌, Bool, false, Option, Some, None, option_and_then, Result, Ok, Err, List, [], ◌∷◌, length, drop, codes, bytes_eq}
+use Rattle.std.specs.Prelude.{ℕ, ◌+◌, ◌==◌, nat_lt, nat_le, ◌&&◌, if◌then◌else◌, Bool, Option, Some, None, option_and_then, Result, Ok, Err, List, [], ◌∷◌, length, drop, codes, bytes_eq}
 use Rattle.std.specs.Str.{byte}
 use Rattle.rc_instr.specs.Rules.{RulesView}
 use Rattle.mars_core.specs.declared.side.Side.{Side}
@@ -7,21 +7,28 @@ use Rattle.mars_core.specs.declared.side.Side.TheVariants.{Candidate, Opponent}
 use Rattle.mars_fight.specs.Records.{Fields, records_of}
 use Rattle.mars_fight.specs.Decimal.{padded_decimal}
 use Rattle.mars_fight.specs.declared.fight.Fight.{Fight}
+use Rattle.mars_fight.specs.declared.record.Columns.{Columns}
+use Rattle.mars_fight.specs.declared.record.Columns.TheVariants.{Plain, Weighted}
 use Rattle.mars_fight.specs.declared.fault.ScheduleFaultKind.{ScheduleFaultKind}
-use Rattle.mars_fight.specs.declared.fault.ScheduleFaultKind.TheVariants.{FieldCount, BadNumber, NoSuchOpponent, BadPosition, BadFirst}
+use Rattle.mars_fight.specs.declared.fault.ScheduleFaultKind.TheVariants.{FieldCount, BadNumber, NoSuchOpponent, BadPosition, BadFirst, BadWeight}
 
--- the header names the three fields
-abbrev pub is_header : Fields → Bool
-is_header [] = false
-is_header (a ∷ []) = false
-is_header (a ∷ b ∷ []) = false
-is_header (a ∷ b ∷ c ∷ []) = bytes_eq a (codes "opponent") && bytes_eq b (codes "position") && bytes_eq c (codes "first")
-is_header (a ∷ b ∷ c ∷ d ∷ more) = false
+-- the names of the first three fields
+abbrev pub names_fight : List ℕ → List ℕ → List ℕ → Bool
+names_fight a b c = bytes_eq a (codes "opponent") && bytes_eq b (codes "position") && bytes_eq c (codes "first")
+
+-- what a header says of the fields: three, or four with a weight. None if it is no header.
+abbrev pub columns_of : Fields → Option Columns
+columns_of [] = None
+columns_of (a ∷ []) = None
+columns_of (a ∷ b ∷ []) = None
+columns_of (a ∷ b ∷ c ∷ []) = if names_fight a b c then Some Plain else None
+columns_of (a ∷ b ∷ c ∷ d ∷ []) = if names_fight a b c && bytes_eq d (codes "weight") then Some Weighted else None
+columns_of (a ∷ b ∷ c ∷ d ∷ e ∷ more) = None
 
 -- the first record is the header
-abbrev pub is_headed : List Fields → Bool
-is_headed [] = false
-is_headed (first ∷ records) = is_header first
+abbrev pub header_of : List Fields → Option Columns
+header_of [] = None
+header_of (first ∷ records) = columns_of first
 
 -- the index of one of `opponents` opponents
 abbrev pub opponent_of : ℕ → Option ℕ → Result ℕ ScheduleFaultKind
@@ -40,20 +47,42 @@ mover_named [] = Err BadFirst
 mover_named (x ∷ []) = if x == byte "c" then Ok Candidate else if x == byte "o" then Ok Opponent else Err BadFirst
 mover_named (x ∷ y ∷ more) = Err BadFirst
 
--- the fight of three fields, or the fault of the leftmost faulty one
-abbrev pub fight_made : Result ℕ ScheduleFaultKind → Result ℕ ScheduleFaultKind → Result Side ScheduleFaultKind → Result Fight ScheduleFaultKind
-fight_made (Err kind) position first = Err kind
-fight_made (Ok opponent) (Err kind) first = Err kind
-fight_made (Ok opponent) (Ok position) (Err kind) = Err kind
-fight_made (Ok opponent) (Ok position) (Ok first) = Ok (record { opponent = opponent; position = position; first = first })
+-- a weight from 1 to 1000
+abbrev pub weight_of : Option ℕ → Result ℕ ScheduleFaultKind
+weight_of None = Err BadNumber
+weight_of (Some number) = if nat_le 1 number && nat_le number 1000 then Ok number else Err BadWeight
 
--- the fight of a record, which has three fields, or what is wrong with it
-unfoldable pub fight_of : RulesView → ℕ → Fields → Result Fight ScheduleFaultKind
-fight_of rules opponents [] = Err FieldCount
-fight_of rules opponents (a ∷ []) = Err FieldCount
-fight_of rules opponents (a ∷ b ∷ []) = Err FieldCount
-fight_of rules opponents (a ∷ b ∷ c ∷ []) = fight_made (opponent_of opponents (padded_decimal a)) (position_of rules (padded_decimal b)) (mover_named c)
-fight_of rules opponents (a ∷ b ∷ c ∷ d ∷ more) = Err FieldCount
+-- the fight of its parts, or the fault of the leftmost faulty one
+abbrev pub fight_made : Result ℕ ScheduleFaultKind → Result ℕ ScheduleFaultKind → Result Side ScheduleFaultKind → Result ℕ ScheduleFaultKind → Result Fight ScheduleFaultKind
+fight_made (Err kind) position first weight = Err kind
+fight_made (Ok opponent) (Err kind) first weight = Err kind
+fight_made (Ok opponent) (Ok position) (Err kind) weight = Err kind
+fight_made (Ok opponent) (Ok position) (Ok first) (Err kind) = Err kind
+fight_made (Ok opponent) (Ok position) (Ok first) (Ok weight) = Ok (record { opponent = opponent; position = position; first = first; weight = weight })
+
+-- the fight of a record without a weight, which has three fields: it counts once
+abbrev pub plain_fight : RulesView → ℕ → Fields → Result Fight ScheduleFaultKind
+plain_fight rules opponents [] = Err FieldCount
+plain_fight rules opponents (a ∷ []) = Err FieldCount
+plain_fight rules opponents (a ∷ b ∷ []) = Err FieldCount
+plain_fight rules opponents (a ∷ b ∷ c ∷ []) =
+    fight_made (opponent_of opponents (padded_decimal a)) (position_of rules (padded_decimal b)) (mover_named c) (Ok 1)
+plain_fight rules opponents (a ∷ b ∷ c ∷ d ∷ more) = Err FieldCount
+
+-- the fight of a record with a weight, which has four fields
+abbrev pub weighted_fight : RulesView → ℕ → Fields → Result Fight ScheduleFaultKind
+weighted_fight rules opponents [] = Err FieldCount
+weighted_fight rules opponents (a ∷ []) = Err FieldCount
+weighted_fight rules opponents (a ∷ b ∷ []) = Err FieldCount
+weighted_fight rules opponents (a ∷ b ∷ c ∷ []) = Err FieldCount
+weighted_fight rules opponents (a ∷ b ∷ c ∷ d ∷ []) =
+    fight_made (opponent_of opponents (padded_decimal a)) (position_of rules (padded_decimal b)) (mover_named c) (weight_of (padded_decimal d))
+weighted_fight rules opponents (a ∷ b ∷ c ∷ d ∷ e ∷ more) = Err FieldCount
+
+-- the fight of a record with the fields that the header names, or what is wrong with it
+unfoldable pub fight_of : RulesView → ℕ → Columns → Fields → Result Fight ScheduleFaultKind
+fight_of rules opponents Plain fields = plain_fight rules opponents fields
+fight_of rules opponents Weighted fields = weighted_fight rules opponents fields
 
 -- a fight before the fights after it; None if either has a fault
 abbrev pub with_first : Result Fight ScheduleFaultKind → Option (List Fight) → Option (List Fight)
@@ -62,17 +91,22 @@ with_first (Ok fight) None = None
 with_first (Ok fight) (Some fights) = Some (fight ∷ fights)
 
 -- the fights of the records, in order, if every record is a fight
-abbrev pub fights_in : RulesView → ℕ → List Fields → Option (List Fight)
-fights_in rules opponents [] = Some []
-fights_in rules opponents (fields ∷ records) = with_first (fight_of rules opponents fields) (fights_in rules opponents records)
+abbrev pub fights_in : RulesView → ℕ → Columns → List Fields → Option (List Fight)
+fights_in rules opponents columns [] = Some []
+fights_in rules opponents columns (fields ∷ records) = with_first (fight_of rules opponents columns fields) (fights_in rules opponents columns records)
 
 -- 1 to 10000 fights
 abbrev pub within_limit : List Fight → Option (List Fight)
 within_limit fights = if nat_lt 0 (length fights) && nat_le (length fights) 10000 then Some fights else None
 
+-- the fights of the records after a header
+abbrev pub fights_under : RulesView → ℕ → Option Columns → List Fields → Option (List Fight)
+fights_under rules opponents None records = None
+fights_under rules opponents (Some columns) records = option_and_then within_limit (fights_in rules opponents columns records)
+
 -- the fights of records that begin with the header
 abbrev pub scheduled : RulesView → ℕ → List Fields → Option (List Fight)
-scheduled rules opponents records = if is_headed records then option_and_then within_limit (fights_in rules opponents (drop 1 records)) else None
+scheduled rules opponents records = fights_under rules opponents (header_of records) (drop 1 records)
 
 -- the fights of a schedule for `opponents` opponents under these rules: 1 to 10000, in the order of
 -- the text. None if the text is not a schedule. A fight that is listed twice counts twice.

@@ -1,51 +1,62 @@
 -- The first fault of a schedule: record by record, and within a record from the left.
-use Rattle.std.specs.Prelude.{◌≡◌, ℕ, ◌+◌, ◌<◌, true, false, Some, Err, List, ◌∷◌, ◌++◌, length, drop}
+use Rattle.std.specs.Prelude.{◌≡◌, ℕ, ◌+◌, ◌<◌, Some, None, Err, List, ◌∷◌, ◌++◌, length, drop}
 use Rattle.rc_instr.specs.Rules.{RulesView}
 use Rattle.mars_fight.specs.Records.{Fields}
-use Rattle.mars_fight.specs.Schedule.{fight_of, fights_in, is_headed}
+use Rattle.mars_fight.specs.Schedule.{fight_of, fights_in, header_of}
 use Rattle.mars_fight.specs.declared.fight.Fight.{Fight}
+use Rattle.mars_fight.specs.declared.record.Columns.{Columns}
 use Rattle.mars_fight.specs.declared.fault.ScheduleFault.{ScheduleFault}
 use Rattle.mars_fight.specs.declared.fault.ScheduleFaultKind.{ScheduleFaultKind}
-use Rattle.mars_fight.specs.declared.fault.ScheduleFaultKind.TheVariants.{Header, FieldCount, BadNumber, NoSuchOpponent, BadPosition, BadFirst, Empty, TooMany, OutOfMemory}
+use Rattle.mars_fight.specs.declared.fault.ScheduleFaultKind.TheVariants.{Header, FieldCount, BadNumber, NoSuchOpponent, BadPosition, BadFirst, Empty, TooMany, OutOfMemory, BadWeight}
 
--- the header and then records of these fights come before the records that are left
-pub record AreFightsRead (rules : RulesView) (opponents : ℕ) (records : List Fields) (fights : List Fight) (left : List Fields) : Type 0 where
+-- the header names these columns; it and then records of these fights come before the records that
+-- are left
+pub record AreFightsRead (rules : RulesView) (opponents : ℕ) (columns : Columns) (records : List Fields) (fights : List Fight) (left : List Fields) : Type 0 where
   pub before : List Fields
-  pub headed : is_headed records ≡ true
+  pub headed : header_of records ≡ Some columns
   pub parted : drop 1 records ≡ before ++ left
-  pub meant : fights_in rules opponents before ≡ Some fights
+  pub meant : fights_in rules opponents columns before ≡ Some fights
 
 -- record `row` is the first that is not a fight, and `kind` is its fault. The header is record 0,
 -- and records after the 10000th fight are not looked at.
 pub record IsFirstWrong (rules : RulesView) (opponents : ℕ) (records : List Fields) (row : ℕ) (kind : ScheduleFaultKind) : Type 0 where
+  pub columns : Columns
   pub fights : List Fight
   pub fields : Fields
   pub rest : List Fields
-  pub read : AreFightsRead rules opponents records fights (fields ∷ rest)
+  pub read : AreFightsRead rules opponents columns records fights (fields ∷ rest)
   pub few : length fights < 10000
   pub number : row ≡ length fights + 1
-  pub wrong : fight_of rules opponents fields ≡ Err kind
+  pub wrong : fight_of rules opponents columns fields ≡ Err kind
 
 -- 10000 records are fights, and one more comes after them: record 10001
 pub record IsOneTooMany (rules : RulesView) (opponents : ℕ) (records : List Fields) (row : ℕ) : Type 0 where
+  pub columns : Columns
   pub fights : List Fight
   pub fields : Fields
   pub rest : List Fields
-  pub read : AreFightsRead rules opponents records fights (fields ∷ rest)
+  pub read : AreFightsRead rules opponents columns records fights (fields ∷ rest)
   pub many : length fights ≡ 10000
   pub number : row ≡ 10001
 
+-- the header is there, and nothing after it
+pub record IsHeaderAlone (records : List Fields) : Type 0 where
+  pub columns : Columns
+  pub headed : header_of records ≡ Some columns
+  pub alone : length records ≡ 1
+
 -- what a fault says of the records. Out of memory says nothing of them.
 abbrev pub IsScheduleFault : RulesView → ℕ → List Fields → ℕ → ScheduleFaultKind → Type 0
-IsScheduleFault rules opponents records row Header = (row ≡ 0) × (is_headed records ≡ false)
+IsScheduleFault rules opponents records row Header = (row ≡ 0) × (header_of records ≡ None)
 IsScheduleFault rules opponents records row FieldCount = IsFirstWrong rules opponents records row FieldCount
 IsScheduleFault rules opponents records row BadNumber = IsFirstWrong rules opponents records row BadNumber
 IsScheduleFault rules opponents records row NoSuchOpponent = IsFirstWrong rules opponents records row NoSuchOpponent
 IsScheduleFault rules opponents records row BadPosition = IsFirstWrong rules opponents records row BadPosition
 IsScheduleFault rules opponents records row BadFirst = IsFirstWrong rules opponents records row BadFirst
-IsScheduleFault rules opponents records row Empty = (row ≡ 0) × (is_headed records ≡ true) × (length records ≡ 1)
+IsScheduleFault rules opponents records row Empty = (row ≡ 0) × IsHeaderAlone records
 IsScheduleFault rules opponents records row TooMany = IsOneTooMany rules opponents records row
 IsScheduleFault rules opponents records row OutOfMemory = row ≡ 0
+IsScheduleFault rules opponents records row BadWeight = IsFirstWrong rules opponents records row BadWeight
 
 abbrev pub no_memory : ScheduleFault
 no_memory = record { row = 0; kind = OutOfMemory }

@@ -6,9 +6,9 @@ use thiserror::Error;
 /// Why a schedule, or one of its records, is refused.
 #[derive(Clone, Copy, Debug, PartialEq, Eq, Error)]
 pub enum ScheduleFaultKind {
-    #[error("first record must be opponent,position,first")]
+    #[error("first record must be opponent,position,first or opponent,position,first,weight")]
     Header,
-    #[error("expected three fields")]
+    #[error("expected as many fields as in the first record")]
     FieldCount,
     #[error("number must have 1 to 9 digits")]
     BadNumber,
@@ -24,6 +24,8 @@ pub enum ScheduleFaultKind {
     TooMany,
     #[error("out of memory")]
     OutOfMemory,
+    #[error("weight must be from 1 to 1000")]
+    BadWeight,
 }
 
 /// Why a schedule is refused, and at which record.

@@ -2,13 +2,19 @@
 ghost use Rattle.std.specs.Prelude.{◌≡◌, ◌↔◌, IsTrue};
 ghost use Rattle.rc_instr.specs.Warrior.{Fits};
 ghost use Rattle.mars_core.specs.Arena.{IsBlank};
-ghost use Rattle.mars_fight.specs.Placing.{IsPosition, IsPlaced};
+ghost use Rattle.mars_fight.specs.Listed.{IsPosition, IsWeight, IsFight};
 ghost use Rattle.mars_fight.specs.Play.{points_of, ArePoints};
 
 use mars_core::{Arena, Cells, Side};
 use rc_instr::{Rules, Warrior};
 
-/// One fight: the opponent, where it is loaded, and who moves first.
+// The greatest weight of a fight.
+const MOST_WEIGHT: u32 = 1000;
+
+/// The points of a win, the most that a fight gives.
+pub const MOST_POINTS: u32 = 3;
+
+/// One fight: the opponent, where it is loaded, who moves first, and how much it counts.
 #[derive(Clone, Copy, Debug, PartialEq, Eq)]
 pub struct Fight {
     /// The opponent's index.
@@ -17,19 +23,22 @@ pub struct Fight {
     pub position: u32,
     /// The side that makes the first turn.
     pub first: Side,
+    /// By what the points are multiplied in a total: 1 to 1000.
+    pub weight: u32,
 }
 
 impl Fight {
-    // Checks that the opponent exists and that the position keeps the distance.
-    pub(crate) fn is_placed(&self, rules: &Rules, opponents: u32) -> bool
-        ensures { IsTrue result ↔ IsPlaced rules.now opponents self.now }
+    // Checks that the opponent exists, that the position keeps the distance, and that the weight is
+    // from 1 to 1000.
+    pub(crate) fn is_fight(&self, rules: &Rules, opponents: u32) -> bool
+        ensures { IsTrue result ↔ IsFight rules.now opponents self.now }
     {
-        self.opponent < opponents && keeps_distance(rules, self.position)
+        self.opponent < opponents && keeps_distance(rules, self.position) && is_weight(self.weight)
     }
 }
 
 /// Plays `fight` and returns the candidate's points: 3 for a win, 1 for a tie, 0 for a loss
-/// (pMARS).
+/// (pMARS). The weight does not change them.
 ///
 /// The arena must be blank, and is blank again afterwards. Both warriors must fit its rules, and
 /// the position must keep the distance, both ways round the core. Nothing is allocated.
@@ -60,4 +69,11 @@ pub(crate) fn keeps_distance(rules: &Rules, position: u32) -> bool
     ensures { IsTrue result ↔ IsPosition rules.now position }
 {
     rules.distance() <= position && position <= rules.core() - rules.distance()
+}
+
+// Checks that `weight` is from 1 to 1000.
+pub(crate) fn is_weight(weight: u32) -> bool
+    ensures { IsTrue result ↔ IsWeight weight }
+{
+    1 <= weight && weight <= MOST_WEIGHT
 }

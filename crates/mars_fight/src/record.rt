@@ -2,37 +2,76 @@
 ghost use Rattle.std.specs.Prelude.{◌≡◌};
 ghost use Rattle.csv.specs.Records.{fields_of};
 ghost use Rattle.mars_fight.specs.Decimal.{padded_decimal};
-ghost use Rattle.mars_fight.specs.Schedule.{opponent_of, position_of, mover_named, fight_of, is_header};
+ghost use Rattle.mars_fight.specs.Schedule.{opponent_of, position_of, mover_named, weight_of, names_fight, columns_of, plain_fight, weighted_fight, fight_of};
 
 use crate::decimal::padded_decimal;
 use crate::fault::ScheduleFaultKind;
-use crate::fight::{Fight, keeps_distance};
-use crate::records::three_fields;
+use crate::fight::{Fight, is_weight, keeps_distance};
+use crate::records::{four_fields, three_fields};
 use csv::ByteRecord;
 use mars_core::Side;
 use rc_instr::Rules;
 
-pub(crate) fn is_header(fields: &ByteRecord) -> bool
-    ensures { result ≡ is_header (fields_of fields.now) }
+/// Which fields the records of a schedule have. The header says it for all of them.
+#[derive(Clone, Copy, Debug, PartialEq, Eq)]
+pub(crate) enum Columns {
+    /// Opponent, position and first mover: every fight counts once.
+    Plain,
+    /// These, and then the weight.
+    Weighted,
+}
+
+// Reads the header. Anything else gives `None`.
+pub(crate) fn read_columns(fields: &ByteRecord) -> Option<Columns>
+    ensures { result ≡ columns_of (fields_of fields.now) }
 {
-    match three_fields(fields) {
-        Some((opponent, position, first)) => {
-            opponent == b"opponent".as_slice()
-                && position == b"position".as_slice()
-                && first == b"first".as_slice()
-        }
-        None => false,
+    if let Some((opponent, position, first)) = three_fields(fields) {
+        return if names_fight(opponent, position, first) {
+            Some(Columns::Plain)
+        } else {
+            None
+        };
+    }
+    let (opponent, position, first, weight) = four_fields(fields)?;
+    if names_fight(opponent, position, first) && weight == b"weight".as_slice() {
+        Some(Columns::Weighted)
+    } else {
+        None
     }
 }
 
-// Reads a fight. Of several faults the leftmost field's is returned.
+// Checks the names of the first three fields.
+fn names_fight(opponent: &[u8], position: &[u8], first: &[u8]) -> bool
+    ensures { result ≡ names_fight opponent.now position.now first.now }
+{
+    opponent == b"opponent".as_slice()
+        && position == b"position".as_slice()
+        && first == b"first".as_slice()
+}
+
+// Reads a fight with these columns. Of several faults the leftmost field's is returned.
 #[tactic(auto, unfolding(crate::specs::Schedule::fight_of))]
 pub(crate) fn read_fight(
+    fields: &ByteRecord,
+    columns: Columns,
+    opponents: u32,
+    rules: &Rules,
+) -> Result<Fight, ScheduleFaultKind>
+    ensures { result ≡ fight_of rules.now opponents columns (fields_of fields.now) }
+{
+    match columns {
+        Columns::Plain => read_plain(fields, opponents, rules),
+        Columns::Weighted => read_weighted(fields, opponents, rules),
+    }
+}
+
+// Reads a fight of three fields, which counts once.
+fn read_plain(
     fields: &ByteRecord,
     opponents: u32,
     rules: &Rules,
 ) -> Result<Fight, ScheduleFaultKind>
-    ensures { result ≡ fight_of rules.now opponents (fields_of fields.now) }
+    ensures { result ≡ plain_fight rules.now opponents (fields_of fields.now) }
 {
     let Some((opponent, position, first)) = three_fields(fields) else {
         return Err(ScheduleFaultKind::FieldCount);
@@ -41,6 +80,26 @@ pub(crate) fn read_fight(
         opponent: read_opponent(opponent, opponents)?,
         position: read_position(position, rules)?,
         first: read_mover(first)?,
+        weight: 1,
+    })
+}
+
+// Reads a fight of four fields.
+fn read_weighted(
+    fields: &ByteRecord,
+    opponents: u32,
+    rules: &Rules,
+) -> Result<Fight, ScheduleFaultKind>
+    ensures { result ≡ weighted_fight rules.now opponents (fields_of fields.now) }
+{
+    let Some((opponent, position, first, weight)) = four_fields(fields) else {
+        return Err(ScheduleFaultKind::FieldCount);
+    };
+    Ok(Fight {
+        opponent: read_opponent(opponent, opponents)?,
+        position: read_position(position, rules)?,
+        first: read_mover(first)?,
+        weight: read_weight(weight)?,
     })
 }
 
@@ -74,5 +133,16 @@ fn read_mover(field: &[u8]) -> Result<Side, ScheduleFaultKind>
         [b'c'] => Ok(Side::Candidate),
         [b'o'] => Ok(Side::Opponent),
         _ => Err(ScheduleFaultKind::BadFirst),
+    }
+}
+
+// Reads a weight from 1 to 1000.
+fn read_weight(field: &[u8]) -> Result<u32, ScheduleFaultKind>
+    ensures { result ≡ weight_of (padded_decimal field.now) }
+{
+    match padded_decimal(field) {
+        Some(weight) if is_weight(weight) => Ok(weight),
+        Some(_) => Err(ScheduleFaultKind::BadWeight),
+        None => Err(ScheduleFaultKind::BadNumber),
     }
 }

@@ -68,3 +68,20 @@ pub fn three_fields(fields: &ByteRecord) -> Option<(&[u8], &[u8], &[u8])>
     }
     Some((fields.get(0)?, fields.get(1)?, fields.get(2)?))
 }
+
+/// Returns the fields of a record that has exactly four.
+#[tactic(auto, using(crate::proofs::Fields::fields))]
+pub fn four_fields(fields: &ByteRecord) -> Option<(&[u8], &[u8], &[u8], &[u8])>
+    ensures some { IfSome result (λ x. fields_of fields.now ≡ x.0.now ∷ x.1.now ∷ x.2.now ∷ x.3.now ∷ []) }
+    ensures none { IfNone result (length (fields_of fields.now) ≢ 4) }
+{
+    if fields.len() != 4 {
+        return None;
+    }
+    Some((
+        fields.get(0)?,
+        fields.get(1)?,
+        fields.get(2)?,
+        fields.get(3)?,
+    ))
+}

@@ -1,14 +1,14 @@
 //! Schedules: lists of fights.
-ghost use Rattle.std.specs.Prelude.{◌≡◌, ◌≢◌, ℕ, ◌<◌, ◌≤◌, ◌↔◌, true, Some, None, length, drop, IfOk, IfErr, OnOk, IsTrue, All};
+ghost use Rattle.std.specs.Prelude.{◌≡◌, ◌≢◌, ℕ, ◌<◌, ◌≤◌, ◌*◌, ◌↔◌, true, Some, None, length, drop, IfOk, IfErr, OnOk, IsTrue, All};
 ghost use Rattle.rc_instr.specs.Rules.{RulesView};
 ghost use Rattle.mars_fight.specs.Records.{records_of};
-ghost use Rattle.mars_fight.specs.Placing.{IsPlaced};
-ghost use Rattle.mars_fight.specs.Schedule.{fights_of, is_headed, scheduled};
+ghost use Rattle.mars_fight.specs.Listed.{IsFight, IsPlain, greatest_points};
+ghost use Rattle.mars_fight.specs.Schedule.{fights_of, header_of, scheduled};
 ghost use Rattle.mars_fight.specs.ScheduleRefusal.{IsScheduleFault};
 
 use crate::fault::{ScheduleFault, ScheduleFaultKind};
-use crate::fight::Fight;
-use crate::record::{is_header, read_fight};
+use crate::fight::{Fight, MOST_POINTS};
+use crate::record::{Columns, read_columns, read_fight};
 use crate::records::Records;
 use csv::ByteRecord;
 use rc_instr::Rules;
@@ -25,24 +25,26 @@ pub struct Schedule {
 }
 
 impl Model for Schedule {
-    ghost use Rattle.std.specs.Prelude.{◌<◌, ◌≤◌, List, length};
+    ghost use Rattle.std.specs.Prelude.{◌<◌, ◌≤◌, List, length, All};
+    ghost use Rattle.mars_fight.specs.Listed.{IsWeight};
     ghost use Rattle.mars_fight.specs.declared.fight.Fight.{Fight};
 
     ghost Value = { List Fight };
 
     ghost view = { λ s. s.fights.items };
 
-    ghost invariant = { λ s. (0 < length s.fights.items) × (length s.fights.items ≤ 10000) };
+    ghost invariant = { λ s. (0 < length s.fights.items) × (length s.fights.items ≤ 10000) × All (λ (f : Fight). IsWeight f.weight) s.fights.items };
 }
 
 impl Schedule {
     /// Parses a schedule for `opponents` opponents under `rules`.
     ///
-    /// The first record is the header `opponent,position,first`. Each other record is a fight: the
-    /// opponent's index; the address at which it is loaded, at least the distance of the rules and
-    /// at most the core size minus the distance; and `c` or `o`, for the candidate or the opponent
-    /// to move first. Numbers have 1 to 9 digits. The crate `csv` says how a text is split into
-    /// records.
+    /// The first record is the header `opponent,position,first` or
+    /// `opponent,position,first,weight`. Each other record is a fight: the opponent's index; the
+    /// address at which it is loaded, at least the distance of the rules and at most the core size
+    /// minus the distance; `c` or `o`, for the candidate or the opponent to move first; and under
+    /// the second header its weight, 1 to 1000, which otherwise is 1. Numbers have 1 to 9 digits.
+    /// The crate `csv` says how a text is split into records.
     ///
     /// # Errors
     ///
@@ -51,9 +53,9 @@ impl Schedule {
     /// - `Header`, at record 0: the first record is not the header, or there is none.
     /// - `Empty`, at record 0: only the header.
     /// - `TooMany`, at record 10001, whatever that record holds.
-    /// - `FieldCount`: the record does not have three fields.
-    /// - `BadNumber`: the opponent or the position is not 1 to 9 digits.
-    /// - `NoSuchOpponent`, `BadPosition`, `BadFirst`: the field has no such value.
+    /// - `FieldCount`: the record does not have as many fields as the header.
+    /// - `BadNumber`: the opponent, the position or the weight is not 1 to 9 digits.
+    /// - `NoSuchOpponent`, `BadPosition`, `BadFirst`, `BadWeight`: the field has no such value.
     /// - `OutOfMemory`, at record 0: an allocation failed.
     #[tactic(auto, using(crate::proofs::Faults::fault_none), unfolding(crate::specs::Schedule::fights_of))]
     pub fn read(
@@ -71,7 +73,7 @@ impl Schedule {
         ensures fault { IfErr result (λ e. IsScheduleFault rules.now opponents (records_of bytes.now) e.row e.kind) }
 
         // What is read fits.
-        ensures placed { IfOk result (λ s. All (IsPlaced rules.now opponents) s) }
+        ensures placed { IfOk result (λ s. All (IsFight rules.now opponents) s) }
     {
         let fights = read_fights(alloc, bytes, opponents, rules)?;
         Ok(Schedule { fights })
@@ -85,14 +87,35 @@ impl Schedule {
         self.fights.as_slice()
     }
 
-    /// Checks that every fight's opponent is one of `opponents`, and that its position is at least
-    /// the distance of the rules and at most the core size minus the distance.
+    /// Checks that every fight's opponent is one of `opponents`, that its position is at least the
+    /// distance of the rules and at most the core size minus the distance, and that its weight is
+    /// from 1 to 1000.
     pub fn fits(&self, rules: &Rules, opponents: u32) -> bool
-        ensures { IsTrue result ↔ All (IsPlaced rules.now opponents) self.now }
+        ensures { IsTrue result ↔ All (IsFight rules.now opponents) self.now }
     {
         self.fights
             .iter()
-            .all(|fight| fight.is_placed(rules, opponents))
+            .all(|fight| fight.is_fight(rules, opponents))
+    }
+
+    /// Checks that every fight has the weight 1.
+    pub fn plain(&self) -> bool
+        ensures { IsTrue result ↔ IsPlain self.now }
+    {
+        self.fights.iter().all(|fight| fight.weight == 1)
+    }
+
+    /// Returns the greatest total, 3 times the sum of the weights: 3 to 30000000.
+    #[tactic(auto, unfolding(crate::specs::Listed::greatest_points))]
+    pub fn greatest(&self) -> u32
+        ensures greatest { result ≡ greatest_points self.now }
+        ensures small { result ≤ 3000 * length self.now }
+    {
+        let mut greatest: u32 = 0;
+        for fight in self.fights.as_slice() {
+            greatest += MOST_POINTS * fight.weight;
+        }
+        greatest
     }
 }
 
@@ -102,16 +125,17 @@ fn fault_at(row: u64, kind: ScheduleFaultKind) -> ScheduleFault
     ScheduleFault { row, kind }
 }
 
-// Reads the first record, which must be the header.
-fn read_header(records: &mut Records, fields: &mut ByteRecord) -> Result<(), ScheduleFault>
-    ensures ok { OnOk result ((is_headed records.old ≡ true) × (drop 1 records.old ≡ records.new)) }
+// Reads the first record, which must be a header.
+fn read_header(records: &mut Records, fields: &mut ByteRecord) -> Result<Columns, ScheduleFault>
+    ensures ok { IfOk result (λ columns. (header_of records.old ≡ Some columns) × (drop 1 records.old ≡ records.new)) }
     ensures fault { IfErr result (λ e. (rules : RulesView) (opponents : ℕ) → IsScheduleFault rules opponents records.old e.row e.kind) }
 {
-    if records.read(fields)? && is_header(fields) {
-        Ok(())
-    } else {
-        Err(fault_at(0, ScheduleFaultKind::Header))
+    if records.read(fields)? {
+        if let Some(columns) = read_columns(fields) {
+            return Ok(columns);
+        }
     }
+    Err(fault_at(0, ScheduleFaultKind::Header))
 }
 
 // Reads the header and the fights after it: at least 1, at most 10000.
@@ -127,13 +151,13 @@ fn read_fights(
 {
     let mut records = Records::new(alloc, bytes);
     let mut fields = ByteRecord::new(alloc);
-    read_header(&mut records, &mut fields)?;
+    let columns = read_header(&mut records, &mut fields)?;
     let mut fights = Vec::new(alloc);
     while records.read(&mut fields)? {
         if fights.len() == MOST_FIGHTS {
             return Err(fault_at(MOST_FIGHTS as u64 + 1, ScheduleFaultKind::TooMany));
         }
-        match read_fight(&fields, opponents, rules) {
+        match read_fight(&fields, columns, opponents, rules) {
             Ok(fight) => fights.push(fight)?,
             Err(kind) => return Err(fault_at(fights.len() as u64 + 1, kind)),
         }

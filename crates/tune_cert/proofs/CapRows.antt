@@ -1,14 +1,13 @@
 -- Cap rows.
-use Rattle.std.proofs.Common.{◌≡◌, ℕ, zero, suc, ◌+◌, ◌-◌, ◌*◌, ◌≤◌, arith, List, [], ◌∷◌, length, get_or, refl, sym, ◌∙◌, ap, ◌⊎◌, inl, inr, subst}
+use Rattle.std.proofs.Common.{◌≡◌, ℕ, zero, suc, ◌+◌, ◌-◌, ◌*◌, ◌≤◌, arith, List, [], ◌∷◌, length, refl, sym, ◌∙◌, ap, ◌⊎◌, inl, inr, subst}
 use Rattle.std.specs.List.{sum_by, range_with_len}
-use Rattle.std.proofs.lemmas.List.{length-map}
-use Rattle.std.proofs.lemmas.List.Sums.{sum_by-cons, sum_by-le}
-use Rattle.std.proofs.lemmas.List.FromFn.{length-range_with_len}
+use Rattle.std.proofs.lemmas.List.Sums.{sum_by-cons}
 use Rattle.std.proofs.lemmas.Bool.Decides.{leb_tells}
 use Rattle.rc_instr.specs.Warrior.{WarriorView}
 use Rattle.tune_cert.specs.Problem.{Problem, IsProblem}
-use Rattle.tune_cert.specs.Optimum.{all_fights, most_of, total_of, greatest_of, most_besides, cap_of}
-use Rattle.tune_cert.specs.Valid.{numbers, IsCapRow}
+use Rattle.tune_cert.specs.Optimum.{all_fights, score_of, most_of, total_of, greatest_of, most_besides, cap_of}
+use Rattle.tune_cert.specs.Valid.{numbers, listed_score, listed_total, IsCapRow}
+use Rattle.tune_cert.specs.Steps.{listed_most}
 use Rattle.mars_fight.specs.Play.{ArePoints}
 
 pub few_points : (x : ℕ) → ArePoints x → x ≤ 3
@@ -17,51 +16,80 @@ few_points x h = elim h [ inl a ↦ omega arith | inr b ↦ elim b [ inl c ↦ o
 above : (a b : ℕ) → a ≤ b → (b ≡ a) ⊎ (a + 1 ≤ b)
 above a b h = elim (leb_tells b a) [ inl p ↦ inl (omega arith) | inr p ↦ inr (omega arith) ]
 
-cons_sum : (p : Problem) (w : WarriorView) (k : ℕ) (ks : List ℕ) → sum_by (p.points w) (k ∷ ks) ≡ p.points w k + sum_by (p.points w) ks
-cons_sum p w k ks = sum_by-cons (p.points w) k ks
+cons_score : (p : Problem) (w : WarriorView) (k : ℕ) (ks : List ℕ) → sum_by (score_of p w) (k ∷ ks) ≡ score_of p w k + sum_by (score_of p w) ks
+cons_score p w k ks = sum_by-cons (score_of p w) k ks
 
-none_sum : (p : Problem) → IsProblem p → (w : WarriorView) (ks : List ℕ) → sum_by (p.points w) ks ≤ 3 * length ks
-none_sum p laws w ks = omega (arith, sum_by-le (p.points w) 3 ks (λ k d l. few_points _ (laws.scores w (get_or ks k d))))
+cons_most : (p : Problem) (k : ℕ) (ks : List ℕ) → sum_by (most_of p) (k ∷ ks) ≡ most_of p k + sum_by (most_of p) ks
+cons_most p k ks = sum_by-cons (most_of p) k ks
 
-most_sum : (p : Problem) (ks : List ℕ) → sum_by (most_of p) ks ≡ 3 * length ks
-most_sum p [] = refl
-most_sum p (k ∷ ks) = omega (arith, sum_by-cons (most_of p) k ks, most_sum p ks)
+-- points times a weight are at most 3 times the weight
+times_weight : (x n : ℕ) → ArePoints x → x * n ≤ 3 * n
+times_weight x n h = elim h [
+  | inl a ↦ rw a (omega arith)
+  | inr b ↦ elim b [ inl c ↦ rw c (omega arith) | inr d ↦ rw d (omega arith) ]
+]
 
--- the greatest total is 3 for each fight
-pub greatest_is : (p : Problem) → greatest_of p ≡ 3 * p.fights
-unfolding greatest_of
-greatest_is p = omega (arith, most_sum p (all_fights p), length-range_with_len 0 p.fights)
+-- a score is at most the most
+pub score_most : (p : Problem) → IsProblem p → (w : WarriorView) (k : ℕ) → score_of p w k ≤ most_of p k
+score_most p laws w k = times_weight (p.points w k) (p.weight k) (laws.scores w k)
 
-pub besides_is : (p : Problem) (ks : List ℕ) → most_besides p ks ≡ 3 * (p.fights - length ks)
+-- the scores in some fights are at most the most that these can give
+pub scores_most : (p : Problem) → IsProblem p → (w : WarriorView) (ks : List ℕ) → sum_by (score_of p w) ks ≤ sum_by (most_of p) ks
+scores_most p laws w [] = omega arith
+scores_most p laws w (k ∷ ks) = omega (arith, cons_score p w k ks, cons_most p k ks, score_most p laws w k, scores_most p laws w ks)
+
+-- a cap in sums
+pub cap_is : (p : Problem) (w : WarriorView) (ks : List ℕ) → cap_of p w ks ≡ sum_by (score_of p w) ks + (sum_by (most_of p) (all_fights p) - sum_by (most_of p) ks)
+unfolding cap_of most_besides greatest_of
+cap_is p w ks = refl
+
+-- what a row's fights can give, by the row
+most_row : (p : Problem) (row : List (ℕ × ℕ)) → listed_most p row ≡ sum_by (most_of p) (numbers row)
+most_row p [] = refl
+most_row p (e ∷ row) = omega (arith, sum_by-cons (λ (x : ℕ × ℕ). 3 * p.weight x.0) e row, cons_most p e.0 (numbers row), most_row p row)
+
+-- the most that the fights besides a row's can give, by the row
+pub besides_row : (p : Problem) (row : List (ℕ × ℕ)) → most_besides p (numbers row) ≡ greatest_of p - listed_most p row
 unfolding most_besides
-besides_is p ks = omega (arith, greatest_is p, most_sum p ks)
+besides_row p row = ap (λ n. greatest_of p - n) (sym (most_row p row))
 
--- a cap in numbers
-pub cap_is : (p : Problem) (w : WarriorView) (ks : List ℕ) → cap_of p w ks ≡ sum_by (p.points w) ks + 3 * (p.fights - length ks)
-unfolding cap_of
-cap_is p w ks = omega (arith, besides_is p ks)
+-- A row of fights from a on, against all fights from a on: it has at most as many, and they can give
+-- at most as much; its scores and the most of the others are at least the scores of all.
+pub record IsWithin (p : Problem) (w : WarriorView) (m a : ℕ) (row : List (ℕ × ℕ)) : Type 0 where
+  pub few : length row ≤ m
+  pub most : sum_by (most_of p) (numbers row) ≤ sum_by (most_of p) (range_with_len a m)
+  pub capped : sum_by (score_of p w) (range_with_len a m) + sum_by (most_of p) (numbers row) ≤ sum_by (score_of p w) (numbers row) + sum_by (most_of p) (range_with_len a m)
 
--- the cap that a row lists, in numbers
-pub besides_row : (p : Problem) (row : List (ℕ × ℕ)) → most_besides p (numbers row) ≡ 3 * (p.fights - length row)
-besides_row p row = omega (arith, besides_is p (numbers row), length-map row (λ e. e.0))
-
--- a row's points and 3 for each other fight from a on, against all fights from a on
-pub capped : (p : Problem) → IsProblem p → (w : WarriorView) (m a : ℕ) (row : List (ℕ × ℕ)) → a + m ≡ p.fights → IsCapRow p w a row →
-    (length row ≤ m) × (sum_by (p.points w) (range_with_len a m) + 3 * length row ≤ sum_by (p.points w) (numbers row) + 3 * m)
-capped p laws w zero a [] e h = (omega arith, omega arith)
+pub capped : (p : Problem) → IsProblem p → (w : WarriorView) (m a : ℕ) (row : List (ℕ × ℕ)) → a + m ≡ p.fights → IsCapRow p w a row → IsWithin p w m a row
+capped p laws w zero a [] e h = record { few = omega arith; most = omega arith; capped = omega arith }
 capped p laws w zero a (x ∷ row) e h = absurd (omega (arith, h.0, h.1))
-capped p laws w (suc m) a [] e h = (omega arith, omega (arith, none_sum p laws w (range_with_len a (suc m)), length-range_with_len a (suc m)))
+capped p laws w (suc m) a [] e h = record { few = omega arith; most = omega arith; capped = omega (arith, scores_most p laws w (range_with_len a (suc m))) }
 capped p laws w (suc m) a (x ∷ row) e h =
     elim (above a x.0 h.0) [
       | inl same ↦
           let rest : IsCapRow p w (a + 1) row = subst (λ (k : ℕ). IsCapRow p w (k + 1) row) same h.3 in
           let i = capped p laws w m (a + 1) row (omega arith) rest in
-          let here : p.points w x.0 ≡ p.points w a = ap (p.points w) same in
-          (omega (arith, i.0), omega (arith, i.1, here, cons_sum p w a (range_with_len (a + 1) m), cons_sum p w x.0 (numbers row)))
+          let score : score_of p w x.0 ≡ score_of p w a = ap (score_of p w) same in
+          let most : most_of p x.0 ≡ most_of p a = ap (most_of p) same in
+          let scores = cons_score p w a (range_with_len (a + 1) m) in
+          let listed = cons_score p w x.0 (numbers row) in
+          let mosts = cons_most p a (range_with_len (a + 1) m) in
+          let listed_mosts = cons_most p x.0 (numbers row) in
+          record {
+            few = omega (arith, i.few);
+            most = omega (arith, i.most, most, mosts, listed_mosts);
+            capped = omega (arith, i.capped, score, most, scores, listed, mosts, listed_mosts);
+          }
       | inr more ↦
           let i = capped p laws w m (a + 1) (x ∷ row) (omega arith) (more, h.1, h.2, h.3) in
-          let few : p.points w a ≤ 3 = few_points _ (laws.scores w a) in
-          (omega (arith, i.0), omega (arith, i.1, few, cons_sum p w a (range_with_len (a + 1) m)))
+          let here : score_of p w a ≤ most_of p a = score_most p laws w a in
+          let scores = cons_score p w a (range_with_len (a + 1) m) in
+          let mosts = cons_most p a (range_with_len (a + 1) m) in
+          record {
+            few = omega (arith, i.few);
+            most = omega (arith, i.most, mosts);
+            capped = omega (arith, i.capped, here, scores, mosts);
+          }
     ]
 
 -- a row of as many fights as there are has each of them
@@ -78,26 +106,36 @@ whole p laws w (suc m) a (x ∷ row) e h n =
           ap (λ k. k ∷ numbers row) same ∙ ap (λ ks. a ∷ ks) i
       | inr more ↦
           let i = capped p laws w m (a + 1) (x ∷ row) (omega arith) (more, h.1, h.2, h.3) in
-          absurd (omega (arith, i.0))
+          absurd (omega (arith, i.few))
     ]
 
--- the points listed are those of the fights
-pub row_sum : (p : Problem) (w : WarriorView) (a : ℕ) (row : List (ℕ × ℕ)) → IsCapRow p w a row → sum_by (λ e. e.1) row ≡ sum_by (p.points w) (numbers row)
+-- the scores listed are those of the fights
+pub row_sum : (p : Problem) (w : WarriorView) (a : ℕ) (row : List (ℕ × ℕ)) → IsCapRow p w a row → listed_total p row ≡ sum_by (score_of p w) (numbers row)
 row_sum p w a [] h = refl
 row_sum p w a (x ∷ row) h =
     let i = row_sum p w (x.0 + 1) row h.3 in
-    sum_by-cons (λ e. e.1) x row ∙ ap (λ n. n + sum_by (λ e. e.1) row) h.2 ∙ ap (λ n. p.points w x.0 + n) i ∙ sym (cons_sum p w x.0 (numbers row))
+    let here : listed_score p x ≡ score_of p w x.0 = ap (λ n. n * p.weight x.0) h.2 in
+    sum_by-cons (listed_score p) x row ∙ ap (λ n. n + listed_total p row) here ∙ ap (λ n. score_of p w x.0 + n) i ∙ sym (cons_score p w x.0 (numbers row))
 
 pub row_cap : (p : Problem) → IsProblem p → (w : WarriorView) (row : List (ℕ × ℕ)) → IsCapRow p w 0 row → total_of p w ≤ cap_of p w (numbers row)
 unfolding total_of
 row_cap p laws w row h =
     let c = capped p laws w p.fights 0 row (omega arith) h in
-    omega (arith, c.0, c.1, cap_is p w (numbers row), length-map row (λ e. e.0))
+    omega (arith, c.most, c.capped, cap_is p w (numbers row))
 
-pub total_few : (p : Problem) → IsProblem p → (w : WarriorView) → total_of p w ≤ 3 * p.fights
-unfolding total_of
-total_few p laws w = omega (arith, none_sum p laws w (all_fights p), length-range_with_len 0 p.fights)
+-- the fights of a row cannot give more than all fights
+pub row_most : (p : Problem) → IsProblem p → (w : WarriorView) (row : List (ℕ × ℕ)) → IsCapRow p w 0 row → listed_most p row ≤ greatest_of p
+unfolding greatest_of
+row_most p laws w row h = omega (arith, most_row p row, (capped p laws w p.fights 0 row (omega arith) h).most)
 
-pub row_total : (p : Problem) → IsProblem p → (w : WarriorView) (row : List (ℕ × ℕ)) → IsCapRow p w 0 row → length row ≡ p.fights → sum_by (λ e. e.1) row ≡ total_of p w
+-- a row has at most as many fights as there are
+pub row_few : (p : Problem) → IsProblem p → (w : WarriorView) (row : List (ℕ × ℕ)) → IsCapRow p w 0 row → length row ≤ p.fights
+row_few p laws w row h = (capped p laws w p.fights 0 row (omega arith) h).few
+
+pub total_few : (p : Problem) → IsProblem p → (w : WarriorView) → total_of p w ≤ greatest_of p
+unfolding total_of greatest_of
+total_few p laws w = scores_most p laws w (all_fights p)
+
+pub row_total : (p : Problem) → IsProblem p → (w : WarriorView) (row : List (ℕ × ℕ)) → IsCapRow p w 0 row → length row ≡ p.fights → listed_total p row ≡ total_of p w
 unfolding total_of
-row_total p laws w row h n = row_sum p w 0 row h ∙ ap (sum_by (p.points w)) (whole p laws w p.fights 0 row (omega arith) h n)
+row_total p laws w row h n = row_sum p w 0 row h ∙ ap (sum_by (score_of p w)) (whole p laws w p.fights 0 row (omega arith) h n)

@@ -4,53 +4,60 @@ use Rattle.std.proofs.lemmas.Fmt.{decimal_injective}
 use Rattle.std.proofs.lemmas.Option.{slice_get_within}
 use Rattle.mars_fight.specs.Records.{Fields}
 use Rattle.tune_cert.specs.CertText.{rows_fields, count_fields, best_fields, cert_fields}
-use Rattle.tune_cert.specs.Spelling.{IsNumber, Spells, HasForm, IsMalformed, IsReadRefusal}
+use Rattle.tune_cert.specs.Spelling.{IsNumber, IsVersion, Spells, HasForm, IsMalformed, IsReadRefusal}
 use Rattle.tune_cert.specs.Steps.{AreRows, HasRow, IsBadCount, IsBadBest, IsBadRow}
 use Rattle.tune_cert.specs.declared.cert.Cert.{Cert}
 use Rattle.tune_cert.specs.declared.fault.ReadFault.{ReadFault}
 use Rattle.tune_cert.specs.declared.fault.ReadFault.TheVariants.{Malformed, OutOfMemory}
 
 -- what was read is a certificate
-pub spelled : (records rest behind : List Fields) (c : Cert) → records ≡ count_fields c.count ∷ rest → rest ≡ best_fields c.best c.total ∷ behind
-    → IsNumber c.count → IsNumber c.best → IsNumber c.total → AreRows 0 behind c.rows → Spells records c
+pub spelled : (records rest behind : List Fields) (c : Cert) → records ≡ count_fields c.version c.count ∷ rest → rest ≡ best_fields c.best c.total ∷ behind
+    → IsVersion c.version → IsNumber c.count → IsNumber c.best → IsNumber c.total → AreRows 0 behind c.rows → Spells records c
 unfolding cert_fields
-spelled records rest behind c e f a b t r = record {
-  cert = record { count = a; best = b; total = t; rows = r.each; few = omega (arith, r.few) };
-  text = e ∙ ap (λ (l : List Fields). count_fields c.count ∷ l) (f ∙ ap (λ (l : List Fields). best_fields c.best c.total ∷ l) r.text);
+spelled records rest behind c e f v a b t r = record {
+  cert = record { version = v; count = a; best = b; total = t; rows = r.each; few = omega (arith, r.few) };
+  text = e ∙ ap (λ (l : List Fields). count_fields c.version c.count ∷ l) (f ∙ ap (λ (l : List Fields). best_fields c.best c.total ∷ l) r.text);
 }
 
 pub count_fault : (records : List Fields) (e : ReadFault) (c : Cert) → Spells records c → IsBadCount records e → e ≡ OutOfMemory
 unfolding cert_fields
 count_fault records OutOfMemory c s h = refl
-count_fault records (Malformed row) c s h = absurd (h.1 c.count s.cert.count (ap (λ (l : List Fields). slice_get l 0) s.text))
+count_fault records (Malformed row) c s h = absurd (h.1 c.version c.count s.cert.version s.cert.count (ap (λ (l : List Fields). slice_get l 0) s.text))
 
 same_three : (a b c d e f : List ℕ) (r s : List Fields) → ◌≡◌ {A = List Fields} ((a ∷ b ∷ c ∷ []) ∷ r) ((d ∷ e ∷ f ∷ []) ∷ s) → (b ≡ e) × (c ≡ f) × (r ≡ s)
 same_three a b c d e f r s h = (cc, cc, cc)
 
--- what comes behind the first record, and its count
-pub after_count : (records rest : List Fields) (count : ℕ) (c : Cert) → IsNumber count → records ≡ count_fields count ∷ rest → Spells records c
-    → (count ≡ c.count) × (rest ≡ best_fields c.best c.total ∷ rows_fields c.rows 0)
+-- a version is a small number
+version_small : (n : ℕ) → IsVersion n → n < 2 ^ 32
+version_small n h = elim h [ inl a ↦ omega arith | inr b ↦ omega arith ]
+
+-- what comes behind the first record, and its version and count
+pub after_count : (records rest : List Fields) (version count : ℕ) (c : Cert) → IsVersion version → IsNumber count → records ≡ count_fields version count ∷ rest → Spells records c
+    → (version ≡ c.version) × (count ≡ c.count) × (rest ≡ best_fields c.best c.total ∷ rows_fields c.rows 0)
 unfolding cert_fields
-after_count records rest count c small e s =
+after_count records rest version count c v small e s =
     let t = same_three _ _ _ _ _ _ _ _ (sym e ∙ s.text) in
     let wide : c.count < 2 ^ 32 = s.cert.count in
-    (decimal_injective count c.count (omega arith) (omega arith) t.1, t.2)
+    let own = version_small version v in
+    let other = version_small c.version s.cert.version in
+    (decimal_injective version c.version (omega arith) (omega arith) t.0, decimal_injective count c.count (omega arith) (omega arith) t.1, t.2)
 
-pub best_fault : (records rest : List Fields) (count : ℕ) (e : ReadFault) (c : Cert) → IsNumber count → records ≡ count_fields count ∷ rest → Spells records c → IsBadBest rest e → e ≡ OutOfMemory
-best_fault records rest count OutOfMemory c small at s h = refl
-best_fault records rest count (Malformed row) c small at s h =
-    absurd (h.1 c.best c.total s.cert.best s.cert.total (ap (λ (l : List Fields). slice_get l 0) (after_count records rest count c small at s).1))
+pub best_fault : (records rest : List Fields) (version count : ℕ) (e : ReadFault) (c : Cert) → IsVersion version → IsNumber count → records ≡ count_fields version count ∷ rest → Spells records c → IsBadBest rest e → e ≡ OutOfMemory
+best_fault records rest version count OutOfMemory c v small at s h = refl
+best_fault records rest version count (Malformed row) c v small at s h =
+    absurd (h.1 c.best c.total s.cert.best s.cert.total (ap (λ (l : List Fields). slice_get l 0) (after_count records rest version count c v small at s).2))
 
 -- what comes behind the second record, and its numbers
-pub after_best : (records rest behind : List Fields) (count best total : ℕ) (c : Cert) → IsNumber count → IsNumber best → IsNumber total
-    → records ≡ count_fields count ∷ rest → rest ≡ best_fields best total ∷ behind → Spells records c
-    → (count ≡ c.count) × (best ≡ c.best) × (total ≡ c.total) × AreRows 0 behind c.rows
-after_best records rest behind count best total c p q r e f s =
-    let b = after_count records rest count c p e s in
-    let t = same_three _ _ _ _ _ _ _ _ (sym f ∙ b.1) in
+pub after_best : (records rest behind : List Fields) (version count best total : ℕ) (c : Cert) → IsVersion version → IsNumber count → IsNumber best → IsNumber total
+    → records ≡ count_fields version count ∷ rest → rest ≡ best_fields best total ∷ behind → Spells records c
+    → (version ≡ c.version) × (count ≡ c.count) × (best ≡ c.best) × (total ≡ c.total) × AreRows 0 behind c.rows
+after_best records rest behind version count best total c v p q r e f s =
+    let b = after_count records rest version count c v p e s in
+    let t = same_three _ _ _ _ _ _ _ _ (sym f ∙ b.2) in
     let wide_best : c.best < 2 ^ 32 = s.cert.best in
     let wide_total : c.total < 2 ^ 32 = s.cert.total in (
       b.0,
+      b.1,
       decimal_injective best c.best (omega arith) (omega arith) t.0,
       decimal_injective total c.total (omega arith) (omega arith) t.1,
       record { text = t.2; each = s.cert.rows; few = omega (arith, s.cert.few) },
@@ -73,7 +80,7 @@ pub malformed_count : (records : List Fields) (e : ReadFault) → IsBadCount rec
 malformed_count records OutOfMemory h = tt
 malformed_count records (Malformed row) h =
     rw h.0 (record {
-      malformed = elim (no_first records (HasForm 0) (λ fields p at. h.1 p.0 p.1 (at ∙ ap (λ (f : Fields). Some f) p.2))) [
+      malformed = elim (no_first records (HasForm 0) (λ fields p at. h.1 p.0 p.1 p.2 p.3 (at ∙ ap (λ (f : Fields). Some f) p.4))) [
         | inl none ↦ inl (omega arith, none)
         | inr bad ↦ inr bad
       ];

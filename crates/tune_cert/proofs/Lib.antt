@@ -1,3 +1,4 @@
+pub mod Weights
 pub mod Written
 pub mod CapRows
 pub mod Certificates

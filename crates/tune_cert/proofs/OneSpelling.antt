@@ -81,7 +81,7 @@ one_rows (r ∷ rows) (s ∷ others) v a b e =
 pub one_spelled : (records : List Fields) (c d : Cert) → Spells records c → Spells records d → c ≡ d
 unfolding cert_fields
 one_spelled records c d s t =
-    let b = after_best records (best_fields c.best c.total ∷ rows_fields c.rows 0) (rows_fields c.rows 0) c.count c.best c.total d
-    s.cert.count s.cert.best s.cert.total s.text refl t in
-    let rows = one_rows c.rows d.rows 0 s.cert.rows t.cert.rows b.3.text in
-    rw (b.0, b.1, b.2, rows) refl
+    let b = after_best records (best_fields c.best c.total ∷ rows_fields c.rows 0) (rows_fields c.rows 0) c.version c.count c.best c.total d
+    s.cert.version s.cert.count s.cert.best s.cert.total s.text refl t in
+    let rows = one_rows c.rows d.rows 0 s.cert.rows t.cert.rows b.4.text in
+    rw (b.0, b.1, b.2, b.3, rows) refl

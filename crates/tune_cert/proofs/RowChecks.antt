@@ -9,7 +9,7 @@ use Rattle.tune_cert.specs.Optimum.{most_besides, cap_of, all_fights}
 use Rattle.tune_cert.specs.Valid.{numbers, IsCapRow}
 use Rattle.tune_cert.specs.Verdict.{Rises, HavePoints}
 use Rattle.tune_cert.specs.Steps.{AreNumbers, listed_cap}
-use Rattle.tune_cert.proofs.CapRows.{capped, row_sum}
+use Rattle.tune_cert.proofs.CapRows.{row_few, row_sum}
 
 -- a cap row rises and has its points
 pub cap_row_of : (p : Problem) (w : WarriorView) (a : ℕ) (row : List (ℕ × ℕ)) → Rises a row → HavePoints p w row → IsCapRow p w a row
@@ -26,7 +26,7 @@ cap_row_points p w a (e ∷ row) h = (h.1, h.2, cap_row_points p w (e.0 + 1) row
 
 -- a cap row has at most as many fights as there are
 pub few_listed : (p : Problem) → IsProblem p → (w : WarriorView) (row : List (ℕ × ℕ)) → IsCapRow p w 0 row → length row ≤ p.fights
-few_listed p laws w row h = (capped p laws w p.fights 0 row (omega arith) h).0
+few_listed p laws w row h = row_few p laws w row h
 
 -- the cap by the points that a cap row lists
 pub listed_is_cap : (p : Problem) (w : WarriorView) (row : List (ℕ × ℕ)) → IsCapRow p w 0 row → listed_cap p row ≡ cap_of p w (numbers row)

@@ -6,7 +6,7 @@ use Rattle.rc_instr.specs.Warrior.{WarriorView}
 use Rattle.mars_fight.specs.Records.{Fields}
 use Rattle.tune_cert.specs.Problem.{Problem, IsProblem}
 use Rattle.tune_cert.specs.Optimum.{cap_of, beats}
-use Rattle.tune_cert.specs.Valid.{numbers, IsRightRow, IsValid}
+use Rattle.tune_cert.specs.Valid.{numbers, IsVersionOf, IsRightRow, IsValid}
 use Rattle.tune_cert.specs.Spelling.{Spells}
 use Rattle.tune_cert.specs.Verdict.{IsBestRow, IsWrongRefused, IsWrongCap, IsWrongSame, IsWrong, IsWrongRow, IsRejected, IsVerdict, IsRightAlone, IsRightSame, AreRightAlone, IsFirstRow, IsFirstOfCert, IsFirst}
 use Rattle.tune_cert.specs.Steps.{AreRightSame, IsCertVerdict, IsFirstVerdict}
@@ -15,7 +15,7 @@ use Rattle.tune_cert.specs.declared.fault.CheckFault.{CheckFault}
 use Rattle.tune_cert.specs.declared.cert.Row.{Row}
 use Rattle.tune_cert.specs.declared.cert.Row.TheVariants.{Refused, Same, Cap}
 use Rattle.tune_cert.specs.declared.verdict.Reason.{Reason}
-use Rattle.tune_cert.specs.declared.verdict.Reason.TheVariants.{Malformed, RowCount, BestRow, WrongPoints, RepeatedFight, CapTooHigh, NotSame, NotRefused}
+use Rattle.tune_cert.specs.declared.verdict.Reason.TheVariants.{Malformed, RowCount, BestRow, WrongPoints, RepeatedFight, CapTooHigh, NotSame, NotRefused, Version}
 use Rattle.tune_cert.specs.declared.verdict.Verdict.{Verdict}
 use Rattle.tune_cert.specs.declared.verdict.Verdict.TheVariants.{Accepted, Rejected}
 use Rattle.tune_cert.proofs.CapRows.{whole}
@@ -28,8 +28,9 @@ right_of p c v (Same u) a s = s
 right_of p c v (Cap row) a s = a
 
 -- a certificate whose parts are right is valid
-pub valid_of : (p : Problem) (c : Cert) → AreRightAlone p c → AreRightSame p c → c.count ≡ p.count → length c.rows ≡ p.count → IsBestRow p c → IsValid p c
-valid_of p c alone same count rows best = record {
+pub valid_of : (p : Problem) (c : Cert) → AreRightAlone p c → AreRightSame p c → IsVersionOf p c.version → c.count ≡ p.count → length c.rows ≡ p.count → IsBestRow p c → IsValid p c
+valid_of p c alone same version count rows best = record {
+  version_is = version;
   count_is = count;
   rows_are = rows;
   best_row = best.row;
@@ -52,6 +53,7 @@ not_refused p v WrongPoints w h = w
 not_refused p v RepeatedFight w h = w
 not_refused p v CapTooHigh w h = w
 not_refused p v NotSame w h = w
+not_refused p v Version w h = w
 
 not_cap : (p : Problem) (c : Cert) (v : ℕ) (row : List (ℕ × ℕ)) (reason : Reason) → IsWrongCap p c v row reason →
     IsRightRow p c v (Cap row) → ⊥
@@ -65,6 +67,7 @@ not_cap p c v row Malformed w h = w
 not_cap p c v row RowCount w h = w
 not_cap p c v row BestRow w h = w
 not_cap p c v row NotSame w h = w
+not_cap p c v row Version w h = w
 
 not_same : (p : Problem) (c : Cert) (v u : ℕ) (reason : Reason) → IsWrongSame p c v u reason →
     IsRightRow p c v (Same u) → ⊥
@@ -78,6 +81,7 @@ not_same p c v u CapTooHigh w h =
 not_same p c v u RepeatedFight w h = w
 not_same p c v u WrongPoints w h = w
 not_same p c v u NotRefused w h = w
+not_same p c v u Version w h = w
 not_same p c v u Malformed w h = w
 not_same p c v u RowCount w h = w
 not_same p c v u BestRow w h = w
@@ -94,9 +98,10 @@ best_row_of p laws c valid =
 
 -- a certificate that is rejected is not valid
 pub not_valid : (p : Problem) → IsProblem p → (c : Cert) (number : ℕ) (reason : Reason) → IsRejected p c number reason → IsValid p c → ⊥
-not_valid p laws c number reason (inl w) h = elim w.2 [ inl n ↦ n h.count_is | inr n ↦ n h.rows_are ]
-not_valid p laws c number reason (inr (inl w)) h = w.2 (best_row_of p laws c h)
-not_valid p laws c number reason (inr (inr w)) h = not_right p c w.vector w.row reason w.wrong (h.right w.vector w.row w.here)
+not_valid p laws c number reason (inl w) h = w.2 h.version_is
+not_valid p laws c number reason (inr (inl w)) h = elim w.2 [ inl n ↦ n h.count_is | inr n ↦ n h.rows_are ]
+not_valid p laws c number reason (inr (inr (inl w))) h = w.2 (best_row_of p laws c h)
+not_valid p laws c number reason (inr (inr (inr w))) h = not_right p c w.vector w.row reason w.wrong (h.right w.vector w.row w.here)
 
 -- the verdict on a certificate is one on the records that spell it
 pub answered : (p : Problem) (records : List Fields) (c : Cert) (v : Verdict) → Spells records c → IsCertVerdict p c v → IsVerdict p records v
@@ -119,20 +124,22 @@ not_malformed p c v (Same u) w = w
 not_malformed p c v (Cap row) w = w
 
 -- the first row that is wrong, where the parts before the rows are right
-pub first_of_cert : (p : Problem) (c : Cert) (number : ℕ) (reason : Reason) → c.count ≡ p.count → length c.rows ≡ p.count → IsBestRow p c →
+pub first_of_cert : (p : Problem) (c : Cert) (number : ℕ) (reason : Reason) → IsVersionOf p c.version → c.count ≡ p.count → length c.rows ≡ p.count → IsBestRow p c →
     IsWrongRow p c number reason → IsFirstRow p c number reason → IsFirstOfCert p c number reason
-first_of_cert p c number Malformed n l b w f = absurd (not_malformed p c w.vector w.row w.wrong)
-first_of_cert p c number RowCount n l b w f = tt
-first_of_cert p c number BestRow n l b w f = (n, l)
-first_of_cert p c number WrongPoints n l b w f = ((n, l), b, f)
-first_of_cert p c number RepeatedFight n l b w f = ((n, l), b, f)
-first_of_cert p c number CapTooHigh n l b w f = ((n, l), b, f)
-first_of_cert p c number NotSame n l b w f = ((n, l), b, f)
-first_of_cert p c number NotRefused n l b w f = ((n, l), b, f)
+first_of_cert p c number Malformed o n l b w f = absurd (not_malformed p c w.vector w.row w.wrong)
+first_of_cert p c number Version o n l b w f = tt
+first_of_cert p c number RowCount o n l b w f = o
+first_of_cert p c number BestRow o n l b w f = (o, (n, l))
+first_of_cert p c number WrongPoints o n l b w f = (o, (n, l), b, f)
+first_of_cert p c number RepeatedFight o n l b w f = (o, (n, l), b, f)
+first_of_cert p c number CapTooHigh o n l b w f = (o, (n, l), b, f)
+first_of_cert p c number NotSame o n l b w f = (o, (n, l), b, f)
+first_of_cert p c number NotRefused o n l b w f = (o, (n, l), b, f)
 
 pub first_answered : (p : Problem) (records : List Fields) (c : Cert) (v : Verdict) → Spells records c → IsFirstVerdict p c v → IsFirst p records v
 first_answered p records c (Accepted best total) s h = tt
 first_answered p records c (Rejected number Malformed) s h = absurd h
+first_answered p records c (Rejected number Version) s h = (c, s, h)
 first_answered p records c (Rejected number RowCount) s h = (c, s, h)
 first_answered p records c (Rejected number BestRow) s h = (c, s, h)
 first_answered p records c (Rejected number WrongPoints) s h = (c, s, h)

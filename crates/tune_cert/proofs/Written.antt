@@ -28,8 +28,8 @@ all_written rows i n text whole e h =
     let none = none_left rows i e in
     sym (append-nil text) ∙ ap (λ (r : List Row). text ++ records_text (rows_fields r n)) (sym none) ∙ h
 
-pub whole_text : (c : Cert) (a b text : List ℕ) → a ≡ row_text default_writer (count_fields c.count) → b ≡ a ++ row_text default_writer (best_fields c.best c.total) → text ≡ b ++ records_text (rows_fields c.rows 0) → text ≡ cert_text c
+pub whole_text : (c : Cert) (a b text : List ℕ) → a ≡ row_text default_writer (count_fields c.version c.count) → b ≡ a ++ row_text default_writer (best_fields c.best c.total) → text ≡ b ++ records_text (rows_fields c.rows 0) → text ≡ cert_text c
 unfolding cert_text cert_fields records_text
 whole_text c a b text p q r =
     r ∙ ap (λ (t : List ℕ). t ++ records_text (rows_fields c.rows 0)) (q ∙ ap (λ (t : List ℕ). t ++ row_text default_writer (best_fields c.best c.total)) p)
-    ∙ append_assoc (row_text default_writer (count_fields c.count)) (row_text default_writer (best_fields c.best c.total)) (records_text (rows_fields c.rows 0))
+    ∙ append_assoc (row_text default_writer (count_fields c.version c.count)) (row_text default_writer (best_fields c.best c.total)) (records_text (rows_fields c.rows 0))

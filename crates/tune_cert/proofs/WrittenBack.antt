@@ -36,7 +36,7 @@ rows_back (row ∷ rows) v = ap (λ (t : List Fields). row_fields v row ∷ t) (
 
 cert_back : (c : Cert) → map read_back (cert_fields c) ≡ cert_fields c
 unfolding cert_fields
-cert_back c = ap (λ (t : List Fields). count_fields c.count ∷ best_fields c.best c.total ∷ t) (rows_back c.rows 0)
+cert_back c = ap (λ (t : List Fields). count_fields c.version c.count ∷ best_fields c.best c.total ∷ t) (rows_back c.rows 0)
 
 -- a certificate begins with no byte order mark
 no_mark : (c : Cert) → strip_bom (cert_text c) ≡ cert_text c

@@ -39,9 +39,9 @@ unfoldable pub rows_fields : List Row → ℕ → List Fields
 rows_fields [] v = []
 rows_fields (row ∷ rows) v = row_fields v row ∷ rows_fields rows (v + 1)
 
--- `cwcert,1,N` for N settings.
-abbrev pub count_fields : ℕ → Fields
-count_fields count = codes "cwcert" ∷ codes "1" ∷ decimal count ∷ []
+-- `cwcert,V,N` for version V and N settings.
+abbrev pub count_fields : ℕ → ℕ → Fields
+count_fields version count = codes "cwcert" ∷ decimal version ∷ decimal count ∷ []
 
 -- `best,W,T` for the best setting and its total.
 abbrev pub best_fields : ℕ → ℕ → Fields
@@ -49,7 +49,7 @@ best_fields best total = codes "best" ∷ decimal best ∷ decimal total ∷ []
 
 -- A certificate has a record for the count, one for the best setting, and one for each setting.
 unfoldable pub cert_fields : Cert → List Fields
-cert_fields c = count_fields c.count ∷ best_fields c.best c.total ∷ rows_fields c.rows 0
+cert_fields c = count_fields c.version c.count ∷ best_fields c.best c.total ∷ rows_fields c.rows 0
 
 unfoldable pub records_text : List Fields → List ℕ
 records_text [] = []
@@ -60,4 +60,4 @@ cert_text c = records_text (cert_fields c)
 
 -- The certificate that a search writes.
 abbrev pub cert_of : Found → Cert
-cert_of f = record { count = length f.rows; best = f.best; total = f.total; rows = f.rows }
+cert_of f = record { version = f.version; count = length f.rows; best = f.best; total = f.total; rows = f.rows }

@@ -1,5 +1,5 @@
 -- Totals, caps, and the optimum.
-use Rattle.std.specs.Prelude.{◌≡◌, ℕ, ◌+◌, ◌-◌, ◌<◌, ◌≤◌, Bool, ◌&&◌, ◌||◌, nat_lt, ◌==◌, List, Some}
+use Rattle.std.specs.Prelude.{◌≡◌, ℕ, ◌+◌, ◌-◌, ◌*◌, ◌<◌, ◌≤◌, Bool, ◌&&◌, ◌||◌, nat_lt, ◌==◌, List, Some}
 use Rattle.std.specs.List.{sum_by, count_by, range_with_len}
 use Rattle.std.specs.Option.{is_some}
 use Rattle.rc_instr.specs.Warrior.{WarriorView}
@@ -12,13 +12,13 @@ IsCandidate p v = (w : WarriorView) × (p.warrior v ≡ Some w)
 abbrev pub all_fights : Problem → List ℕ
 all_fights p = range_with_len 0 p.fights
 
--- The score of a warrior in a fight is its points there.
+-- The score of a warrior in a fight: its points there, times the weight of the fight.
 abbrev pub score_of : Problem → WarriorView → ℕ → ℕ
-score_of p w = p.points w
+score_of p w = λ k. p.points w k * p.weight k
 
--- The greatest score that a fight can give is 3.
+-- The greatest score that a fight can give: 3 times its weight.
 abbrev pub most_of : Problem → ℕ → ℕ
-most_of p = λ k. 3
+most_of p = λ k. 3 * p.weight k
 
 -- The total of a warrior is the sum of its scores in all fights.
 unfoldable pub total_of : Problem → WarriorView → ℕ

@@ -1,5 +1,5 @@
 -- What a tuning searches: settings, their warriors, and the points of a warrior in a fight.
-use Rattle.std.specs.Prelude.{ℕ, List, length, slice_get, Option, Some, None}
+use Rattle.std.specs.Prelude.{◌≡◌, ℕ, ◌<◌, List, length, slice_get, Option, Some, None}
 use Rattle.rc_instr.specs.Rules.{RulesView}
 use Rattle.rc_instr.specs.Warrior.{WarriorView}
 use Rattle.mars_fight.specs.declared.fight.Fight.{Fight}
@@ -17,6 +17,12 @@ pub record Problem : Type 0 where
   pub warrior : ℕ → Option WarriorView
   -- the points of a warrior in the fight at an index
   pub points : WarriorView → ℕ → ℕ
+  -- the weight of the fight at an index: how many times its points count
+  pub weight : ℕ → ℕ
+
+-- Every fight counts once.
+abbrev pub CountsOnce : Problem → Type 0
+CountsOnce p = (k : ℕ) → k < p.fights → p.weight k ≡ 1
 
 -- In every problem a fight gives 0, 1 or 3 points.
 pub record IsProblem (p : Problem) : Type 0 where
@@ -36,6 +42,15 @@ points_against rules opponents w (Some fight) = points_with rules w fight (slice
 unfoldable pub fight_points : RulesView → List WarriorView → List Fight → WarriorView → ℕ → ℕ
 fight_points rules opponents schedule w k = points_against rules opponents w (slice_get schedule k)
 
+-- The weight of a fight, or 0 if there is no such fight.
+abbrev pub weight_at : Option Fight → ℕ
+weight_at None = 0
+weight_at (Some fight) = fight.weight
+
+-- The weight of fight k of a schedule.
+unfoldable pub fight_weight : List Fight → ℕ → ℕ
+fight_weight schedule k = weight_at (slice_get schedule k)
+
 -- The problem that the inputs of a tuning pose: the settings of the template in the fights of the
 -- schedule.
 abbrev pub problem_of : InputsView → Problem
@@ -45,4 +60,5 @@ problem_of i = record {
   start = start_index i.template.ranges.spans;
   warrior = instance_of i.template i.rules;
   points = fight_points i.rules i.opponents i.schedule;
+  weight = fight_weight i.schedule;
 }

@@ -13,6 +13,10 @@ use Rattle.tune_cert.specs.declared.fault.ReadFault.TheVariants.{Malformed, OutO
 abbrev pub IsNumber : ℕ → Type 0
 IsNumber n = n < 2 ^ 32
 
+-- The version of a certificate is 1 or 2.
+abbrev pub IsVersion : ℕ → Type 0
+IsVersion n = (n ≡ 1) ⊎ (n ≡ 2)
+
 -- A listed fight has 0, 1 or 3 points.
 abbrev pub IsItem : ℕ × ℕ → Type 0
 IsItem item = IsNumber item.0 × ArePoints item.1
@@ -24,6 +28,7 @@ IsRow (Cap fights) = All IsItem fights
 
 -- A certificate that can be written down.
 pub record IsCert (c : Cert) : Type 0 where
+  pub version : IsVersion c.version
   pub count : IsNumber c.count
   pub best : IsNumber c.best
   pub total : IsNumber c.total
@@ -37,7 +42,7 @@ pub record Spells (records : List Fields) (c : Cert) : Type 0 where
 
 -- The form of each record: 0 is the count, 1 the best setting, v + 2 the row of setting v.
 abbrev pub HasForm : ℕ → Fields → Type 0
-HasForm zero fields = (count : ℕ) × IsNumber count × (fields ≡ count_fields count)
+HasForm zero fields = (version : ℕ) × (count : ℕ) × IsVersion version × IsNumber count × (fields ≡ count_fields version count)
 HasForm (suc zero) fields = (best : ℕ) × (total : ℕ) × IsNumber best × IsNumber total × (fields ≡ best_fields best total)
 HasForm (suc (suc v)) fields = (row : Row) × IsNumber v × IsRow row × (fields ≡ row_fields v row)
 

@@ -1,9 +1,9 @@
 -- Words that only the contracts of private functions use: parts of certificates, checks under way,
 -- and a certificate that is being written.
-use Rattle.std.specs.Prelude.{◌≡◌, ℕ, suc, ◌+◌, ◌-◌, ◌<◌, ◌≤◌, ◌^◌, List, length, slice_get, Option, Some, All, flat_map, [], ◌∷◌, ◌++◌, false}
+use Rattle.std.specs.Prelude.{◌≡◌, ℕ, suc, ◌+◌, ◌-◌, ◌*◌, ◌<◌, ◌≤◌, ◌^◌, List, length, slice_get, Option, Some, All, flat_map, [], ◌∷◌, ◌++◌, false}
 use Rattle.mars_fight.specs.Records.{Fields}
 use Rattle.tune_cert.specs.CertText.{spaced_text, list_text, rows_fields, count_fields, best_fields}
-use Rattle.tune_cert.specs.Spelling.{IsNumber, IsItem, IsRow, HasForm}
+use Rattle.tune_cert.specs.Spelling.{IsNumber, IsVersion, IsItem, IsRow, HasForm}
 use Rattle.tune_cert.specs.declared.cert.Row.{Row}
 use Rattle.tune_cert.specs.declared.fault.ReadFault.{ReadFault}
 use Rattle.tune_cert.specs.declared.fault.ReadFault.TheVariants.{Malformed, OutOfMemory}
@@ -11,7 +11,7 @@ use Rattle.std.specs.List.{sum_by}
 use Rattle.rc_instr.specs.Warrior.{WarriorView}
 use Rattle.tune_cert.specs.Problem.{Problem}
 use Rattle.tune_cert.specs.Optimum.{most_besides}
-use Rattle.tune_cert.specs.Valid.{numbers, IsValid}
+use Rattle.tune_cert.specs.Valid.{numbers, listed_total, IsValid}
 use Rattle.tune_cert.specs.Verdict.{IsRejected, IsRightSame, IsFirstOfCap, IsFirstOfSame, IsFirstOfCert}
 use Rattle.tune_cert.specs.declared.cert.Cert.{Cert}
 use Rattle.tune_cert.specs.declared.cert.Row.TheVariants.{Refused, Same, Cap}
@@ -39,10 +39,11 @@ pub record AreRows (v : ℕ) (records : List Fields) (rows : List Row) : Type 0 
   pub each : All IsRow rows
   pub few : v + length rows ≤ 2 ^ 32
 
--- Record 0 does not spell a count.
+-- Record 0 does not spell a version and a count.
 abbrev pub IsBadCount : List Fields → ReadFault → Type 0
 IsBadCount records OutOfMemory = Unit {0}
-IsBadCount records (Malformed row) = (row ≡ 0) × ((count : ℕ) → IsNumber count → slice_get records 0 ≡ Some (count_fields count) → ⊥)
+IsBadCount records (Malformed row) =
+    (row ≡ 0) × ((version count : ℕ) → IsVersion version → IsNumber count → slice_get records 0 ≡ Some (count_fields version count) → ⊥)
 
 -- Record 1, the first of these, does not spell a best setting.
 abbrev pub IsBadBest : List Fields → ReadFault → Type 0
@@ -71,9 +72,13 @@ abbrev pub AreNumbers : ℕ → ℕ → List (ℕ × ℕ) → Type 0
 AreNumbers n a [] = a ≡ n
 AreNumbers n a (e ∷ row) = (e.0 ≡ a) × AreNumbers n (a + 1) row
 
--- The cap of a row: the points that it lists, and the most that the other fights can give.
+-- The most that the fights of a row can give.
+abbrev pub listed_most : Problem → List (ℕ × ℕ) → ℕ
+listed_most p row = sum_by (λ e. 3 * p.weight e.0) row
+
+-- The cap of a row: the scores that it lists, and the most that the other fights can give.
 abbrev pub listed_cap : Problem → List (ℕ × ℕ) → ℕ
-listed_cap p row = sum_by (λ e. e.1) row + most_besides p (numbers row)
+listed_cap p row = listed_total p row + most_besides p (numbers row)
 
 -- What is checked of a refused or a cap row before each reason is right.
 abbrev pub IsFirstAlone : Problem → ℕ → Row → Reason → Type 0

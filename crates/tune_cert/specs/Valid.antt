@@ -1,8 +1,8 @@
 -- Valid certificates.
-use Rattle.std.specs.Prelude.{◌≡◌, ◌≢◌, ℕ, ◌+◌, ◌<◌, ◌≤◌, false, List, [], ◌∷◌, length, map, slice_get, Some, None}
+use Rattle.std.specs.Prelude.{◌≡◌, ◌≢◌, ◌⊎◌, ℕ, ◌+◌, ◌*◌, ◌<◌, ◌≤◌, false, List, [], ◌∷◌, length, map, slice_get, Some, None}
 use Rattle.std.specs.List.{sum_by}
 use Rattle.rc_instr.specs.Warrior.{WarriorView}
-use Rattle.tune_cert.specs.Problem.{Problem}
+use Rattle.tune_cert.specs.Problem.{Problem, CountsOnce}
 use Rattle.tune_cert.specs.Optimum.{cap_of, beats}
 use Rattle.tune_cert.specs.declared.cert.Cert.{Cert}
 use Rattle.tune_cert.specs.declared.cert.Row.{Row}
@@ -11,6 +11,13 @@ use Rattle.tune_cert.specs.declared.cert.Row.TheVariants.{Refused, Same, Cap}
 -- The indices of the fights that a cap row lists.
 abbrev pub numbers : List (ℕ × ℕ) → List ℕ
 numbers row = map (λ e. e.0) row
+
+-- The score that a cap row lists for a fight, and the total of these.
+abbrev pub listed_score : Problem → ℕ × ℕ → ℕ
+listed_score p = λ e. e.1 * p.weight e.0
+
+abbrev pub listed_total : Problem → List (ℕ × ℕ) → ℕ
+listed_total p row = sum_by (listed_score p) row
 
 -- A cap row of a warrior lists fights with their points. Their indices rise, from a or more.
 abbrev pub IsCapRow : Problem → WarriorView → ℕ → List (ℕ × ℕ) → Type 0
@@ -43,14 +50,23 @@ IsRightRow p c v (Same u) =
     (w : WarriorView) × (row : List (ℕ × ℕ)) × (u ≢ v) × (u < p.count) × (p.warrior v ≡ Some w) × (p.warrior u ≡ Some w)
     × (slice_get c.rows u ≡ Some (Cap row)) × IsNoBetter c (cap_of p w (numbers row)) v
 
+-- Version 1 is for schedules in which every fight counts once. Version 2 is for any.
+abbrev pub IsVersionOf : Problem → ℕ → Type 0
+IsVersionOf p version = version ≡ 1 → CountsOnce p
+
+-- The version that a search writes: 1 exactly if every fight counts once.
+abbrev pub IsOwnVersion : Problem → ℕ → Type 0
+IsOwnVersion p version = ((version ≡ 1) × CountsOnce p) ⊎ ((version ≡ 2) × (CountsOnce p → ⊥))
+
 -- A valid certificate has a right row for each setting. The row of the best setting lists every
--- fight, and its points add up to the total.
+-- fight, and its scores add up to the total.
 pub record IsValid (p : Problem) (c : Cert) : Type 0 where
+  pub version_is : IsVersionOf p c.version
   pub count_is : c.count ≡ p.count
   pub rows_are : length c.rows ≡ p.count
   pub best_row : List (ℕ × ℕ)
   pub best_inside : c.best < p.count
   pub best_at : slice_get c.rows c.best ≡ Some (Cap best_row)
   pub whole : length best_row ≡ p.fights
-  pub sums : sum_by (λ e. e.1) best_row ≡ c.total
+  pub sums : listed_total p best_row ≡ c.total
   pub right : (v : ℕ) (row : Row) → slice_get c.rows v ≡ Some row → IsRightRow p c v row

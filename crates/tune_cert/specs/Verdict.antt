@@ -1,26 +1,25 @@
 -- What a verdict says of a certificate, and which record and reason a rejection names.
 use Rattle.std.specs.Prelude.{◌≡◌, ◌≢◌, ◌⊎◌, ℕ, ◌+◌, ◌<◌, ◌≤◌, true, List, [], ◌∷◌, length, slice_get, Some, None}
-use Rattle.std.specs.List.{sum_by}
 use Rattle.rc_instr.specs.Warrior.{WarriorView}
 use Rattle.mars_fight.specs.Records.{Fields}
 use Rattle.tune_cert.specs.Problem.{Problem}
 use Rattle.tune_cert.specs.Optimum.{all_fights, cap_of, beats, IsOptimum, HasTotal}
-use Rattle.tune_cert.specs.Valid.{numbers, IsValid, IsRightRow}
+use Rattle.tune_cert.specs.Valid.{numbers, listed_total, IsVersionOf, IsValid, IsRightRow}
 use Rattle.tune_cert.specs.Spelling.{Spells, IsMalformed, IsFirstMalformed}
 use Rattle.tune_cert.specs.declared.cert.Cert.{Cert}
 use Rattle.tune_cert.specs.declared.cert.Row.{Row}
 use Rattle.tune_cert.specs.declared.cert.Row.TheVariants.{Refused, Same, Cap}
 use Rattle.tune_cert.specs.declared.verdict.Reason.{Reason}
-use Rattle.tune_cert.specs.declared.verdict.Reason.TheVariants.{Malformed, RowCount, BestRow, WrongPoints, RepeatedFight, CapTooHigh, NotSame, NotRefused}
+use Rattle.tune_cert.specs.declared.verdict.Reason.TheVariants.{Malformed, RowCount, BestRow, WrongPoints, RepeatedFight, CapTooHigh, NotSame, NotRefused, Version}
 use Rattle.tune_cert.specs.declared.verdict.Verdict.{Verdict}
 use Rattle.tune_cert.specs.declared.verdict.Verdict.TheVariants.{Accepted, Rejected}
 
--- The row of the best setting lists every fight in order, and its points add up to the total.
+-- The row of the best setting lists every fight in order, and its scores add up to the total.
 pub record IsBestRow (p : Problem) (c : Cert) : Type 0 where
   pub row : List (ℕ × ℕ)
   pub here : slice_get c.rows c.best ≡ Some (Cap row)
   pub every : numbers row ≡ all_fights p
-  pub sums : sum_by (λ e. e.1) row ≡ c.total
+  pub sums : listed_total p row ≡ c.total
 
 -- The fights of a cap row rise, from a or more, so that none is listed twice.
 abbrev pub Rises : ℕ → List (ℕ × ℕ) → Type 0
@@ -79,8 +78,9 @@ pub record IsWrongRow (p : Problem) (c : Cert) (number : ℕ) (reason : Reason) 
 -- What each reason says of the certificate, at the record that a rejection names.
 abbrev pub IsRejected : Problem → Cert → ℕ → Reason → Type 0
 IsRejected p c number reason =
-    ((reason ≡ RowCount) × (number ≡ 0) × ((c.count ≢ p.count) ⊎ (length c.rows ≢ p.count)))
-    ⊎ (((reason ≡ BestRow) × (number ≡ 1) × (IsBestRow p c → ⊥)) ⊎ IsWrongRow p c number reason)
+    ((reason ≡ Version) × (number ≡ 0) × (IsVersionOf p c.version → ⊥))
+    ⊎ (((reason ≡ RowCount) × (number ≡ 0) × ((c.count ≢ p.count) ⊎ (length c.rows ≢ p.count)))
+    ⊎ (((reason ≡ BestRow) × (number ≡ 1) × (IsBestRow p c → ⊥)) ⊎ IsWrongRow p c number reason))
 
 -- Accepted: the records spell a valid certificate with this best setting and total. Rejected: a
 -- record is malformed, or they spell a certificate of which the reason holds at that record.
@@ -158,13 +158,14 @@ pub record IsFirstRow (p : Problem) (c : Cert) (number : ℕ) (reason : Reason) 
 -- Everything that is checked before the reason is right. A certificate has no malformed record.
 abbrev pub IsFirstOfCert : Problem → Cert → ℕ → Reason → Type 0
 IsFirstOfCert p c number Malformed = ⊥
-IsFirstOfCert p c number RowCount = Unit {0}
-IsFirstOfCert p c number BestRow = HasRowCount p c
-IsFirstOfCert p c number WrongPoints = HasRowCount p c × IsBestRow p c × IsFirstRow p c number WrongPoints
-IsFirstOfCert p c number RepeatedFight = HasRowCount p c × IsBestRow p c × IsFirstRow p c number RepeatedFight
-IsFirstOfCert p c number CapTooHigh = HasRowCount p c × IsBestRow p c × IsFirstRow p c number CapTooHigh
-IsFirstOfCert p c number NotSame = HasRowCount p c × IsBestRow p c × IsFirstRow p c number NotSame
-IsFirstOfCert p c number NotRefused = HasRowCount p c × IsBestRow p c × IsFirstRow p c number NotRefused
+IsFirstOfCert p c number Version = Unit {0}
+IsFirstOfCert p c number RowCount = IsVersionOf p c.version
+IsFirstOfCert p c number BestRow = IsVersionOf p c.version × HasRowCount p c
+IsFirstOfCert p c number WrongPoints = IsVersionOf p c.version × HasRowCount p c × IsBestRow p c × IsFirstRow p c number WrongPoints
+IsFirstOfCert p c number RepeatedFight = IsVersionOf p c.version × HasRowCount p c × IsBestRow p c × IsFirstRow p c number RepeatedFight
+IsFirstOfCert p c number CapTooHigh = IsVersionOf p c.version × HasRowCount p c × IsBestRow p c × IsFirstRow p c number CapTooHigh
+IsFirstOfCert p c number NotSame = IsVersionOf p c.version × HasRowCount p c × IsBestRow p c × IsFirstRow p c number NotSame
+IsFirstOfCert p c number NotRefused = IsVersionOf p c.version × HasRowCount p c × IsBestRow p c × IsFirstRow p c number NotRefused
 
 -- A malformed record is the first such; for any other reason the records spell a certificate.
 abbrev pub IsFirstReject : Problem → List Fields → ℕ → Reason → Type 0

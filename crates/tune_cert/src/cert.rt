@@ -7,6 +7,8 @@ use std::marker::Model;
 /// A certificate as its text spells it. `check` decides whether it is right.
 #[derive(Debug, Drop)]
 pub struct Cert {
+    /// The version, 1 or 2. Version 1 is for schedules in which every fight has the weight 1.
+    pub version: u32,
     /// The number of settings that the certificate claims.
     pub count: u32,
     /// The index of the best setting, from 0.
@@ -134,9 +136,11 @@ impl Rows {
 /// The answer of a search: the optimum, and the rows of a certificate for it.
 #[derive(Debug, Drop)]
 pub struct Found {
+    /// The version of its certificate: 1 if every fight has the weight 1, and otherwise 2.
+    pub version: u32,
     /// The index of the optimum, from 0.
     pub best: u32,
-    /// Its points in all fights, at most 30000.
+    /// Its total: the points of all fights, each times the fight's weight. At most 30000000.
     pub total: u32,
     /// A row for each setting.
     pub rows: Rows,

@@ -11,6 +11,7 @@ ghost use Rattle.tune_cert.specs.declared.cert.Cert.{Cert};
 
 use crate::cert::Cert;
 use crate::fault::{CheckFault, ReadFault};
+use crate::problem::cert_version;
 use crate::read::read_cert;
 use crate::row_checks::{check_alone, check_same, is_best_row};
 use crate::verdict::{Reason, Verdict};
@@ -33,11 +34,12 @@ struct Wrong {
 /// order:
 ///
 /// 1. the form of each record (`Malformed`),
-/// 2. the number of rows (`RowCount`),
-/// 3. the row of the best setting (`BestRow`),
-/// 4. the refused and the cap rows in order (`NotRefused`; `RepeatedFight`, then `WrongPoints`,
+/// 2. the version (`Version`),
+/// 3. the number of rows (`RowCount`),
+/// 4. the row of the best setting (`BestRow`),
+/// 5. the refused and the cap rows in order (`NotRefused`; `RepeatedFight`, then `WrongPoints`,
 ///    then `CapTooHigh`),
-/// 5. the rows that refer to other settings in order (`NotSame`, then `CapTooHigh`).
+/// 6. the rows that refer to other settings in order (`NotSame`, then `CapTooHigh`).
 ///
 /// Plays once each fight that a cap row lists, up to the first whose points are wrong. Assembles
 /// each setting at most twice. Reserves nothing for what the certificate merely claims.
@@ -155,6 +157,9 @@ fn check_cert(alloc: Global, inputs: &Inputs, cert: &Cert) -> Result<Verdict, Ch
     ensures verdict { IfOk result (IsCertVerdict (problem_of inputs.now) cert.now) }
     ensures first { IfOk result (IsFirstVerdict (problem_of inputs.now) cert.now) }
 {
+    if cert.version == 1 && cert_version(inputs) != 1 {
+        return Ok(rejected(0, Reason::Version));
+    }
     let count = inputs.template().count();
     if cert.count != count {
         return Ok(rejected(0, Reason::RowCount));

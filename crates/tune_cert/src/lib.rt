@@ -18,7 +18,7 @@ mod write;
 pub use cert::{Cert, Found, Listing, Row, Rows};
 pub use checker::check;
 pub use fault::{CertFault, CheckFault, ReadFault};
-pub use problem::{MOST_POINTS, fight_points, greatest_total, setting_warrior};
+pub use problem::{cert_version, fight_points, fight_weight, greatest_total, setting_warrior};
 pub use read::read_cert;
 pub use verdict::{Reason, Verdict};
 pub use write::write_cert;

@@ -3,6 +3,7 @@ ghost use Rattle.std.specs.Prelude.{◌≡◌, ◌<◌, ◌≤◌, IfOk, IfSome,
 ghost use Rattle.rc_instr.specs.Warrior.{IsWarrior, Fits};
 ghost use Rattle.tune_cert.specs.Problem.{problem_of};
 ghost use Rattle.tune_cert.specs.Optimum.{greatest_of};
+ghost use Rattle.tune_cert.specs.Valid.{IsOwnVersion};
 ghost use Rattle.mars_core.specs.Arena.{IsBlank};
 ghost use Rattle.mars_fight.specs.Play.{ArePoints};
 
@@ -12,9 +13,6 @@ use rc_asm::AsmKind;
 use rc_instr::{OutOfMemory, Warrior};
 use std::alloc::Global;
 use tune_template::Inputs;
-
-/// The most points that a fight gives: 3, for a win.
-pub const MOST_POINTS: u32 = 3;
 
 /// Assembles the template with the values of setting `vector`, which is below the count of
 /// settings.
@@ -67,14 +65,37 @@ pub fn fight_points<C: Cells>(
     play(arena, warrior, opponent, fight)
 }
 
-/// Returns the greatest total that a setting can have: 3 points in each fight of the schedule,
-/// which has at most 10000.
-#[tactic(auto, using(crate::proofs::CapRows::greatest_is))]
+/// Returns the greatest total that a setting can have: 3 points in each fight of the schedule, times
+/// the weight of the fight. At most 30000000.
+#[tactic(auto, using(crate::proofs::Weights::greatest_is))]
 pub fn greatest_total(inputs: &Inputs) -> u32
     ensures greatest { result ≡ greatest_of (problem_of inputs.now) }
     ensures few { (problem_of inputs.now).fights ≤ 10000 }
+    ensures small { result ≤ 30000000 }
 {
-    MOST_POINTS * fight_count(inputs)
+    prove!(fight_count(inputs) <= 10_000);
+    inputs.schedule().greatest()
+}
+
+/// Returns the weight of fight `index` of the schedule, 1 to 1000, or 0 if there is no such fight.
+#[tactic(auto, unfolding(crate::specs::Problem::fight_weight))]
+pub fn fight_weight(inputs: &Inputs, index: u32) -> u32
+    ensures weight { result ≡ (problem_of inputs.now).weight index }
+    ensures small { result ≤ 1000 }
+{
+    match inputs.schedule().fights().get(index as usize) {
+        Some(fight) => fight.weight,
+        None => 0,
+    }
+}
+
+/// Returns the version of a certificate for these inputs: 1 if every fight has the weight 1, and
+/// otherwise 2.
+#[tactic(auto, using(crate::proofs::Weights::plain))]
+pub fn cert_version(inputs: &Inputs) -> u32
+    ensures { IsOwnVersion (problem_of inputs.now) result }
+{
+    if inputs.schedule().plain() { 1 } else { 2 }
 }
 
 // Returns the number of fights in the schedule.

@@ -2,8 +2,9 @@
 ghost use Rattle.std.specs.Prelude.{◌≡◌, ℕ, ◌∷◌, Some, List, IfOk, IfErr, IfSome, MatchResult, ◌+◌, ◌++◌, IsSomeAnd, drop, ◌↔◌, IsTrue};
 ghost use Rattle.csv.specs.Records.{fields_of};
 ghost use Rattle.mars_fight.specs.Records.{records_of};
+ghost use Rattle.std.specs.Fmt.{decimal};
 ghost use Rattle.tune_cert.specs.CertText.{count_fields, best_fields, kind_text, last_text, row_fields, item_text, spaced_text};
-ghost use Rattle.tune_cert.specs.Spelling.{IsNumber, Spells, IsRow, IsItem, IsReadRefusal};
+ghost use Rattle.tune_cert.specs.Spelling.{IsNumber, IsVersion, Spells, IsRow, IsItem, IsReadRefusal};
 ghost use Rattle.tune_cert.specs.Steps.{AreRows, IsBadCount, IsBadBest, IsBadRow, AreSpaced, AreItems};
 ghost use Rattle.tune_cert.specs.declared.cert.Row.{Row};
 ghost use Rattle.tune_cert.specs.declared.cert.Cert.{Cert};
@@ -19,8 +20,8 @@ use std::alloc::Global;
 /// Parses a certificate, without judging it: `check` compares it with the inputs of a tuning.
 ///
 /// The crate `csv` splits the bytes into records, so fields may be quoted and records may end with
-/// LF, CR or CR LF. Each record has three fields: `cwcert,1,N`, then `best,W,T`, then for each
-/// setting V from 0 on `refused,V,-`, `same,V,U`, or `cap,V,LIST` with a list of fights such as
+/// LF, CR or CR LF. Each record has three fields: `cwcert,V,N` with version V, 1 or 2, then
+/// `best,W,T`, then for each setting V from 0 on `refused,V,-`, `same,V,U`, or `cap,V,LIST` with a list of fights such as
 /// `0:3 4:1`, or `-` for none. Decimals are at most 4294967295 and have no leading zero. There may
 /// be more or fewer rows than N.
 ///
@@ -41,10 +42,11 @@ pub fn read_cert(alloc: Global, bytes: &[u8]) -> Result<Cert, ReadFault>
 {
     let mut records = Records::new(alloc, bytes);
     let mut fields = ByteRecord::new(alloc);
-    let count = read_count(&mut records, &mut fields)?;
+    let (version, count) = read_count(&mut records, &mut fields)?;
     let (best, total) = read_best(&mut records, &mut fields)?;
     let rows = read_rows(alloc, &mut records, &mut fields)?;
     Ok(Cert {
+        version,
         count,
         best,
         total,
@@ -52,19 +54,32 @@ pub fn read_cert(alloc: Global, bytes: &[u8]) -> Result<Cert, ReadFault>
     })
 }
 
-// Parses record 0: `cwcert,1,N`. Returns N, the number of settings.
-fn count_in(fields: &ByteRecord) -> Option<u32>
-    ensures found { IfSome result (λ count. fields_of fields.now ≡ count_fields count) }
-    ensures only { (count : ℕ) → IsNumber count → fields_of fields.now ≡ count_fields count → result ≡ Some count }
+// Parses record 0: `cwcert,V,N`. Returns the version V, 1 or 2, and N, the number of settings.
+fn count_in(fields: &ByteRecord) -> Option<(u32, u32)>
+    ensures found { IfSome result (λ x. IsVersion x.0 × (fields_of fields.now ≡ count_fields x.0 x.1)) }
+    ensures only { (version count : ℕ) → IsVersion version → IsNumber count → fields_of fields.now ≡ count_fields version count
+        → result ≡ Some (version, count) }
 {
     let (name, version, count) = three_fields(fields)?;
     if !is_text(name, b"cwcert") {
         return None;
     }
-    if !is_text(version, b"1") {
-        return None;
+    let version = version_of(version)?;
+    let count = decimal_of(count)?;
+    Some((version, count))
+}
+
+// Parses a version: 1 or 2.
+fn version_of(field: &[u8]) -> Option<u32>
+    ensures found { IfSome result (λ version. IsVersion version × (field.now ≡ decimal version)) }
+    ensures only { (version : ℕ) → IsVersion version → field.now ≡ decimal version → result ≡ Some version }
+{
+    let version = decimal_of(field)?;
+    if version == 1 || version == 2 {
+        Some(version)
+    } else {
+        None
     }
-    decimal_of(count)
 }
 
 // Parses record 1: `best,W,T`. Returns the best setting W and its total T.
@@ -82,15 +97,15 @@ fn best_in(fields: &ByteRecord) -> Option<(u32, u32)>
     Some((best, total))
 }
 
-fn read_count(records: &mut Records, fields: &mut ByteRecord) -> Result<u32, ReadFault>
-    ensures found { IfOk result (λ count. records.old ≡ count_fields count ∷ records.new) }
+fn read_count(records: &mut Records, fields: &mut ByteRecord) -> Result<(u32, u32), ReadFault>
+    ensures found { IfOk result (λ x. IsVersion x.0 × (records.old ≡ count_fields x.0 x.1 ∷ records.new)) }
     ensures fault { IfErr result (λ e. IsBadCount records.old e) }
 {
     if !records.read(fields)? {
         return Err(ReadFault::Malformed { row: 0 });
     }
     match count_in(fields) {
-        Some(count) => Ok(count),
+        Some(first) => Ok(first),
         None => Err(ReadFault::Malformed { row: 0 }),
     }
 }

@@ -3,19 +3,20 @@ ghost use Rattle.std.specs.Prelude.{◌≡◌, ◌↔◌, ◌<◌, None, Some, I
 ghost use Rattle.rc_instr.specs.Warrior.{Fits};
 ghost use Rattle.mars_core.specs.Arena.{IsBlank};
 ghost use Rattle.tune_cert.specs.Problem.{problem_of};
-ghost use Rattle.tune_cert.specs.Valid.{IsRightRow};
+ghost use Rattle.tune_cert.specs.Valid.{IsCapRow, IsRightRow, listed_total};
 ghost use Rattle.tune_cert.specs.Verdict.{Rises, HavePoints, IsWrongRefused, IsWrongCap, IsWrong, IsWrongSame, IsBestRow, IsRightAlone, IsFirstOfCap, AreRightAlone, IsRightSame, IsFirstOfSame};
-ghost use Rattle.tune_cert.specs.Steps.{IsFirstAlone, IsFirstSame, AreNumbers, AreAssembled, listed_cap};
+ghost use Rattle.tune_cert.specs.Steps.{IsFirstAlone, IsFirstSame, AreNumbers, AreAssembled, listed_most, listed_cap};
 ghost use Rattle.tune_cert.specs.declared.cert.Row.TheVariants.{Cap, Same};
-ghost use Rattle.std.specs.List.{sum_by};
+ghost use Rattle.rc_instr.specs.Warrior.{WarriorView};
 ghost use Rattle.tune_cert.specs.Optimum.{beats};
 
 use crate::cert::{Cert, Row};
 use crate::fault::CheckFault;
-use crate::problem::{MOST_POINTS, fight_count, fight_points, setting_warrior};
+use crate::problem::{fight_count, fight_points, fight_weight, greatest_total, setting_warrior};
 use crate::verdict::Reason;
 use crate::warriors::assemble_once;
 use mars_core::{Arena, PackedCells};
+use mars_fight::MOST_POINTS;
 use rc_instr::{Instruction, Warrior};
 use std::alloc::Global;
 use tune_template::Inputs;
@@ -68,7 +69,7 @@ pub(crate) fn check_same(
     }
 }
 
-// Checks whether the row of the best setting lists every fight in order, with points that add up to
+// Checks whether the row of the best setting lists every fight in order, with scores that add up to
 // the total.
 pub(crate) fn is_best_row(inputs: &Inputs, cert: &Cert) -> bool
     ensures yes { IsTrue result → IsBestRow (problem_of inputs.now) cert.now }
@@ -80,7 +81,7 @@ pub(crate) fn is_best_row(inputs: &Inputs, cert: &Cert) -> bool
     if !lists_all(fight_count(inputs), listed) {
         return false;
     }
-    listed_points(listed) == cert.total
+    listed_total(inputs, listed) == cert.total
 }
 
 // Checks whether the fights of a cap row rise, so that none is listed twice.
@@ -277,27 +278,41 @@ fn cap_row(cert: &Cert, vector: u32) -> Option<&[(u32, u8)]>
     }
 }
 
-// Adds up the points that a cap row lists.
-fn listed_points(listed: &[(u32, u8)]) -> u32
+// Adds up the scores that a cap row lists: points times the weight of the fight.
+fn listed_total(inputs: &Inputs, listed: &[(u32, u8)]) -> u32
     requires few { length listed.now ≤ 10000 }
-    ensures sum { result ≡ sum_by (λ e. e.1) listed.now }
-    ensures small { result ≤ 255 * length listed.now }
+    ensures sum { result ≡ listed_total (problem_of inputs.now) listed.now }
+    ensures small { result ≤ 255000 * length listed.now }
 {
-    let mut sum: u32 = 0;
-    for (_, points) in listed {
-        sum += u32::from(*points);
+    let mut total: u32 = 0;
+    for (number, points) in listed {
+        total += u32::from(*points) * fight_weight(inputs, *number);
     }
-    sum
+    total
 }
 
-// Returns the cap of a row: the points that it lists, and the most that the other fights can give.
+// Adds up the most that the fights of a cap row can give.
+fn listed_most(inputs: &Inputs, listed: &[(u32, u8)]) -> u32
+    requires few { length listed.now ≤ 10000 }
+    ensures sum { result ≡ listed_most (problem_of inputs.now) listed.now }
+    ensures small { result ≤ 3000 * length listed.now }
+{
+    let mut most: u32 = 0;
+    for (number, _) in listed {
+        most += MOST_POINTS * fight_weight(inputs, *number);
+    }
+    most
+}
+
+// Returns the cap of a row: the scores that it lists, and the most that the other fights can give.
 #[tactic(auto, using(crate::proofs::CapRows::besides_row))]
 fn listed_cap(inputs: &Inputs, listed: &[(u32, u8)]) -> u32
-    requires within { length listed.now ≤ (problem_of inputs.now).fights }
+    requires row { (w : WarriorView) × IsCapRow (problem_of inputs.now) w 0 listed.now }
     ensures { result ≡ listed_cap (problem_of inputs.now) listed.now }
 {
-    let fights = fight_count(inputs);
-    listed_points(listed) + MOST_POINTS * (fights - listed.len() as u32)
+    let greatest = greatest_total(inputs);
+    let most = listed_most(inputs, listed);
+    listed_total(inputs, listed) + (greatest - most)
 }
 
 // Checks whether `cap` beats the best setting for setting `vector`: an equal cap does if `vector`

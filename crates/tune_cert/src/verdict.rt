@@ -8,8 +8,8 @@ pub enum Reason {
     /// The certificate does not have a row for each setting of the template, or claims another
     /// count.
     RowCount,
-    /// The row of the best setting does not list every fight in order, or its points do not add up
-    /// to the total.
+    /// The row of the best setting does not list every fight in order, or its points, each times the
+    /// weight of the fight, do not add up to the total.
     BestRow,
     /// A cap row names a setting that does not assemble, a fight that does not exist, or points
     /// other than the fight's.
@@ -24,6 +24,8 @@ pub enum Reason {
     NotSame,
     /// The row says refused, but the setting assembles.
     NotRefused,
+    /// The certificate is of version 1, and a fight has a weight other than 1.
+    Version,
 }
 
 /// What `check` says of a certificate.

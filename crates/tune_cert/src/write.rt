@@ -4,6 +4,7 @@ ghost use Rattle.std.specs.Fmt.{decimal};
 ghost use Rattle.std.specs.Io.KnownBytes.{Appends};
 ghost use Rattle.csv.specs.Writing.{default_writer, row_text, text_written};
 ghost use Rattle.tune_cert.specs.CertText.{item_text, spaced_text, list_text, row_fields, rows_fields, count_fields, best_fields, records_text, cert_text, cert_of};
+ghost use Rattle.tune_cert.specs.Spelling.{IsVersion};
 ghost use Rattle.tune_cert.specs.Steps.{IsReady};
 
 use crate::cert::{Found, Row};
@@ -16,10 +17,10 @@ use std::io::Write;
 
 /// Writes the certificate of what a search found.
 ///
-/// The lines are `cwcert,1,N` for N settings, `best,W,T` for the best setting and its total, and
+/// The lines are `cwcert,V,N` for version V and N settings, `best,W,T` for the best setting and its total, and
 /// then for each setting V its row: `refused,V,-`, `same,V,U`, or `cap,V,LIST` with its fights as
-/// in `0:3 1:1`, or `-` for none. There must be fewer than 4294967296 rows, and the outlet must not
-/// have failed. The text is built in memory and then written whole.
+/// in `0:3 1:1`, or `-` for none. The version must be 1 or 2, there must be fewer than 4294967296
+/// rows, and the outlet must not have failed. The text is built in memory and then written whole.
 ///
 /// # Errors
 ///
@@ -31,6 +32,7 @@ pub fn write_cert<W: Write>(
     out: &mut Outlet<W>,
 ) -> Result<(), CertFault>
     requires works { out.old.failed ≡ false }
+    requires version { IsVersion found.now.version }
     requires few { length found.now.rows < 2 ^ 32 }
     ensures bytes { OnOk result (Appends out.old.bytes out.new.bytes (cert_text (cert_of found.now))) }
     ensures write { IsErrOf result CertFault.Write ↔ IsTrue out.new.failed }
@@ -139,16 +141,16 @@ fn write_row(
     }
 }
 
-fn write_count(writer: &mut Writer<Vec<u8>>, count: u32) -> Result<(), OutOfMemory>
+fn write_count(writer: &mut Writer<Vec<u8>>, version: u32, count: u32) -> Result<(), OutOfMemory>
     requires { IsReady writer.old }
     ensures ready { OnOk result (IsReady writer.new) }
     ensures text { OnOk result (Appends (text_written (λ v. Some v.items) writer.old) (text_written (λ v. Some v.items) writer.new)
-        (row_text default_writer (count_fields count))) }
+        (row_text default_writer (count_fields version count))) }
 {
     write_record(
         writer,
         b"cwcert",
-        b"1",
+        Buffer::new().format(version).as_bytes(),
         Buffer::new().format(count).as_bytes(),
     )
 }
@@ -191,7 +193,7 @@ fn text_of(alloc: Global, found: &Found) -> Result<Vec<u8>, OutOfMemory>
 {
     let mut writer = WriterBuilder::new().from_writer(Vec::new(alloc));
     let rows = found.rows.as_slice();
-    write_count(&mut writer, rows.len() as u32)?;
+    write_count(&mut writer, found.version, rows.len() as u32)?;
     write_best(&mut writer, found.best, found.total)?;
     write_rows(alloc, &mut writer, rows)?;
     writer.into_inner().map_err(|_refused| OutOfMemory)

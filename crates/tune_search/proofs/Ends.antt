@@ -7,9 +7,9 @@ use Rattle.tune_cert.specs.declared.cert.Row.{Row}
 use Rattle.tune_search.specs.Plays.{row_of, rows_of}
 use Rattle.tune_search.specs.Progress.{IsBest, IsLead, IsProgress}
 use Rattle.tune_search.specs.declared.lead.Lead.{Lead}
-use Rattle.tune_cert.specs.Valid.{listed_fights, IsValid}
+use Rattle.tune_cert.specs.Valid.{listed_fights, IsOwnVersion, IsValid}
 use Rattle.tune_search.proofs.Listed.{listed_rows}
-use Rattle.tune_search.proofs.Rightness.{rows_valid}
+use Rattle.tune_search.proofs.Rightness.{own_version, rows_valid}
 
 best_optimum : (p : Problem) (v t : ℕ) → IsBest p p.count v t → IsOptimum p v
 best_optimum p v t h =
@@ -48,5 +48,5 @@ module _ (p : Problem) (k : ℕ) (rows : List Row) (lead : Option Lead) (candida
   pub ends_listed : fights ≡ listed_fights rows
   ends_listed = h.work ∙ ap (λ n. n * p.fights) ends_candidates ∙ sym (listed_rows p) ∙ ap listed_fights (sym ends_rows)
 
-  pub ends_valid : (best : Lead) → lead ≡ Some best → IsValid p (record { count = length rows; best = best.vector; total = best.total; rows = rows })
-  ends_valid best is = rows_valid p rows ends_rows best.vector best.total (ends_best best is)
+  pub ends_valid : (version : ℕ) → IsOwnVersion p version → (best : Lead) → lead ≡ Some best → IsValid p (record { version = version; count = length rows; best = best.vector; total = best.total; rows = rows })
+  ends_valid version own best is = rows_valid p rows ends_rows version best.vector best.total (own_version p version own) (ends_best best is)

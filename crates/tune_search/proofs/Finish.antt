@@ -10,7 +10,7 @@ use Rattle.rc_instr.specs.Rules.{RulesView}
 use Rattle.rc_instr.specs.Warrior.{WarriorView}
 use Rattle.tune_cert.specs.Problem.{IsProblem, Problem}
 use Rattle.tune_cert.specs.Optimum.{HasTotal, IsOptimum, all_fights, candidates_of, cap_of, total_of}
-use Rattle.tune_cert.specs.Valid.{IsCapRow, IsRightRow, IsValid, listed_fights, listed_in, numbers}
+use Rattle.tune_cert.specs.Valid.{IsOwnVersion, IsVersionOf, IsCapRow, IsRightRow, IsValid, listed_fights, listed_in, numbers}
 use Rattle.tune_cert.specs.declared.cert.Row.{Row}
 use Rattle.tune_cert.specs.declared.cert.Cert.{Cert}
 use Rattle.tune_cert.specs.declared.cert.Row.TheVariants.{Cap, Refused, Same}
@@ -22,6 +22,7 @@ use Rattle.tune_search.specs.Sharing.{HasRowOf, IsExplained, IsVisited}
 use Rattle.tune_search.specs.Found.{IsSearch, is_cap, is_copied}
 use Rattle.tune_search.specs.State.{IsCopied, IsUnderWay, IsWhole, is_filled}
 use Rattle.tune_search.specs.declared.lead.Lead.{Lead}
+use Rattle.tune_search.proofs.Rightness.{own_version}
 use Rattle.tune_search.proofs.Totals.{cap_all}
 use Rattle.tune_search.proofs.Orders.{order_permutes}
 use Rattle.tune_search.proofs.ListedFights.{All-take, listed_cap, listed_is_row, order_below}
@@ -33,7 +34,7 @@ chained c u t z d v a b =
     let a1 : c ≤ t = a.no_more in let a2 : c ≡ t → z ≤ u = a.later in let b1 : t ≤ d = b.no_more in let b2 : t ≡ d → v ≤ z = b.later in
     record { no_more = omega arith; later = λ e. let x : z ≤ u = a2 (omega arith) in let y : v ≤ z = b2 (omega arith) in omega arith }
 
-module _ (p : Problem) (laws : IsProblem p) (start : p.start < p.count) (rows : List Row) (lead : Lead) (best : IsBestAfter p p.count lead) where
+module _ (p : Problem) (laws : IsProblem p) (start : p.start < p.count) (version : ℕ) (own : IsVersionOf p version) (rows : List Row) (lead : Lead) (best : IsBestAfter p p.count lead) where
   -- a candidate trails the best
   behind : (v : ℕ) (x : WarriorView) → v < p.count → p.warrior v ≡ Some x → Trails (total_of p x) v lead.total lead.vector
   behind v x l is = trails _ _ _ _ (best.best v x l (place_below p.start p.count v start l) is)
@@ -54,7 +55,7 @@ module _ (p : Problem) (laws : IsProblem p) (start : p.start < p.count) (rows : 
 
   -- the certificate of these rows
   abbrev cert : Cert
-  cert = record { count = length rows; best = lead.vector; total = lead.total; rows = rows }
+  cert = record { version = version; count = length rows; best = lead.vector; total = lead.total; rows = rows }
 
   lead_behind : (k : ℕ) (l : Lead) → IsBestAfter p k l → Trails l.total l.vector lead.total lead.vector
   lead_behind k l h = subst (λ (n : ℕ). Trails n l.vector lead.total lead.vector) h.scores (behind l.vector h.warrior h.inside h.candidate)
@@ -155,6 +156,7 @@ module _ (p : Problem) (laws : IsProblem p) (start : p.start < p.count) (rows : 
         let r = right lead.vector (Cap whole.0) whole.1 in
         let same : r.0 ≡ best.warrior = some_is _ _ (sym r.1 ∙ best.candidate) in
         record {
+          version_is = own;
           count_is = rows_are;
           rows_are = rows_are;
           best_row = whole.0;
@@ -280,15 +282,17 @@ module _ (p : Problem) (laws : IsProblem p) (start : p.start < p.count) (rules :
       h v l (place_below p.start p.count v start l)
 
   -- what was found is what a search promises
-  pub finds : (l : Lead) → lead ≡ Some l → p.count ≤ 1000000 →
-      IsSearch p c (record { best = l.vector; total = l.total; rows = rows; fights = f; candidates = n; copied = copied })
-  finds l e few =
+  pub finds : (version : ℕ) → IsOwnVersion p version → (l : Lead) → lead ≡ Some l → p.count ≤ 1000000 →
+      IsSearch p c (record { version = version; best = l.vector; total = l.total; rows = rows; fights = f; candidates = n; copied = copied })
+  finds version own l e few =
+      let right_version = own_version p version own in
       let best : IsLeadAfter p p.count (Some l) = subst (λ (o : Option Lead). IsLeadAfter p p.count o) e s.lead_is in
       let all : length rows ≡ p.count = s.rows_are in
       record {
-        optimum = best_is_optimum p laws start rows l best;
-        total_is = best_total p laws start rows l best;
-        valid = is_valid p laws start rows l best c copied s.rows_are all_told (subst (λ (o : Option Lead). IsWhole p rows o) e s.whole);
+        optimum = best_is_optimum p laws start version right_version rows l best;
+        total_is = best_total p laws start version right_version rows l best;
+        valid = is_valid p laws start version right_version rows l best c copied s.rows_are all_told (subst (λ (o : Option Lead). IsWhole p rows o) e s.whole);
+        version = own;
         count = s.count ∙ filled_candidates p c rows copied s.rows_are all_told;
         few = omega (arith, all, few);
         refused = λ v i none. told_refused v (p.warrior v) none (all_told v i);

@@ -11,7 +11,7 @@ use Rattle.std.proofs.lemmas.List.FromFn.{length-range_with_len, get_or-range_wi
 use Rattle.std.proofs.lemmas.Map.Keys.{IsDistinct-IsPermutation, IsDistinct-from_apart, apart_from_distinct}
 use Rattle.rc_instr.specs.Warrior.{WarriorView}
 use Rattle.tune_cert.specs.Problem.{Problem}
-use Rattle.tune_cert.specs.Optimum.{cap_of, all_fights}
+use Rattle.tune_cert.specs.Optimum.{cap_of, all_fights, score_of, most_of}
 use Rattle.tune_cert.proofs.CapRows.{cap_is}
 use Rattle.tune_search.specs.Plays.{played}
 use Rattle.tune_search.specs.Visits.{IsListed}
@@ -75,8 +75,8 @@ listed_numbers p w ks row h = subst (λ (l : List ℕ). IsPermutation l (numbers
 pub listed_cap : (p : Problem) (w : WarriorView) (ks : List ℕ) (row : List (ℕ × ℕ)) → IsListed p w ks row → cap_of p w (numbers row) ≡ cap_of p w ks
 listed_cap p w ks row h =
     let ns : IsPermutation ks (numbers row) = listed_numbers p w ks row h in
-    let a : sum_by (p.points w) (numbers row) ≡ sum_by (p.points w) ks = sum_by-IsPermutation (p.points w) ks (numbers row) ns in
-    let b : length (numbers row) ≡ length ks = length_permutation ks (numbers row) ns in
+    let a : sum_by (score_of p w) (numbers row) ≡ sum_by (score_of p w) ks = sum_by-IsPermutation (score_of p w) ks (numbers row) ns in
+    let b : sum_by (most_of p) (numbers row) ≡ sum_by (most_of p) ks = sum_by-IsPermutation (most_of p) ks (numbers row) ns in
     omega (arith, cap_is p w (numbers row), cap_is p w ks)
 
 pub listed_length : (p : Problem) (w : WarriorView) (ks : List ℕ) (row : List (ℕ × ℕ)) → IsListed p w ks row → length row ≡ length ks

@@ -1,12 +1,12 @@
 -- The rows of a search that plays all fights are a valid certificate.
-use Rattle.std.proofs.Common.{◌≡◌, ℕ, zero, suc, ◌+◌, ◌<◌, ◌≤◌, arith, List, [], ◌∷◌, Option, Some, None, length, get_or, refl, sym, ◌∙◌, ap, subst}
+use Rattle.std.proofs.Common.{◌≡◌, ℕ, zero, suc, ◌+◌, ◌<◌, ◌≤◌, arith, List, [], ◌∷◌, Option, Some, None, length, get_or, refl, sym, ◌∙◌, ap, subst, inl, inr}
 use Rattle.std.specs.List.{range_with_len, sum_by, slice_get}
 use Rattle.std.proofs.lemmas.Option.{slice_get_within, slice_get-get_or}
-use Rattle.std.proofs.lemmas.List.FromFn.{length-range_with_len, length-map-range_with_len, get_or-map-range_with_len}
+use Rattle.std.proofs.lemmas.List.FromFn.{length-map-range_with_len, get_or-map-range_with_len}
 use Rattle.rc_instr.specs.Warrior.{WarriorView}
 use Rattle.tune_cert.specs.Problem.{Problem}
-use Rattle.tune_cert.specs.Optimum.{total_of, all_fights, cap_of}
-use Rattle.tune_cert.specs.Valid.{numbers, IsCapRow, IsRightRow, IsValid}
+use Rattle.tune_cert.specs.Optimum.{total_of, all_fights, cap_of, score_of}
+use Rattle.tune_cert.specs.Valid.{numbers, listed_total, IsCapRow, IsRightRow, IsVersionOf, IsOwnVersion, IsValid}
 use Rattle.tune_cert.specs.declared.cert.Cert.{Cert}
 use Rattle.tune_cert.specs.declared.cert.Row.{Row}
 use Rattle.tune_cert.specs.declared.cert.Row.TheVariants.{Refused}
@@ -14,6 +14,10 @@ use Rattle.tune_cert.proofs.Certificates.{Trails, not_beats, some_is}
 use Rattle.tune_cert.proofs.CapRows.{row_sum, cap_is}
 use Rattle.tune_search.specs.Plays.{played, row_with, row_of, rows_of}
 use Rattle.tune_search.specs.Progress.{IsBest}
+
+-- the version that a search writes is one that its certificate may have
+pub own_version : (p : Problem) (version : ℕ) → IsOwnVersion p version → IsVersionOf p version
+own_version p version h = elim h [ inl a ↦ (λ e. a.1) | inr b ↦ (λ e. absurd (omega (arith, b.0, e))) ]
 
 -- all fights from a on are a cap row
 played_row : (p : Problem) (w : WarriorView) (m a : ℕ) → a + m ≡ p.fights → IsCapRow p w a (played p w (range_with_len a m))
@@ -27,13 +31,13 @@ numbers_played p w (k ∷ ks) = ap (λ l. k ∷ l) (numbers_played p w ks)
 -- the cap by all fights is the total
 cap_all : (p : Problem) (w : WarriorView) → cap_of p w (all_fights p) ≡ total_of p w
 unfolding total_of
-cap_all p w = omega (arith, cap_is p w (all_fights p), length-range_with_len 0 p.fights)
+cap_all p w = omega (arith, cap_is p w (all_fights p))
 
-points_all : (p : Problem) (w : WarriorView) → sum_by (λ e. e.1) (played p w (all_fights p)) ≡ total_of p w
+scores_all : (p : Problem) (w : WarriorView) → listed_total p (played p w (all_fights p)) ≡ total_of p w
 unfolding total_of
-points_all p w =
+scores_all p w =
     row_sum p w 0 (played p w (all_fights p)) (played_row p w p.fights 0 (omega arith))
-    ∙ ap (sum_by (p.points w)) (numbers_played p w (all_fights p))
+    ∙ ap (sum_by (score_of p w)) (numbers_played p w (all_fights p))
 
 module _ (p : Problem) (rows : List Row) (are : rows ≡ rows_of p) where
   as_many : length rows ≡ p.count
@@ -46,10 +50,10 @@ module _ (p : Problem) (rows : List Row) (are : rows ≡ rows_of p) where
       let h : get_or rows v Refused ≡ row_of p v = ap (λ xs. get_or xs v Refused) are ∙ get_or-map-range_with_len (row_of p) 0 p.count v v Refused l (omega arith) in
       slice_get-get_or rows v Refused i ∙ ap (λ r. Some r) h
 
-  module _ (w t : ℕ) (best : IsBest p p.count w t) where
+  module _ (version w t : ℕ) (own : IsVersionOf p version) (best : IsBest p p.count w t) where
     -- the certificate of these rows
     abbrev cert : Cert
-    cert = record { count = length rows; best = w; total = t; rows = rows }
+    cert = record { version = version; count = length rows; best = w; total = t; rows = rows }
 
     trails_best : (v : ℕ) (x : WarriorView) → v < p.count → p.warrior v ≡ Some x → Trails (cap_of p x (numbers (played p x (all_fights p)))) v t w
     trails_best v x l is =
@@ -70,12 +74,13 @@ module _ (p : Problem) (rows : List Row) (are : rows ≡ rows_of p) where
 
     pub rows_valid : IsValid p cert
     rows_valid = record {
+      version_is = own;
       count_is = as_many;
       rows_are = as_many;
       best_row = played p best.warrior (all_fights p);
       best_inside = best.inside;
       best_at = row_here w best.inside ∙ ap (λ o. Some (row_with p o)) best.candidate;
       whole = length-map-range_with_len (λ k. (k, p.points best.warrior k)) 0 p.fights;
-      sums = points_all p best.warrior ∙ best.scores;
+      sums = scores_all p best.warrior ∙ best.scores;
       right = λ v row at. right_row v row at;
     }

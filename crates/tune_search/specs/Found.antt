@@ -4,7 +4,7 @@ use Rattle.std.specs.List.{count_by, range_with_len}
 use Rattle.rc_instr.specs.Warrior.{WarriorView}
 use Rattle.tune_cert.specs.Problem.{Problem}
 use Rattle.tune_cert.specs.Optimum.{IsOptimum, HasTotal, candidates_of}
-use Rattle.tune_cert.specs.Valid.{IsValid, listed_in, listed_fights}
+use Rattle.tune_cert.specs.Valid.{IsOwnVersion, IsValid, listed_in, listed_fights}
 use Rattle.tune_cert.specs.CertText.{cert_of}
 use Rattle.tune_cert.specs.declared.cert.Found.{Found}
 use Rattle.tune_cert.specs.declared.cert.Row.{Row}
@@ -43,6 +43,8 @@ pub record IsSearch (p : Problem) (capacity : ℕ) (f : Found) : Type 0 where
   pub optimum : IsOptimum p f.best
   pub total_is : HasTotal p f.best f.total
   pub valid : IsValid p (cert_of f)
+  -- its version is 1 exactly if every fight counts once
+  pub version : IsOwnVersion p f.version
   pub count : f.candidates ≡ candidates_of p
   pub few : length f.rows ≤ 1000000
   -- a setting that does not assemble has the row `Refused`

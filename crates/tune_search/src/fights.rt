@@ -4,14 +4,16 @@ ghost use Rattle.rc_instr.specs.Warrior.{Fits};
 ghost use Rattle.mars_core.specs.Arena.{IsBlank};
 ghost use Rattle.tune_cert.specs.Problem.{problem_of};
 ghost use Rattle.tune_cert.specs.Optimum.{all_fights, total_of, cap_of};
+ghost use Rattle.std.specs.List.Sorted.{IsPermutation};
 ghost use Rattle.tune_search.specs.Order.{enough};
 ghost use Rattle.tune_search.specs.Plays.{played};
 
 use crate::lead::{Lead, beats};
 use mars_core::{Arena, PackedCells};
+use mars_fight::MOST_POINTS;
 use rc_instr::Warrior;
 use std::alloc::{AllocError, Global};
-use tune_cert::{MOST_POINTS, fight_points, greatest_total};
+use tune_cert::{fight_points, fight_weight, greatest_total};
 use tune_template::Inputs;
 
 // Fights of a warrior in the order in which they were played, each with its points, and the cap of
@@ -43,7 +45,7 @@ pub(crate) fn play_all(
     for index in 0..count as u32 {
         let points = fight_points(arena, inputs, warrior, index);
         listing.push((index, points))?;
-        total += u32::from(points);
+        total += u32::from(points) * fight_weight(inputs, index);
     }
     Ok(Bout {
         listing,
@@ -53,7 +55,7 @@ pub(crate) fn play_all(
 
 // Plays the fights of `order` for setting `vector`, whose warrior is given, until its cap does not
 // beat the lead, or none is left.
-#[tactic(auto, using(tune_cert::proofs::CapRows::greatest_is, crate::proofs::Enough::enough_is, crate::proofs::Caps::cap_more, crate::proofs::Caps::played_more, crate::proofs::Caps::cap_none))]
+#[tactic(auto, using(crate::proofs::Enough::enough_is, crate::proofs::Caps::cap_more, crate::proofs::Caps::played_more, crate::proofs::Caps::cap_none))]
 pub(crate) fn play_enough(
     alloc: Global,
     arena: &mut Arena<PackedCells>,
@@ -66,6 +68,7 @@ pub(crate) fn play_enough(
     requires blank { IsBlank inputs.now.rules arena.old }
     requires fits { Fits inputs.now.rules warrior.now }
     requires all { length order.now ≡ (problem_of inputs.now).fights }
+    requires once { IsPermutation (all_fights (problem_of inputs.now)) order.now }
     requires below { All (λ k. k < (problem_of inputs.now).fights) order.now }
     ensures listing { let p = problem_of inputs.now in IfOk result (λ b. b.listing.items ≡ played p warrior.now (take (enough p warrior.now order.now vector lead) order.now)) }
     ensures cap { let p = problem_of inputs.now in IfOk result (λ b. b.cap ≡ cap_of p warrior.now (take (enough p warrior.now order.now vector lead) order.now)) }
@@ -80,7 +83,7 @@ pub(crate) fn play_enough(
         }
         let points = fight_points(arena, inputs, warrior, *index);
         listing.push((*index, points))?;
-        cap -= MOST_POINTS - u32::from(points);
+        cap -= (MOST_POINTS - u32::from(points)) * fight_weight(inputs, *index);
     }
     Ok(Bout { listing, cap })
 }

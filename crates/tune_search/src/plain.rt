@@ -2,7 +2,7 @@
 ghost use Rattle.std.specs.Prelude.{◌≡◌, ◌*◌, ◌<◌, ◌≤◌, ℕ, None, length, IfOk, IfErr};
 ghost use Rattle.tune_cert.specs.Problem.{problem_of};
 ghost use Rattle.tune_cert.specs.Optimum.{IsOptimum, HasTotal, candidates_of};
-ghost use Rattle.tune_cert.specs.Valid.{IsValid, listed_fights};
+ghost use Rattle.tune_cert.specs.Valid.{IsOwnVersion, IsValid, listed_fights};
 ghost use Rattle.tune_cert.specs.CertText.{cert_of};
 ghost use Rattle.tune_search.specs.Plays.{rows_of};
 
@@ -11,7 +11,7 @@ use crate::fault::SearchFault;
 use crate::progress::Progress;
 use mars_core::{Arena, PackedCells};
 use std::alloc::Global;
-use tune_cert::{Found, Rows};
+use tune_cert::{Found, Rows, cert_version};
 use tune_template::Inputs;
 
 /// Finds the optimum: the first setting of the template with the greatest total in the fights of
@@ -28,6 +28,7 @@ pub fn plain_search(alloc: Global, inputs: &Inputs) -> Result<Found, SearchFault
     ensures optimum { IfOk result (λ f. IsOptimum (problem_of inputs.now) f.best) }
     ensures total { IfOk result (λ f. HasTotal (problem_of inputs.now) f.best f.total) }
     ensures valid { let p = problem_of inputs.now in IfOk result (λ f. IsValid p (cert_of f)) }
+    ensures version { IfOk result (λ f. IsOwnVersion (problem_of inputs.now) f.version) }
     ensures candidates { IfOk result (λ f. f.candidates ≡ candidates_of (problem_of inputs.now)) }
     ensures rows { IfOk result (λ f. f.rows ≡ rows_of (problem_of inputs.now)) }
     ensures few { IfOk result (λ f. length f.rows ≤ 1000000) }
@@ -50,6 +51,7 @@ pub fn plain_search(alloc: Global, inputs: &Inputs) -> Result<Found, SearchFault
     match lead {
         None => Err(SearchFault::NoCandidate),
         Some(lead) => Ok(Found {
+            version: cert_version(inputs),
             best: lead.vector,
             total: lead.total,
             rows: Rows::from_vec(rows),

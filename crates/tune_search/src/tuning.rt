@@ -8,7 +8,7 @@ use crate::fault::SearchFault;
 use crate::state::State;
 use mars_core::{Arena, PackedCells};
 use std::alloc::Global;
-use tune_cert::{Found, Rows};
+use tune_cert::{Found, Rows, cert_version};
 use tune_template::Inputs;
 
 /// Finds the optimum: the first setting of the template with the greatest total in the fights of
@@ -17,8 +17,8 @@ use tune_template::Inputs;
 /// Visits the start setting first, then the others in order. The fights of the start setting go by
 /// index, and those of the others by the points that it made in them, the fewest first, and by
 /// index where these are equal; all by index if it does not assemble. A setting is dropped as soon
-/// as its cap does not beat the lead, the best setting visited so far: its points and 3 for each
-/// fight left are less than the lead's total, or equal and the lead has the smaller index.
+/// as its cap does not beat the lead, the best setting visited so far: what it has and 3 times
+/// the weight of each fight left are less than the lead's total, or equal and the lead has the smaller index.
 ///
 /// Remembers up to `capacity` fought settings, 1 to 65536, and forgets the one used least recently
 /// to make room. A setting v with the warrior of a remembered setting u is not fought, and u
@@ -55,6 +55,7 @@ pub fn search(alloc: Global, inputs: &Inputs, capacity: u32) -> Result<Found, Se
     match lead {
         None => Err(SearchFault::NoCandidate),
         Some(lead) => Ok(Found {
+            version: cert_version(inputs),
             best: lead.vector,
             total: lead.total,
             rows: Rows::from_vec(rows),

@@ -5,7 +5,7 @@ use Rattle.rc_instr.specs.Warrior.{WarriorView, Fits}
 use Rattle.rc_expand.specs.Names.{Table}
 use Rattle.rc_asm.specs.Assembly.{assembled}
 use Rattle.mars_fight.specs.declared.fight.Fight.{Fight}
-use Rattle.mars_fight.specs.Placing.{IsPlaced}
+use Rattle.mars_fight.specs.Listed.{IsFight}
 use Rattle.tune_template.specs.Ranges.{Ranges}
 use Rattle.tune_template.specs.Vectors.{vectors_of}
 
@@ -34,4 +34,4 @@ pub record InputsView : Type 0 where
 pub record AreInputs (i : InputsView) : Type 0 where
   pub few : length i.opponents ≤ 64
   pub fit : All (Fits i.rules) i.opponents
-  pub placed : All (IsPlaced i.rules (length i.opponents)) i.schedule
+  pub fights : All (IsFight i.rules (length i.opponents)) i.schedule

@@ -1,7 +1,7 @@
 //! What a tuning starts from.
 ghost use Rattle.std.specs.Prelude.{◌≡◌, ◌≤◌, length, All};
 ghost use Rattle.rc_instr.specs.Warrior.{Fits};
-ghost use Rattle.mars_fight.specs.Placing.{IsPlaced};
+ghost use Rattle.mars_fight.specs.Listed.{IsFight};
 ghost use Rattle.tune_template.specs.Instances.{InputsView, AreInputs};
 
 use crate::template::Template;
@@ -39,7 +39,7 @@ impl Inputs {
     ) -> Inputs
         requires few { length opponents.items ≤ 64 }
         requires fit { All (Fits rules) opponents.items }
-        requires placed { All (IsPlaced rules (length opponents.items)) schedule }
+        requires fights { All (IsFight rules (length opponents.items)) schedule }
         ensures { result ≡ record { template = template; opponents = opponents.items; schedule = schedule; rules = rules } }
     {
         Inputs {

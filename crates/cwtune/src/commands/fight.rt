@@ -4,7 +4,7 @@ ghost use Rattle.std.specs.Io.KnownBytes.{Appends};
 ghost use Rattle.rc_instr.specs.Warrior.{WarriorView, Fits};
 ghost use Rattle.mars_core.specs.State.{start_of};
 ghost use Rattle.mars_core.specs.Fight.{outcome_of};
-ghost use Rattle.mars_fight.specs.Placing.{IsPosition};
+ghost use Rattle.mars_fight.specs.Listed.{IsPosition};
 ghost use Rattle.cwtune.specs.FightText.{FightWords};
 ghost use Rattle.cwtune.specs.FightRun.{Loads, NamesFight, IsRefusal, IsLoadRefusal, outcome_for, WritesFight, IsRefusedText, IsInput};
 ghost use Rattle.cwtune.specs.ResultLine.{result_line};

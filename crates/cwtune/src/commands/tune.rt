@@ -5,6 +5,7 @@ ghost use Rattle.tune_template.specs.Instances.{InputsView};
 ghost use Rattle.tune_cert.specs.Problem.{problem_of};
 ghost use Rattle.tune_cert.specs.Optimum.{IsCandidate};
 ghost use Rattle.tune_cert.specs.CertText.{cert_text, cert_of};
+ghost use Rattle.tune_cert.specs.Spelling.{IsVersion};
 ghost use Rattle.cwtune.specs.TuneRun.{Texts, texts, Means, IsTuneRefusal, WritesTuning};
 
 use crate::command_line::TuneWords;
@@ -137,6 +138,7 @@ fn write_both<W: Write, V: Write>(
     report: &mut Outlet<W>,
     cert: &mut Outlet<V>,
 ) -> Result<(), RunFault>
+    requires version { IsVersion found.now.version }
     requires few { length found.now.rows < 2 ^ 32 }
     requires report { report.old.failed ≡ false }
     requires cert { cert.old.failed ≡ false }

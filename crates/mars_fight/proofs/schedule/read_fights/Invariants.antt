@@ -5,7 +5,7 @@ use Rattle.mars_fight.proofs.schedule.read_fights.Given as goal
 
 abbrev pub invariant-loop-fights : goal.invariant-loop-fights
 invariant-loop-fights l = record {
-  read : AreFightsRead l.rules l.opponents (records_of l.bytes) l.fights.items l.records;
+  read : AreFightsRead l.rules l.opponents l.columns (records_of l.bytes) l.fights.items l.records;
   few : length l.fights.items ≤ 10000;
 }
 

@@ -1,12 +1,11 @@
-use Rattle.std.proofs.Common.{◌≡◌, ◌∙◌, sym, arith, refl, true, false, ℕ, subst}
+use Rattle.std.proofs.Common.{◌≡◌, ◌∙◌, sym, refl, true, false, ℕ, subst}
 use Rattle.rc_instr.specs.Warrior.{WarriorView}
 use Rattle.tune_cert.specs.Problem.{problem_of}
 use Rattle.tune_cert.specs.Optimum.{cap_of, beats}
 use Rattle.tune_cert.specs.Valid.{numbers, IsCapRow}
 use Rattle.tune_cert.specs.Verdict.{HavePoints}
 use Rattle.tune_cert.proofs.Certificates.{some_is}
-use Rattle.tune_cert.proofs.Scores.{inputs_problem}
-use Rattle.tune_cert.proofs.RowChecks.{cap_row_of, few_listed, listed_is_cap}
+use Rattle.tune_cert.proofs.RowChecks.{cap_row_of, listed_is_cap}
 use Rattle.tune_cert.proofs.row_checks.check_fights.Goals as goal
 
 pub returns-then-vector-cert-clause-right : goal.returns-then-vector-cert-clause-right
@@ -24,7 +23,7 @@ listed_cap-requires c =
     let p = problem_of c.args.inputs.now in
     let w = c.args.warrior.now in
     let row : IsCapRow p w 0 c.args.listed.now = cap_row_of p w 0 c.args.listed.now c.requires.rising (c.if-not-have_points.ensures.points.0 refl) in
-    record { within = omega (arith, few_listed p (inputs_problem c.args.inputs.now) w c.args.listed.now row) }
+    record { row = (w, row) }
 
 pub returns-then-is_above-clause-wrong : goal.returns-then-is_above-clause-wrong
 returns-then-is_above-clause-wrong c =

@@ -5,15 +5,14 @@ use Rattle.tune_cert.specs.Optimum.{cap_of, beats}
 use Rattle.tune_cert.specs.Valid.{numbers}
 use Rattle.tune_cert.specs.declared.cert.Row.TheVariants.{Cap}
 use Rattle.tune_cert.proofs.Certificates.{some_is}
-use Rattle.tune_cert.proofs.Scores.{inputs_problem}
-use Rattle.tune_cert.proofs.RowChecks.{few_listed, listed_is_cap}
+use Rattle.tune_cert.proofs.RowChecks.{listed_is_cap}
 use Rattle.tune_cert.proofs.row_checks.check_reference.Goals as goal
 
 pub listed_cap-requires : goal.listed_cap-requires
 listed_cap-requires c =
     let p = problem_of c.args.inputs.now in
     let row = c.requires.alone.each c.args.other (Cap c.in-Some.listed.now) c.in-Some.ensures.some in
-    record { within = omega (arith, few_listed p (inputs_problem c.args.inputs.now) row.0 c.in-Some.listed.now row.2) }
+    record { row = (row.0, row.2) }
 
 pub returns-then-is_above-clause-wrong : goal.returns-then-is_above-clause-wrong
 returns-then-is_above-clause-wrong c =

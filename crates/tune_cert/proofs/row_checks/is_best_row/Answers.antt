@@ -22,8 +22,8 @@ returns-then-not-lists_all-clause-no c = λ best.
     let yes : IsTrue false = c.if-not-lists_all.ensures.1 all in
     yes
 
-pub listed_points-requires : goal.listed_points-requires
-listed_points-requires c =
+pub listed_total-requires : goal.listed_total-requires
+listed_total-requires c =
     let p = problem_of c.args.inputs.now in
     let all : AreNumbers p.fights 0 c.in-Some.listed.now =
     subst (λ (n : ℕ). AreNumbers n 0 c.in-Some.listed.now) c.fight_count.ensures.count (c.if-not-lists_all.ensures.0 refl) in
@@ -39,5 +39,5 @@ returns-clause-yes c = λ equal.
       row = c.in-Some.listed.now;
       here = c.in-Some.ensures.some;
       every = all_numbers p c.in-Some.listed.now all;
-      sums = grind (arith, c.listed_points.ensures.sum, equal);
+      sums = grind (arith, c.listed_total.ensures.sum, equal);
     }

@@ -1,7 +1,10 @@
-use Rattle.std.proofs.Common.{rules, arith, ◌≡◌, ◌≤◌, ◌+◌, ◌∙◌, ap, length}
+use Rattle.std.proofs.Common.{arith, ◌*◌, ◌≡◌, ◌≤◌, ◌+◌, ◌∙◌, ap, length, refl, sym, subst}
 use Rattle.std.proofs.lemmas.List.FromFn.{length-map-range_with_len}
 use Rattle.std.specs.List.{sum_by, range_with_len}
-use Rattle.tune_cert.specs.Problem.{fight_points}
+use Rattle.tune_cert.specs.Problem.{fight_points, problem_of}
+use Rattle.mars_fight.specs.Play.{ArePoints}
+use Rattle.tune_cert.specs.Optimum.{score_of}
+use Rattle.tune_search.proofs.Caps.{made_few}
 use Rattle.tune_search.proofs.Ranges.{sum_more, map_more}
 use Rattle.tune_search.proofs.fights.play_all.Goals as goal
 
@@ -11,12 +14,16 @@ loop-index-preserved c =
     let k = c.loop-index.index in
     let f = fight_points i.rules i.opponents i.schedule c.args.warrior.now in
     let points : c.fight_points-points.result ≡ f k = c.fight_points-points.ensures.points in
-    let made : c.loop-index.total ≡ sum_by f (range_with_len 0 k) = c.loop-index.invariant.made in
-    let more : sum_by f (range_with_len 0 (k + 1)) ≡ sum_by f (range_with_len 0 k) + f k = sum_more f k in
+    let p = problem_of i in
+    let w = c.args.warrior.now in
+    let from : c.from.result ≡ f k = c.from.ensures ∙ points in
+    let score : c.from.result * c.fight_weight.result ≡ score_of p w k = rw (from, c.fight_weight.ensures.weight) refl in
+    let more : sum_by (score_of p w) (range_with_len 0 (k + 1)) ≡ sum_by (score_of p w) (range_with_len 0 k) + score_of p w k = sum_more (score_of p w) k in
+    let scores : ArePoints c.from.result = subst ArePoints (sym c.from.ensures) c.fight_points-points.ensures.scores in
     record {
       fought = c.in_ok-push.ensures.items ∙ map_more (λ n. (n, f n)) k _ _ c.loop-index.invariant.fought (ap (λ x. (k, x)) points);
-      made = omega (arith, points, made, more, c.from-total.ensures);
-      few = search rules;
+      made = omega (arith, c.loop-index.invariant.made, score, more);
+      few = omega (arith, c.loop-index.invariant.few, made_few c.from.result c.fight_weight.result scores c.fight_weight.ensures.small);
       blank = c.fight_points-points.ensures.blank;
     }
 

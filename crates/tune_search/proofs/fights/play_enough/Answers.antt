@@ -1,8 +1,8 @@
-use Rattle.std.proofs.Common.{arith, ◌≡◌, ◌∙◌, ◌≤◌, ap, sym, below_more, get_or}
+use Rattle.std.proofs.Common.{arith, ◌≡◌, ◌∙◌, ap, sym, below_more, get_or, subst}
 use Rattle.tune_cert.specs.Problem.{problem_of}
-use Rattle.tune_cert.proofs.CapRows.{few_points, greatest_is}
+use Rattle.mars_fight.specs.Play.{ArePoints}
 use Rattle.tune_search.specs.Order.{beats_lead}
-use Rattle.tune_search.proofs.Caps.{cap_none, cap_more, played_more}
+use Rattle.tune_search.proofs.Caps.{cap_none, cap_more, cap_room, played_more}
 use Rattle.tune_search.proofs.fights.play_enough.Goals as goal
 
 pub loop-index-init : goal.loop-index-init
@@ -11,7 +11,6 @@ loop-index-init c =
     record {
       fought = c.new-listing.ensures.items;
       holds = cap_none p c.args.warrior.now c.args.order.now c.greatest_total-cap.result c.greatest_total-cap.ensures.greatest;
-      room = omega (arith, c.requires.all, c.greatest_total-cap.ensures.greatest, greatest_is p);
       beat = λ j l. absurd (omega arith);
       blank = c.requires.blank;
     }
@@ -23,13 +22,22 @@ loop-index-preserved c =
     let order = c.args.order.now in
     let i = c.loop-index.index-index in
     let points : c.fight_points-points.result ≡ p.points w (get_or order i 0) = c.fight_points-points.ensures.points in
-    let few : c.fight_points-points.result ≤ 3 = few_points _ c.fight_points-points.ensures.scores in
     let same : c.from.result ≡ c.fight_points-points.result = c.from.ensures in
-    let less : c.from.result ≤ 3 = omega (arith, same, few) in
+    let scores : ArePoints c.from.result = subst ArePoints (sym same) c.fight_points-points.ensures.scores in
     record {
       fought = c.in_ok-push.ensures.items ∙ played_more p w order i _ _ c.loop-index-test.true points c.loop-index.invariant.fought;
-      holds = cap_more p w order i _ _ c.loop-index-test.true c.requires.all (same ∙ points) less c.loop-index.invariant.holds;
-      room = omega (arith, c.loop-index.invariant.room, c.loop-index-test.true, less);
+      holds = cap_more p w order i _ _ _ c.loop-index-test.true c.requires.once (same ∙ points) scores c.fight_weight.ensures.weight c.loop-index.invariant.holds;
       beat = below_more _ _ c.loop-index.invariant.beat (ap (λ n. beats_lead n c.args.vector c.args.lead) (sym c.loop-index.invariant.holds) ∙ sym c.beats.ensures ∙ c.if-not-beats.false);
       blank = c.fight_points-points.ensures.blank;
     }
+
+pub overflow_sub-cap-in-loop-index : goal.overflow_sub-cap-in-loop-index
+overflow_sub-cap-in-loop-index c =
+    let p = problem_of c.args.inputs.now in
+    let w = c.args.warrior.now in
+    let order = c.args.order.now in
+    let i = c.loop-index.index-index in
+    let points : c.fight_points-points.result ≡ p.points w (get_or order i 0) = c.fight_points-points.ensures.points in
+    let same : c.from.result ≡ c.fight_points-points.result = c.from.ensures in
+    let scores : ArePoints c.from.result = subst ArePoints (sym same) c.fight_points-points.ensures.scores in
+    cap_room p w order i _ _ _ c.loop-index-test.true c.requires.once (same ∙ points) scores c.fight_weight.ensures.weight c.loop-index.invariant.holds

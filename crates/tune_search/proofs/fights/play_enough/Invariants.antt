@@ -1,4 +1,4 @@
-use Rattle.std.proofs.Common.{◌≡◌, ℕ, ◌-◌, ◌*◌, ◌<◌, ◌≤◌, take, length, true}
+use Rattle.std.proofs.Common.{◌≡◌, ℕ, ◌<◌, take, true}
 use Rattle.mars_core.specs.Arena.{IsBlank}
 use Rattle.tune_cert.specs.Problem.{problem_of}
 use Rattle.tune_cert.specs.Optimum.{cap_of}
@@ -14,7 +14,6 @@ invariant-loop-index l =
     record {
       fought : l.listing.items ≡ played p w (take l.index-index l.order);
       holds : l.cap ≡ cap_of p w (take l.index-index l.order);
-      room : 3 * (length l.order - l.index-index) ≤ l.cap;
       beat : (j : ℕ) → j < l.index-index → beats_lead (cap_of p w (take j l.order)) l.vector l.lead ≡ true;
       blank : IsBlank l.fn.inputs.rules l.arena;
     }

@@ -46,12 +46,12 @@ returns-clause-valid c =
     let p = problem_of c.args.inputs.now in
     let lead = c.in-Some.lead in
     let e : c.loop-vector.vector ≡ p.count = omega (arith, c.loop-vector-test.false, c.loop-vector.auto.vector-end, c.setting_count-vector-end.ensures.count) in
-    subst (λ (l : List Row). IsValid p (record { count = length l; best = lead.vector; total = lead.total; rows = l })) (sym c.from_vec.ensures) (ends_valid p c.loop-vector.vector _ _ _ _ c.loop-vector.invariant.state e lead c.in-Some.is)
+    subst (λ (l : List Row). IsValid p (record { version = c.cert_version.result; count = length l; best = lead.vector; total = lead.total; rows = l })) (sym c.from_vec.ensures) (ends_valid p c.loop-vector.vector _ _ _ _ c.loop-vector.invariant.state e c.cert_version.result c.cert_version.ensures lead c.in-Some.is)
 
 pub returns-clause-few : goal.returns-clause-few
 returns-clause-few c =
     let p = problem_of c.args.inputs.now in
     let e : c.loop-vector.vector ≡ p.count = omega (arith, c.loop-vector-test.false, c.loop-vector.auto.vector-end, c.setting_count-vector-end.ensures.count) in
-    let valid = ends_valid p c.loop-vector.vector _ _ _ _ c.loop-vector.invariant.state e c.in-Some.lead c.in-Some.is in
+    let valid = ends_valid p c.loop-vector.vector _ _ _ _ c.loop-vector.invariant.state e c.cert_version.result c.cert_version.ensures c.in-Some.lead c.in-Some.is in
     let as_many : length c.from_vec.result ≡ p.count = ap length c.from_vec.ensures ∙ valid.rows_are in
     omega (arith, as_many, c.setting_count-vector-end.ensures.count, c.setting_count-vector-end.ensures.few)

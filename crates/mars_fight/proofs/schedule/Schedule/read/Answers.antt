@@ -1,6 +1,13 @@
 use Rattle.mars_fight.specs.Records.{records_of}
-use Rattle.mars_fight.proofs.Placed.{scheduled_placed}
+use Rattle.mars_fight.proofs.Listed.{scheduled_fights, are_weights}
 use Rattle.mars_fight.proofs.schedule.Schedule.read.Goals as goal
 
 pub returns-clause-placed : goal.returns-clause-placed
-returns-clause-placed c = scheduled_placed c.args.rules.now c.args.opponents (records_of c.args.bytes.now) _ c.in_ok-fights.ensures.found
+returns-clause-placed c = scheduled_fights c.args.rules.now c.args.opponents (records_of c.args.bytes.now) _ c.in_ok-fights.ensures.found
+
+pub invariant_of-result : goal.invariant_of-result
+invariant_of-result c = (
+  c.in_ok-fights.ensures.few.0,
+  c.in_ok-fights.ensures.few.1,
+  are_weights c.args.rules.now c.args.opponents _ (scheduled_fights c.args.rules.now c.args.opponents (records_of c.args.bytes.now) _ c.in_ok-fights.ensures.found),
+)

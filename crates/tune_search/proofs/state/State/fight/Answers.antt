@@ -1,7 +1,8 @@
 use Rattle.std.proofs.Common.{◌≡◌, ◌+◌, ◌==◌, ◌<◌, ◌∙◌, ◌∷◌, if◌then◌else◌, ap, sym, refl, subst, length, List, ℕ, All, take}
 use Rattle.std.specs.List.{slice_set}
+use Rattle.std.specs.List.Sorted.{IsPermutation}
 use Rattle.tune_cert.specs.Problem.{problem_of}
-use Rattle.tune_cert.specs.Optimum.{cap_of}
+use Rattle.tune_cert.specs.Optimum.{all_fights, cap_of}
 use Rattle.tune_cert.specs.declared.cert.Row.TheVariants.{Cap}
 use Rattle.tune_cert.proofs.Scores.{inputs_problem}
 use Rattle.tune_search.specs.Plays.{played}
@@ -25,6 +26,18 @@ play_enough-requires-clause-all c =
     let inside : v < p.count = visit_below p.start p.count k c.requires.state.start_inside c.requires.visits in
     ap length c.deref.ensures.value
     ∙ order_length p s.order.items (permutes p (inputs_problem i) i.rules c.args.capacity k v refl inside
+    s.rows.items s.lead s.order.items s.fights s.candidates s.copied s.cache.known c.requires.state.going)
+
+pub play_enough-requires-clause-once : goal.play_enough-requires-clause-once
+play_enough-requires-clause-once c =
+    let i = c.args.inputs.now in
+    let p = problem_of i in
+    let s = c.args.self.now in
+    let k = c.args.visits in
+    let v = visit p.start k in
+    let inside : v < p.count = visit_below p.start p.count k c.requires.state.start_inside c.requires.visits in
+    subst (λ (l : List ℕ). IsPermutation (all_fights p) l) (sym c.deref.ensures.value)
+    (permutes p (inputs_problem i) i.rules c.args.capacity k v refl inside
     s.rows.items s.lead s.order.items s.fights s.candidates s.copied s.cache.known c.requires.state.going)
 
 pub play_enough-requires-clause-below : goal.play_enough-requires-clause-below

@@ -1,0 +1,11 @@
+use Rattle.std.proofs.Common.{◌≡◌, ◌≤◌, ◌+◌, ◌*◌, drop}
+use Rattle.tune_cert.specs.Problem.{problem_of}
+use Rattle.tune_cert.specs.Steps.{listed_most}
+use Rattle.tune_cert.proofs.row_checks.listed_most.Given as goal
+
+-- the most of the fights so far, and that of the rest
+abbrev pub invariant-loop-number : goal.invariant-loop-number
+invariant-loop-number l = record {
+  sum : l.most + listed_most (problem_of l.inputs) (drop l.number-index l.listed) ≡ listed_most (problem_of l.inputs) l.listed;
+  small : l.most ≤ 3000 * l.number-index;
+}

@@ -1,0 +1,11 @@
+use Rattle.std.proofs.Common.{◌≡◌, ◌≤◌, ◌+◌, ◌*◌, drop}
+use Rattle.tune_cert.specs.Problem.{problem_of}
+use Rattle.tune_cert.specs.Valid.{listed_total}
+use Rattle.tune_cert.proofs.row_checks.listed_total.Given as goal
+
+-- the scores so far, and those of the rest
+abbrev pub invariant-loop-number : goal.invariant-loop-number
+invariant-loop-number l = record {
+  sum : l.total + listed_total (problem_of l.inputs) (drop l.number-index l.listed) ≡ listed_total (problem_of l.inputs) l.listed;
+  small : l.total ≤ 255000 * l.number-index;
+}
