@@ -6,6 +6,7 @@ pub mod FightWords
 pub mod ResultLine
 pub mod FightRun
 pub mod AsmRun
+pub mod CertFile
 pub mod Report
 pub mod TuneRun
 pub mod CheckRun

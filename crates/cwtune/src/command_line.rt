@@ -181,7 +181,7 @@ fn tune<'a>(alloc: Global) -> Result<Command<'a>, AllocError> {
     with_files(
         alloc,
         command,
-        "File to write the certificate to; an existing file is overwritten",
+        "File to write the certificate to; an older certificate is overwritten, and no other text",
     )
 }
 

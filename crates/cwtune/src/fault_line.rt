@@ -41,6 +41,20 @@ pub(crate) fn say_file<V: Write>(
     err.write_all(b"\n")
 }
 
+// Writes why the file CERT is not opened: `error: CERT`, the reason, and the file.
+pub(crate) fn say_cert<V: Write>(
+    err: &mut Outlet<V>,
+    reason: &str,
+    name: &str,
+) -> Result<(), WriteFailed>
+    requires { err.old.failed ≡ false }
+{
+    err.write_all(b"error: CERT")?;
+    say(err, reason)?;
+    say(err, name)?;
+    err.write_all(b"\n")
+}
+
 fn lex_name(fault: LexFault) -> &'static str {
     match fault {
         LexFault::BadByte => "BadByte",

@@ -2,6 +2,7 @@
 //! constants, and checks certificates that a setting is the best.
 #![tactic(auto)]
 
+mod cert_file;
 mod command_line;
 mod commands;
 mod fault;

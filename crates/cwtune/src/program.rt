@@ -18,12 +18,15 @@ use std::io::{Read, Write};
 use std::rt::Files;
 
 /// Runs the command that `words` ask for, and returns the exit status: 0 success or accepted, 1
-/// input refused or certificate rejected, 2 usage error, 3 I/O error or out of memory.
+/// input refused or certificate rejected, 2 usage error, or a file CERT that is not overwritten, 3
+/// I/O error or out of memory.
 ///
 /// - Without words, or with `fight`: reads a fight text from `input` and writes its result line.
 /// - `asm`: checks the rules, reads the Redcode file, and writes its load file.
-/// - `tune`: checks the rules, reads the template, the schedule and the opponents, creates the file
-///   of the certificate, finds the best setting, and writes the certificate, then the report.
+/// - `tune`: checks the rules, reads the template, the schedule and the opponents, opens or creates
+///   the file of the certificate, finds the best setting, and writes the certificate, then the
+///   report. A file that is another word's, or that has a text and is not a certificate, is not
+///   opened.
 /// - `check`: checks the rules, reads the template, the schedule, the certificate and the
 ///   opponents, and writes the line of the verdict.
 /// - `--help`, `help`: writes the help text.

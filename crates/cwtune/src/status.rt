@@ -1,8 +1,9 @@
 //! Exit statuses, and the lines on standard error that go with them.
 ghost use Rattle.std.specs.Prelude.{◌≡◌, ◌≢◌, ◌⊎◌, false};
 
+use crate::cert_file::NotOpened;
 use crate::fault::RunFault;
-use crate::fault_line::{say_file, say_run};
+use crate::fault_line::{say_cert, say_file, say_run};
 use rc_instr::Outlet;
 use std::io;
 use std::io::Write;
@@ -47,13 +48,28 @@ pub(crate) fn end_file<V: Write>(
     FAILED
 }
 
+// Says on standard error why the file CERT is not opened, and returns the exit status.
+pub(crate) fn end_cert<V: Write>(err: &mut Outlet<V>, refused: &NotOpened<'_>, name: &str) -> u8
+    requires { err.old.failed ≡ false }
+    ensures { (result ≡ 2) ⊎ (result ≡ 3) }
+{
+    let reason = match refused {
+        NotOpened::Named => "is another word's file, too, and is not overwritten:",
+        NotOpened::NotCert => "is a text but not a certificate, and is not overwritten:",
+        NotOpened::Unread(unread) => return end_file(err, &unread.error, "read", unread.name),
+        NotOpened::Uncreated(error) => return end_file(err, error, "create", name),
+    };
+    let _ = say_cert(err, reason, name);
+    MISUSED
+}
+
 // Success, or an accepted certificate.
 pub(crate) const DONE: u8 = 0;
 
 // A refused input, or a rejected certificate.
 pub(crate) const REFUSED: u8 = 1;
 
-// A usage error.
+// A usage error, or a file CERT that is not overwritten.
 pub(crate) const MISUSED: u8 = 2;
 
 // An I/O error, or out of memory.

@@ -6,18 +6,19 @@ ghost use Rattle.tune_cert.specs.Problem.{problem_of};
 ghost use Rattle.tune_cert.specs.Optimum.{IsCandidate};
 ghost use Rattle.tune_cert.specs.CertText.{cert_text, cert_of};
 ghost use Rattle.tune_cert.specs.Spelling.{IsVersion};
+ghost use Rattle.cwtune.specs.CertFile.{names_twice};
 ghost use Rattle.cwtune.specs.TuneRun.{Texts, texts, Means, IsTuneRefusal, WritesTuning};
 
+use crate::cert_file::open_cert;
 use crate::command_line::TuneWords;
 use crate::fault::RunFault;
 use crate::inputs::inputs_of;
 use crate::raw_rules::rules_of;
 use crate::reading::read_texts;
 use crate::report::report_of;
-use crate::status::{DONE, end_file, end_run};
+use crate::status::{DONE, end_cert, end_file, end_run};
 use rc_instr::{Outlet, Rules};
 use std::alloc::Global;
-use std::fs;
 use std::io::Write;
 use std::rt::Files;
 use tune_cert::{CertFault, Found, write_cert};
@@ -86,7 +87,8 @@ pub fn tune_run<W: Write, V: Write>(
     write_both(alloc, &found, text.as_slice(), report, cert)
 }
 
-// Runs the command on files. Creates the file of the certificate last, just before the search.
+// Runs the command on files. Opens the file of the certificate last, just before the search; if it
+// names another word's file, nothing is written.
 pub(crate) fn tune<F: Files, W: Write, V: Write>(
     rt: &F,
     alloc: Global,
@@ -101,7 +103,9 @@ pub(crate) fn tune<F: Files, W: Write, V: Write>(
     ensures done { result ≡ 0 → (t : Texts) × (cert : Option (List ℕ)) × (written : Option (List ℕ)) × WritesTuning t capacity out.old.bytes out.new.bytes cert written }
     ensures refused { result ≡ 1 → out.new ≡ out.old }
     ensures failed { IsTrue out.new.failed → result ≡ 3 }
-    ensures status { (result ≤ 3) × (result ≢ 2) }
+    ensures misused { result ≡ 2 → out.new ≡ out.old }
+    ensures named { IsTrue (names_twice words.now) → (result ≢ 0) × (out.new ≡ out.old) }
+    ensures status { result ≤ 3 }
 {
     let rules = match rules_of(words.rules) {
         Ok(rules) => rules,
@@ -111,9 +115,9 @@ pub(crate) fn tune<F: Files, W: Write, V: Write>(
         Ok(texts) => texts,
         Err(unread) => return end_file(err, &unread.error, "read", unread.name),
     };
-    let mut cert = match fs::create(rt, words.cert) {
+    let mut cert = match open_cert(rt, alloc, words) {
         Ok(file) => Outlet::new(file),
-        Err(error) => return end_file(err, &error, "create", words.cert),
+        Err(refused) => return end_cert(err, &refused, words.cert),
     };
     match tune_run(
         alloc,
