@@ -13,19 +13,21 @@ look:
 
 # Runs the whole gate: every proof from nothing, every test, every edit that must be refused, with
 # the gate's last line. If it passed, assembles the texts that ask for much with the program that it
-# proved and built, plays the cases of input and output and cuts of three texts against it. Each of
+# proved and built, plays the cases of input and output, runs on pipes and cuts of three texts. Each of
 # these ends with the number of what passed and failed. Fails if one of these fails.
 test:
 	@RT_JOBS=$(LANES) rt ci
 	@python3 tools/large_texts.py $(PROGRAM)
 	@python3 tools/run_cases.py $(PROGRAM)
+	@python3 tools/pipes.py $(PROGRAM)
 	@python3 tools/cuts.py $(PROGRAM)
 
 # Proves and builds the program, assembles the texts that ask for much, and plays the cases of input
-# and output and the cuts alone.
+# and output, the pipes and the cuts alone.
 cases: build
 	@python3 tools/large_texts.py $(PROGRAM)
 	@python3 tools/run_cases.py $(PROGRAM)
+	@python3 tools/pipes.py $(PROGRAM)
 	@python3 tools/cuts.py $(PROGRAM)
 
 # Proves the crates one by one, with a line for each, if the program is not built yet; otherwise

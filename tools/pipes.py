@@ -1,0 +1,259 @@
+#!/usr/bin/env python3
+"""Runs the built program on pipes, terminals and closed streams: pipes.py PROGRAM
+
+A reader that goes away ends a run with status 3 and the line `failed: Write`. A standard input that
+cannot be read, that is a terminal or that has no end leads to a named error or a result, in bounded
+time. Expected values follow from `docs/FORMATS.md`. Prints what failed, and as its last line
+`N passed, N failed`. The exit status is 1 if a check failed.
+"""
+import os
+import pathlib
+import pty
+import resource
+import signal
+import subprocess
+import sys
+import tempfile
+import threading
+import time
+
+SECONDS = 60
+RULES = "--core=16 --cycles=20 --tasks=4 --length=4 --distance=4".split()
+FIGHT = b"""rules 16 20 4 4 4
+fight 8 c
+candidate
+ORG 0
+MOV.I $0, $1
+opponent
+ORG 0
+MOV.I $0, $1
+"""
+OLD_CERT = b"cwcert,1,1\nbest,0,4\ncap,0,0:3 1:1\n"
+FILES = {
+    "imps.fight": FIGHT,
+    "dat.red": b"DAT 0\n",
+    "imp.red": b"MOV 0, 1\n",
+    "one.red": b"MOV 0, 1\n",
+    # equal warriors, so that a long certificate takes one fight
+    "many.red": b";@tune K 0 19999 1 0\nMOV 0, 1\n",
+    # warriors that differ, so that a tuning takes long
+    "long.red": b";@tune K 0 7999 1 0\n;@tune L 0 99 1 0\nSPL 0\nMOV K, L\nJMP -1\n",
+    "both.csv": b"opponent,position,first\n0,8,c\n1,8,c\n",
+    "far.csv": b"opponent,position,first\n0,4000,c\n",
+    "typo.csv": b"opponent,position,first\n0,8,x\n",
+    "good.cert": OLD_CERT,
+}
+TUNE = ["tune", *RULES, "one.red", "both.csv", "CERT", "dat.red", "imp.red"]
+MANY = ["tune", *RULES, "many.red", "both.csv", "CERT", "dat.red", "imp.red"]
+TYPO = ["tune", *RULES, "one.red", "typo.csv", "CERT", "dat.red", "imp.red"]
+CHECK = ["check", *RULES, "one.red", "both.csv", "good.cert", "dat.red", "imp.red"]
+HELP = ["tune", "--help"]
+NO_WRITE = (3, b"", b"failed: Write\n")
+NO_READ = (3, b"", b"failed: read -\n")
+NO_MEMORY = (3, b"", b"failed: OutOfMemory\n")
+NO_TEXT = (1, b"", b"refused: FightText line 1\n")
+TIE = (0, b"tie 1 turns 40\n", b"")
+REPORT = b"vectors 1\ncandidates 1\nbest 0\nconstants -\ntotal 4 of 6\nfights 2 of 2\n"
+
+
+class Play:
+    """A folder with the files, in which the program is run."""
+
+    def __init__(self, program, folder):
+        self.program = program
+        self.folder = pathlib.Path(folder)
+        for name, text in FILES.items():
+            (self.folder / name).write_bytes(text)
+
+    def start(self, words, **streams):
+        """Starts the program; streams that are not given are an empty input and pipes."""
+        given = {"stdin": subprocess.DEVNULL, "stdout": subprocess.PIPE, "stderr": subprocess.PIPE}
+        return subprocess.Popen([self.program, *words], cwd=self.folder, **{**given, **streams})
+
+    def run(self, words, **streams):
+        """Returns status, standard output and standard error of a run, b"" for what is no pipe."""
+        process = self.start(words, **streams)
+        try:
+            out, err = process.communicate(timeout=SECONDS)
+        except subprocess.TimeoutExpired:
+            process.kill()
+            process.communicate()
+            return ("no end", b"", b"")
+        return (process.returncode, out or b"", err or b"")
+
+    def with_input(self, name, words=(), **streams):
+        """Runs with a file or a folder as the standard input."""
+        source = os.open(self.folder / name, os.O_RDONLY)
+        try:
+            return self.run(words, stdin=source, **streams)
+        finally:
+            os.close(source)
+
+    def without(self, number, words, name="/dev/null"):
+        """Runs with the standard stream of this number closed, 0, 1 or 2."""
+        return self.with_input(name, words, preexec_fn=lambda: os.close(number))
+
+    def cert(self):
+        """Returns the text of CERT, or None if there is no such file."""
+        path = self.folder / "CERT"
+        return path.read_bytes() if path.exists() else None
+
+
+def broken_pipe():
+    """Returns the end for writing of a pipe that nobody reads."""
+    reader, writer = os.pipe()
+    os.close(reader)
+    return writer
+
+
+def to_broken_pipe(play, words, stream):
+    """Runs with a standard stream that nobody reads."""
+    writer = broken_pipe()
+    try:
+        return play.with_input("imps.fight", words, **{stream: writer})
+    finally:
+        os.close(writer)
+
+
+def readers_that_go_away(play):
+    """Yields what a run has to end with if nobody reads a standard stream, and what it ended with."""
+    for words in [[], ["asm", "imp.red"], CHECK, HELP, ["--help"]]:
+        name = " ".join(words[:1]) or "fight"
+        yield f"nobody reads the output of {name}", NO_WRITE, to_broken_pipe(play, words, "stdout")
+    came = (*to_broken_pipe(play, TUNE, "stdout"), play.cert())
+    yield "nobody reads a report: the certificate is whole", (*NO_WRITE, OLD_CERT), came
+    for name, words, expected in [
+        ("a refusal", TYPO, (1, b"", b"")),
+        ("a usage error", ["fights"], (2, b"", b"")),
+        ("a file that cannot be read", ["asm", "none.red"], (3, b"", b"")),
+    ]:
+        came = to_broken_pipe(play, words, "stderr")
+        yield f"nobody reads the standard error of {name}", expected, came
+
+
+def read_slowly(path, most, text):
+    """Reads at most `most` bytes of a pipe, little by little, into the list `text`, and leaves."""
+    with open(path, "rb", buffering=0) as reader:
+        while sum(map(len, text)) < most:
+            piece = reader.read(min(1000, most))
+            if not piece:
+                return
+            text.append(piece)
+
+
+def to_named_pipe(play, most):
+    """Writes a long certificate to a named pipe. Returns how the run ended, and what came out."""
+    path = play.folder / "CERT"
+    path.unlink(missing_ok=True)
+    os.mkfifo(path)
+    text = []
+    reader = threading.Thread(target=read_slowly, args=(path, most, text), daemon=True)
+    reader.start()
+    came = play.run(MANY)
+    reader.join(SECONDS)
+    path.unlink()
+    return came, b"".join(text)
+
+
+def certificates_for_pipes(play):
+    """Yields checks of a certificate that goes to a named pipe."""
+    rows = b"".join(b"same,%d,0\n" % number for number in range(1, 20000))
+    whole = b"cwcert,1,20000\nbest,0,4\ncap,0,0:3 1:1\n" + rows
+    (status, _, err), text = to_named_pipe(play, 2 * len(whole))
+    yield "a named pipe gets the whole certificate", (0, b"", whole), (status, err, text)
+    came, text = to_named_pipe(play, 10)
+    yield "a reader leaves amid the certificate: no report", (NO_WRITE, whole[:10]), (came, text)
+
+
+def at_terminal(play, typed):
+    """Runs with a terminal as standard input, at which `typed` is typed, or None: it is hung up."""
+    terminal, program_end = pty.openpty()
+    process = play.start([], stdin=program_end)
+    os.close(program_end)
+    time.sleep(0.2)
+    if typed is None:
+        os.close(terminal)
+    else:
+        os.write(terminal, typed)
+    try:
+        out, err = process.communicate(timeout=SECONDS)
+    except subprocess.TimeoutExpired:
+        process.kill()
+        return ("no end", *process.communicate())
+    if typed is not None:
+        os.close(terminal)
+    return (process.returncode, out, err)
+
+
+def standard_inputs(play):
+    """Yields checks of standard inputs that are no plain file."""
+    yield "a folder as standard input", NO_READ, play.with_input(".")
+    yield "a standard input that is closed", NO_READ, play.without(0, [])
+    yield "a fight typed at a terminal", TIE, at_terminal(play, FIGHT + b"\x04")
+    yield "a terminal that ends at once", NO_TEXT, at_terminal(play, b"\x04")
+    hung_up = at_terminal(play, None)
+    yield "a terminal that is hung up", True, hung_up in (NO_READ, NO_TEXT) or hung_up
+    yield "an endless standard input", NO_READ, play.with_input("/dev/zero")
+    lines = subprocess.Popen(["yes"], stdout=subprocess.PIPE)
+    yield "endless lines from a pipe", NO_READ, play.run([], stdin=lines.stdout)
+    lines.stdout.close()
+    lines.wait()
+    few = 512 << 20
+    came = play.with_input(
+        "/dev/zero", preexec_fn=lambda: resource.setrlimit(resource.RLIMIT_AS, (few, few))
+    )
+    yield "an endless standard input in 512 MB", NO_MEMORY, came
+    came = play.run(["asm", "/dev/zero"])
+    yield "an endless file", (3, b"", b"failed: read /dev/zero\n"), came
+
+
+def closed_streams(play):
+    """Yields checks that a closed standard stream is never a file that the run opens."""
+    for name, words in [("a load file", ["asm", "imp.red"]), ("a verdict", CHECK), ("help", HELP)]:
+        yield f"{name} without a standard output", NO_WRITE, play.without(1, words)
+    (play.folder / "CERT").write_bytes(OLD_CERT)
+    came = (*play.without(1, TUNE), play.cert())
+    yield "a report without a standard output", (*NO_WRITE, OLD_CERT), came
+    came = (*play.without(2, TYPO), play.cert())
+    yield "a refusal without a standard error", (1, b"", b"", OLD_CERT), came
+    came = (*play.without(0, TUNE), play.cert())
+    yield "a tuning without a standard input", (0, REPORT, b"", OLD_CERT), came
+
+
+def interrupted(play):
+    """Yields checks that a tuning that is ended in its search leaves an older certificate."""
+    words = ["tune", "long.red", "far.csv", "CERT", "imp.red"]
+    for sign in [signal.SIGTERM, signal.SIGINT, signal.SIGKILL]:
+        (play.folder / "CERT").write_bytes(OLD_CERT)
+        process = play.start(words)
+        time.sleep(1)
+        process.send_signal(sign)
+        out, err = process.communicate(timeout=SECONDS)
+        came = (process.returncode, out, err, play.cert())
+        yield f"a tuning ended by {sign.name}", (-sign, b"", b"", OLD_CERT), came
+
+
+def main():
+    program = str(pathlib.Path(sys.argv[1]).resolve(strict=True))
+    passed, failed = 0, 0
+    with tempfile.TemporaryDirectory() as folder:
+        play = Play(program, folder)
+        for checks in [
+            readers_that_go_away,
+            certificates_for_pipes,
+            standard_inputs,
+            closed_streams,
+            interrupted,
+        ]:
+            for name, expected, came in checks(play):
+                if came == expected:
+                    passed += 1
+                else:
+                    failed += 1
+                    print(f"{name}: expected {str(expected)[:300]}, came {str(came)[:300]}")
+    print(f"{passed} passed, {failed} failed")
+    return 1 if failed or not passed else 0
+
+
+if __name__ == "__main__":
+    sys.exit(main())
