@@ -13,14 +13,16 @@ look:
 
 # Runs the whole gate: every proof from nothing, every test, every edit that must be refused, with
 # the gate's last line. If it passed, assembles the texts that ask for much with the program that it
-# proved and built, plays the cases of input and output, runs on pipes and cuts of three texts. Each of
-# these ends with the number of what passed and failed. Fails if one of these fails.
+# proved and built, plays the cases of input and output, the runs on pipes and the cuts of three
+# texts, and refuses each request for memory of some runs in turn. Each of these ends with the number
+# of what passed and failed. Fails if one of these fails.
 test:
 	@RT_JOBS=$(LANES) rt ci
 	@python3 tools/large_texts.py $(PROGRAM)
 	@python3 tools/run_cases.py $(PROGRAM)
 	@python3 tools/pipes.py $(PROGRAM)
 	@python3 tools/cuts.py $(PROGRAM)
+	@python3 tools/refuse_memory.py $(PROGRAM)
 
 # Proves and builds the program, assembles the texts that ask for much, and plays the cases of input
 # and output, the pipes and the cuts alone.
@@ -52,7 +54,7 @@ demo: build
 bench: build
 	@python3 bench/run.py --bin $(PROGRAM) $(if $(PMARS),--pmars $(PMARS)) $(if $(RUNS),--runs $(RUNS))
 
-# Refuses each request for memory of a few runs in turn. Fails if a run ends neither with its own
+# Refuses each request for memory of some runs in turn. Fails if a run ends neither with its own
 # result nor with `failed: OutOfMemory`.
 memory: build
 	@python3 tools/refuse_memory.py $(PROGRAM)

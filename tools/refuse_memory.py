@@ -1,64 +1,180 @@
 #!/usr/bin/env python3
 """Runs the built program once for each of its requests for memory, with that request refused.
 
-Each run has to end with its own result, or with status 3, `failed: OutOfMemory` and nothing on
-standard output. Use: refuse_memory.py [PROGRAM]. Needs `cc` and a system with LD_PRELOAD.
+Each run has to end with its own result, which the tables of this file say, or with status 3, the
+line `failed: OutOfMemory`, nothing on standard output and CERT as it was. Use:
+refuse_memory.py [PROGRAM]. Needs `cc` and a system with LD_PRELOAD. Prints what failed, and as its
+last line how many requests were refused, and `N passed, N failed`. The exit status is 1 if a run
+failed.
 """
-import os, pathlib, subprocess, sys, tempfile
+import concurrent.futures
+import os
+import pathlib
+import subprocess
+import sys
+import tempfile
 
-here = pathlib.Path(__file__).resolve().parent
-program = sys.argv[1] if len(sys.argv) > 1 else str(here.parent / "crates/cwtune/out/cwtune")
-examples = here.parent / "examples"
-rules = ["--core=16", "--cycles=20", "--tasks=4", "--length=4", "--distance=4"]
-texts = {
-    "template": ";@tune K 0 3 1 2\nMOV 0, 1\nDAT K/2\n",
-    "schedule": "opponent,position,first\n0,8,c\n1,8,c\n",
-    "good": "cwcert,1,4\nbest,0,4\ncap,0,0:3 1:1\ncap,1,0:3 1:1\ncap,2,1:1\nsame,3,2\n",
-    "bad": "cwcert,1,4\nbest,0,4\ncap,0,0:3 1:1\ncap,1,0:3 1:1\ncap,2,1:1\nsame,3,1:1\n",
-    "dat": "DAT 0\n",
-    "imp": "MOV 0, 1\n",
+HERE = pathlib.Path(__file__).resolve().parent
+RULES = "--core=16 --cycles=20 --tasks=4 --length=4 --distance=4"
+OLD_CERT = "cwcert,1,1\nbest,0,0\ncap,0,-\n"
+IMP = "ORG 0\nMOV.I $0, $1\n"
+DAT = "ORG 0\nDAT.F $0, $0\n"
+JUMP = "ORG 0\nJMP.B $0, $0\n"
+SHARED = ";@tune K 0 3 1 2\nMOV 0, 1\n"
+GOOD = "cwcert,1,4\nbest,0,4\ncap,0,0:3 1:1\nsame,1,2\ncap,2,0:3 1:1\nsame,3,2\n"
+FILES = {
+    "dat.red": "DAT 0\n",
+    "imp.red": "MOV 0, 1\n",
+    "both.csv": "opponent,position,first\n0,8,c\n1,8,c\n",
+    "near.csv": "opponent,position,first\n0,3,c\n",
+    "one.red": "MOV 0, 1\n",
+    "shared.red": SHARED,
+    "step.red": ";@tune K 0 2 1 1\nMOV 0, 1\nDAT 1/K\n",
+    "order.red": ";@tune K 0 2 1 1\nMOV 0, 1\nDAT K\n",
+    "half.red": ";@tune K 0 5 1 0\nMOV 0, 1\nDAT K % 2\n",
+    "empty.red": ";@tune K 3 2 1 3\n",
+    "equ.red": "s EQU 2+3\nDAT #0, #s*2\n",
+    "minus.red": "DAT #-7/2\n",
+    "joined.red": "i FOR 2\nx&i DAT #i\nROF\nJMP x01\n",
+    "zero.red": "DAT 1/0\n",
+    "open.red": "FOR 3\n",
+    "good.cert": GOOD,
+    "points.cert": GOOD.replace("cap,2,0:3 1:1", "cap,2,0:3 1:3"),
+    "short.cert": GOOD[: GOOD.rindex("same")],
 }
 
 
-def run(library, words, text, number, count=False):
-    """Returns status, standard output and standard error of a run with request `number` refused."""
+def fight(cycles, candidate, opponent):
+    """Returns the text of a fight at 8 in which the candidate moves first."""
+    head = f"rules 16 {cycles} 4 4 4\nfight 8 c\n"
+    return f"{head}candidate\n{candidate}opponent\n{opponent}"
+
+
+# Name, standard input, status, standard output, standard error.
+FIGHTS = [
+    ("imps", fight(20, IMP, IMP), 0, "tie 1 turns 40\n", ""),
+    ("a loss", fight(20, DAT, IMP), 0, "loss 0 turns 1\n", ""),
+    ("a win", fight(1, IMP, DAT), 0, "win 3 turns 2\n", ""),
+    ("a jump", fight(20, IMP, JUMP), 0, "tie 1 turns 40\n", ""),
+    ("bad load file", fight(20, IMP, "ORG 0\n"), 1, "", "refused: Load opponent Warrior Empty\n"),
+]
+
+# The words but for the rules, status, standard output, standard error.
+ASSEMBLIES = [
+    ("asm equ.red", 0, "ORG 0\nDAT.F #0, #8\n", ""),
+    ("asm minus.red", 0, "ORG 0\nDAT.F $0, #-3\n", ""),
+    ("asm joined.red", 0, "ORG 0\nDAT.F $0, #1\nDAT.F $0, #2\nJMP.B $-2, $0\n", ""),
+    ("asm zero.red", 1, "", "refused: Asm line 1 Value DivisionByZero\n"),
+    ("asm open.red", 1, "", "refused: Asm line 1 Expand ForWithoutRof\n"),
+]
+CHECKS = [
+    ("check shared.red both.csv good.cert dat.red imp.red", 0, "accepted best 0 total 4\n", ""),
+    ("check shared.red both.csv points.cert dat.red imp.red", 1, "rejected row 4 WrongPoints\n", ""),
+    ("check shared.red both.csv short.cert dat.red imp.red", 1, "rejected row 0 RowCount\n", ""),
+]
+
+
+def report(*values):
+    """Returns the report with these values in its lines."""
+    names = ["vectors", "candidates", "best", "constants", "total", "fights"]
+    return "".join(f"{name} {value}\n" for name, value in zip(names, values))
+
+
+# The words but for the rules, status, standard output, standard error, CERT.
+TUNINGS = [
+    (
+        "tune one.red both.csv CERT dat.red imp.red",
+        *(0, report(1, 1, 0, "-", "4 of 6", "2 of 2"), ""),
+        "cwcert,1,1\nbest,0,4\ncap,0,0:3 1:1\n",
+    ),
+    (
+        "tune shared.red both.csv CERT dat.red imp.red",
+        *(0, report(4, 4, 0, "K=0", "4 of 6", "2 of 8"), ""),
+        GOOD,
+    ),
+    (
+        "tune step.red both.csv CERT dat.red imp.red",
+        *(0, report(3, 2, 1, "K=1", "4 of 6", "3 of 4"), ""),
+        "cwcert,1,3\nbest,1,4\nrefused,0,-\ncap,1,0:3 1:1\ncap,2,1:1\n",
+    ),
+    (
+        "tune order.red both.csv CERT dat.red imp.red",
+        *(0, report(3, 3, 0, "K=0", "4 of 6", "5 of 6"), ""),
+        "cwcert,1,3\nbest,0,4\ncap,0,0:3 1:1\ncap,1,0:3 1:1\ncap,2,1:1\n",
+    ),
+    (
+        "tune --cache=2 half.red both.csv CERT dat.red imp.red",
+        *(0, report(6, 6, 0, "K=0", "4 of 6", "3 of 12"), ""),
+        "cwcert,1,6\nbest,0,4\ncap,0,0:3 1:1\ncap,1,1:1\nsame,2,0\nsame,3,1\nsame,4,0\nsame,5,1\n",
+    ),
+    ("tune one.red near.csv CERT dat.red", 1, "", "refused: Schedule row 1 BadPosition\n", OLD_CERT),
+    ("tune empty.red both.csv CERT dat.red", 1, "", "refused: Template line 1 EmptyRange\n", OLD_CERT),
+]
+
+
+def with_rules(words):
+    """Returns the words of a command with the rules after its name."""
+    name, *others = words.split()
+    return [name, *RULES.split(), *others]
+
+
+def all_runs():
+    """Returns name, words, standard input and the expected end of each run."""
+    runs = [(name, [], text, (*end, OLD_CERT)) for name, text, *end in FIGHTS]
+    for words, *end in ASSEMBLIES + CHECKS:
+        runs.append((words, with_rules(words), "", (*end, OLD_CERT)))
+    return runs + [(words, with_rules(words), "", tuple(end)) for words, *end in TUNINGS]
+
+
+def run(program, library, words, text, number, count=False):
+    """Runs with request `number` refused. Returns status, standard output and error, and CERT."""
     env = dict(os.environ, LD_PRELOAD=library, REFUSE=str(number))
     if count:
         env["REFUSE_COUNT"] = "1"
-    done = subprocess.run([program, *words], input=text, capture_output=True, text=True, env=env)
-    return done.returncode, done.stdout, done.stderr
+    with tempfile.TemporaryDirectory() as folder:
+        for name, content in {**FILES, "CERT": OLD_CERT}.items():
+            pathlib.Path(folder, name).write_text(content)
+        done = subprocess.run(
+            [program, *words], cwd=folder, input=text, capture_output=True, text=True, env=env
+        )
+        return done.returncode, done.stdout, done.stderr, pathlib.Path(folder, "CERT").read_text()
+
+
+def refuse_each(program, library, words, text, expected):
+    """Refuses each request of a run in turn. Returns how often it ended out of memory, and what was
+    wrong."""
+    came = run(program, library, words, text, 0)
+    wrong = [] if came == expected else [f"nothing refused: expected {expected}, came {came}"]
+    requests = int(run(program, library, words, text, 0, count=True)[2].split("\n")[-2])
+    refused = (3, "", "failed: OutOfMemory\n", OLD_CERT)
+    ended = 0
+    for number in range(1, requests + 1):
+        came = run(program, library, words, text, number)
+        ended += came == refused
+        if came not in (refused, expected):
+            wrong.append(f"request {number} refused: came {came}")
+    return requests, ended, wrong
 
 
 def main():
-    wrong = 0
+    default = str(HERE.parent / "crates/cwtune/out/cwtune")
+    program = str(pathlib.Path(*sys.argv[1:2] or [default]).resolve(strict=True))
+    runs, total, failed = all_runs(), 0, 0
     with tempfile.TemporaryDirectory() as work:
         library = f"{work}/refuse.so"
-        source = str(here / "refuse_memory.c")
+        source = str(HERE / "refuse_memory.c")
         subprocess.run(["cc", "-shared", "-fPIC", "-O1", "-o", library, source, "-ldl"], check=True)
-        for name, content in texts.items():
-            pathlib.Path(work, name).write_text(content)
-        files = [f"{work}/template", f"{work}/schedule"]
-        opponents = [f"{work}/dat", f"{work}/imp"]
-        for name, words, text in [
-            ("fight", [], (examples / "imp-against-imp.fight").read_text()),
-            ("asm", ["asm", str(examples / "warriors/replicator.red")], ""),
-            ("tune", ["tune", *rules, *files, f"{work}/written", *opponents], ""),
-            ("check, accepted", ["check", *rules, *files, f"{work}/good", *opponents], ""),
-            ("check, rejected", ["check", *rules, *files, f"{work}/bad", *opponents], ""),
-            ("help", ["--help"], ""),
-        ]:
-            expected = run(library, words, text, 0)
-            requests = int(run(library, words, text, 0, count=True)[2].split("\n")[-2])
-            refused = 0
-            for number in range(1, requests + 1):
-                got = run(library, words, text, number)
-                if got == (3, "", "failed: OutOfMemory\n"):
-                    refused += 1
-                elif got != expected:
-                    wrong += 1
-                    print(f"{name}: request {number}: {got}")
-            print(f"{name:16} {requests} requests, {refused} runs ended with OutOfMemory")
-    sys.exit(1 if wrong else 0)
+        with concurrent.futures.ThreadPoolExecutor(os.cpu_count()) as pool:
+            came = list(pool.map(lambda one: refuse_each(program, library, *one[1:]), runs))
+    for (name, *_), (requests, ended, wrong) in zip(runs, came):
+        total += requests
+        if ended == 0:
+            wrong.append("no refused request was told")
+        failed += len(wrong) > 0
+        for line in wrong:
+            print(f"{name}: {line}")
+    print(f"{total} requests refused: {len(runs) - failed} passed, {failed} failed")
+    sys.exit(1 if failed else 0)
 
 
 if __name__ == "__main__":
