@@ -14,8 +14,8 @@ look:
 # Runs the whole gate: every proof from nothing, every test, every edit that must be refused, with
 # the gate's last line. If it passed, assembles the texts that ask for much with the program that it
 # proved and built, plays the cases of input and output, the runs on pipes and the cuts of three
-# texts, and refuses each request for memory of some runs in turn. Each of these ends with the number
-# of what passed and failed. Fails if one of these fails.
+# texts, and refuses each request for memory and each write of some runs in turn. Each of these ends
+# with the number of what passed and failed. Fails if one of these fails.
 test:
 	@RT_JOBS=$(LANES) rt ci
 	@python3 tools/large_texts.py $(PROGRAM)
@@ -23,6 +23,7 @@ test:
 	@python3 tools/pipes.py $(PROGRAM)
 	@python3 tools/cuts.py $(PROGRAM)
 	@python3 tools/refuse_memory.py $(PROGRAM)
+	@python3 tools/refuse_writes.py $(PROGRAM)
 
 # Proves and builds the program, assembles the texts that ask for much, and plays the cases of input
 # and output, the pipes and the cuts alone.

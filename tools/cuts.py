@@ -101,8 +101,8 @@ def is_of_form(text, end):
 
 
 def dwarf_end(text):
-    """Returns how the assembly of a cut of `DWARF` has to end, if it is cut after a line or is whole
-    but for its last byte. Of other cuts only the form of the end is known: None."""
+    """Returns how the assembly of a cut of `DWARF` has to end, if the cut is after a line or before
+    the last byte. Of other cuts only the form of the end is known: None."""
     if text == DWARF or text == DWARF[:-1]:
         return (0, DWARF_CODE, b"")
     lines = text.split(b"\n")
@@ -142,7 +142,9 @@ def check_fight(program, folder, end):
     """Returns what is wrong with the fight of the first `end` bytes, or None."""
     text = FIGHT[:end]
     expected, came = fight_end(text), run(program, folder, [], text)
-    return None if came == expected else f"a fight of {end} bytes: expected {expected}, came {came}"
+    if came == expected:
+        return None
+    return f"a fight of {end} bytes: expected {expected}, came {came}"
 
 
 def check_cert(program, folder, end):

@@ -116,7 +116,7 @@ def to_broken_pipe(play, words, stream):
 
 
 def readers_that_go_away(play):
-    """Yields what a run has to end with if nobody reads a standard stream, and what it ended with."""
+    """Yields checks of runs of which nobody reads a standard stream: name, expected end, end."""
     for words in [[], ["asm", "imp.red"], CHECK, HELP, ["--help"]]:
         name = " ".join(words[:1]) or "fight"
         yield f"nobody reads the output of {name}", NO_WRITE, to_broken_pipe(play, words, "stdout")

@@ -67,10 +67,11 @@ ASSEMBLIES = [
     ("asm zero.red", 1, "", "refused: Asm line 1 Value DivisionByZero\n"),
     ("asm open.red", 1, "", "refused: Asm line 1 Expand ForWithoutRof\n"),
 ]
+CHECK = "check shared.red both.csv"
 CHECKS = [
-    ("check shared.red both.csv good.cert dat.red imp.red", 0, "accepted best 0 total 4\n", ""),
-    ("check shared.red both.csv points.cert dat.red imp.red", 1, "rejected row 4 WrongPoints\n", ""),
-    ("check shared.red both.csv short.cert dat.red imp.red", 1, "rejected row 0 RowCount\n", ""),
+    (f"{CHECK} good.cert dat.red imp.red", 0, "accepted best 0 total 4\n", ""),
+    (f"{CHECK} points.cert dat.red imp.red", 1, "rejected row 4 WrongPoints\n", ""),
+    (f"{CHECK} short.cert dat.red imp.red", 1, "rejected row 0 RowCount\n", ""),
 ]
 
 
@@ -107,8 +108,16 @@ TUNINGS = [
         *(0, report(6, 6, 0, "K=0", "4 of 6", "3 of 12"), ""),
         "cwcert,1,6\nbest,0,4\ncap,0,0:3 1:1\ncap,1,1:1\nsame,2,0\nsame,3,1\nsame,4,0\nsame,5,1\n",
     ),
-    ("tune one.red near.csv CERT dat.red", 1, "", "refused: Schedule row 1 BadPosition\n", OLD_CERT),
-    ("tune empty.red both.csv CERT dat.red", 1, "", "refused: Template line 1 EmptyRange\n", OLD_CERT),
+    (
+        "tune one.red near.csv CERT dat.red",
+        *(1, "", "refused: Schedule row 1 BadPosition\n"),
+        OLD_CERT,
+    ),
+    (
+        "tune empty.red both.csv CERT dat.red",
+        *(1, "", "refused: Template line 1 EmptyRange\n"),
+        OLD_CERT,
+    ),
 ]
 
 
