@@ -1,6 +1,6 @@
 #!/bin/sh
-# Tunes the templates of tuning/ against five warriors of warriors/, prints the reports, and
-# compares them with those in tuning/. Ends with status 0 if they are as expected, otherwise with 1.
+# Tunes the templates of tuning/ against five warriors of warriors/, without weights and the stone
+# with weights too, prints the reports, and compares them with those in tuning/. Ends with status 0 if they are as expected, otherwise with 1.
 # Use: examples/tune.sh [PROGRAM]
 
 here=$(dirname "$0")
@@ -15,21 +15,24 @@ fi
 work=$(mktemp -d) || exit 1
 trap 'rm -rf "$work"' EXIT
 
-# Tunes a template and compares the report: one TEMPLATE REPORT.
+# Tunes a template and compares the report: one TEMPLATE SCHEDULE REPORT.
 one() {
-    "$program" tune "$1" "$here/tuning/schedule.csv" "$work/cert" \
+    "$program" tune "$1" "$2" "$work/cert" \
         "$here/warriors/dwarf.red" "$here/warriors/imp-ring.red" "$here/warriors/scanner.red" \
         "$here/warriors/replicator.red" "$here/warriors/core-clear.red" >"$work/report"
     status=$?
     cat "$work/report"
-    if [ "$status" -ne 0 ] || ! cmp -s "$work/report" "$2"; then
+    if [ "$status" -ne 0 ] || ! cmp -s "$work/report" "$3"; then
         echo "tune.sh: not as expected (status $status)" >&2
-        diff "$2" "$work/report"
+        diff "$3" "$work/report"
         wrong=1
     fi
 }
 
-one "$here/tuning/stone.red" "$here/tuning/report.txt"
+tuning=$here/tuning
+one "$tuning/stone.red" "$tuning/schedule.csv" "$tuning/report.txt"
 echo
-one "$here/tuning/decoy.red" "$here/tuning/decoy-report.txt"
+one "$tuning/decoy.red" "$tuning/schedule.csv" "$tuning/decoy-report.txt"
+echo
+one "$tuning/stone.red" "$tuning/weighted.csv" "$tuning/weighted-report.txt"
 exit "$wrong"
