@@ -1,4 +1,4 @@
-.PHONY: look test cases build prove demo bench memory
+.PHONY: look test cases build prove demo bench memory tools
 
 PROGRAM = crates/cwtune/out/cwtune
 
@@ -12,12 +12,14 @@ look:
 	@sh examples/look.sh
 
 # Runs the whole gate: every proof from nothing, every test, every edit that must be refused, with
-# the gate's last line. If it passed, assembles the texts that ask for much with the program that it
-# proved and built, plays the cases of input and output, the runs on pipes and the cuts of three
-# texts, and refuses each request for memory and each write of some runs in turn. Each of these ends
-# with the number of what passed and failed. Fails if one of these fails.
+# the gate's last line. If it passed, runs the tools that need Python alone, assembles the texts that
+# ask for much with the program that it proved and built, plays the cases of input and output, the
+# runs on pipes and the cuts of three texts, and refuses each request for memory and each write of
+# some runs in turn. Each of these ends with the number of what passed and failed. Fails if one of
+# these fails.
 test:
 	@RT_JOBS=$(LANES) rt ci
+	@python3 tools/try_tools.py --plain
 	@python3 tools/large_texts.py $(PROGRAM)
 	@python3 tools/run_cases.py $(PROGRAM)
 	@python3 tools/pipes.py $(PROGRAM)
@@ -59,3 +61,8 @@ bench: build
 # result nor with `failed: OutOfMemory`.
 memory: build
 	@python3 tools/refuse_memory.py $(PROGRAM)
+
+# Runs the tools for authors (docs/TOOLS.md) on the examples and compares with the stored results.
+# Needs matplotlib for the pictures, and says which Debian package has it.
+tools:
+	@python3 tools/try_tools.py

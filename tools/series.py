@@ -1,0 +1,33 @@
+#!/usr/bin/env python3
+"""Prints the fights of `pmars -F SEED -r ROUNDS` as a schedule, so that totals can be compared."""
+import argparse
+
+
+def series(seed, rounds, core, distance):
+    """Yields position and first mover of each round, as pMARS 0.9.2 chooses them."""
+    number = seed - distance
+    for i in range(rounds):
+        yield distance + number % (core + 1 - 2 * distance), "co"[i % 2]
+        number = number * 16807 % 2147483647
+
+
+def main():
+    parser = argparse.ArgumentParser(description=__doc__)
+    parser.add_argument("seed", type=int, help="the number after -F, the first position")
+    parser.add_argument("rounds", type=int, help="the number after -r")
+    parser.add_argument("opponents", type=int, help="how many opponents: the series for each")
+    parser.add_argument("--core", type=int, default=8000)
+    parser.add_argument("--distance", type=int, default=100)
+    asked = parser.parse_args()
+    if not asked.distance <= asked.seed <= asked.core - asked.distance:
+        parser.error("pMARS takes a seed from the distance to the core size less the distance")
+    if not 1 <= asked.rounds * asked.opponents <= 10000:
+        parser.error("a schedule has 1 to 10000 fights")
+    print("opponent,position,first")
+    for opponent in range(asked.opponents):
+        for place, first in series(asked.seed, asked.rounds, asked.core, asked.distance):
+            print(f"{opponent},{place},{first}")
+
+
+if __name__ == "__main__":
+    main()
