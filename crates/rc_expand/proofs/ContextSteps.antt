@@ -3,6 +3,7 @@ use Rattle.std.proofs.Common.{◌≡◌, ◌≢◌, ℕ, suc, ◌+◌, ◌-◌, 
 use Rattle.std.specs.Prelude.{Result, Ok, Err, MatchResult, option_map, option_and_then, nat_le, if◌then◌else◌}
 use Rattle.std.proofs.lemmas.Bool.{le-leb}
 use Rattle.std.proofs.lemmas.Bool.Decides.{nat_tests}
+use Rattle.rc_expand.specs.Limits.{MOST_LINES, DEEPEST_BLOCK}
 use Rattle.rc_expand.specs.declared.fault.ExpandKind.TheVariants.{OutOfMemory}
 use Rattle.rc_expand.specs.declared.head.Head.{Head}
 use Rattle.rc_expand.specs.declared.head.HeadWord.TheVariants as word
@@ -18,7 +19,7 @@ use Rattle.rc_expand.proofs.UnrollSteps.{more, fails, fails_before_rof, ends_at_
 -- the lines of the definition are those that were appended to none, within the limit
 pub within_limit_is : (s : Context) (o : Option Unrolled) (u : Unit {0}) (new : List Head) (m : ℕ) → Appends [] 0 (Ok u) o new m → option_and_then (within_limit s.source.now (table s) s.rules.now s.equs.now) o ≡ Some new
 within_limit_is s (Some a) u new m h =
-    let few : nat_le (length a.lines + a.copies) 4096 ≡ true = le-leb (length a.lines + a.copies) 4096 (omega (arith, h.2, ap length h.1.0, h.1.1)) in
+    let few : nat_le (length a.lines + a.copies) MOST_LINES ≡ true = le-leb (length a.lines + a.copies) MOST_LINES (omega (arith, h.2, ap length h.1.0, h.1.1)) in
     rw few (ap Some (sym h.1.0))
 within_limit_is s None u new m h = absurd h.0
 
@@ -26,18 +27,18 @@ pub above_limit_is : (s : Context) (o : Option Unrolled) (e : ExpandFault) (new 
     → option_and_then (within_limit s.source.now (table s) s.rules.now s.equs.now) o ≡ None
 above_limit_is s (Some a) e new m h k =
     let t = h k in
-    let few : nat_le (length a.lines + a.copies) 4096 ≡ false = grind (arith, nat_tests, t) in
+    let few : nat_le (length a.lines + a.copies) MOST_LINES ≡ false = grind (arith, nat_tests, t) in
     rw few
 above_limit_is s None e new m h k = refl
 
 module _ (s : Context) (hs new : List Head) (m : ℕ) where
-  pub unrolled_is : (u : Unit {0}) → Appends [] 0 (Ok u) (unrolled_by s false 8 (lines_in s.source.now [] hs)) new m → unrolled s.source.now (table s) s.rules.now s.equs.now hs ≡ Some new
+  pub unrolled_is : (u : Unit {0}) → Appends [] 0 (Ok u) (unrolled_by s false DEEPEST_BLOCK (lines_in s.source.now [] hs)) new m → unrolled s.source.now (table s) s.rules.now s.equs.now hs ≡ Some new
   unfolding unrolled
-  unrolled_is u h = within_limit_is s (unrolled_by s false 8 hs) u new m (subst (λ xs. Appends [] 0 (Ok u) (unrolled_by s false 8 xs) new m) (lines_outside s.source.now hs) h)
+  unrolled_is u h = within_limit_is s (unrolled_by s false DEEPEST_BLOCK hs) u new m (subst (λ xs. Appends [] 0 (Ok u) (unrolled_by s false DEEPEST_BLOCK xs) new m) (lines_outside s.source.now hs) h)
 
-  pub not_unrolled : (e : ExpandFault) → Appends [] 0 (Err e) (unrolled_by s false 8 (lines_in s.source.now [] hs)) new m → e.kind ≢ OutOfMemory → unrolled s.source.now (table s) s.rules.now s.equs.now hs ≡ None
+  pub not_unrolled : (e : ExpandFault) → Appends [] 0 (Err e) (unrolled_by s false DEEPEST_BLOCK (lines_in s.source.now [] hs)) new m → e.kind ≢ OutOfMemory → unrolled s.source.now (table s) s.rules.now s.equs.now hs ≡ None
   unfolding unrolled
-  not_unrolled e h k = above_limit_is s (unrolled_by s false 8 hs) e new m (subst (λ xs. Appends [] 0 (Err e) (unrolled_by s false 8 xs) new m) (lines_outside s.source.now hs) h) k
+  not_unrolled e h k = above_limit_is s (unrolled_by s false DEEPEST_BLOCK hs) e new m (subst (λ xs. Appends [] 0 (Err e) (unrolled_by s false DEEPEST_BLOCK xs) new m) (lines_outside s.source.now hs) h) k
 
 module _ (s : Context) (levels : ℕ) where
   abbrev deeper : List Head → Option Unrolled

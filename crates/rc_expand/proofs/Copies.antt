@@ -6,6 +6,7 @@ use Rattle.std.proofs.lemmas.Bool.Decides.{nat_tests}
 use Rattle.rc_text.specs.declared.token.Token.{Token}
 use Rattle.rc_text.specs.declared.token.Kind.TheVariants.{Number}
 use Rattle.rc_text.specs.Symbols.{LiesIn}
+use Rattle.rc_expand.specs.Limits.{MOST_JOINED}
 use Rattle.rc_expand.specs.Lines.{is_name_token, is_ampersand, has_modifier}
 use Rattle.rc_expand.specs.Unroll.{is_use, numbered, joins, joined, copied_from, copied_tokens, copied_code}
 
@@ -93,11 +94,11 @@ module _ (source : List ℕ) (counter : List ℕ) where
         → copied_from source counter k m t (drop i ts) ≡ option_and_then (λ j. copied_from source counter k true j (drop (i + 2) ts)) (joined source k t)
     joined_at m t ts i j = from_list m t (drop i ts) (sym j) ∙ ap (λ r. option_and_then (λ n. copied_from source counter k true n r) (joined source k t)) (drop_two ts i)
 
-    room : (t : Token) → length t.joined < 8 → joined source k t ≡ Some (record t { joined = t.joined ++ (k ∷ []) })
-    room t h = let e : nat_lt (length t.joined) 8 ≡ true = grind (arith, nat_tests) in rw e
+    room : (t : Token) → length t.joined < MOST_JOINED → joined source k t ≡ Some (record t { joined = t.joined ++ (k ∷ []) })
+    room t h = let e : nat_lt (length t.joined) MOST_JOINED ≡ true = grind (arith, nat_tests) in rw e
 
     -- the copy goes on after a counter that is joined
-    pub rest_joined : (tokens copied : List Token) (m : Bool) (t : Token) (i : ℕ) → length t.joined < 8 → true ≡ joins source counter t (drop i tokens)
+    pub rest_joined : (tokens copied : List Token) (m : Bool) (t : Token) (i : ℕ) → length t.joined < MOST_JOINED → true ≡ joins source counter t (drop i tokens)
         → Rest tokens copied (copied_from source counter k m t (drop i tokens)) → Rest tokens copied (copied_from source counter k true (record t { joined = t.joined ++ (k ∷ []) }) (drop (i + 2) tokens))
     rest_joined tokens copied m t i h j r =
         r ∙ ap (option_map (λ r. copied ++ r)) (joined_at m t tokens i j ∙ ap (option_and_then (λ n. copied_from source counter k true n (drop (i + 2) tokens))) (room t h))

@@ -3,6 +3,7 @@ use Rattle.std.proofs.Common.{◌≡◌, ℕ, zero, suc, true, false, List, [], 
 use Rattle.std.specs.Prelude.{◌==◌}
 use Rattle.std.proofs.lemmas.List.{append-nil}
 use Rattle.std.proofs.lemmas.Bool.Decides.{nat_tests}
+use Rattle.rc_expand.specs.Limits.{DEEPEST_BLOCK}
 use Rattle.rc_expand.specs.declared.head.Head.{Head}
 use Rattle.rc_expand.specs.declared.head.HeadWord.{HeadWord}
 use Rattle.rc_expand.specs.declared.head.HeadWord.TheVariants as word
@@ -37,10 +38,10 @@ extended_opened : (more : Closed → Closed) (n : ℕ) → ((c : Closed) → IsC
 extended_opened more n k (Outside c) i = (i.0, k c i.1)
 extended_opened more n k (Within o f c) i = (i.0, i.1, k c i.2)
 
--- the open blocks and those that may be opened are 8
-counted : (o : Opened) (n : ℕ) → IsOpened n o → open_count o + n ≡ 8
-counted (Outside c) n i = let e : n ≡ 8 = i.0 in omega arith
-counted (Within o f c) n i = let e : open_count o + suc n ≡ 8 = counted o (suc n) i.0 in omega arith
+-- the open blocks and those that may be opened are DEEPEST_BLOCK
+counted : (o : Opened) (n : ℕ) → IsOpened n o → open_count o + n ≡ DEEPEST_BLOCK
+counted (Outside c) n i = let e : n ≡ DEEPEST_BLOCK = i.0 in omega arith
+counted (Within o f c) n i = let e : open_count o + suc n ≡ DEEPEST_BLOCK = counted o (suc n) i.0 in omega arith
 
 -- where no block is open it does not matter which was the last outermost one
 any_outermost : (hs : List Head) (a b : ℕ) → nesting_fault 0 a hs ≡ nesting_fault 0 b hs
@@ -97,8 +98,8 @@ module _ (h : Head) (hs : List Head) (next : Told hs) where
   deeper : (o : Opened) (f : Head) (c : Closed) (n : ℕ) → h.word ≡ word.For → IsOpened n (Within o f c)
       → AreNested (opened_lines (Within o f c) ++ (h ∷ hs)) (nesting_by word.For h.number (suc (open_count o)) (outermost_or o f.number) (λ m line. nesting_fault m line hs))
   deeper o f c zero w i =
-      let k : open_count (Within o f c) + 0 ≡ 8 = counted (Within o f c) 0 i in
-      let full : nat_lt (suc (open_count o)) 8 ≡ false = grind (arith, nat_tests) in
+      let k : open_count (Within o f c) + 0 ≡ DEEPEST_BLOCK = counted (Within o f c) 0 i in
+      let full : nat_lt (suc (open_count o)) DEEPEST_BLOCK ≡ false = grind (arith, nat_tests) in
       rw full (inr (inl record {
         before = Within o f c;
         ninth = h;
@@ -109,8 +110,8 @@ module _ (h : Head) (hs : List Head) (next : Told hs) where
         fault = refl;
       }))
   deeper o f c (suc n) w i =
-      let k : open_count (Within o f c) + suc n ≡ 8 = counted (Within o f c) (suc n) i in
-      let room : nat_lt (suc (open_count o)) 8 ≡ true = grind (arith, nat_tests) in
+      let k : open_count (Within o f c) + suc n ≡ DEEPEST_BLOCK = counted (Within o f c) (suc n) i in
+      let room : nat_lt (suc (open_count o)) DEEPEST_BLOCK ≡ true = grind (arith, nat_tests) in
       let told : AreNested (opened_lines (Within (Within o f c) h NoLine) ++ hs) (nesting_fault (suc (suc (open_count o))) (outermost_or o f.number) hs) =
       next (Within (Within o f c) h NoLine) n (i, w, tt) in
       rw room (subst (λ l. AreNested l (nesting_fault (suc (suc (open_count o))) (outermost_or o f.number) hs)) (opened_lines_more (Within o f c)) told)
@@ -177,11 +178,11 @@ known : (h : Head) (w : HeadWord) (n outermost : ℕ) (hs : List Head) → h.wor
 known h w n outermost hs e = ap (λ v. nesting_by v h.number n outermost (λ m line. nesting_fault m line hs)) e
 
 -- a FOR within open blocks, where there is room
-entered : (f : Head) (k line : ℕ) (hs : List Head) → f.word ≡ word.For → nat_lt (suc k) 8 ≡ true → nesting_fault (suc k) line (f ∷ hs) ≡ nesting_fault (suc (suc k)) line hs
+entered : (f : Head) (k line : ℕ) (hs : List Head) → f.word ≡ word.For → nat_lt (suc k) DEEPEST_BLOCK ≡ true → nesting_fault (suc k) line (f ∷ hs) ≡ nesting_fault (suc (suc k)) line hs
 entered f k line hs w room = known f word.For (suc k) line hs w ∙ rw room refl
 
 -- closed lines are passed over
-skipped : (c : Closed) (n k line : ℕ) (rest : List Head) → IsClosed n c → k + n ≡ 8 → nesting_fault k line (closed_lines c ++ rest) ≡ nesting_fault k line rest
+skipped : (c : Closed) (n k line : ℕ) (rest : List Head) → IsClosed n c → k + n ≡ DEEPEST_BLOCK → nesting_fault k line (closed_lines c ++ rest) ≡ nesting_fault k line rest
 skipped NoLine n k line rest i e = refl
 skipped (OneMore c h) n k line rest i e =
     ap (nesting_fault k line) (append_assoc (closed_lines c) (h ∷ []) rest)
@@ -194,7 +195,7 @@ skipped (Block c f inside r) (suc n) zero line rest i e =
     ∙ (skipped inside n 1 f.number (r ∷ rest) i.2 (omega arith)
     ∙ (known r word.Rof 1 f.number rest i.3 ∙ any_outermost rest f.number line))))
 skipped (Block c f inside r) (suc n) (suc k) line rest i e =
-    let room : nat_lt (suc k) 8 ≡ true = grind (arith, nat_tests) in
+    let room : nat_lt (suc k) DEEPEST_BLOCK ≡ true = grind (arith, nat_tests) in
     ap (nesting_fault (suc k) line) (append_assoc (closed_lines c) (f ∷ (closed_lines inside ++ (r ∷ []))) rest ∙ ap (λ t. closed_lines c ++ (f ∷ t)) (append_assoc (closed_lines inside) (r ∷ []) rest))
     ∙ (skipped c (suc n) (suc k) line (f ∷ (closed_lines inside ++ (r ∷ rest))) i.0 e
     ∙ (entered f k line (closed_lines inside ++ (r ∷ rest)) i.1 room
@@ -202,15 +203,15 @@ skipped (Block c f inside r) (suc n) (suc k) line rest i e =
 
 -- lines with open blocks lead to the state that counts them
 opened_to : (o : Opened) (n : ℕ) (rest : List Head) → IsOpened n o → nesting_fault 0 0 (opened_lines o ++ rest) ≡ nesting_fault (open_count o) (outermost_or o 0) rest
-opened_to (Outside c) n rest i = let e : n ≡ 8 = i.0 in skipped c n 0 0 rest i.1 (omega arith)
+opened_to (Outside c) n rest i = let e : n ≡ DEEPEST_BLOCK = i.0 in skipped c n 0 0 rest i.1 (omega arith)
 opened_to (Within (Outside b) f c) n rest i =
-    let e : open_count (Within (Outside b) f c) + n ≡ 8 = counted (Within (Outside b) f c) n i in
+    let e : open_count (Within (Outside b) f c) + n ≡ DEEPEST_BLOCK = counted (Within (Outside b) f c) n i in
     ap (nesting_fault 0 0) (append_assoc (closed_lines b) (f ∷ closed_lines c) rest)
     ∙ (opened_to (Outside b) (suc n) (f ∷ (closed_lines c ++ rest)) i.0
     ∙ (known f word.For 0 0 (closed_lines c ++ rest) i.1 ∙ skipped c n 1 f.number rest i.2 (omega (arith, e))))
 opened_to (Within (Within o g b) f c) n rest i =
-    let e : open_count (Within (Within o g b) f c) + n ≡ 8 = counted (Within (Within o g b) f c) n i in
-    let room : nat_lt (suc (open_count o)) 8 ≡ true = grind (arith, nat_tests) in
+    let e : open_count (Within (Within o g b) f c) + n ≡ DEEPEST_BLOCK = counted (Within (Within o g b) f c) n i in
+    let room : nat_lt (suc (open_count o)) DEEPEST_BLOCK ≡ true = grind (arith, nat_tests) in
     ap (nesting_fault 0 0) (append_assoc (opened_lines (Within o g b)) (f ∷ closed_lines c) rest)
     ∙ (opened_to (Within o g b) (suc n) (f ∷ (closed_lines c ++ rest)) i.0
     ∙ (entered f (open_count o) (outermost_or o g.number) (closed_lines c ++ rest) i.1 room
@@ -218,19 +219,19 @@ opened_to (Within (Within o g b) f c) n rest i =
 
 of_ninth : (o : Opened) (h : Head) (rest : List Head) → IsOpened 0 o → h.word ≡ word.For
     → nesting_fault (open_count o) (outermost_or o 0) (h ∷ rest) ≡ Some (at_line h.number ForTooDeep)
-of_ninth (Outside c) h rest i w = let e : 0 ≡ 8 = i.0 in absurd (omega (arith, e))
+of_ninth (Outside c) h rest i w = let e : 0 ≡ DEEPEST_BLOCK = i.0 in absurd (omega (arith, e))
 of_ninth (Within o f c) h rest i w =
-    let e : open_count (Within o f c) + 0 ≡ 8 = counted (Within o f c) 0 i in
-    let full : nat_lt (suc (open_count o)) 8 ≡ false = grind (arith, nat_tests) in
+    let e : open_count (Within o f c) + 0 ≡ DEEPEST_BLOCK = counted (Within o f c) 0 i in
+    let full : nat_lt (suc (open_count o)) DEEPEST_BLOCK ≡ false = grind (arith, nat_tests) in
     known h word.For (suc (open_count o)) (outermost_or o f.number) rest w ∙ rw full refl
 
 -- what the trees say is the fault that is found
 pub found : (hs : List Head) (x : Option ExpandFault) → AreNested hs x → nesting_fault 0 0 hs ≡ x
 found hs None a =
-    ap (nesting_fault 0 0) (a.2 ∙ sym (append-nil (closed_lines a.0))) ∙ skipped a.0 8 0 0 [] a.1 refl
+    ap (nesting_fault 0 0) (a.2 ∙ sym (append-nil (closed_lines a.0))) ∙ skipped a.0 DEEPEST_BLOCK 0 0 [] a.1 refl
 found hs (Some f) (inl r) =
     ap (nesting_fault 0 0) r.lines
-    ∙ (skipped r.before 8 0 0 (r.rof ∷ r.after) r.nests refl
+    ∙ (skipped r.before DEEPEST_BLOCK 0 0 (r.rof ∷ r.after) r.nests refl
     ∙ (known r.rof word.Rof 0 0 r.after r.is_rof ∙ ap (λ g. Some g) (sym r.fault)))
 found hs (Some f) (inr (inl r)) =
     ap (nesting_fault 0 0) r.lines
@@ -244,7 +245,7 @@ found hs (Some f) (inr (inr r)) =
 
 -- lines without a fault are closed blocks, and a fault is what its kind says
 nested_or_faulty : (hs : List Head) → AreNested hs (nesting_fault 0 0 hs)
-nested_or_faulty hs = told hs (Outside NoLine) 8 (refl, tt)
+nested_or_faulty hs = told hs (Outside NoLine) DEEPEST_BLOCK (refl, tt)
 
 pub said : (hs : List Head) (x : Option ExpandFault) → nesting_fault 0 0 hs ≡ x → AreNested hs x
 said hs x e = subst (AreNested hs) e (nested_or_faulty hs)

@@ -12,6 +12,7 @@ use Rattle.rc_instr.specs.Rules.{RulesView}
 use Rattle.rc_instr.specs.LoadText.{opcode_text}
 use Rattle.rc_instr.specs.declared.instruction.Opcode.{Opcode}
 use Rattle.rc_instr.specs.declared.instruction.Opcode.TheVariants as op
+use Rattle.rc_expand.specs.Limits.{MOST_TOKENS}
 use Rattle.rc_expand.specs.declared.head.Head.{Head}
 use Rattle.rc_expand.specs.declared.head.HeadWord.TheVariants as word
 use Rattle.rc_expand.specs.declared.line.Line.{Line}
@@ -52,7 +53,7 @@ pub record IsPlain (source : List ℕ) (p : PlainLine) : Type 0 where
   pub bytes : bytes_of source p.first ≡ text_of p.word
   pub others : HaveNoEnd p.others
   pub end : is_line_end_kind p.end.kind ≡ true
-  pub short : length p.others < 4096
+  pub short : length p.others < MOST_TOKENS
 
 -- each of the lines is plain
 abbrev pub ArePlain : List ℕ → List PlainLine → Type 0

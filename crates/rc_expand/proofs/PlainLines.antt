@@ -5,6 +5,7 @@ use Rattle.std.proofs.lemmas.Bool.{le-leb}
 use Rattle.rc_text.specs.declared.token.Token.{Token}
 use Rattle.rc_text.specs.Tokens.{tokens_of}
 use Rattle.rc_instr.specs.Rules.{RulesView}
+use Rattle.rc_expand.specs.Limits.{MOST_LINES, MOST_TOKENS, DEEPEST_BLOCK, DEEPEST_EQU}
 use Rattle.rc_expand.specs.declared.head.HeadWord.{HeadWord}
 use Rattle.rc_expand.specs.declared.head.HeadWord.TheVariants as word
 use Rattle.rc_expand.specs.Lines.{is_name_token}
@@ -29,30 +30,30 @@ module _ (source : List ℕ) where
       ∙ ap (replaced_both (Some (record { tokens = t ∷ []; replacements = 0 }))) (same_spread inner ts)
 
   -- so all of them do, where they are not too many
-  same_tokens : (ts : List Token) → length ts ≤ 4096 → replaced_tokens source [] ts ≡ Some ts
+  same_tokens : (ts : List Token) → length ts ≤ MOST_TOKENS → replaced_tokens source [] ts ≡ Some ts
   unfolding replaced_tokens
   same_tokens ts h =
-      ap (option_and_then (within_limits source [])) (same_spread (inner_at source [] 16) ts)
-      ∙ ap (λ b. if b && true then Some ts else None) (le-leb (length ts) 4096 h)
+      ap (option_and_then (within_limits source [])) (same_spread (inner_at source [] DEEPEST_EQU) ts)
+      ∙ ap (λ b. if b && true then Some ts else None) (le-leb (length ts) MOST_TOKENS h)
 
   -- and the tokens of a line
-  same_line : (w : HeadWord) (ts : List Token) → length ts ≤ 4096 → line_tokens source [] w ts ≡ Some ts
+  same_line : (w : HeadWord) (ts : List Token) → length ts ≤ MOST_TOKENS → line_tokens source [] w ts ≡ Some ts
   same_line w ts h =
       let n = exempt_len source w ts in
       ap (option_map (λ r. take n ts ++ r)) (same_tokens (drop n ts) (omega (arith, h, length-drop n ts)))
       ∙ ap Some (take-append-drop n ts)
 
   -- the line of a head
-  line_there : (w : PlainWord) (t : Token) (ts : List Token) → length ts < 4096 → line_of source [] (head_by w t ts) ≡ Some (plain_line_by w t ts)
+  line_there : (w : PlainWord) (t : Token) (ts : List Token) → length ts < MOST_TOKENS → line_of source [] (head_by w t ts) ≡ Some (plain_line_by w t ts)
   unfolding line_of
   line_there (AnOpcode o) t ts h =
-      let l : length (t ∷ ts) ≤ 4096 = omega (arith, h) in
+      let l : length (t ∷ ts) ≤ MOST_TOKENS = omega (arith, h) in
       ap (option_and_then (finished source (head_by (AnOpcode o) t ts) word.Code)) (same_line word.Code (t ∷ ts) l)
-      ∙ ap (λ b. if b then Some (plain_line_by (AnOpcode o) t ts) else None) (le-leb (length (t ∷ ts)) 4096 l)
+      ∙ ap (λ b. if b then Some (plain_line_by (AnOpcode o) t ts) else None) (le-leb (length (t ∷ ts)) MOST_TOKENS l)
   line_there AStart t ts h =
-      let l : length ts ≤ 4096 = omega (arith, h) in
+      let l : length ts ≤ MOST_TOKENS = omega (arith, h) in
       ap (option_and_then (finished source (head_by AStart t ts) word.Org)) (same_line word.Org ts l)
-      ∙ ap (λ b. if b then Some (plain_line_by AStart t ts) else None) (le-leb (length ts) 4096 l)
+      ∙ ap (λ b. if b then Some (plain_line_by AStart t ts) else None) (le-leb (length ts) MOST_TOKENS l)
 
   -- the lines of all heads
   lines_there : (ps : List PlainLine) → ArePlain source ps → all_of (line_of source []) (plain_heads ps) ≡ Some (plain_lines ps)
@@ -99,14 +100,14 @@ module _ (source : List ℕ) where
       by_word AStart k = ap (unrolled_both (Some (record { lines = head_by AStart p.first p.others ∷ []; copies = 0 }))) k
 
     -- the second part of the expansion
-    heads_unrolled : (ps : List PlainLine) → length ps ≤ 4096 → unrolled source [] rules [] (plain_heads ps) ≡ Some (plain_heads ps)
+    heads_unrolled : (ps : List PlainLine) → length ps ≤ MOST_LINES → unrolled source [] rules [] (plain_heads ps) ≡ Some (plain_heads ps)
     unfolding unrolled
     heads_unrolled ps l =
-        ap (option_and_then (within_limit source [] rules [])) (all_outside (deeper_at source [] rules [] 8) ps)
-        ∙ ap (λ b. if b then Some (plain_heads ps) else None) (le-leb (length (plain_heads ps) + 0) 4096 (omega (arith, l, heads_length ps)))
+        ap (option_and_then (within_limit source [] rules [])) (all_outside (deeper_at source [] rules [] DEEPEST_BLOCK) ps)
+        ∙ ap (λ b. if b then Some (plain_heads ps) else None) (le-leb (length (plain_heads ps) + 0) MOST_LINES (omega (arith, l, heads_length ps)))
 
     -- the three in turn
-    pub plain_expands : (ps : List PlainLine) → ArePlain source ps → length ps ≤ 4096 → tokens_of source ≡ record { tokens = plain_tokens ps; ending = None } → IsExpansion source [] rules (plain_lines ps)
+    pub plain_expands : (ps : List PlainLine) → ArePlain source ps → length ps ≤ MOST_LINES → tokens_of source ≡ record { tokens = plain_tokens ps; ending = None } → IsExpansion source [] rules (plain_lines ps)
     plain_expands ps a l e =
         ap (option_and_then (expansion_by source [] rules)) (heads_there source rules ps a e)
         ∙ ap (option_and_then (replaced [] rules source [])) (heads_unrolled ps l)

@@ -3,15 +3,16 @@ use Rattle.std.proofs.Common.{◌≡◌, ℕ, ◌+◌, ◌≤◌, ◌<◌, List,
 use Rattle.std.proofs.lemmas.List.{drop_all, append-nil}
 use Rattle.std.specs.Prelude.{Result, Ok, Err}
 use Rattle.rc_text.specs.declared.token.Token.{Token}
+use Rattle.rc_expand.specs.Limits.{MOST_TOKENS, MOST_REPLACEMENTS}
 use Rattle.rc_expand.specs.declared.replace.ReplaceFault.{ReplaceFault}
 use Rattle.rc_expand.specs.declared.replace.ReplaceFault.TheVariants.{TooDeep, TooMany, OutOfMemory}
 use Rattle.rc_expand.specs.Replace.{Equs, Replaced, replaced_both, Adds, one, equ_at, inner_at, replaced_within}
 
-too_many : (old mid a b : List Token) (n k c d : ℕ) → mid ≡ old ++ a → k ≡ n + c → (4096 < length mid + length b) ⊎ (4096 < k + d) → (4096 < length old + length (a ++ b)) ⊎ (4096 < n + (c + d))
+too_many : (old mid a b : List Token) (n k c d : ℕ) → mid ≡ old ++ a → k ≡ n + c → (MOST_TOKENS < length mid + length b) ⊎ (MOST_REPLACEMENTS < k + d) → (MOST_TOKENS < length old + length (a ++ b)) ⊎ (MOST_REPLACEMENTS < n + (c + d))
 too_many old mid a b n k c d e f (inl h) = inl (omega (arith, length-append a b, length-append old a, ap length e))
 too_many old mid a b n k c d e f (inr h) = inr (omega arith)
 
-more : (old : List Token) (n : ℕ) (a b : Replaced) → (4096 < length old + length a.tokens) ⊎ (4096 < n + a.replacements) → (4096 < length old + length (a.tokens ++ b.tokens)) ⊎ (4096 < n + (a.replacements + b.replacements))
+more : (old : List Token) (n : ℕ) (a b : Replaced) → (MOST_TOKENS < length old + length a.tokens) ⊎ (MOST_REPLACEMENTS < n + a.replacements) → (MOST_TOKENS < length old + length (a.tokens ++ b.tokens)) ⊎ (MOST_REPLACEMENTS < n + (a.replacements + b.replacements))
 more old n a b (inl h) = inl (omega (arith, length-append a.tokens b.tokens))
 more old n a b (inr h) = inr (omega arith)
 
@@ -61,7 +62,7 @@ module _ (source : List ℕ) (equs : Equs) (levels : ℕ) (tokens : List Token) 
   next_fails t old new n m e h is f = subst (λ o. Adds old n (Err e) o new m) (sym (step source equs levels tokens i t h is)) (adds_fails old new n m e _ _ f)
 
   -- no token is left
-  pub adds_nothing : (old : List Token) (n : ℕ) (u : Unit {0}) → length tokens ≤ i → length old ≤ 4096 → n ≤ 4096 → Adds old n (Ok u) (replaced_within source equs levels (drop i tokens)) old n
+  pub adds_nothing : (old : List Token) (n : ℕ) (u : Unit {0}) → length tokens ≤ i → length old ≤ MOST_TOKENS → n ≤ MOST_REPLACEMENTS → Adds old n (Ok u) (replaced_within source equs levels (drop i tokens)) old n
   adds_nothing old n u h p q =
       let e : drop i tokens ≡ [] = drop_all i tokens h in
       subst (λ ts. Adds old n (Ok u) (replaced_within source equs levels ts) old n) (sym e) (tt, (sym (append-nil old), omega arith), p, q)

@@ -3,6 +3,7 @@ use Rattle.std.proofs.Common.{◌≡◌, ℕ, zero, suc, ◌≤◌, true, false,
 use Rattle.std.specs.Prelude.{nat_le, not, ◌&&◌, is_some, option_map, option_and_then}
 use Rattle.std.proofs.lemmas.Bool.{and_parts, both_ways, le-leb}
 use Rattle.rc_text.specs.declared.token.Token.{Token}
+use Rattle.rc_expand.specs.Limits.{MOST_TOKENS, DEEPEST_EQU}
 use Rattle.rc_expand.specs.declared.head.HeadWord.{HeadWord}
 use Rattle.rc_expand.specs.Replace.{Equs, equ_at, Replaced, replaced_both, one, spread, inner_at, within_limits, replaced_tokens, exempt_len, line_tokens}
 use Rattle.rc_expand.specs.NameTables.{at_place}
@@ -30,13 +31,13 @@ module _ (source : List ℕ) (equs : Equs) where
       let p = and_parts (not (is_some (equ_at source equs t))) (are_settled source equs ts) h in
       ap (λ o. replaced_both o (spread source equs inner ts)) (one_settled inner t p.0) ∙ ap (replaced_both (Some (unchanged (t ∷ [])))) (all_settled inner ts p.1)
 
-  tokens_settled : (ts : List Token) → are_settled source equs ts ≡ true → length ts ≤ 4096 → replaced_tokens source equs ts ≡ Some ts
+  tokens_settled : (ts : List Token) → are_settled source equs ts ≡ true → length ts ≤ MOST_TOKENS → replaced_tokens source equs ts ≡ Some ts
   unfolding replaced_tokens
   tokens_settled ts h l =
-      let few : nat_le (length ts) 4096 ≡ true = le-leb (length ts) 4096 l in
-      ap (option_and_then (within_limits source equs)) (all_settled (inner_at source equs 16) ts h) ∙ rw few refl
+      let few : nat_le (length ts) MOST_TOKENS ≡ true = le-leb (length ts) MOST_TOKENS l in
+      ap (option_and_then (within_limits source equs)) (all_settled (inner_at source equs DEEPEST_EQU) ts h) ∙ rw few refl
 
-  pub line_settled : (w : HeadWord) (ts back : List Token) (n : ℕ) → n ≡ exempt_len source w ts → back ≡ drop n ts → are_settled source equs back ≡ true → length back ≤ 4096
+  pub line_settled : (w : HeadWord) (ts back : List Token) (n : ℕ) → n ≡ exempt_len source w ts → back ≡ drop n ts → are_settled source equs back ≡ true → length back ≤ MOST_TOKENS
       → line_tokens source equs w ts ≡ Some ts
   line_settled w ts back n en eb h l =
       let same : drop (exempt_len source w ts) ts ≡ back = ap (λ k. drop k ts) (sym en) ∙ sym eb in

@@ -5,6 +5,7 @@ use Rattle.std.specs.List.{list_all}
 use Rattle.std.proofs.lemmas.Bool.{and_parts, le-leb, leb-true, lt-ltb}
 use Rattle.rc_text.specs.declared.token.Token.{Token}
 use Rattle.rc_text.specs.declared.token.Kind.TheVariants.{Number}
+use Rattle.rc_expand.specs.Limits.{MOST_JOINED}
 use Rattle.rc_expand.specs.declared.head.Head.{Head}
 use Rattle.rc_expand.specs.declared.head.HeadWord.{HeadWord}
 use Rattle.rc_expand.specs.declared.head.HeadWord.TheVariants as word
@@ -76,7 +77,7 @@ module _ (source counter : List ℕ) (k : ℕ) where
       let b = room_of (n + suc (suc (suc (length vs)))) t p.0 in
       let j : Token = record t { joined = t.joined ++ (k ∷ []) } in
       let l : length j.joined ≡ length t.joined + 1 = length-append t.joined (k ∷ []) in
-      let few : nat_lt (length t.joined) 8 ≡ true = lt-ltb (length t.joined) 8 (omega (arith, b)) in
+      let few : nat_lt (length t.joined) MOST_JOINED ≡ true = lt-ltb (length t.joined) MOST_JOINED (omega (arith, b)) in
       let is : joined source k t ≡ Some j = rw few refl in
       let c = ih j vs (omega arith) (both_have (n + suc (length vs)) j vs (omega (arith, b, l)) (more_room (n + suc (suc (suc (length vs)))) (n + suc (length vs)) vs (omega arith) r.1)) in
       record {

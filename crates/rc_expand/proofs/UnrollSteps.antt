@@ -2,6 +2,7 @@
 use Rattle.std.proofs.Common.{◌≡◌, ◌≢◌, ℕ, zero, suc, ◌+◌, ◌-◌, ◌≤◌, ◌<◌, Bool, true, false, List, [], ◌∷◌, ◌++◌, length, Option, Some, None, refl, sym, ◌∙◌, ap, arith, append_assoc, length-append, subst}
 use Rattle.std.proofs.lemmas.List.{append-nil}
 use Rattle.std.specs.Prelude.{Result, Ok, Err, MatchResult, IfSome, option_map, option_and_then, if◌then◌else◌}
+use Rattle.rc_expand.specs.Limits.{MOST_LINES}
 use Rattle.rc_expand.specs.declared.head.Head.{Head}
 use Rattle.rc_expand.specs.declared.head.HeadWord.{HeadWord}
 use Rattle.rc_expand.specs.declared.head.HeadWord.TheVariants as word
@@ -30,7 +31,7 @@ fails old new n m e (Some a) None f = λ h. tt
 fails old new n m e (Some a) (Some b) f = λ h. let t = f h in omega (arith, t, length-append a.lines b.lines)
 
 -- nothing is added
-pub adds_nothing : (old : List Head) (n : ℕ) (u : Unit {0}) → length old + n ≤ 4096 → Appends old n (Ok u) (Some nothing) old n
+pub adds_nothing : (old : List Head) (n : ℕ) (u : Unit {0}) → length old + n ≤ MOST_LINES → Appends old n (Ok u) (Some nothing) old n
 adds_nothing old n u h = (tt, (sym (append-nil old), omega arith), h)
 
 -- one more copy, and its lines
@@ -133,10 +134,10 @@ fails_at old new n m e a b o s f = subst (λ o. Appends old n (Err e) o new m) (
 
 -- if there are no lines, any fault is right
 pub refused_at : (old new : List Head) (n m : ℕ) (e : ExpandFault) (o : Option Unrolled) → (e.kind ≢ OutOfMemory → o ≡ None) → Appends old n (Err e) o new m
-refused_at old new n m e o h = λ p. subst (λ o. IfSome o (λ a. 4096 < length old + length a.lines + (n + a.copies))) (sym (h p)) tt
+refused_at old new n m e o h = λ p. subst (λ o. IfSome o (λ a. MOST_LINES < length old + length a.lines + (n + a.copies))) (sym (h p)) tt
 
 -- nothing is left
-pub nothing_at : (old : List Head) (n : ℕ) (u : Unit {0}) (o : Option Unrolled) → o ≡ Some nothing → length old + n ≤ 4096 → Appends old n (Ok u) o old n
+pub nothing_at : (old : List Head) (n : ℕ) (u : Unit {0}) (o : Option Unrolled) → o ≡ Some nothing → length old + n ≤ MOST_LINES → Appends old n (Ok u) o old n
 nothing_at old n u o e h = subst (λ o. Appends old n (Ok u) o old n) (sym e) (adds_nothing old n u h)
 
 -- a copy and the bytes after it

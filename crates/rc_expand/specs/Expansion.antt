@@ -10,6 +10,7 @@ use Rattle.rc_expand.specs.declared.head.HeadWord.TheVariants as word
 use Rattle.rc_expand.specs.declared.line.Line.{Line}
 use Rattle.rc_expand.specs.declared.line.LineWord.{LineWord}
 use Rattle.rc_expand.specs.declared.line.LineWord.TheVariants as line
+use Rattle.rc_expand.specs.Limits.{MOST_TOKENS}
 use Rattle.rc_expand.specs.Names.{Table}
 use Rattle.rc_expand.specs.Replace.{Equs, line_tokens}
 use Rattle.rc_expand.specs.Unroll.{unrolled, label_token, all_of, is_known}
@@ -62,9 +63,9 @@ module _ (source : List ℕ) where
   abbrev pub label_names : List Line → List (List ℕ)
   label_names lines = flat_map (λ l. map (name_of source) l.labels) lines
 
-  -- a line has at most 4096 tokens
+  -- the tokens of a line are within their limit
   abbrev pub finished : Head → HeadWord → List Token → Option Line
-  finished h w tokens = if nat_le (length tokens) 4096 then Some (record { number = h.number; labels = own_labels h.labels; word = line_word w; tokens = tokens }) else None
+  finished h w tokens = if nat_le (length tokens) MOST_TOKENS then Some (record { number = h.number; labels = own_labels h.labels; word = line_word w; tokens = tokens }) else None
 
   abbrev pub made_line : Equs → Head → HeadWord → List Token → Option Line
   made_line equs h w tokens = option_and_then (finished h w) (line_tokens source equs w tokens)

@@ -1,6 +1,7 @@
 -- The expansion of Redcode: the lines of a text are read up to END, FOR blocks give way to their
 -- copies, outer blocks first, and EQU names give way to their tokens. Each part gives a list, or
 -- nothing if a condition is broken; before unrolling, a text has one fault at one line.
+pub mod Limits
 pub mod Names
 pub mod Lines
 pub mod Replace

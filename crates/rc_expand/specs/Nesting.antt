@@ -1,5 +1,5 @@
--- How blocks nest, by trees: FOR and ROF pair up like parentheses (pMARS), and at most 8 blocks are
--- open at once.
+-- How blocks nest, by trees: FOR and ROF pair up like parentheses (pMARS), and only so many blocks
+-- are open at once as the limit says.
 use Rattle.std.specs.Prelude.{◌≡◌, ℕ, zero, suc, ◌==◌, nat_lt, Bool, true, false, List, [], ◌∷◌, ◌++◌, Option, Some, None, if◌then◌else◌, ◌⊎◌}
 use Rattle.rc_expand.specs.declared.head.Head.{Head}
 use Rattle.rc_expand.specs.declared.head.HeadWord.{HeadWord}
@@ -7,6 +7,7 @@ use Rattle.rc_expand.specs.declared.head.HeadWord.TheVariants as word
 use Rattle.rc_expand.specs.declared.fault.ExpandFault.{ExpandFault}
 use Rattle.rc_expand.specs.declared.fault.ExpandKind.TheVariants.{ForWithoutRof, RofWithoutFor, ForTooDeep}
 use Rattle.rc_expand.specs.declared.fault.ExpandKind.{ExpandKind}
+use Rattle.rc_expand.specs.Limits.{DEEPEST_BLOCK}
 
 abbrev pub at_line : ℕ → ExpandKind → ExpandFault
 at_line line kind = record { line = line; kind = kind }
@@ -14,12 +15,12 @@ at_line line kind = record { line = line; kind = kind }
 -- one line; `opened` blocks are open before it, the outermost since line `outermost`
 abbrev pub nesting_by : HeadWord → (line opened outermost : ℕ) → (ℕ → ℕ → Option ExpandFault) → Option ExpandFault
 nesting_by word.For line zero outermost next = next 1 line
-nesting_by word.For line (suc n) outermost next = if nat_lt (suc n) 8 then next (suc (suc n)) outermost else Some (at_line line ForTooDeep)
+nesting_by word.For line (suc n) outermost next = if nat_lt (suc n) DEEPEST_BLOCK then next (suc (suc n)) outermost else Some (at_line line ForTooDeep)
 nesting_by word.Rof line zero outermost next = Some (at_line line RofWithoutFor)
 nesting_by word.Rof line (suc n) outermost next = next n outermost
 nesting_by _ line n outermost next = next n outermost
 
--- the first FOR inside 8 open blocks or ROF outside of all; else the outermost FOR that is still
+-- the first FOR inside as many open blocks as may be open, or ROF outside of all; else the outermost FOR that is still
 -- open at the end
 abbrev pub nesting_fault : (opened outermost : ℕ) → List Head → Option ExpandFault
 nesting_fault n outermost [] = if n == 0 then None else Some (at_line outermost ForWithoutRof)
@@ -59,9 +60,9 @@ abbrev pub opened_lines : Opened → List Head
 opened_lines (Outside c) = closed_lines c
 opened_lines (Within o f c) = opened_lines o ++ (f ∷ closed_lines c)
 
--- the tree describes its lines, and `n` more blocks may be opened, of 8 in all
+-- the tree describes its lines, and `n` more blocks may be opened, of `DEEPEST_BLOCK` in all
 abbrev pub IsOpened : ℕ → Opened → Type 0
-IsOpened n (Outside c) = (n ≡ 8) × IsClosed n c
+IsOpened n (Outside c) = (n ≡ DEEPEST_BLOCK) × IsClosed n c
 IsOpened n (Within o f c) = IsOpened (suc n) o × (f.word ≡ word.For) × IsClosed n c
 
 -- the line of the outermost open FOR, or `line` without one
@@ -74,12 +75,12 @@ pub record IsRofAlone (hs : List Head) (f : ExpandFault) : Type 0 where
   pub before : Closed
   pub rof : Head
   pub after : List Head
-  pub nests : IsClosed 8 before
+  pub nests : IsClosed DEEPEST_BLOCK before
   pub is_rof : rof.word ≡ word.Rof
   pub lines : hs ≡ closed_lines before ++ (rof ∷ after)
   pub fault : f ≡ at_line rof.number RofWithoutFor
 
--- a FOR inside 8 open blocks
+-- a FOR inside as many open blocks as may be open
 pub record IsNinth (hs : List Head) (f : ExpandFault) : Type 0 where
   pub before : Opened
   pub ninth : Head
@@ -101,5 +102,5 @@ pub record IsLeftOpen (hs : List Head) (f : ExpandFault) : Type 0 where
 
 -- lines without a fault are closed blocks, and each fault means what its kind says
 abbrev pub AreNested : List Head → Option ExpandFault → Type 0
-AreNested hs None = (c : Closed) × IsClosed 8 c × (hs ≡ closed_lines c)
+AreNested hs None = (c : Closed) × IsClosed DEEPEST_BLOCK c × (hs ≡ closed_lines c)
 AreNested hs (Some f) = IsRofAlone hs f ⊎ IsNinth hs f ⊎ IsLeftOpen hs f

@@ -6,6 +6,7 @@ use Rattle.rc_expand.specs.declared.replace.ReplaceFault.{ReplaceFault}
 use Rattle.rc_expand.specs.declared.replace.ReplaceFault.TheVariants.{OutOfMemory}
 use Rattle.rc_expand.specs.declared.head.HeadWord.{HeadWord}
 use Rattle.rc_expand.specs.declared.head.HeadWord.TheVariants as word
+use Rattle.rc_expand.specs.Limits.{MOST_TOKENS, MOST_REPLACEMENTS, DEEPEST_EQU}
 use Rattle.rc_expand.specs.Lines.{is_name_token, has_modifier}
 use Rattle.rc_expand.specs.Names.{entry_of}
 
@@ -64,11 +65,11 @@ module _ (source : List ℕ) (equs : Equs) where
   replaced_within levels = spread (inner_at levels)
 
   abbrev pub within_limits : Replaced → Option (List Token)
-  within_limits r = if nat_le (length r.tokens) 4096 && nat_le r.replacements 4096 then Some r.tokens else None
+  within_limits r = if nat_le (length r.tokens) MOST_TOKENS && nat_le r.replacements MOST_REPLACEMENTS then Some r.tokens else None
 
-  -- at most 16 deep, 4096 tokens and 4096 replacements
+  -- replacement within the limits: of depth, of tokens and of replacements
   unfoldable pub replaced_tokens : List Token → Option (List Token)
-  replaced_tokens ts = option_and_then within_limits (replaced_within 16 ts)
+  replaced_tokens ts = option_and_then within_limits (replaced_within DEEPEST_EQU ts)
 
   -- the tokens of a line
   abbrev pub line_tokens : HeadWord → List Token → Option (List Token)
@@ -78,9 +79,9 @@ module _ (source : List ℕ) (equs : Equs) where
 -- gives, within the limits. A fault other than OutOfMemory means that the definition gives nothing,
 -- or too much.
 abbrev pub Adds : List Token → ℕ → Result (Unit {0}) ReplaceFault → Option Replaced → List Token → ℕ → Type 0
-Adds old n (Ok u) r new m = IfNone r ⊥ × IfSome r (λ a. (new ≡ old ++ a.tokens) × (m ≡ n + a.replacements)) × (length new ≤ 4096) × (m ≤ 4096)
+Adds old n (Ok u) r new m = IfNone r ⊥ × IfSome r (λ a. (new ≡ old ++ a.tokens) × (m ≡ n + a.replacements)) × (length new ≤ MOST_TOKENS) × (m ≤ MOST_REPLACEMENTS)
 Adds old n (Err OutOfMemory) r new m = ⊤
-Adds old n (Err _) r new m = IfSome r (λ a. (4096 < length old + length a.tokens) ⊎ (4096 < n + a.replacements))
+Adds old n (Err _) r new m = IfSome r (λ a. (MOST_TOKENS < length old + length a.tokens) ⊎ (MOST_REPLACEMENTS < n + a.replacements))
 
 -- the result is what the definition gives; a fault other than OutOfMemory means that it gives
 -- nothing

@@ -17,6 +17,7 @@ use Rattle.rc_expand.specs.declared.fault.ExpandKind.TheVariants.{OutOfMemory, E
 use Rattle.rc_expand.specs.declared.replace.ReplaceFault.{ReplaceFault}
 use Rattle.rc_expand.specs.declared.replace.ReplaceFault.TheVariants as replace
 use Rattle.rc_instr.specs.Rules.{RulesView}
+use Rattle.rc_expand.specs.Limits.{MOST_LINES, MOST_COPIES, DEEPEST_BLOCK, MOST_JOINED}
 use Rattle.rc_expand.specs.Names.{Table, entry_of, given_names, CURLINE}
 use Rattle.rc_expand.specs.Lines.{choose, is_name_token, is_ampersand, is_colon, is_free, has_modifier, is_unjoined, bare_line}
 use Rattle.rc_expand.specs.Replace.{Equs, replaced_tokens}
@@ -74,10 +75,10 @@ is_bare _ _ = false
 abbrev pub is_bare_rof : Head → Bool
 is_bare_rof h = not h.spoiled && is_bare h.labels h.rest
 
--- a count below 1 makes no copies, and one above 4096 is refused
+-- a count below 1 makes no copies, and one above the limit is refused
 abbrev pub small_count : ℤ → Option ℕ
 small_count (negsuc n) = Some 0
-small_count (pos n) = if nat_le n 4096 then Some n else None
+small_count (pos n) = if nat_le n MOST_COPIES then Some n else None
 
 module _ (constants : Table) (rules : RulesView) where
   unfoldable pub is_taken : List ℕ → Bool
@@ -96,9 +97,9 @@ module _ (source : List ℕ) where
   abbrev pub numbered : List ℕ → ℕ → (made : Bool) → Token → Token
   numbered counter k made t = if not made && is_use counter t then record t { kind = Number k } else t
 
-  -- at most eight counters are joined to a name
+  -- one more counter is joined to a name, within the limit
   abbrev pub joined : ℕ → Token → Option Token
-  joined k t = if nat_lt (length t.joined) 8 then Some (record t { joined = t.joined ++ (k ∷ []) }) else None
+  joined k t = if nat_lt (length t.joined) MOST_JOINED then Some (record t { joined = t.joined ++ (k ∷ []) }) else None
 
   -- after the name `t` come `&` and the counter
   abbrev pub joins : List ℕ → Token → List Token → Bool
@@ -243,13 +244,13 @@ module _ (source : List ℕ) where
       deeper_at zero = λ hs. None
       deeper_at (suc levels) = outside true (deeper_at levels)
 
-      -- at most 4096 lines and copies of blocks
+      -- lines and copies of blocks are within their limit
       abbrev pub within_limit : Unrolled → Option (List Head)
-      within_limit u = if nat_le (length u.lines + u.copies) 4096 then Some u.lines else None
+      within_limit u = if nat_le (length u.lines + u.copies) MOST_LINES then Some u.lines else None
 
-      -- blocks nest at most 8 deep
+      -- the second part: blocks give way to their copies
       unfoldable pub unrolled : List Head → Option (List Head)
-      unrolled hs = option_and_then within_limit (outside false (deeper_at 8) hs)
+      unrolled hs = option_and_then within_limit (outside false (deeper_at DEEPEST_BLOCK) hs)
 
 -- the lines of a block up to its ROF, the ROF, and the lines after it
 pub record Cut : Type 0 where
@@ -274,8 +275,8 @@ cut n (h ∷ hs) = cut_by h.word n (λ m. option_map (longer (h ∷ [])) (cut m 
 -- within the limit. A fault other than OutOfMemory means that the definition gives nothing, or too
 -- much.
 abbrev pub Appends : List Head → ℕ → Result (Unit {0}) ExpandFault → Option Unrolled → List Head → ℕ → Type 0
-Appends old n (Ok u) r new m = IfNone r ⊥ × IfSome r (λ a. (new ≡ old ++ a.lines) × (m ≡ n + a.copies)) × (length new + m ≤ 4096)
-Appends old n (Err e) r new m = (e.kind ≢ OutOfMemory) → IfSome r (λ a. 4096 < length old + length a.lines + (n + a.copies))
+Appends old n (Ok u) r new m = IfNone r ⊥ × IfSome r (λ a. (new ≡ old ++ a.lines) × (m ≡ n + a.copies)) × (length new + m ≤ MOST_LINES)
+Appends old n (Err e) r new m = (e.kind ≢ OutOfMemory) → IfSome r (λ a. MOST_LINES < length old + length a.lines + (n + a.copies))
 
 -- the result is what the definition gives; a fault other than OutOfMemory means that it gives
 -- nothing

@@ -4,6 +4,7 @@ ghost use Rattle.rc_expand.specs.Nesting.{nesting_fault};
 
 use crate::fault::{ExpandFault, ExpandKind};
 use crate::head::{Head, HeadWord};
+use crate::limits::DEEPEST_BLOCK;
 
 // Refuses, at the first line that has one of them, a ninth FOR inside eight (`ForTooDeep`) and a
 // ROF without its FOR (`RofWithoutFor`); then a FOR that is still open at the end
@@ -11,12 +12,12 @@ use crate::head::{Head, HeadWord};
 pub(crate) fn check_blocks(heads: &[Head]) -> Result<(), ExpandFault>
     ensures { MatchResult result (λ u. nesting_fault 0 0 heads.now ≡ None) (λ e. nesting_fault 0 0 heads.now ≡ Some e) }
 {
-    let mut opened: usize = 0;
+    let mut opened: u8 = 0;
     let mut outermost: u64 = 0;
     for i in 0..heads.len() {
         match heads[i].word {
             HeadWord::For => {
-                if opened == 8 {
+                if opened == DEEPEST_BLOCK {
                     return Err(ExpandFault {
                         line: heads[i].number,
                         kind: ExpandKind::ForTooDeep,

@@ -5,6 +5,7 @@ ghost use Rattle.rc_expand.specs.Lines.{HeadLies, is_name_token, is_ampersand};
 ghost use Rattle.rc_expand.specs.Unroll.{is_use, numbered, joins, copied_tokens, copied_code, copied_rest, copied_line, all_of};
 
 use crate::head::{Head, HeadWord, Labels};
+use crate::limits::MOST_JOINED;
 use crate::line::Tokens;
 use crate::names::spells;
 use crate::words::{clone_token, has_modifier, is_ampersand, is_name_token};
@@ -33,7 +34,7 @@ pub(crate) fn copy_tokens(
     let mut at = 1;
     while at < tokens.len() {
         if is_joined(source, counter, &token, tokens, at) {
-            if token.joined.len() >= 8 {
+            if token.joined.len() >= MOST_JOINED {
                 return Ok(None);
             }
             token.joined.push(number);

@@ -13,6 +13,7 @@ use crate::copy::with_front;
 use crate::fault::{ExpandFault, ExpandKind, fault};
 use crate::head::{Head, HeadWord};
 use crate::labels::label_token;
+use crate::limits::MOST_TOKENS;
 use crate::line::{Line, LineWord, Tokens};
 use crate::links::{Links, needs_no_replacement};
 use crate::opening::replace_fault;
@@ -214,7 +215,7 @@ fn make_line(
         Ok(tokens) => tokens,
         Err(cause) => return Err(replace_fault(head.number, cause)),
     };
-    if tokens.as_slice().len() > 4096 {
+    if tokens.as_slice().len() > MOST_TOKENS {
         return Err(fault(head.number, ExpandKind::TooManyTokens));
     }
     Ok(Line {

@@ -13,6 +13,7 @@ mod head;
 mod labelling;
 mod labels;
 pub mod laws;
+mod limits;
 mod line;
 mod links;
 mod names;

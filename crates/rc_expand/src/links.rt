@@ -6,6 +6,7 @@ ghost use Rattle.rc_expand.specs.Replace.{EqusLie, equ_at};
 ghost use Rattle.rc_expand.specs.Steps.{are_settled};
 ghost use Rattle.rc_expand.specs.NameTables.{at_place, ArePlaces, AreLinks};
 
+use crate::limits::MOST_TOKENS;
 use crate::replace::Equ;
 use crate::table::NameTable;
 use crate::words::is_name_token;
@@ -35,13 +36,13 @@ impl Links {
     }
 }
 
-// Checks that no token is an EQU name and that there are at most 4096.
+// Checks that no token is an EQU name and that there are at most `MOST_TOKENS`.
 pub(crate) fn needs_no_replacement(source: &[u8], tokens: &[Token], equs: &NameTable<Equ>) -> bool
     requires { All (LiesIn source.now) tokens.now }
     ensures settled { result ≡ true → are_settled source.now equs.now tokens.now ≡ true }
-    ensures few { result ≡ true → length tokens.now ≤ 4096 }
+    ensures few { result ≡ true → length tokens.now ≤ MOST_TOKENS }
 {
-    tokens.len() <= 4096 && are_settled(source, tokens, equs)
+    tokens.len() <= MOST_TOKENS && are_settled(source, tokens, equs)
 }
 
 // Looks up each of `tokens` in the table of EQU names.

@@ -11,6 +11,7 @@ use crate::copy::clone_labels;
 use crate::fault::{ExpandFault, ExpandKind, fault};
 use crate::head::{BlockStart, Head, Labels};
 use crate::labels::plain_token;
+use crate::limits::MOST_COPIES;
 use crate::line::Tokens;
 use crate::names::GivenNames;
 use crate::replace::{ReplaceFault, replace_tokens};
@@ -84,14 +85,15 @@ fn counter_token<'a>(source: &[u8], first: &'a Head) -> Result<Option<&'a Token>
     }
 }
 
-// Converts the value of a count. One below 0 makes no copies, and one above 4096 is refused.
+// Converts the value of a count. One below 0 makes no copies, and one above `MOST_COPIES` is
+// refused.
 fn small_count(value: i64) -> Option<u16>
     ensures { result ≡ small_count value }
 {
     if value < 0 {
         return Some(0);
     }
-    if value <= 4096 {
+    if value <= MOST_COPIES {
         Some(value as u16)
     } else {
         None

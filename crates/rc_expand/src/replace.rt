@@ -5,6 +5,7 @@ ghost use Rattle.rc_expand.specs.Names.{entry_of};
 ghost use Rattle.rc_expand.specs.NameTables.{at_place, ArePlaces, AreLinks};
 ghost use Rattle.rc_expand.specs.Replace.{EqusLie, one, equ_at, inner_at, replaced_within, replaced_tokens, Adds, Replaces};
 
+use crate::limits::{DEEPEST_EQU, MOST_REPLACEMENTS, MOST_TOKENS};
 use crate::line::Tokens;
 use crate::links::{Links, link_tokens};
 use crate::table::NameTable;
@@ -91,7 +92,7 @@ pub(crate) fn equ_line(equs: &NameTable<Equ>, source: &[u8], token: &Token) -> O
     }
 }
 
-// Replaces EQU names, at most 16 deep, with at most 4096 tokens and 4096 replacements.
+// Replaces EQU names, at most `DEEPEST_EQU` deep, within `MOST_TOKENS` and `MOST_REPLACEMENTS`.
 #[tactic(auto, unfolding(crate::specs::Replace::replaced_tokens))]
 pub(crate) fn replace_tokens(
     alloc: Global,
@@ -111,7 +112,15 @@ pub(crate) fn replace_tokens(
         tokens: Vec::with_capacity(alloc, tokens.len())?,
         replacements: 0,
     };
-    append_replaced(&mut out, source, tokens, places.as_slice(), equs, links, 16)?;
+    append_replaced(
+        &mut out,
+        source,
+        tokens,
+        places.as_slice(),
+        equs,
+        links,
+        DEEPEST_EQU,
+    )?;
     Ok(Tokens::from_vec(out.tokens))
 }
 
@@ -152,8 +161,8 @@ fn append_one(
     requires place { at_place equs.now place ≡ equ_at source.now equs.now token.now }
     requires lies { EqusLie source.now equs.now }
     requires links { AreLinks source.now equs.now links.now }
-    requires room { length out.old.tokens.items ≤ 4096 }
-    requires replacements { out.old.replacements ≤ 4096 }
+    requires room { length out.old.tokens.items ≤ MOST_TOKENS }
+    requires replacements { out.old.replacements ≤ MOST_REPLACEMENTS }
     requires before { All (LiesIn source.now) out.old.tokens.items }
     ensures after { OnOk result (All (LiesIn source.now) out.new.tokens.items) }
     ensures adds { Adds out.old.tokens.items out.old.replacements result
@@ -161,7 +170,7 @@ fn append_one(
 {
     match body_at(source, equs, links, place) {
         None => {
-            if out.tokens.len() == 4096 {
+            if out.tokens.len() == MOST_TOKENS {
                 return Err(ReplaceFault::TooMany);
             }
             out.tokens.push(clone_token(token)?)?;
@@ -171,7 +180,7 @@ fn append_one(
             if levels == 0 {
                 return Err(ReplaceFault::TooDeep);
             }
-            if out.replacements == 4096 {
+            if out.replacements == MOST_REPLACEMENTS {
                 return Err(ReplaceFault::TooMany);
             }
             out.replacements += 1;
@@ -195,8 +204,8 @@ fn append_replaced(
     requires places { ArePlaces source.now equs.now tokens.now places.now }
     requires lies { EqusLie source.now equs.now }
     requires links { AreLinks source.now equs.now links.now }
-    requires room { length out.old.tokens.items ≤ 4096 }
-    requires replacements { out.old.replacements ≤ 4096 }
+    requires room { length out.old.tokens.items ≤ MOST_TOKENS }
+    requires replacements { out.old.replacements ≤ MOST_REPLACEMENTS }
     requires before { All (LiesIn source.now) out.old.tokens.items }
     ensures after { OnOk result (All (LiesIn source.now) out.new.tokens.items) }
     ensures adds { Adds out.old.tokens.items out.old.replacements result (replaced_within source.now equs.now levels tokens.now) out.new.tokens.items out.new.replacements }

@@ -10,10 +10,11 @@ ghost use Rattle.rc_expand.specs.Context.{table, IsContext, unrolled_by, block_b
 use crate::context::Context;
 use crate::fault::{ExpandFault, ExpandKind, fault};
 use crate::head::{Head, HeadWord, Labels};
+use crate::limits::{DEEPEST_BLOCK, MOST_LINES};
 use crate::opening::{begin_block, check_rof};
 use crate::reached::{Copying, Reached, clone_copies, is_short_line, make_line, with_copy};
 
-// The lines so far, and the number of copies of blocks. Together they are at most 4096.
+// The lines so far, and the number of copies of blocks. Together they are at most `MOST_LINES`.
 #[derive(Drop)]
 pub(crate) struct Unrolling<'a> {
     lines: Vec<Reached<'a>>,
@@ -33,7 +34,7 @@ pub(crate) fn append_lines<'a>(
 ) -> Result<(), ExpandFault>
     requires context { IsContext context.now }
     requires lies { All (HeadLies context.now.source.now) heads.now }
-    requires room { length (reached_lines context.now.source.now out.old.lines.items) + out.old.copies ≤ 4096 }
+    requires room { length (reached_lines context.now.source.now out.old.lines.items) + out.old.copies ≤ MOST_LINES }
     requires before { All (ReachedLies context.now.source.now) out.old.lines.items }
     ensures adds { Appends (reached_lines context.now.source.now out.old.lines.items) out.old.copies result (unrolled_by context.now in_block levels (lines_in context.now.source.now copies.now heads.now)) (reached_lines context.now.source.now out.new.lines.items) out.new.copies }
     ensures after { OnOk result (All (ReachedLies context.now.source.now) out.new.lines.items) }
@@ -72,7 +73,7 @@ pub(crate) fn unroll<'a>(
         lines: Vec::new(context.alloc),
         copies: 0,
     };
-    append_lines(&mut out, context, &[], heads, false, 8)?;
+    append_lines(&mut out, context, &[], heads, false, DEEPEST_BLOCK)?;
     Ok(out.lines)
 }
 
@@ -111,12 +112,12 @@ fn append<'a>(
     is_earlier: bool,
 ) -> Result<(), ExpandFault>
     requires head { HeadLies context.now.source.now head.now }
-    requires room { length (reached_lines context.now.source.now out.old.lines.items) + out.old.copies ≤ 4096 }
+    requires room { length (reached_lines context.now.source.now out.old.lines.items) + out.old.copies ≤ MOST_LINES }
     requires before { All (ReachedLies context.now.source.now) out.old.lines.items }
     ensures adds { Appends (reached_lines context.now.source.now out.old.lines.items) out.old.copies result (Some (record { lines = reached_part context.now.source.now is_earlier (line_in context.now.source.now copies.now head.now) ∷ []; copies = 0 })) (reached_lines context.now.source.now out.new.lines.items) out.new.copies }
     ensures after { OnOk result (All (ReachedLies context.now.source.now) out.new.lines.items) }
 {
-    if out.lines.len() + out.copies == 4096 {
+    if out.lines.len() + out.copies == MOST_LINES {
         return Err(fault(head.number, ExpandKind::TooManyLines));
     }
     let copies = clone_copies(context.alloc, copies)?;
@@ -174,7 +175,7 @@ fn append_line<'a>(
     in_block: bool,
 ) -> Result<(), ExpandFault>
     requires head { HeadLies context.now.source.now head.now }
-    requires room { length (reached_lines context.now.source.now out.old.lines.items) + out.old.copies ≤ 4096 }
+    requires room { length (reached_lines context.now.source.now out.old.lines.items) + out.old.copies ≤ MOST_LINES }
     requires before { All (ReachedLies context.now.source.now) out.old.lines.items }
     ensures adds { Appends (reached_lines context.now.source.now out.old.lines.items) out.old.copies result (unrolled_line_by context.now in_block (line_in context.now.source.now copies.now head.now)) (reached_lines context.now.source.now out.new.lines.items) out.new.copies }
     ensures after { OnOk result (All (ReachedLies context.now.source.now) out.new.lines.items) }
@@ -193,7 +194,7 @@ fn append_earlier<'a>(
 ) -> Result<(), ExpandFault>
     requires first { HeadLies context.now.source.now first.now }
     requires labels { labels.now ≡ earlier_of (line_in context.now.source.now copies.now first.now).labels }
-    requires room { length (reached_lines context.now.source.now out.old.lines.items) + out.old.copies ≤ 4096 }
+    requires room { length (reached_lines context.now.source.now out.old.lines.items) + out.old.copies ≤ MOST_LINES }
     requires before { All (ReachedLies context.now.source.now) out.old.lines.items }
     ensures adds { Appends (reached_lines context.now.source.now out.old.lines.items) out.old.copies result (Some (record { lines = earlier_line (line_in context.now.source.now copies.now first.now).number labels.now; copies = 0 })) (reached_lines context.now.source.now out.new.lines.items) out.new.copies }
     ensures after { OnOk result (All (ReachedLies context.now.source.now) out.new.lines.items) }
@@ -218,12 +219,12 @@ fn append_copy<'a>(
 ) -> Result<(), ExpandFault>
     requires context { IsContext context.now }
     requires block { All (HeadLies context.now.source.now) block.now }
-    requires room { length (reached_lines context.now.source.now out.old.lines.items) + out.old.copies ≤ 4096 }
+    requires room { length (reached_lines context.now.source.now out.old.lines.items) + out.old.copies ≤ MOST_LINES }
     requires before { All (ReachedLies context.now.source.now) out.old.lines.items }
     ensures adds { Appends (reached_lines context.now.source.now out.old.lines.items) out.old.copies result (copy_by context.now levels (option_map (λ b. b.now) counter.entry) (lines_in context.now.source.now copies.now block.now) number) (reached_lines context.now.source.now out.new.lines.items) out.new.copies }
     ensures after { OnOk result (All (ReachedLies context.now.source.now) out.new.lines.items) }
 {
-    if out.lines.len() + out.copies == 4096 {
+    if out.lines.len() + out.copies == MOST_LINES {
         return Err(fault(line, ExpandKind::TooManyLines));
     }
     out.copies += 1;
@@ -253,7 +254,7 @@ fn append_copies<'a>(
 ) -> Result<(), ExpandFault>
     requires context { IsContext context.now }
     requires block { All (HeadLies context.now.source.now) block.now }
-    requires room { length (reached_lines context.now.source.now out.old.lines.items) + out.old.copies ≤ 4096 }
+    requires room { length (reached_lines context.now.source.now out.old.lines.items) + out.old.copies ≤ MOST_LINES }
     requires before { All (ReachedLies context.now.source.now) out.old.lines.items }
     ensures adds { Appends (reached_lines context.now.source.now out.old.lines.items) out.old.copies result (copies_by context.now levels (option_map (λ b. b.now) counter.entry) (lines_in context.now.source.now copies.now block.now) count) (reached_lines context.now.source.now out.new.lines.items) out.new.copies }
     ensures after { OnOk result (All (ReachedLies context.now.source.now) out.new.lines.items) }
@@ -280,7 +281,7 @@ fn append_block<'a>(
     requires first { HeadLies context.now.source.now first.now }
     requires block { All (HeadLies context.now.source.now) block.now }
     requires rof { HeadLies context.now.source.now rof.now }
-    requires room { length (reached_lines context.now.source.now out.old.lines.items) + out.old.copies ≤ 4096 }
+    requires room { length (reached_lines context.now.source.now out.old.lines.items) + out.old.copies ≤ MOST_LINES }
     requires before { All (ReachedLies context.now.source.now) out.old.lines.items }
     ensures adds { Appends (reached_lines context.now.source.now out.old.lines.items) out.old.copies result (block_by context.now levels (line_in context.now.source.now copies.now first.now) (lines_in context.now.source.now copies.now block.now) (line_in context.now.source.now copies.now rof.now)) (reached_lines context.now.source.now out.new.lines.items) out.new.copies }
     ensures after { OnOk result (All (ReachedLies context.now.source.now) out.new.lines.items) }

@@ -3,6 +3,7 @@ use Rattle.std.specs.Prelude.{Result}
 use Rattle.std.specs.Prelude.{All}
 use Rattle.rc_text.specs.Symbols.{LiesIn}
 use Rattle.rc_text.specs.declared.token.Token.{Token}
+use Rattle.rc_expand.specs.Limits.{MOST_TOKENS, MOST_REPLACEMENTS}
 use Rattle.rc_expand.specs.declared.replace.ReplaceFault.{ReplaceFault}
 use Rattle.rc_expand.specs.Replace.{Adds, replaced_within}
 use Rattle.rc_expand.proofs.replace.+replace.Given as goal
@@ -16,7 +17,7 @@ decreases-append_one l = 2 * l.levels
 -- whatever the rest adds, the whole adds
 abbrev pub invariant-append_replaced-loop-i : goal.invariant-append_replaced-loop-i
 invariant-append_replaced-loop-i l =
-    (length l.out.tokens.items ≤ 4096) × (l.out.replacements ≤ 4096)
+    (length l.out.tokens.items ≤ MOST_TOKENS) × (l.out.replacements ≤ MOST_REPLACEMENTS)
     × ((result : Result (Unit {0}) ReplaceFault) (new : List Token) (m : ℕ)
     → Adds l.out.tokens.items l.out.replacements result (replaced_within l.source l.equs l.levels (drop l.i l.tokens)) new m
     → Adds l.fn.out.tokens.items l.fn.out.replacements result (replaced_within l.source l.equs l.levels l.tokens) new m)

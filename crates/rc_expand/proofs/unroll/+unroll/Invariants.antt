@@ -1,5 +1,6 @@
 use Rattle.std.proofs.Common.{◌≤◌, ◌+◌, ◌-◌, ◌*◌, length, List, ℕ}
 use Rattle.std.specs.Prelude.{Result, All, option_map}
+use Rattle.rc_expand.specs.Limits.{MOST_LINES}
 use Rattle.rc_expand.specs.declared.head.Head.{Head}
 use Rattle.rc_expand.specs.declared.fault.ExpandFault.{ExpandFault}
 use Rattle.rc_expand.specs.Lines.{HeadLies}
@@ -26,7 +27,7 @@ decreases-append_lines-loop-head l = length l.rest
 -- whatever the rest appends, the whole appends
 abbrev pub invariant-append_lines-loop-head : goal.invariant-append_lines-loop-head
 invariant-append_lines-loop-head l =
-    (length (reached_lines l.context.source.now l.out.lines.items) + l.out.copies ≤ 4096) × All (HeadLies l.context.source.now) l.rest
+    (length (reached_lines l.context.source.now l.out.lines.items) + l.out.copies ≤ MOST_LINES) × All (HeadLies l.context.source.now) l.rest
     × ((result : Result (Unit {0}) ExpandFault) (new : List Head) (m : ℕ)
     → Appends (reached_lines l.context.source.now l.out.lines.items) l.out.copies result (unrolled_by l.context l.in_block l.levels (lines_in l.context.source.now l.copies l.rest)) new m
     → Appends (reached_lines l.context.source.now l.fn.out.lines.items) l.fn.out.copies result (unrolled_by l.context l.in_block l.levels (lines_in l.context.source.now l.copies l.fn.heads)) new m)
@@ -34,7 +35,7 @@ invariant-append_lines-loop-head l =
 
 abbrev pub invariant-append_copies-loop-done : goal.invariant-append_copies-loop-done
 invariant-append_copies-loop-done l =
-    (length (reached_lines l.context.source.now l.out.lines.items) + l.out.copies ≤ 4096)
+    (length (reached_lines l.context.source.now l.out.lines.items) + l.out.copies ≤ MOST_LINES)
     × ((result : Result (Unit {0}) ExpandFault) (new : List Head) (m : ℕ)
     → Appends (reached_lines l.context.source.now l.out.lines.items) l.out.copies result (copies_by_from l.context l.levels (option_map (λ b. b.now) l.counter) (lines_in l.context.source.now l.copies l.block) (l.count - l.done) (l.done + 1)) new m
     → Appends (reached_lines l.context.source.now l.fn.out.lines.items) l.fn.out.copies result (copies_by l.context l.levels (option_map (λ b. b.now) l.counter) (lines_in l.context.source.now l.copies l.block) l.count) new m)
