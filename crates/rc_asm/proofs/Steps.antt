@@ -15,7 +15,7 @@ use Rattle.rc_expand.specs.declared.line.LineWord.{LineWord}
 use Rattle.rc_expand.specs.declared.line.LineWord.TheVariants.{Bare, Code, Org, End, Assert}
 use Rattle.rc_expand.specs.declared.line.Line.{Line}
 use Rattle.rc_expand.specs.Names.{or_else, entry_of}
-use Rattle.rc_expand.specs.NameTables.{with_name}
+use Rattle.rc_expand.specs.Heads.NameTables.{with_name}
 use Rattle.std.specs.Str.{bytes_eq}
 use Rattle.std.proofs.lemmas.Slice.Eq.{bytes_eq-Decides}
 use Rattle.rc_asm.specs.declared.fault.AsmKind.{AsmKind}

@@ -3,7 +3,7 @@
 use Rattle.std.specs.Prelude.{ℕ, List, [], ◌∷◌, Option, Some, None, if◌then◌else◌, Result, Err}
 use Rattle.std.specs.Option.{ok_or}
 use Rattle.rc_text.specs.declared.token.Token.{Token}
-use Rattle.rc_expand.specs.Lines.{is_dot}
+use Rattle.rc_expand.specs.Heads.Lines.{is_dot}
 use Rattle.rc_instr.specs.declared.instruction.Opcode.{Opcode}
 use Rattle.rc_instr.specs.declared.instruction.Opcode.TheVariants.{Dat, Jmp, Spl, Nop}
 use Rattle.rc_instr.specs.declared.instruction.Modifier.{Modifier}

@@ -2,7 +2,7 @@
 ghost use Rattle.std.specs.Prelude.{◌≡◌, ◌∷◌, [], map, ◌&&◌, option_map, None};
 ghost use Rattle.std.specs.Char.{to_ascii_lowercase};
 ghost use Rattle.rc_text.specs.Symbols.{LiesIn};
-ghost use Rattle.rc_expand.specs.Lines.{is_dot, bytes_of};
+ghost use Rattle.rc_expand.specs.Heads.Lines.{is_dot, bytes_of};
 ghost use Rattle.rc_asm.specs.Words.{entry, named, opcodes, modifiers, mode_at, is_comma, is_plain, opcode_at, modifier_at};
 
 use rc_instr::{Mode, Modifier, Opcode};

@@ -7,14 +7,14 @@ use Rattle.std.specs.Cmp.Lexicographic.{nat_list_eq_equiv}
 use Rattle.std.proofs.lemmas.List.{append-nil}
 use Rattle.rc_text.specs.declared.token.Token.{Token}
 use Rattle.rc_instr.specs.Rules.{RulesView}
-use Rattle.rc_expand.specs.declared.head.Head.{Head}
+use Rattle.rc_expand.specs.declared.heads.head.Head.{Head}
 use Rattle.rc_expand.specs.Names.{Table, entry_of, is_among}
 use Rattle.rc_expand.specs.Replace.{Equs}
 use Rattle.rc_expand.specs.Unroll.{all_of, is_known, is_taken}
 use Rattle.rc_expand.specs.Heads.{are_distinct, are_new, is_new, named_once, equ_of_line, equ_lines, equs_of}
 use Rattle.rc_expand.proofs.Each.{more}
 use Rattle.rc_expand.specs.Steps.{are_fresh, names_in, if_unknown, collected}
-use Rattle.rc_expand.proofs.TableFound.{seen_found}
+use Rattle.rc_expand.proofs.Reading.TableFound.{seen_found}
 
 -- both parts of a test
 both_true : (a b : Bool) → (a && b) ≡ true → (a ≡ true) × (b ≡ true)

@@ -13,12 +13,12 @@ use Rattle.rc_instr.specs.LoadText.{opcode_text}
 use Rattle.rc_instr.specs.declared.instruction.Opcode.{Opcode}
 use Rattle.rc_instr.specs.declared.instruction.Opcode.TheVariants as op
 use Rattle.rc_expand.specs.Limits.{MOST_TOKENS}
-use Rattle.rc_expand.specs.declared.head.Head.{Head}
-use Rattle.rc_expand.specs.declared.head.HeadWord.TheVariants as word
+use Rattle.rc_expand.specs.declared.heads.head.Head.{Head}
+use Rattle.rc_expand.specs.declared.heads.head.HeadWord.TheVariants as word
 use Rattle.rc_expand.specs.declared.line.Line.{Line}
 use Rattle.rc_expand.specs.declared.line.LineWord.TheVariants as line
-use Rattle.rc_expand.specs.Lines.{is_name_kind, is_line_end_kind, is_reserved_class, is_unjoined, bytes_of, is_free, word_of_name, word_of_kind, unlabelled, labelled, head_with_word, headed, head_of, line_of_tokens, line_then, lines_from, lines_read}
-use Rattle.rc_expand.specs.Nesting.{nesting_fault}
+use Rattle.rc_expand.specs.Heads.Lines.{is_name_kind, is_line_end_kind, is_reserved_class, is_unjoined, bytes_of, is_free, word_of_name, word_of_kind, unlabelled, labelled, head_with_word, headed, head_of, line_of_tokens, line_then, lines_from, lines_read}
+use Rattle.rc_expand.specs.Heads.Nesting.{nesting_fault}
 use Rattle.rc_expand.specs.Heads.{equ_lines, named_once, equ_of_line, equs_of, with_equs, heads_of}
 use Rattle.rc_expand.specs.Unroll.{all_of}
 

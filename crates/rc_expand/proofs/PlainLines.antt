@@ -6,12 +6,13 @@ use Rattle.rc_text.specs.declared.token.Token.{Token}
 use Rattle.rc_text.specs.Tokens.{tokens_of}
 use Rattle.rc_instr.specs.Rules.{RulesView}
 use Rattle.rc_expand.specs.Limits.{MOST_LINES, MOST_TOKENS, DEEPEST_BLOCK, DEEPEST_EQU}
-use Rattle.rc_expand.specs.declared.head.HeadWord.{HeadWord}
-use Rattle.rc_expand.specs.declared.head.HeadWord.TheVariants as word
-use Rattle.rc_expand.specs.Lines.{is_name_token}
+use Rattle.rc_expand.specs.declared.heads.head.HeadWord.{HeadWord}
+use Rattle.rc_expand.specs.declared.heads.head.HeadWord.TheVariants as word
+use Rattle.rc_expand.specs.Heads.Lines.{is_name_token}
 use Rattle.rc_expand.specs.Replace.{Replaced, replaced_both, one, spread, inner_at, within_limits, replaced_tokens, exempt_len, line_tokens}
 use Rattle.rc_expand.specs.Unroll.{all_of, unrolled_both, Deeper, one_line, outside, deeper_at, within_limit, unrolled}
-use Rattle.rc_expand.specs.Expansion.{kept_lines, finished, line_of, label_names, labels_are_new, labelled_once, replaced, expansion_by, IsExpansion}
+use Rattle.rc_expand.specs.Replace.Lines.{kept_lines, finished, line_of, label_names, labels_are_new, labelled_once, replaced}
+use Rattle.rc_expand.specs.Expansion.{expansion_by, IsExpansion}
 use Rattle.rc_expand.proofs.PlainHeads.{PlainWord, AnOpcode, AStart, PlainLine, ArePlain, plain_tokens, head_by, plain_heads, plain_line_by, plain_line, plain_lines, heads_there, heads_length}
 
 -- ---- without EQU names nothing is replaced

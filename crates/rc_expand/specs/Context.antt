@@ -2,12 +2,12 @@
 use Rattle.std.specs.Prelude.{ℕ, Bool, List, Option, option_map}
 use Rattle.rc_text.specs.declared.token.Token.{Token}
 use Rattle.rc_text.specs.Symbols.{name_of}
-use Rattle.rc_expand.specs.declared.head.Head.{Head}
+use Rattle.rc_expand.specs.declared.heads.head.Head.{Head}
 use Rattle.rc_expand.specs.declared.context.Context.{Context}
 use Rattle.rc_expand.specs.Names.{Table, table_of}
 use Rattle.rc_expand.specs.Replace.{EqusLie}
-use Rattle.rc_expand.specs.NameTables.{AreLinks}
-use Rattle.rc_expand.specs.Expansion.{is_new_label}
+use Rattle.rc_expand.specs.Heads.NameTables.{AreLinks}
+use Rattle.rc_expand.specs.Replace.Lines.{is_new_label}
 use Rattle.rc_expand.specs.Unroll.{Opening, Unrolled, outside, block_of, opening, count_of, is_known, is_new_counter, copies_of, copies_from, deeper_at, one_line, one_more_copy, copied_block}
 
 abbrev pub table : Context → Table

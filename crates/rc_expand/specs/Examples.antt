@@ -7,11 +7,12 @@ use Rattle.rc_instr.specs.Rules.{rules_view}
 use Rattle.rc_expand.specs.declared.line.Line.{Line}
 use Rattle.rc_text.specs.NameClasses.{is_opcode_word}
 use Rattle.rc_expand.specs.Names.{given_names}
-use Rattle.rc_expand.specs.Lines.{is_free, is_opcode, word_of_name, head_of, lines_read}
+use Rattle.rc_expand.specs.Heads.Lines.{is_free, is_opcode, word_of_name, head_of, lines_read}
 use Rattle.rc_expand.specs.Replace.{replaced_tokens}
 use Rattle.rc_expand.specs.Unroll.{copied_line, is_taken, count_of, opening, block_of, one_line, unrolled}
 use Rattle.rc_expand.specs.Heads.{equs_of, heads_of}
-use Rattle.rc_expand.specs.Expansion.{line_of, replaced, expansion_of}
+use Rattle.rc_expand.specs.Replace.Lines.{line_of, replaced}
+use Rattle.rc_expand.specs.Expansion.{expansion_of}
 
 abbrev lines_of : List ℕ → Option (List Line)
 lines_of text = expansion_of text [] (rules_view 16 20 4 4 4)

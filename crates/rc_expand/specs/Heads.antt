@@ -1,17 +1,21 @@
 -- The first part of the expansion: the lines of a text, and its EQU names (pMARS).
+pub mod Lines
+pub mod Nesting
+pub mod Faults
+pub mod NameTables
 use Rattle.std.specs.Prelude.{ℕ, zero, suc, pred, Bool, true, ◌&&◌, not, List, [], ◌∷◌, map, Option, Some, None, is_none, if◌then◌else◌, option_and_then, option_map}
 use Rattle.std.specs.List.{list_all}
 use Rattle.rc_text.specs.declared.token.Token.{Token}
 use Rattle.rc_text.specs.Symbols.{name_of}
 use Rattle.rc_text.specs.Tokens.{tokens_of}
 use Rattle.rc_instr.specs.Rules.{RulesView}
-use Rattle.rc_expand.specs.declared.head.Head.{Head}
-use Rattle.rc_expand.specs.declared.head.HeadWord.{HeadWord}
-use Rattle.rc_expand.specs.declared.head.HeadWord.TheVariants as word
+use Rattle.rc_expand.specs.declared.heads.head.Head.{Head}
+use Rattle.rc_expand.specs.declared.heads.head.HeadWord.{HeadWord}
+use Rattle.rc_expand.specs.declared.heads.head.HeadWord.TheVariants as word
 use Rattle.rc_expand.specs.Names.{is_among, Table}
-use Rattle.rc_expand.specs.Lines.{lines_read}
+use Rattle.rc_expand.specs.Heads.Lines.{lines_read}
 use Rattle.rc_expand.specs.Replace.{Equs}
-use Rattle.rc_expand.specs.Nesting.{nesting_fault}
+use Rattle.rc_expand.specs.Heads.Nesting.{nesting_fault}
 use Rattle.rc_expand.specs.Unroll.{plain_token, all_of, is_taken}
 
 abbrev pub equ_lines_by : HeadWord → ℕ → Head → (ℕ → List Head) → List Head

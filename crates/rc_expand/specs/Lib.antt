@@ -3,15 +3,10 @@
 -- nothing if a condition is broken; before unrolling, a text has one fault at one line.
 pub mod Limits
 pub mod Names
-pub mod Lines
 pub mod Replace
 pub mod Unroll
-pub mod Reached
-pub mod Nesting
 pub mod Heads
 pub mod Expansion
-pub mod Faults
 pub mod Steps
 pub mod Context
-pub mod NameTables
 pub mod Examples

@@ -1,13 +1,14 @@
 -- EQU names are replaced by their tokens (EQU is from pMARS).
+pub mod Lines
 use Rattle.std.specs.Prelude.{◌≡◌, ◌≤◌, ◌<◌, ◌⊎◌, ⊤, Result, Ok, Err, IfSome, IfNone, All, ℕ, zero, suc, ◌&&◌, ◌+◌, nat_le, List, [], ◌∷◌, ◌++◌, length, take, drop, Option, Some, None, if◌then◌else◌, option_and_then, option_map}
 use Rattle.rc_text.specs.declared.token.Token.{Token}
 use Rattle.rc_text.specs.Symbols.{name_of, LiesIn}
 use Rattle.rc_expand.specs.declared.replace.ReplaceFault.{ReplaceFault}
 use Rattle.rc_expand.specs.declared.replace.ReplaceFault.TheVariants.{OutOfMemory}
-use Rattle.rc_expand.specs.declared.head.HeadWord.{HeadWord}
-use Rattle.rc_expand.specs.declared.head.HeadWord.TheVariants as word
+use Rattle.rc_expand.specs.declared.heads.head.HeadWord.{HeadWord}
+use Rattle.rc_expand.specs.declared.heads.head.HeadWord.TheVariants as word
 use Rattle.rc_expand.specs.Limits.{MOST_TOKENS, MOST_REPLACEMENTS, DEEPEST_EQU}
-use Rattle.rc_expand.specs.Lines.{is_name_token, has_modifier}
+use Rattle.rc_expand.specs.Heads.Lines.{is_name_token, has_modifier}
 use Rattle.rc_expand.specs.Names.{entry_of}
 
 -- the EQU names with their tokens

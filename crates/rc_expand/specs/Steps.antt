@@ -6,19 +6,19 @@ use Rattle.std.specs.List.{list_all}
 use Rattle.rc_text.specs.declared.token.Token.{Token}
 use Rattle.rc_text.specs.Symbols.{name_of}
 use Rattle.rc_instr.specs.Rules.{RulesView}
-use Rattle.rc_expand.specs.declared.head.Head.{Head}
-use Rattle.rc_expand.specs.declared.head.HeadWord.{HeadWord}
-use Rattle.rc_expand.specs.declared.head.HeadWord.TheVariants as word
+use Rattle.rc_expand.specs.declared.heads.head.Head.{Head}
+use Rattle.rc_expand.specs.declared.heads.head.HeadWord.{HeadWord}
+use Rattle.rc_expand.specs.declared.heads.head.HeadWord.TheVariants as word
 use Rattle.rc_expand.specs.declared.line.Line.{Line}
 use Rattle.rc_expand.specs.declared.fault.ExpandFault.{ExpandFault}
 use Rattle.rc_expand.specs.declared.fault.ExpandKind.TheVariants.{OutOfMemory}
 use Rattle.rc_expand.specs.Names.{is_among, Table}
 use Rattle.rc_expand.specs.Replace.{Equs, equ_at}
-use Rattle.rc_expand.specs.declared.head.BlockStart.{BlockStart}
+use Rattle.rc_expand.specs.declared.unroll.opening.BlockStart.{BlockStart}
 use Rattle.rc_expand.specs.Unroll.{is_known, Opening}
 use Rattle.rc_expand.specs.Heads.{equ_of_line, Heads}
-use Rattle.rc_expand.specs.declared.reached.Reached.{Reached}
-use Rattle.rc_expand.specs.Reached.{reached_lines}
+use Rattle.rc_expand.specs.declared.unroll.reached.Reached.{Reached}
+use Rattle.rc_expand.specs.Unroll.Reached.{reached_lines}
 
 -- each name passes the test, is not in `seen`, and differs from those before it
 abbrev pub are_fresh : (List ℕ → Bool) → List (List ℕ) → List (List ℕ) → Bool

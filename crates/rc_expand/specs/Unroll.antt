@@ -1,5 +1,6 @@
 -- The second part of the expansion: FOR blocks are replaced by their copies (FOR, ROF and `&` are
 -- from pMARS).
+pub mod Reached
 use Rattle.std.specs.Prelude.{ℕ, zero, suc, Bool, true, false, ◌&&◌, ◌||◌, not, ◌+◌, nat_le, nat_lt, ℤ, pos, negsuc, List, [], ◌∷◌, ◌++◌, length, map, Option, Some, None, if◌then◌else◌, option_and_then, option_map, is_some, ◌≡◌, ◌≤◌, ◌<◌, Result, Ok, Err, IfSome, IfNone, ◌≢◌}
 use Rattle.std.specs.Global.{Vec}
 use Rattle.std.specs.Result.{result_ok}
@@ -8,9 +9,9 @@ use Rattle.rc_text.specs.declared.token.Kind.TheVariants.{Number}
 use Rattle.rc_text.specs.declared.token.Token.{Token}
 use Rattle.rc_text.specs.Symbols.{name_of, symbols_of}
 use Rattle.rc_text.specs.Reading.{evaluation_of}
-use Rattle.rc_expand.specs.declared.head.Head.{Head}
-use Rattle.rc_expand.specs.declared.head.HeadWord.{HeadWord}
-use Rattle.rc_expand.specs.declared.head.HeadWord.TheVariants as word
+use Rattle.rc_expand.specs.declared.heads.head.Head.{Head}
+use Rattle.rc_expand.specs.declared.heads.head.HeadWord.{HeadWord}
+use Rattle.rc_expand.specs.declared.heads.head.HeadWord.TheVariants as word
 use Rattle.rc_expand.specs.declared.fault.ExpandFault.{ExpandFault}
 use Rattle.rc_expand.specs.declared.fault.ExpandKind.{ExpandKind}
 use Rattle.rc_expand.specs.declared.fault.ExpandKind.TheVariants.{OutOfMemory, EquTooDeep, TooManyTokens}
@@ -19,7 +20,7 @@ use Rattle.rc_expand.specs.declared.replace.ReplaceFault.TheVariants as replace
 use Rattle.rc_instr.specs.Rules.{RulesView}
 use Rattle.rc_expand.specs.Limits.{MOST_LINES, MOST_COPIES, DEEPEST_BLOCK, MOST_JOINED}
 use Rattle.rc_expand.specs.Names.{Table, entry_of, given_names, CURLINE}
-use Rattle.rc_expand.specs.Lines.{choose, is_name_token, is_ampersand, is_colon, is_free, has_modifier, is_unjoined, bare_line}
+use Rattle.rc_expand.specs.Heads.Lines.{choose, is_name_token, is_ampersand, is_colon, is_free, has_modifier, is_unjoined, bare_line}
 use Rattle.rc_expand.specs.Replace.{Equs, replaced_tokens}
 
 -- what the FOR of a block says: its counter, the labels before the counter, and the number of

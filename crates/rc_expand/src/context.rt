@@ -4,10 +4,10 @@ ghost use Rattle.rc_text.specs.Symbols.{LiesIn, name_of};
 ghost use Rattle.rc_expand.specs.Context.{is_known_by};
 
 use crate::constants::Constants;
-use crate::links::Links;
+use crate::heads::equs::{Equ, equ_line};
+use crate::heads::table::NameTable;
 use crate::names::{GivenNames, is_taken};
-use crate::replace::{Equ, equ_line};
-use crate::table::NameTable;
+use crate::replace::links::Links;
 use rc_instr::Rules;
 use rc_text::Token;
 use std::alloc::Global;

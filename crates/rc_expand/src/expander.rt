@@ -3,26 +3,17 @@ ghost use Rattle.std.specs.Prelude.{◌≡◌, ◌≢◌, All, IfOk, IfErr, List
 ghost use Rattle.rc_expand.specs.declared.fault.ExpandKind.TheVariants.{OutOfMemory};
 ghost use Rattle.rc_expand.specs.declared.line.Line.{Line};
 ghost use Rattle.rc_expand.specs.Names.{table_of};
-ghost use Rattle.rc_expand.specs.Lines.{HeadLies};
-ghost use Rattle.rc_expand.specs.Replace.{EqusLie};
-ghost use Rattle.rc_expand.specs.Heads.{heads_of};
-ghost use Rattle.rc_expand.specs.Steps.{GivesHeads};
 ghost use Rattle.rc_expand.specs.Expansion.{LineLies, IsExpansion};
-ghost use Rattle.rc_expand.specs.Faults.{IsHeadFault, IsInTurn};
+ghost use Rattle.rc_expand.specs.Heads.Faults.{IsInTurn};
 
-use crate::blocks::check_blocks;
 use crate::constants::Constants;
 use crate::context::Context;
-use crate::equs::collect_equs;
 use crate::fault::{ExpandFault, placed};
-use crate::head::Head;
-use crate::labelling::replace_lines;
+use crate::heads::read_heads;
 use crate::line::{Expanded, Lines};
-use crate::links::link_equs;
 use crate::names::GivenNames;
-use crate::read::read_lines;
-use crate::replace::Equ;
-use crate::table::NameTable;
+use crate::replace::labelling::replace_lines;
+use crate::replace::links::link_equs;
 use crate::unroll::unroll;
 use rc_instr::Rules;
 use std::alloc::Global;
@@ -69,24 +60,6 @@ pub fn expand(
         Ok(expanded) => Ok(expanded),
         Err(found) => Err(placed(found)),
     }
-}
-
-// Reads the lines of a text, checks how its blocks nest, and collects its EQU names.
-#[tactic(auto, using(crate::proofs::FaultSteps::of_nesting, crate::proofs::FaultSteps::of_equs), unfolding(crate::specs::Heads::heads_of))]
-fn read_heads(
-    alloc: Global,
-    source: &[u8],
-    names: &GivenNames,
-) -> Result<(Vec<Head>, NameTable<Equ>), ExpandFault>
-    ensures heads { GivesHeads result (heads_of source.now (table_of names.now.constants.now.names.now names.now.constants.now.values.now) names.now.rules.now) }
-    ensures first { IfErr result (λ f. f.kind ≢ OutOfMemory → IsHeadFault source.now (table_of names.now.constants.now.names.now names.now.constants.now.values.now) names.now.rules.now f) }
-    ensures lines { IfOk result (λ p. All (HeadLies source.now) p.0.items) }
-    ensures equs { IfOk result (λ p. EqusLie source.now p.1) }
-{
-    let heads = read_lines(alloc, source)?;
-    check_blocks(&heads)?;
-    let equs = collect_equs(alloc, source, names, &heads)?;
-    Ok((heads, equs))
 }
 
 // Does what `expand` does, but an `OutOfMemory` may carry the line at which it came up.

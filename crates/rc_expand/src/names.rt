@@ -5,7 +5,7 @@ ghost use Rattle.std.specs.Int.Digits.{digits_of};
 ghost use Rattle.rc_expand.specs.Names.{entry_of, predefined, table_of};
 ghost use Rattle.rc_expand.specs.Unroll.{is_taken};
 ghost use Rattle.rc_text.specs.Symbols.{LiesIn, name_of, counter_text};
-ghost use Rattle.rc_expand.specs.NameTables.{joined_name};
+ghost use Rattle.rc_expand.specs.Heads.NameTables.{joined_name};
 
 use crate::constants::Constants;
 use rc_instr::Rules;

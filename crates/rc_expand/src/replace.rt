@@ -1,18 +1,25 @@
-//! Replacing EQU names by their tokens.
-ghost use Rattle.std.specs.Prelude.{◌≡◌, ℕ, List, [], ◌∷◌, ◌++◌, ◌+◌, ◌≤◌, ◌<◌, length, MatchResult, Some, None, option_map, All, IfSome, IfOk, OnOk, is_some};
-ghost use Rattle.rc_text.specs.Symbols.{LiesIn, name_of};
-ghost use Rattle.rc_expand.specs.Names.{entry_of};
-ghost use Rattle.rc_expand.specs.NameTables.{at_place, ArePlaces, AreLinks};
+//! The third pass: EQU lines are dropped, EQU names in the other lines are replaced by their
+//! tokens, in which EQU names are replaced in turn, and each label has to be new. The replacement
+//! itself is here, since the count of a FOR needs it too.
+ghost use Rattle.std.specs.Prelude.{◌≡◌, ℕ, List, [], ◌∷◌, ◌++◌, ◌+◌, ◌≤◌, ◌<◌, length, MatchResult, Some, None, option_map, All, IfSome, IfOk, OnOk};
+ghost use Rattle.rc_text.specs.Symbols.{LiesIn};
+ghost use Rattle.rc_expand.specs.Heads.NameTables.{at_place, ArePlaces, AreLinks};
+ghost use Rattle.rc_expand.specs.Unroll.{IsReplaceFault};
 ghost use Rattle.rc_expand.specs.Replace.{EqusLie, one, equ_at, inner_at, replaced_within, replaced_tokens, Adds, Replaces};
 
+pub(crate) mod finish;
+pub(crate) mod labelling;
+pub(crate) mod links;
+
+use crate::fault::{ExpandFault, ExpandKind};
+use crate::heads::equs::Equ;
+use crate::heads::table::NameTable;
+use crate::heads::words::clone_token;
 use crate::limits::{DEEPEST_EQU, MOST_REPLACEMENTS, MOST_TOKENS};
 use crate::line::Tokens;
-use crate::links::{Links, link_tokens};
-use crate::table::NameTable;
-use crate::words::clone_token;
+use crate::replace::links::{Links, link_tokens};
 use rc_text::Token;
 use std::alloc::{AllocError, AllocFailed, Global};
-use std::marker::Model;
 
 // Why EQU names cannot be replaced.
 #[derive(Clone, Copy, Debug, PartialEq, Eq)]
@@ -44,34 +51,16 @@ impl<T: Drop> From<AllocFailed<T>> for ReplaceFault {
     }
 }
 
-// The tokens of an EQU name, and the line that defines it.
-#[derive(Debug, Drop)]
-pub(crate) struct Equ {
-    tokens: Tokens,
-    line: u64,
-}
-
-impl Model for Equ {
-    ghost use Rattle.std.specs.Prelude.{List};
-    ghost use Rattle.rc_text.specs.declared.token.Token.{Token};
-
-    ghost Value = { List Token };
-
-    ghost view = { λ e. e.tokens };
-}
-
-impl Equ {
-    pub(crate) fn new(tokens: Tokens, line: u64) -> Self
-        ensures { result ≡ tokens }
-    {
-        Equ { tokens, line }
-    }
-
-    pub(crate) fn tokens(&self) -> &[Token]
-        ensures { result.now ≡ self.now }
-    {
-        self.tokens.as_slice()
-    }
+// Gives the fault of a replacement its line.
+pub(crate) fn replace_fault(line: u64, cause: ReplaceFault) -> ExpandFault
+    ensures { IsReplaceFault cause result.kind }
+{
+    let kind = match cause {
+        ReplaceFault::TooDeep => ExpandKind::EquTooDeep,
+        ReplaceFault::TooMany => ExpandKind::TooManyTokens,
+        ReplaceFault::OutOfMemory => ExpandKind::OutOfMemory,
+    };
+    ExpandFault { line, kind }
 }
 
 // The tokens so far, and the number of EQU names that were replaced in them.
@@ -79,17 +68,6 @@ impl Equ {
 pub(crate) struct Replacing {
     tokens: Vec<Token>,
     replacements: u32,
-}
-
-// Returns the line that defines the EQU name that a token is.
-pub(crate) fn equ_line(equs: &NameTable<Equ>, source: &[u8], token: &Token) -> Option<u64>
-    requires { LiesIn source.now token.now }
-    ensures { is_some result ≡ is_some (entry_of equs.now (name_of source.now token.now)) }
-{
-    match equs.get(source, token) {
-        Some(equ) => Some(equ.line),
-        None => None,
-    }
 }
 
 // Replaces EQU names, at most `DEEPEST_EQU` deep, within `MOST_TOKENS` and `MOST_REPLACEMENTS`.

@@ -1,18 +1,24 @@
-//! Unrolling: FOR blocks are replaced by their copies, outer blocks first.
+//! The second pass: each FOR block is replaced by copies of its lines, outer blocks first. In a
+//! copy the name of the counter becomes its number, or is joined to another name by `&`. No copy is
+//! kept: a line that is reached keeps where it is from, and is made when it is looked at.
 ghost use Rattle.std.specs.Prelude.{◌≡◌, ◌≢◌, List, ℕ, Bool, ◌++◌, ◌∷◌, [], ◌+◌, ◌<◌, ◌≤◌, length, All, IfOk, IfSome, OnOk, MatchOption, MatchResult, option_map, Some, None, true, false};
-ghost use Rattle.rc_expand.specs.Lines.{HeadLies};
+ghost use Rattle.rc_expand.specs.Heads.Lines.{HeadLies};
 ghost use Rattle.rc_expand.specs.Unroll.{Cut, cut, Unrolled, Appends, earlier_line, earlier_of, unrolled};
 ghost use Rattle.rc_expand.specs.Steps.{GivesLines, is_allowed};
-ghost use Rattle.rc_expand.specs.Reached.{line_in, lines_in, reached_part, reached_lines, ReachedLies};
+ghost use Rattle.rc_expand.specs.Unroll.Reached.{line_in, lines_in, reached_part, reached_lines, ReachedLies};
 ghost use Rattle.rc_expand.specs.declared.fault.ExpandKind.TheVariants.{OutOfMemory};
 ghost use Rattle.rc_expand.specs.Context.{table, IsContext, unrolled_by, block_by, copy_by, copies_by, unrolled_line_by};
 
+pub(crate) mod copy;
+pub(crate) mod opening;
+pub(crate) mod reached;
+
 use crate::context::Context;
 use crate::fault::{ExpandFault, ExpandKind, fault};
-use crate::head::{Head, HeadWord, Labels};
+use crate::heads::head::{Head, HeadWord, Labels};
 use crate::limits::{DEEPEST_BLOCK, MOST_LINES};
-use crate::opening::{begin_block, check_rof};
-use crate::reached::{Copying, Reached, clone_copies, is_short_line, make_line, with_copy};
+use crate::unroll::opening::{begin_block, check_rof};
+use crate::unroll::reached::{Copying, Reached, clone_copies, is_short_line, make_line, with_copy};
 
 // The lines so far, and the number of copies of blocks. Together they are at most `MOST_LINES`.
 #[derive(Drop)]

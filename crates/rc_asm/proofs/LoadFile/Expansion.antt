@@ -5,7 +5,7 @@ use Rattle.rc_text.specs.Tokens.{tokens_of}
 use Rattle.rc_instr.specs.Rules.{RulesView}
 use Rattle.rc_instr.specs.Warrior.{WarriorView}
 use Rattle.rc_instr.specs.declared.instruction.Instruction.{Instruction}
-use Rattle.rc_expand.specs.Lines.{is_line_end_kind}
+use Rattle.rc_expand.specs.Heads.Lines.{is_line_end_kind}
 use Rattle.rc_expand.specs.Expansion.{IsExpansion}
 use Rattle.rc_expand.proofs.PlainHeads.{AnOpcode, AStart, PlainLine, HaveNoEnd, IsPlain, ArePlain, plain_tokens, plain_lines}
 use Rattle.rc_expand.proofs.PlainLines.{plain_expands}

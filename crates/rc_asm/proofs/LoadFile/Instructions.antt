@@ -12,7 +12,7 @@ use Rattle.rc_text.specs.declared.token.Token.{Token}
 use Rattle.rc_text.specs.Values.{Meaning}
 use Rattle.rc_text.specs.Reading.{evaluation_of, before_operand, after_operand}
 use Rattle.rc_text.specs.Symbols.{Symbol, Numeral, Mark, symbol_of_kind, name_of, symbols_of}
-use Rattle.rc_expand.specs.Lines.{is_name_kind, is_dot, is_dot_kind, is_unjoined, bytes_of}
+use Rattle.rc_expand.specs.Heads.Lines.{is_name_kind, is_dot, is_dot_kind, is_unjoined, bytes_of}
 use Rattle.rc_instr.specs.LoadText.{opcode_text, modifier_text}
 use Rattle.rc_instr.specs.declared.instruction.Opcode.{Opcode}
 use Rattle.rc_instr.specs.declared.instruction.Opcode.TheVariants as op

@@ -1,4 +1,4 @@
-use Rattle.rc_expand.proofs.TablePlaces.{body_linked, body_lies}
+use Rattle.rc_expand.proofs.Reading.TablePlaces.{body_linked, body_lies}
 use Rattle.rc_expand.proofs.replace.body_at.Goals as goal
 
 pub returns-in-Some-at-clause-places : goal.returns-in-Some-at-clause-places

@@ -2,12 +2,12 @@ use Rattle.std.proofs.Common.{◌≡◌, refl, sym, ◌∙◌, ap, arith, subst,
 use Rattle.std.specs.Prelude.{Ok, Err, Some, MatchResult, option_map}
 use Rattle.std.proofs.lemmas.Result.{err_from_is_err_and}
 use Rattle.std.proofs.lemmas.List.Elements.{All-rest}
-use Rattle.rc_expand.specs.Lines.{HeadLies}
+use Rattle.rc_expand.specs.Heads.Lines.{HeadLies}
 use Rattle.rc_expand.specs.Unroll.{is_bare_rof, copied_line}
 use Rattle.rc_expand.specs.Context.{opening_by}
-use Rattle.rc_expand.specs.Reached.{line_in, lines_in, reached_lines}
-use Rattle.rc_expand.proofs.UnrollSteps.{more_at, fails_at, refused_at, nothing_at, counts_copy}
-use Rattle.rc_expand.proofs.ContextSteps.{refused_by, earlier_fails, copies_fail, block_ends, block_first_in, for_alone_in, line_first_in, no_lines_in, copy_first, no_copies, copy_is}
+use Rattle.rc_expand.specs.Unroll.Reached.{line_in, lines_in, reached_lines}
+use Rattle.rc_expand.proofs.Unrolling.UnrollSteps.{more_at, fails_at, refused_at, nothing_at, counts_copy}
+use Rattle.rc_expand.proofs.Unrolling.ContextSteps.{refused_by, earlier_fails, copies_fail, block_ends, block_first_in, for_alone_in, line_first_in, no_lines_in, copy_first, no_copies, copy_is}
 use Rattle.rc_expand.proofs.unroll.+unroll.Goals as goal
 
 pub append_block-returns-in_err-opening-clause-adds : goal.append_block-returns-in_err-opening-clause-adds

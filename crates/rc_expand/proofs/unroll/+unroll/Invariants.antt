@@ -1,11 +1,11 @@
 use Rattle.std.proofs.Common.{◌≤◌, ◌+◌, ◌-◌, ◌*◌, length, List, ℕ}
 use Rattle.std.specs.Prelude.{Result, All, option_map}
 use Rattle.rc_expand.specs.Limits.{MOST_LINES}
-use Rattle.rc_expand.specs.declared.head.Head.{Head}
+use Rattle.rc_expand.specs.declared.heads.head.Head.{Head}
 use Rattle.rc_expand.specs.declared.fault.ExpandFault.{ExpandFault}
-use Rattle.rc_expand.specs.Lines.{HeadLies}
+use Rattle.rc_expand.specs.Heads.Lines.{HeadLies}
 use Rattle.rc_expand.specs.Unroll.{Appends}
-use Rattle.rc_expand.specs.Reached.{lines_in, reached_lines, ReachedLies}
+use Rattle.rc_expand.specs.Unroll.Reached.{lines_in, reached_lines, ReachedLies}
 use Rattle.rc_expand.specs.Context.{unrolled_by, copies_by, copies_by_from}
 use Rattle.rc_expand.proofs.unroll.+unroll.Given as goal
 

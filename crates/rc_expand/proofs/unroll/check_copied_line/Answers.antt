@@ -1,10 +1,10 @@
 use Rattle.std.proofs.Common.{◌≡◌, sym, ap, length}
 use Rattle.std.proofs.lemmas.Bool.{eqb-true}
 use Rattle.rc_expand.specs.Context.{table}
-use Rattle.rc_expand.specs.Reached.{line_in}
-use Rattle.rc_expand.proofs.Reaching.{word_in}
-use Rattle.rc_expand.proofs.Short.{short_in, outside_in}
-use Rattle.rc_expand.proofs.UnrollSteps.{allowed_is}
+use Rattle.rc_expand.specs.Unroll.Reached.{line_in}
+use Rattle.rc_expand.proofs.Unrolling.Reaching.{word_in}
+use Rattle.rc_expand.proofs.Unrolling.Short.{short_in, outside_in}
+use Rattle.rc_expand.proofs.Unrolling.UnrollSteps.{allowed_is}
 use Rattle.rc_expand.proofs.unroll.check_copied_line.Goals as goal
 use Rattle.rc_expand.proofs.unroll.check_copied_line.Goals.{then-is_empty-via-then-is_empty, then-is_empty-via-else-is_empty+then-is_short_line}
 

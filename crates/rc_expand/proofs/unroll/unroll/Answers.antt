@@ -1,6 +1,6 @@
 use Rattle.std.proofs.lemmas.Result.{err_from_is_err_and}
-use Rattle.rc_expand.specs.Reached.{reached_lines}
-use Rattle.rc_expand.proofs.ContextSteps.{unrolled_is, not_unrolled}
+use Rattle.rc_expand.specs.Unroll.Reached.{reached_lines}
+use Rattle.rc_expand.proofs.Unrolling.ContextSteps.{unrolled_is, not_unrolled}
 use Rattle.rc_expand.proofs.unroll.unroll.Goals as goal
 
 pub returns-in_err-append_lines-clause-lines : goal.returns-in_err-append_lines-clause-lines

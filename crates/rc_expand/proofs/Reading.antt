@@ -1,0 +1,11 @@
+-- The steps of the first pass: lines, blocks, EQU names and their table.
+pub mod EquSteps
+pub mod ReadSteps
+pub mod HeadSteps
+pub mod EquLines
+pub mod TableFound
+pub mod TablePlaces
+pub mod FaultSteps
+pub mod TextFaults
+pub mod HeadFaults
+pub mod NestingSteps

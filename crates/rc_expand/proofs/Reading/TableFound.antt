@@ -1,0 +1,88 @@
+-- What a table of names finds, and what is fed for a name.
+use Rattle.std.proofs.Common.{◌≡◌, ℕ, ◌+◌, ◌<◌, ◌/◌, ◌%◌, Bool, true, false, cond, ◌&&◌, ◌||◌, not, List, [], ◌∷◌, ◌++◌, Option, None, Some, length, refl, sym, ◌∙◌, ap, arith}
+use Rattle.std.specs.Prelude.{is_some, if◌then◌else◌, flat_map, fold}
+use Rattle.std.specs.Hash as fed
+use Rattle.std.specs.Hash.{fed_then}
+use Rattle.std.specs.Str.{bytes_eq}
+use Rattle.std.specs.Cmp.Lexicographic.{nat_list_eq_equiv}
+use Rattle.std.specs.Map.{lookup}
+use Rattle.std.proofs.lemmas.List.Concat.{flat_map-append}
+use Rattle.rc_expand.specs.Names.{entry_of, is_among}
+use Rattle.rc_expand.specs.Steps.{names_in}
+use Rattle.rc_expand.specs.Heads.NameTables.{with_name}
+use Rattle.rc_expand.proofs.NameSteps.{number_text, number_text_step}
+
+unseen : (a b : Bool) → true ≡ (a && not b) → b ≡ false
+unseen true false h = refl
+unseen true true h = cc
+unseen false b h = cc
+
+none_there : {A : Type 0} (o : Option A) → is_some o ≡ false → o ≡ None
+none_there None h = refl
+none_there (Some x) h = cc
+
+-- an empty table has no name
+pub finds_none : {A : Type 0} (name : List ℕ) (table seen : List (List ℕ × A)) → table ≡ seen → length table ≡ 0 → None ≡ entry_of seen name
+finds_none name [] seen e h = ap (λ t. entry_of t name) e
+finds_none name (x ∷ xs) seen e h = absurd (omega arith)
+
+module _ {A : Type 0} (name : List ℕ) where
+  -- the first entry with the name
+  pub lookup_finds : (table : List (List ℕ × A)) → lookup (bytes_eq name) table ≡ entry_of table name
+  lookup_finds [] = refl
+  lookup_finds (e ∷ es) = ap (λ o. cond (bytes_eq name e.0) (Some e.1) o) (lookup_finds es)
+
+  -- whether a look-up in the entries finds the name
+  pub sees : (entries table : List (List ℕ × A)) → entries ≡ table → is_some (lookup (bytes_eq name) entries) ≡ is_some (entry_of table name)
+  sees entries table e = ap is_some (lookup_finds entries ∙ ap (λ t. entry_of t name) e)
+
+  -- what a look-up for a name finds
+  pub finds : (entries table : List (List ℕ × A)) (spelled : List ℕ) → entries ≡ table → spelled ≡ name → lookup (bytes_eq spelled) entries ≡ entry_of table name
+  finds entries table spelled e n = ap (λ s. lookup (bytes_eq s) entries) n ∙ (lookup_finds entries ∙ ap (λ t. entry_of t name) e)
+
+  -- and whether it does not
+  pub sees_none : (entries table : List (List ℕ × A)) → entries ≡ table → is_some (entry_of table name) ≡ false → lookup (bytes_eq name) entries ≡ None
+  sees_none entries table e h = none_there (lookup (bytes_eq name) entries) (sees entries table e ∙ h)
+
+  -- a name that is there leaves the table as it is
+  pub name_there : (table : List (List ℕ × A)) (value : A) → is_some (entry_of table name) ≡ true → with_name table name value ≡ table
+  name_there table value h = rw h
+
+  -- a name that is not there is one more
+  pub name_new : (table : List (List ℕ × A)) (value : A) → is_some (entry_of table name) ≡ false → with_name table name value ≡ table ++ ((name, value) ∷ [])
+  name_new table value h = rw h
+
+  -- the same, if the bytes are the bytes of the name
+  pub name_pushed : (table new : List (List ℕ × A)) (bytes : List ℕ) (value : A) → new ≡ with_name table bytes value → bytes ≡ name → is_some (entry_of table name) ≡ false
+      → new ≡ table ++ ((name, value) ∷ [])
+  name_pushed table new bytes value e b h = e ∙ (ap (λ n. with_name table n value) b ∙ name_new table value h)
+
+  -- it is found where it is among the names
+  pub seen_found : (table : List (List ℕ × A)) → is_some (entry_of table name) ≡ is_among (names_in table) name
+  seen_found [] = refl
+  seen_found (e ∷ es) = by_name (bytes_eq name e.0) (bytes_eq e.0 name) (nat_list_eq_equiv.symm name e.0) (seen_found es) where
+    by_name : (b c : Bool) → b ≡ c → is_some (entry_of es name) ≡ is_among (names_in es) name → is_some (if b then Some e.1 else entry_of es name) ≡ (c || is_among (names_in es) name)
+    by_name true true s h = refl
+    by_name true false s h = cc
+    by_name false true s h = cc
+    by_name false false s h = h
+
+  names_push : (table : List (List ℕ × A)) (value : A) → names_in (table ++ ((name, value) ∷ [])) ≡ names_in table ++ (name ∷ [])
+  names_push [] value = refl
+  names_push (e ∷ es) value = ap (λ ns. e.0 ∷ ns) (names_push es value)
+
+  -- a fresh name is one more of the names
+  pub fresh_pushed : (table new : List (List ℕ × A)) (bytes : List ℕ) (value : A) (test : Bool) → new ≡ with_name table bytes value → bytes ≡ name → true ≡ (test && not (is_among (names_in table) name))
+      → names_in new ≡ names_in table ++ (name ∷ [])
+  fresh_pushed table new bytes value test e b h =
+      ap names_in (name_pushed table new bytes value e b (seen_found table ∙ unseen test (is_among (names_in table) name) h)) ∙ names_push table value
+
+module _ {S : Type 0} (write : S → List ℕ → S) where
+  -- one list of bytes after another
+  pub fed_more : (s t u : S) (a b : List ℕ) → t ≡ fold write s (flat_map fed.u8 a) → u ≡ fold write t (flat_map fed.u8 b) → u ≡ fold write s (flat_map fed.u8 (a ++ b))
+  fed_more s t u a b p q = fed_then write s t u (flat_map fed.u8 a) (flat_map fed.u8 b) p q ∙ ap (fold write s) (sym (flat_map-append fed.u8 a b))
+
+  -- the last digit after the others
+  pub fed_digit : (s t u : S) (n : ℕ) → 0 < n → t ≡ fold write s (flat_map fed.u8 (number_text (n / 10))) → u ≡ fold write t (fed.u8 (48 + n % 10))
+      → u ≡ fold write s (flat_map fed.u8 (number_text n))
+  fed_digit s t u n h p q = fed_more s t u (number_text (n / 10)) ((48 + n % 10) ∷ []) p q ∙ ap (λ x. fold write s (flat_map fed.u8 x)) (sym (number_text_step n h))

@@ -1,0 +1,144 @@
+-- Steps of the copies.
+use Rattle.std.proofs.Common.{◌≡◌, ℕ, ◌+◌, ◌≤◌, ◌<◌, Bool, true, false, List, [], ◌∷◌, ◌++◌, get_or, take, drop, drop-cons, length, length-drop, refl, arith, sym, ◌∙◌, ap, append_assoc, add-one, Option, Some, None, subst}
+use Rattle.std.specs.Prelude.{◌&&◌, not, option_map, option_and_then, nat_lt, if◌then◌else◌, All}
+use Rattle.std.proofs.lemmas.List.{drop_all, drop-drop}
+use Rattle.std.proofs.lemmas.Bool.Decides.{nat_tests}
+use Rattle.rc_text.specs.declared.token.Token.{Token}
+use Rattle.rc_text.specs.declared.token.Kind.TheVariants.{Number}
+use Rattle.rc_text.specs.Symbols.{LiesIn}
+use Rattle.rc_expand.specs.Limits.{MOST_JOINED}
+use Rattle.rc_expand.specs.Heads.Lines.{is_name_token, is_ampersand, has_modifier}
+use Rattle.rc_expand.specs.Unroll.{is_use, numbered, joins, joined, copied_from, copied_tokens, copied_code}
+
+-- an item and what follows it
+pub split_at : {A : Type 0} (xs : List A) (i : ℕ) (x : A) → i < length xs → x ≡ get_or xs i x → drop i xs ≡ x ∷ drop (i + 1) xs
+split_at xs i x h e =
+    let d : drop i xs ≡ get_or xs i x ∷ drop (i + 1) xs = rw add-one (drop-cons xs i x h) in
+    d ∙ ap (λ y. y ∷ drop (i + 1) xs) (sym e)
+
+split_two : (ts : List Token) (i : ℕ) (u v : Token) → i + 1 < length ts → u ≡ get_or ts i u → v ≡ get_or ts (i + 1) v → drop i ts ≡ u ∷ v ∷ drop (i + 2) ts
+split_two ts i u v h e f =
+    let n : i + 1 + 1 ≡ i + 2 = omega arith in
+    split_at ts i u (omega arith) e ∙ ap (λ r. u ∷ r) (split_at ts (i + 1) v h f ∙ ap (λ k. v ∷ drop k ts) n)
+
+split_last : (ts : List Token) (i : ℕ) (u : Token) → i < length ts → length ts ≤ i + 1 → u ≡ get_or ts i u → drop i ts ≡ u ∷ []
+split_last ts i u h k e = split_at ts i u h e ∙ ap (λ r. u ∷ r) (drop_all (i + 1) ts k)
+
+same_option : (o : Option (List Token)) → o ≡ option_map (λ r. [] ++ r) o
+same_option None = refl
+same_option (Some r) = refl
+
+lies_anyway : (source : List ℕ) (n : ℕ) (t : Token) (b : Bool) → LiesIn source t → LiesIn source (if b then record t { kind = Number n } else t)
+lies_anyway source n t true h = record { order = h.order; inside = h.inside }
+lies_anyway source n t false h = h
+
+-- a number in place of a counter keeps the span
+pub numbered_lies : (source counter : List ℕ) (n : ℕ) (made : Bool) (t u : Token) → u ≡ numbered source counter n made t → LiesIn source t → LiesIn source u
+numbered_lies source counter n made t u e h = subst (LiesIn source) (sym e) (lies_anyway source n t (not made && is_use source counter t) h)
+
+-- a name keeps its span when a counter is joined to it
+pub joined_lies : (source : List ℕ) (t : Token) (ks : List ℕ) → LiesIn source t → LiesIn source (record t { joined = ks })
+joined_lies source t ks h = record { order = h.order; inside = h.inside }
+
+module _ (source : List ℕ) (counter : List ℕ) where
+  joins_short_list : (t : Token) (ts : List Token) → length ts ≤ 1 → joins source counter t ts ≡ false
+  joins_short_list t [] h = refl
+  joins_short_list t (u ∷ []) h = refl
+  joins_short_list t (u ∷ v ∷ ts) h = absurd (omega arith)
+
+  -- the last token has nothing after it to join
+  pub joins_short : (t : Token) (ts : List Token) (i : ℕ) → length ts ≤ i + 1 → joins source counter t (drop i ts) ≡ false
+  joins_short t ts i h = joins_short_list t (drop i ts) (omega (arith, length-drop i ts))
+
+  -- whether the next two tokens join, by what they are
+  pub joins_at : (t : Token) (ts : List Token) (i : ℕ) (u v : Token) → i + 1 < length ts → u ≡ get_or ts i u → v ≡ get_or ts (i + 1) v
+      → joins source counter t (drop i ts) ≡ (is_name_token t && (is_ampersand u && is_use source counter v))
+  joins_at t ts i u v h e f = ap (joins source counter t) (split_two ts i u v h e f)
+
+  module _ (k : ℕ) where
+    pub from_list : (m : Bool) (t : Token) (ts : List Token) → joins source counter t ts ≡ true → copied_from source counter k m t ts ≡ option_and_then (λ j. copied_from source counter k true j (drop 2 ts)) (joined source k t)
+    from_list m t [] h = cc
+    from_list m t (u ∷ []) h = cc
+    from_list m t (u ∷ v ∷ ts) h = rw h
+
+    -- a name that is joined no more
+    pub passed_list : (m : Bool) (t u : Token) (ts : List Token) → joins source counter t (u ∷ ts) ≡ false
+        → copied_from source counter k m t (u ∷ ts) ≡ option_map (λ r. numbered source counter k m t ∷ r) (copied_from source counter k false u ts)
+    passed_list m t u [] h = refl
+    passed_list m t u (v ∷ ts) h = rw h
+
+    -- a token that joins nothing is copied
+    pub is_passed : (m : Bool) (t u : Token) (ts : List Token) (i : ℕ) → i < length ts → u ≡ get_or ts i u → joins source counter t (drop i ts) ≡ false
+        → copied_from source counter k m t (drop i ts) ≡ option_map (λ r. numbered source counter k m t ∷ r) (copied_from source counter k false u (drop (i + 1) ts))
+    is_passed m t u ts i h e j =
+        let s = split_at ts i u h e in
+        ap (copied_from source counter k m t) s ∙ passed_list m t u (drop (i + 1) ts) (ap (joins source counter t) (sym s) ∙ j)
+
+    -- the tokens so far, and what is still to come
+    abbrev pub Rest : List Token → List Token → Option (List Token) → Type 0
+    Rest tokens copied rest = copied_tokens source counter k tokens ≡ option_map (λ r. copied ++ r) rest
+
+    more : (copied : List Token) (t : Token) (o : Option (List Token)) → option_map (λ r. copied ++ r) (option_map (λ r. t ∷ r) o) ≡ option_map (λ r. (copied ++ (t ∷ [])) ++ r) o
+    more copied t None = refl
+    more copied t (Some r) = ap Some (sym (append_assoc copied (t ∷ []) r))
+
+    -- the copy goes on after a token
+    pub rest_passed : (tokens copied : List Token) (m : Bool) (t u : Token) (i : ℕ) → i < length tokens → u ≡ get_or tokens i u → false ≡ joins source counter t (drop i tokens)
+        → Rest tokens copied (copied_from source counter k m t (drop i tokens)) → Rest tokens (copied ++ (numbered source counter k m t ∷ [])) (copied_from source counter k false u (drop (i + 1) tokens))
+    rest_passed tokens copied m t u i h e j r = r ∙ (ap (option_map (λ r. copied ++ r)) (is_passed m t u tokens i h e (sym j)) ∙ more copied (numbered source counter k m t) (copied_from source counter k false u (drop (i + 1) tokens)))
+
+    drop_two : (ts : List Token) (i : ℕ) → drop 2 (drop i ts) ≡ drop (i + 2) ts
+    drop_two ts i = drop-drop 2 i ts
+
+    joined_at : (m : Bool) (t : Token) (ts : List Token) (i : ℕ) → true ≡ joins source counter t (drop i ts)
+        → copied_from source counter k m t (drop i ts) ≡ option_and_then (λ j. copied_from source counter k true j (drop (i + 2) ts)) (joined source k t)
+    joined_at m t ts i j = from_list m t (drop i ts) (sym j) ∙ ap (λ r. option_and_then (λ n. copied_from source counter k true n r) (joined source k t)) (drop_two ts i)
+
+    room : (t : Token) → length t.joined < MOST_JOINED → joined source k t ≡ Some (record t { joined = t.joined ++ (k ∷ []) })
+    room t h = let e : nat_lt (length t.joined) MOST_JOINED ≡ true = grind (arith, nat_tests) in rw e
+
+    -- the copy goes on after a counter that is joined
+    pub rest_joined : (tokens copied : List Token) (m : Bool) (t : Token) (i : ℕ) → length t.joined < MOST_JOINED → true ≡ joins source counter t (drop i tokens)
+        → Rest tokens copied (copied_from source counter k m t (drop i tokens)) → Rest tokens copied (copied_from source counter k true (record t { joined = t.joined ++ (k ∷ []) }) (drop (i + 2) tokens))
+    rest_joined tokens copied m t i h j r =
+        r ∙ ap (option_map (λ r. copied ++ r)) (joined_at m t tokens i j ∙ ap (option_and_then (λ n. copied_from source counter k true n (drop (i + 2) tokens))) (room t h))
+
+    -- the copy begins with the first token
+    pub rest_first : (tokens : List Token) (t : Token) → 0 < length tokens → t ≡ get_or tokens 0 t → Rest tokens [] (copied_from source counter k false t (drop 1 tokens))
+    rest_first [] t h e = absurd (omega arith)
+    rest_first (u ∷ ts) t h e = ap (λ v. copied_from source counter k false v ts) (sym e) ∙ same_option (copied_from source counter k false t ts)
+
+-- an equal item
+pub same_read : {A : Type 0} (xs : List A) (i : ℕ) (x y : A) → x ≡ y → y ≡ get_or xs i y → x ≡ get_or xs i x
+same_read xs i x y e h = subst (λ z. z ≡ get_or xs i z) (sym e) h
+
+-- a token of a list lies where all do
+pub item_lies : (source : List ℕ) (ts : List Token) (i : ℕ) (t : Token) → i < length ts → t ≡ get_or ts i t → All (LiesIn source) ts → LiesIn source t
+item_lies source ts i t h e all = subst (LiesIn source) (sym e) (all i t h)
+
+-- after an opcode word and a dot the modifier is left alone
+module _ (source : List ℕ) (counter : List ℕ) (k : ℕ) where
+  -- a line of one or two tokens has no modifier
+  pub code_short : (ts : List Token) → length ts < 3 → copied_code source counter k ts ≡ copied_tokens source counter k ts
+  code_short [] h = refl
+  code_short (t ∷ []) h = refl
+  code_short (t ∷ u ∷ []) h = refl
+  code_short (t ∷ u ∷ v ∷ ts) h = absurd (omega arith)
+
+  -- without a modifier all tokens are copied
+  pub code_plain : (ts : List Token) (t u v : Token) → 3 ≤ length ts → t ≡ get_or ts 0 t → u ≡ get_or ts 1 u → v ≡ get_or ts 2 v → false ≡ has_modifier source t u v
+      → copied_code source counter k ts ≡ copied_tokens source counter k ts
+  code_plain [] t u v h e f g m = absurd (omega arith)
+  code_plain (a ∷ []) t u v h e f g m = absurd (omega arith)
+  code_plain (a ∷ b ∷ []) t u v h e f g m = absurd (omega arith)
+  code_plain (a ∷ b ∷ c ∷ ts) t u v h e f g m =
+      let n : has_modifier source a b c ≡ false = rw (← e, ← f, ← g) (sym m) in rw n
+
+  -- an opcode word, a dot and a modifier are left alone
+  pub code_kept : (ts : List Token) (t u v : Token) → 3 ≤ length ts → t ≡ get_or ts 0 t → u ≡ get_or ts 1 u → v ≡ get_or ts 2 v → true ≡ has_modifier source t u v
+      → copied_code source counter k ts ≡ option_map (λ r. take 3 ts ++ r) (copied_tokens source counter k (drop 3 ts))
+  code_kept [] t u v h e f g m = absurd (omega arith)
+  code_kept (a ∷ []) t u v h e f g m = absurd (omega arith)
+  code_kept (a ∷ b ∷ []) t u v h e f g m = absurd (omega arith)
+  code_kept (a ∷ b ∷ c ∷ ts) t u v h e f g m =
+      let n : has_modifier source a b c ≡ true = rw (← e, ← f, ← g) (sym m) in rw n

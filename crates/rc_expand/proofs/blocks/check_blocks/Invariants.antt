@@ -1,8 +1,0 @@
-use Rattle.std.proofs.Common.{◌≡◌, ◌≤◌, drop}
-use Rattle.rc_expand.specs.Limits.{DEEPEST_BLOCK}
-use Rattle.rc_expand.specs.Nesting.{nesting_fault}
-use Rattle.rc_expand.proofs.blocks.check_blocks.Given as goal
-
-abbrev pub invariant-loop-i : goal.invariant-loop-i
-invariant-loop-i l =
-    (l.opened ≤ DEEPEST_BLOCK) × (nesting_fault 0 0 l.heads ≡ nesting_fault l.opened l.outermost (drop l.i l.heads))

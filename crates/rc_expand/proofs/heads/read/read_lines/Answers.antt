@@ -1,0 +1,51 @@
+use Rattle.std.proofs.Common.{◌≡◌, sym, ◌∙◌, ap, subst, false, []}
+use Rattle.std.proofs.lemmas.List.Elements.{All-rest, All-nil, All-same, All-head, All-push}
+use Rattle.rc_text.specs.Tokens.{Ahead}
+use Rattle.rc_text.specs.Symbols.{LiesIn}
+use Rattle.rc_text.proofs.Spans.{all_inside}
+use Rattle.rc_expand.specs.Heads.Lines.{HeadLies, has_end, line_of_tokens}
+use Rattle.rc_expand.proofs.Reading.ReadSteps.{SoFar, at_first, at_token, at_line}
+use Rattle.rc_expand.proofs.Reading.TextFaults.{at_beginning, after_token}
+use Rattle.rc_expand.proofs.heads.read.read_lines.Goals as goal
+
+pub loop-line-init : goal.loop-line-init
+loop-line-init c =
+    let P : Ahead → Type 0 = λ a. SoFar c.args.source.now [] a.ending [] a.tokens in
+    let first : SoFar c.args.source.now c.new-heads.result.items c.new-lexer.result.ending c.new-line.result.items c.new-lexer.result.tokens =
+    rw (c.new-heads.ensures.items, c.new-line.ensures.items) (subst P (sym c.new-lexer.ensures.tokens) (at_first c.args.source.now)) in (
+      first,
+      all_inside c.args.source.now 0 c.new-lexer.result.tokens c.new-lexer.ensures.spans,
+      All-same (LiesIn c.args.source.now) c.new-line.result.items [] c.new-line.ensures.items (All-nil (LiesIn c.args.source.now)),
+      All-same (HeadLies c.args.source.now) c.new-heads.result.items [] c.new-heads.ensures.items (All-nil (HeadLies c.args.source.now)),
+      at_beginning c.args.source.now c.new-lexer.result c.new-lexer.ensures.tokens,
+    )
+
+pub loop-line-preserved-then-is_line_end : goal.loop-line-preserved-then-is_line_end
+loop-line-preserved-then-is_line_end c =
+    let took = rw c.in-Some.is at c.in_ok-token.ensures in
+    let ended : false ≡ has_end (line_of_tokens c.args.source.now c.loop-line.line.items) =
+    sym c.if-branch.false ∙ (c.in_ok-push_line.ensures.ended ∙ ap (λ l. has_end (line_of_tokens c.args.source.now l)) c.deref.ensures.value) in
+    let r = at_line c.args.source.now c.loop-line.heads.items c.loop-line.lexer.ending c.loop-line.line.items c.in-Some.token c.next_token.new.lexer.tokens c.loop-line.lexer.tokens took.0 c.if-is_line_end.ensures ended c.loop-line.invariant.0 in
+    let first : SoFar c.args.source.now c.push_line.new.heads.items c.next_token.new.lexer.ending c.clear.new.self.items c.next_token.new.lexer.tokens =
+    rw (c.in_ok-push_line.ensures.heads, took.1, c.deref.ensures.value, c.clear.ensures.items) r in (
+      first,
+      All-rest (LiesIn c.args.source.now) c.in-Some.token c.next_token.new.lexer.tokens c.loop-line.lexer.tokens took.0 c.loop-line.invariant.1,
+      All-same (LiesIn c.args.source.now) c.clear.new.self.items [] c.clear.ensures.items (All-nil (LiesIn c.args.source.now)),
+      c.in_ok-push_line.ensures.after,
+      after_token c.args.source.now c.loop-line.lexer c.next_token.new.lexer c.in-Some.token took.0 took.1 took.3 c.loop-line.invariant.4,
+    )
+
+pub loop-line-preserved : goal.loop-line-preserved
+loop-line-preserved c =
+    let took = rw c.in-Some.is at c.in_ok-token.ensures in
+    let r = at_token c.args.source.now c.loop-line.heads.items c.loop-line.lexer.ending c.loop-line.line.items c.in-Some.token c.next_token.new.lexer.tokens c.loop-line.lexer.tokens took.0 c.if-is_line_end.ensures c.loop-line.invariant.0 in
+    let first : SoFar c.args.source.now c.loop-line.heads.items c.next_token.new.lexer.ending c.push.new.self.items c.next_token.new.lexer.tokens =
+    rw (c.in_ok-push.ensures.items, took.1) r in
+    let lies : LiesIn c.args.source.now c.in-Some.token =
+    All-head (LiesIn c.args.source.now) c.in-Some.token c.next_token.new.lexer.tokens (All-same (LiesIn c.args.source.now) _ c.loop-line.lexer.tokens (sym took.0) c.loop-line.invariant.1) in (
+      first,
+      All-rest (LiesIn c.args.source.now) c.in-Some.token c.next_token.new.lexer.tokens c.loop-line.lexer.tokens took.0 c.loop-line.invariant.1,
+      All-same (LiesIn c.args.source.now) c.push.new.self.items _ c.in_ok-push.ensures.items (All-push (LiesIn c.args.source.now) c.loop-line.line.items c.in-Some.token c.loop-line.invariant.2 lies),
+      c.loop-line.invariant.3,
+      after_token c.args.source.now c.loop-line.lexer c.next_token.new.lexer c.in-Some.token took.0 took.1 took.3 c.loop-line.invariant.4,
+    )

@@ -1,9 +1,0 @@
-use Rattle.std.proofs.Common.{◌≡◌, ◌++◌, map, drop}
-use Rattle.rc_expand.specs.Replace.{equ_at}
-use Rattle.rc_expand.specs.NameTables.{at_place}
-use Rattle.rc_expand.proofs.links.link_tokens.Given as goal
-
--- the tokens that are left make the whole
-abbrev pub invariant-loop-token : goal.invariant-loop-token
-invariant-loop-token l =
-    map (at_place l.equs) l.places.items ++ map (equ_at l.source l.equs) (drop l.token-index l.tokens) ≡ map (equ_at l.source l.equs) l.tokens

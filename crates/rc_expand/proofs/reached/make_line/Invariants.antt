@@ -1,8 +1,0 @@
-use Rattle.std.proofs.Common.{◌≡◌, take}
-use Rattle.rc_expand.specs.Lines.{HeadLies}
-use Rattle.rc_expand.specs.Reached.{line_in}
-use Rattle.rc_expand.proofs.reached.make_line.Given as goal
-
--- the line as it stands in the copies so far
-abbrev pub invariant-loop-copy : goal.invariant-loop-copy
-invariant-loop-copy l = (l.made ≡ line_in l.source (take l.copy-index l.copies) l.head) × HeadLies l.source l.made

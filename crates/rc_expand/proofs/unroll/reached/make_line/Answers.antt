@@ -1,0 +1,17 @@
+use Rattle.std.proofs.Common.{◌≡◌, sym, ◌∙◌, ap, take, get_or, arith}
+use Rattle.std.proofs.lemmas.List.{take_more}
+use Rattle.rc_expand.specs.Unroll.{copied_line}
+use Rattle.rc_expand.specs.Unroll.Reached.{line_in}
+use Rattle.rc_expand.proofs.Unrolling.Reaching.{line_more}
+use Rattle.rc_expand.proofs.unroll.reached.make_line.Goals as goal
+
+pub loop-copy-preserved : goal.loop-copy-preserved
+loop-copy-preserved c =
+    let s = c.args.source.now in
+    let i = c.loop-copy.copy-index in (
+      c.in_ok-made-2.ensures.copied
+          ∙ (ap (copied_line s _ _) c.loop-copy.invariant.0
+          ∙ (sym (line_more s (take i c.args.copies.now) (get_or c.args.copies.now i _) c.args.head.now)
+          ∙ ap (λ cs. line_in s cs c.args.head.now) (sym (take_more c.args.copies.now i _ c.loop-copy-test.true)))),
+      c.in_ok-made-2.ensures.inside,
+    )

@@ -1,0 +1,8 @@
+use Rattle.std.proofs.Common.{◌≡◌, take}
+use Rattle.rc_expand.specs.Heads.Lines.{HeadLies}
+use Rattle.rc_expand.specs.Unroll.Reached.{line_in}
+use Rattle.rc_expand.proofs.unroll.reached.make_line.Given as goal
+
+-- the line as it stands in the copies so far
+abbrev pub invariant-loop-copy : goal.invariant-loop-copy
+invariant-loop-copy l = (l.made ≡ line_in l.source (take l.copy-index l.copies) l.head) × HeadLies l.source l.made

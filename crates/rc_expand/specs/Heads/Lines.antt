@@ -1,0 +1,202 @@
+-- Lines: labels, a word, and what comes after it (labels and colons are from the 1994 draft and
+-- pMARS, names joined by `&` from pMARS).
+use Rattle.std.specs.Prelude.{ℕ, suc, Bool, true, false, ◌&&◌, ◌||◌, not, List, [], ◌∷◌, ◌++◌, Option, Some, None, if◌then◌else◌, option_map, IfSome, All, codes, slice_range}
+use Rattle.rc_text.specs.declared.token.Sign.TheVariants.{Ampersand, Colon, Dot}
+use Rattle.rc_text.specs.declared.token.Kind.{Kind}
+use Rattle.rc_text.specs.declared.token.Kind.TheVariants.{Name, Sign as SignOf, Assert, LineEnd}
+use Rattle.rc_text.specs.declared.token.Token.{Token}
+use Rattle.rc_text.specs.declared.fault.LexFault.{LexFault}
+use Rattle.rc_text.specs.declared.class.NameClass.{NameClass}
+use Rattle.rc_text.specs.declared.class.NameClass.TheVariants.{Reserved}
+use Rattle.rc_text.specs.Bytes.{is_same_word}
+use Rattle.rc_text.specs.NameClasses.{class_of, is_opcode_word}
+use Rattle.rc_text.specs.Tokens.{TokenList}
+use Rattle.rc_text.specs.Symbols.{LiesIn}
+use Rattle.rc_expand.specs.declared.heads.head.Head.{Head}
+use Rattle.rc_expand.specs.declared.heads.head.HeadWord.{HeadWord}
+use Rattle.rc_expand.specs.declared.heads.head.HeadWord.TheVariants as word
+
+-- like `if`, but only the chosen branch is computed
+abbrev pub choose : {A : Type 0} → Bool → (Unit {0} → A) → (Unit {0} → A) → A
+choose true f g = f tt
+choose false f g = g tt
+
+-- kinds of tokens
+abbrev pub is_name_kind : Kind → Bool
+is_name_kind Name = true
+is_name_kind _ = false
+
+abbrev pub is_name_token : Token → Bool
+is_name_token t = is_name_kind t.kind
+
+abbrev pub is_line_end_kind : Kind → Bool
+is_line_end_kind LineEnd = true
+is_line_end_kind _ = false
+
+abbrev pub is_ampersand_kind : Kind → Bool
+is_ampersand_kind (SignOf Ampersand) = true
+is_ampersand_kind _ = false
+
+abbrev pub is_ampersand : Token → Bool
+is_ampersand t = is_ampersand_kind t.kind
+
+abbrev pub is_colon_kind : Kind → Bool
+is_colon_kind (SignOf Colon) = true
+is_colon_kind _ = false
+
+abbrev pub is_colon : Token → Bool
+is_colon t = is_colon_kind t.kind
+
+abbrev pub is_dot_kind : Kind → Bool
+is_dot_kind (SignOf Dot) = true
+is_dot_kind _ = false
+
+abbrev pub is_dot : Token → Bool
+is_dot t = is_dot_kind t.kind
+
+-- reserved: an opcode or a directive, in any case
+abbrev pub is_reserved_class : NameClass → Bool
+is_reserved_class Reserved = true
+is_reserved_class _ = false
+
+abbrev pub is_unjoined : List ℕ → Bool
+is_unjoined [] = true
+is_unjoined (k ∷ ks) = false
+
+-- the labels that a line begins with, and the tokens after them
+pub record Labelled : Type 0 where
+  pub labels : List (List Token)
+  pub after : List Token
+
+abbrev pub unlabelled : List Token → Labelled
+unlabelled ts = record { labels = []; after = ts }
+
+-- a token begins a label: it is its only token, or `into_label` puts more before it
+abbrev pub begin_label : Token → Labelled → Labelled
+begin_label t l = record { labels = (t ∷ []) ∷ l.labels; after = l.after }
+
+abbrev pub into_first : Token → List (List Token) → List (List Token)
+into_first t [] = (t ∷ []) ∷ []
+into_first t (l ∷ ls) = (t ∷ l) ∷ ls
+
+-- a token goes to the front of the first label
+abbrev pub into_label : Token → Labelled → Labelled
+into_label t l = record { labels = into_first t l.labels; after = l.after }
+
+-- the directive that a name spells, in any case; any other name is code
+unfoldable pub word_of_name : List ℕ → HeadWord
+word_of_name name =
+    if is_same_word (codes "ORG") name then word.Org else
+    if is_same_word (codes "END") name then word.End else
+    if is_same_word (codes "EQU") name then word.Equ else
+    if is_same_word (codes "FOR") name then word.For else
+    if is_same_word (codes "ROF") name then word.Rof else
+    word.Code
+
+abbrev pub word_of_kind : Kind → List ℕ → HeadWord
+word_of_kind Name name = word_of_name name
+word_of_kind Assert name = word.Assert
+word_of_kind _ name = word.Code
+
+abbrev pub head_with_word : HeadWord → ℕ → List (List Token) → Token → List Token → Head
+head_with_word word.Code number labels t ts = record { number = number; labels = labels; word = word.Code; directive = None; rest = t ∷ ts; spoiled = false }
+head_with_word w number labels t ts = record { number = number; labels = labels; word = w; directive = Some t; rest = ts; spoiled = false }
+
+abbrev pub bare_line : ℕ → List (List Token) → Head
+bare_line number labels = record { number = number; labels = labels; word = word.Bare; directive = None; rest = []; spoiled = false }
+
+abbrev pub is_end : HeadWord → Bool
+is_end word.End = true
+is_end _ = false
+
+abbrev pub has_end : List Head → Bool
+has_end [] = false
+has_end (h ∷ hs) = is_end h.word || has_end hs
+
+-- the tokens end with the text (None), or with a fault
+abbrev pub at_ending : Option LexFault → List Head → Option (List Head)
+at_ending None hs = Some hs
+at_ending (Some fault) hs = None
+
+-- lines were read: with END they are the last
+abbrev pub line_then : List Head → Option (List Head) → Option (List Head)
+line_then hs later = if has_end hs then Some hs else option_map (λ r. hs ++ r) later
+
+module _ (source : List ℕ) where
+  -- the bytes of a token, without joined counters
+  abbrev pub bytes_of : Token → List ℕ
+  bytes_of t = slice_range source t.lo t.hi
+
+  -- a name that is not reserved; with joined counters it ends with a digit, as no reserved word
+  -- does
+  unfoldable pub is_free : Token → Bool
+  is_free t = is_name_token t && not (is_unjoined t.joined && is_reserved_class (class_of (bytes_of t)))
+
+  unfoldable pub is_opcode : Token → Bool
+  is_opcode t = is_name_token t && (is_unjoined t.joined && is_opcode_word (bytes_of t))
+
+  -- an opcode, a dot and a modifier
+  abbrev pub has_modifier : Token → Token → Token → Bool
+  has_modifier t u v = is_opcode t && (is_dot u && is_name_token v)
+
+  -- a label is a free name, or free names joined by `&`, with an optional colon
+  abbrev pub labelled : List Token → Labelled
+  labelled [] = unlabelled []
+  labelled (t ∷ []) = choose (is_free t) (λ i. begin_label t (unlabelled [])) (λ i. unlabelled (t ∷ []))
+  labelled (t ∷ u ∷ []) =
+      choose (is_free t)
+      (λ i. choose (is_colon u) (λ j. into_label t (begin_label u (unlabelled []))) (λ j. begin_label t (labelled (u ∷ []))))
+      (λ i. unlabelled (t ∷ u ∷ []))
+  labelled (t ∷ u ∷ v ∷ ts) =
+      choose (is_free t)
+      (λ i. choose (is_ampersand u && is_free v) (λ j. into_label t (into_label u (labelled (v ∷ ts))))
+      (λ j. choose (is_colon u) (λ k. into_label t (begin_label u (labelled (v ∷ ts)))) (λ k. begin_label t (labelled (u ∷ v ∷ ts)))))
+      (λ i. unlabelled (t ∷ u ∷ v ∷ ts))
+
+  -- the number of tokens that belong to a label after its first name
+  abbrev pub tail_len : List Token → ℕ
+  tail_len [] = 0
+  tail_len (u ∷ []) = if is_colon u then 1 else 0
+  tail_len (u ∷ v ∷ ts) = choose (is_ampersand u && is_free v) (λ i. suc (suc (tail_len ts))) (λ i. if is_colon u then 1 else 0)
+
+  abbrev pub begins_label : List Token → Bool
+  begins_label [] = false
+  begins_label (t ∷ ts) = is_free t
+
+  -- a label goes on with `&` and a name
+  abbrev pub goes_on : List Token → Bool
+  goes_on (u ∷ v ∷ ts) = is_ampersand u && is_free v
+  goes_on _ = false
+
+  -- the word of a line whose first token after the labels is `t`
+  abbrev pub word_of : Token → HeadWord
+  word_of t = word_of_kind t.kind (bytes_of t)
+
+  abbrev pub headed : ℕ → List (List Token) → List Token → Head
+  headed number labels [] = bare_line number labels
+  headed number labels (t ∷ ts) = head_with_word (word_of t) number labels t ts
+
+  -- a line, by its number and its tokens
+  unfoldable pub head_of : ℕ → List Token → Head
+  head_of number ts = headed number (labelled ts).labels (labelled ts).after
+
+  -- an empty line is left out
+  abbrev pub line_of_tokens : List Token → List Head
+  line_of_tokens [] = []
+  line_of_tokens (t ∷ ts) = head_of t.line (t ∷ ts) ∷ []
+
+  -- the lines up to the first with END; `front` is what was read of the first line
+  abbrev pub lines_from : Option LexFault → List Token → List Token → Option (List Head)
+  lines_from ending front [] = at_ending ending (line_of_tokens front)
+  lines_from ending front (t ∷ ts) =
+      choose (is_line_end_kind t.kind) (λ i. line_then (line_of_tokens front) (lines_from ending [] ts)) (λ i. lines_from ending (front ++ (t ∷ [])) ts)
+
+  -- the lines of a text, up to the first with END
+  unfoldable pub lines_read : TokenList → Option (List Head)
+  lines_read l = lines_from l.ending [] l.tokens
+
+  -- the spans of the tokens of a line lie in the source
+  pub record HeadLies (h : Head) : Type 0 where
+    pub labels : All (All (LiesIn source)) h.labels
+    pub directive : IfSome h.directive (LiesIn source)
+    pub rest : All (LiesIn source) h.rest

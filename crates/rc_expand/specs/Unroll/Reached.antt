@@ -1,0 +1,32 @@
+-- Lines that the unrolling has reached: a line of the text, and the copies of blocks that it stands
+-- in.
+use Rattle.std.specs.Prelude.{ℕ, Bool, true, false, List, [], ◌∷◌, map}
+use Rattle.rc_expand.specs.declared.heads.head.Head.{Head}
+use Rattle.rc_expand.specs.declared.unroll.reached.Copying.{Copying}
+use Rattle.rc_expand.specs.declared.unroll.reached.Reached.{Reached}
+use Rattle.rc_expand.specs.Heads.Lines.{bare_line, HeadLies}
+use Rattle.rc_expand.specs.Unroll.{copied_line, earlier_of}
+
+module _ (source : List ℕ) where
+  -- a line as it stands in copies, the outermost first
+  abbrev pub line_in : List Copying → Head → Head
+  line_in [] h = h
+  line_in (c ∷ cs) h = line_in cs (copied_line source c.counter.now c.number h)
+
+  abbrev pub lines_in : List Copying → List Head → List Head
+  lines_in cs hs = map (line_in cs) hs
+
+  -- the labels before a counter are a line of their own
+  abbrev pub reached_part : (is_earlier : Bool) → Head → Head
+  reached_part true h = bare_line h.number (earlier_of h.labels)
+  reached_part false h = h
+
+  abbrev pub reached_line : Reached → Head
+  reached_line r = reached_part r.is_earlier (line_in r.copies.items r.head.now)
+
+  abbrev pub reached_lines : List Reached → List Head
+  reached_lines rs = map reached_line rs
+
+  -- the spans of the tokens of its line in the text lie in the source
+  abbrev pub ReachedLies : Reached → Type 0
+  ReachedLies r = HeadLies source r.head.now

@@ -1,0 +1,46 @@
+//! The first pass: the lines of a text up to END, each with its labels, its word and what comes
+//! after it. Blocks have to nest without a fault, and each EQU line outside of them gives a name
+//! and its tokens. Nothing is copied or replaced yet.
+ghost use Rattle.std.specs.Prelude.{◌≡◌, ◌≢◌, All, IfOk, IfErr};
+ghost use Rattle.rc_expand.specs.declared.fault.ExpandKind.TheVariants.{OutOfMemory};
+ghost use Rattle.rc_expand.specs.Names.{table_of};
+ghost use Rattle.rc_expand.specs.Heads.{heads_of};
+ghost use Rattle.rc_expand.specs.Heads.Faults.{IsHeadFault};
+ghost use Rattle.rc_expand.specs.Heads.Lines.{HeadLies};
+ghost use Rattle.rc_expand.specs.Replace.{EqusLie};
+ghost use Rattle.rc_expand.specs.Steps.{GivesHeads};
+
+pub(crate) mod blocks;
+pub(crate) mod equs;
+pub(crate) mod head;
+pub(crate) mod labels;
+pub(crate) mod read;
+pub(crate) mod table;
+pub(crate) mod words;
+
+use crate::fault::ExpandFault;
+use crate::heads::blocks::check_blocks;
+use crate::heads::equs::{Equ, collect_equs};
+use crate::heads::head::Head;
+use crate::heads::read::read_lines;
+use crate::heads::table::NameTable;
+use crate::names::GivenNames;
+use std::alloc::Global;
+
+// Reads the lines of a text, checks how its blocks nest, and collects its EQU names.
+#[tactic(auto, using(crate::proofs::Reading::FaultSteps::of_nesting, crate::proofs::Reading::FaultSteps::of_equs), unfolding(crate::specs::Heads::heads_of))]
+pub(crate) fn read_heads(
+    alloc: Global,
+    source: &[u8],
+    names: &GivenNames,
+) -> Result<(Vec<Head>, NameTable<Equ>), ExpandFault>
+    ensures heads { GivesHeads result (heads_of source.now (table_of names.now.constants.now.names.now names.now.constants.now.values.now) names.now.rules.now) }
+    ensures first { IfErr result (λ f. f.kind ≢ OutOfMemory → IsHeadFault source.now (table_of names.now.constants.now.names.now names.now.constants.now.values.now) names.now.rules.now f) }
+    ensures lines { IfOk result (λ p. All (HeadLies source.now) p.0.items) }
+    ensures equs { IfOk result (λ p. EqusLie source.now p.1) }
+{
+    let heads = read_lines(alloc, source)?;
+    check_blocks(&heads)?;
+    let equs = collect_equs(alloc, source, names, &heads)?;
+    Ok((heads, equs))
+}

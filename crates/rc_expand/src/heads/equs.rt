@@ -1,0 +1,139 @@
+//! EQU lines: the table of EQU names and their tokens.
+ghost use Rattle.std.specs.Prelude.{◌≡◌, ◌≢◌, [], false, is_some, All, IfOk, IfErr, MatchResult, Some, None};
+ghost use Rattle.rc_expand.specs.declared.fault.ExpandKind.TheVariants.{OutOfMemory, BadDirective};
+ghost use Rattle.rc_text.specs.Symbols.{LiesIn, name_of};
+ghost use Rattle.rc_expand.specs.Heads.Lines.{HeadLies};
+ghost use Rattle.rc_expand.specs.Heads.{equ_token, equ_of_line, equs_of, equ_lines};
+ghost use Rattle.rc_expand.specs.Heads.Faults.{equ_fault, equs_fault};
+ghost use Rattle.rc_expand.specs.Heads.Nesting.{at_line};
+ghost use Rattle.rc_expand.specs.Names.{table_of, entry_of};
+ghost use Rattle.rc_expand.specs.Replace.{EqusLie};
+ghost use Rattle.rc_expand.specs.Steps.{new_equ};
+ghost use Rattle.rc_expand.specs.Unroll.{Gives};
+
+use crate::fault::{ExpandFault, ExpandKind, fault};
+use crate::heads::head::{Head, HeadWord, Name};
+use crate::heads::labels::{plain_name, plain_token};
+use crate::heads::table::NameTable;
+use crate::heads::words::with_front;
+use crate::line::Tokens;
+use crate::names::{GivenNames, is_taken};
+use rc_text::Token;
+use std::alloc::Global;
+use std::marker::Model;
+
+// The tokens of an EQU name, and the line that defines it.
+#[derive(Debug, Drop)]
+pub(crate) struct Equ {
+    tokens: Tokens,
+    line: u64,
+}
+
+impl Model for Equ {
+    ghost use Rattle.std.specs.Prelude.{List};
+    ghost use Rattle.rc_text.specs.declared.token.Token.{Token};
+
+    ghost Value = { List Token };
+
+    ghost view = { λ e. e.tokens };
+}
+
+impl Equ {
+    pub(crate) fn new(tokens: Tokens, line: u64) -> Self
+        ensures { result ≡ tokens }
+    {
+        Equ { tokens, line }
+    }
+
+    pub(crate) fn tokens(&self) -> &[Token]
+        ensures { result.now ≡ self.now }
+    {
+        self.tokens.as_slice()
+    }
+}
+
+// Collects the EQU names outside blocks, with their tokens.
+//
+// Refuses, line by line, a line without exactly one plain name before EQU (`BadDirective`) and a
+// name that is an earlier EQU name, a constant or a predefined name (`DuplicateName`).
+pub(crate) fn collect_equs(
+    alloc: Global,
+    source: &[u8],
+    names: &GivenNames,
+    heads: &[Head],
+) -> Result<NameTable<Equ>, ExpandFault>
+    requires { All (HeadLies source.now) heads.now }
+    ensures equs { Gives result (equs_of source.now (table_of names.now.constants.now.names.now names.now.constants.now.values.now) names.now.rules.now heads.now) }
+    ensures first { IfErr result (λ f. f.kind ≢ OutOfMemory
+        → equs_fault source.now (table_of names.now.constants.now.names.now names.now.constants.now.values.now) names.now.rules.now [] (equ_lines 0 heads.now) ≡ Some f) }
+    ensures inside { IfOk result (EqusLie source.now) }
+{
+    let mut opened: usize = 0;
+    let mut equs = NameTable::new(alloc);
+    let mut rest = heads;
+    while let Some((head, after)) = rest.split_first() {
+        match head.word {
+            HeadWord::For => opened += 1,
+            HeadWord::Rof => opened = opened.saturating_sub(1),
+            HeadWord::Equ => if opened == 0 {
+                let (name, equ) = read_equ(alloc, source, names, &equs, head)?;
+                equs.insert(name.into_vec(), equ)?;
+            },
+            _ => {}
+        }
+        rest = after;
+    }
+    Ok(equs)
+}
+
+// Returns the name before EQU. `BadDirective` unless it is the only label, written without `&`.
+fn equ_token<'a>(source: &[u8], head: &'a Head) -> Result<&'a Token, ExpandFault>
+    requires { HeadLies source.now head.now }
+    ensures token { MatchResult result (λ t. equ_token source.now head.now.labels ≡ Some t.now) (λ e. (equ_token source.now head.now.labels ≡ None) × (e ≡ at_line head.now.number BadDirective)) }
+    ensures inside { IfOk result (λ t. LiesIn source.now t.now) }
+    ensures written { IfOk result (λ t. t.now.joined ≡ []) }
+{
+    let plain = match head.labels.as_slice() {
+        [label] => plain_token(source, label.as_slice()),
+        _ => None,
+    };
+    match plain {
+        Some(token) => Ok(token),
+        None => Err(fault(head.number, ExpandKind::BadDirective)),
+    }
+}
+
+// Reads an EQU line. Its name must not be taken already.
+fn read_equ(
+    alloc: Global,
+    source: &[u8],
+    names: &GivenNames,
+    equs: &NameTable<Equ>,
+    head: &Head,
+) -> Result<(Name, Equ), ExpandFault>
+    requires head { HeadLies source.now head.now }
+    ensures equ { Gives result (new_equ source.now (table_of names.now.constants.now.names.now names.now.constants.now.values.now) names.now.rules.now equs.now head.now) }
+    ensures fault { IfErr result (λ f. f.kind ≢ OutOfMemory
+        → equ_fault source.now (table_of names.now.constants.now.names.now names.now.constants.now.values.now) names.now.rules.now equs.now head.now ≡ Some f) }
+    ensures new { IfOk result (λ e. is_some (entry_of equs.now e.0) ≡ false) }
+    ensures inside { IfOk result (λ e. All (LiesIn source.now) e.1) }
+{
+    let token = equ_token(source, head)?;
+    if is_taken(names, source, token) || equ_line(equs, source, token).is_some() {
+        return Err(fault(head.number, ExpandKind::DuplicateName));
+    }
+    let name = plain_name(alloc, source, token)?;
+    let tokens = with_front(alloc, head.rest.as_slice(), Vec::new(alloc))?;
+    Ok((Name::from_vec(name), Equ::new(tokens, head.number)))
+}
+
+// Returns the line that defines the EQU name that a token is.
+pub(crate) fn equ_line(equs: &NameTable<Equ>, source: &[u8], token: &Token) -> Option<u64>
+    requires { LiesIn source.now token.now }
+    ensures { is_some result ≡ is_some (entry_of equs.now (name_of source.now token.now)) }
+{
+    match equs.get(source, token) {
+        Some(equ) => Some(equ.line),
+        None => None,
+    }
+}

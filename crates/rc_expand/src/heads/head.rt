@@ -1,0 +1,96 @@
+//! Lines as they are read and copied, before EQU names are replaced.
+ghost use Rattle.std.specs.Prelude.{◌≡◌};
+
+use crate::line::Tokens;
+use rc_text::Token;
+use std::marker::Model;
+
+// Labels in order, each by its tokens: names joined by `&`, perhaps with a colon.
+#[derive(Debug, Drop)]
+pub(crate) struct Labels {
+    items: Vec<Tokens>,
+}
+
+impl Model for Labels {
+    ghost use Rattle.std.specs.Prelude.{List};
+    ghost use Rattle.rc_text.specs.declared.token.Token.{Token};
+
+    ghost Value = { List (List Token) };
+
+    ghost view = { λ l. l.items.items };
+}
+
+impl Labels {
+    pub(crate) fn from_vec(items: Vec<Tokens>) -> Self
+        ensures { result ≡ items.items }
+    {
+        Labels { items }
+    }
+
+    pub(crate) fn as_slice(&self) -> &[Tokens]
+        ensures { result.now ≡ self.now }
+    {
+        self.items.as_slice()
+    }
+}
+
+// The word of a line: nothing (`Bare`), a directive, or anything else (`Code`).
+#[derive(Clone, Copy, Debug, PartialEq, Eq)]
+pub(crate) enum HeadWord {
+    Bare,
+    Code,
+    Org,
+    End,
+    Assert,
+    Equ,
+    For,
+    Rof,
+}
+
+// A line as it is read or copied. `directive` is the token of a directive, and `rest` comes after
+// it; in a line of code `rest` begins with the opcode.
+#[derive(Debug, Drop)]
+pub(crate) struct Head {
+    pub number: u64,
+    pub labels: Labels,
+    pub word: HeadWord,
+    pub directive: Option<Token>,
+    pub rest: Tokens,
+    // Set if a ninth counter was to be joined to a name of the line. Nothing but `word` is then
+    // left of it.
+    pub spoiled: bool,
+}
+
+// The bytes of a name.
+#[derive(Debug, Drop)]
+pub(crate) struct Name {
+    bytes: Vec<u8>,
+}
+
+impl Model for Name {
+    ghost use Rattle.std.specs.Prelude.{List, ℕ};
+
+    ghost Value = { List ℕ };
+
+    ghost view = { λ n. n.bytes.items };
+}
+
+impl Name {
+    pub(crate) fn from_vec(bytes: Vec<u8>) -> Self
+        ensures { result ≡ bytes.items }
+    {
+        Name { bytes }
+    }
+
+    pub(crate) fn into_vec(self) -> Vec<u8>
+        ensures { result.items ≡ self }
+    {
+        self.bytes
+    }
+
+    pub(crate) fn as_slice(&self) -> &[u8]
+        ensures { result.now ≡ self.now }
+    {
+        self.bytes.as_slice()
+    }
+}

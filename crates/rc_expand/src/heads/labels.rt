@@ -1,0 +1,55 @@
+//! Labels that are a single name.
+ghost use Rattle.std.specs.Prelude.{◌≡◌, [], All, IfOk, IfSome, option_map};
+ghost use Rattle.rc_text.specs.Symbols.{LiesIn, name_of};
+ghost use Rattle.rc_expand.specs.Unroll.{label_token, plain_token};
+
+use crate::heads::words::{is_colon, is_free, is_unjoined};
+use rc_text::Token;
+use std::alloc::{AllocError, Global};
+
+// Returns the name of a label that is a single name, with or without its colon.
+pub(crate) fn label_token<'a>(source: &[u8], label: &'a [Token]) -> Option<&'a Token>
+    requires { All (LiesIn source.now) label.now }
+    ensures token { option_map (λ t. t.now) result ≡ label_token source.now label.now }
+    ensures inside { IfSome result (λ t. LiesIn source.now t.now) }
+{
+    match label {
+        [token] => if is_free(source, token) {
+            Some(token)
+        } else {
+            None
+        },
+        [token, colon] => if is_free(source, token) && is_colon(colon) {
+            Some(token)
+        } else {
+            None
+        },
+        _ => None,
+    }
+}
+
+// Returns the name of a label that is a single name written without `&`.
+pub(crate) fn plain_token<'a>(source: &[u8], label: &'a [Token]) -> Option<&'a Token>
+    requires { All (LiesIn source.now) label.now }
+    ensures token { option_map (λ t. t.now) result ≡ plain_token source.now label.now }
+    ensures inside { IfSome result (λ t. LiesIn source.now t.now) }
+    ensures written { IfSome result (λ t. t.now.joined ≡ []) }
+{
+    match label_token(source, label) {
+        Some(token) => if is_unjoined(token) {
+            Some(token)
+        } else {
+            None
+        },
+        None => None,
+    }
+}
+
+// Copies the bytes of a name that is written without `&`.
+pub(crate) fn plain_name(alloc: Global, source: &[u8], token: &Token) -> Result<Vec<u8>, AllocError>
+    requires inside { LiesIn source.now token.now }
+    requires written { token.now.joined ≡ [] }
+    ensures { IfOk result (λ v. v.items ≡ name_of source.now token.now) }
+{
+    source[token.lo..token.hi].to_vec(alloc)
+}

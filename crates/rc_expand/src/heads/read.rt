@@ -1,0 +1,211 @@
+//! From tokens to lines.
+ghost use Rattle.std.specs.Prelude.{◌≡◌, ◌≢◌, List, ℕ, ◌++◌, [], ◌+◌, ◌≤◌, ◌&&◌, IsTrue, length, drop, All, IfOk, IfErr, IfSome, MatchResult, Ok, None};
+ghost use Rattle.rc_expand.specs.declared.fault.ExpandKind.TheVariants.{OutOfMemory};
+ghost use Rattle.rc_text.specs.Tokens.{tokens_of, TakesToken};
+ghost use Rattle.rc_text.specs.Symbols.{LiesIn};
+ghost use Rattle.rc_expand.specs.Heads.Lines.{HeadLies, head_of, is_free, is_ampersand, goes_on, tail_len, begins_label, labelled, is_line_end_kind, line_of_tokens, has_end, lines_read};
+ghost use Rattle.rc_expand.specs.Unroll.{GivesItems};
+ghost use Rattle.rc_expand.specs.Heads.Faults.{IsEnding, IsTextFault};
+
+use crate::fault::{ExpandFault, ExpandKind};
+use crate::heads::head::{Head, HeadWord, Labels};
+use crate::heads::words::{clone_token, is_ampersand, is_colon, is_free, with_front, word_of};
+use crate::line::Tokens;
+use rc_text::{Kind, Lexer, Token};
+use std::alloc::{AllocError, Global};
+
+// Reads the lines of a text, up to the first with END.
+#[tactic(auto, unfolding(crate::specs::Heads::Lines::lines_read))]
+pub(crate) fn read_lines(alloc: Global, source: &[u8]) -> Result<Vec<Head>, ExpandFault>
+    ensures lines { GivesItems result (lines_read source.now (tokens_of source.now)) }
+    ensures text { IfErr result (λ f. f.kind ≢ OutOfMemory → IsTextFault source.now f) }
+    ensures inside { IfOk result (λ v. All (HeadLies source.now) v.items) }
+{
+    let mut lexer = Lexer::new(source);
+    let mut heads = Vec::new(alloc);
+    let mut line = Vec::new(alloc);
+    while let Some(token) = next_token(&mut lexer)? {
+        if is_line_end(&token) {
+            if push_line(alloc, source, &mut heads, &line)? {
+                return Ok(heads);
+            }
+            line.clear();
+        } else {
+            line.push(token)?;
+        }
+    }
+    push_line(alloc, source, &mut heads, &line)?;
+    Ok(heads)
+}
+
+// Checks for `&` and a name.
+fn is_link(source: &[u8], sign: &Token, name: &Token) -> bool
+    requires { LiesIn source.now name.now }
+    ensures { result ≡ (is_ampersand sign.now && is_free source.now name.now) }
+{
+    is_ampersand(sign) && is_free(source, name)
+}
+
+// Checks whether a label goes on at index `at` with `&` and a name.
+#[tactic(auto, using(crate::proofs::Reading::HeadSteps::goes_on_at, crate::proofs::Reading::HeadSteps::goes_on_short))]
+fn goes_on(source: &[u8], tokens: &[Token], at: usize) -> bool
+    requires inside { All (LiesIn source.now) tokens.now }
+    requires place { at ≤ length tokens.now }
+    ensures result { result ≡ goes_on source.now (drop at tokens.now) }
+    ensures room { IsTrue result → at + 2 ≤ length tokens.now }
+{
+    if tokens.len() - at > 1 {
+        is_link(source, &tokens[at], &tokens[at + 1])
+    } else {
+        false
+    }
+}
+
+// Returns the index after a label. Its first name is the token before `from`.
+#[tactic(auto, using(crate::proofs::Reading::HeadSteps::tail_more, crate::proofs::Reading::HeadSteps::tail_colon, crate::proofs::Reading::HeadSteps::tail_none, crate::proofs::Reading::HeadSteps::tail_end))]
+fn label_end(source: &[u8], tokens: &[Token], from: usize) -> usize
+    requires inside { All (LiesIn source.now) tokens.now }
+    requires place { from ≤ length tokens.now }
+    ensures end { result ≡ from + tail_len source.now (drop from tokens.now) }
+    ensures low { from ≤ result }
+    ensures high { result ≤ length tokens.now }
+{
+    let mut end = from;
+    while goes_on(source, tokens, end) {
+        end += 2;
+    }
+    if end < tokens.len() && is_colon(&tokens[end]) {
+        end += 1;
+    }
+    end
+}
+
+// Checks whether a label begins at index `at`.
+#[tactic(auto, using(crate::proofs::Reading::HeadSteps::begins_at, crate::proofs::Reading::HeadSteps::begins_none))]
+fn begins_label(source: &[u8], tokens: &[Token], at: usize) -> bool
+    requires { All (LiesIn source.now) tokens.now }
+    ensures result { result ≡ begins_label source.now (drop at tokens.now) }
+    ensures room { IsTrue result → at + 1 ≤ length tokens.now }
+{
+    if at < tokens.len() {
+        is_free(source, &tokens[at])
+    } else {
+        false
+    }
+}
+
+// Reads the labels of a line. Returns them and the index after them.
+fn read_labels(
+    alloc: Global,
+    source: &[u8],
+    tokens: &[Token],
+) -> Result<(Labels, usize), AllocError>
+    requires { All (LiesIn source.now) tokens.now }
+    ensures labels { IfOk result (λ p. p.0 ≡ (labelled source.now tokens.now).labels) }
+    ensures rest { IfOk result (λ p. drop p.1 tokens.now ≡ (labelled source.now tokens.now).after) }
+    ensures place { IfOk result (λ p. p.1 ≤ length tokens.now) }
+    ensures inside { IfOk result (λ p. All (All (LiesIn source.now)) p.0) }
+{
+    let mut labels = Vec::new(alloc);
+    let mut at = 0;
+    'line: while begins_label(source, tokens, at) {
+        let end = label_end(source, tokens, at + 1);
+        labels.push(with_front(alloc, &tokens[at..end], Vec::new(alloc))?)?;
+        at = end;
+    }
+    Ok((Labels::from_vec(labels), at))
+}
+
+// Reads a line from its tokens.
+#[tactic(auto, unfolding(crate::specs::Heads::Lines::head_of))]
+fn read_head(
+    alloc: Global,
+    source: &[u8],
+    number: u64,
+    tokens: &[Token],
+) -> Result<Head, AllocError>
+    requires { All (LiesIn source.now) tokens.now }
+    ensures head { IfOk result (λ h. h ≡ head_of source.now number tokens.now) }
+    ensures inside { IfOk result (HeadLies source.now) }
+{
+    let (labels, at) = read_labels(alloc, source, tokens)?;
+    if at == tokens.len() {
+        return Ok(Head {
+            number,
+            labels,
+            word: HeadWord::Bare,
+            directive: None,
+            rest: Tokens::from_vec(Vec::new(alloc)),
+            spoiled: false,
+        });
+    }
+    let word = word_of(source, &tokens[at]);
+    if word == HeadWord::Code {
+        let rest = with_front(alloc, &tokens[at..], Vec::new(alloc))?;
+        return Ok(Head {
+            number,
+            labels,
+            word,
+            directive: None,
+            rest,
+            spoiled: false,
+        });
+    }
+    let directive = clone_token(&tokens[at])?;
+    let rest = with_front(alloc, &tokens[at + 1..], Vec::new(alloc))?;
+    Ok(Head {
+        number,
+        labels,
+        word,
+        directive: Some(directive),
+        rest,
+        spoiled: false,
+    })
+}
+
+// Appends the line of these tokens, unless there are none, and returns whether it has END.
+fn push_line(
+    alloc: Global,
+    source: &[u8],
+    heads: &mut Vec<Head>,
+    line: &[Token],
+) -> Result<bool, AllocError>
+    requires line { All (LiesIn source.now) line.now }
+    requires before { All (HeadLies source.now) heads.old.items }
+    ensures heads { IfOk result (λ ended. heads.new.items ≡ heads.old.items ++ line_of_tokens source.now line.now) }
+    ensures ended { IfOk result (λ ended. ended ≡ has_end (line_of_tokens source.now line.now)) }
+    ensures after { IfOk result (λ ended. All (HeadLies source.now) heads.new.items) }
+{
+    if line.len() == 0 {
+        return Ok(false);
+    }
+    let head = read_head(alloc, source, line[0].line, line)?;
+    let ended = match head.word {
+        HeadWord::End => true,
+        _ => false,
+    };
+    heads.push(head)?;
+    Ok(ended)
+}
+
+// Takes the next token. A fault is reported at the line of the lexer.
+fn next_token(lexer: &mut Lexer) -> Result<Option<Token>, ExpandFault>
+    ensures { MatchResult result (λ o. TakesToken lexer.old (Ok o) lexer.new) (λ e. (lexer.old.tokens ≡ []) × (lexer.old.ending ≢ None) × IsEnding lexer.old e) }
+{
+    match lexer.next_token() {
+        Ok(token) => Ok(token),
+        Err(cause) => Err(ExpandFault {
+            line: lexer.line(),
+            kind: ExpandKind::Text(cause),
+        }),
+    }
+}
+
+fn is_line_end(token: &Token) -> bool
+    ensures { result ≡ is_line_end_kind token.now.kind }
+{
+    match token.kind {
+        Kind::LineEnd => true,
+        _ => false,
+    }
+}

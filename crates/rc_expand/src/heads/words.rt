@@ -1,0 +1,155 @@
+//! Reserved words and kinds of tokens.
+ghost use Rattle.std.specs.Prelude.{◌≡◌, ◌++◌, map, ◌&&◌, ◌<◌, ◌≤◌, length, IfOk};
+ghost use Rattle.std.specs.Str.{bytes_eq};
+ghost use Rattle.rc_text.specs.Bytes.{is_same_word};
+ghost use Rattle.rc_text.specs.NameClasses.{class_of};
+ghost use Rattle.rc_text.specs.Symbols.{LiesIn};
+ghost use Rattle.rc_expand.specs.Heads.Lines.{is_reserved_class, is_name_token, is_ampersand, is_colon, is_dot, is_unjoined, is_free, is_opcode, has_modifier, word_of_name, word_of};
+
+use crate::heads::head::HeadWord;
+use crate::line::Tokens;
+use rc_text::{Kind, NameClass, Sign, Token, is_opcode_word, is_same_word, name_class};
+use std::alloc::{AllocError, Global};
+
+pub(crate) fn clone_token(token: &Token) -> Result<Token, AllocError>
+    ensures { IfOk result (λ t. t ≡ token.now) }
+{
+    token.clone()
+}
+
+// Concatenates `front` and `tokens`.
+pub(crate) fn with_front(
+    alloc: Global,
+    front: &[Token],
+    tokens: Vec<Token>,
+) -> Result<Tokens, AllocError>
+    ensures { IfOk result (λ all. all ≡ front.now ++ tokens.items) }
+{
+    let mut all = Vec::with_capacity(alloc, front.len())?;
+    for token in front {
+        all.push(clone_token(token)?)?;
+    }
+    let mut tokens = tokens;
+    all.append(&mut tokens)?;
+    Ok(Tokens::from_vec(all))
+}
+
+pub(crate) fn is_name_token(token: &Token) -> bool
+    ensures { result ≡ is_name_token token.now }
+{
+    match token.kind {
+        Kind::Name => true,
+        _ => false,
+    }
+}
+
+pub(crate) fn is_ampersand(token: &Token) -> bool
+    ensures { result ≡ is_ampersand token.now }
+{
+    match token.kind {
+        Kind::Sign(sign) => match sign {
+            Sign::Ampersand => true,
+            _ => false,
+        },
+        _ => false,
+    }
+}
+
+pub(crate) fn is_colon(token: &Token) -> bool
+    ensures { result ≡ is_colon token.now }
+{
+    match token.kind {
+        Kind::Sign(sign) => match sign {
+            Sign::Colon => true,
+            _ => false,
+        },
+        _ => false,
+    }
+}
+
+pub(crate) fn is_dot(token: &Token) -> bool
+    ensures { result ≡ is_dot token.now }
+{
+    match token.kind {
+        Kind::Sign(sign) => match sign {
+            Sign::Dot => true,
+            _ => false,
+        },
+        _ => false,
+    }
+}
+
+// Checks that no counter is joined to a token.
+pub(crate) fn is_unjoined(token: &Token) -> bool
+    ensures { result ≡ is_unjoined token.now.joined }
+{
+    token.joined.is_empty()
+}
+
+// Checks for a name that is not reserved. A name with joined counters is never reserved.
+#[tactic(auto, unfolding(crate::specs::Heads::Lines::is_free))]
+pub(crate) fn is_free(source: &[u8], token: &Token) -> bool
+    requires { LiesIn source.now token.now }
+    ensures { result ≡ is_free source.now token.now }
+{
+    is_name_token(token) && !(is_unjoined(token) && is_reserved(&source[token.lo..token.hi]))
+}
+
+// Checks for an opcode.
+#[tactic(auto, unfolding(crate::specs::Heads::Lines::is_opcode))]
+pub(crate) fn is_opcode(source: &[u8], token: &Token) -> bool
+    requires { LiesIn source.now token.now }
+    ensures { result ≡ is_opcode source.now token.now }
+{
+    is_name_token(token) && is_unjoined(token) && is_opcode_word(&source[token.lo..token.hi])
+}
+
+// Checks for an opcode, a dot and a modifier.
+pub(crate) fn has_modifier(source: &[u8], opcode: &Token, dot: &Token, modifier: &Token) -> bool
+    requires { LiesIn source.now opcode.now }
+    ensures { result ≡ has_modifier source.now opcode.now dot.now modifier.now }
+{
+    is_opcode(source, opcode) && is_dot(dot) && is_name_token(modifier)
+}
+
+// Returns the word of a line by its first token after the labels.
+pub(crate) fn word_of(source: &[u8], token: &Token) -> HeadWord
+    requires { LiesIn source.now token.now }
+    ensures { result ≡ word_of source.now token.now }
+{
+    match token.kind {
+        Kind::Name => word_of_name(&source[token.lo..token.hi]),
+        Kind::Assert => HeadWord::Assert,
+        _ => HeadWord::Code,
+    }
+}
+
+// Checks for an opcode or a directive.
+fn is_reserved(name: &[u8]) -> bool
+    ensures { result ≡ is_reserved_class (class_of name.now) }
+{
+    match name_class(name) {
+        NameClass::Reserved => true,
+        _ => false,
+    }
+}
+
+// Returns the directive that a name spells, in any case, or `Code`.
+#[tactic(auto, unfolding(crate::specs::Heads::Lines::word_of_name))]
+fn word_of_name(name: &[u8]) -> HeadWord
+    ensures { result ≡ word_of_name name.now }
+{
+    if is_same_word(b"ORG", name) {
+        HeadWord::Org
+    } else if is_same_word(b"END", name) {
+        HeadWord::End
+    } else if is_same_word(b"EQU", name) {
+        HeadWord::Equ
+    } else if is_same_word(b"FOR", name) {
+        HeadWord::For
+    } else if is_same_word(b"ROF", name) {
+        HeadWord::Rof
+    } else {
+        HeadWord::Code
+    }
+}

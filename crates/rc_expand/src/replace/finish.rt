@@ -1,0 +1,227 @@
+//! From an unrolled line to a line of the expansion.
+ghost use Rattle.std.specs.Prelude.{◌≡◌, ◌++◌, ◌≤◌, length, flat_map, All, IfOk, IfSome, OnOk};
+ghost use Rattle.rc_text.specs.Symbols.{LiesIn};
+ghost use Rattle.rc_expand.specs.Heads.Lines.{HeadLies};
+ghost use Rattle.rc_expand.specs.Heads.NameTables.{AreLinks};
+ghost use Rattle.rc_expand.specs.Replace.{EqusLie, exempt_len_of_code, exempt_len, line_tokens, Replaces};
+ghost use Rattle.rc_expand.specs.Unroll.{Gives};
+ghost use Rattle.rc_expand.specs.Context.{IsContext};
+ghost use Rattle.rc_expand.specs.Replace.Lines.{as_list, line_word, own_labels, other_labels, made_line, line_of};
+ghost use Rattle.rc_expand.specs.Expansion.{LineLies};
+
+use crate::context::Context;
+use crate::fault::{ExpandFault, ExpandKind, fault};
+use crate::heads::equs::Equ;
+use crate::heads::head::{Head, HeadWord};
+use crate::heads::labels::label_token;
+use crate::heads::table::NameTable;
+use crate::heads::words::{clone_token, has_modifier, with_front};
+use crate::limits::MOST_TOKENS;
+use crate::line::{Line, LineWord, Tokens};
+use crate::replace::links::{Links, needs_no_replacement};
+use crate::replace::{ReplaceFault, replace_fault, replace_tokens};
+use rc_text::Token;
+use std::alloc::{AllocError, Global};
+
+// Splits the labels before the first that is not a single name. From there on they are not labels:
+// they are tokens of a line of code.
+pub(crate) fn split_labels<'a>(
+    alloc: Global,
+    source: &[u8],
+    labels: &'a [Tokens],
+) -> Result<(Tokens, &'a [Tokens]), AllocError>
+    requires { All (All (LiesIn source.now)) labels.now }
+    ensures own { IfOk result (λ p. p.0 ≡ own_labels source.now labels.now) }
+    ensures others { IfOk result (λ p. p.1.now ≡ other_labels source.now labels.now) }
+    ensures own_inside { IfOk result (λ p. All (LiesIn source.now) p.0) }
+    ensures others_inside { IfOk result (λ p. All (All (LiesIn source.now)) p.1.now) }
+{
+    let mut own = Vec::new(alloc);
+    let mut rest = labels;
+    while let Some((label, after)) = rest.split_first() {
+        match label_token(source, label.as_slice()) {
+            None => return Ok((Tokens::from_vec(own), rest)),
+            Some(token) => own.push(clone_token(token)?)?,
+        }
+        rest = after;
+    }
+    Ok((Tokens::from_vec(own), rest))
+}
+
+// Makes the line of the expansion for an unrolled line.
+#[tactic(auto, unfolding(crate::specs::Replace::Lines::line_of))]
+pub(crate) fn line_of(context: &Context, head: &Head) -> Result<Line, ExpandFault>
+    requires context { IsContext context.now }
+    requires head { HeadLies context.now.source.now head.now }
+    ensures line { Gives result (line_of context.now.source.now context.now.equs.now head.now) }
+    ensures inside { IfOk result (LineLies context.now.source.now) }
+{
+    let (labels, others) = split_labels(context.alloc, context.source, head.labels.as_slice())?;
+    if others.is_empty() {
+        return make_line(context, head, labels, head.word, head.rest.as_slice());
+    }
+    let tokens = as_code_tokens(
+        context.alloc,
+        context.source,
+        others,
+        &head.directive,
+        head.rest.as_slice(),
+    )?;
+    make_line(context, head, labels, HeadWord::Code, &tokens)
+}
+
+fn push_tokens(all: &mut Vec<Token>, source: &[u8], tokens: &[Token]) -> Result<(), AllocError>
+    requires before { All (LiesIn source.now) all.old.items }
+    requires inside { All (LiesIn source.now) tokens.now }
+    ensures tokens { OnOk result (all.new.items ≡ all.old.items ++ tokens.now) }
+    ensures after { OnOk result (All (LiesIn source.now) all.new.items) }
+{
+    for token in tokens {
+        all.push(clone_token(token)?)?;
+    }
+    Ok(())
+}
+
+fn push_directive(
+    all: &mut Vec<Token>,
+    source: &[u8],
+    directive: &Option<Token>,
+) -> Result<(), AllocError>
+    requires before { All (LiesIn source.now) all.old.items }
+    requires inside { IfSome directive.now (LiesIn source.now) }
+    ensures tokens { OnOk result (all.new.items ≡ all.old.items ++ as_list directive.now) }
+    ensures after { OnOk result (All (LiesIn source.now) all.new.items) }
+{
+    match directive {
+        Some(token) => all.push(clone_token(token)?)?,
+        None => {}
+    }
+    Ok(())
+}
+
+// Turns would-be labels back into tokens: theirs, then the directive, then the rest.
+fn as_code_tokens(
+    alloc: Global,
+    source: &[u8],
+    others: &[Tokens],
+    directive: &Option<Token>,
+    rest: &[Token],
+) -> Result<Vec<Token>, AllocError>
+    requires others { All (All (LiesIn source.now)) others.now }
+    requires directive { IfSome directive.now (LiesIn source.now) }
+    requires rest { All (LiesIn source.now) rest.now }
+    ensures inside { IfOk result (λ v. All (LiesIn source.now) v.items) }
+    ensures tokens { IfOk result (λ v. v.items ≡ flat_map (λ x. x) others.now ++ (as_list directive.now ++ rest.now)) }
+{
+    let mut all = Vec::new(alloc);
+    for label in others {
+        push_tokens(&mut all, source, label.as_slice())?;
+    }
+    push_directive(&mut all, source, directive)?;
+    push_tokens(&mut all, source, rest)?;
+    Ok(all)
+}
+
+// Counts the tokens that EQU names do not replace at the front of a line of code: its first one,
+// and the modifier after an opcode and a dot.
+fn exempt_len_of_code(source: &[u8], tokens: &[Token]) -> usize
+    requires { All (LiesIn source.now) tokens.now }
+    ensures exempt { result ≡ exempt_len_of_code source.now tokens.now }
+    ensures room { result ≤ length tokens.now }
+{
+    match tokens {
+        [] => 0,
+        [first, dot, modifier, ..] => if has_modifier(source, first, dot, modifier) {
+            3
+        } else {
+            1
+        },
+        _ => 1,
+    }
+}
+
+// Counts the tokens that EQU names do not replace at the front of a line.
+fn exempt_len(source: &[u8], word: HeadWord, tokens: &[Token]) -> usize
+    requires { All (LiesIn source.now) tokens.now }
+    ensures exempt { result ≡ exempt_len source.now word tokens.now }
+    ensures room { result ≤ length tokens.now }
+{
+    match word {
+        HeadWord::Code => exempt_len_of_code(source, tokens),
+        _ => 0,
+    }
+}
+
+// Replaces the EQU names of a line.
+#[tactic(auto, using(crate::proofs::Replacing::Settled::line_settled))]
+fn line_tokens(
+    alloc: Global,
+    source: &[u8],
+    equs: &NameTable<Equ>,
+    links: &[Links],
+    word: HeadWord,
+    tokens: &[Token],
+) -> Result<Tokens, ReplaceFault>
+    requires inside { All (LiesIn source.now) tokens.now }
+    requires lies { EqusLie source.now equs.now }
+    requires links { AreLinks source.now equs.now links.now }
+    ensures tokens { Replaces result (line_tokens source.now equs.now word tokens.now) }
+    ensures inside { IfOk result (All (LiesIn source.now)) }
+{
+    let (front, back) = tokens.split_at(exempt_len(source, word, tokens));
+    if needs_no_replacement(source, back, equs) {
+        return Ok(with_front(alloc, tokens, Vec::new(alloc))?);
+    }
+    let replaced = replace_tokens(alloc, source, back, equs, links)?;
+    Ok(with_front(alloc, front, replaced.into_vec())?)
+}
+
+// Converts the word of a line. Anything that is left and not a directive is code.
+fn line_word(word: HeadWord) -> LineWord
+    ensures { result ≡ line_word word }
+{
+    match word {
+        HeadWord::Bare => LineWord::Bare,
+        HeadWord::Org => LineWord::Org,
+        HeadWord::End => LineWord::End,
+        HeadWord::Assert => LineWord::Assert,
+        _ => LineWord::Code,
+    }
+}
+
+// Makes a line of the expansion from `tokens`, with their EQU names replaced.
+fn make_line(
+    context: &Context,
+    head: &Head,
+    labels: Tokens,
+    word: HeadWord,
+    tokens: &[Token],
+) -> Result<Line, ExpandFault>
+    requires context { IsContext context.now }
+    requires labels { labels ≡ own_labels context.now.source.now head.now.labels }
+    requires labels_inside { All (LiesIn context.now.source.now) labels }
+    requires inside { All (LiesIn context.now.source.now) tokens.now }
+    ensures line { Gives result (made_line context.now.source.now context.now.equs.now head.now word tokens.now) }
+    ensures inside { IfOk result (LineLies context.now.source.now) }
+{
+    let tokens = match line_tokens(
+        context.alloc,
+        context.source,
+        context.equs,
+        context.links,
+        word,
+        tokens,
+    ) {
+        Ok(tokens) => tokens,
+        Err(cause) => return Err(replace_fault(head.number, cause)),
+    };
+    if tokens.as_slice().len() > MOST_TOKENS {
+        return Err(fault(head.number, ExpandKind::TooManyTokens));
+    }
+    Ok(Line {
+        number: head.number,
+        labels,
+        word: line_word(word),
+        tokens,
+    })
+}

@@ -1,0 +1,231 @@
+//! Copying the lines of a block, with the number of its counter put in.
+ghost use Rattle.std.specs.Prelude.{◌≡◌, List, ℕ, ◌++◌, ◌∷◌, ◌+◌, ◌<◌, ◌≤◌, ◌^◌, ◌&&◌, length, drop, map, All, IfOk, IfSome};
+ghost use Rattle.rc_text.specs.Symbols.{LiesIn};
+ghost use Rattle.rc_expand.specs.Heads.Lines.{HeadLies, is_name_token, is_ampersand};
+ghost use Rattle.rc_expand.specs.Unroll.{is_use, numbered, joins, copied_tokens, copied_code, copied_rest, copied_line, all_of};
+
+use crate::heads::head::{Head, HeadWord, Labels};
+use crate::heads::words::{clone_token, has_modifier, is_ampersand, is_name_token, with_front};
+use crate::limits::MOST_JOINED;
+use crate::line::Tokens;
+use crate::names::spells;
+use rc_text::{Kind, Token};
+use std::alloc::{AllocError, Global};
+
+// Copies tokens for one `number` of the counter. Returns `None` if a ninth counter would be joined
+// to a name.
+pub(crate) fn copy_tokens(
+    alloc: Global,
+    source: &[u8],
+    counter: &[u8],
+    number: u16,
+    tokens: &[Token],
+) -> Result<Option<Tokens>, AllocError>
+    requires { All (LiesIn source.now) tokens.now }
+    ensures copied { IfOk result (λ o. o ≡ copied_tokens source.now counter.now number tokens.now) }
+    ensures inside { IfOk result (λ o. IfSome o (All (LiesIn source.now))) }
+{
+    let mut copied = Vec::with_capacity(alloc, tokens.len())?;
+    if tokens.len() == 0 {
+        return Ok(Some(Tokens::from_vec(copied)));
+    }
+    let mut token = clone_token(&tokens[0])?;
+    let mut made = false;
+    let mut at = 1;
+    while at < tokens.len() {
+        if is_joined(source, counter, &token, tokens, at) {
+            if token.joined.len() >= MOST_JOINED {
+                return Ok(None);
+            }
+            token.joined.push(number);
+            made = true;
+            at += 2;
+        } else {
+            copied.push(numbered(source, counter, number, made, token))?;
+            token = clone_token(&tokens[at])?;
+            made = false;
+            at += 1;
+        }
+    }
+    copied.push(numbered(source, counter, number, made, token))?;
+    Ok(Some(Tokens::from_vec(copied)))
+}
+
+// Copies a line for one `number` of the counter. If a ninth counter would be joined to a name, the
+// copy is spoiled: it is refused only if it is unrolled, since a block around it may still be
+// dropped.
+#[tactic(auto, unfolding(crate::specs::Unroll::copied_line))]
+pub(crate) fn copy_line(
+    alloc: Global,
+    source: &[u8],
+    counter: &[u8],
+    number: u16,
+    head: &Head,
+) -> Result<Head, AllocError>
+    requires { HeadLies source.now head.now }
+    ensures copied { IfOk result (λ h. h ≡ copied_line source.now counter.now number head.now) }
+    ensures inside { IfOk result (λ h. HeadLies source.now h) }
+{
+    let directive = clone_directive(&head.directive)?;
+    let labels = copy_labels(alloc, source, counter, number, &head.labels)?;
+    let rest = copy_rest(alloc, source, counter, number, head)?;
+    match (labels, rest) {
+        (Some(labels), Some(rest)) => Ok(Head {
+            number: head.number,
+            labels,
+            word: head.word,
+            directive,
+            rest,
+            spoiled: head.spoiled,
+        }),
+        _ => Ok(Head {
+            number: head.number,
+            labels: Labels::from_vec(Vec::new(alloc)),
+            word: head.word,
+            directive,
+            rest: Tokens::from_vec(Vec::new(alloc)),
+            spoiled: true,
+        }),
+    }
+}
+
+pub(crate) fn clone_labels(alloc: Global, labels: &[Tokens]) -> Result<Labels, AllocError>
+    ensures { IfOk result (λ l. l ≡ labels.now) }
+{
+    let mut cloned = Vec::new(alloc);
+    for label in labels {
+        cloned.push(with_front(alloc, label.as_slice(), Vec::new(alloc))?)?;
+    }
+    Ok(Labels::from_vec(cloned))
+}
+
+pub(crate) fn clone_head(alloc: Global, head: &Head) -> Result<Head, AllocError>
+    ensures { IfOk result (λ h. h ≡ head.now) }
+{
+    let labels = clone_labels(alloc, head.labels.as_slice())?;
+    let directive = clone_directive(&head.directive)?;
+    let rest = with_front(alloc, head.rest.as_slice(), Vec::new(alloc))?;
+    Ok(Head {
+        number: head.number,
+        labels,
+        word: head.word,
+        directive,
+        rest,
+        spoiled: head.spoiled,
+    })
+}
+
+// Checks whether a token is the name of the counter.
+fn is_use(source: &[u8], counter: &[u8], token: &Token) -> bool
+    requires { LiesIn source.now token.now }
+    ensures { result ≡ is_use source.now counter.now token.now }
+{
+    is_name_token(token) && spells(source, token, counter)
+}
+
+// Turns the name of the counter into its number; any other token stays as it is, and so does a name
+// that this copy `made` by joining.
+fn numbered(source: &[u8], counter: &[u8], number: u16, made: bool, token: Token) -> Token
+    requires { LiesIn source.now token }
+    ensures { result ≡ numbered source.now counter.now number made token }
+{
+    let mut token = token;
+    if !made && is_use(source, counter, &token) {
+        token.kind = Kind::Number(u32::from(number));
+    }
+    token
+}
+
+// Checks for a name, `&` and the counter.
+fn is_join(source: &[u8], counter: &[u8], name: &Token, sign: &Token, used: &Token) -> bool
+    requires { LiesIn source.now used.now }
+    ensures { result ≡ (is_name_token name.now && (is_ampersand sign.now && is_use source.now counter.now used.now)) }
+{
+    is_name_token(name) && is_ampersand(sign) && is_use(source, counter, used)
+}
+
+// Checks whether `&` and the counter come after `name`, at index `at` of `tokens`.
+#[tactic(auto, using(crate::proofs::Unrolling::Copies::joins_at, crate::proofs::Unrolling::Copies::joins_short))]
+fn is_joined(source: &[u8], counter: &[u8], name: &Token, tokens: &[Token], at: usize) -> bool
+    requires inside { All (LiesIn source.now) tokens.now }
+    requires place { at < length tokens.now }
+    ensures { result ≡ joins source.now counter.now name.now (drop at tokens.now) }
+{
+    if at + 1 < tokens.len() {
+        is_join(source, counter, name, &tokens[at], &tokens[at + 1])
+    } else {
+        false
+    }
+}
+
+// Copies the tokens of a line of code. The modifier after an opcode is not a name, so it is left
+// alone.
+#[tactic(auto, using(crate::proofs::Unrolling::Copies::code_kept, crate::proofs::Unrolling::Copies::code_plain, crate::proofs::Unrolling::Copies::code_short))]
+fn copy_code(
+    alloc: Global,
+    source: &[u8],
+    counter: &[u8],
+    number: u16,
+    tokens: &[Token],
+) -> Result<Option<Tokens>, AllocError>
+    requires { All (LiesIn source.now) tokens.now }
+    ensures copied { IfOk result (λ o. o ≡ copied_code source.now counter.now number tokens.now) }
+    ensures inside { IfOk result (λ o. IfSome o (All (LiesIn source.now))) }
+{
+    if tokens.len() < 3 || !has_modifier(source, &tokens[0], &tokens[1], &tokens[2]) {
+        return copy_tokens(alloc, source, counter, number, tokens);
+    }
+    match copy_tokens(alloc, source, counter, number, &tokens[3..])? {
+        None => Ok(None),
+        Some(copied) => Ok(Some(with_front(alloc, &tokens[..3], copied.into_vec())?)),
+    }
+}
+
+// Copies what comes after the labels, or after the directive.
+fn copy_rest(
+    alloc: Global,
+    source: &[u8],
+    counter: &[u8],
+    number: u16,
+    head: &Head,
+) -> Result<Option<Tokens>, AllocError>
+    requires { All (LiesIn source.now) head.now.rest }
+    ensures copied { IfOk result (λ o. o ≡ copied_rest source.now counter.now number head.now.word head.now.rest) }
+    ensures inside { IfOk result (λ o. IfSome o (All (LiesIn source.now))) }
+{
+    match head.word {
+        HeadWord::Code => copy_code(alloc, source, counter, number, head.rest.as_slice()),
+        _ => copy_tokens(alloc, source, counter, number, head.rest.as_slice()),
+    }
+}
+
+// Copies the labels. Returns `None` if a ninth counter would be joined to a name.
+fn copy_labels(
+    alloc: Global,
+    source: &[u8],
+    counter: &[u8],
+    number: u16,
+    labels: &Labels,
+) -> Result<Option<Labels>, AllocError>
+    requires { All (All (LiesIn source.now)) labels.now }
+    ensures copied { IfOk result (λ o. o ≡ all_of (copied_tokens source.now counter.now number) labels.now) }
+    ensures inside { IfOk result (λ o. IfSome o (All (All (LiesIn source.now)))) }
+{
+    let mut copied = Vec::new(alloc);
+    for label in labels.as_slice() {
+        match copy_tokens(alloc, source, counter, number, label.as_slice())? {
+            None => return Ok(None),
+            Some(tokens) => copied.push(tokens)?,
+        }
+    }
+    Ok(Some(Labels::from_vec(copied)))
+}
+
+fn clone_directive(directive: &Option<Token>) -> Result<Option<Token>, AllocError>
+    ensures { IfOk result (λ d. d ≡ directive.now) }
+{
+    match directive {
+        None => Ok(None),
+        Some(token) => Ok(Some(clone_token(token)?)),
+    }
+}

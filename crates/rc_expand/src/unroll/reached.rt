@@ -1,0 +1,153 @@
+//! Lines that the unrolling has reached. Each is made when it is needed, and none before.
+ghost use Rattle.std.specs.Prelude.{◌≡◌, List, ℕ, map, true, [], IfOk};
+ghost use Rattle.rc_expand.specs.Heads.Lines.{HeadLies, bare_line};
+ghost use Rattle.rc_expand.specs.declared.heads.head.Head.{Head};
+ghost use Rattle.rc_expand.specs.Unroll.{earlier_of, copied_line};
+ghost use Rattle.std.specs.List.{list_all};
+ghost use Rattle.rc_expand.specs.Steps.{has_room, is_short, is_short_line};
+ghost use Rattle.rc_expand.specs.Unroll.Reached.{line_in, lines_in, reached_line};
+
+use crate::heads::head::{Head, HeadWord};
+use crate::line::Tokens;
+use crate::unroll::copy::{clone_head, copy_line};
+use crate::unroll::opening::earlier_labels;
+use rc_text::Token;
+use std::alloc::{AllocError, Global};
+
+// A copy of a block: its counter, and the counter's number.
+#[derive(Clone, Copy, Debug, PartialEq, Eq)]
+pub(crate) struct Copying<'a> {
+    pub counter: &'a [u8],
+    pub number: u16,
+}
+
+// A line of the text in the copies that it stands in, the outermost first. `is_earlier` is set for
+// the labels that a FOR has before its counter, which are a line of their own.
+#[derive(Drop)]
+pub(crate) struct Reached<'a> {
+    pub head: &'a Head,
+    pub copies: Vec<Copying<'a>>,
+    pub is_earlier: bool,
+}
+
+// Makes a line as it stands in these copies.
+pub(crate) fn make_line(
+    alloc: Global,
+    source: &[u8],
+    copies: &[Copying],
+    head: &Head,
+) -> Result<Head, AllocError>
+    requires { HeadLies source.now head.now }
+    ensures made { IfOk result (λ h. h ≡ line_in source.now copies.now head.now) }
+    ensures inside { IfOk result (HeadLies source.now) }
+{
+    let mut made = clone_head(alloc, head)?;
+    for copy in copies {
+        made = copy_line(alloc, source, copy.counter, copy.number, &made)?;
+    }
+    Ok(made)
+}
+
+pub(crate) fn clone_copies<'a>(
+    alloc: Global,
+    copies: &[Copying<'a>],
+) -> Result<Vec<Copying<'a>>, AllocError>
+    ensures { IfOk result (λ v. v.items ≡ copies.now) }
+{
+    let mut cloned = Vec::with_capacity(alloc, copies.len())?;
+    for copy in copies {
+        cloned.push(*copy)?;
+    }
+    Ok(cloned)
+}
+
+// Adds a copy inside others.
+pub(crate) fn with_copy<'a>(
+    alloc: Global,
+    copies: &[Copying<'a>],
+    counter: &'a [u8],
+    number: u16,
+) -> Result<Vec<Copying<'a>>, AllocError>
+    ensures { IfOk result (λ v. (source : List ℕ) (hs : List Head) → map (copied_line source counter.now number) (lines_in source copies.now hs) ≡ lines_in source v.items hs) }
+{
+    let mut all = clone_copies(alloc, copies)?;
+    all.push(Copying { counter, number })?;
+    Ok(all)
+}
+
+// Checks for a line to which no ninth counter can be joined, in however many copies it stands.
+pub(crate) fn is_short_line(head: &Head) -> bool
+    ensures { result ≡ is_short_line head.now }
+{
+    are_short(head.labels.as_slice()) && is_short(head.rest.as_slice())
+}
+
+fn are_short(labels: &[Tokens]) -> bool
+    ensures { result ≡ list_all is_short labels.now }
+{
+    labels.iter().all(|label| is_short(label.as_slice()))
+}
+
+fn is_short(tokens: &[Token]) -> bool
+    ensures { result ≡ is_short tokens.now }
+{
+    tokens.iter().all(|token| has_room(token, tokens.len()))
+}
+
+// Checks whether counters may be joined to one of `len` tokens: joining one takes two tokens away.
+fn has_room(token: &Token, len: usize) -> bool
+    ensures { result ≡ has_room len token.now }
+{
+    len <= 18 && 2 * token.joined.len() + len <= 18
+}
+
+impl<'a> Reached<'a> {
+    // Checks for a line that is as the text has it.
+    pub(crate) fn is_as_written(&self) -> bool
+        ensures { (source : List ℕ) → result ≡ true → reached_line source self.now ≡ self.now.head.now }
+    {
+        !self.is_earlier && self.copies.is_empty()
+    }
+
+    // Returns the word of the line.
+    #[tactic(auto, using(crate::proofs::Unrolling::Reaching::word_in))]
+    pub(crate) fn word(&self) -> HeadWord
+        ensures { (source : List ℕ) → (reached_line source self.now).word ≡ result }
+    {
+        if self.is_earlier {
+            HeadWord::Bare
+        } else {
+            self.head.word
+        }
+    }
+
+    // Makes the line.
+    pub(crate) fn make(&self, alloc: Global, source: &[u8]) -> Result<Head, AllocError>
+        requires { HeadLies source.now self.now.head.now }
+        ensures made { IfOk result (λ h. h ≡ reached_line source.now self.now) }
+        ensures inside { IfOk result (HeadLies source.now) }
+    {
+        let made = make_line(alloc, source, &self.copies, self.head)?;
+        if !self.is_earlier {
+            return Ok(made);
+        }
+        earlier_line(alloc, source, &made)
+    }
+}
+
+// Makes the line of the labels before a counter.
+fn earlier_line(alloc: Global, source: &[u8], first: &Head) -> Result<Head, AllocError>
+    requires { HeadLies source.now first.now }
+    ensures made { IfOk result (λ h. h ≡ bare_line first.now.number (earlier_of first.now.labels)) }
+    ensures inside { IfOk result (HeadLies source.now) }
+{
+    let labels = earlier_labels(alloc, source, first.labels.as_slice())?;
+    Ok(Head {
+        number: first.number,
+        labels,
+        word: HeadWord::Bare,
+        directive: None,
+        rest: Tokens::from_vec(Vec::new(alloc)),
+        spoiled: false,
+    })
+}
