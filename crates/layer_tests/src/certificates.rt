@@ -2,20 +2,20 @@
 ghost use Rattle.std.specs.Prelude.{◌≡◌, IfOk, length};
 
 use crate::opponents::{BOTH, two_opponents};
-use mars_fight::Schedule;
+use mars_fight::{MOST_POINTS, Schedule};
 use rc_instr::{Outlet, Rules};
 use std::alloc::{AllocError, Global};
 use std::io;
 use std::io::Write;
 use std::test::Fail;
 use tune_cert::{
-    CertFault, CheckFault, Found, Listing, MOST_POINTS, ReadFault, Reason, Row, Rows, Verdict,
-    check, greatest_total, read_cert, write_cert,
+    CertFault, CheckFault, Found, Listing, ReadFault, Reason, Row, Rows, Verdict, cert_version,
+    check, fight_weight, greatest_total, read_cert, write_cert,
 };
 use tune_template::{Inputs, Template};
 
 // The certificate of what `five_rows` returns.
-const FIVE: &[u8] = b"cwcert,1,5\nbest,2,7\nrefused,0,-\n\
+const FIVE: &[u8] = b"cwcert,2,5\nbest,2,7\nrefused,0,-\n\
     cap,1,10:0 4:3\ncap,2,0:3 1:1 2:3\ncap,3,-\nsame,4,4294967295\n";
 
 // Four settings with one warrior, an imp, which wins against the first opponent and ties with the
@@ -44,7 +44,8 @@ fn cap(alloc: Global, fights: &[(u32, u8)]) -> Result<Row, AllocError> {
 
 // Returns what a search found, with rows of each kind. The fights of one row are not in order.
 fn five_rows(alloc: Global) -> Result<Found, Fail>
-    ensures { IfOk result (λ f. length f.rows ≡ 5) }
+    ensures rows { IfOk result (λ f. length f.rows ≡ 5) }
+    ensures version { IfOk result (λ f. f.version ≡ 2) }
 {
     let mut rows = Vec::new(alloc);
     rows.push(Row::Refused)?;
@@ -53,6 +54,7 @@ fn five_rows(alloc: Global) -> Result<Found, Fail>
     rows.push(cap(alloc, &[])?)?;
     rows.push(Row::Same(4_294_967_295))?;
     Ok(Found {
+        version: 2,
         best: 2,
         total: 7,
         rows: Rows::from_vec(rows),
@@ -132,6 +134,7 @@ fn a_certificate_is_accepted_or_rejected(rt: HostRuntime) -> Result<(), Fail> {
     let schedule = Schedule::read(rt.alloc(), BOTH, 2, &rules)?;
     let inputs = Inputs::new(template, opponents, schedule, rules);
     assert_eq!(rt; greatest_total(&inputs), 2 * MOST_POINTS);
+    assert_eq!(rt; (cert_version(&inputs), fight_weight(&inputs, 1)), (1, 1));
     for (cert, want) in VERDICTS {
         assert_eq!(rt; check(rt.alloc(), &inputs, cert)?, want, "{cert:?}");
     }

@@ -17,11 +17,13 @@ fn a_schedule_is_read_and_fits(rt: HostRuntime) -> Result<(), Fail> {
             opponent: 0,
             position: 8,
             first: Side::Candidate,
+            weight: 1,
         },
         Fight {
             opponent: 1,
             position: 11,
             first: Side::Opponent,
+            weight: 1,
         },
     ];
     assert_eq!(rt; schedule.fights(), fights.as_slice());
@@ -83,10 +85,37 @@ fn a_schedule_has_at_most_ten_thousand_fights(rt: HostRuntime) -> Result<(), Fai
     Ok(())
 }
 
+#[test]
+fn a_schedule_may_have_weights(rt: HostRuntime) -> Result<(), Fail> {
+    let rules = Rules::try_new(16, 20, 4, 4, 4)?;
+    for (text, plain, greatest) in [
+        ("opponent,position,first\n0,8,c\n1,11,o\n", true, 6),
+        (
+            "opponent,position,first,weight\n0,8,c,1\n1,11,o,001\n",
+            true,
+            6,
+        ),
+        (
+            "opponent,position,first,weight\n0,8,c,2\n1,11,o,1000\n",
+            false,
+            3006,
+        ),
+    ] {
+        let schedule = Schedule::read(rt.alloc(), text.as_bytes(), 2, &rules)?;
+        assert_eq!(rt;
+            (schedule.plain(), schedule.greatest()),
+            (plain, greatest),
+            "{text}"
+        );
+    }
+    Ok(())
+}
+
 const AT_EIGHT: Fight = Fight {
     opponent: 0,
     position: 8,
     first: Side::Candidate,
+    weight: 1,
 };
 
 #[test]
@@ -118,9 +147,12 @@ fn texts_of_faults(rt: HostRuntime) -> Result<(), Fail> {
     for (kind, want) in [
         (
             Kind::Header,
-            "record 7: first record must be opponent,position,first",
+            "record 7: first record must be opponent,position,first or opponent,position,first,weight",
         ),
-        (Kind::FieldCount, "record 7: expected three fields"),
+        (
+            Kind::FieldCount,
+            "record 7: expected as many fields as in the first record",
+        ),
         (Kind::BadNumber, "record 7: number must have 1 to 9 digits"),
         (Kind::NoSuchOpponent, "record 7: no such opponent"),
         (
@@ -131,6 +163,7 @@ fn texts_of_faults(rt: HostRuntime) -> Result<(), Fail> {
         (Kind::Empty, "record 7: no fights"),
         (Kind::TooMany, "record 7: more than 10000 fights"),
         (Kind::OutOfMemory, "record 7: out of memory"),
+        (Kind::BadWeight, "record 7: weight must be from 1 to 1000"),
     ] {
         let fault = ScheduleFault { row: 7, kind };
         let text = format!(in rt.alloc(); "{fault}")?;
