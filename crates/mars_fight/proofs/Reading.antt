@@ -1,17 +1,15 @@
 -- What a read takes off the records that are left.
 use Rattle.std.proofs.Common.{◌≡◌, ◌≤◌, ◌<◌, ◌+◌, ℕ, zero, suc, Bool, true, false, List, [], ◌∷◌, ◌++◌, length, Some, None, refl, sym, ap, ◌∙◌, arith, add-one, Bor, inl, inr, ◌⊎◌}
 use Rattle.std.specs.Bool.{MatchBool}
-use Rattle.std.specs.Prelude.{Option, Result, Ok, Err, IfOk, IfErr, OnErr, IsErrAnd, MatchResult, if◌then◌else◌}
+use Rattle.std.specs.Prelude.{Option, Result, Ok, Err, IfOk, if◌then◌else◌}
 use Rattle.csv.specs.Machine.{Read, next_record, step, ends_at_end, is_end, fields_after, field_after}
-use Rattle.csv.specs.Reading.{ExplainsRead, NextIs, Ready, ReadsNext, ReadRecord, error_kind, reader_trim, stops_reader, default_config, pending_of, records_from, records_next, source_of}
+use Rattle.csv.specs.Reading.{NextIs, Ready, ReadsNext, ReadRecord, reader_trim, default_config, pending_of, records_from, records_next, source_of}
 use Rattle.csv.specs.declared.parser.Config.{Config}
 use Rattle.csv.specs.declared.parser.State.{State}
 use Rattle.csv.specs.declared.parser.State.TheVariants as st
 use Rattle.csv.specs.declared.reader.Reader.{Reader}
 use Rattle.csv.specs.declared.reader.Trim.TheVariants as trim
 use Rattle.csv.specs.declared.error.Error.{Error}
-use Rattle.csv.specs.declared.error.ErrorKind.{ErrorKind}
-use Rattle.csv.specs.declared.error.ErrorKind.TheVariants as kind
 use Rattle.mars_fight.specs.Records.{IsPlain, IsPlainOrFailed, records_left}
 
 -- a read of a text of k bytes leaves fewer, or is at the end of the text
@@ -129,55 +127,22 @@ read_found : (a b : Reader (Bor (List ℕ))) (fields : List (List ℕ)) (res : R
 read_found a b fields (Ok found) plain reads failed = read_going a b found fields a.failed refl plain reads failed
 read_found a b fields (Err e) plain reads failed = tt
 
--- if records may have any number of fields, a failed read of bytes stops the reader
-stopped : (a b : Reader (Bor (List ℕ))) (e : ErrorKind) → a.flexible ≡ true → ExplainsRead bytes_of a b false e → b.failed ≡ stops_reader e → b.failed ≡ true
-stopped a b (kind.Io why) flexible h fails = fails
-stopped a b (kind.UnequalLengths pos expected len) flexible h fails = absurd (cc (h.0))
-stopped a b (kind.Utf8 pos why) flexible h fails = absurd (cc (h.0))
-stopped a b kind.OutOfMemory flexible h fails = fails
-stopped a b (kind.Serialize text) flexible h fails = absurd h
-stopped a b (kind.Deserialize pos why) flexible h fails = absurd h
+-- the records that a reader has left, which are none once a read has met the end or has failed
+abbrev pub still_left : Bool → Reader (Bor (List ℕ)) → List (List (List ℕ))
+still_left ended r = if ended then [] else left_of r
 
--- after a failure nothing is left
-stopped_after : (a b : Reader (Bor (List ℕ))) (e : Error) (failed : Bool) → a.failed ≡ failed → IsPlainOrFailed a
-    → (Ready a → ExplainsRead bytes_of a b false (error_kind e)) → b.failed ≡ stops_reader (error_kind e)
-    → (failed ≡ true → ◌≡◌ {A = Result Bool Error} (Err e) (Ok false)) → left_of b ≡ []
-stopped_after a b e true was plain why fails failed = absurd (cc (failed refl))
-stopped_after a b e false was plain why fails failed =
-    let p = plain was in
-    none_of_failed b (stopped a b (error_kind e) p.flexible (why p.ready) fails)
-
--- after a refusal nothing is left
-read_refused : (a b : Reader (Bor (List ℕ))) (res : Result Bool Error) → IsPlainOrFailed a
-    → IfErr res (λ e. Ready a → ExplainsRead bytes_of a b false (error_kind e)) → IfErr res (λ e. b.failed ≡ stops_reader (error_kind e))
-    → (a.failed ≡ true → res ≡ Ok false) → OnErr res (left_of b ≡ [])
-read_refused a b (Ok found) plain why fails failed = tt
-read_refused a b (Err e) plain why fails failed = stopped_after a b e a.failed refl plain why fails failed
-
--- what a read finds, with another error in place of the reader's
-still_found : {E D : Type 0} (res : Result Bool E) (out : Result Bool D) (P : E → D → Type 0) (Q : Bool → Type 0)
-    → MatchResult res (λ x. out ≡ Ok x) (λ e. IsErrAnd out (P e)) → IfOk res Q → IfOk out Q
-still_found (Ok x) out P Q h q = rw h q
-still_found (Err e) (Ok y) P Q h q = absurd h
-still_found (Err e) (Err d) P Q h q = tt
-
--- what a failed read leaves, with another error in place of the reader's
-still_refused : {E D : Type 0} (res : Result Bool E) (out : Result Bool D) (P : E → D → Type 0) (R : Type 0)
-    → MatchResult res (λ x. out ≡ Ok x) (λ e. IsErrAnd out (P e)) → OnErr res R → OnErr out R
-still_refused (Ok x) out P R h r = rw h tt
-still_refused (Err e) (Ok y) P R h r = absurd h
-still_refused (Err e) (Err d) P R h r = r
-
--- what a read returns after `map_err`
-pub answer_found : {D : Type 0} (a b : Reader (Bor (List ℕ))) (fields : List (List ℕ)) (res : Result Bool Error) (out : Result Bool D) (P : Error → D → Type 0)
-    → MatchResult res (λ x. out ≡ Ok x) (λ e. IsErrAnd out (P e)) → IsPlainOrFailed a
+-- a read that finds a record takes it off the records that are left
+pub one_taken : (a b : Reader (Bor (List ℕ))) (fields : List (List ℕ)) (res : Result Bool Error) (ended : Bool) → ended ≡ false → res ≡ Ok true → IsPlainOrFailed a
     → IfOk res (λ found. reader_trim a ≡ trim.None → Ready a → ReadRecord bytes_of a b found fields) → (a.failed ≡ true → res ≡ Ok false)
-    → IfOk out (λ found. MatchBool found (left_of a ≡ fields ∷ left_of b) (left_of a ≡ []))
-answer_found a b fields res out P h plain reads failed = still_found res out P _ h (read_found a b fields res plain reads failed)
+    → still_left ended a ≡ fields ∷ still_left ended b
+one_taken a b fields res ended going is plain reads failed =
+    let found = read_found a b fields res plain reads failed in
+    rw going (rw is at found)
 
--- what a failed read leaves after `map_err`
-pub answer_refused : {D : Type 0} (a b : Reader (Bor (List ℕ))) (res : Result Bool Error) (out : Result Bool D) (P : Error → D → Type 0)
-    → MatchResult res (λ x. out ≡ Ok x) (λ e. IsErrAnd out (P e)) → IsPlainOrFailed a
-    → IfErr res (λ e. Ready a → ExplainsRead bytes_of a b false (error_kind e)) → IfErr res (λ e. b.failed ≡ stops_reader (error_kind e))
-    → (a.failed ≡ true → res ≡ Ok false) → OnErr out (left_of b ≡ [])
-answer_refused a b res out P h plain why fails failed = still_refused res out P _ h (read_refused a b res plain why fails failed)
+-- if a read finds none, none was left
+pub none_taken : (a b : Reader (Bor (List ℕ))) (fields : List (List ℕ)) (res : Result Bool Error) (ended : Bool) → ended ≡ false → res ≡ Ok false → IsPlainOrFailed a
+    → IfOk res (λ found. reader_trim a ≡ trim.None → Ready a → ReadRecord bytes_of a b found fields) → (a.failed ≡ true → res ≡ Ok false)
+    → still_left ended a ≡ []
+none_taken a b fields res ended going is plain reads failed =
+    let found = read_found a b fields res plain reads failed in
+    rw going (rw is at found)

@@ -16,16 +16,18 @@ use std::marker::Model;
 #[derive(Drop)]
 pub struct Records<'a> {
     reader: Reader<&'a [u8]>,
+    // Whether a read has met the end or has failed: then the reader is not asked again.
+    ended: bool,
 }
 
 impl<'a> Model for Records<'a> {
-    ghost use Rattle.std.specs.Prelude.{List, Some};
+    ghost use Rattle.std.specs.Prelude.{List, [], Some, if◌then◌else◌};
     ghost use Rattle.csv.specs.Reading.{reader_state, source_of};
     ghost use Rattle.mars_fight.specs.Records.{Fields, records_left, IsPlainOrFailed};
 
     ghost Value = { List Fields };
 
-    ghost view = { λ r. records_left (reader_state r.reader) (source_of (λ s. Some s.now) r.reader) };
+    ghost view = { λ r. if r.ended then [] else records_left (reader_state r.reader) (source_of (λ s. Some s.now) r.reader) };
 
     ghost invariant = { λ r. IsPlainOrFailed r.reader };
 }
@@ -40,20 +42,34 @@ impl<'a> Records<'a> {
             .has_headers(false)
             .flexible(true)
             .from_reader(alloc, text);
-        Records { reader }
+        Records {
+            reader,
+            ended: false,
+        }
     }
 
     /// Reads the next record into `fields`. Returns `false` if there is none.
     ///
-    /// After `OutOfMemory` no more records come. Nothing else can fail: the bytes are at hand, and
-    /// a record may have any number of fields.
+    /// After `false` or `OutOfMemory` no more records come. Nothing else can fail: the bytes are at
+    /// hand, and a record may have any number of fields.
     pub fn read(&mut self, fields: &mut ByteRecord) -> Result<bool, OutOfMemory>
-        ensures read { IfOk result (λ found. MatchBool found (self.old ≡ fields_of fields.new ∷ self.new) (self.old ≡ [])) }
+        ensures read { IfOk result (λ found. MatchBool found (self.old ≡ fields_of fields.new ∷ self.new) ((self.old ≡ []) × (self.new ≡ []))) }
         ensures refused { OnErr result (self.new ≡ []) }
     {
-        self.reader
-            .read_byte_record(fields)
-            .map_err(|_refused| OutOfMemory)
+        if self.ended {
+            return Ok(false);
+        }
+        match self.reader.read_byte_record(fields) {
+            Ok(true) => Ok(true),
+            Ok(false) => {
+                self.ended = true;
+                Ok(false)
+            }
+            Err(_refused) => {
+                self.ended = true;
+                Err(OutOfMemory)
+            }
+        }
     }
 }
 

@@ -22,6 +22,7 @@ pub fn after(byte: u8, bytes: &[u8]) -> Option<&[u8]>
 /// is 0, or if the value is above 4294967295.
 pub fn decimal_at(bytes: &[u8]) -> Option<(u32, &[u8])>
     ensures found { IfSome result (λ x. (bytes.now ≡ decimal x.0 ++ x.1.now) × (x.0 < 2 ^ 32)) }
+    ensures whole { IfSome result (λ x. NoDigitFirst x.1.now) }
     ensures only { (n : ℕ) (rest : List ℕ) → n < 2 ^ 32 → NoDigitFirst rest → bytes.now ≡ decimal n ++ rest
         → IsSomeAnd result (λ x. (x.0 ≡ n) × (x.1.now ≡ rest)) }
 {

@@ -44,6 +44,8 @@ impl Model for Rules {
 }
 
 impl Clone for Rules {
+    ghost is_clone = { λ rules copy. copy ≡ rules };
+
     fn clone(&self) -> Result<Rules, AllocError> {
         Ok(*self)
     }

@@ -29,6 +29,6 @@ returns-in-Err-clause-fault c =
 pub returns-then-is_empty-clause-fault : goal.returns-then-is_empty-clause-fault
 returns-then-is_empty-clause-fault c =
     let next = rw c.if-branch.false at c.in_ok-read.ensures.read in
-    let read = rw next at c.loop-fights.invariant.read in
+    let read = rw next.0 at c.loop-fights.invariant.read in
     let none : length c.loop-fights.fights.items ≡ 0 = grind (arith, common_steps) in
     rw c.fault_at-then-is_empty.ensures (refl, none_listed _ _ _ _ c.loop-fights.fights.items read none)

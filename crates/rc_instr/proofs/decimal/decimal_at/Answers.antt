@@ -1,10 +1,13 @@
 use Rattle.std.proofs.Common.{◌≡◌, Some}
 use Rattle.std.specs.Fmt.{decimal}
-use Rattle.rc_instr.proofs.Numerals.{front_digits, decimal_front}
+use Rattle.rc_instr.proofs.Numerals.{front_digits, back_digits, decimal_front}
 use Rattle.rc_instr.proofs.decimal.decimal_at.Goals as goal
 
 pub digits_number-requires : goal.digits_number-requires
 digits_number-requires c = rw (c.split_at.ensures.front, c.digit_count.ensures) (front_digits c.args.bytes.now)
+
+pub returns-in-Some-clause-whole : goal.returns-in-Some-clause-whole
+returns-in-Some-clause-whole c = rw (c.split_at.ensures.back, c.digit_count.ensures) (back_digits c.args.bytes.now)
 
 pub returns-in-Some-clause-only : goal.returns-in-Some-clause-only
 returns-in-Some-clause-only c n rest l h e =

@@ -1,12 +1,16 @@
-use Rattle.mars_fight.proofs.Reading.{answer_found, answer_refused}
+use Rattle.std.proofs.Common.{ap, refl, ◌∙◌}
+use Rattle.std.specs.Prelude.{Ok}
+use Rattle.mars_fight.proofs.Reading.{one_taken, none_taken}
 use Rattle.mars_fight.proofs.records.Records.read.Goals as goal
 
-pub returns-clause-read : goal.returns-clause-read
-returns-clause-read c =
+pub returns-in-Ok-true-clause-read : goal.returns-in-Ok-true-clause-read
+returns-in-Ok-true-clause-read c =
     let read = c.read_byte_record.ensures in
-    rw (← c.self.view_is) (answer_found c.self.inside.reader c.read_byte_record.new.self _ _ _ _ c.map_err.ensures.cases c.self.invariant read.reads read.failed)
+    let is = c.in-Ok-true.is ∙ ap Ok c.in-Ok-true.field-0-test in
+    rw (← c.self.view_is) (one_taken c.self.inside.reader c.read_byte_record.new.self _ _ c.self.inside.ended c.if-self.false is c.self.invariant read.reads read.failed)
 
-pub returns-clause-refused : goal.returns-clause-refused
-returns-clause-refused c =
+pub returns-in-Ok-false-clause-read : goal.returns-in-Ok-false-clause-read
+returns-in-Ok-false-clause-read c =
     let read = c.read_byte_record.ensures in
-    answer_refused c.self.inside.reader c.read_byte_record.new.self _ _ _ c.map_err.ensures.cases c.self.invariant read.why read.fails read.failed
+    let is = c.in-Ok-false.is ∙ ap Ok c.in-Ok-false.field-0-test in
+    (rw (← c.self.view_is) (none_taken c.self.inside.reader c.read_byte_record.new.self _ _ c.self.inside.ended c.if-self.false is c.self.invariant read.reads read.failed), refl)
