@@ -6,7 +6,7 @@ ghost use Rattle.rc_expand.specs.Heads.NameTables.{with_name};
 ghost use Rattle.rc_expand.specs.Expansion.{LineLies};
 ghost use Rattle.rc_asm.specs.Names.{code_lines_after, labels_from, labels_of};
 
-use rc_expand::{Line, LineWord, NameTable, name_of};
+use rc_expand::{Line, LineWord, NameTable};
 use rc_text::Token;
 use std::alloc::{AllocError, Global};
 use std::marker::Model;
@@ -20,11 +20,11 @@ struct Address {
 
 // The labels of a text with their addresses.
 #[derive(Drop)]
-pub(crate) struct Labels {
-    table: NameTable<Address>,
+pub(crate) struct Labels<'a> {
+    table: NameTable<'a, Address>,
 }
 
-impl Model for Labels {
+impl<'a> Model for Labels<'a> {
     ghost use Rattle.std.specs.Prelude.{map};
     ghost use Rattle.rc_asm.specs.Names.{Labels};
 
@@ -33,7 +33,7 @@ impl Model for Labels {
     ghost view = { λ l. map (λ e. (e.0, e.1.number)) l.table };
 }
 
-impl Labels {
+impl<'a> Labels<'a> {
     ghost use Rattle.std.specs.Prelude.{map, ◌++◌};
     ghost use Rattle.rc_asm.specs.Names.{Labels as LabelList};
     ghost use Rattle.rc_asm.specs.Steps.{Agree};
@@ -42,7 +42,7 @@ impl Labels {
     fn insert_all(
         &mut self,
         alloc: Global,
-        source: &[u8],
+        source: &'a [u8],
         tokens: &[Token],
         address: usize,
     ) -> Result<(), AllocError>
@@ -52,8 +52,8 @@ impl Labels {
     {
         let mut rest = tokens;
         while let Some((token, after)) = rest.split_first() {
-            let name = name_of(alloc, source, token)?;
-            self.table.insert(name, Address { number: address })?;
+            self.table
+                .add(alloc, source, token, Address { number: address })?;
             rest = after;
         }
         Ok(())
@@ -61,9 +61,9 @@ impl Labels {
 
     pub(crate) fn of_lines(
         alloc: Global,
-        source: &[u8],
+        source: &'a [u8],
         lines: &[Line],
-    ) -> Result<Labels, AllocError>
+    ) -> Result<Self, AllocError>
         requires { All (LineLies source.now) lines.now }
         ensures { IfOk result (λ labels. Agree labels (labels_of source.now lines.now)) }
     {

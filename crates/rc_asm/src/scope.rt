@@ -11,22 +11,22 @@ use rc_text::{EvalFault, Names, Token, eval};
 
 // What the second pass shares: constants, rules and labels give names their values.
 #[derive(Clone, Copy)]
-pub(crate) struct Context<'a> {
+pub(crate) struct Context<'a, 't> {
     pub(crate) constants: &'a Constants<'a>,
     pub(crate) rules: &'a Rules,
-    pub(crate) labels: &'a Labels,
+    pub(crate) labels: &'a Labels<'t>,
 }
 
 // The names at one line: `at` lines of code are before it, and labels count from `base`.
 #[derive(Drop)]
-struct Scope<'a> {
-    context: Context<'a>,
+struct Scope<'a, 't> {
+    context: Context<'a, 't>,
     at: usize,
     base: usize,
     ghost small: { (at < 2 ^ 63) × (base < 2 ^ 63) },
 }
 
-impl<'a> Names for Scope<'a> {
+impl<'a, 't> Names for Scope<'a, 't> {
     ghost use Rattle.rc_asm.specs.Names.{stands_for};
     ghost use Rattle.rc_asm.specs.Seen.{seen_names};
 

@@ -9,3 +9,4 @@ pub mod FaultSteps
 pub mod TextFaults
 pub mod HeadFaults
 pub mod NestingSteps
+pub mod LabelLaws

@@ -6,3 +6,4 @@ pub mod Short
 pub mod ContextSteps
 pub mod CountSteps
 pub mod OpeningSteps
+pub mod Equation

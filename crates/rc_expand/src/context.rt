@@ -19,7 +19,7 @@ pub(crate) struct Context<'a> {
     pub(crate) source: &'a [u8],
     pub(crate) constants: &'a Constants<'a>,
     pub(crate) rules: &'a Rules,
-    pub(crate) equs: &'a NameTable<Equ>,
+    pub(crate) equs: &'a NameTable<'static, Equ>,
     pub(crate) links: &'a [Links],
 }
 

@@ -33,7 +33,7 @@ pub(crate) fn read_heads(
     alloc: Global,
     source: &[u8],
     names: &GivenNames,
-) -> Result<(Vec<Head>, NameTable<Equ>), ExpandFault>
+) -> Result<(Vec<Head>, NameTable<'static, Equ>), ExpandFault>
     ensures heads { GivesHeads result (heads_of source.now (table_of names.now.constants.now.names.now names.now.constants.now.values.now) names.now.rules.now) }
     ensures first { IfErr result (λ f. f.kind ≢ OutOfMemory → IsHeadFault source.now (table_of names.now.constants.now.names.now names.now.constants.now.values.now) names.now.rules.now f) }
     ensures lines { IfOk result (λ p. All (HeadLies source.now) p.0.items) }

@@ -1,5 +1,6 @@
 //! Laws of the definitions.
-ghost use Rattle.std.specs.Prelude.{◌≡◌, ◌↔◌, List, ℕ, Option, Some};
+ghost use Rattle.std.specs.Prelude.{◌≡◌, ◌↔◌, ◌∷◌, ◌++◌, List, ℕ, Bool, Option, Some, false, flat_map};
+ghost use Rattle.rc_text.specs.declared.token.Token.{Token};
 ghost use Rattle.rc_instr.specs.Rules.{RulesView};
 ghost use Rattle.rc_expand.specs.declared.line.Line.{Line};
 ghost use Rattle.rc_expand.specs.declared.fault.ExpandFault.{ExpandFault};
@@ -8,7 +9,11 @@ ghost use Rattle.rc_expand.specs.Names.{Table};
 ghost use Rattle.rc_expand.specs.Heads.{Heads, heads_of};
 ghost use Rattle.rc_expand.specs.Expansion.{IsExpansion};
 ghost use Rattle.rc_expand.specs.Heads.Faults.{IsHeadFault};
-ghost use Rattle.rc_expand.specs.Heads.Nesting.{nesting_fault, AreNested};
+ghost use Rattle.rc_expand.specs.declared.heads.head.HeadWord.TheVariants as word;
+ghost use Rattle.rc_expand.specs.Heads.Lines.{labelled};
+ghost use Rattle.rc_expand.specs.Heads.Nesting.{nesting_fault, AreNested, Closed, closed_lines, opens_or_closes, IsClosed};
+ghost use Rattle.rc_expand.specs.Replace.{Equs};
+ghost use Rattle.rc_expand.specs.Unroll.{Unrolled, unrolled_both, one_line, block_of, outside};
 
 /// A text has at most one expansion.
 pub fn one_expansion()
@@ -29,4 +34,28 @@ pub fn one_fault_before_unrolling()
 #[tactic(auto, using(crate::proofs::Reading::NestingSteps::said, crate::proofs::Reading::NestingSteps::found))]
 pub fn blocks_are_closed_or_have_a_fault()
     ensures { (hs : List Head) (fault : Option ExpandFault) → nesting_fault 0 0 hs ≡ fault ↔ AreNested hs fault }
+{}
+
+/// The labels of a line and the tokens after them are its tokens, in order.
+#[tactic(auto, using(crate::proofs::Reading::LabelLaws::labels_and_rest))]
+pub fn labels_come_before_the_rest()
+    ensures { (source : List ℕ) (ts : List Token) → flat_map (λ x. x) (labelled source ts).labels ++ (labelled source ts).after ≡ ts }
+{}
+
+/// What lines unroll to. A line that is neither FOR nor ROF is taken by itself, and the lines after
+/// it are unrolled in turn. A FOR, closed lines and a ROF are one block, and the lines after it are
+/// unrolled in turn. Closed lines unroll to the same whatever comes after them.
+///
+/// `deeper` unrolls the lines of a block.
+#[tactic(auto, using(crate::proofs::Unrolling::Equation::out_line, crate::proofs::Unrolling::Equation::out_block, crate::proofs::Unrolling::Equation::out_then))]
+pub fn blocks_unroll_in_place()
+    ensures line { (source : List ℕ) (constants : Table) (rules : RulesView) (equs : Equs) (b : Bool) (deeper : List Head → Option Unrolled) (h : Head) (after : List Head)
+        → opens_or_closes h.word ≡ false
+        → outside source constants rules equs b deeper (h ∷ after) ≡ unrolled_both (one_line source constants rules equs b h) (outside source constants rules equs b deeper after) }
+    ensures block { (source : List ℕ) (constants : Table) (rules : RulesView) (equs : Equs) (b : Bool) (deeper : List Head → Option Unrolled) (n : ℕ) (c : Closed) (f r : Head) (after : List Head)
+        → IsClosed n c → f.word ≡ word.For → r.word ≡ word.Rof
+        → outside source constants rules equs b deeper (f ∷ (closed_lines c ++ (r ∷ after))) ≡ unrolled_both (block_of source constants rules equs deeper f (closed_lines c) r) (outside source constants rules equs b deeper after) }
+    ensures parts { (source : List ℕ) (constants : Table) (rules : RulesView) (equs : Equs) (b : Bool) (deeper : List Head → Option Unrolled) (n : ℕ) (c : Closed) (after : List Head)
+        → IsClosed n c
+        → outside source constants rules equs b deeper (closed_lines c ++ after) ≡ unrolled_both (outside source constants rules equs b deeper (closed_lines c)) (outside source constants rules equs b deeper after) }
 {}

@@ -105,7 +105,7 @@ pub(crate) fn replace_tokens(
 // Returns the tokens of the EQU name at an index of the table, and their links.
 fn body_at<'a>(
     source: &[u8],
-    equs: &'a NameTable<Equ>,
+    equs: &'a NameTable<'_, Equ>,
     links: &'a [Links],
     place: Option<usize>,
 ) -> Option<(&'a [Token], &'a [Option<usize>])>

@@ -1,12 +1,14 @@
 -- What a table of names finds, and what is fed for a name.
 use Rattle.std.proofs.Common.{◌≡◌, ℕ, ◌+◌, ◌<◌, ◌/◌, ◌%◌, Bool, true, false, cond, ◌&&◌, ◌||◌, not, List, [], ◌∷◌, ◌++◌, Option, None, Some, length, refl, sym, ◌∙◌, ap, arith}
-use Rattle.std.specs.Prelude.{is_some, if◌then◌else◌, flat_map, fold}
+use Rattle.std.specs.Prelude.{is_some, if◌then◌else◌, flat_map, fold, nat_lt, unwrap_or}
 use Rattle.std.specs.Hash as fed
 use Rattle.std.specs.Hash.{fed_then}
 use Rattle.std.specs.Str.{bytes_eq}
 use Rattle.std.specs.Cmp.Lexicographic.{nat_list_eq_equiv}
 use Rattle.std.specs.Map.{lookup}
+use Rattle.std.proofs.lemmas.Bool.{le-ltb, lt-ltb}
 use Rattle.std.proofs.lemmas.List.Concat.{flat_map-append}
+use Rattle.indexmap.specs.IndexMap.{insert_entry}
 use Rattle.rc_expand.specs.Names.{entry_of, is_among}
 use Rattle.rc_expand.specs.Steps.{names_in}
 use Rattle.rc_expand.specs.Heads.NameTables.{with_name}
@@ -51,6 +53,36 @@ module _ {A : Type 0} (name : List ℕ) where
   -- a name that is not there is one more
   pub name_new : (table : List (List ℕ × A)) (value : A) → is_some (entry_of table name) ≡ false → with_name table name value ≡ table ++ ((name, value) ∷ [])
   name_new table value h = rw h
+
+  -- a name gets the value that it has already, or else a new one
+  put_kept : (table : List (List ℕ × A)) (value : A) → insert_entry bytes_eq table name (unwrap_or (entry_of table name) value) ≡ with_name table name value
+  put_kept [] value = refl
+  put_kept (e ∷ es) value = by_name (bytes_eq name e.0) (put_kept es value) where
+    spread : (b : Bool) → e ∷ (if b then es else es ++ ((name, value) ∷ [])) ≡ (if b then e ∷ es else (e ∷ es) ++ ((name, value) ∷ []))
+    spread true = refl
+    spread false = refl
+
+    by_name : (b : Bool) → insert_entry bytes_eq es name (unwrap_or (entry_of es name) value) ≡ with_name es name value
+        → (if b then (e.0, unwrap_or (if b then Some e.1 else entry_of es name) value) ∷ es else e ∷ insert_entry bytes_eq es name (unwrap_or (if b then Some e.1 else entry_of es name) value))
+        ≡ (if is_some (if b then Some e.1 else entry_of es name) then e ∷ es else (e ∷ es) ++ ((name, value) ∷ []))
+    by_name true h = refl
+    by_name false h = ap (λ l. e ∷ l) h ∙ spread (is_some (entry_of es name))
+
+  -- the table after `or_insert`
+  pub kept_first : (entries table new : List (List ℕ × A)) (value put : A) (o : Option A) → entries ≡ table → new ≡ insert_entry bytes_eq entries name put → put ≡ unwrap_or o value → o ≡ lookup (bytes_eq name) entries
+      → new ≡ with_name table name value
+  kept_first entries table new value put o e n v l =
+      let found : o ≡ entry_of table name = l ∙ (lookup_finds entries ∙ ap (λ t. entry_of t name) e) in
+      n ∙ (ap (λ t. insert_entry bytes_eq t name put) e ∙ (ap (insert_entry bytes_eq table name) (v ∙ ap (λ x. unwrap_or x value) found) ∙ put_kept table value))
+
+  -- it is longer exactly if the name is new
+  pub longer_if_new : (entries table : List (List ℕ × A)) (before after : ℕ) (o : Option A) → entries ≡ table → after ≡ before + (if is_some o then 0 else 1) → o ≡ lookup (bytes_eq name) entries
+      → nat_lt before after ≡ not (is_some (entry_of table name))
+  longer_if_new entries table before after o e n l =
+      by_found o n ∙ ap (λ x. not (is_some x)) (l ∙ (lookup_finds entries ∙ ap (λ t. entry_of t name) e)) where
+        by_found : (x : Option A) → after ≡ before + (if is_some x then 0 else 1) → nat_lt before after ≡ not (is_some x)
+        by_found None h = lt-ltb before after (omega (arith, h))
+        by_found (Some v) h = le-ltb before after (omega (arith, h))
 
   -- the same, if the bytes are the bytes of the name
   pub name_pushed : (table new : List (List ℕ × A)) (bytes : List ℕ) (value : A) → new ≡ with_name table bytes value → bytes ≡ name → is_some (entry_of table name) ≡ false

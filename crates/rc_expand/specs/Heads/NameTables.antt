@@ -2,12 +2,19 @@
 use Rattle.std.specs.Prelude.{◌≡◌, ℕ, List, [], ◌∷◌, ◌++◌, map, Option, Some, None, if◌then◌else◌, is_some, option_map, flat_map, slice_get}
 use Rattle.rc_text.specs.declared.token.Token.{Token}
 use Rattle.rc_text.specs.Symbols.{counter_text}
+use Rattle.rc_expand.specs.declared.heads.table.Spelling.{Spelling}
+use Rattle.rc_expand.specs.declared.heads.table.Spelling.TheVariants.{Written, Copied}
 use Rattle.rc_expand.specs.Names.{entry_of}
 use Rattle.rc_expand.specs.Replace.{Equs, equ_at}
 
 -- bytes, then the counters joined to them
 abbrev pub joined_name : List ℕ → List ℕ → List ℕ
 joined_name bytes counters = bytes ++ flat_map counter_text counters
+
+-- the bytes of a name in a table
+abbrev pub spelled_bytes : Spelling → List ℕ
+spelled_bytes (Written bytes) = bytes.now
+spelled_bytes (Copied bytes) = bytes.items
 
 -- adds an entry at the end, unless the name is there already
 abbrev pub with_name : {A : Type 0} → List (List ℕ × A) → List ℕ → A → List (List ℕ × A)

@@ -12,9 +12,9 @@ ghost use Rattle.rc_expand.specs.Steps.{new_equ};
 ghost use Rattle.rc_expand.specs.Unroll.{Gives};
 
 use crate::fault::{ExpandFault, ExpandKind, fault};
-use crate::heads::head::{Head, HeadWord, Name};
-use crate::heads::labels::{plain_name, plain_token};
-use crate::heads::table::NameTable;
+use crate::heads::head::{Head, HeadWord};
+use crate::heads::labels::plain_token;
+use crate::heads::table::{KeptName, NameTable, copied_name};
 use crate::heads::words::with_front;
 use crate::line::Tokens;
 use crate::names::{GivenNames, is_taken};
@@ -61,7 +61,7 @@ pub(crate) fn collect_equs(
     source: &[u8],
     names: &GivenNames,
     heads: &[Head],
-) -> Result<NameTable<Equ>, ExpandFault>
+) -> Result<NameTable<'static, Equ>, ExpandFault>
     requires { All (HeadLies source.now) heads.now }
     ensures equs { Gives result (equs_of source.now (table_of names.now.constants.now.names.now names.now.constants.now.values.now) names.now.rules.now heads.now) }
     ensures first { IfErr result (λ f. f.kind ≢ OutOfMemory
@@ -77,7 +77,7 @@ pub(crate) fn collect_equs(
             HeadWord::Rof => opened = opened.saturating_sub(1),
             HeadWord::Equ => if opened == 0 {
                 let (name, equ) = read_equ(alloc, source, names, &equs, head)?;
-                equs.insert(name.into_vec(), equ)?;
+                equs.insert(name, equ)?;
             },
             _ => {}
         }
@@ -110,7 +110,7 @@ fn read_equ(
     names: &GivenNames,
     equs: &NameTable<Equ>,
     head: &Head,
-) -> Result<(Name, Equ), ExpandFault>
+) -> Result<(KeptName<'static>, Equ), ExpandFault>
     requires head { HeadLies source.now head.now }
     ensures equ { Gives result (new_equ source.now (table_of names.now.constants.now.names.now names.now.constants.now.values.now) names.now.rules.now equs.now head.now) }
     ensures fault { IfErr result (λ f. f.kind ≢ OutOfMemory
@@ -122,9 +122,9 @@ fn read_equ(
     if is_taken(names, source, token) || equ_line(equs, source, token).is_some() {
         return Err(fault(head.number, ExpandKind::DuplicateName));
     }
-    let name = plain_name(alloc, source, token)?;
+    let name = copied_name(alloc, source, token)?;
     let tokens = with_front(alloc, head.rest.as_slice(), Vec::new(alloc))?;
-    Ok((Name::from_vec(name), Equ::new(tokens, head.number)))
+    Ok((name, Equ::new(tokens, head.number)))
 }
 
 // Returns the line that defines the EQU name that a token is.

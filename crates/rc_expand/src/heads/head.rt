@@ -60,37 +60,3 @@ pub(crate) struct Head {
     // left of it.
     pub spoiled: bool,
 }
-
-// The bytes of a name.
-#[derive(Debug, Drop)]
-pub(crate) struct Name {
-    bytes: Vec<u8>,
-}
-
-impl Model for Name {
-    ghost use Rattle.std.specs.Prelude.{List, ℕ};
-
-    ghost Value = { List ℕ };
-
-    ghost view = { λ n. n.bytes.items };
-}
-
-impl Name {
-    pub(crate) fn from_vec(bytes: Vec<u8>) -> Self
-        ensures { result ≡ bytes.items }
-    {
-        Name { bytes }
-    }
-
-    pub(crate) fn into_vec(self) -> Vec<u8>
-        ensures { result.items ≡ self }
-    {
-        self.bytes
-    }
-
-    pub(crate) fn as_slice(&self) -> &[u8]
-        ensures { result.now ≡ self.now }
-    {
-        self.bytes.as_slice()
-    }
-}

@@ -1,11 +1,10 @@
 //! Labels that are a single name.
-ghost use Rattle.std.specs.Prelude.{◌≡◌, [], All, IfOk, IfSome, option_map};
-ghost use Rattle.rc_text.specs.Symbols.{LiesIn, name_of};
+ghost use Rattle.std.specs.Prelude.{◌≡◌, [], All, IfSome, option_map};
+ghost use Rattle.rc_text.specs.Symbols.{LiesIn};
 ghost use Rattle.rc_expand.specs.Unroll.{label_token, plain_token};
 
 use crate::heads::words::{is_colon, is_free, is_unjoined};
 use rc_text::Token;
-use std::alloc::{AllocError, Global};
 
 // Returns the name of a label that is a single name, with or without its colon.
 pub(crate) fn label_token<'a>(source: &[u8], label: &'a [Token]) -> Option<&'a Token>
@@ -43,13 +42,4 @@ pub(crate) fn plain_token<'a>(source: &[u8], label: &'a [Token]) -> Option<&'a T
         },
         None => None,
     }
-}
-
-// Copies the bytes of a name that is written without `&`.
-pub(crate) fn plain_name(alloc: Global, source: &[u8], token: &Token) -> Result<Vec<u8>, AllocError>
-    requires inside { LiesIn source.now token.now }
-    requires written { token.now.joined ≡ [] }
-    ensures { IfOk result (λ v. v.items ≡ name_of source.now token.now) }
-{
-    source[token.lo..token.hi].to_vec(alloc)
 }

@@ -8,29 +8,48 @@ ghost use Rattle.rc_expand.specs.Names.{entry_of};
 ghost use Rattle.indexmap.specs.IndexMap.{insert_entry};
 ghost use Rattle.rc_expand.specs.Heads.NameTables.{joined_name, with_name, at_place};
 
-use crate::names::is_joined_name;
+use crate::names::{is_joined_name, name_of};
 use indexmap::{Equivalent, IndexMap};
 use rc_text::Token;
 use std::alloc::{AllocError, Global};
 use std::hash::{Hash, Hasher};
 use std::marker::Model;
 
-/// A name in a table, by its bytes.
-#[doc(hidden)]
+// The bytes of a name: those in the source, or a copy.
 #[derive(Debug, Drop)]
-pub struct KeptName {
-    bytes: Vec<u8>,
+enum Spelling<'a> {
+    Written(&'a [u8]),
+    Copied(Vec<u8>),
 }
 
-impl Model for KeptName {
+/// A name in a table.
+#[doc(hidden)]
+#[derive(Debug, Drop)]
+pub struct KeptName<'a> {
+    spelling: Spelling<'a>,
+}
+
+impl<'a> Model for KeptName<'a> {
     ghost use Rattle.std.specs.Prelude.{List, ℕ};
+    ghost use Rattle.rc_expand.specs.Heads.NameTables.{spelled_bytes};
 
     ghost Value = { List ℕ };
 
-    ghost view = { λ n. n.bytes.items };
+    ghost view = { λ n. spelled_bytes n.spelling };
 }
 
-impl PartialEq for KeptName {
+impl<'a> KeptName<'a> {
+    fn as_slice(&self) -> &[u8]
+        ensures { result.now ≡ self.now }
+    {
+        match &self.spelling {
+            Spelling::Written(bytes) => bytes,
+            Spelling::Copied(bytes) => bytes.as_slice(),
+        }
+    }
+}
+
+impl<'a> PartialEq for KeptName<'a> {
     ghost use Rattle.std.specs.Str.{bytes_eq};
     ghost use Rattle.std.specs.Cmp.{partial_equiv_from_equiv};
     ghost use Rattle.std.specs.Cmp.Lexicographic.{nat_list_eq_equiv};
@@ -39,18 +58,18 @@ impl PartialEq for KeptName {
 
     ghost laws = { partial_equiv_from_equiv nat_list_eq_equiv };
 
-    fn eq(&self, other: &KeptName) -> bool {
-        self.bytes.as_slice() == other.bytes.as_slice()
+    fn eq(&self, other: &KeptName<'a>) -> bool {
+        self.as_slice() == other.as_slice()
     }
 }
 
-impl Eq for KeptName {
+impl<'a> Eq for KeptName<'a> {
     ghost use Rattle.std.specs.Cmp.Lexicographic.{nat_list_eq_equiv};
 
     ghost laws = { nat_list_eq_equiv };
 }
 
-impl Hash for KeptName {
+impl<'a> Hash for KeptName<'a> {
     ghost use Rattle.std.specs.Prelude.{flat_map};
     ghost use Rattle.std.specs.Hash as fed;
     ghost use Rattle.std.proofs.Common.{ap};
@@ -61,7 +80,7 @@ impl Hash for KeptName {
     ghost respects_eq = { λ x y h. ap (flat_map fed.u8) ((bytes_decides x y).0 h) };
 
     fn hash<H: Hasher>(&self, state: &mut H) {
-        feed_bytes(self.bytes.as_slice(), state);
+        feed_bytes(self.as_slice(), state);
     }
 }
 
@@ -91,7 +110,7 @@ impl<'a> Hash for JoinedName<'a> {
     }
 }
 
-impl<'a> Equivalent<KeptName> for JoinedName<'a> {
+impl<'q, 'a> Equivalent<KeptName<'a>> for JoinedName<'q> {
     ghost use Rattle.std.specs.Prelude.{flat_map};
     ghost use Rattle.std.specs.Str.{bytes_eq};
     ghost use Rattle.std.specs.Hash as fed;
@@ -105,18 +124,18 @@ impl<'a> Equivalent<KeptName> for JoinedName<'a> {
 
     ghost respects_eq = { λ n x y. nat_list_eq_equiv.congr (joined_name n.bytes.now n.counters.now) x y };
 
-    fn equivalent(&self, key: &KeptName) -> bool {
-        is_joined_name(self.bytes, self.counters, key.bytes.as_slice())
+    fn equivalent(&self, key: &KeptName<'a>) -> bool {
+        is_joined_name(self.bytes, self.counters, key.as_slice())
     }
 }
 
 /// Names with values, each name once, in the order of insertion.
 #[derive(Drop)]
-pub struct NameTable<V> {
-    entries: IndexMap<KeptName, V>,
+pub struct NameTable<'a, V> {
+    entries: IndexMap<KeptName<'a>, V>,
 }
 
-impl<V> Model for NameTable<V> {
+impl<'a, V> Model for NameTable<'a, V> {
     ghost use Rattle.std.specs.Prelude.{List, ℕ};
 
     ghost Value = { List (List ℕ × V) };
@@ -124,7 +143,7 @@ impl<V> Model for NameTable<V> {
     ghost view = { λ t. t.entries.entries };
 }
 
-impl<V: Drop> NameTable<V> {
+impl<'a, V: Drop> NameTable<'a, V> {
     /// Creates an empty table, without allocating.
     pub fn new(alloc: Global) -> Self
         ensures { result ≡ [] }
@@ -134,30 +153,45 @@ impl<V: Drop> NameTable<V> {
         }
     }
 
-    /// Adds a name with its value, unless the name is in the table already: then the table stays as
-    /// it is, and `value` is dropped. Returns whether the name is new.
+    /// Adds the name that a token spells, joined counters included, with its value, unless the name
+    /// is in the table already: then the table stays as it is, and `value` is dropped. Returns
+    /// whether the name is new. The token's span must lie in `source`.
     ///
     /// Fails only if out of memory; the table then stays as it is.
-    pub fn insert(&mut self, name: Vec<u8>, value: V) -> Result<bool, AllocError>
-        ensures added { IfOk result (λ added. added ≡ not (is_some (entry_of self.old name.items))) }
-        ensures table { OnOk result (self.new ≡ with_name self.old name.items value) }
+    pub fn add(
+        &mut self,
+        alloc: Global,
+        source: &'a [u8],
+        token: &Token,
+        value: V,
+    ) -> Result<bool, AllocError>
+        requires { LiesIn source.now token.now }
+        ensures added { IfOk result (λ added. added ≡ not (is_some (entry_of self.old (name_of source.now token.now)))) }
+        ensures table { OnOk result (self.new ≡ with_name self.old (name_of source.now token.now) value) }
         ensures refused { OnErr result (self.new ≡ self.old) }
     {
-        let name = KeptName { bytes: name };
-        if self.entries.contains_key(&name) {
-            return Ok(false);
-        }
-        self.entries.insert(name, value)?;
-        Ok(true)
+        self.insert(kept_name(alloc, source, token)?, value)
+    }
+
+    // Adds a name with its value, unless the name is in the table already. Returns whether it is
+    // new. Fails only if out of memory; the table then stays as it is.
+    pub(crate) fn insert(&mut self, name: KeptName<'a>, value: V) -> Result<bool, AllocError>
+        ensures added { IfOk result (λ added. added ≡ not (is_some (entry_of self.old name.entry))) }
+        ensures table { OnOk result (self.new ≡ with_name self.old name.entry value) }
+        ensures refused { OnErr result (self.new ≡ self.old) }
+    {
+        let before = self.entries.len();
+        self.entries.entry(name)?.or_insert(value);
+        Ok(self.entries.len() > before)
     }
 
     // Gives a name a value, whether it is in the table or not. Fails only if out of memory; the
     // table then stays as it is.
-    pub(crate) fn put(&mut self, name: Vec<u8>, value: V) -> Result<(), AllocError>
-        ensures table { OnOk result (self.new ≡ insert_entry bytes_eq self.old name.items value) }
+    pub(crate) fn put(&mut self, name: KeptName<'a>, value: V) -> Result<(), AllocError>
+        ensures table { OnOk result (self.new ≡ insert_entry bytes_eq self.old name.entry value) }
         ensures refused { OnErr result (self.new ≡ self.old) }
     {
-        self.entries.insert(KeptName { bytes: name }, value)?;
+        self.entries.insert(name, value)?;
         Ok(())
     }
 
@@ -222,6 +256,38 @@ fn feed_counter<H: Hasher>(counter: u16, state: &mut H)
         return;
     }
     feed_digits(counter, state);
+}
+
+// Copies the name that a token spells.
+pub(crate) fn copied_name(
+    alloc: Global,
+    source: &[u8],
+    token: &Token,
+) -> Result<KeptName<'static>, AllocError>
+    requires { LiesIn source.now token.now }
+    ensures { IfOk result (λ name. name ≡ name_of source.now token.now) }
+{
+    let bytes = name_of(alloc, source, token)?;
+    Ok(KeptName {
+        spelling: Spelling::Copied(bytes),
+    })
+}
+
+// Returns the name that a token spells, for a table. Only a name with joined counters is copied.
+pub(crate) fn kept_name<'a>(
+    alloc: Global,
+    source: &'a [u8],
+    token: &Token,
+) -> Result<KeptName<'a>, AllocError>
+    requires { LiesIn source.now token.now }
+    ensures { IfOk result (λ name. name ≡ name_of source.now token.now) }
+{
+    let spelling = if token.joined.is_empty() {
+        Spelling::Written(&source[token.lo..token.hi])
+    } else {
+        Spelling::Copied(name_of(alloc, source, token)?)
+    };
+    Ok(KeptName { spelling })
 }
 
 // Returns the name that a token spells.

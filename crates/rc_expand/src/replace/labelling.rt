@@ -14,9 +14,8 @@ ghost use Rattle.rc_expand.specs.Expansion.{LineLies};
 use crate::context::{Context, clash_with_given};
 use crate::fault::{ExpandFault, ExpandKind, fault};
 use crate::heads::head::{Head, HeadWord};
-use crate::heads::table::NameTable;
+use crate::heads::table::{NameTable, kept_name};
 use crate::line::Line;
-use crate::names::name_of;
 use crate::replace::finish::{line_of, split_labels};
 use crate::unroll::reached::Reached;
 use rc_text::Token;
@@ -72,9 +71,9 @@ fn clash_line(context: &Context, seen: &NameTable<u64>, token: &Token, line: u64
 }
 
 // Adds a label to those seen, or refuses it at the line of the clash.
-fn check_label(
-    context: &Context,
-    seen: &mut NameTable<u64>,
+fn check_label<'a>(
+    context: &Context<'a>,
+    seen: &mut NameTable<'a, u64>,
     token: &Token,
     line: u64,
 ) -> Result<(), ExpandFault>
@@ -87,8 +86,7 @@ fn check_label(
     match clash_line(context, seen, token, line) {
         Some(later) => Err(fault(later, ExpandKind::DuplicateName)),
         None => {
-            let name = name_of(context.alloc, context.source, token)?;
-            seen.insert(name, line)?;
+            seen.add(context.alloc, context.source, token, line)?;
             Ok(())
         }
     }
@@ -103,9 +101,9 @@ fn lesser_line(first: Option<u64>, second: Option<u64>) -> Option<u64> {
 }
 
 // Adds all labels of a line to those seen, and returns the earliest line of a clash.
-fn least_line(
-    context: &Context,
-    seen: &mut NameTable<u64>,
+fn least_line<'a>(
+    context: &Context<'a>,
+    seen: &mut NameTable<'a, u64>,
     labels: &[Token],
     line: u64,
 ) -> Result<Option<u64>, AllocError>
@@ -122,9 +120,9 @@ fn least_line(
 
 // Keeps the least line at which the name of a label stands. Copies run ahead of line numbers, so
 // the first that is met need not be the least.
-fn keep_least(
-    context: &Context,
-    seen: &mut NameTable<u64>,
+fn keep_least<'a>(
+    context: &Context<'a>,
+    seen: &mut NameTable<'a, u64>,
     token: &Token,
     line: u64,
 ) -> Result<(), AllocError>
@@ -133,7 +131,7 @@ fn keep_least(
     match seen.get(context.source, token) {
         Some(least) if *least <= line => Ok(()),
         _ => {
-            let name = name_of(context.alloc, context.source, token)?;
+            let name = kept_name(context.alloc, context.source, token)?;
             seen.put(name, line)
         }
     }
@@ -141,9 +139,9 @@ fn keep_least(
 
 // A label of this line clashes: returns the clash at the earliest line. `OutOfMemory` passes
 // through.
-fn earliest_clash(
-    context: &Context,
-    seen: &mut NameTable<u64>,
+fn earliest_clash<'a>(
+    context: &Context<'a>,
+    seen: &mut NameTable<'a, u64>,
     found: ExpandFault,
     labels: &[Token],
     line: u64,
@@ -161,7 +159,11 @@ fn earliest_clash(
 }
 
 // Adds the labels of a line to those seen.
-fn check_line(context: &Context, seen: &mut NameTable<u64>, line: &Line) -> Result<(), ExpandFault>
+fn check_line<'a>(
+    context: &Context<'a>,
+    seen: &mut NameTable<'a, u64>,
+    line: &Line,
+) -> Result<(), ExpandFault>
     requires { LineLies context.now.source.now line.now }
     ensures { Freshens (is_new_label_by context.now) (names_in seen.old) result (map (name_of context.now.source.now) line.now.labels) (names_in seen.new) }
 {
@@ -191,9 +193,9 @@ fn line_of_reached(context: &Context, one: &Reached) -> Result<Line, ExpandFault
 }
 
 // Makes the line of the expansion for a line that was reached, and adds its labels to those seen.
-fn take_line(
-    context: &Context,
-    seen: &mut NameTable<u64>,
+fn take_line<'a>(
+    context: &Context<'a>,
+    seen: &mut NameTable<'a, u64>,
     one: &Reached,
 ) -> Result<Line, ExpandFault>
     requires context { IsContext context.now }
@@ -207,9 +209,9 @@ fn take_line(
 }
 
 // Returns the earliest clash of the labels of an unrolled line.
-fn label_fault(
-    context: &Context,
-    seen: &mut NameTable<u64>,
+fn label_fault<'a>(
+    context: &Context<'a>,
+    seen: &mut NameTable<'a, u64>,
     head: &Head,
 ) -> Result<Option<ExpandFault>, AllocError>
     requires { HeadLies context.now.source.now head.now }
@@ -239,9 +241,9 @@ fn first_of(other: ExpandFault, least: ExpandFault) -> ExpandFault {
 }
 
 // Returns the first of `least` and the faults of a line, of its labels and of its tokens.
-fn lesser_of_line(
-    context: &Context,
-    seen: &mut NameTable<u64>,
+fn lesser_of_line<'a>(
+    context: &Context<'a>,
+    seen: &mut NameTable<'a, u64>,
     head: &Head,
     least: ExpandFault,
 ) -> Result<ExpandFault, AllocError>
@@ -267,9 +269,9 @@ fn comes_after(head: &Head, least: &ExpandFault) -> bool {
 }
 
 // Returns the first of `least` and the faults of a line that was reached.
-fn lesser_fault(
-    context: &Context,
-    seen: &mut NameTable<u64>,
+fn lesser_fault<'a>(
+    context: &Context<'a>,
+    seen: &mut NameTable<'a, u64>,
     one: &Reached,
     least: ExpandFault,
 ) -> Result<ExpandFault, AllocError>
@@ -289,9 +291,9 @@ fn lesser_fault(
 // Returns the fault at the earliest line. A fault was found at the first of `rest`, and the lines
 // after it may still clash with a label before it, or come from an earlier line of the source.
 // `OutOfMemory` passes through.
-fn least_fault(
-    context: &Context,
-    seen: NameTable<u64>,
+fn least_fault<'a>(
+    context: &Context<'a>,
+    seen: NameTable<'a, u64>,
     found: ExpandFault,
     rest: &[Reached],
 ) -> Result<ExpandFault, AllocError>

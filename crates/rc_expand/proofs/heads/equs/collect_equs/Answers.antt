@@ -48,7 +48,7 @@ loop-head-preserved-in_ok-insert-in-Equ c =
     let t : Table = table_of c.args.names.now.constants.now.names.now c.args.names.now.constants.now.values.now in
     let r : RulesView = c.args.names.now.rules.now in
     let e : List ℕ × List Token = (c.in_ok-name-in-Equ.name, c.in_ok-name-in-Equ.equ) in
-    let pushed : c.insert.new.self ≡ c.loop-head.equs ++ (e ∷ []) = name_pushed c.in_ok-name-in-Equ.name c.loop-head.equs c.insert.new.self c.into_vec.result.items c.in_ok-name-in-Equ.equ c.in_ok-insert-in-Equ.ensures.table c.into_vec.ensures c.in_ok-name-in-Equ.ensures.new in (
+    let pushed : c.insert.new.self ≡ c.loop-head.equs ++ (e ∷ []) = name_pushed c.in_ok-name-in-Equ.name c.loop-head.equs c.insert.new.self c.in_ok-name-in-Equ.name c.in_ok-name-in-Equ.equ c.in_ok-insert-in-Equ.ensures.table refl c.in_ok-name-in-Equ.ensures.new in (
       c.loop-head.invariant.0
           ∙ (ap (collected c.args.source.now t r c.loop-head.equs) (at_equ c.loop-head.rest.now c.in-Some.head.now c.in-Some.after.now c.loop-head.opened c.in-Some.ensures.cases.0 c.in-Equ.is (omega (arith, c.if-opened-eq0.true)))
           ∙ (one_more c.args.source.now t r c.loop-head.equs c.in-Some.head.now (equ_lines c.loop-head.opened c.in-Some.after.now) e c.in_ok-name-in-Equ.ensures.equ
