@@ -2,3 +2,5 @@ pub mod LineSteps
 pub mod Counts
 pub mod VectorSteps
 pub mod InstanceSteps
+pub mod PartSteps
+pub mod RangeLaws

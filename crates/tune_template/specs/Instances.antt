@@ -1,5 +1,5 @@
 -- The warriors of a template, and what a tuning starts from.
-use Rattle.std.specs.Prelude.{◌≤◌, ℕ, ℤ, List, [], ◌∷◌, length, Option, option_and_then, slice_get, All}
+use Rattle.std.specs.Prelude.{◌≤◌, ◌+◌, ◌-◌, ◌&&◌, nat_le, nat_lt, ℕ, ℤ, List, [], ◌∷◌, length, Option, option_and_then, slice_get, All, if◌then◌else◌}
 use Rattle.rc_instr.specs.Rules.{RulesView}
 use Rattle.rc_instr.specs.Warrior.{WarriorView, Fits}
 use Rattle.rc_expand.specs.Names.{Table}
@@ -7,7 +7,9 @@ use Rattle.rc_asm.specs.Assembly.{assembled}
 use Rattle.mars_fight.specs.declared.fight.Fight.{Fight}
 use Rattle.mars_fight.specs.Listed.{IsFight}
 use Rattle.tune_template.specs.Ranges.{Ranges}
-use Rattle.tune_template.specs.Vectors.{vectors_of}
+use Rattle.tune_template.specs.Vectors.{vectors_of, start_index}
+use Rattle.tune_template.specs.declared.part.Part.{Part}
+use Rattle.tune_template.specs.Parts.{IsPart, part_first, part_of}
 
 -- what contracts see of a template: its text and its ranges
 pub record TemplateView : Type 0 where
@@ -29,9 +31,30 @@ pub record InputsView : Type 0 where
   pub opponents : List WarriorView
   pub schedule : List Fight
   pub rules : RulesView
+  -- which of the template's settings are searched
+  pub part : Part
 
--- at most 64 opponents, which fit the rules, and a schedule of fights against them
+-- at most 64 opponents, which fit the rules, a schedule of fights against them, and a part of the
+-- template's settings
 pub record AreInputs (i : InputsView) : Type 0 where
   pub few : length i.opponents ≤ 64
   pub fit : All (Fits i.rules) i.opponents
   pub fights : All (IsFight i.rules (length i.opponents)) i.schedule
+  pub part : IsPart i.part (length (vectors_of i.template.ranges.spans))
+
+-- the settings that are searched: the part's, in order; a setting's index is its place among these
+unfoldable pub settings_of : InputsView → List (List ℤ)
+settings_of i = part_of i.part (vectors_of i.template.ranges.spans)
+
+-- where v is among `count` numbers from `first` on, or 0 if it is none of them
+abbrev pub place_among : (first count v : ℕ) → ℕ
+place_among first count v = if nat_le first v && nat_lt v (first + count) then v - first else 0
+
+-- the index of the start setting, if it is one of the part's; else the first
+unfoldable pub start_place : InputsView → ℕ
+start_place i =
+    place_among (part_first i.part (length (vectors_of i.template.ranges.spans))) (length (settings_of i)) (start_index i.template.ranges.spans)
+
+-- the warrior of the setting at index v of the part, if the text assembles with its values
+unfoldable pub warrior_of : InputsView → ℕ → Option WarriorView
+warrior_of i v = option_and_then (λ x. assembled i.template.text (constants_of i.template.ranges.names x) i.rules) (slice_get (settings_of i) v)

@@ -1,21 +1,31 @@
 //! What a tuning starts from.
-ghost use Rattle.std.specs.Prelude.{◌≡◌, ◌≤◌, length, All};
-ghost use Rattle.rc_instr.specs.Warrior.{Fits};
+ghost use Rattle.std.specs.Prelude.{◌≡◌, ◌≢◌, ◌≤◌, ◌<◌, ◌+◌, ℤ, List, length, slice_get, All, Some, None, MatchOption, IfOk, IfErr};
+ghost use Rattle.rc_instr.specs.Warrior.{IsWarrior, Fits};
+ghost use Rattle.rc_asm.specs.Faults.{IsAsmFault};
+ghost use Rattle.rc_asm.specs.declared.fault.AsmKind.TheVariants.{OutOfMemory as NoRoomToAssemble};
 ghost use Rattle.mars_fight.specs.Listed.{IsFight};
-ghost use Rattle.tune_template.specs.Instances.{InputsView, AreInputs};
+ghost use Rattle.tune_template.specs.Vectors.{vectors_of};
+ghost use Rattle.tune_template.specs.Parts.{whole, IsPart, part_first};
+ghost use Rattle.tune_template.specs.Instances.{constants_of, InputsView, AreInputs, settings_of, place_among, start_place, warrior_of};
 
+use crate::part::Part;
 use crate::template::Template;
+use crate::vector::Vector;
 use mars_fight::Schedule;
+use rc_asm::AsmFault;
 use rc_instr::{Rules, Warrior};
+use std::alloc::Global;
 use std::marker::Model;
 
-/// A template, the opponents of its warriors, the schedule of their fights, and the rules.
+/// A template, the opponents of its warriors, the schedule of their fights, the rules, and the part
+/// of the template's settings that is searched.
 #[derive(Debug, Drop)]
 pub struct Inputs {
     template: Template,
     opponents: Vec<Warrior>,
     schedule: Schedule,
     rules: Rules,
+    part: Part,
 }
 
 impl Model for Inputs {
@@ -23,14 +33,15 @@ impl Model for Inputs {
 
     ghost Value = { InputsView };
 
-    ghost view = { λ i. record { template = i.template; opponents = i.opponents.items; schedule = i.schedule; rules = i.rules } };
+    ghost view = { λ i. record { template = i.template; opponents = i.opponents.items; schedule = i.schedule; rules = i.rules; part = i.part } };
 
-    ghost invariant = { λ i. AreInputs (record { template = i.template; opponents = i.opponents.items; schedule = i.schedule; rules = i.rules }) };
+    ghost invariant = { λ i. AreInputs (record { template = i.template; opponents = i.opponents.items; schedule = i.schedule; rules = i.rules; part = i.part }) };
 }
 
 impl Inputs {
-    /// Puts the inputs of a tuning together: at most 64 opponents, which fit the rules, and a
-    /// schedule that fits the rules and the opponents.
+    /// Puts the inputs of a tuning of all settings together: at most 64 opponents, which fit the
+    /// rules, and a schedule that fits the rules and the opponents.
+    #[tactic(auto, using(crate::proofs::PartSteps::whole_is_part))]
     pub fn new(
         template: Template,
         opponents: Vec<Warrior>,
@@ -40,14 +51,37 @@ impl Inputs {
         requires few { length opponents.items ≤ 64 }
         requires fit { All (Fits rules) opponents.items }
         requires fights { All (IsFight rules (length opponents.items)) schedule }
-        ensures { result ≡ record { template = template; opponents = opponents.items; schedule = schedule; rules = rules } }
+        ensures { result ≡ record { template = template; opponents = opponents.items; schedule = schedule; rules = rules; part = whole } }
     {
+        prove!(0 < template.count());
         Inputs {
             template,
             opponents,
             schedule,
             rules,
+            part: Part::whole(),
         }
+    }
+
+    /// Returns the same inputs with another part of the template's settings. They are tuned as if
+    /// the template had no other settings: their indices count from 0 within the part.
+    ///
+    /// Returns `None` if it is no part of them: unless `part.number` is 1 to `part.parts`, and
+    /// `part.parts` at most the number of the template's settings.
+    pub fn part(self, part: Part) -> Option<Inputs>
+        ensures { MatchOption result (IsPart part (length (vectors_of self.template.ranges.spans)) → ⊥)
+            (λ i. i ≡ record { template = self.template; opponents = self.opponents; schedule = self.schedule; rules = self.rules; part = part }) }
+    {
+        if !part.is_part_of(self.template.count()) {
+            return None;
+        }
+        Some(Inputs {
+            template: self.template,
+            opponents: self.opponents,
+            schedule: self.schedule,
+            rules: self.rules,
+            part,
+        })
     }
 
     /// Returns the template.
@@ -78,5 +112,87 @@ impl Inputs {
         ensures { result.now ≡ self.now.rules }
     {
         &self.rules
+    }
+
+    /// Returns the number of settings of the part, 1 to 1000000.
+    #[tactic(auto, using(crate::proofs::PartSteps::settings_len, crate::proofs::PartSteps::some_settings, crate::proofs::PartSteps::few_settings))]
+    pub fn count(&self) -> u32
+        ensures count { result ≡ length (settings_of self.now) }
+        ensures some { 0 < result }
+        ensures few { result ≤ 1000000 }
+    {
+        let whole = self.template.count();
+        self.part.end(whole) - self.part.first(whole)
+    }
+
+    /// Returns the index of the setting of the start values, or 0 if it is not in the part.
+    #[tactic(auto, using(crate::proofs::PartSteps::start_placed))]
+    pub fn start_number(&self) -> u32
+        ensures index { result ≡ start_place self.now }
+        ensures inside { result < length (settings_of self.now) }
+    {
+        place_among(self.first(), self.count(), self.template.start_number())
+    }
+
+    /// Returns the setting at index `number` of the part, counted from 0, which must be below
+    /// `count`.
+    #[tactic(auto, using(crate::proofs::PartSteps::setting_found))]
+    pub fn vector(&self, number: u32) -> Vector
+        requires { number < length (settings_of self.now) }
+        ensures { slice_get (settings_of self.now) number ≡ Some result }
+    {
+        self.template().vector(self.number_of(number))
+    }
+
+    /// Assembles the template with the values of the setting at index `number` of the part, which
+    /// must be below `count`.
+    ///
+    /// Fails as `rc_asm::assemble` does for the text with these values.
+    #[tactic(auto, using(crate::proofs::PartSteps::warrior_found, crate::proofs::PartSteps::no_warrior, crate::proofs::PartSteps::warrior_fault))]
+    pub fn instance(&self, alloc: Global, number: u32) -> Result<Warrior, AsmFault>
+        requires { number < length (settings_of self.now) }
+        ensures warrior { IfOk result (λ w. warrior_of self.now number ≡ Some w) }
+        ensures is_warrior { IfOk result IsWarrior }
+        ensures fits { IfOk result (Fits self.now.rules) }
+        ensures refused { IfErr result (λ f. f.kind ≢ NoRoomToAssemble → warrior_of self.now number ≡ None) }
+        ensures fault { IfErr result (λ f. f.kind ≢ NoRoomToAssemble → (x : List ℤ) → slice_get (settings_of self.now) number ≡ Some x →
+            IsAsmFault self.now.template.text (constants_of self.now.template.ranges.names x) self.now.rules f) }
+        ensures memory { IfErr result (λ f. f.kind ≡ NoRoomToAssemble → f.line ≡ 0) }
+    {
+        self.template()
+            .instance(alloc, self.number_of(number), self.rules())
+    }
+
+    // Returns the number of the part's first setting.
+    fn first(&self) -> u32
+        ensures first { result ≡ part_first self.now.part (length (vectors_of self.now.template.ranges.spans)) }
+        ensures inputs { AreInputs self.now }
+    {
+        self.part.first(self.template.count())
+    }
+
+    // Returns the number that the setting at index `index` of the part has in the template.
+    #[tactic(auto, using(crate::proofs::PartSteps::setting_inside))]
+    fn number_of(&self, index: u32) -> u32
+        requires { index < length (settings_of self.now) }
+        ensures number { result ≡ part_first self.now.part (length (vectors_of self.now.template.ranges.spans)) + index }
+        ensures inside { result < length (vectors_of self.now.template.ranges.spans) }
+        ensures inputs { AreInputs self.now }
+    {
+        prove!(self.template.count() <= 1_000_000);
+        self.first() + index
+    }
+}
+
+// Returns where `number` is among `count` numbers from `first` on, or 0 if it is none of them.
+fn place_among(first: u32, count: u32, number: u32) -> u32
+    requires { 0 < count }
+    ensures place { result ≡ place_among first count number }
+    ensures inside { result < count }
+{
+    if first <= number && number - first < count {
+        number - first
+    } else {
+        0
     }
 }

@@ -3,8 +3,10 @@
 
 mod fault;
 mod inputs;
+pub mod laws;
 mod lines;
 mod numbers;
+mod part;
 mod range;
 mod span;
 mod template;
@@ -12,5 +14,6 @@ mod vector;
 
 pub use fault::{TemplateFault, TemplateKind};
 pub use inputs::Inputs;
+pub use part::Part;
 pub use template::Template;
 pub use vector::Vector;

@@ -1,0 +1,24 @@
+-- What the ranges of a template are, in terms of its lines.
+use Rattle.std.specs.Prelude.{◌≡◌, ℕ, ◌≤◌, true, List, [], ◌∷◌, drop, length, map, All}
+use Rattle.std.specs.List.{filter}
+use Rattle.rc_text.specs.NameClasses.{class_of}
+use Rattle.rc_text.specs.declared.class.NameClass.TheVariants.{Free}
+use Rattle.rc_expand.specs.Heads.{are_distinct}
+use Rattle.tune_template.specs.Lines.{lines_of, words_of, is_range_line}
+use Rattle.tune_template.specs.Ranges.{Ranges}
+
+abbrev pub first_word : List (List ℕ) → List ℕ
+first_word [] = []
+first_word (w ∷ ws) = w
+
+-- the name on a range line: the first word after `;@tune`
+abbrev pub name_on : List ℕ → List ℕ
+name_on line = first_word (words_of (drop 6 line))
+
+-- one constant for each range line, in the order of the lines; each name is free, no two are the
+-- same, and there are at most eight
+pub record AreOfLines (text : List ℕ) (r : Ranges) : Type 0 where
+  pub names : r.names ≡ map name_on (filter is_range_line (lines_of text))
+  pub free : All (λ name. class_of name ≡ Free) r.names
+  pub distinct : are_distinct r.names ≡ true
+  pub few : length r.names ≤ 8

@@ -1,0 +1,50 @@
+//! Parts of the settings of a template.
+ghost use Rattle.std.specs.Prelude.{◌≡◌, ◌≤◌, ◌↔◌, IsTrue};
+ghost use Rattle.tune_template.specs.Parts.{IsPart, part_first, part_end};
+
+/// A part of the settings of a template, which are split into `parts` parts of nearly equal size.
+///
+/// Of N settings, part I of K has those from `(I - 1) * N / K` up to `I * N / K`, by their numbers,
+/// with whole division. It is a part if I is 1 to K and K is at most N, so no part is empty.
+#[derive(Clone, Copy, Debug, PartialEq, Eq)]
+pub struct Part {
+    /// Which part it is, counted from 1.
+    pub number: u32,
+    /// How many parts there are.
+    pub parts: u32,
+}
+
+impl Part {
+    /// Returns part 1 of 1: all settings.
+    pub fn whole() -> Part
+        ensures { result ≡ record { number = 1; parts = 1 } }
+    {
+        Part {
+            number: 1,
+            parts: 1,
+        }
+    }
+
+    // Checks that this is a part of `count` settings.
+    pub(crate) fn is_part_of(self, count: u32) -> bool
+        ensures { IsTrue result ↔ IsPart self count }
+    {
+        1 <= self.number && self.number <= self.parts && self.parts <= count
+    }
+
+    // Returns the number of the first of its settings, out of `count`.
+    pub(crate) fn first(self, count: u32) -> u32
+        requires part { IsPart self count }
+        ensures { result ≡ part_first self count }
+    {
+        (u64::from(self.number - 1) * u64::from(count) / u64::from(self.parts)) as u32
+    }
+
+    // Returns the number after the last of its settings, out of `count`.
+    pub(crate) fn end(self, count: u32) -> u32
+        requires part { IsPart self count }
+        ensures end { result ≡ part_end self count }
+    {
+        (u64::from(self.number) * u64::from(count) / u64::from(self.parts)) as u32
+    }
+}
