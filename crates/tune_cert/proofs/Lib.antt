@@ -13,3 +13,4 @@ pub mod CertParts
 pub mod WrittenBack
 pub mod OneSpelling
 pub mod Optimal
+pub mod WholeOfParts

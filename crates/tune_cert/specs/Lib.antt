@@ -7,4 +7,5 @@ pub mod Valid
 pub mod CertText
 pub mod Spelling
 pub mod Verdict
+pub mod Parts
 pub mod Steps

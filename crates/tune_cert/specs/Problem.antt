@@ -4,8 +4,7 @@ use Rattle.rc_instr.specs.Rules.{RulesView}
 use Rattle.rc_instr.specs.Warrior.{WarriorView}
 use Rattle.mars_fight.specs.declared.fight.Fight.{Fight}
 use Rattle.mars_fight.specs.Play.{points_of, ArePoints}
-use Rattle.tune_template.specs.Vectors.{vectors_of, start_index}
-use Rattle.tune_template.specs.Instances.{InputsView, instance_of}
+use Rattle.tune_template.specs.Instances.{InputsView, settings_of, start_place, warrior_of}
 
 pub record Problem : Type 0 where
   -- the number of settings, and of fights; both have indices from 0
@@ -51,14 +50,14 @@ weight_at (Some fight) = fight.weight
 unfoldable pub fight_weight : List Fight → ℕ → ℕ
 fight_weight schedule k = weight_at (slice_get schedule k)
 
--- The problem that the inputs of a tuning pose: the settings of the template in the fights of the
--- schedule.
+-- The problem that the inputs of a tuning pose: the settings of their part of the template in the
+-- fights of the schedule.
 abbrev pub problem_of : InputsView → Problem
 problem_of i = record {
-  count = length (vectors_of i.template.ranges.spans);
+  count = length (settings_of i);
   fights = length i.schedule;
-  start = start_index i.template.ranges.spans;
-  warrior = instance_of i.template i.rules;
+  start = start_place i;
+  warrior = warrior_of i;
   points = fight_points i.rules i.opponents i.schedule;
   weight = fight_weight i.schedule;
 }

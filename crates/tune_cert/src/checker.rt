@@ -84,7 +84,7 @@ fn check_rows_alone(
     ensures first { IfOk result (λ o. IfSome o (λ w. IsFirstRow (problem_of inputs.now) cert.now w.index w.reason)) }
 {
     let rows = cert.rows.as_slice();
-    let count = inputs.template().count();
+    let count = inputs.count();
     for vector in 0..count {
         let row = &rows[vector as usize];
         if let Some(reason) = check_alone(alloc, arena, inputs, cert, vector, row)? {
@@ -108,7 +108,7 @@ fn check_rows_same(alloc: Global, inputs: &Inputs, cert: &Cert) -> Result<Option
     ensures first { IfOk result (λ o. IfSome o (λ w. IsFirstRow (problem_of inputs.now) cert.now w.index w.reason)) }
 {
     let rows = cert.rows.as_slice();
-    let count = inputs.template().count();
+    let count = inputs.count();
     let mut warriors = no_warriors(alloc, count)?;
     for vector in 0..count {
         let row = &rows[vector as usize];
@@ -160,7 +160,7 @@ fn check_cert(alloc: Global, inputs: &Inputs, cert: &Cert) -> Result<Verdict, Ch
     if cert.version == 1 && cert_version(inputs) != 1 {
         return Ok(rejected(0, Reason::Version));
     }
-    let count = inputs.template().count();
+    let count = inputs.count();
     if cert.count != count {
         return Ok(rejected(0, Reason::RowCount));
     }

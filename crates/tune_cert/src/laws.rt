@@ -1,10 +1,11 @@
 //! Laws of the definitions. A law is a function with an empty body: its contract is what is proved.
-ghost use Rattle.std.specs.Prelude.{◌≡◌, ℕ, List};
+ghost use Rattle.std.specs.Prelude.{◌≡◌, ◌+◌, ◌≤◌, ℕ, List, Option, Some, None};
 ghost use Rattle.mars_fight.specs.Records.{Fields, records_of};
 ghost use Rattle.tune_template.specs.Instances.{InputsView};
 ghost use Rattle.tune_cert.specs.Problem.{Problem, IsProblem, problem_of};
 ghost use Rattle.tune_cert.specs.Optimum.{IsOptimum, HasTotal};
 ghost use Rattle.tune_cert.specs.Valid.{IsValid};
+ghost use Rattle.tune_cert.specs.Parts.{in_part, setting_count, first_setting, IsOutcome, AreOutcomes, IsBestPart};
 ghost use Rattle.tune_cert.specs.CertText.{cert_text};
 ghost use Rattle.tune_cert.specs.Spelling.{IsCert, Spells};
 
@@ -29,4 +30,18 @@ pub fn a_written_certificate_is_read()
 /// States that records spell at most one certificate.
 pub fn records_spell_at_most_one_certificate()
     ensures { (records : List Fields) (c d : Cert) → Spells records c → Spells records d → c ≡ d }
+{}
+
+/// States that tunings of all parts of the settings are a tuning of the whole: of the parts with the
+/// greatest total, the first one's optimum is the optimum of all settings, and has this total there.
+/// If no part has a candidate, the whole has none.
+///
+/// A setting's index in the whole is its index in its part, counted on from where the part begins.
+pub fn the_best_part_has_the_optimum()
+    ensures optimum { (i : InputsView) (parts : ℕ) (outcome : ℕ → Option (ℕ × ℕ)) (number best total : ℕ) → 1 ≤ parts → parts ≤ setting_count i
+        → AreOutcomes i parts outcome → IsBestPart parts outcome number best total
+        → IsOutcome (problem_of (in_part i 1 1)) (Some (first_setting i number parts + best, total)) }
+    ensures none { (i : InputsView) (parts : ℕ) (outcome : ℕ → Option (ℕ × ℕ)) → 1 ≤ parts → parts ≤ setting_count i
+        → AreOutcomes i parts outcome → ((number : ℕ) → 1 ≤ number → number ≤ parts → outcome number ≡ None)
+        → IsOutcome (problem_of (in_part i 1 1)) None }
 {}

@@ -15,7 +15,7 @@ use std::alloc::Global;
 use tune_template::Inputs;
 
 /// Assembles the template with the values of setting `vector`, which is below the count of
-/// settings.
+/// settings of the inputs.
 ///
 /// Returns `None` if the text does not assemble with these values, or not to a warrior that keeps
 /// the rules, and `OutOfMemory` if memory runs out: that says nothing about the setting.
@@ -29,7 +29,7 @@ pub fn setting_warrior(
     ensures is_warrior { IfOk result (λ w. IfSome w IsWarrior) }
     ensures fits { IfOk result (λ w. IfSome w (Fits inputs.now.rules)) }
 {
-    match inputs.template().instance(alloc, vector, inputs.rules()) {
+    match inputs.instance(alloc, vector) {
         Ok(warrior) => Ok(Some(warrior)),
         Err(fault) => {
             if fault.kind == AsmKind::OutOfMemory {

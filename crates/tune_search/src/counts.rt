@@ -9,7 +9,7 @@ pub(crate) fn setting_count(inputs: &Inputs) -> u32
     ensures count { result ≡ (problem_of inputs.now).count }
     ensures few { result ≤ 1000000 }
 {
-    inputs.template().count()
+    inputs.count()
 }
 
 // Returns the number of fights.
@@ -25,5 +25,5 @@ pub(crate) fn start_setting(inputs: &Inputs) -> u32
     ensures start { result ≡ (problem_of inputs.now).start }
     ensures inside { result < (problem_of inputs.now).count }
 {
-    inputs.template().start_number()
+    inputs.start_number()
 }

@@ -27,7 +27,7 @@ impl Progress {
         ensures state { IfOk result (IsPlainState (problem_of inputs.now) 0) }
         ensures err { IfErr result (λ e. e ≡ SearchFault.OutOfMemory) }
     {
-        let rows = Vec::with_capacity(alloc, inputs.template().count() as usize)?;
+        let rows = Vec::with_capacity(alloc, inputs.count() as usize)?;
         Ok(Progress {
             rows,
             lead: None,

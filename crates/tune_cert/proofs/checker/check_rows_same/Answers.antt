@@ -1,5 +1,4 @@
-use Rattle.std.proofs.Common.{◌∙◌, ap, arith, length, replicate, None}
-use Rattle.tune_template.specs.Vectors.{vectors_of}
+use Rattle.std.proofs.Common.{◌∙◌, ap, arith, replicate, None}
 use Rattle.tune_cert.specs.Problem.{problem_of}
 use Rattle.tune_cert.proofs.Assembled.{none_assembled}
 use Rattle.tune_cert.proofs.checker.check_rows_same.Goals as goal
@@ -7,5 +6,5 @@ use Rattle.tune_cert.proofs.checker.check_rows_same.Goals as goal
 pub loop-vector-init : goal.loop-vector-init
 loop-vector-init c = record {
   right = λ v row l at. absurd (omega arith);
-  assembled = none_assembled (problem_of c.args.inputs.now) _ (c.in_ok-warriors.ensures ∙ ap (λ n. replicate n None) (c.count-count.ensures.count ∙ ap (λ t. length (vectors_of t.ranges.spans)) c.template.ensures.template));
+  assembled = none_assembled (problem_of c.args.inputs.now) _ (c.in_ok-warriors.ensures ∙ ap (λ n. replicate n None) c.count-count.ensures.count);
 }

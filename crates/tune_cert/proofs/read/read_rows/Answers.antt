@@ -73,5 +73,5 @@ pub returns-clause-only : goal.returns-clause-only
 returns-clause-only c all h =
     let none = rw c.if-branch.false at c.in_ok-read.ensures.read in
     let t = c.loop-rows.invariant.only all h in
-    let e : t.0 ≡ [] = no_rows c.loop-rows.vector t.0 (rw none at t.2) in
+    let e : t.0 ≡ [] = no_rows c.loop-rows.vector t.0 (rw none.0 at t.2) in
     sym (t.1 ∙ ap (λ x. c.loop-rows.rows.items ++ x) e ∙ append-nil _)
