@@ -6,5 +6,9 @@ pub mod Opponents
 pub mod Constants
 pub mod Meaning
 pub mod Tunings
+pub mod Settings
+pub mod Duels
+pub mod Plain
 pub mod Writable
 pub mod Certified
+pub mod AcceptedParts

@@ -30,7 +30,9 @@ one_meaning t i j m n =
     let fights = sym m.schedule ∙ n.schedule in
     let schedule : i.schedule ≡ j.schedule = cc in
     let rules : i.rules ≡ j.rules = m.rules ∙ sym n.rules in
-    ap (λ x. record { template = x; opponents = i.opponents; schedule = i.schedule; rules = i.rules }) template
-    ∙ ap (λ x. record { template = j.template; opponents = x; schedule = i.schedule; rules = i.rules }) opponents
-    ∙ ap (λ x. record { template = j.template; opponents = j.opponents; schedule = x; rules = i.rules }) schedule
-    ∙ ap (λ x. record { template = j.template; opponents = j.opponents; schedule = j.schedule; rules = x }) rules
+    let part : i.part ≡ j.part = m.part ∙ sym n.part in
+    ap (λ x. record { template = x; opponents = i.opponents; schedule = i.schedule; rules = i.rules; part = i.part }) template
+    ∙ ap (λ x. record { template = j.template; opponents = x; schedule = i.schedule; rules = i.rules; part = i.part }) opponents
+    ∙ ap (λ x. record { template = j.template; opponents = j.opponents; schedule = x; rules = i.rules; part = i.part }) schedule
+    ∙ ap (λ x. record { template = j.template; opponents = j.opponents; schedule = j.schedule; rules = x; part = i.part }) rules
+    ∙ ap (λ x. record { template = j.template; opponents = j.opponents; schedule = j.schedule; rules = j.rules; part = x }) part

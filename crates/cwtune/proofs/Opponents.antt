@@ -7,7 +7,7 @@ use Rattle.rc_instr.specs.Warrior.{WarriorView}
 use Rattle.rc_asm.specs.Assembly.{Assembles}
 use Rattle.cwtune.specs.TuneRun.{AreOpponents, IsRefusalOf, AreRefused}
 use Rattle.cwtune.specs.declared.fault.RunFault.{RunFault}
-use Rattle.cwtune.specs.declared.fault.RunFault.TheVariants.{FightText, Rules, Load, Position, Asm, TooManyOpponents, Template, Opponent, Schedule, NoCandidate, Write, OutOfMemory}
+use Rattle.cwtune.specs.declared.fault.RunFault.TheVariants.{FightText, Rules, Load, Position, Asm, TooManyOpponents, Template, Opponent, Schedule, NoCandidate, Write, OutOfMemory, Part as BadPart, NoSuchSetting}
 
 mapped : {A : Type 0} (f : A → List ℕ) (xs : List A) (i : ℕ) (x : A) → slice_get xs i ≡ Some x → slice_get (map f xs) i ≡ Some (f x)
 mapped f [] i x at = absurd (cc)
@@ -44,6 +44,7 @@ opponents_end f Position rules i sources source ws are at r = absurd r
 opponents_end f (Asm fault) rules i sources source ws are at r = absurd r
 opponents_end f TooManyOpponents rules i sources source ws are at r = absurd r
 opponents_end f (Template fault) rules i sources source ws are at r = absurd r
+opponents_end f (NoSuchSetting index) rules i sources source ws are at r = absurd r
 opponents_end f (Opponent index fault) rules i sources source ws are at r = (
   ws,
   f source,
@@ -55,6 +56,7 @@ opponents_end f (Schedule fault) rules i sources source ws are at r = absurd r
 opponents_end f NoCandidate rules i sources source ws are at r = absurd r
 opponents_end f Write rules i sources source ws are at r = absurd r
 opponents_end f OutOfMemory rules i sources source ws are at r = tt
+opponents_end f BadPart rules i sources source ws are at r = absurd r
 
 -- all texts assemble
 pub opponents_whole : {A : Type 0} (f : A → List ℕ) (rules : RulesView) (sources : List A) (ws : List WarriorView) (i : ℕ)

@@ -5,7 +5,7 @@ use Rattle.rc_instr.specs.Warrior.{WarriorView}
 use Rattle.rc_asm.specs.Assembly.{Assembles}
 use Rattle.cwtune.specs.AsmRun.{IsAsmRefusal}
 use Rattle.cwtune.specs.declared.fault.RunFault.{RunFault}
-use Rattle.cwtune.specs.declared.fault.RunFault.TheVariants.{FightText, Rules, Load, Position, Asm, TooManyOpponents, Template, Opponent, Schedule, NoCandidate, Write, OutOfMemory}
+use Rattle.cwtune.specs.declared.fault.RunFault.TheVariants.{FightText, Rules, Load, Position, Asm, TooManyOpponents, Template, Opponent, Schedule, NoCandidate, Write, OutOfMemory, Part as BadPart, NoSuchSetting}
 
 -- a text that assembles is refused for want of memory alone
 pub only_memory : (e : RunFault) (source : List ℕ) (rules : RulesView) (w : WarriorView) → IsAsmRefusal e source rules → Assembles source [] rules w →
@@ -17,8 +17,10 @@ only_memory Position source rules w r a = absurd r
 only_memory (Asm fault) source rules w r a = absurd (r.1 w a)
 only_memory TooManyOpponents source rules w r a = absurd r
 only_memory (Template fault) source rules w r a = absurd r
+only_memory (NoSuchSetting index) source rules w r a = absurd r
 only_memory (Opponent index fault) source rules w r a = absurd r
 only_memory (Schedule fault) source rules w r a = absurd r
 only_memory NoCandidate source rules w r a = absurd r
 only_memory Write source rules w r a = absurd r
 only_memory OutOfMemory source rules w r a = inr refl
+only_memory BadPart source rules w r a = absurd r

@@ -22,7 +22,7 @@ use Rattle.tune_cert.specs.declared.cert.Found.{Found}
 use Rattle.tune_cert.specs.declared.cert.Row.{Row}
 use Rattle.tune_cert.specs.declared.cert.Row.TheVariants.{Refused, Same, Cap}
 use Rattle.tune_cert.proofs.CapRows.{total_few}
-use Rattle.tune_search.specs.Found.{IsSearch}
+use Rattle.cwtune.specs.PlainRun.{IsFound}
 
 -- a schedule has at most 10000 fights
 kept : (b : Bool) (x y : List Fight) → (if b then Some x else None) ≡ Some y → (b ≡ true) × (x ≡ y)
@@ -72,7 +72,7 @@ module _ (p : Problem) (laws : IsProblem p) (few : p.fights ≤ 10000) (most : g
       let small : e.0 < 2 ^ 32 = omega (arith, few, h.1) in
       All-cons IsItem e row (small, subst ArePoints (sym h.2) (laws.scores x e.0)) (items_of x (e.0 + 1) row h.3)
 
-  module _ (capacity : ℕ) (f : Found) (s : IsSearch p capacity f) where
+  module _ (f : Found) (s : IsFound p f) where
     all_rows : length f.rows ≡ p.count
     all_rows = s.valid.rows_are
 

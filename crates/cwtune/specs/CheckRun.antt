@@ -46,3 +46,7 @@ abbrev pub WritesVerdict : Texts → List ℕ → Bool → Option (List ℕ) →
 WritesVerdict t cert accepted old new =
     (i : InputsView) × (verdict : Verdict) × Means t i × IsRightVerdict (problem_of i) (records_of cert) verdict
     × (accepted ≡ accepts verdict) × Appends old new (check_line verdict)
+
+-- The right verdict on the bytes accepts them, with this best setting and total.
+abbrev pub Accepts : Texts → List ℕ → ℕ → ℕ → Type 0
+Accepts t cert best total = (i : InputsView) × Means t i × IsRightVerdict (problem_of i) (records_of cert) (Accepted best total)

@@ -1,5 +1,7 @@
 -- What the words of a command line ask for.
-use Rattle.std.specs.Prelude.{◌≡◌, ℕ, ◌≤◌, List, [], ◌∷◌, codes}
+use Rattle.std.specs.Prelude.{◌≡◌, ℕ, ◌≤◌, ◌<◌, ◌^◌, List, [], ◌∷◌, ◌++◌, codes}
+use Rattle.std.specs.Fmt.{decimal}
+use Rattle.tune_template.specs.declared.part.Part.{Part}
 use Rattle.cwtune.specs.declared.command_line.Request.{Request}
 use Rattle.cwtune.specs.declared.command_line.Request.TheVariants.{Tune}
 
@@ -13,3 +15,13 @@ AskForFight (word ∷ next ∷ more) = ⊥
 abbrev pub IsRequest : Request → Type 0
 IsRequest (Tune words capacity) = (1 ≤ capacity) × (capacity ≤ 65536)
 IsRequest _ = Unit {0}
+
+-- The word for part I of K is `I/K`.
+abbrev pub part_word : Part → List ℕ
+part_word p = decimal p.number ++ 47 ∷ decimal p.parts
+
+-- Parts are counted from 1, with numbers of 32 bits.
+pub record IsCounted (p : Part) : Type 0 where
+  pub some : 1 ≤ p.number
+  pub within : p.number ≤ p.parts
+  pub small : p.parts < 2 ^ 32

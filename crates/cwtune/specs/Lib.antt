@@ -10,4 +10,7 @@ pub mod CertFile
 pub mod Report
 pub mod TuneRun
 pub mod CheckRun
+pub mod SettingRun
+pub mod DuelRun
+pub mod PlainRun
 pub mod CommandLine

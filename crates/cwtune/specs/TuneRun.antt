@@ -11,8 +11,13 @@ use Rattle.mars_fight.specs.ScheduleRefusal.{IsScheduleFault}
 use Rattle.mars_fight.specs.declared.fault.ScheduleFault.{ScheduleFault}
 use Rattle.mars_fight.specs.declared.fault.ScheduleFaultKind.TheVariants.{OutOfMemory as MemoryKind}
 use Rattle.tune_template.specs.Ranges.{ranges_of, HasRanges}
+use Rattle.tune_template.specs.declared.fault.TemplateFault.{TemplateFault}
+use Rattle.tune_template.specs.declared.fault.TemplateKind.TheVariants.{OutOfMemory as NoMemory}
 use Rattle.tune_template.specs.Vectors.{vectors_of}
-use Rattle.tune_template.specs.Instances.{TemplateView, InputsView}
+use Rattle.tune_template.specs.declared.part.Part.{Part}
+use Rattle.tune_template.specs.Parts.{part, whole, IsPart}
+use Rattle.tune_template.specs.Instances.{TemplateView, InputsView, settings_of}
+use Rattle.mars_fight.specs.declared.fight.Fight.{Fight}
 use Rattle.tune_cert.specs.Problem.{problem_of}
 use Rattle.tune_cert.specs.CertText.{cert_text, cert_of}
 use Rattle.tune_cert.specs.declared.cert.Found.{Found}
@@ -20,17 +25,27 @@ use Rattle.tune_search.specs.Found.{IsSearch}
 use Rattle.cwtune.specs.AsmRun.{IsAsmRefusal}
 use Rattle.cwtune.specs.Report.{report_text, report_for}
 use Rattle.cwtune.specs.declared.fault.RunFault.{RunFault}
-use Rattle.cwtune.specs.declared.fault.RunFault.TheVariants.{Asm, TooManyOpponents, Template, Opponent, Schedule, NoCandidate, OutOfMemory}
+use Rattle.cwtune.specs.declared.fault.RunFault.TheVariants.{Asm, TooManyOpponents, Template, Opponent, Schedule, NoCandidate, OutOfMemory, Part as BadPart}
 
--- The texts of a tuning, and its rules.
+-- The texts of a tuning, its rules, and the part of the template's settings that it searches.
 pub record Texts : Type 0 where
   pub template : List ℕ
   pub opponents : List (List ℕ)
   pub schedule : List ℕ
   pub rules : RulesView
+  pub part : Part
 
+abbrev pub part_texts : List ℕ → List (List ℕ) → List ℕ → RulesView → Part → Texts
+part_texts template opponents schedule rules part =
+    record { template = template; opponents = opponents; schedule = schedule; rules = rules; part = part }
+
+-- A tuning searches all settings, unless it is said to be of a part.
 abbrev pub texts : List ℕ → List (List ℕ) → List ℕ → RulesView → Texts
-texts template opponents schedule rules = record { template = template; opponents = opponents; schedule = schedule; rules = rules }
+texts template opponents schedule rules = part_texts template opponents schedule rules whole
+
+-- The same texts with part `number` of `parts`.
+abbrev pub of_part : Texts → ℕ → ℕ → Texts
+of_part t number parts = part_texts t.template t.opponents t.schedule t.rules (part number parts)
 
 abbrev pub IsTemplate : List ℕ → TemplateView → Type 0
 IsTemplate text t = (t.text ≡ text) × HasRanges text t.ranges
@@ -41,14 +56,20 @@ AreOpponents rules [] [] = Unit {0}
 AreOpponents rules (text ∷ texts) (w ∷ ws) = Assembles text [] rules w × AreOpponents rules texts ws
 AreOpponents rules _ _ = ⊥
 
--- Texts mean inputs: at most 64 opponents that assemble, a template with ranges, and a schedule
--- with fights.
+-- The number of a template's settings.
+abbrev pub setting_count : TemplateView → ℕ
+setting_count t = length (vectors_of t.ranges.spans)
+
+-- Texts mean inputs: at most 64 opponents that assemble, a template with ranges, a schedule with
+-- fights, and a part of the template's settings.
 pub record Means (t : Texts) (i : InputsView) : Type 0 where
   pub few : length t.opponents ≤ 64
   pub template : IsTemplate t.template i.template
   pub opponents : AreOpponents t.rules t.opponents i.opponents
   pub schedule : fights_of t.rules (length t.opponents) t.schedule ≡ Some i.schedule
   pub rules : i.rules ≡ t.rules
+  pub part : i.part ≡ t.part
+  pub parted : IsPart t.part (setting_count i.template)
 
 -- No setting assembles.
 abbrev pub HasNoCandidate : InputsView → Type 0
@@ -65,8 +86,12 @@ abbrev pub IsScheduleRefusal : RulesView → ℕ → List ℕ → ScheduleFault 
 IsScheduleRefusal rules opponents bytes fault =
     (fault.kind ≢ MemoryKind) × (fights_of rules opponents bytes ≡ None) × IsScheduleFault rules opponents (records_of bytes) fault.row fault.kind
 
+-- The text is not a template, and the fault says why. Out of memory is no fault of a template.
+abbrev pub IsTemplateFault : List ℕ → TemplateFault → Type 0
+IsTemplateFault text fault = (fault.kind ≢ NoMemory) × (ranges_of text ≡ Err fault)
+
 abbrev pub IsTemplateRefusal : RunFault → List ℕ → Type 0
-IsTemplateRefusal (Template fault) text = ranges_of text ≡ Err fault
+IsTemplateRefusal (Template fault) text = IsTemplateFault text fault
 IsTemplateRefusal OutOfMemory text = Unit {0}
 IsTemplateRefusal _ text = ⊥
 
@@ -89,12 +114,16 @@ HasNoFights _ rules opponents bytes = ⊥
 -- nothing of the texts.
 abbrev pub IsTuneRefusal : RunFault → Texts → Type 0
 IsTuneRefusal TooManyOpponents t = 64 < length t.opponents
-IsTuneRefusal (Template fault) t = (length t.opponents ≤ 64) × (ranges_of t.template ≡ Err fault)
+IsTuneRefusal (Template fault) t = (length t.opponents ≤ 64) × IsTemplateFault t.template fault
 IsTuneRefusal (Opponent index fault) t =
     (view : TemplateView) × (length t.opponents ≤ 64) × IsTemplate t.template view × IsOpponentRefusal t.rules t.opponents index fault
 IsTuneRefusal (Schedule fault) t =
     (view : TemplateView) × (opponents : List WarriorView) × (length t.opponents ≤ 64) × IsTemplate t.template view
     × AreOpponents t.rules t.opponents opponents × IsScheduleRefusal t.rules (length t.opponents) t.schedule fault
+IsTuneRefusal BadPart t =
+    (view : TemplateView) × (opponents : List WarriorView) × (schedule : List Fight) × (length t.opponents ≤ 64) × IsTemplate t.template view
+    × AreOpponents t.rules t.opponents opponents × (fights_of t.rules (length t.opponents) t.schedule ≡ Some schedule)
+    × (IsPart t.part (setting_count view) → ⊥)
 IsTuneRefusal NoCandidate t = (i : InputsView) × Means t i × HasNoCandidate i
 IsTuneRefusal OutOfMemory t = Unit {0}
 IsTuneRefusal _ t = ⊥
@@ -103,7 +132,7 @@ IsTuneRefusal _ t = ⊥
 -- these inputs, and the values that its best setting gives the constants.
 abbrev pub IsTuning : Texts → ℕ → InputsView → Found → List ℤ → Type 0
 IsTuning t capacity i f values =
-    Means t i × IsSearch (problem_of i) capacity f × (slice_get (vectors_of i.template.ranges.spans) f.best ≡ Some values)
+    Means t i × IsSearch (problem_of i) capacity f × (slice_get (settings_of i) f.best ≡ Some values)
 
 -- The certificate and the report of what the tuning finds were written.
 abbrev pub WritesTuning : Texts → ℕ → Option (List ℕ) → Option (List ℕ) → Option (List ℕ) → Option (List ℕ) → Type 0

@@ -2,15 +2,24 @@
 ghost use Rattle.std.specs.Prelude.{◌≡◌, ◌↔◌, ◌≤◌, map, IfOk, IsTrue, string_bytes};
 ghost use Rattle.cwtune.specs.CommandLine.{AskForFight, IsRequest};
 
+use crate::part_word::{part_error, part_of, part_option};
 use crate::raw_rules::RawRules;
+use crate::which_setting::{WhichSetting, which_setting};
+use clap::builder::ValueParser;
+use clap::error::ErrorKind;
 use clap::{Arg, ArgAction, ArgMatches, Command, Error, value_parser};
+use mars_core::Side;
 use rc_instr::Rules;
 use std::alloc::{AllocError, Global};
+use tune_template::Part;
+
+// The words for the sides, as in a schedule: candidate and opponent.
+const SIDES: [&str; 2] = ["c", "o"];
 
 // The default of `--cache`.
 const CAPACITY: u32 = 4096;
 
-// The rules and the names of the files of a tuning, or of a check of its certificate.
+// The rules, the names of the files and the part of a tuning, or of a check of its certificate.
 #[derive(Drop)]
 pub(crate) struct TuneWords<'a> {
     pub(crate) rules: RawRules,
@@ -18,6 +27,17 @@ pub(crate) struct TuneWords<'a> {
     pub(crate) schedule: &'a str,
     pub(crate) cert: &'a str,
     pub(crate) opponents: Vec<&'a str>,
+    pub(crate) part: Part,
+}
+
+// The rules and the files of a fight of two Redcode texts.
+#[derive(Drop)]
+pub(crate) struct DuelWords<'a> {
+    pub(crate) rules: RawRules,
+    pub(crate) candidate: &'a str,
+    pub(crate) opponent: &'a str,
+    pub(crate) position: Option<u32>,
+    pub(crate) first: Side,
 }
 
 // What the words ask for.
@@ -25,10 +45,26 @@ pub(crate) struct TuneWords<'a> {
 pub(crate) enum Request<'a> {
     // Plays the fight whose text is on standard input.
     Fight,
+    // Plays a fight of two Redcode texts.
+    Duel(DuelWords<'a>),
     // Assembles a file.
-    Asm { rules: RawRules, file: &'a str },
+    Asm {
+        rules: RawRules,
+        file: &'a str,
+    },
+    // Assembles a template with the values of one of its settings.
+    Setting {
+        rules: RawRules,
+        file: &'a str,
+        which: WhichSetting,
+    },
     // Tunes a template; the search may remember `capacity` settings.
-    Tune { words: TuneWords<'a>, capacity: u32 },
+    Tune {
+        words: TuneWords<'a>,
+        capacity: u32,
+    },
+    // Tunes a template, and plays every fight of every setting.
+    TuneAll(TuneWords<'a>),
     // Checks a certificate of a tuning.
     Check(TuneWords<'a>),
 }
@@ -42,17 +78,11 @@ pub(crate) fn request_of<'a>(alloc: Global, words: &'a [String]) -> Result<Reque
     if ask_for_fight(words) {
         return Ok(Request::Fight);
     }
-    let matches = commands(alloc)?.try_get_matches_from(words)?;
+    let matches = commands(alloc, duel(alloc)?)?.try_get_matches_from(words)?;
     match matches.subcommand() {
-        Some(("asm", found)) => Ok(Request::Asm {
-            rules: rules_of(found),
-            // `clap` requires the file.
-            file: found.get_str("FILE").unwrap_or(""),
-        }),
-        Some(("tune", found)) => Ok(Request::Tune {
-            words: tune_words(alloc, found)?,
-            capacity: capacity_of(found),
-        }),
+        Some(("fight", found)) => fight_request(alloc, words, found),
+        Some(("asm", found)) => asm_request(alloc, found),
+        Some(("tune", found)) => tune_request(alloc, found),
         Some(("check", found)) => Ok(Request::Check(tune_words(alloc, found)?)),
         _ => Ok(Request::Fight),
     }
@@ -115,10 +145,61 @@ fn rules_of(found: &ArgMatches<'_>) -> RawRules {
     }
 }
 
+// Makes the command `fight` without words of its own: the fight text is on standard input.
 fn fight<'a>(alloc: Global) -> Command<'a> {
-    Command::new(alloc, "fight").about(
-        "Play the fight described on standard input and print its result",
-    )
+    Command::new(alloc, "fight")
+        .about("Play a fight, of two Redcode files or the one described on standard input")
+        .override_usage("cwtune fight\n       cwtune fight [OPTIONS] CANDIDATE OPPONENT")
+}
+
+// Makes the command `fight` with two files.
+fn duel<'a>(alloc: Global) -> Result<Command<'a>, AllocError> {
+    let candidate = "Redcode source of the candidate, at address 0";
+    let opponent = "Redcode source of the opponent";
+    let position = "Where the opponent is loaded [default: half of the core]";
+    let first = Arg::new(alloc, "first")
+        .long("first")
+        .value_name("SIDE")
+        .action(ArgAction::Set)
+        .value_parser(ValueParser::Names(&SIDES))
+        .help("Who moves first, the candidate or the opponent [default: c]");
+    let command = fight(alloc)
+        .arg(file(alloc, "CANDIDATE", candidate).required(false))?
+        .arg(file(alloc, "OPPONENT", opponent).required(false))?
+        .arg(number(alloc, "position", position))?
+        .arg(first)?;
+    with_rules(alloc, command)
+}
+
+// Returns what `fight` asks for. Without two files it takes no words, so `clap` is asked again for
+// a command without them: its answer to other words is what it was before there were files.
+fn fight_request<'a>(
+    alloc: Global,
+    words: &'a [String],
+    found: &ArgMatches<'a>,
+) -> Result<Request<'a>, Error>
+    ensures { IfOk result IsRequest }
+{
+    let (Some(candidate), Some(opponent)) = (found.get_str("CANDIDATE"), found.get_str("OPPONENT"))
+    else {
+        let _nothing = commands(alloc, fight(alloc))?.try_get_matches_from(words)?;
+        return Ok(Request::Fight);
+    };
+    Ok(Request::Duel(DuelWords {
+        rules: rules_of(found),
+        candidate,
+        opponent,
+        position: found.get_one::<u32>("position"),
+        first: side_of(found.get_str("first")),
+    }))
+}
+
+// Returns the side of `--first`, which `clap` keeps to `c` and `o`, or the default.
+fn side_of(word: Option<&str>) -> Side {
+    match word {
+        Some("o") => Side::Opponent,
+        _ => Side::Candidate,
+    }
 }
 
 fn asm<'a>(alloc: Global) -> Result<Command<'a>, AllocError> {
@@ -126,10 +207,40 @@ fn asm<'a>(alloc: Global) -> Result<Command<'a>, AllocError> {
         .required(true)
         .action(ArgAction::Set)
         .help("Redcode source of a warrior, at most 65536 bytes (`-` is a file of that name)");
+    let setting = Arg::new(alloc, "setting")
+        .long("setting")
+        .value_name("W")
+        .action(ArgAction::Set)
+        .help("Take FILE for a template, and setting W of it: an index from 0, or `start`");
     let command = Command::new(alloc, "asm")
         .about("Assemble a Redcode file and print the load file of its warrior")
-        .arg(file)?;
+        .arg(file)?
+        .arg(setting)?;
     with_rules(alloc, command)
+}
+
+fn asm_request<'a>(alloc: Global, found: &ArgMatches<'a>) -> Result<Request<'a>, Error>
+    ensures { IfOk result IsRequest }
+{
+    let rules = rules_of(found);
+    // `clap` requires the file.
+    let file = found.get_str("FILE").unwrap_or("");
+    let Some(word) = found.get_str("setting") else {
+        return Ok(Request::Asm { rules, file });
+    };
+    match which_setting(word) {
+        Some(which) => Ok(Request::Setting { rules, file, which }),
+        None => Err(bad_setting(alloc, word)?),
+    }
+}
+
+// Makes the usage error of a word for a setting, in the form of those that `clap` makes.
+fn bad_setting(alloc: Global, word: &str) -> Result<Error, AllocError> {
+    let message = format!(in alloc;
+        "invalid value '{word}' for '--setting <W>': neither an index nor `start`"
+    )?;
+    let mut command = asm(alloc)?.bin_name("cwtune asm")?;
+    command.error(ErrorKind::ValueValidation, message.as_str())
 }
 
 fn file<'a>(alloc: Global, name: &'a str, help: &'a str) -> Arg<'a> {
@@ -160,7 +271,8 @@ fn with_files<'a>(
         .arg(file(alloc, "TEMPLATE", template))?
         .arg(file(alloc, "SCHEDULE", schedule))?
         .arg(file(alloc, "CERT", cert))?
-        .arg(opponents)?;
+        .arg(opponents)?
+        .arg(part_option(alloc))?;
     with_rules(alloc, command)
 }
 
@@ -173,16 +285,35 @@ fn tune<'a>(alloc: Global) -> Result<Command<'a>, AllocError> {
         .help(
             "Settings to remember, so that equal warriors share fights, 1 to 65536 [default: 4096]",
         );
+    let all = Arg::new(alloc, "all")
+        .long("all")
+        .action(ArgAction::SetTrue)
+        .conflicts_with("cache")?
+        .help("Play every fight of every setting, and list all of them in the certificate");
     let command = Command::new(alloc, "tune")
         .about(
             "Find the best setting of a template, write its certificate to CERT, and print a report",
         )
-        .arg(cache)?;
+        .arg(cache)?
+        .arg(all)?;
     with_files(
         alloc,
         command,
         "File to write the certificate to; an older certificate is overwritten, and no other text",
     )
+}
+
+fn tune_request<'a>(alloc: Global, found: &ArgMatches<'a>) -> Result<Request<'a>, Error>
+    ensures { IfOk result IsRequest }
+{
+    let words = tune_words(alloc, found)?;
+    if found.get_flag("all") {
+        return Ok(Request::TuneAll(words));
+    }
+    Ok(Request::Tune {
+        words,
+        capacity: capacity_of(found),
+    })
 }
 
 fn check<'a>(alloc: Global) -> Result<Command<'a>, AllocError> {
@@ -192,7 +323,8 @@ fn check<'a>(alloc: Global) -> Result<Command<'a>, AllocError> {
     with_files(alloc, command, "File of the certificate")
 }
 
-fn commands<'a>(alloc: Global) -> Result<Command<'a>, AllocError> {
+// Makes the commands. `fight` is the command of that name.
+fn commands<'a>(alloc: Global, fight: Command<'a>) -> Result<Command<'a>, AllocError> {
     Command::new(alloc, "cwtune")
         .no_binary_name(true)
         .bin_name("cwtune")?
@@ -202,7 +334,7 @@ fn commands<'a>(alloc: Global) -> Result<Command<'a>, AllocError> {
         .after_help(
             "Exit status: 0 success or accepted; 1 input refused or certificate rejected; 2 usage error; 3 I/O error or out of memory.",
         )
-        .subcommand(fight(alloc))?
+        .subcommand(fight)?
         .subcommand(asm(alloc)?)?
         .subcommand(tune(alloc)?)?
         .subcommand(check(alloc)?)
@@ -219,7 +351,10 @@ fn capacity_of(found: &ArgMatches<'_>) -> u32
 }
 
 // `clap` requires each of the files, so the empty names are never used.
-fn tune_words<'a>(alloc: Global, found: &ArgMatches<'a>) -> Result<TuneWords<'a>, AllocError> {
+fn tune_words<'a>(alloc: Global, found: &ArgMatches<'a>) -> Result<TuneWords<'a>, Error> {
+    let Some(part) = part_of(found) else {
+        return Err(part_error(commands(alloc, fight(alloc))?)?);
+    };
     let mut opponents = Vec::new(alloc);
     if let Some(names) = found.get_strs("OPPONENT") {
         opponents.extend_from_slice(names)?;
@@ -230,6 +365,7 @@ fn tune_words<'a>(alloc: Global, found: &ArgMatches<'a>) -> Result<TuneWords<'a>
         schedule: found.get_str("SCHEDULE").unwrap_or(""),
         cert: found.get_str("CERT").unwrap_or(""),
         opponents,
+        part,
     })
 }
 

@@ -9,11 +9,14 @@ use std::alloc::AllocFailed;
 use thiserror::Error;
 use tune_template::TemplateFault;
 
-/// Why a run ends without its answer. If several faults apply, the first in this order is returned.
+/// Why a run ends without its answer. If several faults apply, the first in this order is returned,
+/// but for `Part`, which comes before `NoCandidate`.
 ///
-/// `FightText`, `Rules`, `Load` and `Position` are of fights; `Asm` is of an assembly;
-/// `TooManyOpponents` to `NoCandidate` are of tunings, and of checks except for `NoCandidate`. No
-/// fault inside another is ever its own `OutOfMemory`.
+/// `FightText`, `Rules`, `Load` and `Position` are of fights; `Asm` is of an assembly, and of the
+/// candidate's text in a fight of two texts, whose other text is `Opponent` with index 0;
+/// `TooManyOpponents` to `NoCandidate` and `Part` are of tunings, and of checks except for
+/// `NoCandidate`; `Template`, `NoSuchSetting` and `Asm` are of the assembly of a setting. No fault
+/// inside another is ever its own `OutOfMemory`.
 #[derive(Clone, Copy, Debug, PartialEq, Eq, Error)]
 pub enum RunFault {
     /// The fight text is malformed at this line, from 1.
@@ -52,6 +55,13 @@ pub enum RunFault {
     /// An allocation failed.
     #[error("out of memory")]
     OutOfMemory,
+    /// The template has no such part: the part's number is not 1 to the number of parts, or there
+    /// are more parts than settings.
+    #[error("no such part of the settings")]
+    Part,
+    /// The template has no setting at this index, from 0.
+    #[error("the template has no setting {index}")]
+    NoSuchSetting { index: u32 },
 }
 
 impl From<MemoryRefused> for RunFault {

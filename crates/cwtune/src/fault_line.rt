@@ -27,6 +27,23 @@ pub(crate) fn say_run<V: Write>(err: &mut Outlet<V>, fault: RunFault) -> Result<
     err.write_all(b"\n")
 }
 
+// Writes the line of a text of a fight that does not assemble: `refused: SIDE FILE line N` and the
+// names of the fault. `side` is `Candidate` or `Opponent`.
+pub(crate) fn say_text<V: Write>(
+    err: &mut Outlet<V>,
+    side: &str,
+    file: &str,
+    fault: AsmFault,
+) -> Result<(), WriteFailed>
+    requires { err.old.failed ≡ false }
+{
+    err.write_all(b"refused:")?;
+    say(err, side)?;
+    say(err, file)?;
+    say_asm(err, fault)?;
+    err.write_all(b"\n")
+}
+
 // Writes the line of a file: `failed: read NAME` or `failed: create NAME`.
 pub(crate) fn say_file<V: Write>(
     err: &mut Outlet<V>,
@@ -187,7 +204,7 @@ fn say_expand<V: Write>(err: &mut Outlet<V>, kind: ExpandKind) -> Result<(), Wri
 }
 
 // Writes ` line N`, then the names of the fault.
-fn say_asm<V: Write>(err: &mut Outlet<V>, fault: AsmFault) -> Result<(), WriteFailed>
+pub(crate) fn say_asm<V: Write>(err: &mut Outlet<V>, fault: AsmFault) -> Result<(), WriteFailed>
     requires { err.old.failed ≡ false }
     ensures { err.new.failed ≡ is_err result }
 {
@@ -262,6 +279,10 @@ fn say_fault<V: Write>(err: &mut Outlet<V>, fault: RunFault) -> Result<(), Write
         }
         RunFault::TooManyOpponents => say(err, "TooManyOpponents"),
         RunFault::Template(fault) => say_template(err, fault),
+        RunFault::NoSuchSetting { index } => {
+            say(err, "NoSuchSetting")?;
+            say(err, Buffer::new().format(index))
+        }
         RunFault::Opponent { index, fault } => {
             say(err, "Opponent")?;
             say(err, Buffer::new().format(index))?;
@@ -271,5 +292,6 @@ fn say_fault<V: Write>(err: &mut Outlet<V>, fault: RunFault) -> Result<(), Write
         RunFault::NoCandidate => say(err, "NoCandidate"),
         RunFault::Write => say(err, "Write"),
         RunFault::OutOfMemory => say(err, "OutOfMemory"),
+        RunFault::Part => say(err, "Part"),
     }
 }

@@ -4,29 +4,31 @@ ghost use Rattle.rc_instr.specs.Warrior.{Fits};
 ghost use Rattle.rc_asm.specs.Assembly.{Assembles};
 ghost use Rattle.mars_fight.specs.Listed.{IsFight};
 ghost use Rattle.mars_fight.specs.Schedule.{fights_of};
-ghost use Rattle.cwtune.specs.TuneRun.{texts, IsTemplate, AreOpponents, Means, IsTemplateRefusal, IsRefusalOf, AreRefused, HasNoFights, IsTuneRefusal};
+ghost use Rattle.cwtune.specs.TuneRun.{part_texts, IsTemplate, AreOpponents, Means, IsTemplateRefusal, IsRefusalOf, AreRefused, HasNoFights, IsTuneRefusal};
 
 use crate::commands::warrior_of;
 use crate::fault::RunFault;
 use mars_fight::{Schedule, ScheduleFaultKind};
 use rc_instr::{Rules, Warrior};
 use std::alloc::Global;
-use tune_template::{Inputs, Template, TemplateKind};
+use tune_template::{Inputs, Part, Template, TemplateKind};
 
 // The most opponents that a tuning may have.
 const MOST_OPPONENTS: usize = 64;
 
-// Reads the inputs of a tuning. Of several faults the first in the order of `RunFault` is returned.
-#[tactic(auto, using(crate::proofs::Tunings::template_refused, crate::proofs::Tunings::opponents_refused, crate::proofs::Tunings::schedule_refused))]
+// Reads the inputs of a tuning of a part. Of several faults the first in the order of `RunFault` is
+// returned, and `Part` last.
+#[tactic(auto, using(crate::proofs::Tunings::template_refused, crate::proofs::Tunings::opponents_refused, crate::proofs::Tunings::schedule_refused, crate::proofs::Tunings::part_refused))]
 pub(crate) fn inputs_of(
     alloc: Global,
     template: &[u8],
     opponents: &[Vec<u8>],
     schedule: &[u8],
     rules: &Rules,
+    part: Part,
 ) -> Result<Inputs, RunFault>
-    ensures inputs { IfOk result (λ i. Means (texts template.now (map (λ o. o.items) opponents.now) schedule.now rules.now) i) }
-    ensures refused { IfErr result (λ e. IsTuneRefusal e (texts template.now (map (λ o. o.items) opponents.now) schedule.now rules.now)) }
+    ensures inputs { IfOk result (λ i. Means (part_texts template.now (map (λ o. o.items) opponents.now) schedule.now rules.now part) i) }
+    ensures refused { IfErr result (λ e. IsTuneRefusal e (part_texts template.now (map (λ o. o.items) opponents.now) schedule.now rules.now part)) }
     ensures candidate { IfErr result (λ e. (e ≢ RunFault.NoCandidate) × (e ≢ RunFault.Write)) }
 {
     if opponents.len() > MOST_OPPONENTS {
@@ -44,10 +46,13 @@ pub(crate) fn inputs_of(
         Ok(schedule) => schedule,
         Err(fault) => return Err(fault),
     };
-    Ok(Inputs::new(template, warriors, schedule, *rules))
+    match Inputs::new(template, warriors, schedule, *rules).part(part) {
+        Some(inputs) => Ok(inputs),
+        None => Err(RunFault::Part),
+    }
 }
 
-fn template_of(alloc: Global, text: &[u8]) -> Result<Template, RunFault>
+pub(crate) fn template_of(alloc: Global, text: &[u8]) -> Result<Template, RunFault>
     ensures template { IfOk result (λ t. IsTemplate text.now t) }
     ensures refused { IfErr result (λ e. IsTemplateRefusal e text.now) }
 {
@@ -80,7 +85,12 @@ fn schedule_of(
 }
 
 // Assembles one opponent. `index` is its place among all, for the fault.
-fn opponent_of(alloc: Global, text: &[u8], index: u32, rules: &Rules) -> Result<Warrior, RunFault>
+pub(crate) fn opponent_of(
+    alloc: Global,
+    text: &[u8],
+    index: u32,
+    rules: &Rules,
+) -> Result<Warrior, RunFault>
     ensures warrior { IfOk result (λ w. Assembles text.now [] rules.now w) }
     ensures fits { IfOk result (Fits rules.now) }
     ensures refused { IfErr result (λ e. IsRefusalOf index e rules.now text.now) }

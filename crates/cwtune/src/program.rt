@@ -6,7 +6,7 @@ ghost use Rattle.cwtune.specs.CheckRun.{WritesVerdict};
 ghost use Rattle.cwtune.specs.CommandLine.{AskForFight};
 
 use crate::command_line::{Request, request_of};
-use crate::commands::{asm, check, fight, tune};
+use crate::commands::{asm, check, duel, fight, plain_tune, setting, tune};
 use crate::fault::RunFault;
 use crate::fault_line::say_run;
 use crate::status::{DONE, FAILED, MISUSED, end_without_memory};
@@ -22,7 +22,10 @@ use std::rt::Files;
 /// I/O error or out of memory.
 ///
 /// - Without words, or with `fight`: reads a fight text from `input` and writes its result line.
-/// - `asm`: checks the rules, reads the Redcode file, and writes its load file.
+/// - `fight` and two files: checks the rules, reads the two Redcode files, and writes the result
+///   line of their fight.
+/// - `asm`: checks the rules, reads the Redcode file, and writes its load file, or that of one
+///   setting of a template.
 /// - `tune`: checks the rules, reads the template, the schedule and the opponents, opens or creates
 ///   the file of the certificate, finds the best setting, and writes the certificate, then the
 ///   report. A file that is another word's, or that has a text and is not a certificate, is not
@@ -62,8 +65,13 @@ pub fn program<F: Files, R: Read, W: Write, V: Write>(
 {
     match request_of(alloc, words) {
         Ok(Request::Fight) => fight(alloc, input, out, err),
+        Ok(Request::Duel(words)) => duel(rt, alloc, &words, out, err),
         Ok(Request::Asm { rules, file }) => asm(rt, alloc, rules, file, out, err),
+        Ok(Request::Setting { rules, file, which }) => {
+            setting(rt, alloc, rules, file, which, out, err)
+        }
         Ok(Request::Tune { words, capacity }) => tune(rt, alloc, &words, capacity, out, err),
+        Ok(Request::TuneAll(words)) => plain_tune(rt, alloc, &words, out, err),
         Ok(Request::Check(words)) => check(rt, alloc, &words, out, err),
         Err(answer) => show(alloc, &answer, out, err),
     }

@@ -1,7 +1,6 @@
 //! The report of a tuning, six lines.
 ghost use Rattle.std.specs.Prelude.{◌≡◌, ◌++◌, ◌<◌, ◌*◌, ℤ, List, map, length, slice_get, Some, IfOk, OnOk};
-ghost use Rattle.tune_template.specs.Instances.{constants_of};
-ghost use Rattle.tune_template.specs.Vectors.{vectors_of};
+ghost use Rattle.tune_template.specs.Instances.{constants_of, settings_of};
 ghost use Rattle.tune_cert.specs.Problem.{problem_of};
 ghost use Rattle.tune_cert.specs.Optimum.{candidates_of};
 ghost use Rattle.cwtune.specs.Report.{number_line, share_line, constant_text, constants_text, constants_or_none, constants_line, report_text, report_for};
@@ -21,17 +20,16 @@ pub(crate) fn report_of(
 ) -> Result<Vec<u8>, OutOfMemory>
     requires inside { found.now.best < (problem_of inputs.now).count }
     requires candidates { found.now.candidates ≡ candidates_of (problem_of inputs.now) }
-    ensures { IfOk result (λ text. (values : List ℤ) × (slice_get (vectors_of inputs.now.template.ranges.spans) found.now.best ≡ Some values)
+    ensures { IfOk result (λ text. (values : List ℤ) × (slice_get (settings_of inputs.now) found.now.best ≡ Some values)
         × (text.items ≡ report_text (report_for inputs.now found.now values))) }
 {
-    let template = inputs.template();
     let fights = inputs.schedule().fights().len() as u64;
-    let values = template.vector(found.best);
+    let values = inputs.vector(found.best);
     let mut text = Vec::new(alloc);
-    add_number(&mut text, b"vectors ", template.count())?;
+    add_number(&mut text, b"vectors ", inputs.count())?;
     add_number(&mut text, b"candidates ", found.candidates)?;
     add_number(&mut text, b"best ", found.best)?;
-    add_constants(&mut text, template.names(), values.as_slice())?;
+    add_constants(&mut text, inputs.template().names(), values.as_slice())?;
     add_share(
         &mut text,
         b"total ",

@@ -3,7 +3,7 @@ ghost use Rattle.std.specs.Prelude.{◌≡◌, ◌≢◌, ◌⊎◌, false};
 
 use crate::cert_file::NotOpened;
 use crate::fault::RunFault;
-use crate::fault_line::{say_cert, say_file, say_run};
+use crate::fault_line::{say_cert, say_file, say_run, say_text};
 use rc_instr::Outlet;
 use std::io;
 use std::io::Write;
@@ -19,6 +19,37 @@ pub(crate) fn end_run<V: Write>(err: &mut Outlet<V>, fault: RunFault) -> u8
         RunFault::Write | RunFault::OutOfMemory => FAILED,
         _ => REFUSED,
     }
+}
+
+// Says on standard error that the template has too few settings for its parts, and returns the exit
+// status.
+pub(crate) fn end_part<V: Write>(err: &mut Outlet<V>) -> u8
+    requires { err.old.failed ≡ false }
+    ensures { result ≡ 2 }
+{
+    let _ = err.write_all(b"error: --part I/K: the template has fewer than K settings\n");
+    MISUSED
+}
+
+// Names the fault of a fight of two texts on standard error, with the file of the text that does not
+// assemble, and returns the exit status.
+pub(crate) fn end_duel<V: Write>(
+    err: &mut Outlet<V>,
+    fault: RunFault,
+    candidate: &str,
+    opponent: &str,
+) -> u8
+    requires { err.old.failed ≡ false }
+    ensures refused { result ≡ 1 → (fault ≢ RunFault.Write) × (fault ≢ RunFault.OutOfMemory) }
+    ensures status { (result ≡ 1) ⊎ (result ≡ 3) }
+{
+    let said = match fault {
+        RunFault::Asm(fault) => say_text(err, "Candidate", candidate, fault),
+        RunFault::Opponent { index: _, fault } => say_text(err, "Opponent", opponent, fault),
+        _ => return end_run(err, fault),
+    };
+    let _ = said;
+    REFUSED
 }
 
 // Says on standard error that memory ran out, and returns the exit status.
@@ -69,7 +100,7 @@ pub(crate) const DONE: u8 = 0;
 // A refused input, or a rejected certificate.
 pub(crate) const REFUSED: u8 = 1;
 
-// A usage error, or a file CERT that is not overwritten.
+// A usage error, a part that the template does not have, or a file CERT that is not overwritten.
 pub(crate) const MISUSED: u8 = 2;
 
 // An I/O error, or out of memory.

@@ -1,8 +1,12 @@
 //! Tests of the program against results worked out by hand.
-mod assembly;
 mod checking;
 mod command_line;
+mod duels;
 mod fault_lines;
-mod fights;
+mod memory;
+mod parts;
+mod plain_tunings;
+mod settings;
 mod stand_ins;
 mod tuning;
+mod writers;

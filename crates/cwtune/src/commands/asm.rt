@@ -105,7 +105,11 @@ pub(crate) fn asm<F: Files, W: Write, V: Write>(
     }
 }
 
-fn loadfile_of(alloc: Global, warrior: &Warrior, rules: &Rules) -> Result<Vec<u8>, OutOfMemory>
+pub(crate) fn loadfile_of(
+    alloc: Global,
+    warrior: &Warrior,
+    rules: &Rules,
+) -> Result<Vec<u8>, OutOfMemory>
     requires { Fits rules.now warrior.now }
     ensures { IfOk result (λ file. file.items ≡ load_text rules.now.core warrior.now) }
 {

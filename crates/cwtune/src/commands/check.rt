@@ -1,7 +1,7 @@
 //! The command `check`: from texts and a certificate to the line of the verdict.
 ghost use Rattle.std.specs.Prelude.{◌≡◌, ◌≢◌, ◌↔◌, ◌⊎◌, ◌≤◌, ℕ, List, map, true, false, IfOk, IfErr, IsErrOf, IsTrue};
 ghost use Rattle.tune_template.specs.Instances.{InputsView};
-ghost use Rattle.cwtune.specs.TuneRun.{Texts, texts, Means, IsTuneRefusal};
+ghost use Rattle.cwtune.specs.TuneRun.{Texts, texts, part_texts, Means, IsTuneRefusal};
 ghost use Rattle.cwtune.specs.CheckRun.{accepts, WritesVerdict};
 
 use crate::command_line::TuneWords;
@@ -10,12 +10,13 @@ use crate::inputs::inputs_of;
 use crate::lines::verdict_line;
 use crate::raw_rules::rules_of;
 use crate::reading::read_check_texts;
-use crate::status::{DONE, REFUSED, end_file, end_run};
+use crate::status::{DONE, REFUSED, end_file, end_part, end_run};
 use rc_instr::{Outlet, Rules};
 use std::alloc::Global;
 use std::io::Write;
 use std::rt::Files;
 use tune_cert::{CheckFault, Verdict, check as check_cert};
+use tune_template::Part;
 
 /// Checks a certificate of a tuning, whoever made it, and writes the line of the verdict. Returns
 /// whether it is accepted.
@@ -32,7 +33,6 @@ use tune_cert::{CheckFault, Verdict, check as check_cert};
 /// text, `Opponent` with the index of the first that does not assemble and its fault, `Schedule`
 /// with the fault of its text. Nothing is written then. `Write` if the writer failed: an unknown
 /// part of the line may be out. `OutOfMemory` if an allocation failed: nothing is written.
-#[tactic(auto, using(crate::proofs::Tunings::refused_inputs))]
 pub fn check_run<W: Write>(
     alloc: Global,
     template: &[u8],
@@ -57,7 +57,55 @@ pub fn check_run<W: Write>(
     ensures meaning { (i : InputsView) → Means (texts template.now (map (λ o. o.items) opponents.now) schedule.now rules.now) i
         → IfErr result (λ e. (e ≡ RunFault.Write) ⊎ (e ≡ RunFault.OutOfMemory)) }
 {
-    let inputs = match inputs_of(alloc, template, opponents, schedule, rules) {
+    check_part_run(
+        alloc,
+        template,
+        opponents,
+        schedule,
+        rules,
+        Part::whole(),
+        cert,
+        out,
+    )
+}
+
+/// Checks a certificate of a tuning of one part of a template's settings, and writes the line of the
+/// verdict. Returns whether it is accepted.
+///
+/// The settings are counted from 0 within the part, in the certificate and in the line. `check_run`
+/// is this run for part 1 of 1, and the rest is as there.
+///
+/// # Errors
+///
+/// Those of `check_run`; and `Part`, after `Schedule`, if there is no such part: nothing is written
+/// then.
+#[tactic(auto, using(crate::proofs::Tunings::refused_inputs))]
+pub fn check_part_run<W: Write>(
+    alloc: Global,
+    template: &[u8],
+    opponents: &[Vec<u8>],
+    schedule: &[u8],
+    rules: &Rules,
+    part: Part,
+    cert: &[u8],
+    out: &mut Outlet<W>,
+) -> Result<bool, RunFault>
+    requires { out.old.failed ≡ false }
+
+    // What was written is the line of the right verdict on the certificate, for the inputs in the
+    // texts.
+    ensures verdict { IfOk result (λ accepted. WritesVerdict (part_texts template.now (map (λ o. o.items) opponents.now) schedule.now rules.now part) cert.now accepted out.old.bytes out.new.bytes) }
+
+    // Refused texts have no meaning, and nothing was written.
+    ensures refused { IfErr result (λ e. e ≢ RunFault.Write →
+        (e ≢ RunFault.NoCandidate) × IsTuneRefusal e (part_texts template.now (map (λ o. o.items) opponents.now) schedule.now rules.now part) × (out.new ≡ out.old)) }
+    ensures write { IsErrOf result RunFault.Write ↔ IsTrue out.new.failed }
+
+    // Texts that have a meaning are not refused.
+    ensures meaning { (i : InputsView) → Means (part_texts template.now (map (λ o. o.items) opponents.now) schedule.now rules.now part) i
+        → IfErr result (λ e. (e ≡ RunFault.Write) ⊎ (e ≡ RunFault.OutOfMemory)) }
+{
+    let inputs = match inputs_of(alloc, template, opponents, schedule, rules, part) {
         Ok(inputs) => inputs,
         Err(fault) => return Err(fault),
     };
@@ -83,7 +131,8 @@ pub(crate) fn check<F: Files, W: Write, V: Write>(
     ensures done { result ≡ 0 → (t : Texts) × (cert : List ℕ) × WritesVerdict t cert true out.old.bytes out.new.bytes }
     ensures refused { result ≡ 1 → (out.new ≡ out.old) ⊎ ((t : Texts) × (cert : List ℕ) × WritesVerdict t cert false out.old.bytes out.new.bytes) }
     ensures failed { IsTrue out.new.failed → result ≡ 3 }
-    ensures status { (result ≤ 3) × (result ≢ 2) }
+    ensures misused { result ≡ 2 → out.new ≡ out.old }
+    ensures status { result ≤ 3 }
 {
     let rules = match rules_of(words.rules) {
         Ok(rules) => rules,
@@ -93,17 +142,19 @@ pub(crate) fn check<F: Files, W: Write, V: Write>(
         Ok(texts) => texts,
         Err(unread) => return end_file(err, &unread.error, "read", unread.name),
     };
-    match check_run(
+    match check_part_run(
         alloc,
         texts.tuning.template.as_slice(),
         texts.tuning.opponents.as_slice(),
         texts.tuning.schedule.as_slice(),
         &rules,
+        words.part,
         texts.cert.as_slice(),
         out,
     ) {
         Ok(true) => DONE,
         Ok(false) => REFUSED,
+        Err(RunFault::Part) => end_part(err),
         Err(fault) => end_run(err, fault),
     }
 }

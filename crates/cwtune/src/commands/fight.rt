@@ -22,12 +22,12 @@ use std::io::{Read, Write};
 
 // A fight whose warriors keep its rules, and whose position keeps their distance.
 #[derive(Drop)]
-struct NamedFight {
-    rules: Rules,
-    candidate: Warrior,
-    opponent: Warrior,
-    position: u32,
-    first: Side,
+pub(crate) struct NamedFight {
+    pub(crate) rules: Rules,
+    pub(crate) candidate: Warrior,
+    pub(crate) opponent: Warrior,
+    pub(crate) position: u32,
+    pub(crate) first: Side,
 }
 
 /// Plays the fight of a fight text, and writes its result line: `win 3 turns K`, `tie 1 turns K` or
@@ -146,7 +146,7 @@ fn read_fight(alloc: Global, text: &[u8]) -> Result<NamedFight, RunFault>
     })
 }
 
-fn play(alloc: Global, fight: &NamedFight) -> Result<Outcome, OutOfMemory>
+pub(crate) fn play(alloc: Global, fight: &NamedFight) -> Result<Outcome, OutOfMemory>
     requires candidate { Fits fight.now.rules fight.now.candidate }
     requires opponent { Fits fight.now.rules fight.now.opponent }
     requires position { IsPosition fight.now.rules fight.now.position }

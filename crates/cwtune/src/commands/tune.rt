@@ -7,7 +7,7 @@ ghost use Rattle.tune_cert.specs.Optimum.{IsCandidate};
 ghost use Rattle.tune_cert.specs.CertText.{cert_text, cert_of};
 ghost use Rattle.tune_cert.specs.Spelling.{IsVersion};
 ghost use Rattle.cwtune.specs.CertFile.{names_twice};
-ghost use Rattle.cwtune.specs.TuneRun.{Texts, texts, Means, IsTuneRefusal, WritesTuning};
+ghost use Rattle.cwtune.specs.TuneRun.{Texts, texts, part_texts, Means, IsTuneRefusal, WritesTuning};
 
 use crate::cert_file::open_cert;
 use crate::command_line::TuneWords;
@@ -16,13 +16,14 @@ use crate::inputs::inputs_of;
 use crate::raw_rules::rules_of;
 use crate::reading::read_texts;
 use crate::report::report_of;
-use crate::status::{DONE, end_cert, end_file, end_run};
+use crate::status::{DONE, end_cert, end_file, end_part, end_run};
 use rc_instr::{Outlet, Rules};
 use std::alloc::Global;
 use std::io::Write;
 use std::rt::Files;
 use tune_cert::{CertFault, Found, write_cert};
 use tune_search::{SearchFault, search};
+use tune_template::Part;
 
 /// Finds the optimum of a template, and writes its certificate, then the report.
 ///
@@ -40,7 +41,6 @@ use tune_search::{SearchFault, search};
 /// with the fault of its text, `NoCandidate` if no setting assembles. Nothing is written then.
 /// `Write` if a writer failed: an unknown part of its text may be out, and after the certificate's
 /// writer the report's gets nothing. `OutOfMemory` if an allocation failed: nothing is written.
-#[tactic(auto, using(crate::proofs::Tunings::refused_means))]
 pub fn tune_run<W: Write, V: Write>(
     alloc: Global,
     template: &[u8],
@@ -74,7 +74,64 @@ pub fn tune_run<W: Write, V: Write>(
         → v < (problem_of i).count → IsCandidate (problem_of i) v
         → IfErr result (λ e. (e ≡ RunFault.Write) ⊎ (e ≡ RunFault.OutOfMemory)) }
 {
-    let inputs = match inputs_of(alloc, template, opponents, schedule, rules) {
+    tune_part_run(
+        alloc,
+        template,
+        opponents,
+        schedule,
+        rules,
+        Part::whole(),
+        capacity,
+        report,
+        cert,
+    )
+}
+
+/// Finds the optimum of one part of a template's settings, and writes its certificate, then the
+/// report, as if the template had no other settings: they are counted from 0 within the part.
+///
+/// `tune_run` is this run for part 1 of 1, and the rest is as there.
+///
+/// # Errors
+///
+/// Those of `tune_run`; and `Part`, after `Schedule`, if there is no such part: nothing is written
+/// then.
+#[tactic(auto, using(crate::proofs::Tunings::refused_means))]
+pub fn tune_part_run<W: Write, V: Write>(
+    alloc: Global,
+    template: &[u8],
+    opponents: &[Vec<u8>],
+    schedule: &[u8],
+    rules: &Rules,
+    part: Part,
+    capacity: u32,
+    report: &mut Outlet<W>,
+    cert: &mut Outlet<V>,
+) -> Result<(), RunFault>
+    requires capacity { (1 ≤ capacity) × (capacity ≤ 65536) }
+    requires report { report.old.failed ≡ false }
+    requires cert { cert.old.failed ≡ false }
+
+    // Both texts are of one `Found` for which `IsSearch` holds: a valid certificate was written,
+    // and the report of its best setting, the optimum.
+    ensures tuning { OnOk result (WritesTuning (part_texts template.now (map (λ o. o.items) opponents.now) schedule.now rules.now part) capacity
+        report.old.bytes report.new.bytes cert.old.bytes cert.new.bytes) }
+
+    // Refused texts have no meaning or no candidate, and nothing was written.
+    ensures refused { IfErr result (λ e. e ≢ RunFault.Write →
+        IsTuneRefusal e (part_texts template.now (map (λ o. o.items) opponents.now) schedule.now rules.now part)
+        × (report.new ≡ report.old) × (cert.new ≡ cert.old)) }
+    ensures write { IsErrOf result RunFault.Write ↔ (IsTrue report.new.failed ⊎ IsTrue cert.new.failed) }
+
+    // The report begins only after the certificate is out.
+    ensures order { IsTrue cert.new.failed → report.new ≡ report.old }
+
+    // Texts that have a meaning and a candidate are not refused.
+    ensures meaning { (i : InputsView) (v : ℕ) → Means (part_texts template.now (map (λ o. o.items) opponents.now) schedule.now rules.now part) i
+        → v < (problem_of i).count → IsCandidate (problem_of i) v
+        → IfErr result (λ e. (e ≡ RunFault.Write) ⊎ (e ≡ RunFault.OutOfMemory)) }
+{
+    let inputs = match inputs_of(alloc, template, opponents, schedule, rules, part) {
         Ok(inputs) => inputs,
         Err(fault) => return Err(fault),
     };
@@ -119,23 +176,25 @@ pub(crate) fn tune<F: Files, W: Write, V: Write>(
         Ok(file) => Outlet::new(file),
         Err(refused) => return end_cert(err, &refused, words.cert),
     };
-    match tune_run(
+    match tune_part_run(
         alloc,
         texts.template.as_slice(),
         texts.opponents.as_slice(),
         texts.schedule.as_slice(),
         &rules,
+        words.part,
         capacity,
         out,
         &mut cert,
     ) {
         Ok(()) => DONE,
+        Err(RunFault::Part) => end_part(err),
         Err(fault) => end_run(err, fault),
     }
 }
 
 // Writes the certificate, then the report.
-fn write_both<W: Write, V: Write>(
+pub(crate) fn write_both<W: Write, V: Write>(
     alloc: Global,
     found: &Found,
     text: &[u8],

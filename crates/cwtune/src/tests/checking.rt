@@ -1,34 +1,11 @@
 //! `check_run`, under rules of 16 cells, 20 cycles, 4 tasks, length 4 and distance 4.
-use crate::tests::stand_ins::Broken;
 use crate::tests::tuning::{BOTH, both_opponents};
-use crate::{RunFault, check_run, tune_run};
+use crate::{check_run, tune_run};
 use rc_instr::{Outlet, Rules};
 use std::test::Fail;
 
 // Four settings with one warrior, an imp.
 const IMPS: &[u8] = b";@tune K 0 3 1 2\nMOV 0, 1";
-
-#[test]
-fn the_line_is_the_verdict(rt: HostRuntime) -> Result<(), Fail> {
-    let rules = Rules::try_new(16, 20, 4, 4, 4)?;
-    let opponents = both_opponents(rt.alloc())?;
-    let mut out = Outlet::new(Vec::new(rt.alloc()));
-    let result = check_run(
-        rt.alloc(),
-        IMPS,
-        opponents.as_slice(),
-        BOTH,
-        &rules,
-        b"cwcert,1,4\nbest,0,4\ncap,0,0:3 1:1\nsame,1,2\ncap,2,0:3 1:1\nsame,3,2\n",
-        &mut out,
-    );
-    assert_eq!(rt; result, Ok(true));
-    assert_eq!(rt;
-        out.into_inner().as_slice(),
-        b"accepted best 0 total 4\n".as_slice()
-    );
-    Ok(())
-}
 
 // What a tuning wrote is accepted, with the best setting and the total of its report.
 #[test]
@@ -68,24 +45,5 @@ fn what_a_tuning_wrote_is_accepted(rt: HostRuntime) -> Result<(), Fail> {
         out.into_inner().as_slice(),
         b"accepted best 0 total 4\n".as_slice()
     );
-    Ok(())
-}
-
-#[test]
-fn a_write_failure_is_reported(rt: HostRuntime) -> Result<(), Fail> {
-    let rules = Rules::try_new(16, 20, 4, 4, 4)?;
-    let opponents = both_opponents(rt.alloc())?;
-    let mut out = Outlet::new(Broken);
-    let result = check_run(
-        rt.alloc(),
-        IMPS,
-        opponents.as_slice(),
-        BOTH,
-        &rules,
-        b"",
-        &mut out,
-    );
-    assert_eq!(rt; result, Err(RunFault::Write));
-    assert!(rt; out.failed());
     Ok(())
 }

@@ -1,6 +1,6 @@
 //! `program`, with words that name no file.
 use crate::program::{end_without_words, program};
-use crate::tests::fights::IMPS;
+use crate::tests::memory::IMPS;
 use crate::tests::stand_ins::Broken;
 use rc_instr::Outlet;
 use std::alloc::{AllocError, Global};
@@ -14,17 +14,6 @@ fn words_of(alloc: Global, given: &[&str]) -> Result<Vec<String>, AllocError> {
         words.push(String::from_str(alloc, word)?)?;
     }
     Ok(words)
-}
-
-#[test]
-fn without_words_a_fight_is_played(rt: HostRuntime) {
-    let mut input = IMPS;
-    let mut out = Outlet::new(Vec::new(rt.alloc()));
-    let mut err = Outlet::new(Vec::new(rt.alloc()));
-    let status = program(&rt, rt.alloc(), &[], &mut input, &mut out, &mut err);
-    assert_eq!(rt; status, 0);
-    assert_eq!(rt; out.into_inner().as_slice(), b"tie 1 turns 40\n".as_slice());
-    assert!(rt; err.into_inner().is_empty());
 }
 
 // Words and an input, and the exit status if each write fails.

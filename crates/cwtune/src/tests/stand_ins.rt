@@ -1,6 +1,7 @@
-//! A writer that fails.
+//! Writers that fail.
 ghost use Rattle.std.specs.Prelude.{IsErr};
 
+use std::alloc::Global;
 use std::io;
 use std::io::Write;
 
@@ -17,6 +18,44 @@ fn failure<T>() -> io::Result<T>
 impl Write for Broken {
     fn write(&mut self, _buf: &[u8]) -> io::Result<usize> {
         failure()
+    }
+
+    fn flush(&mut self) -> io::Result<()> {
+        Ok(())
+    }
+}
+
+// The most bytes that a `Failing` takes at a write.
+pub(crate) const PIECE: usize = 7;
+
+// Takes up to `PIECE` bytes at each of its first writes. Then each write fails, or takes no byte.
+#[derive(Drop)]
+pub(crate) struct Failing {
+    pub(crate) taken: Vec<u8>,
+    writes: usize,
+    fails: bool,
+}
+
+impl Failing {
+    // Returns a writer that takes this many writes, and then fails or takes nothing.
+    pub(crate) fn after(alloc: Global, writes: usize, fails: bool) -> Failing {
+        Failing {
+            taken: Vec::new(alloc),
+            writes,
+            fails,
+        }
+    }
+}
+
+impl Write for Failing {
+    fn write(&mut self, buf: &[u8]) -> io::Result<usize> {
+        if self.writes == 0 {
+            return if self.fails { failure() } else { Ok(0) };
+        }
+        self.writes -= 1;
+        let count = buf.len().min(PIECE);
+        self.taken.extend_from_slice(&buf[..count])?;
+        Ok(count)
     }
 
     fn flush(&mut self) -> io::Result<()> {
