@@ -1,6 +1,6 @@
 //! Tests of `rc_expand` and `rc_asm`: texts, and their lines, load files or faults. What a run of
 //! `cwtune asm` shows of them is a case in `cases/asm.toml`.
-mod expansion;
+pub(crate) mod expansion;
 mod faults;
 mod name_tables;
 mod warriors;

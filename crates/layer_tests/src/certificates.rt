@@ -1,41 +1,21 @@
 //! Tests of `tune_cert`: certificates that are written, read and checked, and the texts of faults.
 ghost use Rattle.std.specs.Prelude.{◌≡◌, IfOk, length};
 
-use crate::opponents::{BOTH, two_opponents};
-use mars_fight::{MOST_POINTS, Schedule};
-use rc_instr::{Outlet, Rules};
+use crate::searches::inputs_of;
+use mars_fight::MOST_POINTS;
+use rc_instr::Outlet;
 use std::alloc::{AllocError, Global};
 use std::io;
 use std::io::Write;
 use std::test::Fail;
 use tune_cert::{
-    CertFault, CheckFault, Found, Listing, ReadFault, Reason, Row, Rows, Verdict, cert_version,
-    check, fight_weight, greatest_total, read_cert, write_cert,
+    CertFault, CheckFault, Found, Listing, ReadFault, Row, Rows, cert_version, fight_weight,
+    greatest_total, read_cert, write_cert,
 };
-use tune_template::{Inputs, Template};
 
 // The certificate of what `five_rows` returns.
-const FIVE: &[u8] = b"cwcert,2,5\nbest,2,7\nrefused,0,-\n\
+pub(crate) const FIVE: &[u8] = b"cwcert,2,5\nbest,2,7\nrefused,0,-\n\
     cap,1,10:0 4:3\ncap,2,0:3 1:1 2:3\ncap,3,-\nsame,4,4294967295\n";
-
-// Four settings with one warrior, an imp, which wins against the first opponent and ties with the
-// second.
-const IMPS: &[u8] = b";@tune K 0 3 1 2\nMOV 0, 1";
-
-// Certificates of `IMPS`, and the verdicts.
-const VERDICTS: [(&[u8], Verdict); 2] = [
-    (
-        b"cwcert,1,4\nbest,0,4\ncap,0,0:3 1:1\nsame,1,2\ncap,2,0:3 1:1\nsame,3,2\n",
-        Verdict::Accepted { best: 0, total: 4 },
-    ),
-    (
-        b"cwcert,1,4\nbest,0,4\ncap,0,0:3 1:1\nsame,1,2\ncap,2,0:3 1:3\nsame,3,2\n",
-        Verdict::Rejected {
-            row: 4,
-            reason: Reason::WrongPoints,
-        },
-    ),
-];
 
 // Makes a cap row.
 fn cap(alloc: Global, fights: &[(u32, u8)]) -> Result<Row, AllocError> {
@@ -43,7 +23,7 @@ fn cap(alloc: Global, fights: &[(u32, u8)]) -> Result<Row, AllocError> {
 }
 
 // Returns what a search found, with rows of each kind. The fights of one row are not in order.
-fn five_rows(alloc: Global) -> Result<Found, Fail>
+pub(crate) fn five_rows(alloc: Global) -> Result<Found, Fail>
     ensures rows { IfOk result (λ f. length f.rows ≡ 5) }
     ensures version { IfOk result (λ f. f.version ≡ 2) }
 {
@@ -62,15 +42,6 @@ fn five_rows(alloc: Global) -> Result<Found, Fail>
         candidates: 4,
         copied: None,
     })
-}
-
-#[test]
-fn a_certificate_has_a_line_for_each_row(rt: HostRuntime) -> Result<(), Fail> {
-    let found = five_rows(rt.alloc())?;
-    let mut out = Outlet::new(Vec::new(rt.alloc()));
-    assert_eq!(rt; write_cert(rt.alloc(), &found, &mut out), Ok(()));
-    assert_eq!(rt; out.into_inner().as_slice(), FIVE);
-    Ok(())
 }
 
 #[test]
@@ -127,27 +98,37 @@ fn rows_are_copied(rt: HostRuntime) -> Result<(), Fail> {
 }
 
 #[test]
-fn a_certificate_is_accepted_or_rejected(rt: HostRuntime) -> Result<(), Fail> {
-    let rules = Rules::try_new(16, 20, 4, 4, 4)?;
-    let template = Template::read(rt.alloc(), IMPS)?;
-    let opponents = two_opponents(rt.alloc(), &rules)?;
-    let schedule = Schedule::read(rt.alloc(), BOTH, 2, &rules)?;
-    let inputs = Inputs::new(template, opponents, schedule, rules);
+fn inputs_say_what_a_certificate_counts(rt: HostRuntime) -> Result<(), Fail> {
+    let inputs = inputs_of(rt.alloc(), b"MOV 0, 1")?;
     assert_eq!(rt; greatest_total(&inputs), 2 * MOST_POINTS);
     assert_eq!(rt; (cert_version(&inputs), fight_weight(&inputs, 1)), (1, 1));
-    for (cert, want) in VERDICTS {
-        assert_eq!(rt; check(rt.alloc(), &inputs, cert)?, want, "{cert:?}");
-    }
     Ok(())
 }
 
-// A writer that fails at each call.
-#[derive(Drop)]
-struct Broken;
+// The most bytes that a `Failing` takes at a write.
+const PIECE: usize = 7;
 
-impl Write for Broken {
-    fn write(&mut self, _buf: &[u8]) -> io::Result<usize> {
-        Err(io::Error::from(io::ErrorKind::BrokenPipe))
+// Takes up to `PIECE` bytes at each of its first writes. Then each write fails, or takes no byte.
+#[derive(Drop)]
+struct Failing {
+    taken: Vec<u8>,
+    writes: usize,
+    fails: bool,
+}
+
+impl Write for Failing {
+    fn write(&mut self, buf: &[u8]) -> io::Result<usize> {
+        if self.writes == 0 {
+            return if self.fails {
+                Err(io::Error::from(io::ErrorKind::BrokenPipe))
+            } else {
+                Ok(0)
+            };
+        }
+        self.writes -= 1;
+        let count = buf.len().min(PIECE);
+        self.taken.extend_from_slice(&buf[..count])?;
+        Ok(count)
     }
 
     fn flush(&mut self) -> io::Result<()> {
@@ -155,15 +136,39 @@ impl Write for Broken {
     }
 }
 
+// Writes the certificate of `five_rows` on a writer that takes this many writes. Returns the
+// result, and what the writer took.
+fn cut(
+    alloc: Global,
+    writes: usize,
+    fails: bool,
+) -> Result<(Result<(), CertFault>, Vec<u8>), Fail> {
+    let found = five_rows(alloc)?;
+    let mut out = Outlet::new(Failing {
+        taken: Vec::new(alloc),
+        writes,
+        fails,
+    });
+    let result = write_cert(alloc, &found, &mut out);
+    Ok((result, out.into_inner().taken))
+}
+
+// A certificate of 95 bytes, cut after each piece.
 #[test]
 fn a_write_failure_is_reported(rt: HostRuntime) -> Result<(), Fail> {
-    let found = five_rows(rt.alloc())?;
-    let mut out = Outlet::new(Broken);
-    assert_eq!(rt;
-        write_cert(rt.alloc(), &found, &mut out),
-        Err(CertFault::Write)
-    );
-    assert!(rt; out.failed());
+    for writes in 0..15usize {
+        for fails in [true, false] {
+            let (result, bytes) = cut(rt.alloc(), writes, fails)?;
+            let most = writes.saturating_mul(PIECE).min(FIVE.len());
+            assert_eq!(rt; bytes.as_slice(), &FIVE[..most], "{writes}");
+            let want = if most < FIVE.len() {
+                Err(CertFault::Write)
+            } else {
+                Ok(())
+            };
+            assert_eq!(rt; result, want, "{writes}");
+        }
+    }
     Ok(())
 }
 

@@ -18,7 +18,11 @@ mod instructions;
 #[cfg(test)]
 mod machine;
 #[cfg(test)]
+mod memory;
+#[cfg(test)]
 mod opponents;
+#[cfg(test)]
+mod parts;
 #[cfg(test)]
 mod searches;
 #[cfg(test)]

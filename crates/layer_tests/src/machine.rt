@@ -218,7 +218,7 @@ fn one_step_queues_an_address(rt: HostRuntime) -> Result<(), Fail> {
 }
 
 // Points, turns, and the number of cells that a reset sets.
-type Played = (u8, u32, u32);
+pub(crate) type Played = (u8, u32, u32);
 
 // Loads two warriors, plays, and resets the arena.
 fn play<C: Cells>(
@@ -239,7 +239,7 @@ fn play<C: Cells>(
 }
 
 // Plays a fight on plain and on packed cells, in a core of 16 cells.
-fn plays(
+pub(crate) fn plays(
     rt: &HostRuntime,
     texts: (&[u8], &[u8]),
     cycles: u32,
@@ -265,7 +265,7 @@ const WAITS: &[u8] = b"ORG 0\nJMP.B $0, $0\n";
 
 // Candidate and opponent, cycles, tasks and first mover; points, turns, and the number of cells
 // that were written.
-const FIGHTS: [((&[u8], &[u8]), u32, u32, Side, Played); 7] = [
+pub(crate) const FIGHTS: [((&[u8], &[u8]), u32, u32, Side, Played); 7] = [
     ((IMP, IMP), 20, 4, Side::Candidate, (1, 40, 16)),
     ((DAT, IMP), 20, 4, Side::Candidate, (0, 1, 2)),
     ((IMP, DAT), 1, 4, Side::Candidate, (3, 2, 3)),

@@ -12,7 +12,7 @@ use tune_template::{Inputs, Template};
 
 // Three settings: the first does not assemble, the others are imps. The search starts with the
 // second.
-const THREE: &[u8] = b";@tune K 0 2 1 1\nMOV 0, 1\nDAT 1/K";
+pub(crate) const THREE: &[u8] = b";@tune K 0 2 1 1\nMOV 0, 1\nDAT 1/K";
 
 // The fights of an imp: it wins against the first opponent and ties with the second.
 const FIGHTS: [(u32, u8); 2] = [(0, 3), (1, 1)];
@@ -31,7 +31,7 @@ const TEMPLATES: [&[u8]; 8] = [
 ];
 
 // Reads the inputs of a tuning of `text` with one fight against each of two opponents.
-fn inputs_of(alloc: Global, text: &[u8]) -> Result<Inputs, Fail> {
+pub(crate) fn inputs_of(alloc: Global, text: &[u8]) -> Result<Inputs, Fail> {
     let rules = Rules::try_new(16, 20, 4, 4, 4)?;
     let template = Template::read(alloc, text)?;
     let opponents = two_opponents(alloc, &rules)?;
@@ -119,6 +119,34 @@ fn both_searches_agree(rt: HostRuntime) -> Result<(), Fail> {
         assert!(rt; agrees(rt.alloc(), &inputs, 2)?);
         assert!(rt; agrees(rt.alloc(), &inputs, 65_536)?);
     }
+    Ok(())
+}
+
+// Whether a row is that of setting `index`, of 400 settings that make 16 imps in turn.
+fn is_expected(index: usize, row: &Row) -> bool {
+    match row {
+        Row::Refused => false,
+        Row::Cap(fights) if index == 0 => fights.as_slice() == FIGHTS.as_slice(),
+        Row::Cap(fights) => index < 16 && fights.as_slice() == &FIGHTS[1..],
+        Row::Same(other) => index >= 16 && *other as usize == index % 16,
+    }
+}
+
+// The first setting plays both fights. Each imp after it plays the fight with fewer points, and
+// then has 4 points at most, as the first has.
+#[test]
+fn hundreds_of_settings_share_the_fights_of_sixteen(rt: HostRuntime) -> Result<(), Fail> {
+    let inputs = inputs_of(rt.alloc(), b";@tune K 0 399 1 0\nMOV 0, 1\nDAT K")?;
+    let found = search(rt.alloc(), &inputs, 16)?;
+    assert_eq!(rt; (found.best, found.total), (0, 4));
+    assert_eq!(rt; (found.candidates, found.fights), (400, 17));
+    let rows = found.rows.as_slice();
+    assert_eq!(rt; rows.len(), 400);
+    for index in 0..rows.len() {
+        assert!(rt; is_expected(index, &rows[index]), "{index}");
+    }
+    let forgetful = search(rt.alloc(), &inputs, 15)?;
+    assert_eq!(rt; (forgetful.best, forgetful.fights), (0, 401));
     Ok(())
 }
 

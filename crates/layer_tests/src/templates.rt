@@ -104,7 +104,7 @@ fn long_texts_are_refused(rt: HostRuntime) -> Result<(), Fail> {
 
 // Assembles the setting of index `index`. Returns its load file, or its fault. The rules are 16
 // cells, 20 cycles, 4 tasks, length 4 and distance 4.
-fn instance_text(
+pub(crate) fn instance_text(
     alloc: Global,
     text: &[u8],
     index: u32,
@@ -197,7 +197,7 @@ fn instances_assemble_or_have_faults(rt: HostRuntime) -> Result<(), Fail> {
 }
 
 #[test]
-fn inputs_keep_their_parts(rt: HostRuntime) -> Result<(), Fail> {
+fn inputs_keep_what_they_are_made_of(rt: HostRuntime) -> Result<(), Fail> {
     let alloc = rt.alloc();
     let rules = Rules::try_new(16, 20, 4, 4, 4)?;
     let template = Template::read(alloc, b";@tune K 0 2 1 1\nDAT K")?;

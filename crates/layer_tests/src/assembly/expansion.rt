@@ -66,7 +66,7 @@ fn text_of(alloc: Global, source: &[u8], lines: &[Line]) -> Result<Vec<u8>, Fail
 }
 
 // Expands `source` under the standard rules with the constant K = 7. Returns its lines as text.
-fn lines_of(alloc: Global, source: &[u8]) -> Result<Result<Vec<u8>, ExpandFault>, Fail> {
+pub(crate) fn lines_of(alloc: Global, source: &[u8]) -> Result<Result<Vec<u8>, ExpandFault>, Fail> {
     let mut names = Vec::new(alloc);
     names.push(b"K".to_vec(alloc)?)?;
     let constants = Constants {

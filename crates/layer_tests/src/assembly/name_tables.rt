@@ -36,10 +36,11 @@ fn joined(source: &[u8], token: Token, counter: u16) -> Token
 fn names_are_found_by_their_tokens(rt: HostRuntime) -> Result<(), Fail> {
     let alloc = rt.alloc();
     let mut table = NameTable::new(alloc);
-    assert!(rt; table.insert(b"x".to_vec(alloc)?, 7_u64)?);
-    assert!(rt; table.insert(b"x01".to_vec(alloc)?, 8)?);
-    assert!(rt; table.insert(b"x014096".to_vec(alloc)?, 9)?);
     let source = b"x01y".as_slice();
+    let other = b"x014096".as_slice();
+    assert!(rt; table.add(alloc, source, &name_token(source, 1), 7_u64)?);
+    assert!(rt; table.add(alloc, source, &name_token(source, 3), 8)?);
+    assert!(rt; table.add(alloc, other, &name_token(other, 7), 9)?);
     let token = name_token(source, 1);
     assert_eq!(rt; table.get(source, &token).copied(), Some(7));
     let token = joined(source, token, 1);
@@ -61,9 +62,10 @@ fn a_name_keeps_its_first_value(rt: HostRuntime) -> Result<(), Fail> {
     let source = b"step".as_slice();
     let token = name_token(source, 4);
     assert_eq!(rt; table.get(source, &token).copied(), None);
-    assert!(rt; table.insert(b"step".to_vec(alloc)?, 1_u64)?);
-    assert!(rt; table.insert(b"Step".to_vec(alloc)?, 2)?);
-    assert!(rt; !table.insert(b"step".to_vec(alloc)?, 3)?);
+    let other = b"Step".as_slice();
+    assert!(rt; table.add(alloc, source, &token, 1_u64)?);
+    assert!(rt; table.add(alloc, other, &name_token(other, 4), 2)?);
+    assert!(rt; !table.add(alloc, source, &token, 3)?);
     assert_eq!(rt; table.get(source, &token).copied(), Some(1));
     Ok(())
 }
@@ -72,10 +74,11 @@ fn a_name_keeps_its_first_value(rt: HostRuntime) -> Result<(), Fail> {
 fn many_names_are_found(rt: HostRuntime) -> Result<(), Fail> {
     let alloc = rt.alloc();
     let mut table = NameTable::new(alloc);
-    for i in 0..1000 {
-        table.insert(format!(in alloc; "x{:02}", i)?.into_bytes(), i)?;
-    }
     let source = b"x".as_slice();
+    for i in 0..1000_u16 {
+        let token = joined(source, name_token(source, 1), i);
+        assert!(rt; table.add(alloc, source, &token, u64::from(i))?);
+    }
     for i in 0..1000_u16 {
         let token = joined(source, name_token(source, 1), i);
         assert_eq!(rt; table.get(source, &token).copied(), Some(u64::from(i)));

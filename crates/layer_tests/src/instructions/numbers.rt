@@ -20,6 +20,7 @@ fn rules_keep_their_numbers(rt: HostRuntime) -> Result<(), Fail> {
         numbers_of(&Rules::standard()),
         [8000, 80000, 8000, 100, 100]
     );
+    assert_eq!(rt; rules.clone()?, rules);
     Ok(())
 }
 

@@ -1,10 +1,12 @@
 //! Outlets over writers that work, take a few bytes, take none, or fail.
 ghost use Rattle.std.specs.Prelude.{◌≡◌, false};
 
+use crate::assembly::push_times;
 use rc_instr::{Outlet, WriteFailed};
 use std::alloc::Global;
 use std::io;
 use std::io::Write;
+use std::test::Fail;
 
 // A writer that takes at most `most` bytes at a call, fails at call `bad_call` (counted from 1),
 // and counts its calls.
@@ -95,4 +97,17 @@ fn a_whole_text_is_written_piece_by_piece(rt: HostRuntime) {
         assert_eq!(rt; found, want, "{most} {bad_call}");
         assert_eq!(rt; bytes.as_slice(), taken, "{most} {bad_call}");
     }
+}
+
+#[test]
+fn a_piece_of_1_mib_is_written_whole(rt: HostRuntime) -> Result<(), Fail> {
+    let mut piece = Vec::new(rt.alloc());
+    push_times(&mut piece, b"0123456789abcdef", 65536)?;
+    let mut out = Outlet::new(Vec::new(rt.alloc()));
+    assert_eq!(rt; out.write(piece.as_slice()), Ok(1_048_576));
+    assert!(rt; out.into_inner().as_slice() == piece.as_slice());
+    let mut out = Outlet::new(Vec::new(rt.alloc()));
+    assert_eq!(rt; out.write_all(piece.as_slice()), Ok(()));
+    assert!(rt; out.into_inner().as_slice() == piece.as_slice());
+    Ok(())
 }

@@ -1,0 +1,223 @@
+//! Calls on cores, settings, searches and certificates.
+ghost use Rattle.std.specs.Prelude.{◌≤◌};
+
+use crate::certificates::{FIVE, five_rows};
+use crate::machine::{FIGHTS, plays};
+use crate::searches::{THREE, inputs_of};
+use crate::templates::instance_text;
+use rc_asm::{AsmFault, AsmKind};
+use rc_instr::Outlet;
+use rc_text::EvalFault;
+use std::alloc::Global;
+use std::test::Fail;
+use tune_cert::{Reason, Verdict, check, read_cert, write_cert};
+use tune_search::search;
+
+// Each fight is played on plain and on packed cells.
+#[test]
+fn an_arena_is_made(rt: HostRuntime) -> Result<(), Fail> {
+    for (texts, cycles, tasks, first, played) in FIGHTS {
+        let (plain, packed) = plays(&rt, texts, cycles, tasks, first)?;
+        assert_eq!(rt; plain, (played.0, played.1, 16), "{texts:?}");
+        assert_eq!(rt; packed, played, "{texts:?}");
+    }
+    Ok(())
+}
+
+// Four settings with one warrior.
+const IMPS: &[u8] = b";@tune K 0 3 1 2\nMOV 0, 1";
+
+// Three settings with unequal warriors.
+const ORDER: &[u8] = b";@tune K 0 2 1 1\nMOV 0, 1\nDAT K";
+
+// Six settings with two warriors.
+const HALF: &[u8] = b";@tune K 0 5 1 0\nMOV 0, 1\nDAT K % 2";
+
+// Templates, the index of a setting, and its load file or its fault.
+const INSTANCES: [(&[u8], u32, Result<&[u8], AsmFault>); 5] = [
+    (b"MOV 0, 1", 0, Ok(b"ORG 0\nMOV.I $0, $1\n")),
+    (IMPS, 3, Ok(b"ORG 0\nMOV.I $0, $1\n")),
+    (
+        THREE,
+        0,
+        Err(AsmFault {
+            line: 3,
+            kind: AsmKind::Value(EvalFault::DivisionByZero),
+        }),
+    ),
+    (THREE, 1, Ok(b"ORG 0\nMOV.I $0, $1\nDAT.F $0, $1\n")),
+    (ORDER, 2, Ok(b"ORG 0\nMOV.I $0, $1\nDAT.F $0, $2\n")),
+];
+
+#[test]
+fn instance_assembles_a_setting(rt: HostRuntime) -> Result<(), Fail> {
+    for (text, index, want) in INSTANCES {
+        match instance_text(rt.alloc(), text, index)? {
+            Ok(load) => assert_eq!(rt; Ok(load.as_slice()), want, "{text:?}"),
+            Err(fault) => {
+                if fault.kind == AsmKind::OutOfMemory {
+                    return Err(Fail::from(fault));
+                }
+                assert_eq!(rt; Err(fault), want, "{text:?}");
+            }
+        }
+    }
+    Ok(())
+}
+
+// Searches with this capacity. Returns the number of fights, and the certificate.
+fn found_by(alloc: Global, text: &[u8], capacity: u32) -> Result<(u64, Vec<u8>), Fail>
+    requires { (1 ≤ capacity) × (capacity ≤ 65536) }
+{
+    let inputs = inputs_of(alloc, text)?;
+    let found = search(alloc, &inputs, capacity)?;
+    let mut out = Outlet::new(Vec::with_capacity(alloc, 256)?);
+    write_cert(alloc, &found, &mut out)?;
+    Ok((u64::from(found.fights), out.into_inner()))
+}
+
+// Templates, with the fights of a search that remembers 4096 settings, and the certificate.
+const SEARCHES: [(&[u8], u64, &[u8]); 4] = [
+    (b"MOV 0, 1", 2, b"cwcert,1,1\nbest,0,4\ncap,0,0:3 1:1\n"),
+    (
+        IMPS,
+        2,
+        b"cwcert,1,4\nbest,0,4\ncap,0,0:3 1:1\nsame,1,2\ncap,2,0:3 1:1\nsame,3,2\n",
+    ),
+    (
+        THREE,
+        3,
+        b"cwcert,1,3\nbest,1,4\nrefused,0,-\ncap,1,0:3 1:1\ncap,2,1:1\n",
+    ),
+    (
+        ORDER,
+        5,
+        b"cwcert,1,3\nbest,0,4\ncap,0,0:3 1:1\ncap,1,0:3 1:1\ncap,2,1:1\n",
+    ),
+];
+
+#[test]
+fn search_finds_the_optimum(rt: HostRuntime) -> Result<(), Fail> {
+    for (text, fights, cert) in SEARCHES {
+        let (played, bytes) = found_by(rt.alloc(), text, 4096)?;
+        assert_eq!(rt; (played, bytes.as_slice()), (fights, cert), "{text:?}");
+    }
+    Ok(())
+}
+
+// The cache has room for both warriors.
+#[test]
+fn search_with_a_cache_of_two(rt: HostRuntime) -> Result<(), Fail> {
+    let (played, bytes) = found_by(rt.alloc(), HALF, 2)?;
+    let cert =
+        b"cwcert,1,6\nbest,0,4\ncap,0,0:3 1:1\ncap,1,1:1\nsame,2,0\nsame,3,1\nsame,4,0\nsame,5,1\n";
+    assert_eq!(rt; (played, bytes.as_slice()), (3, cert.as_slice()));
+    Ok(())
+}
+
+#[test]
+fn write_cert_writes_every_row(rt: HostRuntime) -> Result<(), Fail> {
+    let found = five_rows(rt.alloc())?;
+    let mut out = Outlet::new(Vec::with_capacity(rt.alloc(), 256)?);
+    let written = write_cert(rt.alloc(), &found, &mut out);
+    let bytes = out.into_inner();
+    if written.is_err() {
+        assert!(rt; bytes.is_empty());
+    }
+    written?;
+    assert_eq!(rt; bytes.as_slice(), FIVE);
+    Ok(())
+}
+
+#[test]
+fn read_cert_reads_every_row(rt: HostRuntime) -> Result<(), Fail> {
+    for text in CERTS {
+        let cert = read_cert(rt.alloc(), text.0)?;
+        assert_eq!(rt; cert.count, 4);
+        assert_eq!(rt; cert.rows.as_slice().len(), text.1);
+    }
+    Ok(())
+}
+
+// Certificates of `IMPS`, with the number of their rows, and their verdicts.
+const CERTS: [(&[u8], usize, Verdict); 8] = [
+    (
+        b"cwcert,1,4\nbest,0,4\ncap,0,0:3 1:1\nsame,1,2\ncap,2,0:3 1:1\nsame,3,2\n",
+        4,
+        Verdict::Accepted { best: 0, total: 4 },
+    ),
+    (
+        b"cwcert,1,4\nbest,0,4\ncap,0,0:3 1:1\nsame,1,2\ncap,2,0:3 1:3\nsame,3,2\n",
+        4,
+        Verdict::Rejected {
+            row: 4,
+            reason: Reason::WrongPoints,
+        },
+    ),
+    (
+        b"cwcert,1,4\nbest,2,4\nsame,0,2\nsame,1,2\ncap,2,0:3 1:1\nsame,3,2\n",
+        4,
+        Verdict::Rejected {
+            row: 2,
+            reason: Reason::CapTooHigh,
+        },
+    ),
+    (
+        b"cwcert,1,4\nbest,0,4\ncap,0,0:3 1:1\nsame,1,2\ncap,2,0:3 1:1\n",
+        3,
+        Verdict::Rejected {
+            row: 0,
+            reason: Reason::RowCount,
+        },
+    ),
+    (
+        b"cwcert,1,4\nbest,0,4\ncap,0,0:3 1:1\nsame,1,2\ncap,2,0:3 0:3\nsame,3,2\n",
+        4,
+        Verdict::Rejected {
+            row: 4,
+            reason: Reason::RepeatedFight,
+        },
+    ),
+    (
+        b"cwcert,1,4\nbest,0,5\ncap,0,0:3 1:1\nsame,1,2\ncap,2,0:3 1:1\nsame,3,2\n",
+        4,
+        Verdict::Rejected {
+            row: 1,
+            reason: Reason::BestRow,
+        },
+    ),
+    (
+        b"cwcert,1,4\nbest,0,4\ncap,0,0:3 1:1\nsame,1,2\ncap,2,0:3 1:1\nrefused,3,-\n",
+        4,
+        Verdict::Rejected {
+            row: 5,
+            reason: Reason::NotRefused,
+        },
+    ),
+    (
+        b"cwcert,1,4\nbest,0,4\ncap,0,0:3 1:1\nsame,1,2\ncap,2,0:3 1:1\nsame,3,1\n",
+        4,
+        Verdict::Rejected {
+            row: 5,
+            reason: Reason::NotSame,
+        },
+    ),
+];
+
+#[test]
+fn check_gives_the_verdict(rt: HostRuntime) -> Result<(), Fail> {
+    for (cert, _, want) in CERTS {
+        let inputs = inputs_of(rt.alloc(), IMPS)?;
+        assert_eq!(rt; check(rt.alloc(), &inputs, cert)?, want, "{cert:?}");
+    }
+    let inputs = inputs_of(rt.alloc(), IMPS)?;
+    let malformed = check(rt.alloc(), &inputs, b"cwcert,7,4\n")?;
+    assert_eq!(rt;
+        malformed,
+        Verdict::Rejected {
+            row: 0,
+            reason: Reason::Malformed
+        }
+    );
+    Ok(())
+}
