@@ -14,9 +14,9 @@ look:
 # Runs the whole gate: every proof from nothing, every test, every edit that must be refused, with
 # the gate's last line. If it passed, runs the tools that need Python alone, assembles the texts that
 # ask for much with the program that it proved and built, plays the cases of input and output, the
-# runs on pipes and the cuts of three texts, and refuses each request for memory and each write of
-# some runs in turn. Each of these ends with the number of what passed and failed. Fails if one of
-# these fails.
+# runs on pipes and the cuts of three texts, and refuses in turn each request for memory and each
+# write of some runs, and each request of the tests of calls that allocate. Each of these ends with
+# the number of what passed and failed. Fails if one of these fails.
 test:
 	@RT_JOBS=$(LANES) rt ci
 	@python3 tools/try_tools.py --plain
@@ -26,6 +26,7 @@ test:
 	@python3 tools/cuts.py $(PROGRAM)
 	@python3 tools/refuse_memory.py $(PROGRAM)
 	@python3 tools/refuse_writes.py $(PROGRAM)
+	@python3 tools/refuse_growth.py
 
 # Proves and builds the program, assembles the texts that ask for much, and plays the cases of input
 # and output, the pipes and the cuts alone.

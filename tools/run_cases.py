@@ -14,7 +14,8 @@ and none may be new. `stdin_from` and `out_to` are paths in place of the standar
 once for each of them, with the table merged over it: its keys replace those of the case, and its
 files are added to the files of the case. `runs` is such a list too: a case that has both is played
 once for each pair of a run and a table of `each`. With `fill.place = "Asm"`, in a
-case or in a table, `$place` stands for `Asm` in `words`, `files`, `stdin`, `out` and `err`.
+case or in a table, `$place` stands for `Asm` in `words`, `files`, `stdin`, `out`, `err` and
+`err_begins`.
 `long` makes long files: `long."x.red" = { text = ";", times = 65537 }`, also with a `head` that
 comes once before the text.
 `each_beginning_of` is `stdin` or the name of a file of the case, which is then played once for each
@@ -25,6 +26,7 @@ or there is none. A case that says anything else, or no `status`, is an error.
 """
 import concurrent.futures, os, pathlib, shlex, string, subprocess, sys, tempfile, tomllib
 
+FILLED = ["stdin", "out", "err", "err_begins"]
 NEEDED = {"name": str, "status": int}
 OPTIONAL = {
     "files": dict, "folders": list, "stdin": str, "stdin_from": str, "out_to": str, "cert": str,
@@ -77,7 +79,7 @@ def filled(case):
     for name, long in case["long"].items():
         check_keys(long, LONG, ["text", "times"], case["name"])
         files[name] = long.get("head", "") + long["text"] * long["times"]
-    made = {key: fill(case[key], names) for key in ["stdin", "out", "err"] if key in case}
+    made = {key: fill(case[key], names) for key in FILLED if key in case}
     return case | made | {"files": files, "words": shlex.split(words)}
 
 
