@@ -35,4 +35,13 @@ echo
 one "$tuning/decoy.red" "$tuning/schedule.csv" "$tuning/decoy-report.txt"
 echo
 one "$tuning/stone.red" "$tuning/weighted.csv" "$tuning/weighted-report.txt"
+
+# The certificate of a tuning that plays all fights is the stored one, which is not of `cwtune`.
+if ! "$program" tune --all "$tuning/stone.red" "$tuning/schedule.csv" "$work/all.cert" \
+    "$here/warriors/dwarf.red" "$here/warriors/imp-ring.red" "$here/warriors/scanner.red" \
+    "$here/warriors/replicator.red" "$here/warriors/core-clear.red" >/dev/null ||
+    ! cmp -s "$work/all.cert" "$tuning/all-fights.cert"; then
+    echo "tune.sh: tune --all has another certificate than $tuning/all-fights.cert" >&2
+    wrong=1
+fi
 exit "$wrong"
