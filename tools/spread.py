@@ -8,8 +8,9 @@ template, which `cwtune check` accepts. Nothing here has to be trusted: the part
 were checked, and CERT can be.
 
 GNU parallel runs the parts (Debian package `parallel`), or `xargs -P` where it is missing. What the
-parts wrote stays in the folder CERT.parts until the tuning is done. A part that was killed is told
-at the end; with --resume only such parts run again.
+parts wrote stays in the folder CERT.parts until the tuning is done. The numbers of
+parts without a result, as after a kill, are printed at the end; with --resume only such parts run
+again.
 
 Exit status, as that of `cwtune`: 0 done; 1 the input is refused; 2 usage error; 3 a part has no
 result, or a file cannot be read or written.
@@ -64,8 +65,8 @@ def end(status, message):
     sys.exit(status)
 
 
-def is_overwritten(path):
-    """Says whether the file may be written: it is missing or empty, or an older certificate."""
+def may_overwrite(path):
+    """Returns whether CERT may be written: it is missing or empty, or an older certificate."""
     if not path.exists():
         return True
     with path.open("rb") as file:
@@ -128,7 +129,7 @@ def text_of(folder, number, kind):
 
 
 def is_done(folder, number):
-    """Says whether the part has a result: an accepted certificate, or no candidate."""
+    """Returns whether the part has a result: an accepted certificate, or no candidate."""
     return (text_of(folder, number, "verdict").startswith("accepted ")
             or text_of(folder, number, "fault") == "refused: NoCandidate\n")
 
@@ -188,7 +189,7 @@ def cert_of(parts, count):
 
 
 def say_refusal(folder, numbers):
-    """Ends as `cwtune` did, if it refused the input of a part for other reasons than its own."""
+    """Ends as `cwtune` did, if it refused a part for a reason that holds for every part."""
     for number in numbers:
         fault = text_of(folder, number, "fault")
         if fault.startswith("refused: "):
@@ -201,7 +202,7 @@ def main():
     args = arguments()
     cert = pathlib.Path(args.cert)
     folder = pathlib.Path(args.cert + ".parts").resolve()
-    if not is_overwritten(cert):
+    if not may_overwrite(cert):
         end(2, f"error: CERT is a text but not a certificate, and is not overwritten: {cert}")
     if args.resume and not folder.exists():
         end(2, f"error: nothing to resume: there is no folder {folder}")

@@ -1,6 +1,6 @@
-//! Help for whoever sits at a terminal: after the line of a refusal a second one, with the line of
-//! the text that it names, or the limit in force. It is found by reading the files once more, so
-//! that a run on a pipe knows nothing of it.
+//! Help for people after the line of a refusal, if standard error is a terminal: the line of text at
+//! fault, or the limit that was broken. The files are read once more for it, so a run on a pipe does
+//! nothing of this.
 ghost use Rattle.std.specs.Prelude.{◌≡◌, false};
 
 use crate::command_line::{DuelWords, Request, TuneWords, request_of};

@@ -63,11 +63,11 @@ impl Inputs {
         }
     }
 
-    /// Returns the same inputs with another part of the template's settings. They are tuned as if
-    /// the template had no other settings: their indices count from 0 within the part.
+    /// Returns the same inputs with another part of the template's settings. The part is tuned as if
+    /// the template had no other settings: indices count from 0 within it.
     ///
-    /// Returns `None` if it is no part of them: unless `part.number` is 1 to `part.parts`, and
-    /// `part.parts` at most the number of the template's settings.
+    /// Returns `None` unless `part.number` is 1 to `part.parts`, and `part.parts` is at most the
+    /// number of the template's settings.
     pub fn part(self, part: Part) -> Option<Inputs>
         ensures { MatchOption result (IsPart part (length (vectors_of self.template.ranges.spans)) → ⊥)
             (λ i. i ≡ record { template = self.template; opponents = self.opponents; schedule = self.schedule; rules = self.rules; part = part }) }

@@ -4,8 +4,9 @@ ghost use Rattle.tune_template.specs.Parts.{IsPart, part_first, part_end};
 
 /// A part of the settings of a template, which are split into `parts` parts of nearly equal size.
 ///
-/// Of N settings, part I of K has those from `(I - 1) * N / K` up to `I * N / K`, by their numbers,
-/// with whole division. It is a part if I is 1 to K and K is at most N, so no part is empty.
+/// Of N settings, counted from 0, part I of K has those at index `(I - 1) * N / K` and after, below
+/// `I * N / K`; quotients are rounded down. It is a part if I is 1 to K and K is at most N, so no
+/// part is empty.
 #[derive(Clone, Copy, Debug, PartialEq, Eq)]
 pub struct Part {
     /// Which part it is, counted from 1.

@@ -1,4 +1,4 @@
-//! The command `tune --all`: the tuning that plays every fight of every setting.
+//! The command `tune --all`: the tuning that plays every fight of every candidate.
 ghost use Rattle.std.specs.Prelude.{◌≡◌, ◌≢◌, ◌↔◌, ◌≤◌, ◌<◌, ◌⊎◌, ℕ, List, Option, map, false, IfErr, OnOk, IsErrOf, IsTrue};
 ghost use Rattle.tune_template.specs.Instances.{InputsView};
 ghost use Rattle.tune_cert.specs.Problem.{problem_of};
