@@ -3,7 +3,8 @@
 
 A reader that goes away ends a run with status 3 and the line `failed: Write`. A standard input that
 cannot be read, that is a terminal or that has no end leads to a named error or a result, in bounded
-time. Expected values follow from `docs/FORMATS.md`. Prints what failed, and as its last line
+time. A standard error that is a terminal gets a line of progress, and help after a refusal.
+Expected values follow from `docs/FORMATS.md`. Prints what failed, and as its last line
 `N passed, N failed`. The exit status is 1 if a check failed.
 """
 import os
@@ -41,6 +42,15 @@ FILES = {
     "both.csv": b"opponent,position,first\n0,8,c\n1,8,c\n",
     "far.csv": b"opponent,position,first\n0,4000,c\n",
     "typo.csv": b"opponent,position,first\n0,8,x\n",
+    # what follows is for refusals at a terminal
+    "two.red": b";@tune K 0 1 1 0\nMOV 0, 1\n",
+    "range.red": b";@tune K 2 1 1 1\nMOV 0, 1\n",
+    "zero.red": b"MOV 0, 1\n\tDAT 1/0\r\n",
+    "escape.red": b"DAT \x1b[2J\n",
+    "near.csv": b"opponent,position,first\n0,3,c\n",
+    "third.csv": b"opponent,position,first\n2,8,c\n",
+    "bare.csv": b"0,8,c\n",
+    "two.cert": b"cwcert,1,2\nbest,0,4\ncap,0,0:3 1:1\nsame,1,0\n",
     "good.cert": OLD_CERT,
 }
 TUNE = ["tune", *RULES, "one.red", "both.csv", "CERT", "dat.red", "imp.red"]
@@ -233,6 +243,83 @@ def interrupted(play):
         yield f"a tuning ended by {sign.name}", (-sign, b"", b"", OLD_CERT), came
 
 
+def shown(play, words):
+    """Runs with a terminal as standard error. Returns status, standard output, what was shown."""
+    terminal, program_end = pty.openpty()
+    process = play.start(words, stderr=program_end)
+    os.close(program_end)
+    out, _ = process.communicate(timeout=SECONDS)
+    text = b""
+    try:
+        while piece := os.read(terminal, 4096):
+            text += piece
+    except OSError:
+        pass  # the terminal has ended
+    os.close(terminal)
+    return (process.returncode, out, text.replace(b"\r\n", b"\n"))
+
+
+def standing(settings, fights, best):
+    """Returns the line of progress after so many of two settings."""
+    return b"\r%d of 2 settings, %d fights%s\x1b[K" % (settings, fights, best)
+
+
+CLEARED = b"\r\x1b[K"
+
+
+def progress(play):
+    """Yields checks of the line of progress: two imps, of which the second may share the fights."""
+    best = b", best 0 total 4"
+    shared = standing(1, 2, best) + standing(2, 2, best) + CLEARED
+    both = standing(1, 2, best) + standing(2, 4, best) + CLEARED
+    report = b"vectors 2\ncandidates 2\nbest 0\nconstants K=0\ntotal 4 of 6\nfights %d of 4\n"
+    files = ["two.red", "both.csv", "two.cert", "dat.red", "imp.red"]
+    tune = ["tune", *RULES, "two.red", "both.csv", "NEW", "dat.red", "imp.red"]
+    yield "progress of a tuning", (0, report % 2, shared), shown(play, tune)
+    yield "progress with all fights", (0, report % 4, both), shown(play, [*tune, "--all"])
+    accepted = b"accepted best 0 total 4\n"
+    yield "progress of a check", (0, accepted, shared), shown(play, ["check", *RULES, *files])
+    yield "no progress on a pipe", (0, report % 2, b""), play.run(tune)
+    _, _, text = shown(play, ["tune", *RULES, "many.red", "both.csv", "NEW", "dat.red", "imp.red"])
+    firsts = [int(line.split()[0]) for line in text.split(b"\r")[1:-1]]
+    # the first setting, and then each hundredth of 20000
+    yield "a line for each hundredth", [1, *range(200, 20001, 200)], firsts
+
+
+def help_after_refusals(play):
+    """Yields checks of the lines that a terminal gets after that of a refusal."""
+    source = b"refused: Asm line 2 Value DivisionByZero\n  zero.red, line 2: \tDAT 1/0\n"
+    none = standing(1, 0, b"") + standing(2, 0, b"") + CLEARED + b"refused: NoCandidate\n"
+    start = b"  start setting: Asm line 3 Value DivisionByZero\n  none.red, line 3: DAT 1/0\n"
+    (play.folder / "none.red").write_bytes(FILES["two.red"] + b"DAT 1/0\n")
+    for name, files, text in [
+        ("a template", "range.red both.csv", b"Template line 1 EmptyRange\n  range.red, line 1: "
+         b";@tune K 2 1 1 1\n"),
+        ("a position", "two.red near.csv", b"Schedule row 1 BadPosition\n  positions are 4 to 12\n"),
+        ("an opponent's index", "two.red third.csv", b"Schedule row 1 NoSuchOpponent\n"
+         b"  opponents are 0 to 1\n"),
+        ("a header", "two.red bare.csv", b"Schedule row 0 Header\n"
+         b"  the first line is `opponent,position,first`, or with `,weight`\n"),
+    ]:
+        words = ["tune", *RULES, *files.split(), "NEW", "dat.red", "imp.red"]
+        yield f"help for {name}", (1, b"", b"refused: " + text), shown(play, words)
+    words = ["tune", *RULES, "none.red", "both.csv", "NEW", "dat.red", "imp.red"]
+    yield "help for no candidate", (1, b"", none + start), shown(play, words)
+    words = ["tune", *RULES, "two.red", "both.csv", "NEW", "dat.red", "zero.red"]
+    came = shown(play, words)
+    text = source.replace(b"Asm", b"Opponent 1")
+    yield "help for an opponent", (1, b"", text), came
+    yield "help for a text", (1, b"", source), shown(play, ["asm", "zero.red"])
+    text = b"refused: Asm line 1 Expand Text BadByte\n  escape.red, line 1: (a terminal cannot show it)\n"
+    yield "no line that steers a terminal", (1, b"", text), shown(play, ["asm", "escape.red"])
+    text = b"refused: Rules Core\n  the core size is 8 to 65535\n"
+    yield "help for a rule", (1, b"", text), shown(play, ["asm", "--core=7", "imp.red"])
+    text = b"refused: NoSuchSetting 2\n  settings are 0 to 1\n"
+    came = shown(play, ["asm", "--setting=2", "two.red"])
+    yield "help for a setting", (1, b"", text), came
+    yield "no help on a pipe", (1, b"", source.split(b"  ")[0]), play.run(["asm", "zero.red"])
+
+
 def main():
     program = str(pathlib.Path(sys.argv[1]).resolve(strict=True))
     passed, failed = 0, 0
@@ -244,6 +331,8 @@ def main():
             standard_inputs,
             closed_streams,
             interrupted,
+            progress,
+            help_after_refusals,
         ]:
             for name, expected, came in checks(play):
                 if came == expected:

@@ -263,7 +263,9 @@ fn say_positions<V: Write>(err: &mut Outlet<V>, rules: &Rules) -> Result<(), Wri
     let most = rules.core() - rules.distance();
     err.write_all(b"  positions are ")?;
     err.write_all(Buffer::new().format(rules.distance()).as_bytes())?;
-    say_most(err, "to", u64::from(most))
+    err.write_all(b" to ")?;
+    err.write_all(Buffer::new().format(most).as_bytes())?;
+    err.write_all(b"\n")
 }
 
 // Writes the line of a text with its file and its number. There is no line 0.

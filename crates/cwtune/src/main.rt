@@ -2,6 +2,8 @@
 //! constants, and checks certificates that a setting is the best.
 #![tactic(auto)]
 
+ghost use Rattle.std.specs.Prelude.{◌≡◌, false};
+
 mod cert_file;
 mod command_line;
 mod commands;
@@ -15,6 +17,7 @@ mod lines;
 mod part_word;
 pub mod plain_laws;
 pub mod program;
+mod progress_line;
 mod raw_rules;
 mod reading;
 mod report;
@@ -28,9 +31,10 @@ pub use commands::{
     tune_part_run, tune_run,
 };
 pub use fault::RunFault;
+use progress_line::ProgressLine;
 use rc_instr::Outlet;
 use status::REFUSED;
-use std::io::IsTerminal;
+use std::io::{IsTerminal, Read, Write};
 use std::process::ExitCode;
 use std::{env, io};
 pub use which_setting::WhichSetting;
@@ -40,18 +44,36 @@ fn words_of(rt: &HostRuntime) -> io::Result<Vec<String>> {
     Ok(env::args(rt)?.skip(1).collect(rt.alloc())?)
 }
 
+// Runs the program with a line of progress, and with help after a refusal.
+fn run_at_a_terminal<R: Read, W: Write, V: Write>(
+    rt: &HostRuntime,
+    words: &[String],
+    input: &mut R,
+    out: &mut Outlet<W>,
+    err: &mut Outlet<V>,
+) -> u8
+    requires out { out.old.failed ≡ false }
+    requires err { err.old.failed ≡ false }
+{
+    let mut line = ProgressLine::new(Outlet::new(rt.stderr()));
+    let status = program::watched_program(rt, rt.alloc(), words, input, out, err, &mut line);
+    if status == REFUSED && !err.failed() {
+        let _ = hints::help_with(rt, rt.alloc(), words, err);
+    }
+    status
+}
+
 fn main(rt: HostRuntime) -> ExitCode {
     let mut input = rt.stdin();
     let mut out = Outlet::new(rt.stdout());
     let mut err = Outlet::new(rt.stderr());
     let status = match words_of(&rt) {
+        Ok(words) if rt.stderr().is_terminal() => {
+            run_at_a_terminal(&rt, words.as_slice(), &mut input, &mut out, &mut err)
+        }
         Ok(words) => {
             let words = words.as_slice();
-            let status = program::program(&rt, rt.alloc(), words, &mut input, &mut out, &mut err);
-            if status == REFUSED && !err.failed() && rt.stderr().is_terminal() {
-                let _ = hints::help_with(&rt, rt.alloc(), words, &mut err);
-            }
-            status
+            program::program(&rt, rt.alloc(), words, &mut input, &mut out, &mut err)
         }
         Err(error) => program::end_without_words(&mut err, &error),
     };

@@ -16,6 +16,7 @@ use std::alloc::Global;
 use std::io;
 use std::io::{Read, Write};
 use std::rt::Files;
+use tune_cert::{Silent, Watcher};
 
 /// Runs the command that `words` ask for, and returns the exit status: 0 success or accepted, 1
 /// input refused or certificate rejected, 2 usage error, or a file CERT that is not overwritten, 3
@@ -63,6 +64,37 @@ pub fn program<F: Files, R: Read, W: Write, V: Write>(
     ensures failed { IsTrue out.new.failed → result ≡ 3 }
     ensures status { result ≤ 3 }
 {
+    watched_program(rt, alloc, words, input, out, err, &mut Silent)
+}
+
+// Runs the command as `program` does, and tells `watcher` how far a tuning or a check is.
+pub(crate) fn watched_program<F: Files, R: Read, W: Write, V: Write, T: Watcher>(
+    rt: &F,
+    alloc: Global,
+    words: &[String],
+    input: &mut R,
+    out: &mut Outlet<W>,
+    err: &mut Outlet<V>,
+    watcher: &mut T,
+) -> u8
+    requires out { out.old.failed ≡ false }
+    requires err { err.old.failed ≡ false }
+
+    // If the words ask for a fight, status 0 means that the result line of the fight in the input
+    // was written, and status 1 that the input is refused and nothing was written.
+    ensures done { AskForFight (map string_bytes words.now) → result ≡ 0
+        → (text : List ℕ) × IsInput (R.remaining input.old) text × WritesFight text out.old.bytes out.new.bytes }
+    ensures refused { AskForFight (map string_bytes words.now) → result ≡ 1
+        → (text : List ℕ) × IsInput (R.remaining input.old) text × IsRefusedText text × (out.new ≡ out.old) }
+    ensures understood { AskForFight (map string_bytes words.now) → result ≢ 2 }
+
+    // Whatever the words are, nothing is written if they or an input are refused, except the line
+    // of a rejected certificate; and a failed write gives status 3.
+    ensures misused { result ≡ 2 → out.new ≡ out.old }
+    ensures unwritten { result ≡ 1 → (out.new ≡ out.old) ⊎ ((t : Texts) × (cert : List ℕ) × WritesVerdict t cert false out.old.bytes out.new.bytes) }
+    ensures failed { IsTrue out.new.failed → result ≡ 3 }
+    ensures status { result ≤ 3 }
+{
     match request_of(alloc, words) {
         Ok(Request::Fight) => fight(alloc, input, out, err),
         Ok(Request::Duel(words)) => duel(rt, alloc, &words, out, err),
@@ -70,9 +102,11 @@ pub fn program<F: Files, R: Read, W: Write, V: Write>(
         Ok(Request::Setting { rules, file, which }) => {
             setting(rt, alloc, rules, file, which, out, err)
         }
-        Ok(Request::Tune { words, capacity }) => tune(rt, alloc, &words, capacity, out, err),
-        Ok(Request::TuneAll(words)) => plain_tune(rt, alloc, &words, out, err),
-        Ok(Request::Check(words)) => check(rt, alloc, &words, out, err),
+        Ok(Request::Tune { words, capacity }) => {
+            tune(rt, alloc, &words, capacity, watcher, out, err)
+        }
+        Ok(Request::TuneAll(words)) => plain_tune(rt, alloc, &words, watcher, out, err),
+        Ok(Request::Check(words)) => check(rt, alloc, &words, watcher, out, err),
         Err(answer) => show(alloc, &answer, out, err),
     }
 }

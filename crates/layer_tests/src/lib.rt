@@ -29,3 +29,5 @@ mod searches;
 mod templates;
 #[cfg(test)]
 mod tokens;
+#[cfg(test)]
+mod watchers;

@@ -9,13 +9,14 @@ ghost use Rattle.tune_cert.specs.Verdict.{IsWrongRow, IsVerdict, IsOptimal, AreR
 ghost use Rattle.tune_cert.specs.Steps.{AreRightSame, IsCertVerdict, IsFirstVerdict};
 ghost use Rattle.tune_cert.specs.declared.cert.Cert.{Cert};
 
-use crate::cert::Cert;
+use crate::cert::{Cert, Row};
 use crate::fault::{CheckFault, ReadFault};
 use crate::problem::cert_version;
 use crate::read::read_cert;
 use crate::row_checks::{check_alone, check_same, is_best_row};
 use crate::verdict::{Reason, Verdict};
 use crate::warriors::no_warriors;
+use crate::watcher::{Silent, Standing, Watcher, before_rows, see_row};
 use mars_core::{Arena, PackedCells};
 use std::alloc::Global;
 use tune_template::Inputs;
@@ -47,7 +48,6 @@ struct Wrong {
 /// # Errors
 ///
 /// `OutOfMemory` if an allocation failed.
-#[tactic(auto, using(crate::proofs::Verdicts::verdicts))]
 pub fn check(alloc: Global, inputs: &Inputs, bytes: &[u8]) -> Result<Verdict, CheckFault>
     // What the verdict says of the bytes holds.
     ensures verdict { IfOk result (IsVerdict (problem_of inputs.now) (records_of bytes.now)) }
@@ -62,8 +62,36 @@ pub fn check(alloc: Global, inputs: &Inputs, bytes: &[u8]) -> Result<Verdict, Ch
     ensures accepted { (c : Cert) → Spells (records_of bytes.now) c → IsValid (problem_of inputs.now) c
         → IfOk result (λ v. v ≡ Verdict.Accepted c.best c.total) }
 {
+    watched_check(alloc, inputs, bytes, &mut Silent)
+}
+
+/// Checks a certificate as `check` does, and tells `watcher` after each row how far it is.
+///
+/// # Errors
+///
+/// `OutOfMemory` if an allocation failed.
+#[tactic(auto, using(crate::proofs::Verdicts::verdicts))]
+pub fn watched_check<T: Watcher>(
+    alloc: Global,
+    inputs: &Inputs,
+    bytes: &[u8],
+    watcher: &mut T,
+) -> Result<Verdict, CheckFault>
+    // What the verdict says of the bytes holds.
+    ensures verdict { IfOk result (IsVerdict (problem_of inputs.now) (records_of bytes.now)) }
+
+    // Everything that is checked before the record and the reason of a rejection is right.
+    ensures first { IfOk result (IsFirst (problem_of inputs.now) (records_of bytes.now)) }
+
+    // An accepted certificate names the optimum and its total, whoever made it.
+    ensures optimum { IfOk result (IsOptimal (problem_of inputs.now)) }
+
+    // A valid certificate is accepted, unless memory runs out.
+    ensures accepted { (c : Cert) → Spells (records_of bytes.now) c → IsValid (problem_of inputs.now) c
+        → IfOk result (λ v. v ≡ Verdict.Accepted c.best c.total) }
+{
     match read_cert(alloc, bytes) {
-        Ok(cert) => check_cert(alloc, inputs, &cert),
+        Ok(cert) => check_cert(alloc, inputs, &cert, watcher),
         Err(ReadFault::Malformed { row }) => Ok(rejected(row, Reason::Malformed)),
         Err(ReadFault::OutOfMemory) => Err(CheckFault::OutOfMemory),
     }
@@ -71,11 +99,13 @@ pub fn check(alloc: Global, inputs: &Inputs, bytes: &[u8]) -> Result<Verdict, Ch
 
 // Checks the refused and the cap rows, in order. A row that refers to another needs this done
 // first.
-fn check_rows_alone(
+fn check_rows_alone<T: Watcher>(
     alloc: Global,
     arena: &mut Arena<PackedCells>,
     inputs: &Inputs,
     cert: &Cert,
+    standing: &mut Standing,
+    watcher: &mut T,
 ) -> Result<Option<Wrong>, CheckFault>
     requires blank { IsBlank inputs.now.rules arena.old }
     requires rows { length cert.now.rows ≡ (problem_of inputs.now).count }
@@ -93,6 +123,9 @@ fn check_rows_alone(
                 reason,
             }));
         }
+        if !refers(row) {
+            see_row(row, standing, watcher);
+        }
     }
     Ok(None)
 }
@@ -100,7 +133,13 @@ fn check_rows_alone(
 // Checks the rows that refer to other settings, in order. All other rows are right by now.
 // Assembles the setting of each such row, and once a setting to which rows refer, however many they
 // are.
-fn check_rows_same(alloc: Global, inputs: &Inputs, cert: &Cert) -> Result<Option<Wrong>, CheckFault>
+fn check_rows_same<T: Watcher>(
+    alloc: Global,
+    inputs: &Inputs,
+    cert: &Cert,
+    standing: &mut Standing,
+    watcher: &mut T,
+) -> Result<Option<Wrong>, CheckFault>
     requires rows { length cert.now.rows ≡ (problem_of inputs.now).count }
     requires alone { AreRightAlone (problem_of inputs.now) cert.now }
     ensures right { IfOk result (λ o. IfNone o (AreRightSame (problem_of inputs.now) cert.now)) }
@@ -118,8 +157,19 @@ fn check_rows_same(alloc: Global, inputs: &Inputs, cert: &Cert) -> Result<Option
                 reason,
             }));
         }
+        if refers(row) {
+            see_row(row, standing, watcher);
+        }
     }
     Ok(None)
+}
+
+// Returns whether a row refers to another setting.
+fn refers(row: &Row) -> bool {
+    match row {
+        Row::Same(_) => true,
+        _ => false,
+    }
 }
 
 fn rejected(index: u64, reason: Reason) -> Verdict
@@ -137,7 +187,12 @@ fn record_of(vector: u32) -> u64
 }
 
 // Checks all rows, in an arena of their own. There is one for each setting.
-fn check_rows(alloc: Global, inputs: &Inputs, cert: &Cert) -> Result<Option<Wrong>, CheckFault>
+fn check_rows<T: Watcher>(
+    alloc: Global,
+    inputs: &Inputs,
+    cert: &Cert,
+    watcher: &mut T,
+) -> Result<Option<Wrong>, CheckFault>
     requires rows { length cert.now.rows ≡ (problem_of inputs.now).count }
     ensures alone { IfOk result (λ o. IfNone o (AreRightAlone (problem_of inputs.now) cert.now)) }
     ensures same { IfOk result (λ o. IfNone o (AreRightSame (problem_of inputs.now) cert.now)) }
@@ -145,15 +200,28 @@ fn check_rows(alloc: Global, inputs: &Inputs, cert: &Cert) -> Result<Option<Wron
     ensures first { IfOk result (λ o. IfSome o (λ w. IsFirstRow (problem_of inputs.now) cert.now w.index w.reason)) }
 {
     let mut arena = Arena::<PackedCells>::try_new(alloc, inputs.rules())?;
-    if let Some(wrong) = check_rows_alone(alloc, &mut arena, inputs, cert)? {
+    let mut standing = before_rows(cert, inputs.count());
+    if let Some(wrong) = check_rows_alone(
+        alloc,
+        &mut arena,
+        inputs,
+        cert,
+        &mut standing,
+        watcher,
+    )? {
         return Ok(Some(wrong));
     }
-    check_rows_same(alloc, inputs, cert)
+    check_rows_same(alloc, inputs, cert, &mut standing, watcher)
 }
 
 // Checks a certificate whose form is right.
 #[tactic(auto, using(crate::proofs::Verdicts::certs))]
-fn check_cert(alloc: Global, inputs: &Inputs, cert: &Cert) -> Result<Verdict, CheckFault>
+fn check_cert<T: Watcher>(
+    alloc: Global,
+    inputs: &Inputs,
+    cert: &Cert,
+    watcher: &mut T,
+) -> Result<Verdict, CheckFault>
     ensures verdict { IfOk result (IsCertVerdict (problem_of inputs.now) cert.now) }
     ensures first { IfOk result (IsFirstVerdict (problem_of inputs.now) cert.now) }
 {
@@ -170,7 +238,7 @@ fn check_cert(alloc: Global, inputs: &Inputs, cert: &Cert) -> Result<Verdict, Ch
     if !is_best_row(inputs, cert) {
         return Ok(rejected(1, Reason::BestRow));
     }
-    if let Some(wrong) = check_rows(alloc, inputs, cert)? {
+    if let Some(wrong) = check_rows(alloc, inputs, cert, watcher)? {
         return Ok(rejected(wrong.index, wrong.reason));
     }
     Ok(Verdict::Accepted {

@@ -13,12 +13,14 @@ mod read;
 mod row_checks;
 mod verdict;
 mod warriors;
+mod watcher;
 mod write;
 
 pub use cert::{Cert, Found, Listing, Row, Rows};
-pub use checker::check;
+pub use checker::{check, watched_check};
 pub use fault::{CertFault, CheckFault, ReadFault};
 pub use problem::{cert_version, fight_points, fight_weight, greatest_total, setting_warrior};
 pub use read::read_cert;
 pub use verdict::{Reason, Verdict};
+pub use watcher::{Best, Silent, Standing, Watcher};
 pub use write::write_cert;

@@ -4,6 +4,8 @@ ghost use Rattle.tune_search.specs.Order.{beats_lead};
 ghost use Rattle.tune_search.specs.Sharing.{copies};
 ghost use Rattle.tune_search.specs.State.{next_lead, lead_taken};
 
+use tune_cert::Best;
+
 // The best setting so far, and its total.
 #[derive(Clone, Copy)]
 pub(crate) struct Lead {
@@ -51,6 +53,14 @@ pub(crate) fn take_lead(vector: u32, lead: Option<Lead>) -> Option<Lead>
 {
     lead.map(|lead| Lead {
         vector,
+        total: lead.total,
+    })
+}
+
+// Returns the lead as watchers are told of it.
+pub(crate) fn best_of(lead: Option<Lead>) -> Option<Best> {
+    lead.map(|lead| Best {
+        vector: lead.vector,
         total: lead.total,
     })
 }

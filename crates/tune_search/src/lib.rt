@@ -15,5 +15,5 @@ mod state;
 mod tuning;
 
 pub use fault::SearchFault;
-pub use plain::plain_search;
-pub use tuning::search;
+pub use plain::{plain_search, watched_plain_search};
+pub use tuning::{search, watched_search};

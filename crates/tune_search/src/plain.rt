@@ -8,10 +8,11 @@ ghost use Rattle.tune_search.specs.Plays.{rows_of};
 
 use crate::counts::setting_count;
 use crate::fault::SearchFault;
+use crate::lead::best_of;
 use crate::progress::Progress;
 use mars_core::{Arena, PackedCells};
 use std::alloc::Global;
-use tune_cert::{Found, Rows, cert_version};
+use tune_cert::{Found, Rows, Silent, Standing, Watcher, cert_version};
 use tune_template::Inputs;
 
 /// Finds the optimum: the first setting of the template with the greatest total in the fights of
@@ -37,10 +38,41 @@ pub fn plain_search(alloc: Global, inputs: &Inputs) -> Result<Found, SearchFault
     ensures copied { IfOk result (λ f. f.copied ≡ None) }
     ensures none { let p = problem_of inputs.now in IfErr result (λ e. e ≡ SearchFault.NoCandidate → (v : ℕ) → v < p.count → p.warrior v ≡ None) }
 {
+    watched_plain_search(alloc, inputs, &mut Silent)
+}
+
+/// Finds the optimum as `plain_search` does, and tells `watcher` after each setting how far it is.
+///
+/// # Errors
+///
+/// Those of `plain_search`.
+pub fn watched_plain_search<T: Watcher>(
+    alloc: Global,
+    inputs: &Inputs,
+    watcher: &mut T,
+) -> Result<Found, SearchFault>
+    ensures optimum { IfOk result (λ f. IsOptimum (problem_of inputs.now) f.best) }
+    ensures total { IfOk result (λ f. HasTotal (problem_of inputs.now) f.best f.total) }
+    ensures valid { let p = problem_of inputs.now in IfOk result (λ f. IsValid p (cert_of f)) }
+    ensures version { IfOk result (λ f. IsOwnVersion (problem_of inputs.now) f.version) }
+    ensures candidates { IfOk result (λ f. f.candidates ≡ candidates_of (problem_of inputs.now)) }
+    ensures rows { IfOk result (λ f. f.rows ≡ rows_of (problem_of inputs.now)) }
+    ensures few { IfOk result (λ f. length f.rows ≤ 1000000) }
+    ensures fights { IfOk result (λ f. f.fights ≡ f.candidates * (problem_of inputs.now).fights) }
+    ensures listed { IfOk result (λ f. f.fights ≡ listed_fights f.rows) }
+    ensures copied { IfOk result (λ f. f.copied ≡ None) }
+    ensures none { let p = problem_of inputs.now in IfErr result (λ e. e ≡ SearchFault.NoCandidate → (v : ℕ) → v < p.count → p.warrior v ≡ None) }
+{
     let mut arena = Arena::<PackedCells>::try_new(alloc, inputs.rules())?;
     let mut progress = Progress::begin(alloc, inputs)?;
     for vector in 0..setting_count(inputs) {
         progress.visit(alloc, &mut arena, inputs, vector)?;
+        watcher.see(Standing {
+            settings: vector + 1,
+            count: setting_count(inputs),
+            fights: progress.fights,
+            best: best_of(progress.lead),
+        });
     }
     let Progress {
         rows,

@@ -5,10 +5,11 @@ ghost use Rattle.tune_search.specs.Found.{IsSearch};
 
 use crate::counts::setting_count;
 use crate::fault::SearchFault;
+use crate::lead::best_of;
 use crate::state::State;
 use mars_core::{Arena, PackedCells};
 use std::alloc::Global;
-use tune_cert::{Found, Rows, cert_version};
+use tune_cert::{Found, Rows, Silent, Standing, Watcher, cert_version};
 use tune_template::Inputs;
 
 /// Finds the optimum: the first setting of the template with the greatest total in the fights of
@@ -39,10 +40,38 @@ pub fn search(alloc: Global, inputs: &Inputs, capacity: u32) -> Result<Found, Se
     ensures found { IfOk result (IsSearch (problem_of inputs.now) capacity) }
     ensures none { let p = problem_of inputs.now in IfErr result (λ e. e ≡ SearchFault.NoCandidate → (v : ℕ) → v < p.count → p.warrior v ≡ None) }
 {
+    watched_search(alloc, inputs, capacity, &mut Silent)
+}
+
+/// Finds the optimum as `search` does, and tells `watcher` after each setting how far it is.
+///
+/// # Errors
+///
+/// Those of `search`.
+pub fn watched_search<T: Watcher>(
+    alloc: Global,
+    inputs: &Inputs,
+    capacity: u32,
+    watcher: &mut T,
+) -> Result<Found, SearchFault>
+    requires capacity { (1 ≤ capacity) × (capacity ≤ 65536) }
+
+    // The best setting is the optimum, the rows are a valid certificate of it, the row of each
+    // fought setting lists exactly the fights that the rule above asks for, and `fights` counts
+    // these.
+    ensures found { IfOk result (IsSearch (problem_of inputs.now) capacity) }
+    ensures none { let p = problem_of inputs.now in IfErr result (λ e. e ≡ SearchFault.NoCandidate → (v : ℕ) → v < p.count → p.warrior v ≡ None) }
+{
     let mut arena = Arena::<PackedCells>::try_new(alloc, inputs.rules())?;
     let mut state = State::begin(alloc, inputs, capacity)?;
     for visits in 0..setting_count(inputs) {
         state.visit(alloc, &mut arena, inputs, capacity, visits)?;
+        watcher.see(Standing {
+            settings: visits + 1,
+            count: setting_count(inputs),
+            fights: state.fights,
+            best: best_of(state.lead),
+        });
     }
     let State {
         rows,

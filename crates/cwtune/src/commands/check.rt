@@ -15,7 +15,7 @@ use rc_instr::{Outlet, Rules};
 use std::alloc::Global;
 use std::io::Write;
 use std::rt::Files;
-use tune_cert::{CheckFault, Verdict, check as check_cert};
+use tune_cert::{CheckFault, Silent, Verdict, Watcher, watched_check};
 use tune_template::Part;
 
 /// Checks a certificate of a tuning, whoever made it, and writes the line of the verdict. Returns
@@ -64,6 +64,7 @@ pub fn check_run<W: Write>(
         schedule,
         rules,
         Part::whole(),
+        &mut Silent,
         cert,
         out,
     )
@@ -72,21 +73,23 @@ pub fn check_run<W: Write>(
 /// Checks a certificate of a tuning of one part of a template's settings, and writes the line of the
 /// verdict. Returns whether it is accepted.
 ///
-/// The settings are counted from 0 within the part, in the certificate and in the line. `check_run`
-/// is this run for part 1 of 1, and the rest is as there.
+/// The settings are counted from 0 within the part, in the certificate and in the line. Tells
+/// `watcher` how far the check is. `check_run` is this run for part 1 of 1 with a silent watcher, and
+/// the rest is as there.
 ///
 /// # Errors
 ///
 /// Those of `check_run`; and `Part`, after `Schedule`, if there is no such part: nothing is written
 /// then.
 #[tactic(auto, using(crate::proofs::Tunings::refused_inputs))]
-pub fn check_part_run<W: Write>(
+pub fn check_part_run<T: Watcher, W: Write>(
     alloc: Global,
     template: &[u8],
     opponents: &[Vec<u8>],
     schedule: &[u8],
     rules: &Rules,
     part: Part,
+    watcher: &mut T,
     cert: &[u8],
     out: &mut Outlet<W>,
 ) -> Result<bool, RunFault>
@@ -109,7 +112,9 @@ pub fn check_part_run<W: Write>(
         Ok(inputs) => inputs,
         Err(fault) => return Err(fault),
     };
-    let verdict = match check_cert(alloc, &inputs, cert) {
+    let checked = watched_check(alloc, &inputs, cert, watcher);
+    watcher.end();
+    let verdict = match checked {
         Ok(verdict) => verdict,
         Err(CheckFault::OutOfMemory) => return Err(RunFault::OutOfMemory),
     };
@@ -119,10 +124,11 @@ pub fn check_part_run<W: Write>(
 }
 
 // Runs the command on files.
-pub(crate) fn check<F: Files, W: Write, V: Write>(
+pub(crate) fn check<F: Files, T: Watcher, W: Write, V: Write>(
     rt: &F,
     alloc: Global,
     words: &TuneWords<'_>,
+    watcher: &mut T,
     out: &mut Outlet<W>,
     err: &mut Outlet<V>,
 ) -> u8
@@ -149,6 +155,7 @@ pub(crate) fn check<F: Files, W: Write, V: Write>(
         texts.tuning.schedule.as_slice(),
         &rules,
         words.part,
+        watcher,
         texts.cert.as_slice(),
         out,
     ) {

@@ -20,26 +20,28 @@ use rc_instr::{Outlet, Rules};
 use std::alloc::Global;
 use std::io::Write;
 use std::rt::Files;
-use tune_search::{SearchFault, plain_search};
+use tune_cert::Watcher;
+use tune_search::{SearchFault, watched_plain_search};
 use tune_template::Part;
 
-/// Finds the optimum of one part of a template's settings, as `tune_part_run` does, but plays every
+/// Finds the optimum of one part of a template's settings as `tune_part_run` does, but plays every
 /// fight of every setting that assembles, and lists all of them in the certificate.
 ///
-/// The best setting and its total are those of `tune_part_run`. The texts, what is written, its order
-/// and the errors are as there. Neither outlet must have failed.
+/// The best setting and its total are those of `tune_part_run`. So are the meaning of the texts, the
+/// order of what is written, and the errors. Neither outlet must have failed.
 ///
 /// # Errors
 ///
 /// As of `tune_part_run`.
 #[tactic(auto, using(crate::proofs::Tunings::refused_means, crate::proofs::Plain::plain_found))]
-pub fn plain_tune_run<W: Write, V: Write>(
+pub fn plain_tune_run<T: Watcher, W: Write, V: Write>(
     alloc: Global,
     template: &[u8],
     opponents: &[Vec<u8>],
     schedule: &[u8],
     rules: &Rules,
     part: Part,
+    watcher: &mut T,
     report: &mut Outlet<W>,
     cert: &mut Outlet<V>,
 ) -> Result<(), RunFault>
@@ -69,7 +71,9 @@ pub fn plain_tune_run<W: Write, V: Write>(
         Ok(inputs) => inputs,
         Err(fault) => return Err(fault),
     };
-    let found = match plain_search(alloc, &inputs) {
+    let searched = watched_plain_search(alloc, &inputs, watcher);
+    watcher.end();
+    let found = match searched {
         Ok(found) => found,
         Err(SearchFault::NoCandidate) => return Err(RunFault::NoCandidate),
         Err(SearchFault::OutOfMemory) => return Err(RunFault::OutOfMemory),
@@ -79,10 +83,11 @@ pub fn plain_tune_run<W: Write, V: Write>(
 }
 
 // Runs the command on files, as `tune` does.
-pub(crate) fn plain_tune<F: Files, W: Write, V: Write>(
+pub(crate) fn plain_tune<F: Files, T: Watcher, W: Write, V: Write>(
     rt: &F,
     alloc: Global,
     words: &TuneWords<'_>,
+    watcher: &mut T,
     out: &mut Outlet<W>,
     err: &mut Outlet<V>,
 ) -> u8
@@ -114,6 +119,7 @@ pub(crate) fn plain_tune<F: Files, W: Write, V: Write>(
         texts.schedule.as_slice(),
         &rules,
         words.part,
+        watcher,
         out,
         &mut cert,
     ) {

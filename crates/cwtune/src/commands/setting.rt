@@ -20,7 +20,7 @@ use std::rt::Files;
 use tune_template::Template;
 
 /// Assembles a template with the values of one of its settings under `rules`, and writes the load
-/// file of the warrior: that with which a tuning plays.
+/// file of the warrior. A tuning plays this setting with the same warrior.
 ///
 /// The outlet must not have failed.
 ///

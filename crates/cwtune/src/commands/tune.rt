@@ -21,17 +21,17 @@ use rc_instr::{Outlet, Rules};
 use std::alloc::Global;
 use std::io::Write;
 use std::rt::Files;
-use tune_cert::{CertFault, Found, write_cert};
-use tune_search::{SearchFault, search};
+use tune_cert::{CertFault, Found, Silent, Watcher, write_cert};
+use tune_search::{SearchFault, watched_search};
 use tune_template::Part;
 
 /// Finds the optimum of a template, and writes its certificate, then the report.
 ///
 /// The optimum is the first setting with the greatest total against the opponents in the fights of
 /// the schedule. The template is a Redcode text with `;@tune` lines, each opponent a Redcode text,
-/// the schedule a table of fights. `capacity`, 1 to 65536, is the number of settings that the
-/// search may remember, so that equal warriors share their fights. Nothing is written before both
-/// texts are made, and the certificate is written whole before the report begins. Neither outlet
+/// the schedule a table of fights. The search remembers up to `capacity` settings, 1 to 65536, so
+/// that equal warriors share their fights. The certificate and the report are made before one of
+/// them is written, and the certificate is written whole before the report begins. Neither outlet
 /// must have failed.
 ///
 /// # Errors
@@ -82,22 +82,24 @@ pub fn tune_run<W: Write, V: Write>(
         rules,
         Part::whole(),
         capacity,
+        &mut Silent,
         report,
         cert,
     )
 }
 
 /// Finds the optimum of one part of a template's settings, and writes its certificate, then the
-/// report, as if the template had no other settings: they are counted from 0 within the part.
+/// report, as if the template had no other settings. So both count settings from 0 within the part.
 ///
-/// `tune_run` is this run for part 1 of 1, and the rest is as there.
+/// Tells `watcher` how far the search is. `tune_run` is this run for part 1 of 1 with a silent
+/// watcher, and the rest is as there.
 ///
 /// # Errors
 ///
 /// Those of `tune_run`; and `Part`, after `Schedule`, if there is no such part: nothing is written
 /// then.
 #[tactic(auto, using(crate::proofs::Tunings::refused_means))]
-pub fn tune_part_run<W: Write, V: Write>(
+pub fn tune_part_run<T: Watcher, W: Write, V: Write>(
     alloc: Global,
     template: &[u8],
     opponents: &[Vec<u8>],
@@ -105,6 +107,7 @@ pub fn tune_part_run<W: Write, V: Write>(
     rules: &Rules,
     part: Part,
     capacity: u32,
+    watcher: &mut T,
     report: &mut Outlet<W>,
     cert: &mut Outlet<V>,
 ) -> Result<(), RunFault>
@@ -135,7 +138,9 @@ pub fn tune_part_run<W: Write, V: Write>(
         Ok(inputs) => inputs,
         Err(fault) => return Err(fault),
     };
-    let found = match search(alloc, &inputs, capacity) {
+    let searched = watched_search(alloc, &inputs, capacity, watcher);
+    watcher.end();
+    let found = match searched {
         Ok(found) => found,
         Err(SearchFault::NoCandidate) => return Err(RunFault::NoCandidate),
         Err(SearchFault::OutOfMemory) => return Err(RunFault::OutOfMemory),
@@ -146,11 +151,12 @@ pub fn tune_part_run<W: Write, V: Write>(
 
 // Runs the command on files. Opens the file of the certificate last, just before the search; if it
 // names another word's file, nothing is written.
-pub(crate) fn tune<F: Files, W: Write, V: Write>(
+pub(crate) fn tune<F: Files, T: Watcher, W: Write, V: Write>(
     rt: &F,
     alloc: Global,
     words: &TuneWords<'_>,
     capacity: u32,
+    watcher: &mut T,
     out: &mut Outlet<W>,
     err: &mut Outlet<V>,
 ) -> u8
@@ -184,6 +190,7 @@ pub(crate) fn tune<F: Files, W: Write, V: Write>(
         &rules,
         words.part,
         capacity,
+        watcher,
         out,
         &mut cert,
     ) {

@@ -4,6 +4,7 @@ use crate::tests::tuning::{BOTH, both_opponents};
 use crate::{RunFault, check_part_run, tune_part_run};
 use rc_instr::{Outlet, Rules};
 use std::test::Fail;
+use tune_cert::Silent;
 use tune_template::Part;
 
 // Six settings that make two warriors in turn.
@@ -29,6 +30,7 @@ fn a_part_is_tuned(rt: HostRuntime) -> Result<(), Fail> {
             parts: 2,
         },
         4096,
+        &mut Silent,
         &mut report,
         &mut cert,
     );
@@ -76,6 +78,7 @@ fn a_part_is_checked(rt: HostRuntime) -> Result<(), Fail> {
             BOTH,
             &rules,
             part,
+            &mut Silent,
             CERT,
             &mut line,
         );

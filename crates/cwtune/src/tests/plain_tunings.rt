@@ -4,6 +4,7 @@ use crate::tests::tuning::{BOTH, both_opponents};
 use crate::{RunFault, plain_tune_run};
 use rc_instr::{Outlet, Rules};
 use std::test::Fail;
+use tune_cert::Silent;
 use tune_template::Part;
 
 // Two settings with one warrior, an imp.
@@ -22,6 +23,7 @@ fn all_fights_are_played_and_listed(rt: HostRuntime) -> Result<(), Fail> {
         BOTH,
         &rules,
         Part::whole(),
+        &mut Silent,
         &mut report,
         &mut cert,
     );
@@ -50,6 +52,7 @@ fn a_write_failure_is_reported_before_the_report(rt: HostRuntime) -> Result<(), 
         BOTH,
         &rules,
         Part::whole(),
+        &mut Silent,
         &mut report,
         &mut cert,
     );

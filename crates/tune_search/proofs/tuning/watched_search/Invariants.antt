@@ -1,10 +1,10 @@
 use Rattle.mars_core.specs.Arena.{IsBlank}
 use Rattle.tune_search.specs.State.{IsState}
-use Rattle.tune_search.proofs.tuning.search.Given as goal
+use Rattle.tune_search.proofs.tuning.watched_search.Given as goal
 
 -- so many settings were visited
 abbrev pub invariant-loop-visits : goal.invariant-loop-visits
-invariant-loop-visits l = record {
+invariant-loop-visits g l = record {
   state : IsState l.fn.inputs l.fn.capacity l.visits l.state;
   blank : IsBlank l.fn.inputs.rules l.arena;
 }

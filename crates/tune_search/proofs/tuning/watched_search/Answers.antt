@@ -5,10 +5,10 @@ use Rattle.tune_cert.proofs.Scores.{inputs_problem}
 use Rattle.tune_search.specs.Found.{IsSearch}
 use Rattle.tune_search.specs.State.{IsState}
 use Rattle.tune_search.proofs.Finish.{finds, finds_none}
-use Rattle.tune_search.proofs.tuning.search.Goals as goal
+use Rattle.tune_search.proofs.tuning.watched_search.Goals as goal
 
 pub returns-in-None-clause-none : goal.returns-in-None-clause-none
-returns-in-None-clause-none c =
+returns-in-None-clause-none g c =
     let i = c.args.inputs.now in
     let p = problem_of i in
     let s = c.loop-visits.state in
@@ -17,7 +17,7 @@ returns-in-None-clause-none c =
     λ f. finds_none p (inputs_problem i) state.start_inside i.rules c.args.capacity s.rows.items s.lead s.order.items s.fights s.candidates s.copied s.cache.known state.going c.in-None.is
 
 pub returns-clause-found : goal.returns-clause-found
-returns-clause-found c =
+returns-clause-found g c =
     let i = c.args.inputs.now in
     let p = problem_of i in
     let s = c.loop-visits.state in

@@ -1,0 +1,97 @@
+//! Tests of what searches and checks tell their watchers.
+
+use crate::searches::{THREE, inputs_of};
+use std::test::Fail;
+use tune_cert::{Best, Standing, Verdict, Watcher, watched_check};
+use tune_search::{watched_plain_search, watched_search};
+
+// A watcher that keeps the first four standings, and counts all.
+#[derive(Drop)]
+struct Notes {
+    count: usize,
+    standings: [Option<Standing>; 4],
+}
+
+impl Notes {
+    fn new() -> Notes {
+        Notes {
+            count: 0,
+            standings: [None; 4],
+        }
+    }
+}
+
+impl Watcher for Notes {
+    fn see(&mut self, standing: Standing) {
+        if let Some(place) = self.standings.get_mut(self.count) {
+            *place = Some(standing);
+        }
+        self.count = self.count.saturating_add(1);
+    }
+
+    fn end(&mut self) {}
+}
+
+// Returns the standing after `settings` of `count` settings and `fights` fights.
+fn after(settings: u32, count: u32, fights: u64, best: Option<Best>) -> Option<Standing> {
+    Some(Standing {
+        settings,
+        count,
+        fights,
+        best,
+    })
+}
+
+// The start setting is the second, so the first that is told of is an imp with 4 points.
+#[test]
+fn a_search_tells_how_far_it_is(rt: HostRuntime) -> Result<(), Fail> {
+    let inputs = inputs_of(rt.alloc(), THREE)?;
+    let mut notes = Notes::new();
+    let _ = watched_search(rt.alloc(), &inputs, 1, &mut notes)?;
+    let best = Some(Best {
+        vector: 1,
+        total: 4,
+    });
+    assert_eq!(rt; notes.count, 3);
+    assert_eq!(rt; notes.standings[0], after(1, 3, 2, best));
+    assert_eq!(rt; notes.standings[1], after(2, 3, 2, best));
+    assert_eq!(rt; notes.standings[2], after(3, 3, 3, best));
+    Ok(())
+}
+
+// The first setting does not assemble.
+#[test]
+fn a_plain_search_tells_how_far_it_is(rt: HostRuntime) -> Result<(), Fail> {
+    let inputs = inputs_of(rt.alloc(), THREE)?;
+    let mut notes = Notes::new();
+    let _ = watched_plain_search(rt.alloc(), &inputs, &mut notes)?;
+    let best = Some(Best {
+        vector: 1,
+        total: 4,
+    });
+    assert_eq!(rt; notes.count, 3);
+    assert_eq!(rt; notes.standings[0], after(1, 3, 0, None));
+    assert_eq!(rt; notes.standings[1], after(2, 3, 2, best));
+    assert_eq!(rt; notes.standings[2], after(3, 3, 4, best));
+    Ok(())
+}
+
+// Rows that refer to other settings are checked last, and play no fight.
+#[test]
+fn a_check_tells_how_far_it_is(rt: HostRuntime) -> Result<(), Fail> {
+    let inputs = inputs_of(rt.alloc(), b";@tune K 0 3 1 2\nMOV 0, 1")?;
+    let cert: &[u8] = b"cwcert,1,4\nbest,0,4\ncap,0,0:3 1:1\nsame,1,2\ncap,2,0:3 1:1\nsame,3,2\n";
+    let mut notes = Notes::new();
+    let verdict = watched_check(rt.alloc(), &inputs, cert, &mut notes)?;
+    assert_eq!(rt; verdict, Verdict::Accepted { best: 0, total: 4 });
+    let best = Some(Best {
+        vector: 0,
+        total: 4,
+    });
+    assert_eq!(rt; notes.count, 4);
+    assert_eq!(rt; notes.standings[0], after(1, 4, 2, best));
+    assert_eq!(rt; notes.standings[1], after(2, 4, 4, best));
+    assert_eq!(rt; notes.standings[2], after(3, 4, 4, best));
+    assert_eq!(rt; notes.standings[3], after(4, 4, 4, best));
+    Ok(())
+}
