@@ -7,6 +7,7 @@ pub mod Replace
 pub mod Unroll
 pub mod Heads
 pub mod Expansion
+pub mod Faults
 pub mod Steps
 pub mod Context
 pub mod Examples

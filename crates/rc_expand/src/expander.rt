@@ -4,7 +4,7 @@ ghost use Rattle.rc_expand.specs.declared.fault.ExpandKind.TheVariants.{OutOfMem
 ghost use Rattle.rc_expand.specs.declared.line.Line.{Line};
 ghost use Rattle.rc_expand.specs.Names.{table_of};
 ghost use Rattle.rc_expand.specs.Expansion.{LineLies, IsExpansion};
-ghost use Rattle.rc_expand.specs.Heads.Faults.{IsInTurn};
+ghost use Rattle.rc_expand.specs.Faults.{IsInTurn};
 
 use crate::constants::Constants;
 use crate::context::Context;
@@ -42,8 +42,10 @@ use std::alloc::Global;
 ///   or EQU replacements in a line.
 /// - `OutOfMemory`, at line 0, if memory runs out.
 ///
-/// That the first three come first, in this order and each at its first line, is proved; the order
-/// of the others is tested.
+/// It is proved that the first three items come first, in this order and each at its first line; then
+/// a fault of unrolling, of any kind but `Text`; and one of the last item's kinds only if the text
+/// can be unrolled. Which of several faults of unrolling, or of the last item, is returned, and its
+/// line, is tested.
 pub fn expand(
     alloc: Global,
     source: &[u8],

@@ -6,6 +6,7 @@ ghost use Rattle.rc_expand.specs.Heads.Lines.{HeadLies};
 ghost use Rattle.rc_expand.specs.Unroll.{Cut, cut, Unrolled, Appends, earlier_line, earlier_of, unrolled};
 ghost use Rattle.rc_expand.specs.Steps.{GivesLines, is_allowed};
 ghost use Rattle.rc_expand.specs.Unroll.Reached.{line_in, lines_in, reached_part, reached_lines, ReachedLies};
+ghost use Rattle.rc_expand.specs.Faults.{OnlyOf, is_unroll_kind};
 ghost use Rattle.rc_expand.specs.declared.fault.ExpandKind.TheVariants.{OutOfMemory};
 ghost use Rattle.rc_expand.specs.Context.{table, IsContext, unrolled_by, block_by, copy_by, copies_by, unrolled_line_by};
 
@@ -44,6 +45,7 @@ pub(crate) fn append_lines<'a>(
     requires before { All (ReachedLies context.now.source.now) out.old.lines.items }
     ensures adds { Appends (reached_lines context.now.source.now out.old.lines.items) out.old.copies result (unrolled_by context.now in_block levels (lines_in context.now.source.now copies.now heads.now)) (reached_lines context.now.source.now out.new.lines.items) out.new.copies }
     ensures after { OnOk result (All (ReachedLies context.now.source.now) out.new.lines.items) }
+    ensures kind { OnlyOf is_unroll_kind result }
 {
     let mut rest = heads;
     while let Some((head, after)) = rest.split_first() {
@@ -74,6 +76,7 @@ pub(crate) fn unroll<'a>(
     requires lies { All (HeadLies context.now.source.now) heads.now }
     ensures lines { GivesLines context.now.source.now result (unrolled context.now.source.now (table context.now) context.now.rules.now context.now.equs.now heads.now) }
     ensures inside { IfOk result (λ v. All (ReachedLies context.now.source.now) v.items) }
+    ensures kind { OnlyOf is_unroll_kind result }
 {
     let mut out = Unrolling {
         lines: Vec::new(context.alloc),
@@ -122,6 +125,7 @@ fn append<'a>(
     requires before { All (ReachedLies context.now.source.now) out.old.lines.items }
     ensures adds { Appends (reached_lines context.now.source.now out.old.lines.items) out.old.copies result (Some (record { lines = reached_part context.now.source.now is_earlier (line_in context.now.source.now copies.now head.now) ∷ []; copies = 0 })) (reached_lines context.now.source.now out.new.lines.items) out.new.copies }
     ensures after { OnOk result (All (ReachedLies context.now.source.now) out.new.lines.items) }
+    ensures kind { OnlyOf is_unroll_kind result }
 {
     if out.lines.len() + out.copies == MOST_LINES {
         return Err(fault(head.number, ExpandKind::TooManyLines));
@@ -138,7 +142,8 @@ fn append<'a>(
 // Refuses a ROF alone, an EQU in a block, and a line to which a ninth counter was to be joined. This
 // depends on nothing of a line but its word and whether it is spoiled.
 fn check_line(head: &Head, in_block: bool) -> Result<(), ExpandFault>
-    ensures { MatchResult result (λ u. is_allowed head.now.word in_block head.now.spoiled ≡ true) (λ e. is_allowed head.now.word in_block head.now.spoiled ≡ false) }
+    ensures allowed { MatchResult result (λ u. is_allowed head.now.word in_block head.now.spoiled ≡ true) (λ e. is_allowed head.now.word in_block head.now.spoiled ≡ false) }
+    ensures kind { OnlyOf is_unroll_kind result }
 {
     match head.word {
         HeadWord::Rof => return Err(fault(head.number, ExpandKind::RofWithoutFor)),
@@ -161,9 +166,10 @@ fn check_copied_line(
     in_block: bool,
 ) -> Result<(), ExpandFault>
     requires { HeadLies context.now.source.now head.now }
-    ensures { MatchResult result
+    ensures line { MatchResult result
         (λ u. unrolled_line_by context.now in_block (line_in context.now.source.now copies.now head.now) ≡ Some (record { lines = line_in context.now.source.now copies.now head.now ∷ []; copies = 0 }))
         (λ e. e.kind ≢ OutOfMemory → unrolled_line_by context.now in_block (line_in context.now.source.now copies.now head.now) ≡ None) }
+    ensures kind { OnlyOf is_unroll_kind result }
 {
     if copies.is_empty() || is_short_line(head) {
         return check_line(head, in_block);
@@ -185,6 +191,7 @@ fn append_line<'a>(
     requires before { All (ReachedLies context.now.source.now) out.old.lines.items }
     ensures adds { Appends (reached_lines context.now.source.now out.old.lines.items) out.old.copies result (unrolled_line_by context.now in_block (line_in context.now.source.now copies.now head.now)) (reached_lines context.now.source.now out.new.lines.items) out.new.copies }
     ensures after { OnOk result (All (ReachedLies context.now.source.now) out.new.lines.items) }
+    ensures kind { OnlyOf is_unroll_kind result }
 {
     check_copied_line(context, copies, head, in_block)?;
     append(out, context, copies, head, false)
@@ -204,6 +211,7 @@ fn append_earlier<'a>(
     requires before { All (ReachedLies context.now.source.now) out.old.lines.items }
     ensures adds { Appends (reached_lines context.now.source.now out.old.lines.items) out.old.copies result (Some (record { lines = earlier_line (line_in context.now.source.now copies.now first.now).number labels.now; copies = 0 })) (reached_lines context.now.source.now out.new.lines.items) out.new.copies }
     ensures after { OnOk result (All (ReachedLies context.now.source.now) out.new.lines.items) }
+    ensures kind { OnlyOf is_unroll_kind result }
 {
     if labels.as_slice().is_empty() {
         return Ok(());
@@ -229,6 +237,7 @@ fn append_copy<'a>(
     requires before { All (ReachedLies context.now.source.now) out.old.lines.items }
     ensures adds { Appends (reached_lines context.now.source.now out.old.lines.items) out.old.copies result (copy_by context.now levels (option_map (λ b. b.now) counter.entry) (lines_in context.now.source.now copies.now block.now) number) (reached_lines context.now.source.now out.new.lines.items) out.new.copies }
     ensures after { OnOk result (All (ReachedLies context.now.source.now) out.new.lines.items) }
+    ensures kind { OnlyOf is_unroll_kind result }
 {
     if out.lines.len() + out.copies == MOST_LINES {
         return Err(fault(line, ExpandKind::TooManyLines));
@@ -264,6 +273,7 @@ fn append_copies<'a>(
     requires before { All (ReachedLies context.now.source.now) out.old.lines.items }
     ensures adds { Appends (reached_lines context.now.source.now out.old.lines.items) out.old.copies result (copies_by context.now levels (option_map (λ b. b.now) counter.entry) (lines_in context.now.source.now copies.now block.now) count) (reached_lines context.now.source.now out.new.lines.items) out.new.copies }
     ensures after { OnOk result (All (ReachedLies context.now.source.now) out.new.lines.items) }
+    ensures kind { OnlyOf is_unroll_kind result }
 {
     for done in 0..count {
         append_copy(out, context, copies, counter, done + 1, line, block, levels)?;
@@ -291,6 +301,7 @@ fn append_block<'a>(
     requires before { All (ReachedLies context.now.source.now) out.old.lines.items }
     ensures adds { Appends (reached_lines context.now.source.now out.old.lines.items) out.old.copies result (block_by context.now levels (line_in context.now.source.now copies.now first.now) (lines_in context.now.source.now copies.now block.now) (line_in context.now.source.now copies.now rof.now)) (reached_lines context.now.source.now out.new.lines.items) out.new.copies }
     ensures after { OnOk result (All (ReachedLies context.now.source.now) out.new.lines.items) }
+    ensures kind { OnlyOf is_unroll_kind result }
 {
     let opened = make_line(context.alloc, context.source, copies, first)?;
     let closed = make_line(context.alloc, context.source, copies, rof)?;

@@ -62,7 +62,3 @@ module _ (source : List ℕ) (constants : Table) (rules : RulesView) where
   IsHeadFault f =
       ((lines_read source (tokens_of source) ≡ None) × IsTextFault source f)
       ⊎ ((hs : List Head) × (lines_read source (tokens_of source) ≡ Some hs) × (lines_fault hs ≡ Some f))
-
-  -- if the text has a fault before unrolling, it is this one
-  abbrev pub IsInTurn : ExpandFault → Type 0
-  IsInTurn f = IsHeadFault f ⊎ ((r : Heads) × (heads_of source constants rules ≡ Some r))

@@ -4,6 +4,7 @@ ghost use Rattle.rc_text.specs.Symbols.{LiesIn};
 ghost use Rattle.rc_expand.specs.Heads.Lines.{HeadLies};
 ghost use Rattle.rc_expand.specs.Heads.NameTables.{AreLinks};
 ghost use Rattle.rc_expand.specs.Replace.{EqusLie, exempt_len_of_code, exempt_len, line_tokens, Replaces};
+ghost use Rattle.rc_expand.specs.Faults.{OnlyOf, is_replace_kind};
 ghost use Rattle.rc_expand.specs.Unroll.{Gives};
 ghost use Rattle.rc_expand.specs.Context.{IsContext};
 ghost use Rattle.rc_expand.specs.Replace.Lines.{as_list, line_word, own_labels, other_labels, made_line, line_of};
@@ -55,6 +56,7 @@ pub(crate) fn line_of(context: &Context, head: &Head) -> Result<Line, ExpandFaul
     requires head { HeadLies context.now.source.now head.now }
     ensures line { Gives result (line_of context.now.source.now context.now.equs.now head.now) }
     ensures inside { IfOk result (LineLies context.now.source.now) }
+    ensures kind { OnlyOf is_replace_kind result }
 {
     let (labels, others) = split_labels(context.alloc, context.source, head.labels.as_slice())?;
     if others.is_empty() {
@@ -203,6 +205,7 @@ fn make_line(
     requires inside { All (LiesIn context.now.source.now) tokens.now }
     ensures line { Gives result (made_line context.now.source.now context.now.equs.now head.now word tokens.now) }
     ensures inside { IfOk result (LineLies context.now.source.now) }
+    ensures kind { OnlyOf is_replace_kind result }
 {
     let tokens = match line_tokens(
         context.alloc,

@@ -1,11 +1,12 @@
 //! The last pass: EQU names are replaced, and each label must be new.
-ghost use Rattle.std.specs.Prelude.{◌≡◌, ◌≢◌, ◌++◌, ◌∷◌, [], ◌&&◌, not, true, false, List, ℕ, map, is_some, All, IfOk, MatchResult, OnOk};
+ghost use Rattle.std.specs.Prelude.{◌≡◌, ◌≢◌, ◌⊎◌, ◌++◌, ◌∷◌, [], ◌&&◌, not, true, false, List, ℕ, map, is_some, All, IfOk, IfSome, MatchResult, OnOk};
 ghost use Rattle.rc_text.specs.Symbols.{LiesIn, name_of};
 ghost use Rattle.rc_expand.specs.declared.fault.ExpandKind.TheVariants.{OutOfMemory};
 ghost use Rattle.rc_expand.specs.Heads.Lines.{HeadLies};
 ghost use Rattle.rc_expand.specs.Names.{is_among};
 ghost use Rattle.rc_expand.specs.Unroll.{Gives, GivesItems};
 ghost use Rattle.rc_expand.specs.Unroll.Reached.{reached_line, reached_lines, ReachedLies};
+ghost use Rattle.rc_expand.specs.Faults.{OnlyOf, is_replace_kind};
 ghost use Rattle.rc_expand.specs.Steps.{names_in, Freshens, Takes};
 ghost use Rattle.rc_expand.specs.Context.{table, IsContext, is_new_label_by};
 ghost use Rattle.rc_expand.specs.Replace.Lines.{line_of, replaced};
@@ -31,6 +32,7 @@ pub(crate) fn replace_lines(
     requires lies { All (ReachedLies context.now.source.now) reached.now }
     ensures lines { GivesItems result (replaced (table context.now) context.now.rules.now context.now.source.now context.now.equs.now (reached_lines context.now.source.now reached.now)) }
     ensures inside { IfOk result (λ v. All (LineLies context.now.source.now) v.items) }
+    ensures kind { OnlyOf is_replace_kind result }
 {
     let mut lines = Vec::new(context.alloc);
     let mut seen = NameTable::new(context.alloc);
@@ -82,6 +84,7 @@ fn check_label<'a>(
     ensures new { MatchResult result
         (λ u. (is_new_label_by context.now (name_of context.now.source.now token.now) && not (is_among (names_in seen.old) (name_of context.now.source.now token.now))) ≡ true)
         (λ e. e.kind ≢ OutOfMemory → (is_new_label_by context.now (name_of context.now.source.now token.now) && not (is_among (names_in seen.old) (name_of context.now.source.now token.now))) ≡ false) }
+    ensures kind { OnlyOf is_replace_kind result }
 {
     match clash_line(context, seen, token, line) {
         Some(later) => Err(fault(later, ExpandKind::DuplicateName)),
@@ -146,8 +149,10 @@ fn earliest_clash<'a>(
     labels: &[Token],
     line: u64,
 ) -> Result<ExpandFault, AllocError>
-    requires { All (LiesIn context.now.source.now) labels.now }
-    ensures { IfOk result (λ f. found.kind ≡ OutOfMemory → f.kind ≡ OutOfMemory) }
+    requires inside { All (LiesIn context.now.source.now) labels.now }
+    requires kind { found.kind ≢ OutOfMemory → is_replace_kind found.kind ≡ true }
+    ensures memory { IfOk result (λ f. found.kind ≡ OutOfMemory → f.kind ≡ OutOfMemory) }
+    ensures kind { IfOk result (λ f. f.kind ≢ OutOfMemory → is_replace_kind f.kind ≡ true) }
 {
     if found.kind == ExpandKind::OutOfMemory {
         return Ok(found);
@@ -165,7 +170,8 @@ fn check_line<'a>(
     line: &Line,
 ) -> Result<(), ExpandFault>
     requires { LineLies context.now.source.now line.now }
-    ensures { Freshens (is_new_label_by context.now) (names_in seen.old) result (map (name_of context.now.source.now) line.now.labels) (names_in seen.new) }
+    ensures seen { Freshens (is_new_label_by context.now) (names_in seen.old) result (map (name_of context.now.source.now) line.now.labels) (names_in seen.new) }
+    ensures kind { OnlyOf is_replace_kind result }
 {
     let mut rest = line.labels.as_slice();
     while let Some((token, after)) = rest.split_first() {
@@ -184,6 +190,7 @@ fn line_of_reached(context: &Context, one: &Reached) -> Result<Line, ExpandFault
     requires lies { ReachedLies context.now.source.now one.now }
     ensures line { Gives result (line_of context.now.source.now context.now.equs.now (reached_line context.now.source.now one.now)) }
     ensures inside { IfOk result (LineLies context.now.source.now) }
+    ensures kind { OnlyOf is_replace_kind result }
 {
     if one.is_as_written() {
         return line_of(context, one.head);
@@ -202,6 +209,7 @@ fn take_line<'a>(
     requires lies { ReachedLies context.now.source.now one.now }
     ensures line { Takes (is_new_label_by context.now) context.now.source.now (names_in seen.old) result (line_of context.now.source.now context.now.equs.now (reached_line context.now.source.now one.now)) (names_in seen.new) }
     ensures inside { IfOk result (LineLies context.now.source.now) }
+    ensures kind { OnlyOf is_replace_kind result }
 {
     let line = line_of_reached(context, one)?;
     check_line(context, seen, &line)?;
@@ -215,6 +223,7 @@ fn label_fault<'a>(
     head: &Head,
 ) -> Result<Option<ExpandFault>, AllocError>
     requires { HeadLies context.now.source.now head.now }
+    ensures kind { IfOk result (λ o. IfSome o (λ f. is_replace_kind f.kind ≡ true)) }
 {
     let (labels, _) = split_labels(context.alloc, context.source, head.labels.as_slice())?;
     match least_line(context, seen, labels.as_slice(), head.number)? {
@@ -232,7 +241,9 @@ fn comes_before(first: &ExpandFault, second: &ExpandFault) -> bool {
 }
 
 // Returns the fault that comes first; `least` on a tie.
-fn first_of(other: ExpandFault, least: ExpandFault) -> ExpandFault {
+fn first_of(other: ExpandFault, least: ExpandFault) -> ExpandFault
+    ensures { (result ≡ other) ⊎ (result ≡ least) }
+{
     if comes_before(&other, &least) {
         other
     } else {
@@ -249,6 +260,8 @@ fn lesser_of_line<'a>(
 ) -> Result<ExpandFault, AllocError>
     requires context { IsContext context.now }
     requires head { HeadLies context.now.source.now head.now }
+    requires kind { least.kind ≢ OutOfMemory → is_replace_kind least.kind ≡ true }
+    ensures kind { IfOk result (λ f. f.kind ≢ OutOfMemory → is_replace_kind f.kind ≡ true) }
 {
     let least = match label_fault(context, seen, head)? {
         Some(other) => first_of(other, least),
@@ -277,6 +290,8 @@ fn lesser_fault<'a>(
 ) -> Result<ExpandFault, AllocError>
     requires context { IsContext context.now }
     requires lies { ReachedLies context.now.source.now one.now }
+    requires kind { least.kind ≢ OutOfMemory → is_replace_kind least.kind ≡ true }
+    ensures kind { IfOk result (λ f. f.kind ≢ OutOfMemory → is_replace_kind f.kind ≡ true) }
 {
     if one.word() == HeadWord::Equ || comes_after(one.head, &least) {
         return Ok(least);
@@ -299,7 +314,9 @@ fn least_fault<'a>(
 ) -> Result<ExpandFault, AllocError>
     requires context { IsContext context.now }
     requires rest { All (ReachedLies context.now.source.now) rest.now }
-    ensures { IfOk result (λ f. found.kind ≡ OutOfMemory → f.kind ≡ OutOfMemory) }
+    requires kind { found.kind ≢ OutOfMemory → is_replace_kind found.kind ≡ true }
+    ensures memory { IfOk result (λ f. found.kind ≡ OutOfMemory → f.kind ≡ OutOfMemory) }
+    ensures kind { IfOk result (λ f. f.kind ≢ OutOfMemory → is_replace_kind f.kind ≡ true) }
 {
     if found.kind == ExpandKind::OutOfMemory {
         return Ok(found);

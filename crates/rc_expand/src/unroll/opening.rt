@@ -3,6 +3,7 @@ ghost use Rattle.std.specs.Prelude.{◌≡◌, [], true, false, Some, None, All,
 ghost use Rattle.rc_text.specs.Symbols.{LiesIn, name_of};
 ghost use Rattle.rc_expand.specs.Heads.Lines.{HeadLies};
 ghost use Rattle.rc_expand.specs.Unroll.{Gives, counter_token, small_count, earlier_of, is_bare_rof};
+ghost use Rattle.rc_expand.specs.Faults.{OnlyOf, is_unroll_kind};
 ghost use Rattle.rc_expand.specs.Steps.{Starts};
 ghost use Rattle.rc_expand.specs.Context.{IsContext, opening_by, count_by, is_new_by};
 
@@ -36,6 +37,7 @@ pub(crate) fn begin_block<'a>(
     requires first { HeadLies context.now.source.now first.now }
     ensures opening { Starts result (opening_by context.now first.now) }
     ensures earlier { IfOk result (λ o. o.earlier ≡ earlier_of first.now.labels) }
+    ensures kind { OnlyOf is_unroll_kind result }
 {
     if first.spoiled {
         return Err(fault(first.number, ExpandKind::BadDirective));
@@ -54,7 +56,9 @@ pub(crate) fn begin_block<'a>(
 
 // Returns why the label before FOR cannot be its counter. If copying made it a number, it is the
 // counter of an enclosing block.
-fn counter_fault(line: u64, label: &[Token]) -> ExpandFault {
+fn counter_fault(line: u64, label: &[Token]) -> ExpandFault
+    ensures { is_unroll_kind result.kind ≡ true }
+{
     match label {
         [token, ..] => match token.kind {
             Kind::Number(_) => fault(line, ExpandKind::DuplicateName),
@@ -70,6 +74,7 @@ fn counter_token<'a>(source: &[u8], first: &'a Head) -> Result<Option<&'a Token>
     ensures token { MatchResult result (λ o. counter_token source.now first.now.labels ≡ Some (option_map (λ t. t.now) o)) (λ e. counter_token source.now first.now.labels ≡ None) }
     ensures inside { IfOk result (λ o. IfSome o (λ t. LiesIn source.now t.now)) }
     ensures written { IfOk result (λ o. IfSome o (λ t. t.now.joined ≡ [])) }
+    ensures kind { OnlyOf is_unroll_kind result }
 {
     let labels = first.labels.as_slice();
     if labels.len() == 0 {
@@ -102,7 +107,8 @@ fn small_count(value: i64) -> Option<u16>
 fn count_of(context: &Context, first: &Head) -> Result<u16, ExpandFault>
     requires context { IsContext context.now }
     requires first { HeadLies context.now.source.now first.now }
-    ensures { Gives result (count_by context.now first.now.rest) }
+    ensures count { Gives result (count_by context.now first.now.rest) }
+    ensures kind { OnlyOf is_unroll_kind result }
 {
     let tokens = match replace_tokens(
         context.alloc,
@@ -129,7 +135,8 @@ fn count_of(context: &Context, first: &Head) -> Result<u16, ExpandFault>
 
 // Refuses a ROF with something before or after it on its line.
 pub(crate) fn check_rof(rof: &Head) -> Result<(), ExpandFault>
-    ensures { MatchResult result (λ u. is_bare_rof rof.now ≡ true) (λ e. is_bare_rof rof.now ≡ false) }
+    ensures bare { MatchResult result (λ u. is_bare_rof rof.now ≡ true) (λ e. is_bare_rof rof.now ≡ false) }
+    ensures kind { OnlyOf is_unroll_kind result }
 {
     if is_bare_rof(rof) {
         Ok(())
@@ -186,7 +193,8 @@ pub(crate) fn earlier_labels(
 fn check_counter(context: &Context, counter: Option<&Token>, line: u64) -> Result<(), ExpandFault>
     requires context { IsContext context.now }
     requires inside { IfSome counter (λ t. LiesIn context.now.source.now t.now) }
-    ensures { MatchResult result (λ u. is_new_by context.now (option_map (λ t. t.now) counter.entry) ≡ true) (λ e. is_new_by context.now (option_map (λ t. t.now) counter.entry) ≡ false) }
+    ensures new { MatchResult result (λ u. is_new_by context.now (option_map (λ t. t.now) counter.entry) ≡ true) (λ e. is_new_by context.now (option_map (λ t. t.now) counter.entry) ≡ false) }
+    ensures kind { OnlyOf is_unroll_kind result }
 {
     match counter {
         None => Ok(()),

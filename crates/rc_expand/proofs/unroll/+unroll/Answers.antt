@@ -28,7 +28,7 @@ append_block-returns-in_err-append_copies-clause-adds t c =
 pub append_block-returns-clause-adds : goal.append_block-returns-clause-adds
 append_block-returns-clause-adds t c =
     block_ends c.args.context.now c.args.levels (line_in c.args.context.now.source.now c.args.copies.now c.args.first.now) (lines_in c.args.context.now.source.now c.args.copies.now c.args.block.now) (line_in c.args.context.now.source.now c.args.copies.now c.args.rof.now) (record { counter = option_map (λ b. b.now) c.in_ok-opening.opening.counter; earlier = c.in_ok-opening.opening.earlier; count = c.in_ok-opening.opening.count }) (ap (opening_by c.args.context.now) (sym c.in_ok-opened.ensures.made) ∙ c.in_ok-opening.ensures.opening) (reached_lines c.args.context.now.source.now c.args.out.now.lines.items) c.args.out.now.copies (reached_lines c.args.context.now.source.now c.append_earlier.new.out.lines.items) c.append_earlier.new.out.copies tt c.in_ok-append_earlier.ensures.adds (reached_lines c.args.context.now.source.now c.append_copies.new.out.lines.items) c.append_copies.new.out.copies tt c.check_rof.result c.in_ok-append_copies.ensures.adds
-    (subst (λ r. MatchResult c.check_rof.result (λ u. is_bare_rof r ≡ true) (λ e. is_bare_rof r ≡ false)) c.in_ok-closed.ensures.made c.check_rof.ensures)
+    (subst (λ r. MatchResult c.check_rof.result (λ u. is_bare_rof r ≡ true) (λ e. is_bare_rof r ≡ false)) c.in_ok-closed.ensures.made c.check_rof.ensures.bare)
 
 pub append_copies-returns-in_err-append_copy-clause-adds : goal.append_copies-returns-in_err-append_copy-clause-adds
 append_copies-returns-in_err-append_copy-clause-adds t c =

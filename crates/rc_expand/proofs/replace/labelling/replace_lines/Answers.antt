@@ -22,8 +22,9 @@ returns-in-Err c =
       lines = λ k. not_taken (table st) st.rules.now s st.equs.now (reached_lines s c.args.reached.now) c.loop-i.lines.items (reached_line s c.index-reached-i.result) here behind (names_in c.loop-i.seen)
           c.loop-i.invariant.0 c.loop-i.invariant.1
           (kept_other here (reached_line s c.index-reached-i.result) behind step (λ w. c.in_default.not-Equ (sym (c.word.ensures s) ∙ w)))
-          (c.in-Err.ensures.line (λ e. k (c.in_ok-least_fault-in-Err.ensures e)));
+          (c.in-Err.ensures.line (λ e. k (c.in_ok-least_fault-in-Err.ensures.memory e)));
       inside = tt;
+      kind = c.in_ok-least_fault-in-Err.ensures.kind;
     }
 
 pub loop-i-preserved : goal.loop-i-preserved

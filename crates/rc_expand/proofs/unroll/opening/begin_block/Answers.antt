@@ -16,16 +16,16 @@ returns-in_err-token-clause-opening c =
 pub returns-in_err-check_counter-clause-opening : goal.returns-in_err-check_counter-clause-opening
 returns-in_err-check_counter-clause-opening c =
     let p = err_from_is_err_and c.from_residual-in_err-check_counter.result c.from_residual-in_err-check_counter.ensures.1 in
-    rw (p.1, p.2) (λ h. known_counter c.args.context.now c.args.first.now c.if-first.false (option_map (λ t. t.now) c.in_ok-token.token) c.in_ok-token.ensures.token c.in_err-check_counter.ensures)
+    rw (p.1, p.2) (λ h. known_counter c.args.context.now c.args.first.now c.if-first.false (option_map (λ t. t.now) c.in_ok-token.token) c.in_ok-token.ensures.token c.in_err-check_counter.ensures.new)
 
 pub returns-in_err-count-clause-opening : goal.returns-in_err-count-clause-opening
 returns-in_err-count-clause-opening c =
     let p = err_from_is_err_and c.from_residual-in_err-count.result c.from_residual-in_err-count.ensures.1 in
-    rw (p.1, p.2) (λ h. no_count c.args.context.now c.args.first.now c.if-first.false (option_map (λ t. t.now) c.in_ok-token.token) c.in_ok-token.ensures.token c.in_ok-check_counter.ensures (c.in_err-count.ensures h))
+    rw (p.1, p.2) (λ h. no_count c.args.context.now c.args.first.now c.if-first.false (option_map (λ t. t.now) c.in_ok-token.token) c.in_ok-token.ensures.token c.in_ok-check_counter.ensures.new (c.in_err-count.ensures.count h))
 
 pub returns-clause-opening : goal.returns-clause-opening
 returns-clause-opening c =
     opening_is c.args.context.now c.args.first.now c.if-first.false (option_map (λ t. t.now) c.in_ok-token.token) c.in_ok-token.ensures.token
-    (option_map (λ b. b.now) c.counter_name-counter.result) c.in_ok-earlier.earlier c.in_ok-count.count c.in_ok-check_counter.ensures c.in_ok-count.ensures
+    (option_map (λ b. b.now) c.counter_name-counter.result) c.in_ok-earlier.earlier c.in_ok-count.count c.in_ok-check_counter.ensures.new c.in_ok-count.ensures.count
     (c.counter_name-counter.ensures ∙ names_are c.args.context.now.source.now c.in_ok-token.token)
     (c.in_ok-earlier.ensures.earlier ∙ ap earlier_of c.as_slice.ensures)

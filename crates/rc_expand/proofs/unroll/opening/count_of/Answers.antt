@@ -8,24 +8,24 @@ use Rattle.rc_expand.specs.Context.{table}
 use Rattle.rc_expand.proofs.Unrolling.CountSteps.{count_made, count_none, no_value}
 use Rattle.rc_expand.proofs.unroll.opening.count_of.Goals as goal
 
-pub returns-in-Some : goal.returns-in-Some
-returns-in-Some c =
+pub returns-in-Some-clause-count : goal.returns-in-Some-clause-count
+returns-in-Some-clause-count c =
     let s = c.args.context.now in
     let fed : replaced_tokens s.source.now s.equs.now c.args.first.now.rest ≡ Some c.as_slice-2.result.now =
     ap (replaced_tokens s.source.now s.equs.now) (sym c.as_slice.ensures) ∙ (c.in-Ok.ensures.tokens ∙ ap Some (sym c.as_slice-2.ensures)) in
     let f : FitsSigned w64 c.in-Ok-eval.value = search rules in
     count_made s c.args.first.now.rest c.as_slice-2.result.now c.in-Ok-eval.value fed c.in-Ok-eval.ensures.value ∙ (ap small_count (sym (to_z-of_z w64 c.in-Ok-eval.value f)) ∙ sym c.in-Some.ensures)
 
-pub returns-in-Ok-eval : goal.returns-in-Ok-eval
-returns-in-Ok-eval c =
+pub returns-in-Ok-eval-clause-count : goal.returns-in-Ok-eval-clause-count
+returns-in-Ok-eval-clause-count c =
     let s = c.args.context.now in
     let fed : replaced_tokens s.source.now s.equs.now c.args.first.now.rest ≡ Some c.as_slice-2.result.now =
     ap (replaced_tokens s.source.now s.equs.now) (sym c.as_slice.ensures) ∙ (c.in-Ok.ensures.tokens ∙ ap Some (sym c.as_slice-2.ensures)) in
     let f : FitsSigned w64 c.in-Ok-eval.value = search rules in
     λ h. count_made s c.args.first.now.rest c.as_slice-2.result.now c.in-Ok-eval.value fed c.in-Ok-eval.ensures.value ∙ (ap small_count (sym (to_z-of_z w64 c.in-Ok-eval.value f)) ∙ sym c.in-None.ensures)
 
-pub returns : goal.returns
-returns c =
+pub returns-clause-count : goal.returns-clause-count
+returns-clause-count c =
     let s = c.args.context.now in
     let fed : replaced_tokens s.source.now s.equs.now c.args.first.now.rest ≡ Some c.as_slice-2.result.now =
     ap (replaced_tokens s.source.now s.equs.now) (sym c.as_slice.ensures) ∙ (c.in-Ok.ensures.tokens ∙ ap Some (sym c.as_slice-2.ensures)) in
