@@ -125,14 +125,21 @@ fn counters_are_joined(rt: HostRuntime) {
 
 #[test]
 fn faults_have_texts(rt: HostRuntime) -> Result<(), Fail> {
-    assert_eq!(rt;
-        format!(in rt.alloc(); "{}", LexFault::NumberTooLarge)?.as_str(),
-        "number above 4294967295"
-    );
-    assert_eq!(rt;
-        format!(in rt.alloc(); "{}", EvalFault::TooDeep)?.as_str(),
-        "more than 64 open parentheses"
-    );
+    for (fault, want) in [
+        (LexFault::BadByte, "unexpected byte"),
+        (LexFault::NumberTooLarge, "number above 4294967295"),
+    ] {
+        assert_eq!(rt; format!(in rt.alloc(); "{fault}")?.as_str(), want);
+    }
+    for (fault, want) in [
+        (EvalFault::Syntax, "invalid expression"),
+        (EvalFault::UnknownName, "unknown name"),
+        (EvalFault::DivisionByZero, "division by zero"),
+        (EvalFault::Overflow, "result does not fit into 64 bits"),
+        (EvalFault::TooDeep, "more than 64 open parentheses"),
+    ] {
+        assert_eq!(rt; format!(in rt.alloc(); "{fault}")?.as_str(), want);
+    }
     Ok(())
 }
 

@@ -182,15 +182,48 @@ fn constants_are_taken_and_limits_hold(rt: HostRuntime) -> Result<(), Fail> {
     Ok(())
 }
 
+// The texts of faults at line 3, with the limits of the language.
+const TEXTS: [(ExpandKind, &str); 11] = [
+    (
+        ExpandKind::Text(LexFault::BadByte),
+        "line 3: unexpected byte",
+    ),
+    (ExpandKind::DuplicateName, "line 3: name already defined"),
+    (ExpandKind::ForWithoutRof, "line 3: FOR without ROF"),
+    (ExpandKind::RofWithoutFor, "line 3: ROF without FOR"),
+    (
+        ExpandKind::ForTooDeep,
+        "line 3: more than 8 nested FOR blocks",
+    ),
+    (
+        ExpandKind::EquTooDeep,
+        "line 3: EQU names nested more than 16 deep",
+    ),
+    (
+        ExpandKind::CountRefused,
+        "line 3: FOR count without a value or above 4096",
+    ),
+    (
+        ExpandKind::TooManyLines,
+        "line 3: more than 4096 lines and copies",
+    ),
+    (ExpandKind::OutOfMemory, "line 3: out of memory"),
+    (
+        ExpandKind::BadDirective,
+        "line 3: malformed or misplaced directive",
+    ),
+    (
+        ExpandKind::TooManyTokens,
+        "line 3: more than 4096 tokens or EQU replacements in a line",
+    ),
+];
+
 #[test]
 fn faults_have_texts(rt: HostRuntime) -> Result<(), Fail> {
-    let found = ExpandFault {
-        line: 3,
-        kind: ExpandKind::Text(LexFault::BadByte),
-    };
-    assert_eq!(rt;
-        format!(in rt.alloc(); "{}", found)?.as_str(),
-        "line 3: unexpected byte"
-    );
+    for (kind, want) in TEXTS {
+        let found = ExpandFault { line: 3, kind };
+        let text = format!(in rt.alloc(); "{found}")?;
+        assert_eq!(rt; text.as_str(), want);
+    }
     Ok(())
 }
