@@ -125,12 +125,14 @@ fn counters_are_joined(rt: HostRuntime) {
 
 #[test]
 fn faults_have_texts(rt: HostRuntime) -> Result<(), Fail> {
-    for (fault, want) in [
-        (LexFault::BadByte, "unexpected byte"),
-        (LexFault::NumberTooLarge, "number above 4294967295"),
-    ] {
-        assert_eq!(rt; format!(in rt.alloc(); "{fault}")?.as_str(), want);
-    }
+    assert_eq!(rt;
+        format!(in rt.alloc(); "{}", LexFault::BadByte)?.as_str(),
+        "unexpected byte"
+    );
+    assert_eq!(rt;
+        format!(in rt.alloc(); "{}", LexFault::NumberTooLarge)?.as_str(),
+        "number above 4294967295"
+    );
     for (fault, want) in [
         (EvalFault::Syntax, "invalid expression"),
         (EvalFault::UnknownName, "unknown name"),
