@@ -8,12 +8,22 @@ ghost use Rattle.rc_expand.specs.Heads.Lines.{is_reserved_class, is_name_token, 
 
 use crate::heads::head::HeadWord;
 use crate::line::Tokens;
-use rc_text::{Kind, NameClass, Sign, Token, is_opcode_word, is_same_word, name_class};
+use rc_text::{Joined, Kind, NameClass, Sign, Token, is_opcode_word, is_same_word, name_class};
 use std::alloc::{AllocError, Global};
 
+// Most tokens have no counters, and are copied without a loop over these.
 pub(crate) fn clone_token(token: &Token) -> Result<Token, AllocError>
     ensures { IfOk result (λ t. t ≡ token.now) }
 {
+    if token.joined.is_empty() {
+        return Ok(Token {
+            kind: token.kind,
+            lo: token.lo,
+            hi: token.hi,
+            line: token.line,
+            joined: Joined::new(),
+        });
+    }
     token.clone()
 }
 
