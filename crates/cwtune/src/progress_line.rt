@@ -57,6 +57,7 @@ fn draw<V: Write>(err: &mut Outlet<V>, standing: &Standing) -> Result<(), WriteF
 
 fn say_best<V: Write>(err: &mut Outlet<V>, best: Best) -> Result<(), WriteFailed>
     requires { err.old.failed ≡ false }
+    ensures { err.new.failed ≡ is_err result }
 {
     err.write_all(b", best ")?;
     say_number(err, u64::from(best.vector))?;

@@ -15,7 +15,7 @@ use Rattle.rc_expand.specs.declared.line.LineWord.TheVariants.{Code, Org, End, A
 use Rattle.rc_expand.specs.declared.line.Line.{Line}
 use Rattle.rc_expand.specs.Names.{Table, or_else}
 use Rattle.rc_expand.specs.Expansion.{IsExpansion}
-use Rattle.rc_expand.specs.Heads.Faults.{IsInTurn}
+use Rattle.rc_expand.specs.Faults.{IsInTurn}
 use Rattle.rc_asm.specs.declared.fault.AsmKind.{AsmKind}
 use Rattle.rc_asm.specs.declared.fault.AsmKind.TheVariants.{Expand, MissingOperand, Value, AssertFailed, Warrior, TextTooLong}
 use Rattle.rc_asm.specs.declared.fault.AsmFault.{AsmFault}
