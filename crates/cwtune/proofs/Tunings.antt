@@ -1,5 +1,5 @@
 -- Tunings that are refused.
-use Rattle.std.proofs.Common.{◌≡◌, ◌⊎◌, ℕ, zero, suc, ◌<◌, ◌≤◌, List, [], ◌∷◌, Some, None, length, slice_get, inr, refl, sym, ◌∙◌, ap, subst, arith}
+use Rattle.std.proofs.Common.{◌≡◌, ◌⊎◌, ℕ, zero, suc, ◌<◌, ◌≤◌, List, [], ◌∷◌, Some, None, length, slice_get, inr, refl, sym, Result, Err, IfErr, ◌∙◌, ap, subst, arith}
 use Rattle.rc_instr.specs.Rules.{RulesView}
 use Rattle.rc_instr.specs.Warrior.{WarriorView}
 use Rattle.rc_asm.specs.Assembly.{Assembles}
@@ -7,8 +7,11 @@ use Rattle.mars_fight.specs.Schedule.{fights_of}
 use Rattle.mars_fight.specs.declared.fight.Fight.{Fight}
 use Rattle.tune_template.specs.Parts.{IsPart}
 use Rattle.tune_template.specs.Instances.{TemplateView, InputsView}
-use Rattle.tune_cert.specs.Problem.{problem_of}
 use Rattle.tune_cert.specs.Optimum.{IsCandidate}
+use Rattle.tune_cert.specs.Problem.{Problem, problem_of}
+use Rattle.tune_cert.specs.declared.cert.Found.{Found}
+use Rattle.tune_search.specs.declared.fault.SearchFault.{SearchFault}
+use Rattle.tune_search.specs.declared.fault.SearchFault.TheVariants.{NoCandidate as NoneFound}
 use Rattle.cwtune.specs.TuneRun.{Texts, setting_count, IsTemplate, AreOpponents, Means, HasNoCandidate, IsTemplateRefusal, AreRefused, HasNoFights, IsTuneRefusal}
 use Rattle.cwtune.specs.declared.fault.RunFault.{RunFault}
 use Rattle.cwtune.proofs.Meaning.{template_one, one_meaning}
@@ -84,6 +87,11 @@ no_candidate t i j v m n none inside c =
     let within : v < (problem_of j).count = subst (λ x. v < (problem_of x).count) same inside in
     let found : None ≡ Some c.0 = sym (none v within) ∙ (ap (λ x. (problem_of x).warrior v) (sym same) ∙ c.1) in
     cc
+
+-- what a search promises where it ends so
+pub none_found : (p : Problem) (r : Result Found SearchFault) (e : SearchFault) → r ≡ Err e → e ≡ NoneFound
+    → IfErr r (λ x. x ≡ NoneFound → (v : ℕ) → v < p.count → p.warrior v ≡ None) → (v : ℕ) → v < p.count → p.warrior v ≡ None
+none_found p r e is same none = subst (λ (x : Result Found SearchFault). IfErr x (λ y. y ≡ NoneFound → (v : ℕ) → v < p.count → p.warrior v ≡ None)) is none same
 
 -- the part that a meaning has is one of the template's
 not_parted : (t : Texts) (i : InputsView) (view : TemplateView) → Means t i → IsTemplate t.template view → (IsPart t.part (setting_count view) → ⊥) → ⊥
