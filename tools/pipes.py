@@ -3,7 +3,7 @@
 
 A reader that goes away ends a run with status 3 and the line `failed: Write`. A standard input that
 cannot be read, that is a terminal or that has no end leads to a named error or a result, in bounded
-time. A standard error that is a terminal gets a line of progress, and help after a refusal.
+time. A standard error that is a terminal gets a progress line, and help after a refusal.
 Expected values follow from `docs/FORMATS.md`. Prints what failed, and as its last line
 `N passed, N failed`. The exit status is 1 if a check failed.
 """
@@ -42,7 +42,7 @@ FILES = {
     "both.csv": b"opponent,position,first\n0,8,c\n1,8,c\n",
     "far.csv": b"opponent,position,first\n0,4000,c\n",
     "typo.csv": b"opponent,position,first\n0,8,x\n",
-    # what follows is for refusals at a terminal
+    # for what a terminal shows
     "two.red": b";@tune K 0 1 1 0\nMOV 0, 1\n",
     "range.red": b";@tune K 2 1 1 1\nMOV 0, 1\n",
     "zero.red": b"MOV 0, 1\n\tDAT 1/0\r\n",
@@ -260,7 +260,7 @@ def shown(play, words):
 
 
 def standing(settings, fights, best):
-    """Returns the line of progress after so many of two settings."""
+    """Returns the progress line after `settings` of two settings."""
     return b"\r%d of 2 settings, %d fights%s\x1b[K" % (settings, fights, best)
 
 
@@ -268,7 +268,10 @@ CLEARED = b"\r\x1b[K"
 
 
 def progress(play):
-    """Yields checks of the line of progress: two imps, of which the second may share the fights."""
+    """Yields checks of the progress line, with two settings that make one warrior.
+
+    Without `--all` the second shares the fights of the first.
+    """
     best = b", best 0 total 4"
     shared = standing(1, 2, best) + standing(2, 2, best) + CLEARED
     both = standing(1, 2, best) + standing(2, 4, best) + CLEARED

@@ -88,7 +88,7 @@ no_candidate t i j v m n none inside c =
     let found : None ≡ Some c.0 = sym (none v within) ∙ (ap (λ x. (problem_of x).warrior v) (sym same) ∙ c.1) in
     cc
 
--- what a search promises where it ends so
+-- if a search ends with NoCandidate, no setting has a warrior
 pub none_found : (p : Problem) (r : Result Found SearchFault) (e : SearchFault) → r ≡ Err e → e ≡ NoneFound
     → IfErr r (λ x. x ≡ NoneFound → (v : ℕ) → v < p.count → p.warrior v ≡ None) → (v : ℕ) → v < p.count → p.warrior v ≡ None
 none_found p r e is same none = subst (λ (x : Result Found SearchFault). IfErr x (λ y. y ≡ NoneFound → (v : ℕ) → v < p.count → p.warrior v ≡ None)) is none same

@@ -1,4 +1,4 @@
-//! The line at a terminal that tells how far a tuning or a check is.
+//! The line at a terminal that says how far a tuning or a check is.
 ghost use Rattle.std.specs.Prelude.{◌≡◌, false, is_err};
 
 use itoa::Buffer;
@@ -10,11 +10,12 @@ use tune_cert::{Best, Standing, Watcher};
 #[derive(Drop)]
 pub(crate) struct ProgressLine<V: Write> {
     err: Outlet<V>,
-    // The hundredth that the line shows, or `None` if there is no line.
+    // The hundredth that the line shows, or `None` if there is no line now.
     shown: Option<u64>,
 }
 
 impl<V: Write> ProgressLine<V> {
+    // Takes an outlet of its own, so that lines of faults are written even if this one has failed.
     pub(crate) fn new(err: Outlet<V>) -> ProgressLine<V> {
         ProgressLine { err, shown: None }
     }
@@ -35,10 +36,11 @@ impl<V: Write> Watcher for ProgressLine<V> {
         if self.shown.is_some() && !self.err.failed() {
             let _ = self.err.write_all(b"\r\x1b[K");
         }
+        self.shown = None;
     }
 }
 
-// Writes the line over the one before, and clears what that had beyond it.
+// Writes the line over the one before, and clears the rest of that.
 fn draw<V: Write>(err: &mut Outlet<V>, standing: &Standing) -> Result<(), WriteFailed>
     requires { err.old.failed ≡ false }
 {

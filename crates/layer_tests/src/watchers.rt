@@ -42,7 +42,7 @@ fn after(settings: u32, count: u32, fights: u64, best: Option<Best>) -> Option<S
     })
 }
 
-// The start setting is the second, so the first that is told of is an imp with 4 points.
+// Setting 1 is visited first: an imp with the total 4. Setting 0 does not assemble.
 #[test]
 fn a_search_tells_how_far_it_is(rt: HostRuntime) -> Result<(), Fail> {
     let inputs = inputs_of(rt.alloc(), THREE)?;
@@ -59,7 +59,7 @@ fn a_search_tells_how_far_it_is(rt: HostRuntime) -> Result<(), Fail> {
     Ok(())
 }
 
-// The first setting does not assemble.
+// Settings are visited by index.
 #[test]
 fn a_plain_search_tells_how_far_it_is(rt: HostRuntime) -> Result<(), Fail> {
     let inputs = inputs_of(rt.alloc(), THREE)?;
@@ -76,7 +76,7 @@ fn a_plain_search_tells_how_far_it_is(rt: HostRuntime) -> Result<(), Fail> {
     Ok(())
 }
 
-// Rows that refer to other settings are checked last, and play no fight.
+// Rows that refer to other settings are checked last, and no fight is played for them.
 #[test]
 fn a_check_tells_how_far_it_is(rt: HostRuntime) -> Result<(), Fail> {
     let inputs = inputs_of(rt.alloc(), b";@tune K 0 3 1 2\nMOV 0, 1")?;

@@ -25,7 +25,7 @@ use std::alloc::Global;
 /// `&`. EQU lines are dropped, and EQU names are replaced by their tokens. (FOR, ROF, EQU and `&`
 /// are from pMARS.)
 ///
-/// Refuses, part by part, and in each part the first line that is wrong:
+/// Refuses, pass by pass, and in each pass the first line that is wrong:
 ///
 /// - `Text`: a byte or a number that is not a token, up to the line with END.
 /// - `ForTooDeep`: more than 8 nested blocks; `RofWithoutFor`, `ForWithoutRof`: a FOR or a ROF
@@ -42,9 +42,9 @@ use std::alloc::Global;
 ///   or EQU replacements in a line.
 /// - `OutOfMemory`, at line 0, if memory runs out.
 ///
-/// It is proved that the first three items come first, in this order and each at its first line; then
-/// a fault of unrolling, of any kind but `Text`; and one of the last item's kinds only if the text
-/// can be unrolled. Which of several faults of unrolling, or of the last item, is returned, and its
+/// It is proved that a fault of the first three items comes first, in this order and at its first
+/// line. Otherwise a text that cannot be unrolled gives any kind but `Text`, and one that can gives
+/// a kind of the fifth item. Which fault of unrolling or of the fifth item is returned, and its
 /// line, is tested.
 pub fn expand(
     alloc: Global,

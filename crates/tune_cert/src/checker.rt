@@ -16,7 +16,7 @@ use crate::read::read_cert;
 use crate::row_checks::{check_alone, check_same, is_best_row};
 use crate::verdict::{Reason, Verdict};
 use crate::warriors::no_warriors;
-use crate::watcher::{Silent, Standing, Watcher, before_rows, see_row};
+use crate::watcher::{Silent, Standing, Watcher, before_rows, tell_row};
 use mars_core::{Arena, PackedCells};
 use std::alloc::Global;
 use tune_template::Inputs;
@@ -65,7 +65,8 @@ pub fn check(alloc: Global, inputs: &Inputs, bytes: &[u8]) -> Result<Verdict, Ch
     watched_check(alloc, inputs, bytes, &mut Silent)
 }
 
-/// Checks a certificate as `check` does, and tells `watcher` after each row how far it is.
+/// Checks a certificate as `check` does, and tells `watcher` after each row that is right how far
+/// the check is.
 ///
 /// # Errors
 ///
@@ -124,7 +125,7 @@ fn check_rows_alone<T: Watcher>(
             }));
         }
         if !refers(row) {
-            see_row(row, standing, watcher);
+            tell_row(row, standing, watcher);
         }
     }
     Ok(None)
@@ -158,7 +159,7 @@ fn check_rows_same<T: Watcher>(
             }));
         }
         if refers(row) {
-            see_row(row, standing, watcher);
+            tell_row(row, standing, watcher);
         }
     }
     Ok(None)

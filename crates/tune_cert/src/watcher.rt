@@ -1,4 +1,4 @@
-//! Watchers of searches and checks, who are told how far these are.
+//! Watchers of searches and checks, which are told how far these are.
 
 use crate::cert::{Cert, Row};
 
@@ -7,11 +7,11 @@ use crate::cert::{Cert, Row};
 pub struct Standing {
     /// The number of settings that are done.
     pub settings: u32,
-    /// The number of all settings.
+    /// The number of settings in all.
     pub count: u32,
     /// The number of fights played so far.
     pub fights: u64,
-    /// The best setting so far. A check has that of the certificate.
+    /// The best setting so far. In a check, the one that the certificate names.
     pub best: Option<Best>,
 }
 
@@ -24,12 +24,13 @@ pub struct Best {
     pub total: u32,
 }
 
-/// Someone who is told how far a search or a check is. No result depends on it.
+/// Is told how far a search or a check is. No result depends on it.
 pub trait Watcher {
-    /// Is called by a search or a check after each setting.
+    /// Called after each setting.
     fn see(&mut self, standing: Standing);
 
-    /// Is called by a run after the work, whatever its result, before it writes anything.
+    /// Called by the commands of `cwtune` when the search or the check has ended, before anything is
+    /// written. Searches and checks do not call it.
     fn end(&mut self);
 }
 
@@ -57,7 +58,7 @@ pub(crate) fn before_rows(cert: &Cert, count: u32) -> Standing {
 }
 
 // Counts a checked row, and tells the watcher.
-pub(crate) fn see_row<T: Watcher>(row: &Row, standing: &mut Standing, watcher: &mut T) {
+pub(crate) fn tell_row<T: Watcher>(row: &Row, standing: &mut Standing, watcher: &mut T) {
     standing.settings = standing.settings.saturating_add(1);
     if let Row::Cap(listing) = row {
         standing.fights = standing

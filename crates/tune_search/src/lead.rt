@@ -57,7 +57,7 @@ pub(crate) fn take_lead(vector: u32, lead: Option<Lead>) -> Option<Lead>
     })
 }
 
-// Returns the lead as watchers are told of it.
+// Returns the lead in the form that watchers get.
 pub(crate) fn best_of(lead: Option<Lead>) -> Option<Best> {
     lead.map(|lead| Best {
         vector: lead.vector,

@@ -41,7 +41,8 @@ pub fn plain_search(alloc: Global, inputs: &Inputs) -> Result<Found, SearchFault
     watched_plain_search(alloc, inputs, &mut Silent)
 }
 
-/// Finds the optimum as `plain_search` does, and tells `watcher` after each setting how far it is.
+/// Finds the optimum as `plain_search` does, and tells `watcher` after each setting how far the
+/// search is.
 ///
 /// # Errors
 ///

@@ -27,12 +27,12 @@ use tune_template::Part;
 /// Finds the optimum of one part of a template's settings as `tune_part_run` does, but plays every
 /// fight of every setting that assembles, and lists all of them in the certificate.
 ///
-/// The best setting and its total are those of `tune_part_run`. So are the meaning of the texts, the
-/// order of what is written, and the errors. Neither outlet must have failed.
+/// The best setting, its total, the meaning of the texts, the order of writing and the errors are as
+/// in `tune_part_run`. Neither outlet must have failed.
 ///
 /// # Errors
 ///
-/// As of `tune_part_run`.
+/// Those of `tune_part_run`.
 #[tactic(auto, using(crate::proofs::Tunings::refused_means, crate::proofs::Plain::plain_found))]
 pub fn plain_tune_run<T: Watcher, W: Write, V: Write>(
     alloc: Global,

@@ -30,8 +30,8 @@ use tune_template::Part;
 /// The optimum is the first setting with the greatest total against the opponents in the fights of
 /// the schedule. The template is a Redcode text with `;@tune` lines, each opponent a Redcode text,
 /// the schedule a table of fights. The search remembers up to `capacity` settings, 1 to 65536, so
-/// that equal warriors share their fights. The certificate and the report are made before one of
-/// them is written, and the certificate is written whole before the report begins. Neither outlet
+/// that equal warriors share their fights. The certificate and the report are made before either is
+/// written, and the certificate is written whole before the report begins. Neither outlet
 /// must have failed.
 ///
 /// # Errors

@@ -182,7 +182,7 @@ fn constants_are_taken_and_limits_hold(rt: HostRuntime) -> Result<(), Fail> {
     Ok(())
 }
 
-// The texts of faults at line 3, with the limits of the language.
+// Each kind of fault, and its text at line 3.
 const TEXTS: [(ExpandKind, &str); 11] = [
     (
         ExpandKind::Text(LexFault::BadByte),

@@ -11,7 +11,7 @@ use crate::line::Tokens;
 use rc_text::{Joined, Kind, NameClass, Sign, Token, is_opcode_word, is_same_word, name_class};
 use std::alloc::{AllocError, Global};
 
-// Most tokens have no counters, and are copied without a loop over these.
+// Copies a token. Most have no counters, and skip the loop that copies them.
 pub(crate) fn clone_token(token: &Token) -> Result<Token, AllocError>
     ensures { IfOk result (λ t. t ≡ token.now) }
 {
