@@ -293,7 +293,7 @@ def help_after_refusals(play):
     """Yields checks of the lines that a terminal gets after that of a refusal."""
     source = b"refused: Asm line 2 Value DivisionByZero\n  zero.red, line 2: \tDAT 1/0\n"
     none = standing(1, 0, b"") + standing(2, 0, b"") + CLEARED + b"refused: NoCandidate\n"
-    start = b"  start setting: Asm line 3 Value DivisionByZero\n  none.red, line 3: DAT 1/0\n"
+    start = b"  start setting: line 3 Value DivisionByZero\n  none.red, line 3: DAT 1/0\n"
     (play.folder / "none.red").write_bytes(FILES["two.red"] + b"DAT 1/0\n")
     for name, files, text in [
         ("a template", "range.red both.csv", b"Template line 1 EmptyRange\n  range.red, line 1: "
