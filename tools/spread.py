@@ -45,7 +45,7 @@ def arguments():
     parser.add_argument("--jobs", type=int, default=os.cpu_count(), metavar="N",
                         help="parts that run side by side, on each host [default: all processors]")
     parser.add_argument("--parts", type=int, metavar="K",
-                        help="parts to split the settings into [default: 4 for each job]")
+                        help="parts to split the settings into [default: 2 for each job]")
     parser.add_argument("--hosts", metavar="FILE",
                         help="run on these hosts too, a line each (--sshloginfile of GNU parallel)")
     parser.add_argument("--resume", action="store_true",
@@ -209,7 +209,7 @@ def main():
     if not args.resume and folder.exists():
         shutil.rmtree(folder)
     count = count_settings(args.template)
-    parts = min(count, args.parts or 4 * args.jobs)
+    parts = min(count, args.parts or 2 * args.jobs)
     names = fill(folder, args)
     numbers = range(1, parts + 1)
     run(folder, args, names, [n for n in numbers if not is_done(folder, n)], job_of(args, names, parts))
