@@ -1,6 +1,6 @@
-//! Help for people after the line of a refusal, if standard error is a terminal: the line of text at
-//! fault, or the limit that was broken. The files are read once more for it, so a run on a pipe does
-//! nothing of this.
+//! Help for people after the line of a refusal, if standard error is a terminal: the line of text
+//! at fault, or the limit that was broken. The files are read once more for it, so a run on a pipe
+//! does nothing of this.
 ghost use Rattle.std.specs.Prelude.{◌≡◌, false};
 
 use crate::command_line::{DuelWords, Request, TuneWords, request_of};
@@ -289,7 +289,8 @@ fn say_source<V: Write>(
     err.write_all(b"\n")
 }
 
-// Returns the line at an index, from 0, as a terminal can show it, or nothing if the text has fewer.
+// Returns the line at an index, from 0, as a terminal can show it, or nothing if the text has
+// fewer.
 fn line_at(text: &[u8], index: u64) -> &[u8] {
     match text.split(|byte| *byte == b'\n').nth(index as usize) {
         Some(line) => shown(line),
@@ -297,8 +298,8 @@ fn line_at(text: &[u8], index: u64) -> &[u8] {
     }
 }
 
-// Returns a line without the carriage return at its end, if it has no other bytes that would steer a
-// terminal.
+// Returns a line without the carriage return at its end, if it has no other bytes that would steer
+// a terminal.
 fn shown(line: &[u8]) -> &[u8] {
     let line = match line.strip_suffix(b"\r") {
         Some(front) => front,

@@ -39,10 +39,10 @@ pub fn an_accepted_certificate_names_the_optimum()
         × Appends report report_after (report_text (report_for i f values)) × Appends out out_after (check_line (Verdict.Accepted f.best f.total)) }
 {}
 
-/// States that accepted certificates of all parts name the optimum of the whole: whoever has a line of
-/// acceptance for each part knows that, of the parts with the greatest total, the first one's best
-/// setting is the optimum of all settings, with this total. Its index in the whole is counted on from
-/// where its part begins.
+/// States that accepted certificates of all parts name the optimum of the whole: whoever has a line
+/// of acceptance for each part knows that, of the parts with the greatest total, the first one's
+/// best setting is the optimum of all settings, with this total. Its index in the whole is counted
+/// on from where its part begins.
 pub fn accepted_parts_name_the_optimum()
     // A line of acceptance names what its certificate is accepted with.
     ensures line { (t : Texts) (bytes : List ℕ) (out out_after : Option (List ℕ)) → WritesVerdict t bytes true out out_after

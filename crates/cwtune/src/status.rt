@@ -31,8 +31,8 @@ pub(crate) fn end_part<V: Write>(err: &mut Outlet<V>) -> u8
     MISUSED
 }
 
-// Names the fault of a fight of two texts on standard error, with the file of the text that does not
-// assemble, and returns the exit status.
+// Names the fault of a fight of two texts on standard error, with the file of the text that does
+// not assemble, and returns the exit status.
 pub(crate) fn end_duel<V: Write>(
     err: &mut Outlet<V>,
     fault: RunFault,

@@ -139,8 +139,8 @@ fn append<'a>(
     Ok(())
 }
 
-// Refuses a ROF alone, an EQU in a block, and a line to which a ninth counter was to be joined. This
-// depends on nothing of a line but its word and whether it is spoiled.
+// Refuses a ROF alone, an EQU in a block, and a line to which a ninth counter was to be joined.
+// This depends on nothing of a line but its word and whether it is spoiled.
 fn check_line(head: &Head, in_block: bool) -> Result<(), ExpandFault>
     ensures allowed { MatchResult result (λ u. is_allowed head.now.word in_block head.now.spoiled ≡ true) (λ e. is_allowed head.now.word in_block head.now.spoiled ≡ false) }
     ensures kind { OnlyOf is_unroll_kind result }

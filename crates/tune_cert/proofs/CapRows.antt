@@ -53,8 +53,8 @@ pub besides_row : (p : Problem) (row : List (ℕ × ℕ)) → most_besides p (nu
 unfolding most_besides
 besides_row p row = ap (λ n. greatest_of p - n) (sym (most_row p row))
 
--- A row of fights from a on, against all fights from a on: it has at most as many, and they can give
--- at most as much; its scores and the most of the others are at least the scores of all.
+-- A row of fights from a on, against all fights from a on: it has at most as many, and they can
+-- give at most as much; its scores and the most of the others are at least the scores of all.
 pub record IsWithin (p : Problem) (w : WarriorView) (m a : ℕ) (row : List (ℕ × ℕ)) : Type 0 where
   pub few : length row ≤ m
   pub most : sum_by (most_of p) (numbers row) ≤ sum_by (most_of p) (range_with_len a m)

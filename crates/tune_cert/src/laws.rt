@@ -32,9 +32,9 @@ pub fn records_spell_at_most_one_certificate()
     ensures { (records : List Fields) (c d : Cert) → Spells records c → Spells records d → c ≡ d }
 {}
 
-/// States that tunings of all parts of the settings are a tuning of the whole: of the parts with the
-/// greatest total, the first one's optimum is the optimum of all settings, and has this total there.
-/// If no part has a candidate, the whole has none.
+/// States that tunings of all parts of the settings are a tuning of the whole: of the parts with
+/// the greatest total, the first one's optimum is the optimum of all settings, and has this total
+/// there. If no part has a candidate, the whole has none.
 ///
 /// A setting's index in the whole is its index in its part, counted on from where the part begins.
 pub fn the_best_part_has_the_optimum()

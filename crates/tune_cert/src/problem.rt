@@ -65,8 +65,8 @@ pub fn fight_points<C: Cells>(
     play(arena, warrior, opponent, fight)
 }
 
-/// Returns the greatest total that a setting can have: 3 points in each fight of the schedule, times
-/// the weight of the fight. At most 30000000.
+/// Returns the greatest total that a setting can have: 3 points in each fight of the schedule,
+/// times the weight of the fight. At most 30000000.
 #[tactic(auto, using(crate::proofs::Weights::greatest_is))]
 pub fn greatest_total(inputs: &Inputs) -> u32
     ensures greatest { result ≡ greatest_of (problem_of inputs.now) }

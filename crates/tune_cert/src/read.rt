@@ -21,9 +21,9 @@ use std::alloc::Global;
 ///
 /// The crate `csv` splits the bytes into records, so fields may be quoted and records may end with
 /// LF, CR or CR LF. Each record has three fields: `cwcert,V,N` with version V, 1 or 2, then
-/// `best,W,T`, then for each setting V from 0 on `refused,V,-`, `same,V,U`, or `cap,V,LIST` with a list of fights such as
-/// `0:3 4:1`, or `-` for none. Decimals are at most 4294967295 and have no leading zero. There may
-/// be more or fewer rows than N.
+/// `best,W,T`, then for each setting V from 0 on `refused,V,-`, `same,V,U`, or `cap,V,LIST` with a
+/// list of fights such as `0:3 4:1`, or `-` for none. Decimals are at most 4294967295 and have no
+/// leading zero. There may be more or fewer rows than N.
 ///
 /// # Errors
 ///

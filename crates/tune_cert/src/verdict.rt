@@ -8,8 +8,8 @@ pub enum Reason {
     /// The certificate does not have a row for each setting of the template, or claims another
     /// count.
     RowCount,
-    /// The row of the best setting does not list every fight in order, or its points, each times the
-    /// weight of the fight, do not add up to the total.
+    /// The row of the best setting does not list every fight in order, or its points, each times
+    /// the weight of the fight, do not add up to the total.
     BestRow,
     /// A cap row names a setting that does not assemble, a fight that does not exist, or points
     /// other than the fight's.

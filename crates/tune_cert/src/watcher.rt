@@ -29,8 +29,8 @@ pub trait Watcher {
     /// Called after each setting.
     fn see(&mut self, standing: Standing);
 
-    /// Called by the commands of `cwtune` when the search or the check has ended, before anything is
-    /// written. Searches and checks do not call it.
+    /// Called by the commands of `cwtune` when the search or the check has ended, before anything
+    /// is written. Searches and checks do not call it.
     fn end(&mut self);
 }
 

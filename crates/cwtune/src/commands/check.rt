@@ -70,12 +70,12 @@ pub fn check_run<W: Write>(
     )
 }
 
-/// Checks a certificate of a tuning of one part of a template's settings, and writes the line of the
-/// verdict. Returns whether it is accepted.
+/// Checks a certificate of a tuning of one part of a template's settings, and writes the line of
+/// the verdict. Returns whether it is accepted.
 ///
 /// The settings are counted from 0 within the part, in the certificate and in the line. Tells
-/// `watcher` how far the check is. `check_run` is this run for part 1 of 1 with a silent watcher, and
-/// the rest is as there.
+/// `watcher` how far the check is. `check_run` is this run for part 1 of 1 with a silent watcher,
+/// and the rest is as there.
 ///
 /// # Errors
 ///

@@ -27,8 +27,8 @@ use tune_template::Part;
 /// Finds the optimum of one part of a template's settings as `tune_part_run` does, but plays every
 /// fight of every setting that assembles, and lists all of them in the certificate.
 ///
-/// The best setting, its total, the meaning of the texts, the order of writing and the errors are as
-/// in `tune_part_run`. Neither outlet must have failed.
+/// The best setting, its total, the meaning of the texts, the order of writing and the errors are
+/// as in `tune_part_run`. Neither outlet must have failed.
 ///
 /// # Errors
 ///

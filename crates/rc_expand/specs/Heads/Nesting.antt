@@ -20,8 +20,8 @@ nesting_by word.Rof line zero outermost next = Some (at_line line RofWithoutFor)
 nesting_by word.Rof line (suc n) outermost next = next n outermost
 nesting_by _ line n outermost next = next n outermost
 
--- the first FOR inside as many open blocks as may be open, or ROF outside of all; else the outermost FOR that is still
--- open at the end
+-- the first FOR inside as many open blocks as may be open, or ROF outside of all; else the
+-- outermost FOR that is still open at the end
 abbrev pub nesting_fault : (opened outermost : ℕ) → List Head → Option ExpandFault
 nesting_fault n outermost [] = if n == 0 then None else Some (at_line outermost ForWithoutRof)
 nesting_fault n outermost (h ∷ hs) = nesting_by h.word h.number n outermost (λ m line. nesting_fault m line hs)
