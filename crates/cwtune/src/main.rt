@@ -44,7 +44,7 @@ fn words_of(rt: &HostRuntime) -> io::Result<Vec<String>> {
     Ok(env::args(rt)?.skip(1).collect(rt.alloc())?)
 }
 
-// Runs the program with a line of progress, and with help after a refusal.
+// Runs the program with a progress line, and with help after a refusal.
 fn run_at_a_terminal<R: Read, W: Write, V: Write>(
     rt: &HostRuntime,
     words: &[String],
