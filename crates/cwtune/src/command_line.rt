@@ -259,7 +259,8 @@ fn with_files<'a>(
     let template =
         "Redcode source with lines `;@tune NAME LOW HIGH STEP START`, one for each open constant";
     let schedule =
-        "Table of fights: the line `opponent,position,first`, then one such as `0,4000,c` for each";
+        "Table of fights: the line `opponent,position,first`, then one such as `0,4000,c` for each; \
+         with weights, `opponent,position,first,weight` and `0,4000,c,5`";
     let opponents = file(
         alloc,
         "OPPONENT",
