@@ -6,7 +6,6 @@ ghost use Rattle.rc_expand.specs.Heads.NameTables.{AreLinks};
 ghost use Rattle.rc_expand.specs.Replace.{EqusLie, exempt_len_of_code, exempt_len, line_tokens, Replaces};
 ghost use Rattle.rc_expand.specs.Faults.{OnlyOf, is_replace_kind};
 ghost use Rattle.rc_expand.specs.Unroll.{Gives};
-ghost use Rattle.rc_expand.specs.Context.{IsContext};
 ghost use Rattle.rc_expand.specs.Replace.Lines.{as_list, line_word, own_labels, other_labels, made_line, line_of};
 ghost use Rattle.rc_expand.specs.Expansion.{LineLies};
 
@@ -52,7 +51,6 @@ pub(crate) fn split_labels<'a>(
 // Makes the line of the expansion for an unrolled line.
 #[tactic(auto, unfolding(crate::specs::Replace::Lines::line_of))]
 pub(crate) fn line_of(context: &Context, head: &Head) -> Result<Line, ExpandFault>
-    requires context { IsContext context.now }
     requires head { HeadLies context.now.source.now head.now }
     ensures line { Gives result (line_of context.now.source.now context.now.equs.now head.now) }
     ensures inside { IfOk result (LineLies context.now.source.now) }
@@ -199,7 +197,6 @@ fn make_line(
     word: HeadWord,
     tokens: &[Token],
 ) -> Result<Line, ExpandFault>
-    requires context { IsContext context.now }
     requires labels { labels ≡ own_labels context.now.source.now head.now.labels }
     requires labels_inside { All (LiesIn context.now.source.now) labels }
     requires inside { All (LiesIn context.now.source.now) tokens.now }
