@@ -9,7 +9,7 @@ ghost use Rattle.rc_expand.specs.Heads.Faults.{IsEnding, IsTextFault};
 
 use crate::fault::{ExpandFault, ExpandKind};
 use crate::heads::head::{Head, HeadWord, Labels};
-use crate::heads::words::{clone_token, is_ampersand, is_colon, is_free, with_front, word_of};
+use crate::heads::words::{clone_token, clone_tokens, is_ampersand, is_colon, is_free, word_of};
 use crate::line::Tokens;
 use rc_text::{Kind, Lexer, Token};
 use std::alloc::{AllocError, Global};
@@ -106,14 +106,15 @@ fn read_labels(
     ensures place { IfOk result (λ p. p.1 ≤ length tokens.now) }
     ensures inside { IfOk result (λ p. All (All (LiesIn source.now)) p.0) }
 {
-    let mut labels = Vec::new(alloc);
+    let mut labels = Labels::none(alloc);
     let mut at = 0;
     'line: while begins_label(source, tokens, at) {
         let end = label_end(source, tokens, at + 1);
-        labels.push(with_front(alloc, &tokens[at..end], Vec::new(alloc))?)?;
+        let label = clone_tokens(alloc, &tokens[at..end])?;
+        labels = labels.with(alloc, label)?;
         at = end;
     }
-    Ok((Labels::from_vec(labels), at))
+    Ok((labels, at))
 }
 
 // Reads a line from its tokens.
@@ -141,7 +142,7 @@ fn read_head(
     }
     let word = word_of(source, &tokens[at]);
     if word == HeadWord::Code {
-        let rest = with_front(alloc, &tokens[at..], Vec::new(alloc))?;
+        let rest = clone_tokens(alloc, &tokens[at..])?;
         return Ok(Head {
             number,
             labels,
@@ -152,7 +153,7 @@ fn read_head(
         });
     }
     let directive = clone_token(&tokens[at])?;
-    let rest = with_front(alloc, &tokens[at + 1..], Vec::new(alloc))?;
+    let rest = clone_tokens(alloc, &tokens[at + 1..])?;
     Ok(Head {
         number,
         labels,

@@ -1,5 +1,5 @@
-use Rattle.std.proofs.Common.{◌≡◌, ◌+◌, ◌<◌, ◌-◌, arith, length, [], get_or, drop}
-use Rattle.std.proofs.lemmas.List.Elements.{All-same, All-append, All-take, All-drop, All-nil}
+use Rattle.std.proofs.Common.{◌≡◌, ◌+◌, ◌<◌, ◌-◌, arith, length, get_or, drop}
+use Rattle.std.proofs.lemmas.List.Elements.{All-same, All-take, All-drop}
 use Rattle.rc_text.specs.Symbols.{LiesIn}
 use Rattle.rc_expand.proofs.Unrolling.Copies.{same_read, item_lies}
 use Rattle.rc_expand.proofs.heads.read.read_head.Goals as goal
@@ -15,7 +15,5 @@ returns-clause-inside c =
       labels = c.in_ok-labels.ensures.inside;
       directive = item_lies source tokens c.in_ok-labels.at c.in_ok-directive.directive h is c.requires;
       rest = All-same (LiesIn source) c.in_ok-rest-2.rest _ c.in_ok-rest-2.ensures
-          (All-append (LiesIn source) _ c.new-2.result.items
-          (All-take (LiesIn source) (length tokens - (c.in_ok-labels.at + 1)) (drop (c.in_ok-labels.at + 1) tokens) (All-drop (LiesIn source) (c.in_ok-labels.at + 1) tokens c.requires))
-          (All-same (LiesIn source) c.new-2.result.items [] c.new-2.ensures.items (All-nil (LiesIn source))));
+          (All-take (LiesIn source) (length tokens - (c.in_ok-labels.at + 1)) (drop (c.in_ok-labels.at + 1) tokens) (All-drop (LiesIn source) (c.in_ok-labels.at + 1) tokens c.requires));
     }
