@@ -7,3 +7,4 @@ pub mod PlainLines
 pub mod Reading
 pub mod Unrolling
 pub mod Replacing
+pub mod Finishing

@@ -11,4 +11,5 @@ pub mod Expansion
 pub mod Faults
 pub mod Steps
 pub mod Context
+pub mod Finish
 pub mod Examples

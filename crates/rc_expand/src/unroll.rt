@@ -12,6 +12,7 @@ ghost use Rattle.rc_expand.specs.Context.{table, IsContext, unrolled_by, block_b
 
 pub(crate) mod copy;
 pub(crate) mod opening;
+pub(crate) mod plain;
 pub(crate) mod reached;
 
 use crate::context::Context;

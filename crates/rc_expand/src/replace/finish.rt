@@ -143,7 +143,7 @@ fn exempt_len_of_code(source: &[u8], tokens: &[Token]) -> usize
 }
 
 // Counts the tokens that EQU names do not replace at the front of a line.
-fn exempt_len(source: &[u8], word: HeadWord, tokens: &[Token]) -> usize
+pub(crate) fn exempt_len(source: &[u8], word: HeadWord, tokens: &[Token]) -> usize
     requires { All (LiesIn source.now) tokens.now }
     ensures exempt { result ≡ exempt_len source.now word tokens.now }
     ensures room { result ≤ length tokens.now }
@@ -179,7 +179,7 @@ fn line_tokens(
 }
 
 // Converts the word of a line. Anything that is left and not a directive is code.
-fn line_word(word: HeadWord) -> LineWord
+pub(crate) fn line_word(word: HeadWord) -> LineWord
     ensures { result ≡ line_word word }
 {
     match word {
