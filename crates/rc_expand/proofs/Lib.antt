@@ -1,4 +1,5 @@
 pub mod NameSteps
+pub mod ShortNames
 pub mod Each
 pub mod TableSteps
 pub mod Distinct
