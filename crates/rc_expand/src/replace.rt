@@ -11,6 +11,7 @@ ghost use Rattle.rc_expand.specs.Replace.{EqusLie, one, equ_at, inner_at, replac
 pub(crate) mod finish;
 pub(crate) mod labelling;
 pub(crate) mod links;
+pub(crate) mod moving;
 
 use crate::fault::{ExpandFault, ExpandKind};
 use crate::heads::equs::Equ;

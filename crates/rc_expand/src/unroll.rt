@@ -13,6 +13,7 @@ ghost use Rattle.rc_expand.specs.Context.{table, unrolled_by, block_by, copy_by,
 
 pub(crate) mod copy;
 pub(crate) mod opening;
+pub(crate) mod plain;
 pub(crate) mod reached;
 
 use crate::context::Context;

@@ -164,7 +164,7 @@ fn earliest_clash<'a>(
 }
 
 // Adds the labels of a line to those seen.
-fn check_line<'a>(
+pub(crate) fn check_line<'a>(
     context: &Context<'a>,
     seen: &mut NameTable<'a, u64>,
     line: &Line,

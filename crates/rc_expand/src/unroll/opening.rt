@@ -183,7 +183,7 @@ pub(crate) fn earlier_labels(
     ensures inside { IfOk result (All (All (LiesIn source.now))) }
 {
     if labels.len() == 0 {
-        return Ok(Labels::from_vec(Vec::new(alloc)));
+        return Ok(Labels::none(alloc));
     }
     clone_labels(alloc, &labels[..labels.len() - 1])
 }
