@@ -1,6 +1,7 @@
 #!/bin/sh
 # Tunes the templates of tuning/ against five warriors of warriors/, without weights and the stone
-# with weights too, prints the reports, and compares them with those in tuning/. Ends with status 0 if they are as expected, otherwise with 1.
+# with weights too, prints the reports, and compares them with those in tuning/. Ends with status 0
+# if they are as expected, otherwise with 1.
 # Use: examples/tune.sh [PROGRAM]
 
 here=$(dirname "$0")

@@ -8,9 +8,8 @@ template, which `cwtune check` accepts. Nothing here has to be trusted: the part
 were checked, and CERT can be.
 
 GNU parallel runs the parts (Debian package `parallel`), or `xargs -P` where it is missing. What the
-parts wrote stays in the folder CERT.parts until the tuning is done. The numbers of
-parts without a result, as after a kill, are printed at the end; with --resume only such parts run
-again.
+parts wrote stays in the folder CERT.parts until the tuning is done. The numbers of parts without a
+result, as after a kill, are printed at the end; with --resume only such parts run again.
 
 Exit status, as that of `cwtune`: 0 done; 1 the input is refused; 2 usage error; 3 a part has no
 result, or a file cannot be read or written.

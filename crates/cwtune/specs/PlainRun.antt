@@ -23,7 +23,7 @@ pub record IsFound (p : Problem) (f : Found) : Type 0 where
   pub count : f.candidates ≡ candidates_of p
   pub few : length f.rows ≤ 1000000
 
--- What a plain search finds: the rows of the candidates list all fights, and so many were played.
+-- What a plain search finds: the rows of the candidates list all fights, and each was played.
 pub record IsPlainSearch (p : Problem) (f : Found) : Type 0 where
   pub found : IsFound p f
   pub rows : f.rows ≡ rows_of p

@@ -47,6 +47,7 @@ texts template opponents schedule rules = part_texts template opponents schedule
 abbrev pub of_part : Texts → ℕ → ℕ → Texts
 of_part t number parts = part_texts t.template t.opponents t.schedule t.rules (part number parts)
 
+-- The text is a template, with these ranges.
 abbrev pub IsTemplate : List ℕ → TemplateView → Type 0
 IsTemplate text t = (t.text ≡ text) × HasRanges text t.ranges
 

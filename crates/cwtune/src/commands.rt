@@ -1,4 +1,4 @@
-//! The four commands, each from bytes to what it writes, and from its words to an exit status.
+//! The commands, each from bytes to what it writes, and from its words to an exit status.
 
 mod asm;
 mod check;

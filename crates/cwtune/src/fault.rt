@@ -10,7 +10,7 @@ use thiserror::Error;
 use tune_template::TemplateFault;
 
 /// Why a run ends without its answer. If several faults apply, the first in this order is returned,
-/// but for `Part`, which comes before `NoCandidate`.
+/// except that `Part` comes before `NoCandidate`, and `Position` last in a fight of two texts.
 ///
 /// `FightText`, `Rules`, `Load` and `Position` are of fights; `Asm` is of an assembly, and of the
 /// candidate's text in a fight of two texts, whose other text is `Opponent` with index 0;

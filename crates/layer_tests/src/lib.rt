@@ -1,5 +1,5 @@
-//! Tests of the layers below the program: one module for each crate, except that `assembly` tests
-//! both `rc_expand` and `rc_asm`. `opponents` has what several modules share.
+//! Tests of the layers below the program: a module for each crate (`assembly` is of `rc_expand` and
+//! `rc_asm`), and `memory`, `parts` and `watchers`. `opponents` has what several modules share.
 //!
 //! They show that each public call can succeed, and what neither a clause says nor a run of the
 //! program shows, such as the texts of faults. What a run shows is a case in `cases/`. They are a

@@ -6,6 +6,7 @@ use Rattle.rc_instr.specs.declared.instruction.Instruction.{Instruction}
 use Rattle.mars_core.specs.Numbers.{field_of, with_field}
 use Rattle.mars_core.specs.Numbers.{Field}
 
+-- The instruction at an address.
 unfoldable pub cell_at : List Instruction → ℕ → Instruction
 cell_at core at = slice_index_or core at empty_cell
 

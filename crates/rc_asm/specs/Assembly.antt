@@ -70,6 +70,7 @@ module _ (source : List ℕ) (names : NameValues) where
   starts_from at s [] = Some s
   starts_from at s (l ∷ ls) = option_and_then (λ r. starts_from (code_lines_after l.word at) r ls) (starts_after l.word l.tokens (value_at source names at 0 l.tokens) s)
 
+-- what gives the names of a text their values
 abbrev pub names_of : List ℕ → Table → RulesView → List Line → NameValues
 names_of source constants rules lines = record { constants = constants; rules = rules; address = entry_of (labels_of source lines) }
 
@@ -100,6 +101,7 @@ abbrev pub made_by : RulesView → Option (List Instruction) → Bool → Option
 made_by rules (Some code) true (Some s) = fitting rules code (start_value s)
 made_by rules code holds s = None
 
+-- the warrior that the lines make, computed
 abbrev pub made_of : List ℕ → NameValues → List Line → Option WarriorView
 made_of source names lines = made_by names.rules (instructions_from source names 0 lines) (holds_from source names 0 lines) (starts_from source names 0 no_starts lines)
 

@@ -15,7 +15,7 @@ use Rattle.rc_expand.specs.Names.{Table, or_else, given_names, CURLINE}
 abbrev pub Labels : Type 0
 Labels = List (List ℕ × ℕ)
 
--- the lines of code up to and including a line, from the `at` before it
+-- the number of lines of code up to and including a line, with `at` of them before it
 abbrev pub code_lines_after : LineWord → ℕ → ℕ
 code_lines_after Code at = at + 1
 code_lines_after _ at = at

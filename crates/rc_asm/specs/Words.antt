@@ -1,5 +1,5 @@
--- The words and signs of a line of code. Opcodes, modifiers and `# $ @ < >` are the 1994 draft's;
--- SEQ, SNE, NOP and `* { }` are pMARS's and the draft's additions.
+-- The words and signs of a line of code. Opcodes, modifiers and modes are the 1994 draft's; SEQ,
+-- SNE and NOP are pMARS's.
 use Rattle.std.specs.Prelude.{ℕ, Bool, true, false, ◌&&◌, List, [], ◌∷◌, map, Option, Some, None, if◌then◌else◌, codes}
 use Rattle.std.specs.Char.{to_ascii_lowercase}
 use Rattle.std.specs.Str.{bytes_eq}

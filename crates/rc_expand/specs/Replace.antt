@@ -48,6 +48,7 @@ module _ (source : List ℕ) where
   exempt_len _ ts = 0
 
 module _ (source : List ℕ) (equs : Equs) where
+  -- the tokens of the EQU name that a token is, if it is one
   abbrev pub equ_at : Token → Option (List Token)
   equ_at t = if is_name_token t then entry_of equs (name_of source t) else None
 

@@ -82,6 +82,7 @@ small_count (negsuc n) = Some 0
 small_count (pos n) = if nat_le n MOST_COPIES then Some n else None
 
 module _ (constants : Table) (rules : RulesView) where
+  -- a constant or a predefined name, CURLINE included
   unfoldable pub is_taken : List ℕ → Bool
   is_taken name = is_some (given_names constants rules name) || bytes_eq name CURLINE
 
@@ -90,6 +91,7 @@ module _ (constants : Table) (rules : RulesView) where
   is_known equs name = is_taken name || is_some (entry_of equs name)
 
 module _ (source : List ℕ) where
+  -- a name that spells the counter
   abbrev pub is_use : List ℕ → Token → Bool
   is_use counter t = is_name_token t && bytes_eq (name_of source t) counter
 
@@ -268,6 +270,7 @@ cut_by word.Rof zero goes_on ends = Some ends
 cut_by word.Rof (suc n) goes_on ends = goes_on n
 cut_by _ n goes_on ends = goes_on n
 
+-- cuts lines at the ROF of the block that they are in; `n` blocks inside it are open at first
 abbrev pub cut : ℕ → List Head → Option Cut
 cut n [] = None
 cut n (h ∷ hs) = cut_by h.word n (λ m. option_map (longer (h ∷ [])) (cut m hs)) (record { block = []; rof = h; after = hs })

@@ -42,10 +42,10 @@ use std::alloc::Global;
 ///   without its partner.
 /// - `BadDirective`, `DuplicateName`: an EQU line without exactly one plain name before EQU, or
 ///   whose name is taken.
-/// - While blocks are unrolled: `BadDirective` for a ROF with labels or tokens beside it (checked
-///   first), a counter that is not a plain name, an EQU in a block, or a ninth counter joined to a
-///   name; `DuplicateName` for a counter that is taken; `EquTooDeep`, `TooManyTokens` or
-///   `CountRefused` for a count that cannot be replaced, has no value or is above 4096;
+/// - While blocks are unrolled: `BadDirective` for a ninth counter joined to a name, a counter that
+///   is not a plain name, an EQU in a block, or, after the lines of its block, a ROF with labels or
+///   tokens beside it; `DuplicateName` for a counter that is taken; `EquTooDeep`, `TooManyTokens`
+///   or `CountRefused` for a count that cannot be replaced, has no value or is above 4096;
 ///   `TooManyLines` for more than 4096 lines and copies.
 /// - `DuplicateName`: a label that is defined twice, or is an EQU name, a constant or a predefined
 ///   name; `EquTooDeep`: EQU names nested more than 16 deep; `TooManyTokens`: more than 4096 tokens

@@ -36,6 +36,7 @@ is_lower_of words name = list_any (λ word. bytes_eq (map to_ascii_lowercase wor
 unfoldable pub is_opcode_word : List ℕ → Bool
 is_opcode_word name = is_one_of draft_opcodes name || is_one_of added_opcodes name
 
+-- an opcode or a directive, in any case
 abbrev pub is_reserved : List ℕ → Bool
 is_reserved name = is_one_of draft_opcodes name || (is_one_of added_opcodes name || is_one_of directives name)
 
@@ -43,6 +44,7 @@ is_reserved name = is_one_of draft_opcodes name || (is_one_of added_opcodes name
 abbrev pub predefined_names : List (List ℕ)
 predefined_names = codes "CORESIZE" ∷ codes "MAXPROCESSES" ∷ codes "MAXCYCLES" ∷ codes "MAXLENGTH" ∷ codes "MINDISTANCE" ∷ codes "WARRIORS" ∷ codes "VERSION" ∷ codes "CURLINE" ∷ []
 
+-- one of the predefined names, case included
 abbrev pub is_predefined : List ℕ → Bool
 is_predefined name = list_any (λ word. bytes_eq name word) predefined_names
 

@@ -8,6 +8,7 @@ use Rattle.tune_search.specs.Visits.{place, IsLeadAfter, IsFought}
 use Rattle.tune_search.specs.Recent.{NoneHas, Has, IsRecent}
 use Rattle.tune_search.specs.declared.lead.Lead.{Lead}
 
+-- Setting v is the lead.
 abbrev pub leads : ℕ → Option Lead → Bool
 leads v None = false
 leads v (Some lead) = lead.vector == v

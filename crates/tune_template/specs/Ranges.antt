@@ -81,6 +81,7 @@ abbrev pub at_line : {A : Type 0} → ℕ → Result A TemplateKind → Result A
 at_line n (Ok x) = Ok x
 at_line n (Err k) = Err (record { line = n; kind = k })
 
+-- a range line adds its constant; any other line adds nothing
 abbrev pub line_added : ℕ → Ranges → List ℕ → Result Ranges TemplateFault
 line_added n r line = if is_range_line line then at_line n (range_added r line) else Ok r
 
@@ -97,5 +98,6 @@ ranges_from n r (line ∷ lines) = then_from (line_added n r line) (λ s. ranges
 unfoldable pub ranges_of : List ℕ → Result Ranges TemplateFault
 ranges_of text = if nat_le (length text) 65536 then ranges_from 1 (ranges [] []) (lines_of text) else Err (record { line = 0; kind = TextTooLong })
 
+-- the text is a template with these ranges
 abbrev pub HasRanges : List ℕ → Ranges → Type 0
 HasRanges text r = ranges_of text ≡ Ok r

@@ -52,7 +52,7 @@ pub fn duel_run<W: Write>(
         IsDuelRefusal e (duel candidate.now opponent.now rules.now position first) × (out.new ≡ out.old)) }
     ensures write { IsErrOf result RunFault.Write ↔ IsTrue out.new.failed }
 
-    // A duel is not refused.
+    // Texts that assemble, at a position that keeps the distance, are not refused.
     ensures meaning { (c o : WarriorView) → NamesDuel (duel candidate.now opponent.now rules.now position first) c o
         → IfErr result (λ e. (e ≡ RunFault.Write) ⊎ (e ≡ RunFault.OutOfMemory)) }
 {

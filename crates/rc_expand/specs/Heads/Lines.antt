@@ -1,5 +1,5 @@
--- Lines: labels, a word, and what comes after it (labels and colons are from the 1994 draft and
--- pMARS, names joined by `&` from pMARS).
+-- Lines: labels, a word, and what comes after it (labels are from the 1994 draft, colons and names
+-- joined by `&` from pMARS).
 use Rattle.std.specs.Prelude.{ℕ, suc, Bool, true, false, ◌&&◌, ◌||◌, not, List, [], ◌∷◌, ◌++◌, Option, Some, None, if◌then◌else◌, option_map, IfSome, All, codes, slice_range}
 use Rattle.rc_text.specs.declared.token.Sign.TheVariants.{Ampersand, Colon, Dot}
 use Rattle.rc_text.specs.declared.token.Kind.{Kind}

@@ -1,5 +1,5 @@
--- How blocks nest, by trees: FOR and ROF pair up like parentheses (pMARS), and only so many blocks
--- are open at once as the limit says.
+-- How blocks nest, by trees: FOR and ROF pair up like parentheses (pMARS), and at most
+-- `DEEPEST_BLOCK` blocks are open at once.
 use Rattle.std.specs.Prelude.{◌≡◌, ℕ, zero, suc, ◌==◌, nat_lt, Bool, true, false, List, [], ◌∷◌, ◌++◌, Option, Some, None, if◌then◌else◌, ◌⊎◌}
 use Rattle.rc_expand.specs.declared.heads.head.Head.{Head}
 use Rattle.rc_expand.specs.declared.heads.head.HeadWord.{HeadWord}
