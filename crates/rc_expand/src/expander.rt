@@ -8,7 +8,6 @@ ghost use Rattle.rc_expand.specs.Faults.{IsInTurn};
 ghost use Rattle.rc_text.specs.Tokens.{tokens_of};
 ghost use Rattle.rc_expand.specs.declared.heads.head.Head.{Head};
 ghost use Rattle.rc_expand.specs.Heads.Lines.{HeadLies, lines_read};
-ghost use Rattle.rc_expand.specs.Context.{IsContext};
 ghost use Rattle.rc_expand.specs.Finish.{FinishesBy};
 
 use crate::constants::Constants;
@@ -103,7 +102,6 @@ fn expand_text(
 // Finishes the expansion of the lines that were read. Those of a text without blocks are moved. If
 // that fails, they are read once more, since the fault of the expansion is found without moving.
 fn expand_heads(context: &Context, heads: Vec<Head>) -> Result<Expanded, ExpandFault>
-    requires context { IsContext context.now }
     requires lies { All (HeadLies context.now.source.now) heads.items }
     requires read { lines_read context.now.source.now (tokens_of context.now.source.now) ≡ Some heads.items }
     ensures { FinishesBy context.now heads.items result }
@@ -123,7 +121,6 @@ fn expand_heads(context: &Context, heads: Vec<Head>) -> Result<Expanded, ExpandF
 
 // Reads the lines again, and finishes their expansion.
 fn finish_again(context: &Context) -> Result<Expanded, ExpandFault>
-    requires context { IsContext context.now }
     ensures { (hs : List Head) → lines_read context.now.source.now (tokens_of context.now.source.now) ≡ Some hs → FinishesBy context.now hs result }
 {
     let heads = read_lines(context.alloc, context.source)?;
@@ -132,7 +129,6 @@ fn finish_again(context: &Context) -> Result<Expanded, ExpandFault>
 
 // Finishes the expansion of the lines that were read.
 fn finish_heads(context: &Context, heads: &[Head]) -> Result<Expanded, ExpandFault>
-    requires context { IsContext context.now }
     requires lies { All (HeadLies context.now.source.now) heads.now }
     ensures { FinishesBy context.now heads.now result }
 {

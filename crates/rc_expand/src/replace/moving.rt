@@ -4,7 +4,7 @@ ghost use Rattle.std.specs.Prelude.{◌≡◌, ◌≤◌, ◌++◌, List, ℕ, m
 ghost use Rattle.rc_text.specs.Symbols.{name_of};
 ghost use Rattle.rc_expand.specs.Heads.Lines.{HeadLies};
 ghost use Rattle.rc_expand.specs.Steps.{names_in, are_fresh};
-ghost use Rattle.rc_expand.specs.Context.{table, IsContext, is_new_label_by};
+ghost use Rattle.rc_expand.specs.Context.{table, is_new_label_by};
 ghost use Rattle.rc_expand.specs.Replace.{line_tokens};
 ghost use Rattle.rc_expand.specs.Replace.Lines.{line_of, replaced};
 ghost use Rattle.rc_expand.specs.Expansion.{LineLies};
@@ -22,7 +22,6 @@ use std::collections::VecDeque;
 
 // Makes the lines of the expansion, as `replace_lines` does. A fault says only that there is one.
 pub(crate) fn move_lines(context: &Context, heads: Vec<Head>) -> Result<Vec<Line>, ExpandFault>
-    requires context { IsContext context.now }
     requires lies { All (HeadLies context.now.source.now) heads.items }
     ensures lines { IfOk result (λ v. replaced (table context.now) context.now.rules.now context.now.source.now context.now.equs.now heads.items ≡ Some v.items) }
     ensures inside { IfOk result (λ v. All (LineLies context.now.source.now) v.items) }
@@ -48,7 +47,6 @@ fn take_head<'a>(
     seen: &mut NameTable<'a, u64>,
     head: Head,
 ) -> Result<Line, ExpandFault>
-    requires context { IsContext context.now }
     requires lies { HeadLies context.now.source.now head }
     ensures line { IfOk result (λ l. (line_of context.now.source.now context.now.equs.now head ≡ Some l)
         × ((rest : List (List ℕ)) → are_fresh (is_new_label_by context.now) (names_in seen.old) (map (name_of context.now.source.now) l.labels ++ rest) ≡ are_fresh (is_new_label_by context.now) (names_in seen.new) rest)) }
@@ -62,7 +60,6 @@ fn take_head<'a>(
 // Checks that a line keeps its tokens: none is an EQU name, and they are not too many.
 #[tactic(auto, using(crate::proofs::Replacing::Settled::line_settled))]
 fn keeps_tokens(context: &Context, head: &Head) -> bool
-    requires context { IsContext context.now }
     requires lies { HeadLies context.now.source.now head.now }
     ensures tokens { result ≡ true → line_tokens context.now.source.now context.now.equs.now head.now.word head.now.rest ≡ Some head.now.rest }
     ensures few { result ≡ true → length head.now.rest ≤ MOST_TOKENS }
@@ -78,7 +75,6 @@ fn keeps_tokens(context: &Context, head: &Head) -> bool
 // Makes the line of the expansion. Its tokens are moved, unless they are replaced or a would-be
 // label is one of them.
 fn move_line(context: &Context, head: Head) -> Result<Line, ExpandFault>
-    requires context { IsContext context.now }
     requires lies { HeadLies context.now.source.now head }
     ensures line { IfOk result (λ l. line_of context.now.source.now context.now.equs.now head ≡ Some l) }
     ensures inside { IfOk result (LineLies context.now.source.now) }
