@@ -40,7 +40,7 @@ pub(crate) fn read_lines(
     ensures memory { IfErr result (λ f. f.kind ≡ OutOfMemory → f.line ≡ 0) }
 {
     let mut reading = Reading {
-        code: Vec::new(alloc),
+        code: Vec::with_capacity(alloc, lines.len())?,
         starts: Starts::none(),
     };
     let mut rest = lines;
