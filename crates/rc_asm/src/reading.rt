@@ -1,4 +1,4 @@
-//! The second pass: evaluates the lines in order.
+//! The values of the lines, in order.
 ghost use Rattle.std.specs.Prelude.{◌≡◌, ◌≢◌, ◌<◌, ◌^◌, All, IfErr, IfOk, Some, None, length};
 ghost use Rattle.std.specs.Result.{result_err};
 ghost use Rattle.rc_text.specs.Symbols.{LiesIn};
