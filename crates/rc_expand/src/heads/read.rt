@@ -14,6 +14,9 @@ use crate::line::Tokens;
 use rc_text::{Kind, Lexer, Token};
 use std::alloc::{AllocError, Global};
 
+// About as many bytes as a line has: so much room is made for lines at once.
+const BYTES_OF_A_LINE: usize = 24;
+
 // Reads the lines of a text, up to the first with END.
 #[tactic(auto, unfolding(crate::specs::Heads::Lines::lines_read))]
 pub(crate) fn read_lines(alloc: Global, source: &[u8]) -> Result<Vec<Head>, ExpandFault>
@@ -22,7 +25,7 @@ pub(crate) fn read_lines(alloc: Global, source: &[u8]) -> Result<Vec<Head>, Expa
     ensures inside { IfOk result (λ v. All (HeadLies source.now) v.items) }
 {
     let mut lexer = Lexer::new(source);
-    let mut heads = Vec::new(alloc);
+    let mut heads = Vec::with_capacity(alloc, source.len() / BYTES_OF_A_LINE)?;
     let mut line = Vec::new(alloc);
     while let Some(token) = next_token(&mut lexer)? {
         if is_line_end(&token) {
