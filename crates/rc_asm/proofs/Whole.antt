@@ -9,14 +9,14 @@ use Rattle.rc_instr.specs.Rules.{RulesView, IsRules}
 use Rattle.rc_instr.specs.Warrior.{WarriorView, warrior_view, IsWarrior, IsBelow, Fits}
 use Rattle.rc_instr.specs.WarriorRefusal.{IsWarriorError}
 use Rattle.rc_expand.specs.declared.line.Line.{Line}
-use Rattle.rc_expand.specs.Names.{Table, entry_of}
+use Rattle.rc_expand.specs.Names.{Table, entry_of, or_else}
 use Rattle.rc_expand.specs.Expansion.{IsExpansion}
 use Rattle.rc_asm.specs.declared.fault.AsmKind.TheVariants.{OutOfMemory}
 use Rattle.rc_asm.specs.declared.starts.Starts.{Starts}
 use Rattle.rc_asm.specs.declared.fault.AsmFault.{AsmFault}
 use Rattle.rc_asm.specs.Names.{NameValues, Labels, labels_of}
 use Rattle.rc_asm.specs.Assembly.{start_value, no_starts, starts_from, names_of, IsMadeOf, Assembles}
-use Rattle.rc_asm.specs.Faults.{IsWarriorFault, IsFaultOfCode, IsFaultOfLines, IsAsmFault}
+use Rattle.rc_asm.specs.Faults.{forms_fault, values_fault, IsWarriorFault, IsFaultOfCode, IsFaultOfLines, IsAsmFault}
 use Rattle.rc_asm.specs.Steps.{GiveNothing, IsStarted, Agree}
 use Rattle.rc_asm.proofs.Steps.{faulty}
 
@@ -115,6 +115,16 @@ pub lines_refused : {A : Type 0} (source : List ℕ) (constants : Table) (rules 
     → IfErr r (λ f. f.kind ≢ OutOfMemory → IsFaultOfLines source (names_of source constants rules lines) lines f) → IfErr r (λ f. f.kind ≢ OutOfMemory → IsAsmFault source constants rules f)
 lines_refused source constants rules lines (Ok x) s e h = h
 lines_refused source constants rules lines (Err f) s e h = λ m. inr (inr (s, lines, e, h m))
+
+-- a malformed line comes before any other fault
+pub form_first : (source : List ℕ) (names : NameValues) (lines : List Line) (found f : AsmFault) → Some f ≡ or_else (forms_fault source lines) (Some found)
+    → (found.kind ≢ OutOfMemory → forms_fault source lines ≡ None → IsFaultOfLines source names lines found) → f.kind ≢ OutOfMemory → IsFaultOfLines source names lines f
+form_first source names lines found f e h m = by_form (forms_fault source lines) refl e where
+  by_form : (k : Option AsmFault) → forms_fault source lines ≡ k → Some f ≡ or_else k (Some found) → IsFaultOfLines source names lines f
+  by_form (Some g) p q = inl (ap (λ k. or_else k (values_fault source names 0 lines)) p ∙ sym q)
+  by_form None p q =
+      let s : found ≡ f = sym (some_is f found q) in
+      subst (λ g. IsFaultOfLines source names lines g) s (h (λ r. m (ap (λ (g : AsmFault). g.kind) (sym s) ∙ r)) p)
 
 -- names with equal labels are equal
 pub same_names : (source : List ℕ) (constants : Table) (rules : RulesView) (lines : List Line) (labels : Labels) → Agree labels (labels_of source lines)

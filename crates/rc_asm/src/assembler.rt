@@ -1,6 +1,6 @@
-//! The assembler: expansion, the forms of the lines, their values, and the warrior.
+//! The assembler: expansion, the values of the lines, their forms if that fails, and the warrior.
 ghost use Rattle.std.specs.Prelude.{◌≡◌, ◌≢◌, ◌↔◌, ◌<◌, ◌^◌, ◌-◌, ℕ, pos, All, IfErr, IfOk, Some, None};
-ghost use Rattle.rc_expand.specs.Names.{table_of};
+ghost use Rattle.rc_expand.specs.Names.{table_of, or_else};
 ghost use Rattle.rc_expand.specs.Expansion.{LineLies};
 ghost use Rattle.rc_instr.specs.Warrior.{IsBelow, WarriorView, IsWarrior, Fits};
 ghost use Rattle.rc_instr.specs.Rules.{IsRules};
@@ -103,7 +103,7 @@ fn warrior_of(reading: Reading, rules: &Rules) -> Result<Warrior, WarriorError>
     }
 }
 
-// The second pass and the warrior. All lines have passed `check_forms`.
+// The values of the lines and the warrior. A fault is the first one if all lines are well formed.
 fn assemble_with(
     alloc: Global,
     source: &[u8],
@@ -111,11 +111,10 @@ fn assemble_with(
     lines: &[Line],
 ) -> Result<Warrior, AsmFault>
     requires lines { All (LineLies source.now) lines.now }
-    requires forms { forms_fault source.now lines.now ≡ None }
     ensures made { IfOk result (IsMadeOf source.now (seen_names context.now) lines.now) }
     ensures warrior { IfOk result IsWarrior }
     ensures fits { IfOk result (Fits context.now.rules.now) }
-    ensures refused { IfErr result (λ f. f.kind ≢ OutOfMemory → IsFaultOfLines source.now (seen_names context.now) lines.now f) }
+    ensures refused { IfErr result (λ f. f.kind ≢ OutOfMemory → forms_fault source.now lines.now ≡ None → IsFaultOfLines source.now (seen_names context.now) lines.now f) }
     ensures memory { IfErr result (λ f. f.kind ≡ OutOfMemory → f.line ≡ 0) }
 {
     prove!(0 < context.rules.core());
@@ -129,7 +128,20 @@ fn assemble_with(
     }
 }
 
-// Both passes over the expanded lines.
+// Returns the fault of the first line that is malformed, or else `found`.
+fn first_fault(source: &[u8], lines: &[Line], found: AsmFault) -> AsmFault
+    requires lines { All (LineLies source.now) lines.now }
+    ensures fault { Some result ≡ or_else (forms_fault source.now lines.now) (Some found) }
+    ensures memory { (found.kind ≡ OutOfMemory → found.line ≡ 0) → result.kind ≡ OutOfMemory → result.line ≡ 0 }
+{
+    match check_forms(source, lines) {
+        Ok(()) => found,
+        Err(malformed) => malformed,
+    }
+}
+
+// Assembles the expanded lines. A line that is malformed has no value, so their forms are checked
+// only if that fails: the form of a line is parsed once.
 fn assemble_lines(
     alloc: Global,
     source: &[u8],
@@ -145,12 +157,14 @@ fn assemble_lines(
         IsFaultOfLines source.now (names_of source.now (table_of constants.now.names.now constants.now.values.now) rules.now lines.now) lines.now f) }
     ensures memory { IfErr result (λ f. f.kind ≡ OutOfMemory → f.line ≡ 0) }
 {
-    check_forms(source, lines)?;
     let labels = Labels::of_lines(alloc, source, lines)?;
     let context = Context {
         constants,
         rules,
         labels: &labels,
     };
-    assemble_with(alloc, source, &context, lines)
+    match assemble_with(alloc, source, &context, lines) {
+        Ok(warrior) => Ok(warrior),
+        Err(found) => Err(first_fault(source, lines, found)),
+    }
 }

@@ -1,4 +1,4 @@
-//! The second pass: evaluates the lines in order.
+//! The values of the lines, in order.
 ghost use Rattle.std.specs.Prelude.{◌≡◌, ◌≢◌, ◌<◌, ◌^◌, All, IfErr, IfOk, Some, None, length};
 ghost use Rattle.std.specs.Result.{result_err};
 ghost use Rattle.rc_text.specs.Symbols.{LiesIn};
@@ -40,7 +40,7 @@ pub(crate) fn read_lines(
     ensures memory { IfErr result (λ f. f.kind ≡ OutOfMemory → f.line ≡ 0) }
 {
     let mut reading = Reading {
-        code: Vec::new(alloc),
+        code: Vec::with_capacity(alloc, lines.len())?,
         starts: Starts::none(),
     };
     let mut rest = lines;

@@ -9,7 +9,7 @@ use rc_expand::{Constants, GivenNames, spells};
 use rc_instr::Rules;
 use rc_text::{EvalFault, Names, Token, eval};
 
-// What the second pass shares: constants, rules and labels give names their values.
+// What all lines share: constants, rules and labels give names their values.
 #[derive(Clone, Copy)]
 pub(crate) struct Context<'a, 't> {
     pub(crate) constants: &'a Constants<'a>,

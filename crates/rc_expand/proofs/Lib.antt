@@ -1,4 +1,5 @@
 pub mod NameSteps
+pub mod ShortNames
 pub mod Each
 pub mod TableSteps
 pub mod Distinct
@@ -7,3 +8,4 @@ pub mod PlainLines
 pub mod Reading
 pub mod Unrolling
 pub mod Replacing
+pub mod Finishing

@@ -3,3 +3,4 @@ pub mod ReplaceSteps
 pub mod LineSteps
 pub mod Labelled
 pub mod Settled
+pub mod Moved

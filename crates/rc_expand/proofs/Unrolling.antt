@@ -7,3 +7,4 @@ pub mod ContextSteps
 pub mod CountSteps
 pub mod OpeningSteps
 pub mod Equation
+pub mod Staying

@@ -5,18 +5,11 @@ use Rattle.rc_text.specs.Symbols.{name_of}
 use Rattle.rc_expand.specs.declared.heads.head.Head.{Head}
 use Rattle.rc_expand.specs.declared.context.Context.{Context}
 use Rattle.rc_expand.specs.Names.{Table, table_of}
-use Rattle.rc_expand.specs.Replace.{EqusLie}
-use Rattle.rc_expand.specs.Heads.NameTables.{AreLinks}
 use Rattle.rc_expand.specs.Replace.Lines.{is_new_label}
 use Rattle.rc_expand.specs.Unroll.{Opening, Unrolled, outside, block_of, opening, count_of, is_known, is_new_counter, copies_of, copies_from, deeper_at, one_line, one_more_copy, copied_block}
 
 abbrev pub table : Context → Table
 table s = table_of s.constants.now.names.now s.constants.now.values.now
-
--- the spans of the EQU names' tokens lie in the source, and the links are theirs
-pub record IsContext (s : Context) : Type 0 where
-  pub equs : EqusLie s.source.now s.equs.now
-  pub links : AreLinks s.source.now s.equs.now s.links.now
 
 -- lines with their blocks unrolled, which may nest `levels` deep
 abbrev pub unrolled_by : Context → Bool → ℕ → List Head → Option Unrolled

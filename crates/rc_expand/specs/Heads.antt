@@ -1,4 +1,5 @@
 -- The first part of the expansion: the lines of a text, and its EQU names (pMARS).
+pub mod Kept
 pub mod Lines
 pub mod Nesting
 pub mod Faults

@@ -3,6 +3,7 @@
 -- nothing if a condition is broken; before unrolling, a text has one fault at one line.
 pub mod Limits
 pub mod Names
+pub mod Kept
 pub mod Replace
 pub mod Unroll
 pub mod Heads
@@ -10,4 +11,5 @@ pub mod Expansion
 pub mod Faults
 pub mod Steps
 pub mod Context
+pub mod Finish
 pub mod Examples

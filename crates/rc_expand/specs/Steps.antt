@@ -59,6 +59,15 @@ abbrev pub GivesHeads : Result (Vec Head × Equs) ExpandFault → Option Heads �
 GivesHeads (Ok p) o = o ≡ Some (record { lines = p.0.items; equs = p.1 })
 GivesHeads (Err e) o = (e.kind ≢ OutOfMemory) → o ≡ None
 
+-- a line that unrolling leaves as it is, outside of blocks
+abbrev pub stays_by : HeadWord → (spoiled : Bool) → Bool
+stays_by word.For s = false
+stays_by word.Rof s = false
+stays_by _ s = not s
+
+abbrev pub stays : Head → Bool
+stays h = stays_by h.word h.spoiled
+
 -- a line other than FOR that unrolling keeps
 abbrev pub is_allowed : HeadWord → (in_block spoiled : Bool) → Bool
 is_allowed word.Rof b s = false

@@ -1,19 +1,28 @@
 //! The expansion of a text: its lines are read, blocks are unrolled, and EQU names are replaced.
-ghost use Rattle.std.specs.Prelude.{◌≡◌, ◌≢◌, All, IfOk, IfErr, List};
+ghost use Rattle.std.specs.Prelude.{◌≡◌, ◌≢◌, All, IfOk, IfErr, List, Some};
 ghost use Rattle.rc_expand.specs.declared.fault.ExpandKind.TheVariants.{OutOfMemory};
 ghost use Rattle.rc_expand.specs.declared.line.Line.{Line};
 ghost use Rattle.rc_expand.specs.Names.{table_of};
 ghost use Rattle.rc_expand.specs.Expansion.{LineLies, IsExpansion};
 ghost use Rattle.rc_expand.specs.Faults.{IsInTurn};
+ghost use Rattle.rc_text.specs.Tokens.{tokens_of};
+ghost use Rattle.rc_expand.specs.declared.heads.head.Head.{Head};
+ghost use Rattle.rc_expand.specs.Heads.Lines.{HeadLies, lines_read};
+ghost use Rattle.rc_expand.specs.Finish.{FinishesBy};
 
 use crate::constants::Constants;
 use crate::context::Context;
-use crate::fault::{ExpandFault, placed};
+use crate::fault::{ExpandFault, ExpandKind, placed};
+use crate::heads::head::Head;
+use crate::heads::read::read_lines;
 use crate::heads::read_heads;
-use crate::line::{Expanded, Lines};
+use crate::limits::MOST_LINES;
+use crate::line::{Expanded, Line, Lines};
 use crate::names::GivenNames;
 use crate::replace::labelling::replace_lines;
 use crate::replace::links::link_equs;
+use crate::replace::moving::move_lines;
+use crate::unroll::plain::all_stay;
 use crate::unroll::unroll;
 use rc_instr::Rules;
 use std::alloc::Global;
@@ -87,9 +96,51 @@ fn expand_text(
         equs: &equs,
         links: &links,
     };
-    let reached = unroll(&context, &heads)?;
-    let lines = replace_lines(&context, &reached)?;
-    Ok(Expanded {
+    expand_heads(&context, heads)
+}
+
+// Finishes the expansion of the lines that were read. Those of a text without blocks are moved. If
+// that fails, they are read once more, since the fault of the expansion is found without moving.
+fn expand_heads(context: &Context, heads: Vec<Head>) -> Result<Expanded, ExpandFault>
+    requires lies { All (HeadLies context.now.source.now) heads.items }
+    requires read { lines_read context.now.source.now (tokens_of context.now.source.now) ≡ Some heads.items }
+    ensures { FinishesBy context.now heads.items result }
+{
+    if heads.len() > MOST_LINES || !all_stay(&heads) {
+        return finish_heads(context, &heads);
+    }
+    match move_lines(context, heads) {
+        Ok(lines) => Ok(expanded(lines)),
+        Err(found) => if found.kind == ExpandKind::OutOfMemory {
+            Err(found)
+        } else {
+            finish_again(context)
+        },
+    }
+}
+
+// Reads the lines again, and finishes their expansion.
+fn finish_again(context: &Context) -> Result<Expanded, ExpandFault>
+    ensures { (hs : List Head) → lines_read context.now.source.now (tokens_of context.now.source.now) ≡ Some hs → FinishesBy context.now hs result }
+{
+    let heads = read_lines(context.alloc, context.source)?;
+    finish_heads(context, &heads)
+}
+
+// Finishes the expansion of the lines that were read.
+fn finish_heads(context: &Context, heads: &[Head]) -> Result<Expanded, ExpandFault>
+    requires lies { All (HeadLies context.now.source.now) heads.now }
+    ensures { FinishesBy context.now heads.now result }
+{
+    let reached = unroll(context, heads)?;
+    let lines = replace_lines(context, &reached)?;
+    Ok(expanded(lines))
+}
+
+fn expanded(lines: Vec<Line>) -> Expanded
+    ensures { result.lines ≡ lines.items }
+{
+    Expanded {
         lines: Lines::from_vec(lines),
-    })
+    }
 }

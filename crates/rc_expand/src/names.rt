@@ -1,5 +1,5 @@
 //! The names of a text, with joined counters, and the values given from outside of it.
-ghost use Rattle.std.specs.Prelude.{◌≡◌, ◌≢◌, List, ℕ, ◌++◌, ◌∷◌, map, ◌+◌, ◌<◌, ◌^◌, MatchOption, OnOk, IfOk};
+ghost use Rattle.std.specs.Prelude.{◌≡◌, ◌≢◌, List, ℕ, ◌++◌, ◌∷◌, [], map, ◌+◌, ◌-◌, ◌<◌, ◌≤◌, ◌^◌, true, MatchOption, OnOk, IfOk};
 ghost use Rattle.std.specs.Str.{bytes_eq};
 ghost use Rattle.std.specs.Int.Digits.{digits_of};
 ghost use Rattle.rc_expand.specs.Names.{entry_of, predefined, table_of};
@@ -140,11 +140,26 @@ fn constant_value(constants: &Constants, source: &[u8], token: &Token) -> Option
     None
 }
 
+// The bytes of the shortest predefined name.
+const SHORTEST_PREDEFINED: usize = 7;
+
+// Checks for a name that is shorter than every predefined one, as most are.
+fn is_short(token: &Token) -> bool
+    requires { token.now.lo ≤ token.now.hi }
+    ensures unjoined { result ≡ true → token.now.joined ≡ [] }
+    ensures few { result ≡ true → token.now.hi - token.now.lo < 7 }
+{
+    token.joined.is_empty() && token.hi - token.lo < SHORTEST_PREDEFINED
+}
+
 // Looks up a predefined name. CURLINE has no value before lines are counted.
 fn predefined_value(rules: &Rules, source: &[u8], token: &Token) -> Option<i64>
     requires { LiesIn source.now token.now }
     ensures { result ≡ entry_of (predefined rules.now) (name_of source.now token.now) }
 {
+    if is_short(token) {
+        return None;
+    }
     if spells(source, token, b"CORESIZE") {
         return Some(i64::from(rules.core()));
     }

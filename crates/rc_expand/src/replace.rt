@@ -3,6 +3,7 @@
 //! itself is here, since the count of a FOR needs it too.
 ghost use Rattle.std.specs.Prelude.{◌≡◌, ℕ, List, [], ◌∷◌, ◌++◌, ◌+◌, ◌≤◌, ◌<◌, length, MatchResult, Some, None, option_map, All, IfSome, IfOk, OnOk};
 ghost use Rattle.rc_text.specs.Symbols.{LiesIn};
+ghost use Rattle.rc_expand.specs.declared.limits.TheConstants.{MOST_TOKENS, MOST_REPLACEMENTS};
 ghost use Rattle.rc_expand.specs.Heads.NameTables.{at_place, ArePlaces, AreLinks};
 ghost use Rattle.rc_expand.specs.Unroll.{IsReplaceFault};
 ghost use Rattle.rc_expand.specs.Replace.{EqusLie, one, equ_at, inner_at, replaced_within, replaced_tokens, Adds, Replaces};
@@ -10,6 +11,7 @@ ghost use Rattle.rc_expand.specs.Replace.{EqusLie, one, equ_at, inner_at, replac
 pub(crate) mod finish;
 pub(crate) mod labelling;
 pub(crate) mod links;
+pub(crate) mod moving;
 
 use crate::fault::{ExpandFault, ExpandKind};
 use crate::heads::equs::Equ;
@@ -68,6 +70,8 @@ pub(crate) fn replace_fault(line: u64, cause: ReplaceFault) -> ExpandFault
 pub(crate) struct Replacing {
     tokens: Vec<Token>,
     replacements: u32,
+    ghost room: { length tokens.items ≤ MOST_TOKENS },
+    ghost counted: { replacements ≤ MOST_REPLACEMENTS },
 }
 
 // Replaces EQU names, at most `DEEPEST_EQU` deep, within `MOST_TOKENS` and `MOST_REPLACEMENTS`.
@@ -139,8 +143,6 @@ fn append_one(
     requires place { at_place equs.now place ≡ equ_at source.now equs.now token.now }
     requires lies { EqusLie source.now equs.now }
     requires links { AreLinks source.now equs.now links.now }
-    requires room { length out.old.tokens.items ≤ MOST_TOKENS }
-    requires replacements { out.old.replacements ≤ MOST_REPLACEMENTS }
     requires before { All (LiesIn source.now) out.old.tokens.items }
     ensures after { OnOk result (All (LiesIn source.now) out.new.tokens.items) }
     ensures adds { Adds out.old.tokens.items out.old.replacements result
@@ -182,8 +184,6 @@ fn append_replaced(
     requires places { ArePlaces source.now equs.now tokens.now places.now }
     requires lies { EqusLie source.now equs.now }
     requires links { AreLinks source.now equs.now links.now }
-    requires room { length out.old.tokens.items ≤ MOST_TOKENS }
-    requires replacements { out.old.replacements ≤ MOST_REPLACEMENTS }
     requires before { All (LiesIn source.now) out.old.tokens.items }
     ensures after { OnOk result (All (LiesIn source.now) out.new.tokens.items) }
     ensures adds { Adds out.old.tokens.items out.old.replacements result (replaced_within source.now equs.now levels tokens.now) out.new.tokens.items out.new.replacements }

@@ -8,10 +8,12 @@ ghost use Rattle.rc_expand.specs.Steps.{GivesLines, is_allowed};
 ghost use Rattle.rc_expand.specs.Unroll.Reached.{line_in, lines_in, reached_part, reached_lines, ReachedLies};
 ghost use Rattle.rc_expand.specs.Faults.{OnlyOf, is_unroll_kind};
 ghost use Rattle.rc_expand.specs.declared.fault.ExpandKind.TheVariants.{OutOfMemory};
-ghost use Rattle.rc_expand.specs.Context.{table, IsContext, unrolled_by, block_by, copy_by, copies_by, unrolled_line_by};
+ghost use Rattle.rc_expand.specs.declared.limits.TheConstants.{MOST_LINES};
+ghost use Rattle.rc_expand.specs.Context.{table, unrolled_by, block_by, copy_by, copies_by, unrolled_line_by};
 
 pub(crate) mod copy;
 pub(crate) mod opening;
+pub(crate) mod plain;
 pub(crate) mod reached;
 
 use crate::context::Context;
@@ -21,11 +23,12 @@ use crate::limits::{DEEPEST_BLOCK, MOST_LINES};
 use crate::unroll::opening::{begin_block, check_rof};
 use crate::unroll::reached::{Copying, Reached, clone_copies, is_short_line, make_line, with_copy};
 
-// The lines so far, and the number of copies of blocks. Together they are at most `MOST_LINES`.
+// The lines so far, and the number of copies of blocks.
 #[derive(Drop)]
 pub(crate) struct Unrolling<'a> {
     lines: Vec<Reached<'a>>,
     copies: usize,
+    ghost room: { length lines.items + copies ≤ MOST_LINES },
 }
 
 // Appends lines as they stand in `copies`, with their blocks unrolled. Blocks may nest `levels`
@@ -39,9 +42,7 @@ pub(crate) fn append_lines<'a>(
     in_block: bool,
     levels: u8,
 ) -> Result<(), ExpandFault>
-    requires context { IsContext context.now }
     requires lies { All (HeadLies context.now.source.now) heads.now }
-    requires room { length (reached_lines context.now.source.now out.old.lines.items) + out.old.copies ≤ MOST_LINES }
     requires before { All (ReachedLies context.now.source.now) out.old.lines.items }
     ensures adds { Appends (reached_lines context.now.source.now out.old.lines.items) out.old.copies result (unrolled_by context.now in_block levels (lines_in context.now.source.now copies.now heads.now)) (reached_lines context.now.source.now out.new.lines.items) out.new.copies }
     ensures after { OnOk result (All (ReachedLies context.now.source.now) out.new.lines.items) }
@@ -72,7 +73,6 @@ pub(crate) fn unroll<'a>(
     context: &Context<'a>,
     heads: &'a [Head],
 ) -> Result<Vec<Reached<'a>>, ExpandFault>
-    requires context { IsContext context.now }
     requires lies { All (HeadLies context.now.source.now) heads.now }
     ensures lines { GivesLines context.now.source.now result (unrolled context.now.source.now (table context.now) context.now.rules.now context.now.equs.now heads.now) }
     ensures inside { IfOk result (λ v. All (ReachedLies context.now.source.now) v.items) }
@@ -121,7 +121,6 @@ fn append<'a>(
     is_earlier: bool,
 ) -> Result<(), ExpandFault>
     requires head { HeadLies context.now.source.now head.now }
-    requires room { length (reached_lines context.now.source.now out.old.lines.items) + out.old.copies ≤ MOST_LINES }
     requires before { All (ReachedLies context.now.source.now) out.old.lines.items }
     ensures adds { Appends (reached_lines context.now.source.now out.old.lines.items) out.old.copies result (Some (record { lines = reached_part context.now.source.now is_earlier (line_in context.now.source.now copies.now head.now) ∷ []; copies = 0 })) (reached_lines context.now.source.now out.new.lines.items) out.new.copies }
     ensures after { OnOk result (All (ReachedLies context.now.source.now) out.new.lines.items) }
@@ -187,7 +186,6 @@ fn append_line<'a>(
     in_block: bool,
 ) -> Result<(), ExpandFault>
     requires head { HeadLies context.now.source.now head.now }
-    requires room { length (reached_lines context.now.source.now out.old.lines.items) + out.old.copies ≤ MOST_LINES }
     requires before { All (ReachedLies context.now.source.now) out.old.lines.items }
     ensures adds { Appends (reached_lines context.now.source.now out.old.lines.items) out.old.copies result (unrolled_line_by context.now in_block (line_in context.now.source.now copies.now head.now)) (reached_lines context.now.source.now out.new.lines.items) out.new.copies }
     ensures after { OnOk result (All (ReachedLies context.now.source.now) out.new.lines.items) }
@@ -207,7 +205,6 @@ fn append_earlier<'a>(
 ) -> Result<(), ExpandFault>
     requires first { HeadLies context.now.source.now first.now }
     requires labels { labels.now ≡ earlier_of (line_in context.now.source.now copies.now first.now).labels }
-    requires room { length (reached_lines context.now.source.now out.old.lines.items) + out.old.copies ≤ MOST_LINES }
     requires before { All (ReachedLies context.now.source.now) out.old.lines.items }
     ensures adds { Appends (reached_lines context.now.source.now out.old.lines.items) out.old.copies result (Some (record { lines = earlier_line (line_in context.now.source.now copies.now first.now).number labels.now; copies = 0 })) (reached_lines context.now.source.now out.new.lines.items) out.new.copies }
     ensures after { OnOk result (All (ReachedLies context.now.source.now) out.new.lines.items) }
@@ -231,9 +228,7 @@ fn append_copy<'a>(
     block: &'a [Head],
     levels: u8,
 ) -> Result<(), ExpandFault>
-    requires context { IsContext context.now }
     requires block { All (HeadLies context.now.source.now) block.now }
-    requires room { length (reached_lines context.now.source.now out.old.lines.items) + out.old.copies ≤ MOST_LINES }
     requires before { All (ReachedLies context.now.source.now) out.old.lines.items }
     ensures adds { Appends (reached_lines context.now.source.now out.old.lines.items) out.old.copies result (copy_by context.now levels (option_map (λ b. b.now) counter.entry) (lines_in context.now.source.now copies.now block.now) number) (reached_lines context.now.source.now out.new.lines.items) out.new.copies }
     ensures after { OnOk result (All (ReachedLies context.now.source.now) out.new.lines.items) }
@@ -267,9 +262,7 @@ fn append_copies<'a>(
     block: &'a [Head],
     levels: u8,
 ) -> Result<(), ExpandFault>
-    requires context { IsContext context.now }
     requires block { All (HeadLies context.now.source.now) block.now }
-    requires room { length (reached_lines context.now.source.now out.old.lines.items) + out.old.copies ≤ MOST_LINES }
     requires before { All (ReachedLies context.now.source.now) out.old.lines.items }
     ensures adds { Appends (reached_lines context.now.source.now out.old.lines.items) out.old.copies result (copies_by context.now levels (option_map (λ b. b.now) counter.entry) (lines_in context.now.source.now copies.now block.now) count) (reached_lines context.now.source.now out.new.lines.items) out.new.copies }
     ensures after { OnOk result (All (ReachedLies context.now.source.now) out.new.lines.items) }
@@ -293,11 +286,9 @@ fn append_block<'a>(
     rof: &Head,
     levels: u8,
 ) -> Result<(), ExpandFault>
-    requires context { IsContext context.now }
     requires first { HeadLies context.now.source.now first.now }
     requires block { All (HeadLies context.now.source.now) block.now }
     requires rof { HeadLies context.now.source.now rof.now }
-    requires room { length (reached_lines context.now.source.now out.old.lines.items) + out.old.copies ≤ MOST_LINES }
     requires before { All (ReachedLies context.now.source.now) out.old.lines.items }
     ensures adds { Appends (reached_lines context.now.source.now out.old.lines.items) out.old.copies result (block_by context.now levels (line_in context.now.source.now copies.now first.now) (lines_in context.now.source.now copies.now block.now) (line_in context.now.source.now copies.now rof.now)) (reached_lines context.now.source.now out.new.lines.items) out.new.copies }
     ensures after { OnOk result (All (ReachedLies context.now.source.now) out.new.lines.items) }

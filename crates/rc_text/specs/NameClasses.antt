@@ -1,7 +1,8 @@
 -- Names, and which of them are reserved or predefined.
-use Rattle.std.specs.Prelude.{ℕ, Bool, false, ◌&&◌, ◌||◌, List, [], ◌∷◌, if◌then◌else◌, codes}
+use Rattle.std.specs.Prelude.{ℕ, Bool, false, ◌&&◌, ◌||◌, List, [], ◌∷◌, map, if◌then◌else◌, codes}
 use Rattle.std.specs.List.{list_any, list_all}
 use Rattle.std.specs.Str.{bytes_eq}
+use Rattle.std.specs.Char.{to_ascii_lowercase}
 use Rattle.rc_text.specs.declared.class.NameClass.{NameClass}
 use Rattle.rc_text.specs.declared.class.NameClass.TheVariants.{NoName, Reserved, Predefined, Free}
 use Rattle.rc_text.specs.Bytes.{begins_name, continues_name, is_same_word}
@@ -26,6 +27,10 @@ directives = codes "ORG" ∷ codes "END" ∷ codes "EQU" ∷ codes "FOR" ∷ cod
 -- one of the words, in any case
 abbrev pub is_one_of : List (List ℕ) → List ℕ → Bool
 is_one_of words name = list_any (λ word. is_same_word word name) words
+
+-- one of the words, which is written in lower case here
+abbrev pub is_lower_of : List (List ℕ) → List ℕ → Bool
+is_lower_of words name = list_any (λ word. bytes_eq (map to_ascii_lowercase word) name) words
 
 -- an opcode of the 1994 draft or of pMARS, in any case
 unfoldable pub is_opcode_word : List ℕ → Bool

@@ -1,11 +1,11 @@
 //! Classes of names: reserved, predefined or free.
-ghost use Rattle.std.specs.Prelude.{◌≡◌};
+ghost use Rattle.std.specs.Prelude.{◌≡◌, ◌∷◌, []};
 ghost use Rattle.std.specs.List.{list_all};
 ghost use Rattle.std.specs.Str.{bytes_eq};
-ghost use Rattle.rc_text.specs.Bytes.{continues_name, is_same_word};
-ghost use Rattle.rc_text.specs.NameClasses.{is_name, draft_opcodes, added_opcodes, directives, is_one_of, is_opcode_word, is_reserved, is_predefined, class_of};
+ghost use Rattle.rc_text.specs.Bytes.{continues_name};
+ghost use Rattle.rc_text.specs.NameClasses.{is_name, draft_opcodes, added_opcodes, directives, is_one_of, is_lower_of, is_opcode_word, is_reserved, is_predefined, class_of};
 
-use crate::bytes::{begins_name, continues_name, is_same_word};
+use crate::bytes::{begins_name, continues_name};
 
 /// The class of a name.
 #[derive(Clone, Copy, Debug, PartialEq, Eq)]
@@ -75,42 +75,95 @@ fn is_exactly(word: &[u8], name: &[u8]) -> bool
     name == word
 }
 
-// The opcodes of the 1994 draft.
+// The opcodes of the 1994 draft. They have three letters, which are compared all at once.
 fn is_draft_opcode(name: &[u8]) -> bool
     ensures { result ≡ is_one_of draft_opcodes name.now }
 {
-    is_same_word(b"DAT", name)
-        || is_same_word(b"MOV", name)
-        || is_same_word(b"ADD", name)
-        || is_same_word(b"SUB", name)
-        || is_same_word(b"MUL", name)
-        || is_same_word(b"DIV", name)
-        || is_same_word(b"MOD", name)
-        || is_same_word(b"JMP", name)
-        || is_same_word(b"JMZ", name)
-        || is_same_word(b"JMN", name)
-        || is_same_word(b"DJN", name)
-        || is_same_word(b"CMP", name)
-        || is_same_word(b"SLT", name)
-        || is_same_word(b"SPL", name)
+    match name {
+        [first, second, third] => is_draft_word(
+            first.to_ascii_lowercase(),
+            second.to_ascii_lowercase(),
+            third.to_ascii_lowercase(),
+        ),
+        _ => false,
+    }
+}
+
+// The letters are lower case.
+fn is_draft_word(first: u8, second: u8, third: u8) -> bool
+    ensures { result ≡ is_lower_of draft_opcodes (first ∷ second ∷ third ∷ []) }
+{
+    match (first, second, third) {
+        (b'd', b'a', b't') => true,
+        (b'm', b'o', b'v') => true,
+        (b'a', b'd', b'd') => true,
+        (b's', b'u', b'b') => true,
+        (b'm', b'u', b'l') => true,
+        (b'd', b'i', b'v') => true,
+        (b'm', b'o', b'd') => true,
+        (b'j', b'm', b'p') => true,
+        (b'j', b'm', b'z') => true,
+        (b'j', b'm', b'n') => true,
+        (b'd', b'j', b'n') => true,
+        (b'c', b'm', b'p') => true,
+        (b's', b'l', b't') => true,
+        (b's', b'p', b'l') => true,
+        _ => false,
+    }
 }
 
 // The opcodes that pMARS adds.
 fn is_added_opcode(name: &[u8]) -> bool
     ensures { result ≡ is_one_of added_opcodes name.now }
 {
-    is_same_word(b"SEQ", name) || is_same_word(b"SNE", name) || is_same_word(b"NOP", name)
+    match name {
+        [first, second, third] => is_added_word(
+            first.to_ascii_lowercase(),
+            second.to_ascii_lowercase(),
+            third.to_ascii_lowercase(),
+        ),
+        _ => false,
+    }
+}
+
+// The letters are lower case.
+fn is_added_word(first: u8, second: u8, third: u8) -> bool
+    ensures { result ≡ is_lower_of added_opcodes (first ∷ second ∷ third ∷ []) }
+{
+    match (first, second, third) {
+        (b's', b'e', b'q') => true,
+        (b's', b'n', b'e') => true,
+        (b'n', b'o', b'p') => true,
+        _ => false,
+    }
 }
 
 // ORG and END of the 1994 draft; EQU, FOR and ROF of pMARS.
 fn is_directive(name: &[u8]) -> bool
     ensures { result ≡ is_one_of directives name.now }
 {
-    is_same_word(b"ORG", name)
-        || is_same_word(b"END", name)
-        || is_same_word(b"EQU", name)
-        || is_same_word(b"FOR", name)
-        || is_same_word(b"ROF", name)
+    match name {
+        [first, second, third] => is_directive_word(
+            first.to_ascii_lowercase(),
+            second.to_ascii_lowercase(),
+            third.to_ascii_lowercase(),
+        ),
+        _ => false,
+    }
+}
+
+// The letters are lower case.
+fn is_directive_word(first: u8, second: u8, third: u8) -> bool
+    ensures { result ≡ is_lower_of directives (first ∷ second ∷ third ∷ []) }
+{
+    match (first, second, third) {
+        (b'o', b'r', b'g') => true,
+        (b'e', b'n', b'd') => true,
+        (b'e', b'q', b'u') => true,
+        (b'f', b'o', b'r') => true,
+        (b'r', b'o', b'f') => true,
+        _ => false,
+    }
 }
 
 #[tactic(auto, unfolding(crate::specs::NameClasses::is_opcode_word))]

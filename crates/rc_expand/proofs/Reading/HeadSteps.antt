@@ -118,7 +118,7 @@ module _ (source : List ℕ) where
 
   -- one more label of the line
   pub label_more : (tokens : List Token) (labels : List (List Token)) (at end : ℕ) (label : List Token) → true ≡ begins_label source (drop at tokens) → end ≡ at + 1 + tail_len source (drop (at + 1) tokens)
-      → label ≡ take (end - at) (drop at tokens) ++ [] → labelled source tokens ≡ behind labels (labelled source (drop at tokens)) → labelled source tokens ≡ behind (labels ++ (label ∷ [])) (labelled source (drop end tokens))
+      → label ≡ take (end - at) (drop at tokens) → labelled source tokens ≡ behind labels (labelled source (drop at tokens)) → labelled source tokens ≡ behind (labels ++ (label ∷ [])) (labelled source (drop end tokens))
   label_more tokens labels at end label b e l r =
       let d : drop 1 (drop at tokens) ≡ drop (at + 1) tokens = drop-drop 1 at tokens in
       let n : ℕ = tail_len source (drop 1 (drop at tokens)) in
@@ -128,7 +128,7 @@ module _ (source : List ℕ) where
       let tail : drop (tail_len source (drop 1 (drop at tokens))) (drop 1 (drop at tokens)) ≡ drop end tokens =
       ap (drop (tail_len source (drop 1 (drop at tokens)))) d ∙ (drop-drop (tail_len source (drop 1 (drop at tokens))) (at + 1) tokens ∙ ap (λ i. drop i tokens) p) in
       let front : take (suc (tail_len source (drop 1 (drop at tokens)))) (drop at tokens) ≡ label =
-      ap (λ i. take i (drop at tokens)) (sym q) ∙ (sym (append-nil (take (end - at) (drop at tokens))) ∙ sym l) in
+      ap (λ i. take i (drop at tokens)) (sym q) ∙ sym l in
       r ∙ (ap (behind labels) (label_step (drop at tokens) b) ∙ after_more labels (take (suc (tail_len source (drop 1 (drop at tokens)))) (drop at tokens)) label _ (labelled source (drop end tokens)) (ap (labelled source) tail) front)
 
   -- no label begins here

@@ -15,7 +15,7 @@ use crate::fault::{ExpandFault, ExpandKind, fault};
 use crate::heads::head::{Head, HeadWord};
 use crate::heads::labels::plain_token;
 use crate::heads::table::{KeptName, NameTable, copied_name};
-use crate::heads::words::with_front;
+use crate::heads::words::clone_tokens;
 use crate::line::Tokens;
 use crate::names::{GivenNames, is_taken};
 use rc_text::Token;
@@ -123,7 +123,7 @@ fn read_equ(
         return Err(fault(head.number, ExpandKind::DuplicateName));
     }
     let name = copied_name(alloc, source, token)?;
-    let tokens = with_front(alloc, head.rest.as_slice(), Vec::new(alloc))?;
+    let tokens = clone_tokens(alloc, head.rest.as_slice())?;
     Ok((name, Equ::new(tokens, head.number)))
 }
 

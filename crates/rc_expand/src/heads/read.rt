@@ -9,10 +9,13 @@ ghost use Rattle.rc_expand.specs.Heads.Faults.{IsEnding, IsTextFault};
 
 use crate::fault::{ExpandFault, ExpandKind};
 use crate::heads::head::{Head, HeadWord, Labels};
-use crate::heads::words::{clone_token, is_ampersand, is_colon, is_free, with_front, word_of};
+use crate::heads::words::{clone_token, clone_tokens, is_ampersand, is_colon, is_free, word_of};
 use crate::line::Tokens;
 use rc_text::{Kind, Lexer, Token};
 use std::alloc::{AllocError, Global};
+
+// About as many bytes as a line has: so much room is made for lines at once.
+const BYTES_OF_A_LINE: usize = 24;
 
 // Reads the lines of a text, up to the first with END.
 #[tactic(auto, unfolding(crate::specs::Heads::Lines::lines_read))]
@@ -22,11 +25,11 @@ pub(crate) fn read_lines(alloc: Global, source: &[u8]) -> Result<Vec<Head>, Expa
     ensures inside { IfOk result (λ v. All (HeadLies source.now) v.items) }
 {
     let mut lexer = Lexer::new(source);
-    let mut heads = Vec::new(alloc);
+    let mut heads = Vec::with_capacity(alloc, source.len() / BYTES_OF_A_LINE)?;
     let mut line = Vec::new(alloc);
     while let Some(token) = next_token(&mut lexer)? {
         if is_line_end(&token) {
-            if push_line(alloc, source, &mut heads, &line)? {
+            if push_line(alloc, source, &mut heads, &mut line)? {
                 return Ok(heads);
             }
             line.clear();
@@ -34,7 +37,7 @@ pub(crate) fn read_lines(alloc: Global, source: &[u8]) -> Result<Vec<Head>, Expa
             line.push(token)?;
         }
     }
-    push_line(alloc, source, &mut heads, &line)?;
+    push_line(alloc, source, &mut heads, &mut line)?;
     Ok(heads)
 }
 
@@ -106,29 +109,30 @@ fn read_labels(
     ensures place { IfOk result (λ p. p.1 ≤ length tokens.now) }
     ensures inside { IfOk result (λ p. All (All (LiesIn source.now)) p.0) }
 {
-    let mut labels = Vec::new(alloc);
+    let mut labels = Labels::none(alloc);
     let mut at = 0;
     'line: while begins_label(source, tokens, at) {
         let end = label_end(source, tokens, at + 1);
-        labels.push(with_front(alloc, &tokens[at..end], Vec::new(alloc))?)?;
+        let label = clone_tokens(alloc, &tokens[at..end])?;
+        labels = labels.with(alloc, label)?;
         at = end;
     }
-    Ok((Labels::from_vec(labels), at))
+    Ok((labels, at))
 }
 
-// Reads a line from its tokens.
+// Reads a line from its tokens. Those after the labels are moved into it.
 #[tactic(auto, unfolding(crate::specs::Heads::Lines::head_of))]
 fn read_head(
     alloc: Global,
     source: &[u8],
     number: u64,
-    tokens: &[Token],
+    tokens: &mut Vec<Token>,
 ) -> Result<Head, AllocError>
-    requires { All (LiesIn source.now) tokens.now }
-    ensures head { IfOk result (λ h. h ≡ head_of source.now number tokens.now) }
+    requires { All (LiesIn source.now) tokens.old.items }
+    ensures head { IfOk result (λ h. h ≡ head_of source.now number tokens.old.items) }
     ensures inside { IfOk result (HeadLies source.now) }
 {
-    let (labels, at) = read_labels(alloc, source, tokens)?;
+    let (labels, at) = read_labels(alloc, source, tokens.as_slice())?;
     if at == tokens.len() {
         return Ok(Head {
             number,
@@ -141,7 +145,7 @@ fn read_head(
     }
     let word = word_of(source, &tokens[at]);
     if word == HeadWord::Code {
-        let rest = with_front(alloc, &tokens[at..], Vec::new(alloc))?;
+        let rest = Tokens::from_vec(tokens.split_off(at)?);
         return Ok(Head {
             number,
             labels,
@@ -152,7 +156,7 @@ fn read_head(
         });
     }
     let directive = clone_token(&tokens[at])?;
-    let rest = with_front(alloc, &tokens[at + 1..], Vec::new(alloc))?;
+    let rest = Tokens::from_vec(tokens.split_off(at + 1)?);
     Ok(Head {
         number,
         labels,
@@ -163,17 +167,18 @@ fn read_head(
     })
 }
 
-// Appends the line of these tokens, unless there are none, and returns whether it has END.
+// Appends the line of these tokens, unless there are none, and returns whether it has END. The
+// tokens are used up.
 fn push_line(
     alloc: Global,
     source: &[u8],
     heads: &mut Vec<Head>,
-    line: &[Token],
+    line: &mut Vec<Token>,
 ) -> Result<bool, AllocError>
-    requires line { All (LiesIn source.now) line.now }
+    requires line { All (LiesIn source.now) line.old.items }
     requires before { All (HeadLies source.now) heads.old.items }
-    ensures heads { IfOk result (λ ended. heads.new.items ≡ heads.old.items ++ line_of_tokens source.now line.now) }
-    ensures ended { IfOk result (λ ended. ended ≡ has_end (line_of_tokens source.now line.now)) }
+    ensures heads { IfOk result (λ ended. heads.new.items ≡ heads.old.items ++ line_of_tokens source.now line.old.items) }
+    ensures ended { IfOk result (λ ended. ended ≡ has_end (line_of_tokens source.now line.old.items)) }
     ensures after { IfOk result (λ ended. All (HeadLies source.now) heads.new.items) }
 {
     if line.len() == 0 {

@@ -27,19 +27,33 @@ pub(crate) fn clone_token(token: &Token) -> Result<Token, AllocError>
     token.clone()
 }
 
+// Copies tokens. A single one is kept in place.
+pub(crate) fn clone_tokens(alloc: Global, tokens: &[Token]) -> Result<Tokens, AllocError>
+    ensures { IfOk result (λ all. all ≡ tokens.now) }
+{
+    if let [token] = tokens {
+        return Ok(Tokens::one(clone_token(token)?));
+    }
+    let mut all = Vec::with_capacity(alloc, tokens.len())?;
+    for token in tokens {
+        all.push(clone_token(token)?)?;
+    }
+    Ok(Tokens::from_vec(all))
+}
+
 // Concatenates `front` and `tokens`.
 pub(crate) fn with_front(
     alloc: Global,
     front: &[Token],
-    tokens: Vec<Token>,
+    tokens: Tokens,
 ) -> Result<Tokens, AllocError>
-    ensures { IfOk result (λ all. all ≡ front.now ++ tokens.items) }
+    ensures { IfOk result (λ all. all ≡ front.now ++ tokens) }
 {
-    let mut all = Vec::with_capacity(alloc, front.len())?;
+    let mut tokens = tokens.into_vec(alloc)?;
+    let mut all = Vec::with_capacity(alloc, front.len() + tokens.len())?;
     for token in front {
         all.push(clone_token(token)?)?;
     }
-    let mut tokens = tokens;
     all.append(&mut tokens)?;
     Ok(Tokens::from_vec(all))
 }

@@ -6,7 +6,6 @@ ghost use Rattle.rc_expand.specs.Heads.NameTables.{AreLinks};
 ghost use Rattle.rc_expand.specs.Replace.{EqusLie, exempt_len_of_code, exempt_len, line_tokens, Replaces};
 ghost use Rattle.rc_expand.specs.Faults.{OnlyOf, is_replace_kind};
 ghost use Rattle.rc_expand.specs.Unroll.{Gives};
-ghost use Rattle.rc_expand.specs.Context.{IsContext};
 ghost use Rattle.rc_expand.specs.Replace.Lines.{as_list, line_word, own_labels, other_labels, made_line, line_of};
 ghost use Rattle.rc_expand.specs.Expansion.{LineLies};
 
@@ -16,7 +15,7 @@ use crate::heads::equs::Equ;
 use crate::heads::head::{Head, HeadWord};
 use crate::heads::labels::label_token;
 use crate::heads::table::NameTable;
-use crate::heads::words::{clone_token, has_modifier, with_front};
+use crate::heads::words::{clone_token, clone_tokens, has_modifier, with_front};
 use crate::limits::MOST_TOKENS;
 use crate::line::{Line, LineWord, Tokens};
 use crate::replace::links::{Links, needs_no_replacement};
@@ -37,22 +36,21 @@ pub(crate) fn split_labels<'a>(
     ensures own_inside { IfOk result (λ p. All (LiesIn source.now) p.0) }
     ensures others_inside { IfOk result (λ p. All (All (LiesIn source.now)) p.1.now) }
 {
-    let mut own = Vec::new(alloc);
+    let mut own = Tokens::from_vec(Vec::new(alloc));
     let mut rest = labels;
     while let Some((label, after)) = rest.split_first() {
         match label_token(source, label.as_slice()) {
-            None => return Ok((Tokens::from_vec(own), rest)),
-            Some(token) => own.push(clone_token(token)?)?,
+            None => return Ok((own, rest)),
+            Some(token) => own = own.with(alloc, clone_token(token)?)?,
         }
         rest = after;
     }
-    Ok((Tokens::from_vec(own), rest))
+    Ok((own, rest))
 }
 
 // Makes the line of the expansion for an unrolled line.
 #[tactic(auto, unfolding(crate::specs::Replace::Lines::line_of))]
 pub(crate) fn line_of(context: &Context, head: &Head) -> Result<Line, ExpandFault>
-    requires context { IsContext context.now }
     requires head { HeadLies context.now.source.now head.now }
     ensures line { Gives result (line_of context.now.source.now context.now.equs.now head.now) }
     ensures inside { IfOk result (LineLies context.now.source.now) }
@@ -143,7 +141,7 @@ fn exempt_len_of_code(source: &[u8], tokens: &[Token]) -> usize
 }
 
 // Counts the tokens that EQU names do not replace at the front of a line.
-fn exempt_len(source: &[u8], word: HeadWord, tokens: &[Token]) -> usize
+pub(crate) fn exempt_len(source: &[u8], word: HeadWord, tokens: &[Token]) -> usize
     requires { All (LiesIn source.now) tokens.now }
     ensures exempt { result ≡ exempt_len source.now word tokens.now }
     ensures room { result ≤ length tokens.now }
@@ -172,14 +170,14 @@ fn line_tokens(
 {
     let (front, back) = tokens.split_at(exempt_len(source, word, tokens));
     if needs_no_replacement(source, back, equs) {
-        return Ok(with_front(alloc, tokens, Vec::new(alloc))?);
+        return Ok(clone_tokens(alloc, tokens)?);
     }
     let replaced = replace_tokens(alloc, source, back, equs, links)?;
-    Ok(with_front(alloc, front, replaced.into_vec())?)
+    Ok(with_front(alloc, front, replaced)?)
 }
 
 // Converts the word of a line. Anything that is left and not a directive is code.
-fn line_word(word: HeadWord) -> LineWord
+pub(crate) fn line_word(word: HeadWord) -> LineWord
     ensures { result ≡ line_word word }
 {
     match word {
@@ -199,7 +197,6 @@ fn make_line(
     word: HeadWord,
     tokens: &[Token],
 ) -> Result<Line, ExpandFault>
-    requires context { IsContext context.now }
     requires labels { labels ≡ own_labels context.now.source.now head.now.labels }
     requires labels_inside { All (LiesIn context.now.source.now) labels }
     requires inside { All (LiesIn context.now.source.now) tokens.now }

@@ -8,11 +8,12 @@ ghost use Rattle.rc_expand.specs.Unroll.{Gives, GivesItems};
 ghost use Rattle.rc_expand.specs.Unroll.Reached.{reached_line, reached_lines, ReachedLies};
 ghost use Rattle.rc_expand.specs.Faults.{OnlyOf, is_replace_kind};
 ghost use Rattle.rc_expand.specs.Steps.{names_in, Freshens, Takes};
-ghost use Rattle.rc_expand.specs.Context.{table, IsContext, is_new_label_by};
+ghost use Rattle.rc_expand.specs.Context.{table, is_new_label_by};
 ghost use Rattle.rc_expand.specs.Replace.Lines.{line_of, replaced};
 ghost use Rattle.rc_expand.specs.Expansion.{LineLies};
 
-use crate::context::{Context, clash_with_given};
+use crate::clash::clash_with_given;
+use crate::context::Context;
 use crate::fault::{ExpandFault, ExpandKind, fault};
 use crate::heads::head::{Head, HeadWord};
 use crate::heads::table::{NameTable, kept_name};
@@ -28,7 +29,6 @@ pub(crate) fn replace_lines(
     context: &Context,
     reached: &[Reached],
 ) -> Result<Vec<Line>, ExpandFault>
-    requires context { IsContext context.now }
     requires lies { All (ReachedLies context.now.source.now) reached.now }
     ensures lines { GivesItems result (replaced (table context.now) context.now.rules.now context.now.source.now context.now.equs.now (reached_lines context.now.source.now reached.now)) }
     ensures inside { IfOk result (λ v. All (LineLies context.now.source.now) v.items) }
@@ -164,7 +164,7 @@ fn earliest_clash<'a>(
 }
 
 // Adds the labels of a line to those seen.
-fn check_line<'a>(
+pub(crate) fn check_line<'a>(
     context: &Context<'a>,
     seen: &mut NameTable<'a, u64>,
     line: &Line,
@@ -186,7 +186,6 @@ fn check_line<'a>(
 
 // Makes the line of the expansion for a line that was reached.
 fn line_of_reached(context: &Context, one: &Reached) -> Result<Line, ExpandFault>
-    requires context { IsContext context.now }
     requires lies { ReachedLies context.now.source.now one.now }
     ensures line { Gives result (line_of context.now.source.now context.now.equs.now (reached_line context.now.source.now one.now)) }
     ensures inside { IfOk result (LineLies context.now.source.now) }
@@ -205,7 +204,6 @@ fn take_line<'a>(
     seen: &mut NameTable<'a, u64>,
     one: &Reached,
 ) -> Result<Line, ExpandFault>
-    requires context { IsContext context.now }
     requires lies { ReachedLies context.now.source.now one.now }
     ensures line { Takes (is_new_label_by context.now) context.now.source.now (names_in seen.old) result (line_of context.now.source.now context.now.equs.now (reached_line context.now.source.now one.now)) (names_in seen.new) }
     ensures inside { IfOk result (LineLies context.now.source.now) }
@@ -258,7 +256,6 @@ fn lesser_of_line<'a>(
     head: &Head,
     least: ExpandFault,
 ) -> Result<ExpandFault, AllocError>
-    requires context { IsContext context.now }
     requires head { HeadLies context.now.source.now head.now }
     requires kind { least.kind ≢ OutOfMemory → is_replace_kind least.kind ≡ true }
     ensures kind { IfOk result (λ f. f.kind ≢ OutOfMemory → is_replace_kind f.kind ≡ true) }
@@ -288,7 +285,6 @@ fn lesser_fault<'a>(
     one: &Reached,
     least: ExpandFault,
 ) -> Result<ExpandFault, AllocError>
-    requires context { IsContext context.now }
     requires lies { ReachedLies context.now.source.now one.now }
     requires kind { least.kind ≢ OutOfMemory → is_replace_kind least.kind ≡ true }
     ensures kind { IfOk result (λ f. f.kind ≢ OutOfMemory → is_replace_kind f.kind ≡ true) }
@@ -312,7 +308,6 @@ fn least_fault<'a>(
     found: ExpandFault,
     rest: &[Reached],
 ) -> Result<ExpandFault, AllocError>
-    requires context { IsContext context.now }
     requires rest { All (ReachedLies context.now.source.now) rest.now }
     requires kind { found.kind ≢ OutOfMemory → is_replace_kind found.kind ≡ true }
     ensures memory { IfOk result (λ f. found.kind ≡ OutOfMemory → f.kind ≡ OutOfMemory) }

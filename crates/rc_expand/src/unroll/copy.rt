@@ -5,7 +5,9 @@ ghost use Rattle.rc_expand.specs.Heads.Lines.{HeadLies, is_name_token, is_ampers
 ghost use Rattle.rc_expand.specs.Unroll.{is_use, numbered, joins, copied_tokens, copied_code, copied_rest, copied_line, all_of};
 
 use crate::heads::head::{Head, HeadWord, Labels};
-use crate::heads::words::{clone_token, has_modifier, is_ampersand, is_name_token, with_front};
+use crate::heads::words::{
+    clone_token, clone_tokens, has_modifier, is_ampersand, is_name_token, with_front,
+};
 use crate::limits::MOST_JOINED;
 use crate::line::Tokens;
 use crate::names::spells;
@@ -80,7 +82,7 @@ pub(crate) fn copy_line(
         }),
         _ => Ok(Head {
             number: head.number,
-            labels: Labels::from_vec(Vec::new(alloc)),
+            labels: Labels::none(alloc),
             word: head.word,
             directive,
             rest: Tokens::from_vec(Vec::new(alloc)),
@@ -92,11 +94,11 @@ pub(crate) fn copy_line(
 pub(crate) fn clone_labels(alloc: Global, labels: &[Tokens]) -> Result<Labels, AllocError>
     ensures { IfOk result (λ l. l ≡ labels.now) }
 {
-    let mut cloned = Vec::new(alloc);
+    let mut cloned = Labels::none(alloc);
     for label in labels {
-        cloned.push(with_front(alloc, label.as_slice(), Vec::new(alloc))?)?;
+        cloned = cloned.with(alloc, clone_tokens(alloc, label.as_slice())?)?;
     }
-    Ok(Labels::from_vec(cloned))
+    Ok(cloned)
 }
 
 pub(crate) fn clone_head(alloc: Global, head: &Head) -> Result<Head, AllocError>
@@ -104,7 +106,7 @@ pub(crate) fn clone_head(alloc: Global, head: &Head) -> Result<Head, AllocError>
 {
     let labels = clone_labels(alloc, head.labels.as_slice())?;
     let directive = clone_directive(&head.directive)?;
-    let rest = with_front(alloc, head.rest.as_slice(), Vec::new(alloc))?;
+    let rest = clone_tokens(alloc, head.rest.as_slice())?;
     Ok(Head {
         number: head.number,
         labels,
@@ -177,7 +179,7 @@ fn copy_code(
     }
     match copy_tokens(alloc, source, counter, number, &tokens[3..])? {
         None => Ok(None),
-        Some(copied) => Ok(Some(with_front(alloc, &tokens[..3], copied.into_vec())?)),
+        Some(copied) => Ok(Some(with_front(alloc, &tokens[..3], copied)?)),
     }
 }
 
@@ -211,14 +213,14 @@ fn copy_labels(
     ensures copied { IfOk result (λ o. o ≡ all_of (copied_tokens source.now counter.now number) labels.now) }
     ensures inside { IfOk result (λ o. IfSome o (All (All (LiesIn source.now)))) }
 {
-    let mut copied = Vec::new(alloc);
+    let mut copied = Labels::none(alloc);
     for label in labels.as_slice() {
         match copy_tokens(alloc, source, counter, number, label.as_slice())? {
             None => return Ok(None),
-            Some(tokens) => copied.push(tokens)?,
+            Some(tokens) => copied = copied.with(alloc, tokens)?,
         }
     }
-    Ok(Some(Labels::from_vec(copied)))
+    Ok(Some(copied))
 }
 
 fn clone_directive(directive: &Option<Token>) -> Result<Option<Token>, AllocError>

@@ -5,9 +5,10 @@ ghost use Rattle.rc_expand.specs.Heads.Lines.{HeadLies};
 ghost use Rattle.rc_expand.specs.Unroll.{Gives, counter_token, small_count, earlier_of, is_bare_rof};
 ghost use Rattle.rc_expand.specs.Faults.{OnlyOf, is_unroll_kind};
 ghost use Rattle.rc_expand.specs.Steps.{Starts};
-ghost use Rattle.rc_expand.specs.Context.{IsContext, opening_by, count_by, is_new_by};
+ghost use Rattle.rc_expand.specs.Context.{opening_by, count_by, is_new_by};
 
-use crate::context::{Context, clash_with_given};
+use crate::clash::clash_with_given;
+use crate::context::Context;
 use crate::fault::{ExpandFault, ExpandKind, fault};
 use crate::heads::head::{Head, Labels};
 use crate::heads::labels::plain_token;
@@ -33,7 +34,6 @@ pub(crate) fn begin_block<'a>(
     context: &Context<'a>,
     first: &Head,
 ) -> Result<BlockStart<'a>, ExpandFault>
-    requires context { IsContext context.now }
     requires first { HeadLies context.now.source.now first.now }
     ensures opening { Starts result (opening_by context.now first.now) }
     ensures earlier { IfOk result (λ o. o.earlier ≡ earlier_of first.now.labels) }
@@ -105,7 +105,6 @@ fn small_count(value: i64) -> Option<u16>
 // Evaluates the count of a block, after replacing its EQU names.
 #[tactic(auto, unfolding(crate::specs::Unroll::count_of))]
 fn count_of(context: &Context, first: &Head) -> Result<u16, ExpandFault>
-    requires context { IsContext context.now }
     requires first { HeadLies context.now.source.now first.now }
     ensures count { Gives result (count_by context.now first.now.rest) }
     ensures kind { OnlyOf is_unroll_kind result }
@@ -184,14 +183,13 @@ pub(crate) fn earlier_labels(
     ensures inside { IfOk result (All (All (LiesIn source.now))) }
 {
     if labels.len() == 0 {
-        return Ok(Labels::from_vec(Vec::new(alloc)));
+        return Ok(Labels::none(alloc));
     }
     clone_labels(alloc, &labels[..labels.len() - 1])
 }
 
 // Refuses a counter that is a constant, a predefined name or an EQU name.
 fn check_counter(context: &Context, counter: Option<&Token>, line: u64) -> Result<(), ExpandFault>
-    requires context { IsContext context.now }
     requires inside { IfSome counter (λ t. LiesIn context.now.source.now t.now) }
     ensures new { MatchResult result (λ u. is_new_by context.now (option_map (λ t. t.now) counter.entry) ≡ true) (λ e. is_new_by context.now (option_map (λ t. t.now) counter.entry) ≡ false) }
     ensures kind { OnlyOf is_unroll_kind result }

@@ -11,12 +11,12 @@ use Rattle.rc_expand.proofs.heads.read.read_lines.Goals as goal
 pub loop-line-init : goal.loop-line-init
 loop-line-init c =
     let P : Ahead → Type 0 = λ a. SoFar c.args.source.now [] a.ending [] a.tokens in
-    let first : SoFar c.args.source.now c.new-heads.result.items c.new-lexer.result.ending c.new-line.result.items c.new-lexer.result.tokens =
-    rw (c.new-heads.ensures.items, c.new-line.ensures.items) (subst P (sym c.new-lexer.ensures.tokens) (at_first c.args.source.now)) in (
+    let first : SoFar c.args.source.now c.in_ok-heads.heads.items c.new-lexer.result.ending c.new-line.result.items c.new-lexer.result.tokens =
+    rw (c.in_ok-heads.ensures.items, c.new-line.ensures.items) (subst P (sym c.new-lexer.ensures.tokens) (at_first c.args.source.now)) in (
       first,
       all_inside c.args.source.now 0 c.new-lexer.result.tokens c.new-lexer.ensures.spans,
       All-same (LiesIn c.args.source.now) c.new-line.result.items [] c.new-line.ensures.items (All-nil (LiesIn c.args.source.now)),
-      All-same (HeadLies c.args.source.now) c.new-heads.result.items [] c.new-heads.ensures.items (All-nil (HeadLies c.args.source.now)),
+      All-same (HeadLies c.args.source.now) c.in_ok-heads.heads.items [] c.in_ok-heads.ensures.items (All-nil (HeadLies c.args.source.now)),
       at_beginning c.args.source.now c.new-lexer.result c.new-lexer.ensures.tokens,
     )
 
@@ -24,10 +24,10 @@ pub loop-line-preserved-then-is_line_end : goal.loop-line-preserved-then-is_line
 loop-line-preserved-then-is_line_end c =
     let took = rw c.in-Some.is at c.in_ok-token.ensures in
     let ended : false ≡ has_end (line_of_tokens c.args.source.now c.loop-line.line.items) =
-    sym c.if-branch.false ∙ (c.in_ok-push_line.ensures.ended ∙ ap (λ l. has_end (line_of_tokens c.args.source.now l)) c.deref.ensures.value) in
+    sym c.if-branch.false ∙ c.in_ok-push_line.ensures.ended in
     let r = at_line c.args.source.now c.loop-line.heads.items c.loop-line.lexer.ending c.loop-line.line.items c.in-Some.token c.next_token.new.lexer.tokens c.loop-line.lexer.tokens took.0 c.if-is_line_end.ensures ended c.loop-line.invariant.0 in
     let first : SoFar c.args.source.now c.push_line.new.heads.items c.next_token.new.lexer.ending c.clear.new.self.items c.next_token.new.lexer.tokens =
-    rw (c.in_ok-push_line.ensures.heads, took.1, c.deref.ensures.value, c.clear.ensures.items) r in (
+    rw (c.in_ok-push_line.ensures.heads, took.1, c.clear.ensures.items) r in (
       first,
       All-rest (LiesIn c.args.source.now) c.in-Some.token c.next_token.new.lexer.tokens c.loop-line.lexer.tokens took.0 c.loop-line.invariant.1,
       All-same (LiesIn c.args.source.now) c.clear.new.self.items [] c.clear.ensures.items (All-nil (LiesIn c.args.source.now)),

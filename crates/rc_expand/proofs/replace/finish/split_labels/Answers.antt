@@ -14,9 +14,9 @@ label_token-requires c =
 pub loop-label-preserved : goal.loop-label-preserved
 loop-label-preserved c =
     let s : Some c.in-Some-label_token.token.now ≡ label_token c.args.source.now c.in-Some.label.now = c.in-Some-label_token.ensures.token ∙ ap (label_token c.args.source.now) c.as_slice.ensures in
-    rw (c.in_ok-push-in-Some-label_token.ensures.items, c.in_ok-clone_token-in-Some-label_token.ensures) (
-      c.loop-label.invariant.0 ∙ own_more c.args.source.now c.loop-label.rest.now c.in-Some.label.now c.in-Some.after.now c.in-Some-label_token.token.now c.loop-label.own.items c.in-Some.ensures.cases.0 s,
+    rw (c.in_ok-own-in-Some-label_token.ensures, c.in_ok-clone_token-in-Some-label_token.ensures) (
+      c.loop-label.invariant.0 ∙ own_more c.args.source.now c.loop-label.rest.now c.in-Some.label.now c.in-Some.after.now c.in-Some-label_token.token.now c.loop-label.own c.in-Some.ensures.cases.0 s,
       c.loop-label.invariant.1 ∙ other_more c.args.source.now c.loop-label.rest.now c.in-Some.label.now c.in-Some.after.now c.in-Some-label_token.token.now c.in-Some.ensures.cases.0 s,
-      All-push (LiesIn c.args.source.now) c.loop-label.own.items c.in-Some-label_token.token.now c.loop-label.invariant.2 c.in-Some-label_token.ensures.inside,
+      All-push (LiesIn c.args.source.now) c.loop-label.own c.in-Some-label_token.token.now c.loop-label.invariant.2 c.in-Some-label_token.ensures.inside,
       All-rest (All (LiesIn c.args.source.now)) c.in-Some.label.now c.in-Some.after.now c.loop-label.rest.now c.in-Some.ensures.cases.0 c.loop-label.invariant.3,
     )

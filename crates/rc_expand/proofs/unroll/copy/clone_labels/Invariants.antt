@@ -2,4 +2,4 @@ use Rattle.std.proofs.Common.{◌≡◌, take}
 use Rattle.rc_expand.proofs.unroll.copy.clone_labels.Given as goal
 
 abbrev pub invariant-loop-label : goal.invariant-loop-label
-invariant-loop-label l = l.cloned.items ≡ take l.label-index l.labels
+invariant-loop-label l = l.cloned ≡ take l.label-index l.labels

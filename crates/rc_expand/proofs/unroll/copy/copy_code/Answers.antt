@@ -12,7 +12,6 @@ returns-in_ok-with_front-in-Some-clause-copied c =
     let h : 3 ≤ length c.args.tokens.now = omega arith in
     let tail : take (length c.args.tokens.now - 3) (drop 3 c.args.tokens.now) ≡ drop 3 c.args.tokens.now = between_to_end c.args.tokens.now 3 (length c.args.tokens.now) (omega arith) in
     let made : Some c.in-Some.copied ≡ f (drop 3 c.args.tokens.now) = sym c.in-Some.is ∙ (c.in_ok-copy_tokens.ensures.copied ∙ ap f tail) in
-    let all : c.in_ok-with_front-in-Some.field-0 ≡ take 3 c.args.tokens.now ++ c.in-Some.copied = c.in_ok-with_front-in-Some.ensures ∙ ap (λ r. take 3 c.args.tokens.now ++ r) c.into_vec.ensures in
-    ap Some all
+    ap Some c.in_ok-with_front-in-Some.ensures
     ∙ (ap (option_map (λ r. take 3 c.args.tokens.now ++ r)) made
     ∙ sym (code_kept c.args.source.now c.args.counter.now c.args.number c.args.tokens.now c.index-tokens-0.result c.index-tokens-1.result c.index-tokens-2.result h c.index-tokens-0.is c.index-tokens-1.is c.index-tokens-2.is c.if-not-has_modifier.ensures))
