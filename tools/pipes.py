@@ -3,7 +3,8 @@
 
 A reader that goes away ends a run with status 3 and the line `failed: Write`. A standard input that
 cannot be read, that is a terminal or that has no end leads to a named error or a result, in bounded
-time. A standard error that is a terminal gets a progress line, and help after a refusal.
+time. A standard error that is a terminal gets a progress line, and help after a refusal. A word that
+is not UTF-8 is a usage error.
 Expected values follow from `docs/FORMATS.md`. Prints what failed, and as its last line
 `N passed, N failed`. The exit status is 1 if a check failed.
 """
@@ -217,6 +218,13 @@ def standard_inputs(play):
     yield "an endless file", (3, b"", b"failed: read /dev/zero\n"), came
 
 
+def words_of_bytes(play):
+    """Yields checks of words that are not UTF-8, which no case can have."""
+    refused = (2, b"", b"error: a word of the command line is not UTF-8\n")
+    for words in [[b"\xff"], [b"asm", b"imp.red\xc3"]]:
+        yield f"the words {words}", refused, play.with_input("imps.fight", words)
+
+
 def closed_streams(play):
     """Yields checks that a closed standard stream is never a file that the run opens."""
     for name, words in [("a load file", ["asm", "imp.red"]), ("a verdict", CHECK), ("help", HELP)]:
@@ -363,6 +371,7 @@ def main():
             readers_that_go_away,
             certificates_for_pipes,
             standard_inputs,
+            words_of_bytes,
             closed_streams,
             interrupted,
             progress,
