@@ -3,7 +3,8 @@
 
 A reader that goes away ends a run with status 3 and the line `failed: Write`. A standard input that
 cannot be read, that is a terminal or that has no end leads to a named error or a result, in bounded
-time. A standard error that is a terminal gets a progress line, and help after a refusal.
+time. A standard error that is a terminal gets a progress line, and help after a refusal. A word that
+is not UTF-8 is a usage error.
 Expected values follow from `docs/FORMATS.md`. Prints what failed, and as its last line
 `N passed, N failed`. The exit status is 1 if a check failed.
 """
@@ -217,6 +218,13 @@ def standard_inputs(play):
     yield "an endless file", (3, b"", b"failed: read /dev/zero\n"), came
 
 
+def words_of_bytes(play):
+    """Yields checks of words that are not UTF-8, which no case can have."""
+    refused = (2, b"", b"error: a word of the command line is not UTF-8\n")
+    for words in [[b"\xff"], [b"asm", b"imp.red\xc3"]]:
+        yield f"the words {words}", refused, play.with_input("imps.fight", words)
+
+
 def closed_streams(play):
     """Yields checks that a closed standard stream is never a file that the run opens."""
     for name, words in [("a load file", ["asm", "imp.red"]), ("a verdict", CHECK), ("help", HELP)]:
@@ -315,12 +323,43 @@ def help_after_refusals(play):
     yield "help for a text", (1, b"", source), shown(play, ["asm", "zero.red"])
     text = b"refused: Asm line 1 Expand Text BadByte\n  escape.red, line 1: (a terminal cannot show it)\n"
     yield "no line that steers a terminal", (1, b"", text), shown(play, ["asm", "escape.red"])
-    text = b"refused: Rules Core\n  the core size is 8 to 65535\n"
-    yield "help for a rule", (1, b"", text), shown(play, ["asm", "--core=7", "imp.red"])
     text = b"refused: NoSuchSetting 2\n  settings are 0 to 1\n"
     came = shown(play, ["asm", "--setting=2", "two.red"])
     yield "help for a setting", (1, b"", text), came
+    yield from help_after_other_refusals(play)
     yield "no help on a pipe", (1, b"", source.split(b"  ")[0]), play.run(["asm", "zero.red"])
+
+
+def help_after_other_refusals(play):
+    """Yields checks of the lines after refusals of rules, a duel, a setting and a check."""
+    for option, name, text in [
+        ("--core=7", b"Core", b"the core size is 8 to 65535"),
+        ("--cycles=0", b"Cycles", b"the cycles are 1 to 1000000"),
+        ("--tasks=0", b"Tasks", b"the tasks are 1 to 8000"),
+        ("--length=0", b"Length", b"the length is 1 to 200"),
+        ("--distance=9", b"Distance", b"the distance is from the length to half of the core size"),
+    ]:
+        text = b"refused: Rules %s\n  %s\n" % (name, text)
+        yield f"help for {option}", (1, b"", text), shown(play, ["asm", option, "imp.red"])
+    source = b" zero.red line 2 Value DivisionByZero\n  zero.red, line 2: \tDAT 1/0\n"
+    for side, files in [(b"Candidate", "zero.red imp.red"), (b"Opponent", "imp.red zero.red")]:
+        text = b"refused: " + side + source
+        came = shown(play, ["fight", *RULES, *files.split()])
+        yield f"help for a {side.decode()}", (1, b"", text), came
+    text = b"refused: Position\n  positions are 5 to 11\n"
+    near = "--core=16 --length=4 --distance=5 --position=4".split()
+    came = shown(play, ["fight", *near, "imp.red", "imp.red"])
+    yield "help for the position of a fight", (1, b"", text), came
+    text = b"refused: Asm line 3 Value DivisionByZero\n  none.red, line 3: DAT 1/0\n"
+    came = shown(play, ["asm", "--setting=start", "none.red"])
+    yield "help for a setting that does not assemble", (1, b"", text), came
+    text = b"refused: Template line 1 EmptyRange\n  range.red, line 1: ;@tune K 2 1 1 1\n"
+    came = shown(play, ["asm", "--setting=0", "range.red"])
+    yield "help for the template of a setting", (1, b"", text), came
+    words = ["check", *RULES, "none.red", "both.csv", "two.cert", "dat.red", "imp.red"]
+    came = shown(play, words)
+    ended = (came[0], came[1], came[2].rpartition(CLEARED)[2])
+    yield "no help for a rejected certificate", (1, b"rejected row 2 WrongPoints\n", b""), ended
 
 
 def main():
@@ -332,6 +371,7 @@ def main():
             readers_that_go_away,
             certificates_for_pipes,
             standard_inputs,
+            words_of_bytes,
             closed_streams,
             interrupted,
             progress,
