@@ -1,8 +1,11 @@
 -- Tokens that are not EQU names are not replaced.
-use Rattle.std.proofs.Common.{◌≡◌, ℕ, zero, suc, ◌≤◌, true, false, List, [], ◌∷◌, ◌++◌, length, take, drop, Option, Some, None, refl, sym, ◌∙◌, ap}
-use Rattle.std.specs.Prelude.{nat_le, not, ◌&&◌, is_some, option_map, option_and_then}
+use Rattle.std.proofs.Common.{◌≡◌, ℕ, zero, suc, ◌≤◌, Bool, true, false, List, [], ◌∷◌, ◌++◌, length, take, drop, Option, Some, None, refl, sym, ◌∙◌, ap}
+use Rattle.std.specs.Prelude.{if◌then◌else◌, nat_le, not, ◌&&◌, is_some, option_map, option_and_then}
 use Rattle.std.proofs.lemmas.Bool.{and_parts, both_ways, le-leb}
 use Rattle.rc_text.specs.declared.token.Token.{Token}
+use Rattle.rc_text.specs.Symbols.{name_of}
+use Rattle.rc_expand.specs.Heads.Lines.{is_name_token}
+use Rattle.rc_expand.specs.Names.{entry_of}
 use Rattle.rc_expand.specs.Limits.{MOST_TOKENS, DEEPEST_EQU}
 use Rattle.rc_expand.specs.declared.heads.head.HeadWord.{HeadWord}
 use Rattle.rc_expand.specs.Replace.{Equs, equ_at, Replaced, replaced_both, one, spread, inner_at, within_limits, replaced_tokens, exempt_len, line_tokens}
@@ -44,6 +47,15 @@ module _ (source : List ℕ) (equs : Equs) where
       ap (λ b. option_map (λ r. take (exempt_len source w ts) ts ++ r) (replaced_tokens source equs b)) same
       ∙ (ap (option_map (λ r. take (exempt_len source w ts) ts ++ r)) (tokens_settled back h l)
       ∙ (ap (λ b. Some (take (exempt_len source w ts) ts ++ b)) (sym same) ∙ ap Some (take_drop (exempt_len source w ts) ts)))
+
+  no_equ : (b : Bool) (o : Option (List Token)) → None ≡ o → (if b then o else None) ≡ None
+  no_equ true o h = sym h
+  no_equ false o h = refl
+
+  -- without EQU names no token is one
+  pub none_settled : (ts : List Token) → ((name : List ℕ) → None ≡ entry_of equs name) → are_settled source equs ts ≡ true
+  none_settled [] h = refl
+  none_settled (t ∷ ts) h = ap (λ o. not (is_some o) && are_settled source equs ts) (no_equ (is_name_token t) (entry_of equs (name_of source t)) (h (name_of source t))) ∙ none_settled ts h
 
   -- a token that is not an EQU name is passed
   pub settled_more : (rest after : List Token) (t : Token) → rest ≡ t ∷ after → None ≡ equ_at source equs t → are_settled source equs after ≡ true → are_settled source equs rest ≡ true

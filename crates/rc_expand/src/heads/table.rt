@@ -1,5 +1,5 @@
 //! Tables of names, looked up by tokens.
-ghost use Rattle.std.specs.Prelude.{◌≡◌, [], Some, not, is_some, option_map, fold, flat_map, map, ◌+◌, IfOk, OnOk, OnErr};
+ghost use Rattle.std.specs.Prelude.{◌≡◌, List, ℕ, true, [], Some, None, not, is_some, option_map, fold, flat_map, map, ◌+◌, IfOk, OnOk, OnErr};
 ghost use Rattle.std.specs.Hash as fed;
 ghost use Rattle.std.specs.Str.{bytes_eq};
 ghost use Rattle.std.specs.Int.Digits.{digits_of};
@@ -205,6 +205,13 @@ impl<'a, V: Drop> NameTable<'a, V> {
             return None;
         }
         self.entries.get(spelled(source, token))
+    }
+
+    // Checks for a table without names.
+    pub(crate) fn is_empty(&self) -> bool
+        ensures { (name : List ℕ) → result ≡ true → None ≡ entry_of self.now name }
+    {
+        self.entries.len() == 0
     }
 
     // Returns the index of the name that a token spells. The token's span must lie in `source`.

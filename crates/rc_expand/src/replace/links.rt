@@ -97,6 +97,9 @@ fn are_settled(source: &[u8], tokens: &[Token], equs: &NameTable<Equ>) -> bool
     requires { All (LiesIn source.now) tokens.now }
     ensures { result ≡ true → are_settled source.now equs.now tokens.now ≡ true }
 {
+    if equs.is_empty() {
+        return true;
+    }
     let mut rest = tokens;
     while let Some((token, after)) = rest.split_first() {
         if equ_place(source, token, equs).is_some() {
