@@ -1,5 +1,5 @@
-//! The forms of the lines. They are checked once a line has no value, since the fault of a malformed
-//! line comes before those of values.
+//! The forms of the lines. They are checked once a line has no value, since the fault of a
+//! malformed line comes before those of values.
 ghost use Rattle.std.specs.Prelude.{◌≡◌, ◌≢◌, All, IfErr};
 ghost use Rattle.rc_asm.specs.declared.fault.AsmKind.TheVariants.{OutOfMemory};
 ghost use Rattle.std.specs.Result.{result_err};
