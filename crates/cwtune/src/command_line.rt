@@ -277,26 +277,35 @@ fn with_files<'a>(
     with_rules(alloc, command)
 }
 
-fn tune<'a>(alloc: Global) -> Result<Command<'a>, AllocError> {
-    let cache = Arg::new(alloc, "cache")
+// Makes the option for the settings to remember.
+fn cache_option<'a>(alloc: Global) -> Arg<'a> {
+    Arg::new(alloc, "cache")
         .long("cache")
         .value_name("NUMBER")
         .action(ArgAction::Set)
         .value_parser(value_parser!(u32).range(1..65_537))
         .help(
             "Settings to remember, so that equal warriors share fights, 1 to 65536 [default: 4096]",
-        );
+        )
+}
+
+// Makes the option to play all fights.
+fn all_option<'a>(alloc: Global) -> Result<Arg<'a>, AllocError> {
     let all = Arg::new(alloc, "all")
         .long("all")
         .action(ArgAction::SetTrue)
         .conflicts_with("cache")?
         .help("Play every fight of every setting, and list all of them in the certificate");
+    Ok(all)
+}
+
+fn tune<'a>(alloc: Global) -> Result<Command<'a>, AllocError> {
     let command = Command::new(alloc, "tune")
         .about(
             "Find the best setting of a template, write its certificate to CERT, and print a report",
         )
-        .arg(cache)?
-        .arg(all)?;
+        .arg(cache_option(alloc))?
+        .arg(all_option(alloc)?)?;
     with_files(
         alloc,
         command,
@@ -324,9 +333,9 @@ fn check<'a>(alloc: Global) -> Result<Command<'a>, AllocError> {
     with_files(alloc, command, "File of the certificate")
 }
 
-// Makes the commands. `fight` is the command of that name.
-fn commands<'a>(alloc: Global, fight: Command<'a>) -> Result<Command<'a>, AllocError> {
-    Command::new(alloc, "cwtune")
+// Makes the program's own help, without its commands.
+fn program<'a>(alloc: Global) -> Result<Command<'a>, AllocError> {
+    let command = Command::new(alloc, "cwtune")
         .no_binary_name(true)
         .bin_name("cwtune")?
         .about(
@@ -334,7 +343,13 @@ fn commands<'a>(alloc: Global, fight: Command<'a>) -> Result<Command<'a>, AllocE
         )
         .after_help(
             "Exit status: 0 success or accepted; 1 input refused or certificate rejected; 2 usage error; 3 I/O error or out of memory.",
-        )
+        );
+    Ok(command)
+}
+
+// Makes the commands. `fight` is the command of that name.
+fn commands<'a>(alloc: Global, fight: Command<'a>) -> Result<Command<'a>, AllocError> {
+    program(alloc)?
         .subcommand(fight)?
         .subcommand(asm(alloc)?)?
         .subcommand(tune(alloc)?)?

@@ -4,6 +4,7 @@ pub mod CapRows
 pub mod Certificates
 pub mod Scores
 pub mod RowChecks
+pub mod RowSteps
 pub mod Assembled
 pub mod Verdicts
 pub mod ItemText

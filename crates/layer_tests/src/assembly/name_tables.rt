@@ -4,6 +4,7 @@ ghost use Rattle.rc_text.specs.Symbols.{LiesIn};
 
 use rc_expand::NameTable;
 use rc_text::{Joined, Kind, Token};
+use std::alloc::Global;
 use std::test::Fail;
 
 // Returns the token of the first `hi` bytes of `source`, with no counter.
@@ -32,26 +33,37 @@ fn joined(source: &[u8], token: Token, counter: u16) -> Token
     token
 }
 
+// Makes a table of the names `x`, `x01` and `x014096`.
+fn table_of_three<'a>(alloc: Global) -> Result<NameTable<'a, u64>, Fail> {
+    let mut table = NameTable::new(alloc);
+    let source = b"x014096".as_slice();
+    table.add(alloc, source, &name_token(source, 1), 7)?;
+    table.add(alloc, source, &name_token(source, 3), 8)?;
+    table.add(alloc, source, &name_token(source, 7), 9)?;
+    Ok(table)
+}
+
 #[test]
 fn names_are_found_by_their_tokens(rt: HostRuntime) -> Result<(), Fail> {
-    let alloc = rt.alloc();
-    let mut table = NameTable::new(alloc);
+    let table = table_of_three(rt.alloc())?;
     let source = b"x01y".as_slice();
-    let other = b"x014096".as_slice();
-    assert!(rt; table.add(alloc, source, &name_token(source, 1), 7_u64)?);
-    assert!(rt; table.add(alloc, source, &name_token(source, 3), 8)?);
-    assert!(rt; table.add(alloc, other, &name_token(other, 7), 9)?);
-    let token = name_token(source, 1);
-    assert_eq!(rt; table.get(source, &token).copied(), Some(7));
-    let token = joined(source, token, 1);
+    assert_eq!(rt; table.get(source, &name_token(source, 1)).copied(), Some(7));
+    assert_eq!(rt; table.get(source, &name_token(source, 2)).copied(), None);
+    assert_eq!(rt; table.get(source, &name_token(source, 3)).copied(), Some(8));
+    assert_eq!(rt; table.get(source, &name_token(source, 4)).copied(), None);
+    Ok(())
+}
+
+#[test]
+fn names_are_found_by_their_counters(rt: HostRuntime) -> Result<(), Fail> {
+    let table = table_of_three(rt.alloc())?;
+    let source = b"x".as_slice();
+    let token = joined(source, name_token(source, 1), 1);
     assert_eq!(rt; table.get(source, &token).copied(), Some(8));
     let token = joined(source, token, 4096);
     assert_eq!(rt; table.get(source, &token).copied(), Some(9));
     let token = joined(source, token, 0);
     assert_eq!(rt; table.get(source, &token).copied(), None);
-    assert_eq!(rt; table.get(source, &name_token(source, 3)).copied(), Some(8));
-    assert_eq!(rt; table.get(source, &name_token(source, 2)).copied(), None);
-    assert_eq!(rt; table.get(source, &name_token(source, 4)).copied(), None);
     Ok(())
 }
 
