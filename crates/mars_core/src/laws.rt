@@ -3,7 +3,7 @@
 ghost use Rattle.std.specs.Prelude.{◌≡◌, ◌↔◌, ℕ, ◌+◌, ◌*◌, ◌≤◌, length};
 ghost use Rattle.rc_instr.specs.Warrior.{Fits};
 ghost use Rattle.mars_core.specs.Arena.{IsBlank};
-ghost use Rattle.mars_core.specs.State.{State};
+ghost use Rattle.mars_core.specs.State.{State, start_of};
 ghost use Rattle.mars_core.specs.Fight.{outcome_of, IsOutcome};
 ghost use Rattle.mars_core.specs.declared.side.Side.{Side};
 ghost use Rattle.mars_core.specs.declared.arena.Outcome.{Outcome};
@@ -20,8 +20,8 @@ pub fn a_fight_has_one_outcome()
         → (IsOutcome limit start first cycles o) ↔ (o ≡ outcome_of limit start first cycles) }
 {}
 
-/// Plays a fight on packed cells, then resets the arena. Returns the outcome and how many cells the
-/// reset set: at most the lengths of both codes, and three for each turn.
+/// Plays a fight on packed cells, then resets the arena. Returns the outcome of the fight and how
+/// many cells the reset set: at most the lengths of both codes, and three for each turn.
 ///
 /// The arena must be blank and without marks, as it is when new or reset, and is so again
 /// afterwards. Both warriors must keep its rules, and `at` must keep the distance, both ways round
@@ -38,6 +38,7 @@ pub fn a_reset_sets_few_cells(
     requires candidate { Fits arena.old.rules candidate.now }
     requires opponent { Fits arena.old.rules opponent.now }
     requires at { (arena.old.rules.distance ≤ at) × (at + arena.old.rules.distance ≤ arena.old.rules.core) }
+    ensures outcome { result.0 ≡ outcome_of arena.old.rules.tasks (start_of arena.old.rules.core candidate.now opponent.now at) first arena.old.rules.cycles }
     ensures count { result.1 ≤ length candidate.now.code + length opponent.now.code + 3 * result.0.turns }
     ensures blank { IsBlank arena.old.rules arena.new }
     ensures marks { arena.new.marks ≡ 0 }
