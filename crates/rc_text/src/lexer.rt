@@ -2,6 +2,7 @@
 ghost use Rattle.std.specs.Prelude.{◌≡◌, ◌+◌, ◌^◌, ◌<◌, length};
 ghost use Rattle.rc_text.specs.Tokens.{token_of};
 
+use crate::bytes::blanks_len;
 use crate::fault::LexFault;
 use crate::header::header_of;
 use crate::lexeme::{Lexeme, lexeme_of};
@@ -66,6 +67,7 @@ impl<'a> Lexer<'a> {
     pub fn next_token(&mut self) -> Result<Option<Token>, LexFault>
         ensures { TakesToken self.old result self.new }
     {
+        self.at += blanks_len(&self.source[self.at..]);
         while self.at < self.source.len() {
             match lexeme_of(&self.source[self.at..], self.first) {
                 Lexeme::Trivia(len) => self.at += len,
