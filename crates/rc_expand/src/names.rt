@@ -62,6 +62,9 @@ pub fn name_of(alloc: Global, source: &[u8], token: &Token) -> Result<Vec<u8>, A
 pub(crate) fn is_joined_name(bytes: &[u8], counters: &[u16], name: &[u8]) -> bool
     ensures { result ≡ bytes_eq (joined_name bytes.now counters.now) name.now }
 {
+    if counters.is_empty() {
+        return bytes == name;
+    }
     let mut rest = match after_bytes(bytes, name) {
         Some(after) => after,
         None => return false,
