@@ -97,6 +97,7 @@ fn is_draft_opcode(name: &[u8]) -> bool
 }
 
 // The letters are lower case.
+#[inline(always)]
 fn is_draft_word(first: u8, second: u8, third: u8) -> bool
     ensures { result ≡ is_lower_of draft_opcodes (first ∷ second ∷ third ∷ []) }
 {
@@ -134,6 +135,7 @@ fn is_added_opcode(name: &[u8]) -> bool
 }
 
 // The letters are lower case.
+#[inline(always)]
 fn is_added_word(first: u8, second: u8, third: u8) -> bool
     ensures { result ≡ is_lower_of added_opcodes (first ∷ second ∷ third ∷ []) }
 {
@@ -146,6 +148,7 @@ fn is_added_word(first: u8, second: u8, third: u8) -> bool
 }
 
 // ORG and END of the 1994 draft; EQU, FOR and ROF of pMARS. The letters are lower case.
+#[inline(always)]
 fn is_directive_word(first: u8, second: u8, third: u8) -> bool
     ensures { result ≡ is_lower_of directives (first ∷ second ∷ third ∷ []) }
 {
@@ -160,6 +163,7 @@ fn is_directive_word(first: u8, second: u8, third: u8) -> bool
 }
 
 // The letters are lower case.
+#[inline(always)]
 fn is_reserved_word(first: u8, second: u8, third: u8) -> bool
     ensures { let word = first ∷ second ∷ third ∷ [] in
         result ≡ (is_lower_of draft_opcodes word || (is_lower_of added_opcodes word || is_lower_of directives word)) }

@@ -67,10 +67,12 @@ impl<'a> Lexer<'a> {
     pub fn next_token(&mut self) -> Result<Option<Token>, LexFault>
         ensures { TakesToken self.old result self.new }
     {
-        self.at += blanks_len(&self.source[self.at..]);
         while self.at < self.source.len() {
             match lexeme_of(&self.source[self.at..], self.first) {
-                Lexeme::Trivia(len) => self.at += len,
+                Lexeme::Trivia(len) => {
+                    self.at += len;
+                    self.at += blanks_len(&self.source[self.at..]);
+                }
                 Lexeme::LineFeed => {
                     let token = token_of(Kind::LineEnd, self.at, 1, self.line);
                     self.at += 1;

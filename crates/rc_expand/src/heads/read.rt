@@ -65,6 +65,7 @@ fn goes_on(source: &[u8], tokens: &[Token], at: usize) -> bool
 }
 
 // Returns the index after a label. Its first name is the token before `from`.
+#[inline(always)]
 #[tactic(auto, using(crate::proofs::Reading::HeadSteps::tail_more, crate::proofs::Reading::HeadSteps::tail_colon, crate::proofs::Reading::HeadSteps::tail_none, crate::proofs::Reading::HeadSteps::tail_end))]
 fn label_end(source: &[u8], tokens: &[Token], from: usize) -> usize
     requires inside { All (LiesIn source.now) tokens.now }

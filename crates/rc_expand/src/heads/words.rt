@@ -129,6 +129,7 @@ pub(crate) fn is_opcode(source: &[u8], token: &Token) -> bool
 }
 
 // Checks for an opcode, a dot and a modifier.
+#[inline(always)]
 pub(crate) fn has_modifier(source: &[u8], opcode: &Token, dot: &Token, modifier: &Token) -> bool
     requires { LiesIn source.now opcode.now }
     ensures { result ≡ has_modifier source.now opcode.now dot.now modifier.now }

@@ -1,31 +1,39 @@
-use Rattle.std.proofs.Common.{rules, arith, ◌∙◌}
+use Rattle.std.proofs.Common.{rules, arith, ◌+◌, ◌∙◌}
 use Rattle.rc_text.proofs.LexemeSteps.{blanks_at, trivia_at, line_feed_at, word_at}
 use Rattle.rc_text.proofs.lexer.Lexer.next_token.Goals as goal
 
 pub overflow_add-self : goal.overflow_add-self
 overflow_add-self c =
-    let p = blanks_at c.self.inside.source.now c.self.inside.first c.self.inside.at c.self.inside.line _ c.self.invariant.0 c.blanks_len.ensures in
+    let p = trivia_at c.loop-self.self-inside.source.now c.loop-self.self-inside.first c.loop-self.self-inside.at c.loop-self.self-inside.line _ c.loop-self-test.true c.loop-self.invariant.2 c.in-Trivia.len c.in-Trivia.ensures in
     search rules
-
-pub loop-self-init : goal.loop-self-init
-loop-self-init c =
-    let p = blanks_at c.self.inside.source.now c.self.inside.first c.self.inside.at c.self.inside.line _ c.self.invariant.0 c.blanks_len.ensures in
-    (p.0, omega (arith, c.self.invariant.1), p.1 ∙ c.self.view_is)
 
 pub overflow_add-self-in-Trivia : goal.overflow_add-self-in-Trivia
 overflow_add-self-in-Trivia c =
     let p = trivia_at c.loop-self.self-inside.source.now c.loop-self.self-inside.first c.loop-self.self-inside.at c.loop-self.self-inside.line _ c.loop-self-test.true c.loop-self.invariant.2 c.in-Trivia.len c.in-Trivia.ensures in
+    let q = blanks_at c.loop-self.self-inside.source.now c.loop-self.self-inside.first (c.loop-self.self-inside.at + c.in-Trivia.len) c.loop-self.self-inside.line _ p.1 c.blanks_len.ensures in
     search rules
+
+pub slice_bounds-blanks_len-count : goal.slice_bounds-blanks_len-count
+slice_bounds-blanks_len-count c =
+    let p = trivia_at c.loop-self.self-inside.source.now c.loop-self.self-inside.first c.loop-self.self-inside.at c.loop-self.self-inside.line _ c.loop-self-test.true c.loop-self.invariant.2 c.in-Trivia.len c.in-Trivia.ensures in
+    omega (arith, p.1)
+
+pub slice_bounds-blanks_len-start : goal.slice_bounds-blanks_len-start
+slice_bounds-blanks_len-start c =
+    let p = trivia_at c.loop-self.self-inside.source.now c.loop-self.self-inside.first c.loop-self.self-inside.at c.loop-self.self-inside.line _ c.loop-self-test.true c.loop-self.invariant.2 c.in-Trivia.len c.in-Trivia.ensures in
+    omega (arith, p.1)
 
 pub loop-self-smaller : goal.loop-self-smaller
 loop-self-smaller c =
     let p = trivia_at c.loop-self.self-inside.source.now c.loop-self.self-inside.first c.loop-self.self-inside.at c.loop-self.self-inside.line _ c.loop-self-test.true c.loop-self.invariant.2 c.in-Trivia.len c.in-Trivia.ensures in
-    omega (arith, p.0, p.1)
+    let q = blanks_at c.loop-self.self-inside.source.now c.loop-self.self-inside.first (c.loop-self.self-inside.at + c.in-Trivia.len) c.loop-self.self-inside.line _ p.1 c.blanks_len.ensures in
+    omega (arith, p.0, p.1, q.0)
 
 pub loop-self-preserved : goal.loop-self-preserved
 loop-self-preserved c =
     let p = trivia_at c.loop-self.self-inside.source.now c.loop-self.self-inside.first c.loop-self.self-inside.at c.loop-self.self-inside.line _ c.loop-self-test.true c.loop-self.invariant.2 c.in-Trivia.len c.in-Trivia.ensures in
-    (p.1, omega (arith, c.loop-self.invariant.1), p.2)
+    let q = blanks_at c.loop-self.self-inside.source.now c.loop-self.self-inside.first (c.loop-self.self-inside.at + c.in-Trivia.len) c.loop-self.self-inside.line _ p.1 c.blanks_len.ensures in
+    (q.0, omega (arith, c.loop-self.invariant.1), q.1 ∙ p.2)
 
 pub returns-in-LineFeed : goal.returns-in-LineFeed
 returns-in-LineFeed c =
