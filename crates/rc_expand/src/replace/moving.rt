@@ -93,6 +93,9 @@ fn keeps_tokens(context: &Context, head: &Head) -> bool
     if tokens.len() > MOST_TOKENS {
         return false;
     }
+    if context.equs.is_empty() {
+        return true;
+    }
     let (_, back) = tokens.split_at(exempt_len(context.source, head.word, tokens));
     needs_no_replacement(context.source, back, context.equs)
 }
