@@ -68,7 +68,7 @@ impl<'a> Labels<'a> {
         ensures { IfOk result (λ labels. Agree labels (labels_of source.now lines.now)) }
     {
         let mut labels = Labels {
-            table: NameTable::new(alloc),
+            table: NameTable::with_capacity(alloc, lines.len())?,
         };
         let mut at: usize = 0;
         let mut rest = lines;

@@ -18,6 +18,7 @@ pub(crate) struct Operand {
 }
 
 // Reads the operand that `part` spells, with `at` lines of code before it. `None` gives `$0`.
+#[inline(always)]
 #[tactic(auto, unfolding(crate::specs::Instructions::operand_at))]
 pub(crate) fn operand_at(
     source: &[u8],
@@ -57,6 +58,7 @@ fn core_number(value: i64, core: u32) -> u16
 }
 
 // Evaluates `tokens` as the number of an operand. Labels count from the line itself.
+#[inline(always)]
 fn with_value(
     source: &[u8],
     context: &Context,

@@ -27,6 +27,7 @@ impl<'a> Names for GivenNames<'a> {
 
     ghost meaning = { λ s. given_names (table_of s.constants.now.names.now s.constants.now.values.now) s.rules.now };
 
+    #[inline(always)]
     #[tactic(auto, unfolding(crate::specs::Names::given_names))]
     fn value(&self, source: &[u8], name: &Token) -> Option<i64> {
         match constant_value(self.constants, source, name) {
@@ -59,7 +60,19 @@ pub fn name_of(alloc: Global, source: &[u8], token: &Token) -> Result<Vec<u8>, A
 }
 
 // Compares `name` with `bytes` and the counters joined to them, without building the joined name.
+// Most names have no counters, and differ in their length.
+#[inline(always)]
 pub(crate) fn is_joined_name(bytes: &[u8], counters: &[u16], name: &[u8]) -> bool
+    ensures { result ≡ bytes_eq (joined_name bytes.now counters.now) name.now }
+{
+    if counters.is_empty() {
+        return bytes == name;
+    }
+    is_counted_name(bytes, counters, name)
+}
+
+// Compares `name` with `bytes` and any number of counters joined to them.
+fn is_counted_name(bytes: &[u8], counters: &[u16], name: &[u8]) -> bool
     ensures { result ≡ bytes_eq (joined_name bytes.now counters.now) name.now }
 {
     let mut rest = match after_bytes(bytes, name) {
@@ -144,6 +157,7 @@ fn constant_value(constants: &Constants, source: &[u8], token: &Token) -> Option
 const SHORTEST_PREDEFINED: usize = 7;
 
 // Checks for a name that is shorter than every predefined one, as most are.
+#[inline(always)]
 fn is_short(token: &Token) -> bool
     requires { token.now.lo ≤ token.now.hi }
     ensures unjoined { result ≡ true → token.now.joined ≡ [] }
@@ -153,6 +167,7 @@ fn is_short(token: &Token) -> bool
 }
 
 // Looks up a predefined name. CURLINE has no value before lines are counted.
+#[inline(always)]
 fn predefined_value(rules: &Rules, source: &[u8], token: &Token) -> Option<i64>
     requires { LiesIn source.now token.now }
     ensures { result ≡ entry_of (predefined rules.now) (name_of source.now token.now) }
@@ -160,6 +175,14 @@ fn predefined_value(rules: &Rules, source: &[u8], token: &Token) -> Option<i64>
     if is_short(token) {
         return None;
     }
+    long_value(rules, source, token)
+}
+
+// Looks up a predefined name, by all of its bytes.
+fn long_value(rules: &Rules, source: &[u8], token: &Token) -> Option<i64>
+    requires { LiesIn source.now token.now }
+    ensures { result ≡ entry_of (predefined rules.now) (name_of source.now token.now) }
+{
     if spells(source, token, b"CORESIZE") {
         return Some(i64::from(rules.core()));
     }

@@ -174,3 +174,17 @@ module _ (names : Meaning) (symbols : List Symbol) (x : Outcome) (read : before_
 -- and for one that was refused
 pub refused_only : (names : Meaning) (symbols : List Symbol) (e : EvalFault) → before_operand (values names DEEPEST) symbols [] ≡ Err e → (r : Outcome) → HasOutcome names symbols r → Err e ≡ r
 refused_only names symbols e h r o = ap result_flatten (sym h) ∙ evaluation_of_outcome names symbols r o
+
+-- what reading gives is the value of the expression
+pub is_its_value : (names : Meaning) (symbols : List Symbol) (r : Outcome) → r ≡ evaluation_of names symbols → IfOk r (IsValue names symbols)
+is_its_value names symbols (Ok x) e = value_of_evaluation names symbols x (sym e)
+is_its_value names symbols (Err f) e = tt
+
+-- or its fault
+pub is_its_fault : (names : Meaning) (symbols : List Symbol) (r : Outcome) → r ≡ evaluation_of names symbols → IfErr r (IsEvalFault names symbols)
+is_its_fault names symbols (Ok x) e = tt
+is_its_fault names symbols (Err f) e = fault_of_evaluation names symbols f (sym e)
+
+-- and the expression has no other outcome
+pub is_its_only : (names : Meaning) (symbols : List Symbol) (r : Outcome) → r ≡ evaluation_of names symbols → (x : Outcome) → HasOutcome names symbols x → r ≡ x
+is_its_only names symbols r e x h = e ∙ evaluation_of_outcome names symbols x h

@@ -1,5 +1,6 @@
 -- What lies ahead at a place, by what is there.
-use Rattle.std.proofs.Common.{drop-drop, ◌≡◌, ◌≢◌, ℕ, suc, zero, ◌+◌, ◌-◌, ◌≤◌, ◌<◌, Bool, true, false, List, [], ◌∷◌, get_or, take, drop, length, refl, sym, subst, arith, ap, ◌∙◌, add-zero, length-drop}
+use Rattle.std.proofs.Common.{drop-drop, ◌≡◌, ◌≢◌, ℕ, suc, zero, ◌+◌, ◌-◌, ◌≤◌, ◌<◌, Bool, true, false, List, [], ◌∷◌, get_or, take, drop, length, refl, sym, subst, arith, ap, ◌∙◌, add-zero, length-drop, cond}
+use Rattle.std.proofs.Math.Numerals.{one-add}
 use Rattle.std.specs.Prelude.{Option, Some, None, Ok}
 use Rattle.std.specs.Prelude.{if◌then◌else◌, not, ◌&&◌, ◌==◌, ◌^◌, nat_lt, codes}
 use Rattle.std.specs.List.{prefix_len}
@@ -115,6 +116,28 @@ lies_ahead_by bs first at line (Fault f) fits e = e
 -- what lies ahead of the lexeme at the front
 pub lies_ahead : (bs : List ℕ) (first : Bool) (at line : ℕ) → 0 < length bs → LiesAhead bs first at line (lexeme_of first bs)
 lies_ahead bs first at line h = lies_ahead_by bs first at line (lexeme_of first bs) (lexeme_fits bs first h) (at_front bs first at line h)
+
+-- a run of blanks is passed over
+past_blanks : (bs : List ℕ) (first : Bool) (at line : ℕ) → tokens_from bs 0 first at line ≡ tokens_from (drop (prefix_len is_blank bs) bs) 0 first (at + prefix_len is_blank bs) line
+past_blanks [] first at line = refl
+past_blanks (b ∷ bs) first at line = by_first (is_blank b) refl (past_blanks bs first (at + 1) line) where
+  by_first : (t : Bool) → is_blank b ≡ t → tokens_from bs 0 first (at + 1) line ≡ tokens_from (drop (prefix_len is_blank bs) bs) 0 first (at + 1 + prefix_len is_blank bs) line → tokens_from (b ∷ bs) 0 first at line ≡ tokens_from (drop (cond t (1 + prefix_len is_blank bs) 0) (b ∷ bs)) 0 first (at + cond t (1 + prefix_len is_blank bs) 0) line
+  by_first true e more =
+      let sum : at + 1 + prefix_len is_blank bs ≡ at + (1 + prefix_len is_blank bs) = omega arith in
+      let fall : drop (1 + prefix_len is_blank bs) (b ∷ bs) ≡ drop (prefix_len is_blank bs) bs = rw one-add refl in
+      let front : tokens_from (b ∷ bs) 0 first at line ≡ tokens_from bs 0 first (at + 1) line = rw e refl in
+      rw (fall, ← sum) (front ∙ more)
+  by_first false e more = rw add-zero
+
+-- `&source[at..]` and the blanks there
+pub blanks_at : (source : List ℕ) (first : Bool) (at line n : ℕ) → at ≤ length source → n ≡ prefix_len is_blank (take (length source - at) (drop at source)) → (at + n ≤ length source) × (ahead_at source first (at + n) line ≡ ahead_at source first at line)
+blanks_at source first at line n h e =
+    let tail : take (length source - at) (drop at source) ≡ drop at source = between_to_end source at (length source) (omega arith) in
+    let is : n ≡ prefix_len is_blank (drop at source) = e ∙ ap (prefix_len is_blank) tail in
+    let le = prefix_len-le-length is_blank (drop at source) in
+    let d : drop n (drop at source) ≡ drop (at + n) source = rw drop-drop in
+    let p : tokens_from (drop at source) 0 first at line ≡ tokens_from (drop n (drop at source)) 0 first (at + n) line = rw is (past_blanks (drop at source) first at line) in
+    (omega (arith, is, le, length-drop at source), ap (λ t. ahead t line) (sym (p ∙ ap (λ bs. tokens_from bs 0 first (at + n) line) d)))
 
 -- the same at a place of a source, for what lies ahead there
 module _ (source : List ℕ) (first : Bool) (at line : ℕ) (v : Ahead) (inside : at < length source) (is : ahead_at source first at line ≡ v) where

@@ -1,11 +1,11 @@
 -- The reading of a whole expression.
-use Rattle.std.proofs.Common.{◌≡◌, ℕ, ◌<◌, true, false, nat_lt, List, [], ◌∷◌, length, refl, ◌∙◌, arith, cond}
+use Rattle.std.proofs.Common.{◌≡◌, ℕ, ◌<◌, ◌≤◌, get_or, sym, ap, true, false, nat_lt, List, [], ◌∷◌, length, refl, ◌∙◌, arith, cond}
 use Rattle.std.specs.Prelude.{Ok, Err}
 use Rattle.std.proofs.lemmas.Bool.Decides.{nat_tests}
 use Rattle.rc_text.specs.declared.token.Token.{Token}
 use Rattle.rc_text.specs.declared.fault.EvalFault.{EvalFault}
 use Rattle.rc_text.specs.declared.fault.EvalFault.TheVariants.{Syntax}
-use Rattle.rc_text.specs.Symbols.{Symbol, Numeral, Identifier, Mark, Foreign, symbols_of}
+use Rattle.rc_text.specs.Symbols.{Symbol, Numeral, Identifier, Mark, Foreign, symbol_of, symbols_of}
 use Rattle.rc_text.specs.Grammar.{level_of}
 use Rattle.rc_text.specs.Values.{Meaning, Outcome, DEEPEST}
 use Rattle.rc_text.specs.Reading.{Left, is_close, before_operand, after_operand, Stops, ReadsOperand, RefusesOperand, values}
@@ -35,3 +35,9 @@ module _ (names : Meaning) (symbols : List Symbol) where
   -- one that is refused
   pub whole_refused : (e : EvalFault) → RefusesOperand names 1 0 symbols e → before_operand (values names DEEPEST) symbols [] ≡ Err e
   whole_refused e h = h [] tt refl
+
+-- one token is one symbol
+pub one_symbol : (source : List ℕ) (ts : List Token) (t : Token) → 1 ≤ length ts → length ts < 2 → t ≡ get_or ts 0 t → symbols_of source ts ≡ symbol_of source t ∷ []
+one_symbol source [] t more less is = absurd (omega arith)
+one_symbol source (u ∷ []) t more less is = ap (λ w. symbol_of source w ∷ []) (sym is)
+one_symbol source (u ∷ v ∷ ts) t more less is = absurd (omega arith)

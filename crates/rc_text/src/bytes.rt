@@ -40,6 +40,13 @@ pub(crate) fn comment_len(text: &[u8]) -> usize
     text.iter().take_while(|byte| **byte != b'\n').count()
 }
 
+// Counts the blanks that `text` begins with.
+pub(crate) fn blanks_len(text: &[u8]) -> usize
+    ensures { result ≡ prefix_len is_blank text.now }
+{
+    text.iter().take_while(|byte| is_blank(**byte)).count()
+}
+
 // Returns the length of the name that `text` begins with.
 pub(crate) fn name_len(text: &[u8]) -> usize
     ensures { result ≡ prefix_len continues_name text.now }

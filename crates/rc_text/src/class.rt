@@ -1,5 +1,5 @@
 //! Classes of names: reserved, predefined or free.
-ghost use Rattle.std.specs.Prelude.{◌≡◌, ◌∷◌, []};
+ghost use Rattle.std.specs.Prelude.{◌≡◌, ◌∷◌, [], ◌&&◌, ◌||◌};
 ghost use Rattle.std.specs.List.{list_all};
 ghost use Rattle.std.specs.Str.{bytes_eq};
 ghost use Rattle.rc_text.specs.Bytes.{continues_name};
@@ -27,6 +27,13 @@ pub fn is_opcode_word(name: &[u8]) -> bool
     ensures { result ≡ is_opcode_word name.now }
 {
     is_draft_opcode(name) || is_added_opcode(name)
+}
+
+/// Checks whether the class of a name is `Reserved`, without looking for another class.
+pub fn is_reserved_name(name: &[u8]) -> bool
+    ensures { result ≡ (is_reserved name.now && is_name name.now) }
+{
+    is_reserved(name) && is_name(name)
 }
 
 /// Returns the class of a name.
@@ -90,6 +97,7 @@ fn is_draft_opcode(name: &[u8]) -> bool
 }
 
 // The letters are lower case.
+#[inline(always)]
 fn is_draft_word(first: u8, second: u8, third: u8) -> bool
     ensures { result ≡ is_lower_of draft_opcodes (first ∷ second ∷ third ∷ []) }
 {
@@ -127,6 +135,7 @@ fn is_added_opcode(name: &[u8]) -> bool
 }
 
 // The letters are lower case.
+#[inline(always)]
 fn is_added_word(first: u8, second: u8, third: u8) -> bool
     ensures { result ≡ is_lower_of added_opcodes (first ∷ second ∷ third ∷ []) }
 {
@@ -138,21 +147,8 @@ fn is_added_word(first: u8, second: u8, third: u8) -> bool
     }
 }
 
-// ORG and END of the 1994 draft; EQU, FOR and ROF of pMARS.
-fn is_directive(name: &[u8]) -> bool
-    ensures { result ≡ is_one_of directives name.now }
-{
-    match name {
-        [first, second, third] => is_directive_word(
-            first.to_ascii_lowercase(),
-            second.to_ascii_lowercase(),
-            third.to_ascii_lowercase(),
-        ),
-        _ => false,
-    }
-}
-
-// The letters are lower case.
+// ORG and END of the 1994 draft; EQU, FOR and ROF of pMARS. The letters are lower case.
+#[inline(always)]
 fn is_directive_word(first: u8, second: u8, third: u8) -> bool
     ensures { result ≡ is_lower_of directives (first ∷ second ∷ third ∷ []) }
 {
@@ -166,11 +162,28 @@ fn is_directive_word(first: u8, second: u8, third: u8) -> bool
     }
 }
 
-#[tactic(auto, unfolding(crate::specs::NameClasses::is_opcode_word))]
+// The letters are lower case.
+#[inline(always)]
+fn is_reserved_word(first: u8, second: u8, third: u8) -> bool
+    ensures { let word = first ∷ second ∷ third ∷ [] in
+        result ≡ (is_lower_of draft_opcodes word || (is_lower_of added_opcodes word || is_lower_of directives word)) }
+{
+    is_draft_word(first, second, third)
+        || (is_added_word(first, second, third) || is_directive_word(first, second, third))
+}
+
+// Checks for an opcode or a directive. All have three letters.
 fn is_reserved(name: &[u8]) -> bool
     ensures { result ≡ is_reserved name.now }
 {
-    is_opcode_word(name) || is_directive(name)
+    match name {
+        [first, second, third] => is_reserved_word(
+            first.to_ascii_lowercase(),
+            second.to_ascii_lowercase(),
+            third.to_ascii_lowercase(),
+        ),
+        _ => false,
+    }
 }
 
 // The predefined names (pMARS), in capitals only.

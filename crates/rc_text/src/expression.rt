@@ -3,7 +3,7 @@ ghost use Rattle.std.specs.Prelude.{true, ◌≡◌, ℤ, ◌<◌, ◌≤◌, []
 ghost use Rattle.std.specs.List.{prefix_len};
 ghost use Rattle.rc_text.specs.declared.fault.EvalFault.{EvalFault};
 ghost use Rattle.rc_text.specs.Values.{IsValue, IsEvalFault, HasOutcome, DEEPEST};
-ghost use Rattle.rc_text.specs.Symbols.{LiesIn, symbols_of, Mark};
+ghost use Rattle.rc_text.specs.Symbols.{LiesIn, symbol_of, symbols_of, Mark};
 ghost use Rattle.rc_text.specs.Reading.{ReadsOperand, RefusesOperand, Stops, is_prefix_kind, signed_by, signed_outcome, evaluation_of};
 
 use crate::fault::EvalFault;
@@ -30,6 +30,7 @@ const MAX_OPEN: u8 = 64;
 /// whichever comes first from the left. In an expression it then refuses the first from the left of
 /// a name without a value (`UnknownName`), a zero divisor (`DivisionByZero`) and a result that does
 /// not fit (`Overflow`).
+#[tactic(auto, using(crate::proofs::Evaluation::is_its_value, crate::proofs::Evaluation::is_its_fault, crate::proofs::Evaluation::is_its_only))]
 pub fn eval<N: Names>(source: &[u8], tokens: &[Token], names: &N) -> Result<i64, EvalFault>
     requires { All (LiesIn source.now) tokens.now }
     ensures value { IfOk result (IsValue (N.meaning names.now) (symbols_of source.now tokens.now)) }
@@ -37,6 +38,30 @@ pub fn eval<N: Names>(source: &[u8], tokens: &[Token], names: &N) -> Result<i64,
     ensures only { (r : Result ℤ EvalFault) →
         HasOutcome (N.meaning names.now) (symbols_of source.now tokens.now) r → result ≡ r }
     ensures reading { result ≡ evaluation_of (N.meaning names.now) (symbols_of source.now tokens.now) }
+{
+    match tokens {
+        [token] => alone(source, token, names),
+        _ => climb_all(source, tokens, names),
+    }
+}
+
+// Evaluates an expression of one token, as most are.
+#[tactic(auto, unfolding(crate::specs::Reading::before_operand, crate::specs::Reading::after_operand))]
+fn alone<N: Names>(source: &[u8], token: &Token, names: &N) -> Outcome
+    requires { LiesIn source.now token.now }
+    ensures { result ≡ evaluation_of (N.meaning names.now) (symbol_of source.now token.now ∷ []) }
+{
+    match token.kind {
+        Kind::Number(n) => number_outcome(n),
+        Kind::Name => name_outcome(names.value(source, token)),
+        _ => Err(EvalFault::Syntax),
+    }
+}
+
+// Evaluates an expression of any length.
+fn climb_all<N: Names>(source: &[u8], tokens: &[Token], names: &N) -> Outcome
+    requires { All (LiesIn source.now) tokens.now }
+    ensures { result ≡ evaluation_of (N.meaning names.now) (symbols_of source.now tokens.now) }
 {
     let (outcome, rest) = climb(source, tokens, names, 1, 0)?;
     if rest.is_empty() {

@@ -2,6 +2,7 @@
 ghost use Rattle.std.specs.Prelude.{◌≡◌, ◌+◌, ◌^◌, ◌<◌, length};
 ghost use Rattle.rc_text.specs.Tokens.{token_of};
 
+use crate::bytes::blanks_len;
 use crate::fault::LexFault;
 use crate::header::header_of;
 use crate::lexeme::{Lexeme, lexeme_of};
@@ -68,7 +69,10 @@ impl<'a> Lexer<'a> {
     {
         while self.at < self.source.len() {
             match lexeme_of(&self.source[self.at..], self.first) {
-                Lexeme::Trivia(len) => self.at += len,
+                Lexeme::Trivia(len) => {
+                    self.at += len;
+                    self.at += blanks_len(&self.source[self.at..]);
+                }
                 Lexeme::LineFeed => {
                     let token = token_of(Kind::LineEnd, self.at, 1, self.line);
                     self.at += 1;

@@ -18,7 +18,7 @@ mod operator;
 mod token;
 
 pub use bytes::{is_blank, is_same_word};
-pub use class::{NameClass, is_opcode_word, name_class};
+pub use class::{NameClass, is_opcode_word, is_reserved_name, name_class};
 pub use expression::eval;
 pub use fault::{EvalFault, LexFault};
 pub use lexer::Lexer;

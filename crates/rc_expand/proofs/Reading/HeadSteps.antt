@@ -3,7 +3,9 @@ use Rattle.std.proofs.Common.{◌≡◌, ℕ, suc, ◌+◌, ◌-◌, ◌≤◌, 
 use Rattle.std.specs.Prelude.{◌&&◌, if◌then◌else◌}
 use Rattle.std.proofs.lemmas.List.{drop_all, drop-drop, append-nil}
 use Rattle.rc_text.specs.declared.token.Token.{Token}
-use Rattle.rc_expand.specs.Heads.Lines.{is_ampersand, is_colon, is_free, goes_on, tail_len, begins_label, Labelled, labelled, unlabelled}
+use Rattle.rc_text.specs.declared.class.NameClass.TheVariants.{NoName, Reserved, Predefined, Free}
+use Rattle.rc_text.specs.NameClasses.{is_name, is_reserved, is_predefined, class_of}
+use Rattle.rc_expand.specs.Heads.Lines.{is_reserved_class, is_ampersand, is_colon, is_free, goes_on, tail_len, begins_label, Labelled, labelled, unlabelled}
 use Rattle.rc_expand.proofs.Each.{split_at}
 
 split_two : (ts : List Token) (i : ℕ) (u v : Token) → i + 1 < length ts → u ≡ get_or ts i u → v ≡ get_or ts (i + 1) v → drop i ts ≡ u ∷ v ∷ drop (i + 2) ts
@@ -14,6 +16,16 @@ split_two ts i u v h e f =
 both_true : (a b : Bool) → a && b ≡ true → b ≡ true
 both_true true b h = h
 both_true false b h = cc
+
+-- a reserved name is a name
+pub reserved_is : (name : List ℕ) → is_reserved_class (class_of name) ≡ (is_reserved name && is_name name)
+reserved_is name = by_tests (is_name name) (is_reserved name) (is_predefined name) where
+  by_tests : (n r p : Bool) → is_reserved_class (if n then (if r then Reserved else if p then Predefined else Free) else NoName) ≡ (r && n)
+  by_tests true true p = refl
+  by_tests true false true = refl
+  by_tests true false false = refl
+  by_tests false true p = refl
+  by_tests false false p = refl
 
 module _ (source : List ℕ) where
   short_list : (ts : List Token) → length ts ≤ 1 → goes_on source ts ≡ false
@@ -135,3 +147,10 @@ module _ (source : List ℕ) where
   pub labels_done : (tokens : List Token) (labels : List (List Token)) (at : ℕ) → false ≡ begins_label source (drop at tokens) → labelled source tokens ≡ behind labels (labelled source (drop at tokens))
       → labelled source tokens ≡ record { labels = labels; after = drop at tokens }
   labels_done tokens labels at b r = r ∙ (ap (behind labels) (no_label (drop at tokens) (sym b)) ∙ ap (λ ls. record { labels = ls; after = drop at tokens }) (append-nil labels))
+
+  -- a single label of the line
+  pub single_label : (tokens : List Token) (end : ℕ) (label : List Token) → true ≡ begins_label source tokens → end ≡ 1 + tail_len source (drop 1 tokens) → label ≡ take end tokens → false ≡ begins_label source (drop end tokens)
+      → labelled source tokens ≡ record { labels = label ∷ []; after = drop end tokens }
+  single_label tokens end label b e l d =
+      let z : end - 0 ≡ end = omega arith in
+      labels_done tokens (label ∷ []) end d (label_more tokens [] 0 end label b e (l ∙ ap (λ n. take n tokens) (sym z)) refl)

@@ -14,11 +14,6 @@ use Rattle.rc_expand.specs.Steps.{names_in}
 use Rattle.rc_expand.specs.Heads.NameTables.{with_name}
 use Rattle.rc_expand.proofs.NameSteps.{number_text, number_text_step}
 
-unseen : (a b : Bool) → true ≡ (a && not b) → b ≡ false
-unseen true false h = refl
-unseen true true h = cc
-unseen false b h = cc
-
 none_there : {A : Type 0} (o : Option A) → is_some o ≡ false → o ≡ None
 none_there None h = refl
 none_there (Some x) h = cc
@@ -99,15 +94,16 @@ module _ {A : Type 0} (name : List ℕ) where
     by_name false true s h = cc
     by_name false false s h = h
 
-  names_push : (table : List (List ℕ × A)) (value : A) → names_in (table ++ ((name, value) ∷ [])) ≡ names_in table ++ (name ∷ [])
-  names_push [] value = refl
-  names_push (e ∷ es) value = ap (λ ns. e.0 ∷ ns) (names_push es value)
+  -- a name that was added is fresh
+  pub added_is_fresh : {added : Bool} (table : List (List ℕ × A)) (known : Bool) → false ≡ known → true ≡ added → added ≡ not (is_some (entry_of table name)) → (not known && not (is_among (names_in table) name)) ≡ true
+  added_is_fresh table known k t e = rw (← k, ← seen_found table) (sym (t ∙ e))
 
-  -- a fresh name is one more of the names
-  pub fresh_pushed : (table new : List (List ℕ × A)) (bytes : List ℕ) (value : A) (test : Bool) → new ≡ with_name table bytes value → bytes ≡ name → true ≡ (test && not (is_among (names_in table) name))
-      → names_in new ≡ names_in table ++ (name ∷ [])
-  fresh_pushed table new bytes value test e b h =
-      ap names_in (name_pushed table new bytes value e b (seen_found table ∙ unseen test (is_among (names_in table) name) h)) ∙ names_push table value
+  -- one that was not added is not
+  pub kept_is_not_fresh : {added : Bool} (table : List (List ℕ × A)) (known : Bool) → false ≡ added → added ≡ not (is_some (entry_of table name)) → (not known && not (is_among (names_in table) name)) ≡ false
+  kept_is_not_fresh table known t e = ap (λ b. not known && not b) (sym (seen_found table)) ∙ (ap (λ b. not known && b) (sym (t ∙ e)) ∙ neither (not known)) where
+    neither : (b : Bool) → (b && false) ≡ false
+    neither true = refl
+    neither false = refl
 
 module _ {S : Type 0} (write : S → List ℕ → S) where
   -- one list of bytes after another

@@ -1,5 +1,5 @@
 -- Tokens that are not EQU names are not replaced.
-use Rattle.std.proofs.Common.{◌≡◌, ℕ, zero, suc, ◌≤◌, Bool, true, false, List, [], ◌∷◌, ◌++◌, length, take, drop, Option, Some, None, refl, sym, ◌∙◌, ap}
+use Rattle.std.proofs.Common.{◌≡◌, ℕ, zero, suc, ◌≤◌, Bool, true, false, List, [], ◌∷◌, ◌++◌, length, take, drop, Option, Some, None, refl, sym, ◌∙◌, ap, arith, length-drop}
 use Rattle.std.specs.Prelude.{if◌then◌else◌, nat_le, not, ◌&&◌, is_some, option_map, option_and_then}
 use Rattle.std.proofs.lemmas.Bool.{and_parts, both_ways, le-leb}
 use Rattle.rc_text.specs.declared.token.Token.{Token}
@@ -56,6 +56,11 @@ module _ (source : List ℕ) (equs : Equs) where
   pub none_settled : (ts : List Token) → ((name : List ℕ) → None ≡ entry_of equs name) → are_settled source equs ts ≡ true
   none_settled [] h = refl
   none_settled (t ∷ ts) h = ap (λ o. not (is_some o) && are_settled source equs ts) (no_equ (is_name_token t) (entry_of equs (name_of source t)) (h (name_of source t))) ∙ none_settled ts h
+
+  -- and a line keeps its tokens
+  pub kept_without : (w : HeadWord) (ts : List Token) → ((name : List ℕ) → None ≡ entry_of equs name) → length ts ≤ MOST_TOKENS → line_tokens source equs w ts ≡ Some ts
+  kept_without w ts h l =
+      line_settled w ts (drop (exempt_len source w ts) ts) (exempt_len source w ts) refl refl (none_settled (drop (exempt_len source w ts) ts) h) (omega (arith, l, length-drop (exempt_len source w ts) ts))
 
   -- a token that is not an EQU name is passed
   pub settled_more : (rest after : List Token) (t : Token) → rest ≡ t ∷ after → None ≡ equ_at source equs t → are_settled source equs after ≡ true → are_settled source equs rest ≡ true

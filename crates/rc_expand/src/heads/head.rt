@@ -40,6 +40,14 @@ impl Labels {
         }
     }
 
+    pub(crate) fn one(label: Tokens) -> Self
+        ensures { result ≡ label ∷ [] }
+    {
+        Labels {
+            kept: KeptLabels::One(label),
+        }
+    }
+
     // Appends a label. The first one is kept in place.
     pub(crate) fn with(self, alloc: Global, label: Tokens) -> Result<Self, AllocError>
         ensures { IfOk result (λ l. l ≡ self ++ label ∷ []) }

@@ -7,6 +7,7 @@ use crate::heads::words::{is_colon, is_free, is_unjoined};
 use rc_text::Token;
 
 // Returns the name of a label that is a single name, with or without its colon.
+#[inline(always)]
 pub(crate) fn label_token<'a>(source: &[u8], label: &'a [Token]) -> Option<&'a Token>
     requires { All (LiesIn source.now) label.now }
     ensures token { option_map (λ t. t.now) result ≡ label_token source.now label.now }

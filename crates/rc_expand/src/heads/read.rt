@@ -65,6 +65,7 @@ fn goes_on(source: &[u8], tokens: &[Token], at: usize) -> bool
 }
 
 // Returns the index after a label. Its first name is the token before `from`.
+#[inline(always)]
 #[tactic(auto, using(crate::proofs::Reading::HeadSteps::tail_more, crate::proofs::Reading::HeadSteps::tail_colon, crate::proofs::Reading::HeadSteps::tail_none, crate::proofs::Reading::HeadSteps::tail_end))]
 fn label_end(source: &[u8], tokens: &[Token], from: usize) -> usize
     requires inside { All (LiesIn source.now) tokens.now }
@@ -97,8 +98,32 @@ fn begins_label(source: &[u8], tokens: &[Token], at: usize) -> bool
     }
 }
 
-// Reads the labels of a line. Returns them and the index after them.
+// Reads the labels of a line. Returns them and the index after them. A single label is kept in
+// place.
 fn read_labels(
+    alloc: Global,
+    source: &[u8],
+    tokens: &[Token],
+) -> Result<(Labels, usize), AllocError>
+    requires { All (LiesIn source.now) tokens.now }
+    ensures labels { IfOk result (λ p. p.0 ≡ (labelled source.now tokens.now).labels) }
+    ensures rest { IfOk result (λ p. drop p.1 tokens.now ≡ (labelled source.now tokens.now).after) }
+    ensures place { IfOk result (λ p. p.1 ≤ length tokens.now) }
+    ensures inside { IfOk result (λ p. All (All (LiesIn source.now)) p.0) }
+{
+    if !begins_label(source, tokens, 0) {
+        return Ok((Labels::none(alloc), 0));
+    }
+    let end = label_end(source, tokens, 1);
+    if begins_label(source, tokens, end) {
+        return many_labels(alloc, source, tokens);
+    }
+    let label = clone_tokens(alloc, &tokens[..end])?;
+    Ok((Labels::one(label), end))
+}
+
+// Does what `read_labels` does, for any number of labels.
+fn many_labels(
     alloc: Global,
     source: &[u8],
     tokens: &[Token],

@@ -153,6 +153,14 @@ impl<'a, V: Drop> NameTable<'a, V> {
         }
     }
 
+    /// Creates an empty table with room for `names` names. Fails only if out of memory.
+    pub fn with_capacity(alloc: Global, names: usize) -> Result<Self, AllocError>
+        ensures { IfOk result (λ t. t ≡ []) }
+    {
+        let entries = IndexMap::with_capacity(alloc, names)?;
+        Ok(NameTable { entries })
+    }
+
     /// Adds the name that a token spells, joined counters included, with its value, unless the name
     /// is in the table already: then the table stays as it is, and `value` is dropped. Returns
     /// whether the name is new. The token's span must lie in `source`.

@@ -8,7 +8,7 @@ ghost use Rattle.rc_expand.specs.Heads.Lines.{is_reserved_class, is_name_token, 
 
 use crate::heads::head::HeadWord;
 use crate::line::Tokens;
-use rc_text::{Joined, Kind, NameClass, Sign, Token, is_opcode_word, is_same_word, name_class};
+use rc_text::{Joined, Kind, Sign, Token, is_opcode_word, is_reserved_name, is_same_word};
 use std::alloc::{AllocError, Global};
 
 // Copies a token. Most have no counters, and skip the loop that copies them.
@@ -129,6 +129,7 @@ pub(crate) fn is_opcode(source: &[u8], token: &Token) -> bool
 }
 
 // Checks for an opcode, a dot and a modifier.
+#[inline(always)]
 pub(crate) fn has_modifier(source: &[u8], opcode: &Token, dot: &Token, modifier: &Token) -> bool
     requires { LiesIn source.now opcode.now }
     ensures { result ≡ has_modifier source.now opcode.now dot.now modifier.now }
@@ -149,13 +150,11 @@ pub(crate) fn word_of(source: &[u8], token: &Token) -> HeadWord
 }
 
 // Checks for an opcode or a directive.
+#[tactic(auto, using(crate::proofs::Reading::HeadSteps::reserved_is))]
 fn is_reserved(name: &[u8]) -> bool
     ensures { result ≡ is_reserved_class (class_of name.now) }
 {
-    match name_class(name) {
-        NameClass::Reserved => true,
-        _ => false,
-    }
+    is_reserved_name(name)
 }
 
 // Returns the directive that a name spells, in any case, or `Code`.

@@ -25,7 +25,30 @@ use std::alloc::{AllocError, Global};
 
 // Splits the labels before the first that is not a single name. From there on they are not labels:
 // they are tokens of a line of code.
+#[inline(always)]
 pub(crate) fn split_labels<'a>(
+    alloc: Global,
+    source: &[u8],
+    labels: &'a [Tokens],
+) -> Result<(Tokens, &'a [Tokens]), AllocError>
+    requires { All (All (LiesIn source.now)) labels.now }
+    ensures own { IfOk result (λ p. p.0 ≡ own_labels source.now labels.now) }
+    ensures others { IfOk result (λ p. p.1.now ≡ other_labels source.now labels.now) }
+    ensures own_inside { IfOk result (λ p. All (LiesIn source.now) p.0) }
+    ensures others_inside { IfOk result (λ p. All (All (LiesIn source.now)) p.1.now) }
+{
+    if let Some((label, after)) = labels.split_first() {
+        if after.is_empty() {
+            if let Some(token) = label_token(source, label.as_slice()) {
+                return Ok((Tokens::one(clone_token(token)?), after));
+            }
+        }
+    }
+    split_many(alloc, source, labels)
+}
+
+// Does what `split_labels` does, for any number of labels.
+fn split_many<'a>(
     alloc: Global,
     source: &[u8],
     labels: &'a [Tokens],

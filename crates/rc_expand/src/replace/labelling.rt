@@ -60,18 +60,6 @@ fn seen_line(seen: &NameTable<u64>, source: &[u8], token: &Token, line: u64) -> 
     }
 }
 
-// Returns where to report a label whose name is taken: at the later of the two definitions, or at
-// its own line if the other is built in.
-fn clash_line(context: &Context, seen: &NameTable<u64>, token: &Token, line: u64) -> Option<u64>
-    requires { LiesIn context.now.source.now token.now }
-    ensures { not (is_some result) ≡ (is_new_label_by context.now (name_of context.now.source.now token.now) && not (is_among (names_in seen.now) (name_of context.now.source.now token.now))) }
-{
-    match clash_with_given(context, token, line) {
-        Some(known) => Some(known),
-        None => seen_line(seen, context.source, token, line),
-    }
-}
-
 // Adds a label to those seen, or refuses it at the line of the clash.
 fn check_label<'a>(
     context: &Context<'a>,
@@ -86,13 +74,14 @@ fn check_label<'a>(
         (λ e. e.kind ≢ OutOfMemory → (is_new_label_by context.now (name_of context.now.source.now token.now) && not (is_among (names_in seen.old) (name_of context.now.source.now token.now))) ≡ false) }
     ensures kind { OnlyOf is_replace_kind result }
 {
-    match clash_line(context, seen, token, line) {
-        Some(later) => Err(fault(later, ExpandKind::DuplicateName)),
-        None => {
-            seen.add(context.alloc, context.source, token, line)?;
-            Ok(())
-        }
+    if let Some(later) = clash_with_given(context, token, line) {
+        return Err(fault(later, ExpandKind::DuplicateName));
     }
+    if seen.add(context.alloc, context.source, token, line)? {
+        return Ok(());
+    }
+    let later = seen_line(seen, context.source, token, line).unwrap_or(line);
+    Err(fault(later, ExpandKind::DuplicateName))
 }
 
 fn lesser_line(first: Option<u64>, second: Option<u64>) -> Option<u64> {
@@ -164,20 +153,21 @@ fn earliest_clash<'a>(
 }
 
 // Adds the labels of a line to those seen.
-pub(crate) fn check_line<'a>(
+pub(crate) fn check_labels<'a>(
     context: &Context<'a>,
     seen: &mut NameTable<'a, u64>,
-    line: &Line,
+    labels: &[Token],
+    line: u64,
 ) -> Result<(), ExpandFault>
-    requires { LineLies context.now.source.now line.now }
-    ensures seen { Freshens (is_new_label_by context.now) (names_in seen.old) result (map (name_of context.now.source.now) line.now.labels) (names_in seen.new) }
+    requires { All (LiesIn context.now.source.now) labels.now }
+    ensures seen { Freshens (is_new_label_by context.now) (names_in seen.old) result (map (name_of context.now.source.now) labels.now) (names_in seen.new) }
     ensures kind { OnlyOf is_replace_kind result }
 {
-    let mut rest = line.labels.as_slice();
+    let mut rest = labels;
     while let Some((token, after)) = rest.split_first() {
-        match check_label(context, seen, token, line.number) {
+        match check_label(context, seen, token, line) {
             Ok(()) => {}
-            Err(found) => return Err(earliest_clash(context, seen, found, rest, line.number)?),
+            Err(found) => return Err(earliest_clash(context, seen, found, rest, line)?),
         }
         rest = after;
     }
@@ -210,7 +200,7 @@ fn take_line<'a>(
     ensures kind { OnlyOf is_replace_kind result }
 {
     let line = line_of_reached(context, one)?;
-    check_line(context, seen, &line)?;
+    check_labels(context, seen, line.labels.as_slice(), line.number)?;
     Ok(line)
 }
 

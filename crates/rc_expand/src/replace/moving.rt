@@ -16,7 +16,7 @@ use crate::heads::table::NameTable;
 use crate::limits::MOST_TOKENS;
 use crate::line::Line;
 use crate::replace::finish::{exempt_len, line_of, line_word, split_labels};
-use crate::replace::labelling::check_line;
+use crate::replace::labelling::check_labels;
 use crate::replace::links::needs_no_replacement;
 use std::collections::VecDeque;
 
@@ -27,7 +27,7 @@ pub(crate) fn move_lines(context: &Context, heads: Vec<Head>) -> Result<Vec<Line
     ensures inside { IfOk result (λ v. All (LineLies context.now.source.now) v.items) }
 {
     let mut lines = Vec::with_capacity(context.alloc, heads.len())?;
-    let mut seen = NameTable::new(context.alloc);
+    let mut seen = NameTable::with_capacity(context.alloc, heads.len())?;
     let mut rest = VecDeque::from_vec(heads);
     while let Some(head) = rest.pop_front() {
         match head.word {
@@ -41,7 +41,8 @@ pub(crate) fn move_lines(context: &Context, heads: Vec<Head>) -> Result<Vec<Line
     Ok(lines)
 }
 
-// Makes the line of the expansion, and adds its labels to those seen.
+// Makes the line of the expansion, and adds its labels to those seen. Its tokens are moved, unless
+// they are replaced or a would-be label is one of them.
 fn take_head<'a>(
     context: &Context<'a>,
     seen: &mut NameTable<'a, u64>,
@@ -52,8 +53,32 @@ fn take_head<'a>(
         × ((rest : List (List ℕ)) → are_fresh (is_new_label_by context.now) (names_in seen.old) (map (name_of context.now.source.now) l.labels ++ rest) ≡ are_fresh (is_new_label_by context.now) (names_in seen.new) rest)) }
     ensures inside { IfOk result (LineLies context.now.source.now) }
 {
-    let line = move_line(context, head)?;
-    check_line(context, seen, &line)?;
+    let (labels, others) = split_labels(context.alloc, context.source, head.labels.as_slice())?;
+    if !others.is_empty() || !keeps_tokens(context, &head) {
+        return take_copy(context, seen, &head);
+    }
+    check_labels(context, seen, labels.as_slice(), head.number)?;
+    Ok(Line {
+        number: head.number,
+        labels,
+        word: line_word(head.word),
+        tokens: head.rest,
+    })
+}
+
+// Makes the line of the expansion from copies, and adds its labels to those seen.
+fn take_copy<'a>(
+    context: &Context<'a>,
+    seen: &mut NameTable<'a, u64>,
+    head: &Head,
+) -> Result<Line, ExpandFault>
+    requires lies { HeadLies context.now.source.now head.now }
+    ensures line { IfOk result (λ l. (line_of context.now.source.now context.now.equs.now head.now ≡ Some l)
+        × ((rest : List (List ℕ)) → are_fresh (is_new_label_by context.now) (names_in seen.old) (map (name_of context.now.source.now) l.labels ++ rest) ≡ are_fresh (is_new_label_by context.now) (names_in seen.new) rest)) }
+    ensures inside { IfOk result (LineLies context.now.source.now) }
+{
+    let line = line_of(context, head)?;
+    check_labels(context, seen, line.labels.as_slice(), line.number)?;
     Ok(line)
 }
 
@@ -68,25 +93,9 @@ fn keeps_tokens(context: &Context, head: &Head) -> bool
     if tokens.len() > MOST_TOKENS {
         return false;
     }
+    if context.equs.is_empty() {
+        return true;
+    }
     let (_, back) = tokens.split_at(exempt_len(context.source, head.word, tokens));
     needs_no_replacement(context.source, back, context.equs)
-}
-
-// Makes the line of the expansion. Its tokens are moved, unless they are replaced or a would-be
-// label is one of them.
-fn move_line(context: &Context, head: Head) -> Result<Line, ExpandFault>
-    requires lies { HeadLies context.now.source.now head }
-    ensures line { IfOk result (λ l. line_of context.now.source.now context.now.equs.now head ≡ Some l) }
-    ensures inside { IfOk result (LineLies context.now.source.now) }
-{
-    let (labels, others) = split_labels(context.alloc, context.source, head.labels.as_slice())?;
-    if !others.is_empty() || !keeps_tokens(context, &head) {
-        return line_of(context, &head);
-    }
-    Ok(Line {
-        number: head.number,
-        labels,
-        word: line_word(head.word),
-        tokens: head.rest,
-    })
 }

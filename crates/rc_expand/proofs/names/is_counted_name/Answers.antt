@@ -2,7 +2,7 @@ use Rattle.std.proofs.Common.{sym, ◌∙◌}
 use Rattle.std.specs.Prelude.{flat_map}
 use Rattle.rc_text.specs.Symbols.{counter_text}
 use Rattle.rc_expand.proofs.NameSteps.{peeled, counter_peeled, counter_differs}
-use Rattle.rc_expand.proofs.names.is_joined_name.Goals as goal
+use Rattle.rc_expand.proofs.names.is_counted_name.Goals as goal
 
 pub loop-counter-init : goal.loop-counter-init
 loop-counter-init c = peeled c.args.bytes.now (flat_map counter_text c.args.counters.now) c.args.name.now c.in-Some.after.now c.in-Some.ensures

@@ -2,7 +2,7 @@ use Rattle.std.proofs.Common.{◌≡◌, ◌++◌, length}
 use Rattle.std.specs.Prelude.{All}
 use Rattle.rc_text.specs.Symbols.{LiesIn}
 use Rattle.rc_expand.specs.Replace.Lines.{own_labels, other_labels}
-use Rattle.rc_expand.proofs.replace.finish.split_labels.Given as goal
+use Rattle.rc_expand.proofs.replace.finish.split_many.Given as goal
 
 abbrev pub decreases-loop-label : goal.decreases-loop-label
 decreases-loop-label l = length l.rest

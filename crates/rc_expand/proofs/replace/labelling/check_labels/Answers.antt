@@ -4,7 +4,7 @@ use Rattle.rc_text.specs.Symbols.{LiesIn}
 use Rattle.rc_expand.specs.Steps.{names_in}
 use Rattle.rc_expand.specs.Context.{is_new_label_by}
 use Rattle.rc_expand.proofs.Replacing.Labelled.{label_more}
-use Rattle.rc_expand.proofs.replace.labelling.check_line.Goals as goal
+use Rattle.rc_expand.proofs.replace.labelling.check_labels.Goals as goal
 
 pub loop-token-preserved : goal.loop-token-preserved
 loop-token-preserved c = (

@@ -3,7 +3,7 @@ use Rattle.std.specs.Prelude.{All}
 use Rattle.rc_text.specs.Symbols.{LiesIn}
 use Rattle.rc_expand.specs.Heads.Lines.{labelled}
 use Rattle.rc_expand.proofs.Reading.HeadSteps.{behind}
-use Rattle.rc_expand.proofs.heads.read.read_labels.Given as goal
+use Rattle.rc_expand.proofs.heads.read.many_labels.Given as goal
 
 abbrev pub invariant-line : goal.invariant-line
 invariant-line l =
