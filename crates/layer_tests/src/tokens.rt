@@ -5,7 +5,7 @@ ghost use Rattle.rc_text.specs.Tokens.{ahead_of};
 
 use rc_text::{
     EvalFault, Joined, Kind, LexFault, Lexer, NameClass, Names, Token, eval, is_blank,
-    is_opcode_word, is_same_word, name_class,
+    is_opcode_word, is_reserved_name, is_same_word, name_class,
 };
 use std::alloc::Global;
 use std::test::Fail;
@@ -110,6 +110,7 @@ fn names_have_classes(rt: HostRuntime) {
     ] {
         assert_eq!(rt; name_class(name), class);
         assert_eq!(rt; is_opcode_word(name), is_opcode);
+        assert_eq!(rt; is_reserved_name(name), class == NameClass::Reserved);
     }
 }
 

@@ -35,7 +35,7 @@ fn joined(source: &[u8], token: Token, counter: u16) -> Token
 
 // Makes a table of the names `x`, `x01` and `x014096`.
 fn table_of_three<'a>(alloc: Global) -> Result<NameTable<'a, u64>, Fail> {
-    let mut table = NameTable::new(alloc);
+    let mut table = NameTable::with_capacity(alloc, 3)?;
     let source = b"x014096".as_slice();
     table.add(alloc, source, &name_token(source, 1), 7)?;
     table.add(alloc, source, &name_token(source, 3), 8)?;
