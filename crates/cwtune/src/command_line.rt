@@ -277,7 +277,7 @@ fn with_files<'a>(
     with_rules(alloc, command)
 }
 
-// Makes the option for the settings to remember.
+// Makes `--cache`.
 fn cache_option<'a>(alloc: Global) -> Arg<'a> {
     Arg::new(alloc, "cache")
         .long("cache")
@@ -289,7 +289,7 @@ fn cache_option<'a>(alloc: Global) -> Arg<'a> {
         )
 }
 
-// Makes the option to play all fights.
+// Makes `--all`.
 fn all_option<'a>(alloc: Global) -> Result<Arg<'a>, AllocError> {
     let all = Arg::new(alloc, "all")
         .long("all")
@@ -333,8 +333,8 @@ fn check<'a>(alloc: Global) -> Result<Command<'a>, AllocError> {
     with_files(alloc, command, "File of the certificate")
 }
 
-// Makes the program's own help, without its commands.
-fn program<'a>(alloc: Global) -> Result<Command<'a>, AllocError> {
+// Makes the command `cwtune`, before its commands are added.
+fn top_command<'a>(alloc: Global) -> Result<Command<'a>, AllocError> {
     let command = Command::new(alloc, "cwtune")
         .no_binary_name(true)
         .bin_name("cwtune")?
@@ -349,7 +349,7 @@ fn program<'a>(alloc: Global) -> Result<Command<'a>, AllocError> {
 
 // Makes the commands. `fight` is the command of that name.
 fn commands<'a>(alloc: Global, fight: Command<'a>) -> Result<Command<'a>, AllocError> {
-    program(alloc)?
+    top_command(alloc)?
         .subcommand(fight)?
         .subcommand(asm(alloc)?)?
         .subcommand(tune(alloc)?)?

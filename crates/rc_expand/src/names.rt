@@ -60,7 +60,7 @@ pub fn name_of(alloc: Global, source: &[u8], token: &Token) -> Result<Vec<u8>, A
 }
 
 // Compares `name` with `bytes` and the counters joined to them, without building the joined name.
-// Most names have no counters, and differ in their length.
+// Most names have no counters, and are compared at once.
 #[inline(always)]
 pub(crate) fn is_joined_name(bytes: &[u8], counters: &[u16], name: &[u8]) -> bool
     ensures { result ≡ bytes_eq (joined_name bytes.now counters.now) name.now }
@@ -166,7 +166,7 @@ fn is_short(token: &Token) -> bool
     token.joined.is_empty() && token.hi - token.lo < SHORTEST_PREDEFINED
 }
 
-// Looks up a predefined name. CURLINE has no value before lines are counted.
+// Looks up a predefined name. Most names are too short to be one.
 #[inline(always)]
 fn predefined_value(rules: &Rules, source: &[u8], token: &Token) -> Option<i64>
     requires { LiesIn source.now token.now }
@@ -178,7 +178,8 @@ fn predefined_value(rules: &Rules, source: &[u8], token: &Token) -> Option<i64>
     long_value(rules, source, token)
 }
 
-// Looks up a predefined name, by all of its bytes.
+// Compares a name with each predefined one but CURLINE, which has no value before lines are
+// counted.
 fn long_value(rules: &Rules, source: &[u8], token: &Token) -> Option<i64>
     requires { LiesIn source.now token.now }
     ensures { result ≡ entry_of (predefined rules.now) (name_of source.now token.now) }

@@ -129,7 +129,7 @@ past_blanks (b ∷ bs) first at line = by_first (is_blank b) refl (past_blanks b
       rw (fall, ← sum) (front ∙ more)
   by_first false e more = rw add-zero
 
--- `&source[at..]` and the blanks there
+-- skipping the blanks at `at` changes nothing of what lies ahead
 pub blanks_at : (source : List ℕ) (first : Bool) (at line n : ℕ) → at ≤ length source → n ≡ prefix_len is_blank (take (length source - at) (drop at source)) → (at + n ≤ length source) × (ahead_at source first (at + n) line ≡ ahead_at source first at line)
 blanks_at source first at line n h e =
     let tail : take (length source - at) (drop at source) ≡ drop at source = between_to_end source at (length source) (omega arith) in

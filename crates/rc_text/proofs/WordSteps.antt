@@ -46,6 +46,6 @@ any_none (w ∷ ws) v k h =
 pub no_word : (words : List (List ℕ)) (name : List ℕ) → list_all (λ w. has_three (map to_ascii_lowercase w)) words ≡ true → (length name ≡ 3 → ⊥) → false ≡ is_one_of words name
 no_word words name k h = sym (any_none words (map to_ascii_lowercase name) k (ne_eqb (length (map to_ascii_lowercase name)) 3 (λ e. h (sym (length-map name to_ascii_lowercase) ∙ e))))
 
--- a word of another length is not reserved
+-- a word that is not of three bytes is not reserved
 pub not_reserved : (name : List ℕ) → (length name ≡ 3 → ⊥) → false ≡ is_reserved name
 not_reserved name h = rw (← no_word draft_opcodes name refl h, ← no_word added_opcodes name refl h, ← no_word directives name refl h) refl

@@ -29,7 +29,8 @@ pub fn is_opcode_word(name: &[u8]) -> bool
     is_draft_opcode(name) || is_added_opcode(name)
 }
 
-/// Checks whether the class of a name is `Reserved`, without looking for another class.
+/// Checks whether a name is an opcode or a directive, in any case: whether its class is `Reserved`.
+/// Cheaper than `name_class`, which tells the other classes apart too.
 pub fn is_reserved_name(name: &[u8]) -> bool
     ensures { result ≡ (is_reserved name.now && is_name name.now) }
 {
@@ -162,7 +163,7 @@ fn is_directive_word(first: u8, second: u8, third: u8) -> bool
     }
 }
 
-// The letters are lower case.
+// Checks three letters, given in lower case, for an opcode or a directive.
 #[inline(always)]
 fn is_reserved_word(first: u8, second: u8, third: u8) -> bool
     ensures { let word = first ∷ second ∷ third ∷ [] in

@@ -45,7 +45,7 @@ pub fn eval<N: Names>(source: &[u8], tokens: &[Token], names: &N) -> Result<i64,
     }
 }
 
-// Evaluates an expression of one token, as most are.
+// Evaluates an expression of one token: most have no more.
 #[tactic(auto, unfolding(crate::specs::Reading::before_operand, crate::specs::Reading::after_operand))]
 fn alone<N: Names>(source: &[u8], token: &Token, names: &N) -> Outcome
     requires { LiesIn source.now token.now }
@@ -58,7 +58,7 @@ fn alone<N: Names>(source: &[u8], token: &Token, names: &N) -> Outcome
     }
 }
 
-// Evaluates an expression of any length.
+// Climbs all of the tokens. One that is left over is a `Syntax` fault.
 fn climb_all<N: Names>(source: &[u8], tokens: &[Token], names: &N) -> Outcome
     requires { All (LiesIn source.now) tokens.now }
     ensures { result ≡ evaluation_of (N.meaning names.now) (symbols_of source.now tokens.now) }

@@ -14,7 +14,7 @@ use Rattle.tune_cert.specs.declared.verdict.Reason.{Reason}
 pub row_here : (rows seen : List Row) (n v : ℕ) (row : Row) → seen ≡ rows → n ≡ length rows → v < n → row ≡ get_or seen v row → slice_get rows v ≡ Some row
 row_here rows seen n v row same len less is = slice_get_read rows n v row len less (is ∙ ap (λ xs. get_or xs v row) same)
 
--- the rows before n are right, and the row of n is
+-- if the rows before n are right, and the row of n is, then the rows before n + 1 are right
 pub one_more : (IsRight : ℕ → Row → Type 0) (rows : List Row) (n : ℕ) (here : Row) → slice_get rows n ≡ Some here → IsRight n here
     → ((v : ℕ) (row : Row) → v < n → slice_get rows v ≡ Some row → IsRight v row)
     → (v : ℕ) (row : Row) → v < n + 1 → slice_get rows v ≡ Some row → IsRight v row
@@ -26,7 +26,7 @@ one_more IsRight rows n here at right before v row less got = elim (leb_tells (s
       subst (λ k. IsRight k row) same (subst (IsRight n) is right)
 ]
 
--- the first wrong row is not one that refers to another setting
+-- a row that is wrong by itself, where all before it are right by themselves, is the first
 pub first_alone : (p : Problem) (c : Cert) (v number : ℕ) (row : Row) (reason : Reason)
     → ((u : ℕ) (r : Row) → u < v → slice_get c.rows u ≡ Some r → IsRightAlone p c u r)
     → number ≡ v + 2 → slice_get c.rows v ≡ Some row → IsFirstAlone p v row reason → IsFirstRow p c number reason
@@ -34,7 +34,8 @@ first_alone p c v number Refused reason before is here first = record { vector =
 first_alone p c v number (Same u) reason before is here first = absurd first
 first_alone p c v number (Cap row) reason before is here first = record { vector = v; number_is = is; row = Cap row; here = here; before = record { each = before }; first = first }
 
--- the first wrong row refers to another setting
+-- a row that refers to another setting, where all rows are right by themselves and those before it
+-- that refer to others are right, is the first that is wrong
 pub first_same : (p : Problem) (c : Cert) (v number : ℕ) (row : Row) (reason : Reason)
     → AreRightAlone p c → ((u : ℕ) (r : Row) → u < v → slice_get c.rows u ≡ Some r → IsRightSame p c u r)
     → number ≡ v + 2 → slice_get c.rows v ≡ Some row → IsFirstSame p c v row reason → IsFirstRow p c number reason

@@ -33,7 +33,7 @@ fn joined(source: &[u8], token: Token, counter: u16) -> Token
     token
 }
 
-// Makes a table of the names `x`, `x01` and `x014096`.
+// Makes a table of the names `x`, `x01` and `x014096` with the values 7, 8 and 9.
 fn table_of_three<'a>(alloc: Global) -> Result<NameTable<'a, u64>, Fail> {
     let mut table = NameTable::with_capacity(alloc, 3)?;
     let source = b"x014096".as_slice();

@@ -17,7 +17,7 @@ both_true : (a b : Bool) → a && b ≡ true → b ≡ true
 both_true true b h = h
 both_true false b h = cc
 
--- a reserved name is a name
+-- the class is Reserved exactly if the name is reserved and is a name
 pub reserved_is : (name : List ℕ) → is_reserved_class (class_of name) ≡ (is_reserved name && is_name name)
 reserved_is name = by_tests (is_name name) (is_reserved name) (is_predefined name) where
   by_tests : (n r p : Bool) → is_reserved_class (if n then (if r then Reserved else if p then Predefined else Free) else NoName) ≡ (r && n)
@@ -148,7 +148,7 @@ module _ (source : List ℕ) where
       → labelled source tokens ≡ record { labels = labels; after = drop at tokens }
   labels_done tokens labels at b r = r ∙ (ap (behind labels) (no_label (drop at tokens) (sym b)) ∙ ap (λ ls. record { labels = ls; after = drop at tokens }) (append-nil labels))
 
-  -- a single label of the line
+  -- if no label begins after the first, the line has one label
   pub single_label : (tokens : List Token) (end : ℕ) (label : List Token) → true ≡ begins_label source tokens → end ≡ 1 + tail_len source (drop 1 tokens) → label ≡ take end tokens → false ≡ begins_label source (drop end tokens)
       → labelled source tokens ≡ record { labels = label ∷ []; after = drop end tokens }
   single_label tokens end label b e l d =

@@ -98,7 +98,7 @@ module _ {A : Type 0} (name : List ℕ) where
   pub added_is_fresh : {added : Bool} (table : List (List ℕ × A)) (known : Bool) → false ≡ known → true ≡ added → added ≡ not (is_some (entry_of table name)) → (not known && not (is_among (names_in table) name)) ≡ true
   added_is_fresh table known k t e = rw (← k, ← seen_found table) (sym (t ∙ e))
 
-  -- one that was not added is not
+  -- a name that was not added is not fresh
   pub kept_is_not_fresh : {added : Bool} (table : List (List ℕ × A)) (known : Bool) → false ≡ added → added ≡ not (is_some (entry_of table name)) → (not known && not (is_among (names_in table) name)) ≡ false
   kept_is_not_fresh table known t e = ap (λ b. not known && not b) (sym (seen_found table)) ∙ (ap (λ b. not known && b) (sym (t ∙ e)) ∙ neither (not known)) where
     neither : (b : Bool) → (b && false) ≡ false

@@ -57,7 +57,7 @@ module _ (source : List ℕ) (equs : Equs) where
   none_settled [] h = refl
   none_settled (t ∷ ts) h = ap (λ o. not (is_some o) && are_settled source equs ts) (no_equ (is_name_token t) (entry_of equs (name_of source t)) (h (name_of source t))) ∙ none_settled ts h
 
-  -- and a line keeps its tokens
+  -- without EQU names a line keeps its tokens
   pub kept_without : (w : HeadWord) (ts : List Token) → ((name : List ℕ) → None ≡ entry_of equs name) → length ts ≤ MOST_TOKENS → line_tokens source equs w ts ≡ Some ts
   kept_without w ts h l =
       line_settled w ts (drop (exempt_len source w ts) ts) (exempt_len source w ts) refl refl (none_settled (drop (exempt_len source w ts) ts) h) (omega (arith, l, length-drop (exempt_len source w ts) ts))

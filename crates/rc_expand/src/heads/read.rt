@@ -98,8 +98,8 @@ fn begins_label(source: &[u8], tokens: &[Token], at: usize) -> bool
     }
 }
 
-// Reads the labels of a line. Returns them and the index after them. A single label is kept in
-// place.
+// Reads the labels of a line, of which most have at most one. Returns them and the index after
+// them.
 fn read_labels(
     alloc: Global,
     source: &[u8],
@@ -122,7 +122,7 @@ fn read_labels(
     Ok((Labels::one(label), end))
 }
 
-// Does what `read_labels` does, for any number of labels.
+// Does what `read_labels` does, whose short way is for one label. Starts from the first again.
 fn many_labels(
     alloc: Global,
     source: &[u8],

@@ -47,7 +47,7 @@ pub(crate) fn split_labels<'a>(
     split_many(alloc, source, labels)
 }
 
-// Does what `split_labels` does, for any number of labels.
+// Does what `split_labels` does, whose short way is for one label.
 fn split_many<'a>(
     alloc: Global,
     source: &[u8],

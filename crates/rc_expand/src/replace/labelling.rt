@@ -80,6 +80,7 @@ fn check_label<'a>(
     if seen.add(context.alloc, context.source, token, line)? {
         return Ok(());
     }
+    // The table has the name, so there is a line.
     let later = seen_line(seen, context.source, token, line).unwrap_or(line);
     Err(fault(later, ExpandKind::DuplicateName))
 }
@@ -152,7 +153,7 @@ fn earliest_clash<'a>(
     }
 }
 
-// Adds the labels of a line to those seen.
+// Adds the labels of a line to those seen, or refuses them at the least line of a clash.
 pub(crate) fn check_labels<'a>(
     context: &Context<'a>,
     seen: &mut NameTable<'a, u64>,

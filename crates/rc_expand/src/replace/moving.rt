@@ -27,6 +27,7 @@ pub(crate) fn move_lines(context: &Context, heads: Vec<Head>) -> Result<Vec<Line
     ensures inside { IfOk result (λ v. All (LineLies context.now.source.now) v.items) }
 {
     let mut lines = Vec::with_capacity(context.alloc, heads.len())?;
+    // Most lines have at most one label.
     let mut seen = NameTable::with_capacity(context.alloc, heads.len())?;
     let mut rest = VecDeque::from_vec(heads);
     while let Some(head) = rest.pop_front() {
@@ -41,8 +42,8 @@ pub(crate) fn move_lines(context: &Context, heads: Vec<Head>) -> Result<Vec<Line
     Ok(lines)
 }
 
-// Makes the line of the expansion, and adds its labels to those seen. Its tokens are moved, unless
-// they are replaced or a would-be label is one of them.
+// Makes the line of the expansion, and adds its labels to those seen. Moves the tokens of `head` if
+// they stay as they are; else `take_copy` makes the line.
 fn take_head<'a>(
     context: &Context<'a>,
     seen: &mut NameTable<'a, u64>,
@@ -82,7 +83,8 @@ fn take_copy<'a>(
     Ok(line)
 }
 
-// Checks that a line keeps its tokens: none is an EQU name, and they are not too many.
+// Checks that a line keeps its tokens: they are at most `MOST_TOKENS`, and none that may be replaced
+// is an EQU name.
 #[tactic(auto, using(crate::proofs::Replacing::Settled::line_settled))]
 fn keeps_tokens(context: &Context, head: &Head) -> bool
     requires lies { HeadLies context.now.source.now head.now }

@@ -1,7 +1,7 @@
 use Rattle.std.proofs.Common.{◌≡◌}
 use Rattle.cwtune.proofs.program.watched_program.Goals as goal
 
--- The words ask for no fight.
+-- words that ask for a fight give `Request::Fight`, so no other arm is reached
 pub returns-in-Ok-Duel-clause-done : goal.returns-in-Ok-Duel-clause-done
 returns-in-Ok-Duel-clause-done g c = λ asked ends. let fight = c.request_of.ensures.fight asked in let other = c.in-Ok-Duel.is in absurd (cc)
 
