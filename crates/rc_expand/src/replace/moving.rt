@@ -83,8 +83,8 @@ fn take_copy<'a>(
     Ok(line)
 }
 
-// Checks that a line keeps its tokens: they are at most `MOST_TOKENS`, and none that may be replaced
-// is an EQU name.
+// Checks that a line keeps its tokens: at most `MOST_TOKENS`, of which none that may be replaced is
+// an EQU name.
 #[tactic(auto, using(crate::proofs::Replacing::Settled::line_settled))]
 fn keeps_tokens(context: &Context, head: &Head) -> bool
     requires lies { HeadLies context.now.source.now head.now }
