@@ -40,14 +40,14 @@ pub fn eval<N: Names>(source: &[u8], tokens: &[Token], names: &N) -> Result<i64,
     ensures reading { result ≡ evaluation_of (N.meaning names.now) (symbols_of source.now tokens.now) }
 {
     match tokens {
-        [token] => alone(source, token, names),
+        [token] => eval_token(source, token, names),
         _ => climb_all(source, tokens, names),
     }
 }
 
 // Evaluates an expression of one token: most have no more.
 #[tactic(auto, unfolding(crate::specs::Reading::before_operand, crate::specs::Reading::after_operand))]
-fn alone<N: Names>(source: &[u8], token: &Token, names: &N) -> Outcome
+fn eval_token<N: Names>(source: &[u8], token: &Token, names: &N) -> Outcome
     requires { LiesIn source.now token.now }
     ensures { result ≡ evaluation_of (N.meaning names.now) (symbol_of source.now token.now ∷ []) }
 {

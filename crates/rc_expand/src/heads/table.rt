@@ -153,11 +153,11 @@ impl<'a, V: Drop> NameTable<'a, V> {
         }
     }
 
-    /// Creates an empty table with room for `names` names. Fails only if out of memory.
-    pub fn with_capacity(alloc: Global, names: usize) -> Result<Self, AllocError>
+    /// Creates an empty table with room for `capacity` names. Fails only if out of memory.
+    pub fn with_capacity(alloc: Global, capacity: usize) -> Result<Self, AllocError>
         ensures { IfOk result (λ t. t ≡ []) }
     {
-        let entries = IndexMap::with_capacity(alloc, names)?;
+        let entries = IndexMap::with_capacity(alloc, capacity)?;
         Ok(NameTable { entries })
     }
 

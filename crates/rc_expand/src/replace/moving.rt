@@ -33,10 +33,7 @@ pub(crate) fn move_lines(context: &Context, heads: Vec<Head>) -> Result<Vec<Line
     while let Some(head) = rest.pop_front() {
         match head.word {
             HeadWord::Equ => drop(head),
-            _ => match take_head(context, &mut seen, head) {
-                Ok(line) => lines.push(line)?,
-                Err(found) => return Err(found),
-            },
+            _ => lines.push(take_head(context, &mut seen, head)?)?,
         }
     }
     Ok(lines)

@@ -25,12 +25,12 @@ loop-head-preserved c =
     let st = c.args.context.now in
     let k = table st in
     let i = c.loop-head.invariant in
-    rw c.in_ok-push-in-Ok.ensures.items (
-      made_more k st.rules.now st.source.now st.equs.now c.args.heads.items c.loop-head.lines.items c.in-Some.head c.loop-head.rest.items c.pop_front.new.self.items c.in-Ok.line
-          (kept_other c.loop-head.rest.items c.in-Some.head c.pop_front.new.self.items c.in-Some.ensures.items c.in_default-word.not-Equ) c.in-Ok.ensures.line.0 i.0,
-      taken_more k st.rules.now st.source.now st.equs.now c.loop-head.lines.items (names_in c.loop-head.seen) (names_in c.take_head.new.seen) c.in-Ok.line i.1 c.in-Ok.ensures.line.1,
+    rw c.in_ok-push-in_default-word.ensures.items (
+      made_more k st.rules.now st.source.now st.equs.now c.args.heads.items c.loop-head.lines.items c.in-Some.head c.loop-head.rest.items c.pop_front.new.self.items c.in_ok-take_head-in_default-word.field-0
+          (kept_other c.loop-head.rest.items c.in-Some.head c.pop_front.new.self.items c.in-Some.ensures.items c.in_default-word.not-Equ) c.in_ok-take_head-in_default-word.ensures.line.0 i.0,
+      taken_more k st.rules.now st.source.now st.equs.now c.loop-head.lines.items (names_in c.loop-head.seen) (names_in c.take_head.new.seen) c.in_ok-take_head-in_default-word.field-0 i.1 c.in_ok-take_head-in_default-word.ensures.line.1,
       All-rest (HeadLies st.source.now) c.in-Some.head c.pop_front.new.self.items c.loop-head.rest.items c.in-Some.ensures.items i.2,
-      All-push (LineLies st.source.now) c.loop-head.lines.items c.in-Ok.line i.3 c.in-Ok.ensures.inside,
+      All-push (LineLies st.source.now) c.loop-head.lines.items c.in_ok-take_head-in_default-word.field-0 i.3 c.in_ok-take_head-in_default-word.ensures.inside,
     )
 
 pub returns-clause-lines : goal.returns-clause-lines
