@@ -43,13 +43,15 @@ pub(crate) fn copy_tokens(
             made = true;
             at += 2;
         } else {
-            copied.push(numbered(source, counter, number, made, token))?;
+            number_use(source, counter, number, made, &mut token);
+            copied.push(token)?;
             token = clone_token(&tokens[at])?;
             made = false;
             at += 1;
         }
     }
-    copied.push(numbered(source, counter, number, made, token))?;
+    number_use(source, counter, number, made, &mut token);
+    copied.push(token)?;
     Ok(Some(Tokens::from_vec(copied)))
 }
 
@@ -118,6 +120,7 @@ pub(crate) fn clone_head(alloc: Global, head: &Head) -> Result<Head, AllocError>
 }
 
 // Checks whether a token is the name of the counter.
+#[inline(always)]
 fn is_use(source: &[u8], counter: &[u8], token: &Token) -> bool
     requires { LiesIn source.now token.now }
     ensures { result ≡ is_use source.now counter.now token.now }
@@ -127,15 +130,14 @@ fn is_use(source: &[u8], counter: &[u8], token: &Token) -> bool
 
 // Turns the name of the counter into its number; any other token stays as it is, and so does a name
 // that this copy `made` by joining.
-fn numbered(source: &[u8], counter: &[u8], number: u16, made: bool, token: Token) -> Token
-    requires { LiesIn source.now token }
-    ensures { result ≡ numbered source.now counter.now number made token }
+#[inline(always)]
+fn number_use(source: &[u8], counter: &[u8], number: u16, made: bool, token: &mut Token)
+    requires { LiesIn source.now token.old }
+    ensures { token.new ≡ numbered source.now counter.now number made token.old }
 {
-    let mut token = token;
-    if !made && is_use(source, counter, &token) {
+    if !made && is_use(source, counter, token) {
         token.kind = Kind::Number(u32::from(number));
     }
-    token
 }
 
 // Checks for a name, `&` and the counter.

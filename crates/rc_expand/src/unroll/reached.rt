@@ -30,7 +30,7 @@ pub(crate) struct Reached<'a> {
     pub is_earlier: bool,
 }
 
-// Makes a line as it stands in these copies.
+// Makes a line as it stands in these copies. The first copy is made of the line itself.
 pub(crate) fn make_line(
     alloc: Global,
     source: &[u8],
@@ -41,9 +41,12 @@ pub(crate) fn make_line(
     ensures made { IfOk result (λ h. h ≡ line_in source.now copies.now head.now) }
     ensures inside { IfOk result (HeadLies source.now) }
 {
-    let mut made = clone_head(alloc, head)?;
-    for copy in copies {
-        made = copy_line(alloc, source, copy.counter, copy.number, &made)?;
+    if copies.is_empty() {
+        return clone_head(alloc, head);
+    }
+    let mut made = copy_line(alloc, source, copies[0].counter, copies[0].number, head)?;
+    for i in 1..copies.len() {
+        made = copy_line(alloc, source, copies[i].counter, copies[i].number, &made)?;
     }
     Ok(made)
 }

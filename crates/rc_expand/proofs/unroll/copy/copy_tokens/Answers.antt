@@ -26,7 +26,7 @@ pub loop-at-preserved : goal.loop-at-preserved
 loop-at-preserved c =
     let is : c.in_ok-token-2.token ≡ get_or c.args.tokens.now c.loop-at.at c.in_ok-token-2.token =
     same_read c.args.tokens.now c.loop-at.at c.in_ok-token-2.token c.index-tokens-at.result c.in_ok-token-2.ensures c.index-tokens-at.is in
-    rw (c.in_ok-push.ensures.items, c.numbered.ensures) (
+    rw (c.in_ok-push.ensures.items, c.number_use.ensures) (
       rest_passed c.args.source.now c.args.counter.now c.args.number c.args.tokens.now c.loop-at.copied.items c.loop-at.made c.loop-at.token c.in_ok-token-2.token c.loop-at.at c.loop-at-test.true is c.if-is_joined.ensures c.loop-at.invariant.0,
       item_lies c.args.source.now c.args.tokens.now c.loop-at.at c.in_ok-token-2.token c.loop-at-test.true is c.requires,
       All-push (LiesIn c.args.source.now) c.loop-at.copied.items _ c.loop-at.invariant.2 (numbered_lies c.args.source.now c.args.counter.now c.args.number c.loop-at.made c.loop-at.token _ refl c.loop-at.invariant.1),
@@ -35,4 +35,4 @@ loop-at-preserved c =
 pub returns-clause-inside : goal.returns-clause-inside
 returns-clause-inside c =
     All-same (LiesIn c.args.source.now) c.from_vec-2.result _ (c.from_vec-2.ensures ∙ c.in_ok-push-2.ensures.items)
-    (All-push (LiesIn c.args.source.now) c.loop-at.copied.items c.numbered-2.result c.loop-at.invariant.2 (numbered_lies c.args.source.now c.args.counter.now c.args.number c.loop-at.made c.loop-at.token c.numbered-2.result c.numbered-2.ensures c.loop-at.invariant.1))
+    (All-push (LiesIn c.args.source.now) c.loop-at.copied.items c.number_use-2.new.token c.loop-at.invariant.2 (numbered_lies c.args.source.now c.args.counter.now c.args.number c.loop-at.made c.loop-at.token c.number_use-2.new.token c.number_use-2.ensures c.loop-at.invariant.1))

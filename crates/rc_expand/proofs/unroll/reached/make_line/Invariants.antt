@@ -4,5 +4,5 @@ use Rattle.rc_expand.specs.Unroll.Reached.{line_in}
 use Rattle.rc_expand.proofs.unroll.reached.make_line.Given as goal
 
 -- the line as it stands in the copies so far
-abbrev pub invariant-loop-copy : goal.invariant-loop-copy
-invariant-loop-copy l = (l.made ≡ line_in l.source (take l.copy-index l.copies) l.head) × HeadLies l.source l.made
+abbrev pub invariant-loop-i : goal.invariant-loop-i
+invariant-loop-i l = (l.made ≡ line_in l.source (take l.i l.copies) l.head) × HeadLies l.source l.made
