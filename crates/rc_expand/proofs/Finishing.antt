@@ -1,5 +1,5 @@
 -- The second and the third part of the expansion after the first.
-use Rattle.std.proofs.Common.{◌≡◌, ℕ, List, Option, Some, None, refl, sym, ◌∙◌, ap, inl, inr}
+use Rattle.std.proofs.Common.{◌≡◌, ℕ, List, Option, Some, None, sym, ◌∙◌, ap, inl, inr}
 use Rattle.std.specs.Prelude.{◌≢◌, ◌⊎◌, All, Result, Ok, Err, IfOk, IfErr, option_map, option_and_then, is_none, if◌then◌else◌, Bool, true, false}
 use Rattle.std.proofs.lemmas.Option.{none-some}
 use Rattle.rc_text.specs.Tokens.{tokens_of}

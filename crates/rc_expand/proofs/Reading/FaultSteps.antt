@@ -14,7 +14,7 @@ use Rattle.rc_expand.specs.Unroll.{is_known}
 use Rattle.rc_expand.specs.Heads.{equ_token, equ_of_line, equ_lines}
 use Rattle.rc_expand.specs.Steps.{new_equ, if_unknown, collected}
 use Rattle.rc_expand.specs.Heads.Nesting.{at_line, nesting_fault}
-use Rattle.rc_expand.specs.Heads.Faults.{name_fault, equ_fault, equs_fault, fault_or, lines_fault}
+use Rattle.rc_expand.specs.Heads.Faults.{name_fault, equs_fault, fault_or, lines_fault}
 
 module _ (source : List ℕ) (constants : Table) (rules : RulesView) (equs : Equs) (h : Head) where
   unknown : (b : Bool) (e x : List ℕ × List Token) → (if b then None else Some e) ≡ Some x → (if b then Some (at_line h.number DuplicateName) else None) ≡ None

@@ -1,11 +1,10 @@
 -- A line that keeps its tokens.
-use Rattle.std.proofs.Common.{◌≡◌, ℕ, ◌≤◌, Bool, true, false, List, [], ◌∷◌, length, Option, Some, None, refl, ◌∙◌, sym, ap, arith}
+use Rattle.std.proofs.Common.{◌≡◌, ℕ, ◌≤◌, true, List, [], ◌∷◌, length, Some, None, refl, ◌∙◌, sym, ap, arith}
 use Rattle.std.specs.Prelude.{◌==◌, option_and_then, if◌then◌else◌}
 use Rattle.std.proofs.lemmas.Bool.{le-leb, ne_eqb, both_ways}
 use Rattle.rc_text.specs.declared.token.Token.{Token}
 use Rattle.rc_expand.specs.Limits.{MOST_TOKENS}
 use Rattle.rc_expand.specs.declared.heads.head.Head.{Head}
-use Rattle.rc_expand.specs.declared.line.Line.{Line}
 use Rattle.rc_expand.specs.declared.line.LineWord.{LineWord}
 use Rattle.rc_expand.specs.Replace.{Equs, line_tokens}
 use Rattle.rc_expand.specs.Replace.Lines.{line_word, own_labels, other_labels, line_with_labels, finished, line_of}

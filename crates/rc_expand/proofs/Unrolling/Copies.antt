@@ -1,10 +1,9 @@
 -- Steps of the copies.
 use Rattle.std.proofs.Common.{◌≡◌, ℕ, ◌+◌, ◌≤◌, ◌<◌, Bool, true, false, List, [], ◌∷◌, ◌++◌, get_or, take, drop, drop-cons, length, length-drop, refl, arith, sym, ◌∙◌, ap, append_assoc, add-one, Option, Some, None, subst}
-use Rattle.std.specs.Prelude.{◌&&◌, not, option_map, option_and_then, nat_lt, if◌then◌else◌, All}
-use Rattle.std.proofs.lemmas.List.{drop_all, drop-drop}
+use Rattle.std.specs.Prelude.{◌&&◌, option_map, option_and_then, nat_lt, All}
+use Rattle.std.proofs.lemmas.List.{drop-drop}
 use Rattle.std.proofs.lemmas.Bool.Decides.{nat_tests}
 use Rattle.rc_text.specs.declared.token.Token.{Token}
-use Rattle.rc_text.specs.declared.token.Kind.TheVariants.{Number}
 use Rattle.rc_text.specs.Symbols.{LiesIn}
 use Rattle.rc_expand.specs.Limits.{MOST_JOINED}
 use Rattle.rc_expand.specs.Heads.Lines.{is_name_token, is_ampersand, has_modifier}
@@ -20,21 +19,6 @@ split_two : (ts : List Token) (i : ℕ) (u v : Token) → i + 1 < length ts → 
 split_two ts i u v h e f =
     let n : i + 1 + 1 ≡ i + 2 = omega arith in
     split_at ts i u (omega arith) e ∙ ap (λ r. u ∷ r) (split_at ts (i + 1) v h f ∙ ap (λ k. v ∷ drop k ts) n)
-
-split_last : (ts : List Token) (i : ℕ) (u : Token) → i < length ts → length ts ≤ i + 1 → u ≡ get_or ts i u → drop i ts ≡ u ∷ []
-split_last ts i u h k e = split_at ts i u h e ∙ ap (λ r. u ∷ r) (drop_all (i + 1) ts k)
-
-same_option : (o : Option (List Token)) → o ≡ option_map (λ r. [] ++ r) o
-same_option None = refl
-same_option (Some r) = refl
-
-lies_anyway : (source : List ℕ) (n : ℕ) (t : Token) (b : Bool) → LiesIn source t → LiesIn source (if b then record t { kind = Number n } else t)
-lies_anyway source n t true h = record { order = h.order; inside = h.inside }
-lies_anyway source n t false h = h
-
--- a number in place of a counter keeps the span
-pub numbered_lies : (source counter : List ℕ) (n : ℕ) (made : Bool) (t u : Token) → u ≡ numbered source counter n made t → LiesIn source t → LiesIn source u
-numbered_lies source counter n made t u e h = subst (LiesIn source) (sym e) (lies_anyway source n t (not made && is_use source counter t) h)
 
 -- a name keeps its span when a counter is joined to it
 pub joined_lies : (source : List ℕ) (t : Token) (ks : List ℕ) → LiesIn source t → LiesIn source (record t { joined = ks })
@@ -67,25 +51,13 @@ module _ (source : List ℕ) (counter : List ℕ) where
     passed_list m t u [] h = refl
     passed_list m t u (v ∷ ts) h = rw h
 
-    -- a token that joins nothing is copied
-    pub is_passed : (m : Bool) (t u : Token) (ts : List Token) (i : ℕ) → i < length ts → u ≡ get_or ts i u → joins source counter t (drop i ts) ≡ false
-        → copied_from source counter k m t (drop i ts) ≡ option_map (λ r. numbered source counter k m t ∷ r) (copied_from source counter k false u (drop (i + 1) ts))
-    is_passed m t u ts i h e j =
-        let s = split_at ts i u h e in
-        ap (copied_from source counter k m t) s ∙ passed_list m t u (drop (i + 1) ts) (ap (joins source counter t) (sym s) ∙ j)
-
     -- the tokens so far, and what is still to come
     abbrev pub Rest : List Token → List Token → Option (List Token) → Type 0
     Rest tokens copied rest = copied_tokens source counter k tokens ≡ option_map (λ r. copied ++ r) rest
 
-    more : (copied : List Token) (t : Token) (o : Option (List Token)) → option_map (λ r. copied ++ r) (option_map (λ r. t ∷ r) o) ≡ option_map (λ r. (copied ++ (t ∷ [])) ++ r) o
+    pub more : (copied : List Token) (t : Token) (o : Option (List Token)) → option_map (λ r. copied ++ r) (option_map (λ r. t ∷ r) o) ≡ option_map (λ r. (copied ++ (t ∷ [])) ++ r) o
     more copied t None = refl
     more copied t (Some r) = ap Some (sym (append_assoc copied (t ∷ []) r))
-
-    -- the copy goes on after a token
-    pub rest_passed : (tokens copied : List Token) (m : Bool) (t u : Token) (i : ℕ) → i < length tokens → u ≡ get_or tokens i u → false ≡ joins source counter t (drop i tokens)
-        → Rest tokens copied (copied_from source counter k m t (drop i tokens)) → Rest tokens (copied ++ (numbered source counter k m t ∷ [])) (copied_from source counter k false u (drop (i + 1) tokens))
-    rest_passed tokens copied m t u i h e j r = r ∙ (ap (option_map (λ r. copied ++ r)) (is_passed m t u tokens i h e (sym j)) ∙ more copied (numbered source counter k m t) (copied_from source counter k false u (drop (i + 1) tokens)))
 
     drop_two : (ts : List Token) (i : ℕ) → drop 2 (drop i ts) ≡ drop (i + 2) ts
     drop_two ts i = drop-drop 2 i ts
@@ -98,15 +70,36 @@ module _ (source : List ℕ) (counter : List ℕ) where
     room t h = let e : nat_lt (length t.joined) MOST_JOINED ≡ true = grind (arith, nat_tests) in rw e
 
     -- the copy goes on after a counter that is joined
-    pub rest_joined : (tokens copied : List Token) (m : Bool) (t : Token) (i : ℕ) → length t.joined < MOST_JOINED → true ≡ joins source counter t (drop i tokens)
-        → Rest tokens copied (copied_from source counter k m t (drop i tokens)) → Rest tokens copied (copied_from source counter k true (record t { joined = t.joined ++ (k ∷ []) }) (drop (i + 2) tokens))
-    rest_joined tokens copied m t i h j r =
-        r ∙ ap (option_map (λ r. copied ++ r)) (joined_at m t tokens i j ∙ ap (option_and_then (λ n. copied_from source counter k true n (drop (i + 2) tokens))) (room t h))
+    pub name_joined : (m : Bool) (t : Token) (ts : List Token) (i : ℕ) → length t.joined < MOST_JOINED → true ≡ joins source counter t (drop i ts)
+        → copied_from source counter k m t (drop i ts) ≡ copied_from source counter k true (record t { joined = t.joined ++ (k ∷ []) }) (drop (i + 2) ts)
+    name_joined m t ts i h j = joined_at m t ts i j ∙ ap (option_and_then (λ n. copied_from source counter k true n (drop (i + 2) ts))) (room t h)
 
-    -- the copy begins with the first token
-    pub rest_first : (tokens : List Token) (t : Token) → 0 < length tokens → t ≡ get_or tokens 0 t → Rest tokens [] (copied_from source counter k false t (drop 1 tokens))
-    rest_first [] t h e = absurd (omega arith)
-    rest_first (u ∷ ts) t h e = ap (λ v. copied_from source counter k false v ts) (sym e) ∙ same_option (copied_from source counter k false t ts)
+    -- a token after which no counter is joined, and then the others
+    pub ended_list : (m : Bool) (t : Token) (ts : List Token) → joins source counter t ts ≡ false
+        → copied_from source counter k m t ts ≡ option_map (λ r. numbered source counter k m t ∷ r) (copied_tokens source counter k ts)
+    ended_list m t [] h = refl
+    ended_list m t (u ∷ ts) h = passed_list m t u ts h
+
+    -- the copy goes on with the token at hand
+    pub first_at : (ts : List Token) (i : ℕ) (t : Token) → i < length ts → t ≡ get_or ts i t
+        → copied_tokens source counter k (drop i ts) ≡ copied_from source counter k false t (drop (i + 1) ts)
+    first_at ts i t h e = ap (copied_tokens source counter k) (split_at ts i t h e)
+
+    joins_none : (t : Token) (ts : List Token) → is_name_token t ≡ false → joins source counter t ts ≡ false
+    joins_none t [] h = refl
+    joins_none t (u ∷ []) h = refl
+    joins_none t (u ∷ v ∷ ts) h = rw h
+
+    stays_as_it_is : (t : Token) → is_name_token t ≡ false → numbered source counter k false t ≡ t
+    stays_as_it_is t h = rw h
+
+    -- a token that is no name is copied as it is
+    pub other_at : (ts : List Token) (i : ℕ) (t : Token) → i < length ts → t ≡ get_or ts i t → is_name_token t ≡ false
+        → copied_tokens source counter k (drop i ts) ≡ option_map (λ r. t ∷ r) (copied_tokens source counter k (drop (i + 1) ts))
+    other_at ts i t h e n =
+        first_at ts i t h e
+        ∙ (ended_list false t (drop (i + 1) ts) (joins_none t (drop (i + 1) ts) n)
+        ∙ ap (λ x. option_map (λ r. x ∷ r) (copied_tokens source counter k (drop (i + 1) ts))) (stays_as_it_is t n))
 
 -- an equal item
 pub same_read : {A : Type 0} (xs : List A) (i : ℕ) (x y : A) → x ≡ y → y ≡ get_or xs i y → x ≡ get_or xs i x

@@ -1,11 +1,11 @@
 -- What the FOR and the ROF of a block say, test by test.
-use Rattle.std.proofs.Common.{◌≡◌, ℕ, Bool, true, false, List, Option, Some, None, refl, sym, ◌∙◌, ap, Bor}
-use Rattle.std.specs.Prelude.{◌&&◌, not, option_map, option_and_then}
+use Rattle.std.proofs.Common.{◌≡◌, ℕ, true, false, List, Option, Some, None, refl, sym, ◌∙◌, ap, Bor}
+use Rattle.std.specs.Prelude.{option_map, option_and_then}
 use Rattle.rc_text.specs.declared.token.Token.{Token}
 use Rattle.rc_text.specs.Symbols.{name_of}
 use Rattle.rc_expand.specs.declared.heads.head.Head.{Head}
 use Rattle.rc_expand.specs.declared.context.Context.{Context}
-use Rattle.rc_expand.specs.Unroll.{counter_token, earlier_of, is_bare_rof, counted, opening}
+use Rattle.rc_expand.specs.Unroll.{counter_token, earlier_of, counted, opening}
 use Rattle.rc_expand.specs.Context.{table, count_by, is_new_by, opening_by}
 
 -- the name of a borrowed token

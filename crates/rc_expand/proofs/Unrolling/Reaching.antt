@@ -1,5 +1,5 @@
 -- Lines in copies: a copy changes no word, so blocks end where they did.
-use Rattle.std.proofs.Common.{◌≡◌, ℕ, zero, suc, ◌<◌, List, [], ◌∷◌, ◌++◌, length, map, Option, Some, None, refl, sym, ◌∙◌, ap, arith}
+use Rattle.std.proofs.Common.{◌≡◌, ℕ, zero, suc, List, [], ◌∷◌, ◌++◌, length, map, Option, Some, None, refl, sym, ◌∙◌, ap}
 use Rattle.std.specs.Prelude.{option_map}
 use Rattle.rc_text.specs.declared.token.Token.{Token}
 use Rattle.rc_expand.specs.declared.heads.head.Head.{Head}
@@ -7,9 +7,8 @@ use Rattle.rc_expand.specs.declared.heads.head.HeadWord.{HeadWord}
 use Rattle.rc_expand.specs.declared.heads.head.HeadWord.TheVariants as word
 use Rattle.rc_expand.specs.declared.unroll.reached.Copying.{Copying}
 use Rattle.rc_expand.specs.declared.unroll.reached.Reached.{Reached}
-use Rattle.rc_expand.specs.Heads.Lines.{bare_line}
-use Rattle.rc_expand.specs.Unroll.{Cut, longer, cut_by, cut, or_spoiled, copied_line, all_of, copied_tokens, copied_rest, earlier_of, earlier_line}
-use Rattle.rc_expand.specs.Unroll.Reached.{line_in, lines_in, reached_line, reached_lines}
+use Rattle.rc_expand.specs.Unroll.{Cut, longer, cut_by, cut, or_spoiled, copied_line, all_of, copied_tokens, copied_rest}
+use Rattle.rc_expand.specs.Unroll.Reached.{line_in, lines_in, reached_lines}
 
 module _ (source : List ℕ) where
   spoiled_word : (h : Head) (a : Option (List (List Token))) (b : Option (List Token)) → (or_spoiled source h a b).word ≡ h.word

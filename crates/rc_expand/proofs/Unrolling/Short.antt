@@ -1,6 +1,6 @@
 -- To a short line no ninth counter is joined, in however many copies it stands.
-use Rattle.std.proofs.Common.{◌≡◌, ℕ, zero, suc, drop, subst, ◌+◌, ◌*◌, ◌≤◌, Bool, true, false, List, [], ◌∷◌, ◌++◌, length, Option, Some, None, refl, sym, ◌∙◌, ap, arith, length-append}
-use Rattle.std.specs.Prelude.{◌&&◌, not, nat_le, nat_lt, option_map, option_and_then, if◌then◌else◌}
+use Rattle.std.proofs.Common.{◌≡◌, ℕ, zero, suc, drop, subst, ◌+◌, ◌*◌, ◌≤◌, Bool, true, false, List, [], ◌∷◌, ◌++◌, length, Option, Some, refl, sym, ◌∙◌, ap, arith, length-append}
+use Rattle.std.specs.Prelude.{◌&&◌, not, nat_lt, option_map, option_and_then, if◌then◌else◌}
 use Rattle.std.specs.List.{list_all}
 use Rattle.std.proofs.lemmas.Bool.{and_parts, le-leb, leb-true, lt-ltb}
 use Rattle.rc_text.specs.declared.token.Token.{Token}
@@ -10,7 +10,7 @@ use Rattle.rc_expand.specs.declared.heads.head.Head.{Head}
 use Rattle.rc_expand.specs.declared.heads.head.HeadWord.{HeadWord}
 use Rattle.rc_expand.specs.declared.heads.head.HeadWord.TheVariants as word
 use Rattle.rc_expand.specs.declared.unroll.reached.Copying.{Copying}
-use Rattle.rc_expand.specs.Heads.Lines.{is_name_token, is_ampersand, has_modifier}
+use Rattle.rc_expand.specs.Heads.Lines.{has_modifier}
 use Rattle.rc_expand.specs.Unroll.{is_use, numbered, joins, joined, copied_from, copied_tokens, copied_code, copied_rest, copied_line, or_spoiled, all_of}
 use Rattle.rc_expand.specs.Steps.{has_room, is_short, is_short_line}
 use Rattle.rc_expand.specs.Unroll.Reached.{line_in}

@@ -15,7 +15,7 @@ use Rattle.rc_expand.specs.Heads.Lines.{lines_read}
 use Rattle.rc_expand.specs.Replace.{Equs}
 use Rattle.rc_expand.specs.Unroll.{is_known}
 use Rattle.rc_expand.specs.Heads.Nesting.{at_line, nesting_fault}
-use Rattle.rc_expand.specs.Heads.{equ_lines, equ_token, equ_of_line, Heads, heads_of}
+use Rattle.rc_expand.specs.Heads.{equ_lines, equ_token, equ_of_line}
 
 -- the line after tokens, the first of which is at `line`
 abbrev pub ending_line : ℕ → List Token → ℕ

@@ -1,5 +1,5 @@
 //! Copying the lines of a block, with the number of its counter put in.
-ghost use Rattle.std.specs.Prelude.{◌≡◌, List, ℕ, ◌++◌, ◌∷◌, ◌+◌, ◌<◌, ◌≤◌, ◌^◌, ◌&&◌, length, drop, map, All, IfOk, IfSome};
+ghost use Rattle.std.specs.Prelude.{◌≡◌, List, ℕ, ◌++◌, ◌∷◌, ◌+◌, ◌<◌, ◌≤◌, ◌^◌, ◌&&◌, length, drop, map, option_map, option_and_then, IsTrue, All, IfOk, IfSome};
 ghost use Rattle.rc_text.specs.Symbols.{LiesIn};
 ghost use Rattle.rc_expand.specs.Heads.Lines.{HeadLies, is_name_token, is_ampersand};
 ghost use Rattle.rc_expand.specs.Unroll.{is_use, numbered, joins, copied_tokens, copied_code, copied_rest, copied_line, all_of};
@@ -28,31 +28,53 @@ pub(crate) fn copy_tokens(
     ensures inside { IfOk result (λ o. IfSome o (All (LiesIn source.now))) }
 {
     let mut copied = Vec::with_capacity(alloc, tokens.len())?;
-    if tokens.len() == 0 {
-        return Ok(Some(Tokens::from_vec(copied)));
-    }
-    let mut token = clone_token(&tokens[0])?;
-    let mut made = false;
-    let mut at = 1;
+    let mut at = 0;
     while at < tokens.len() {
-        if is_joined(source, counter, &token, tokens, at) {
-            if token.joined.len() >= MOST_JOINED {
-                return Ok(None);
+        let token = &tokens[at];
+        if is_name_token(token) {
+            match copy_name(source, counter, number, tokens, at)? {
+                None => return Ok(None),
+                Some((name, after)) => {
+                    copied.push(name)?;
+                    at = after;
+                }
             }
-            token.joined.push(number);
-            made = true;
-            at += 2;
         } else {
-            number_use(source, counter, number, made, &mut token);
-            copied.push(token)?;
-            token = clone_token(&tokens[at])?;
-            made = false;
+            copied.push(clone_token(token)?)?;
             at += 1;
         }
     }
-    number_use(source, counter, number, made, &mut token);
-    copied.push(token)?;
     Ok(Some(Tokens::from_vec(copied)))
+}
+
+// Copies the name at index `at`, and joins the counter to it as often as `&` and the counter come
+// after it. Returns the copy and the index after all of that, or `None` at a ninth counter.
+fn copy_name(
+    source: &[u8],
+    counter: &[u8],
+    number: u16,
+    tokens: &[Token],
+    at: usize,
+) -> Result<Option<(Token, usize)>, AllocError>
+    requires inside { All (LiesIn source.now) tokens.now }
+    requires place { at < length tokens.now }
+    ensures copied { IfOk result (λ o. copied_tokens source.now counter.now number (drop at tokens.now) ≡ option_and_then (λ p. option_map (λ r. p.0 ∷ r) (copied_tokens source.now counter.now number (drop p.1 tokens.now))) o) }
+    ensures inside { IfOk result (λ o. IfSome o (λ p. LiesIn source.now p.0)) }
+    ensures after { IfOk result (λ o. IfSome o (λ p. (at < p.1) × (p.1 ≤ length tokens.now))) }
+{
+    let mut name = clone_token(&tokens[at])?;
+    let mut made = false;
+    let mut after = at + 1;
+    while after < tokens.len() && is_joined(source, counter, &name, tokens, after) {
+        if name.joined.len() >= MOST_JOINED {
+            return Ok(None);
+        }
+        name.joined.push(number);
+        made = true;
+        after += 2;
+    }
+    number_use(source, counter, number, made, &mut name);
+    Ok(Some((name, after)))
 }
 
 // Copies a line for one `number` of the counter. If a ninth counter would be joined to a name, the
@@ -153,7 +175,8 @@ fn is_join(source: &[u8], counter: &[u8], name: &Token, sign: &Token, used: &Tok
 fn is_joined(source: &[u8], counter: &[u8], name: &Token, tokens: &[Token], at: usize) -> bool
     requires inside { All (LiesIn source.now) tokens.now }
     requires place { at < length tokens.now }
-    ensures { result ≡ joins source.now counter.now name.now (drop at tokens.now) }
+    ensures result { result ≡ joins source.now counter.now name.now (drop at tokens.now) }
+    ensures room { IsTrue result → at + 2 ≤ length tokens.now }
 {
     if at + 1 < tokens.len() {
         is_join(source, counter, name, &tokens[at], &tokens[at + 1])

@@ -1,5 +1,5 @@
 use Rattle.std.proofs.Common.{◌≡◌, refl, sym, ◌∙◌, ap, arith, subst, ◌<◌, ◌+◌, map, true, false}
-use Rattle.std.specs.Prelude.{Ok, Err, Some, MatchResult, option_map}
+use Rattle.std.specs.Prelude.{Ok, Err, MatchResult, option_map}
 use Rattle.std.proofs.lemmas.Result.{err_from_is_err_and}
 use Rattle.std.proofs.lemmas.List.Elements.{All-rest}
 use Rattle.rc_expand.specs.Heads.Lines.{HeadLies}

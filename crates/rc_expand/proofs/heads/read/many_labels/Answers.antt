@@ -1,4 +1,4 @@
-use Rattle.std.proofs.Common.{◌≡◌, sym, ap, ◌-◌, take, drop}
+use Rattle.std.proofs.Common.{◌≡◌, sym, ap, ◌-◌, drop}
 use Rattle.std.specs.Prelude.{All}
 use Rattle.std.proofs.lemmas.List.Elements.{All-push, All-same, All-take, All-drop}
 use Rattle.rc_text.specs.Symbols.{LiesIn}

@@ -1,4 +1,4 @@
-use Rattle.std.proofs.Common.{◌≡◌, ◌+◌, ◌<◌, ◌∙◌, arith, length, get_or, drop}
+use Rattle.std.proofs.Common.{◌≡◌, ◌+◌, ◌<◌, ◌∙◌, arith, length, get_or}
 use Rattle.std.proofs.lemmas.List.Elements.{All-same, All-drop}
 use Rattle.rc_text.specs.Symbols.{LiesIn}
 use Rattle.rc_expand.proofs.Unrolling.Copies.{same_read, item_lies}

@@ -1,4 +1,4 @@
-use Rattle.std.proofs.Common.{◌≡◌, sym, ◌∙◌, ap, subst, false, []}
+use Rattle.std.proofs.Common.{◌≡◌, sym, ◌∙◌, subst, false, []}
 use Rattle.std.proofs.lemmas.List.Elements.{All-rest, All-nil, All-same, All-head, All-push}
 use Rattle.rc_text.specs.Tokens.{Ahead}
 use Rattle.rc_text.specs.Symbols.{LiesIn}

@@ -1,4 +1,4 @@
-use Rattle.std.proofs.Common.{◌≡◌, ◌≢◌, ◌∙◌, ◌∷◌, ◌+◌, sym, ap, arith, drop, length, length-drop}
+use Rattle.std.proofs.Common.{◌≡◌, ◌∙◌, ◌∷◌, ◌+◌, sym, ap, arith, drop, length-drop}
 use Rattle.std.proofs.lemmas.List.Elements.{All-push}
 use Rattle.rc_expand.specs.Context.{table}
 use Rattle.rc_expand.specs.Steps.{names_in}

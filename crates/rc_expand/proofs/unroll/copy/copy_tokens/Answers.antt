@@ -1,38 +1,36 @@
-use Rattle.std.proofs.Common.{◌≡◌, refl, ◌∙◌, arith, ◌<◌, length, get_or}
-use Rattle.std.proofs.lemmas.List.Elements.{All-push, All-nil, All-same}
+use Rattle.std.proofs.Common.{◌≡◌, sym, ◌∙◌, ap, subst, ◌+◌, ◌++◌, ◌∷◌, drop, List, ℕ, Option, get_or}
+use Rattle.std.specs.Prelude.{option_map, option_and_then, IfSome}
+use Rattle.std.proofs.lemmas.List.Elements.{All-push}
+use Rattle.rc_text.specs.declared.token.Token.{Token}
 use Rattle.rc_text.specs.Symbols.{LiesIn}
-use Rattle.rc_expand.proofs.Unrolling.Copies.{rest_first, rest_joined, rest_passed, numbered_lies, joined_lies, same_read, item_lies}
+use Rattle.rc_expand.specs.Heads.Lines.{is_name_token}
+use Rattle.rc_expand.specs.Unroll.{copied_tokens}
+use Rattle.rc_expand.proofs.Unrolling.Copies.{more, other_at, same_read, item_lies}
 use Rattle.rc_expand.proofs.unroll.copy.copy_tokens.Goals as goal
 
-pub loop-at-init : goal.loop-at-init
-loop-at-init c =
-    let h : 0 < length c.args.tokens.now = omega arith in
-    let is : c.in_ok-token.token ≡ get_or c.args.tokens.now 0 c.in_ok-token.token =
-    same_read c.args.tokens.now 0 c.in_ok-token.token c.index-tokens-0.result c.in_ok-token.ensures c.index-tokens-0.is in
-    rw c.in_ok-copied.ensures.items (
-      rest_first c.args.source.now c.args.counter.now c.args.number c.args.tokens.now c.in_ok-token.token h is,
-      item_lies c.args.source.now c.args.tokens.now 0 c.in_ok-token.token h is c.requires,
-      All-nil (LiesIn c.args.source.now),
+pub loop-at-preserved-in-Some : goal.loop-at-preserved-in-Some
+loop-at-preserved-in-Some c =
+    let s = c.args.source.now in
+    let f : List Token → Option (List Token) = copied_tokens s c.args.counter.now c.args.number in
+    let made = c.in_ok-copy_name.ensures.copied ∙ ap (option_and_then (λ (p : Token × ℕ). option_map (λ r. p.0 ∷ r) (f (drop p.1 c.args.tokens.now)))) c.in-Some.is in
+    let lies = subst (λ o. IfSome o (λ p. LiesIn s p.0)) c.in-Some.is c.in_ok-copy_name.ensures.inside in
+    rw c.in_ok-push-in-Some.ensures.items (
+      c.loop-at.invariant.0
+          ∙ (ap (option_map (λ r. c.loop-at.copied.items ++ r)) made
+          ∙ more s c.args.counter.now c.args.number c.loop-at.copied.items c.in-Some.name (f (drop c.in-Some.after c.args.tokens.now))),
+      All-push (LiesIn s) c.loop-at.copied.items c.in-Some.name c.loop-at.invariant.1 lies,
     )
-
-pub loop-at-preserved-then-is_joined : goal.loop-at-preserved-then-is_joined
-loop-at-preserved-then-is_joined c = rw c.push.ensures (
-  rest_joined c.args.source.now c.args.counter.now c.args.number c.args.tokens.now c.loop-at.copied.items c.loop-at.made c.loop-at.token c.loop-at.at (omega arith) c.if-is_joined.ensures c.loop-at.invariant.0,
-  joined_lies c.args.source.now c.loop-at.token _ c.loop-at.invariant.1,
-  c.loop-at.invariant.2,
-)
 
 pub loop-at-preserved : goal.loop-at-preserved
 loop-at-preserved c =
-    let is : c.in_ok-token-2.token ≡ get_or c.args.tokens.now c.loop-at.at c.in_ok-token-2.token =
-    same_read c.args.tokens.now c.loop-at.at c.in_ok-token-2.token c.index-tokens-at.result c.in_ok-token-2.ensures c.index-tokens-at.is in
-    rw (c.in_ok-push.ensures.items, c.number_use.ensures) (
-      rest_passed c.args.source.now c.args.counter.now c.args.number c.args.tokens.now c.loop-at.copied.items c.loop-at.made c.loop-at.token c.in_ok-token-2.token c.loop-at.at c.loop-at-test.true is c.if-is_joined.ensures c.loop-at.invariant.0,
-      item_lies c.args.source.now c.args.tokens.now c.loop-at.at c.in_ok-token-2.token c.loop-at-test.true is c.requires,
-      All-push (LiesIn c.args.source.now) c.loop-at.copied.items _ c.loop-at.invariant.2 (numbered_lies c.args.source.now c.args.counter.now c.args.number c.loop-at.made c.loop-at.token _ refl c.loop-at.invariant.1),
+    let s = c.args.source.now in
+    let ts = c.args.tokens.now in
+    let t = c.in_ok-clone_token.field-0 in
+    let is : t ≡ get_or ts c.loop-at.at t = same_read ts c.loop-at.at t c.index-tokens-at.result c.in_ok-clone_token.ensures c.index-tokens-at.is in
+    let made = other_at s c.args.counter.now c.args.number ts c.loop-at.at t c.loop-at-test.true is (ap is_name_token c.in_ok-clone_token.ensures ∙ sym c.if-is_name_token.ensures) in
+    rw c.in_ok-push.ensures.items (
+      c.loop-at.invariant.0
+          ∙ (ap (option_map (λ r. c.loop-at.copied.items ++ r)) made
+          ∙ more s c.args.counter.now c.args.number c.loop-at.copied.items t (copied_tokens s c.args.counter.now c.args.number (drop (c.loop-at.at + 1) ts))),
+      All-push (LiesIn s) c.loop-at.copied.items t c.loop-at.invariant.1 (item_lies s ts c.loop-at.at t c.loop-at-test.true is c.requires),
     )
-
-pub returns-clause-inside : goal.returns-clause-inside
-returns-clause-inside c =
-    All-same (LiesIn c.args.source.now) c.from_vec-2.result _ (c.from_vec-2.ensures ∙ c.in_ok-push-2.ensures.items)
-    (All-push (LiesIn c.args.source.now) c.loop-at.copied.items c.number_use-2.new.token c.loop-at.invariant.2 (numbered_lies c.args.source.now c.args.counter.now c.args.number c.loop-at.made c.loop-at.token c.number_use-2.new.token c.number_use-2.ensures c.loop-at.invariant.1))

@@ -1,14 +1,14 @@
 use Rattle.std.proofs.Common.{◌-◌, length, drop}
 use Rattle.std.specs.Prelude.{All}
 use Rattle.rc_text.specs.Symbols.{LiesIn}
-use Rattle.rc_expand.specs.Unroll.{copied_from}
+use Rattle.rc_expand.specs.Unroll.{copied_tokens}
 use Rattle.rc_expand.proofs.Unrolling.Copies.{Rest}
 use Rattle.rc_expand.proofs.unroll.copy.copy_tokens.Given as goal
 
 abbrev pub invariant-loop-at : goal.invariant-loop-at
 invariant-loop-at l =
-    Rest l.source l.counter l.number l.tokens l.copied.items (copied_from l.source l.counter l.number l.made l.token (drop l.at l.tokens))
-    × LiesIn l.source l.token × All (LiesIn l.source) l.copied.items
+    Rest l.source l.counter l.number l.tokens l.copied.items (copied_tokens l.source l.counter l.number (drop l.at l.tokens))
+    × All (LiesIn l.source) l.copied.items
 
 abbrev pub decreases-loop-at : goal.decreases-loop-at
 decreases-loop-at l = length l.tokens - l.at

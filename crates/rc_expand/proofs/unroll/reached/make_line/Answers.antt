@@ -1,4 +1,4 @@
-use Rattle.std.proofs.Common.{◌≡◌, sym, ◌∙◌, ap, take, get_or, arith}
+use Rattle.std.proofs.Common.{sym, ◌∙◌, ap, take, get_or}
 use Rattle.std.proofs.lemmas.List.{take_more}
 use Rattle.rc_expand.specs.Unroll.{copied_line}
 use Rattle.rc_expand.specs.Unroll.Reached.{line_in}

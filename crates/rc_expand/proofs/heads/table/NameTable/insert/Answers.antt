@@ -1,7 +1,7 @@
-use Rattle.std.proofs.Common.{◌≡◌, ◌∙◌, ap, sym, ◌+◌}
+use Rattle.std.proofs.Common.{◌∙◌, ap, sym, ◌+◌}
 use Rattle.std.specs.Prelude.{is_some, if◌then◌else◌}
 use Rattle.indexmap.specs.IndexMap.{index_map_len}
-use Rattle.indexmap.specs.Entry.{map_with_value, entry_value}
+use Rattle.indexmap.specs.Entry.{entry_value}
 use Rattle.rc_expand.proofs.Reading.TableFound.{kept_first, longer_if_new}
 use Rattle.rc_expand.proofs.heads.table.NameTable.insert.Goals as goal
 
