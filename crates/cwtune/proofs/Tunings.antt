@@ -5,6 +5,7 @@ use Rattle.rc_instr.specs.Warrior.{WarriorView}
 use Rattle.rc_asm.specs.Assembly.{Assembles}
 use Rattle.mars_fight.specs.Schedule.{fights_of}
 use Rattle.mars_fight.specs.declared.fight.Fight.{Fight}
+use Rattle.tune_template.specs.Limits.{MOST_OPPONENTS}
 use Rattle.tune_template.specs.Parts.{IsPart}
 use Rattle.tune_template.specs.Instances.{TemplateView, InputsView}
 use Rattle.tune_cert.specs.Optimum.{IsCandidate}
@@ -17,7 +18,7 @@ use Rattle.cwtune.specs.declared.fault.RunFault.{RunFault}
 use Rattle.cwtune.proofs.Meaning.{template_one, one_meaning}
 use Rattle.cwtune.specs.declared.fault.RunFault.TheVariants.{FightText, Rules, Load, Position, Asm, TooManyOpponents, Template, Opponent, Schedule, NoCandidate, Write, OutOfMemory, Part as BadPart, NoSuchSetting}
 
-pub template_refused : (e : RunFault) (t : Texts) → length t.opponents ≤ 64 → IsTemplateRefusal e t.template → IsTuneRefusal e t
+pub template_refused : (e : RunFault) (t : Texts) → length t.opponents ≤ MOST_OPPONENTS → IsTemplateRefusal e t.template → IsTuneRefusal e t
 template_refused (FightText line) t few r = absurd r
 template_refused (Rules error) t few r = absurd r
 template_refused (Load side fault) t few r = absurd r
@@ -33,7 +34,7 @@ template_refused Write t few r = absurd r
 template_refused OutOfMemory t few r = tt
 template_refused BadPart t few r = absurd r
 
-pub opponents_refused : (e : RunFault) (t : Texts) (view : TemplateView) → length t.opponents ≤ 64 → IsTemplate t.template view
+pub opponents_refused : (e : RunFault) (t : Texts) (view : TemplateView) → length t.opponents ≤ MOST_OPPONENTS → IsTemplate t.template view
     → AreRefused e t.rules t.opponents → IsTuneRefusal e t
 opponents_refused (FightText line) t view few is r = absurd r
 opponents_refused (Rules error) t view few is r = absurd r
@@ -50,7 +51,7 @@ opponents_refused Write t view few is r = absurd r
 opponents_refused OutOfMemory t view few is r = tt
 opponents_refused BadPart t view few is r = absurd r
 
-pub schedule_refused : (e : RunFault) (t : Texts) (view : TemplateView) (opponents : List WarriorView) → length t.opponents ≤ 64 → IsTemplate t.template view
+pub schedule_refused : (e : RunFault) (t : Texts) (view : TemplateView) (opponents : List WarriorView) → length t.opponents ≤ MOST_OPPONENTS → IsTemplate t.template view
     → AreOpponents t.rules t.opponents opponents → HasNoFights e t.rules (length t.opponents) t.schedule → IsTuneRefusal e t
 schedule_refused (FightText line) t view opponents few is are r = absurd r
 schedule_refused (Rules error) t view opponents few is are r = absurd r
@@ -67,7 +68,7 @@ schedule_refused Write t view opponents few is are r = absurd r
 schedule_refused OutOfMemory t view opponents few is are r = tt
 schedule_refused BadPart t view opponents few is are r = absurd r
 
-pub part_refused : (t : Texts) (view : TemplateView) (opponents : List WarriorView) (schedule : List Fight) → length t.opponents ≤ 64 → IsTemplate t.template view
+pub part_refused : (t : Texts) (view : TemplateView) (opponents : List WarriorView) (schedule : List Fight) → length t.opponents ≤ MOST_OPPONENTS → IsTemplate t.template view
     → AreOpponents t.rules t.opponents opponents → fights_of t.rules (length t.opponents) t.schedule ≡ Some schedule → (IsPart t.part (setting_count view) → ⊥)
     → IsTuneRefusal BadPart t
 part_refused t view opponents schedule few is are read bad = (view, opponents, schedule, few, is, are, read, bad)

@@ -2,6 +2,7 @@
 use Rattle.std.specs.Prelude.{◌≡◌, ℕ, ◌≤◌, ◌<◌, ◌^◌, List, [], ◌∷◌, ◌++◌, codes}
 use Rattle.std.specs.Fmt.{decimal}
 use Rattle.tune_template.specs.declared.part.Part.{Part}
+use Rattle.tune_search.specs.Limits.{MOST_REMEMBERED}
 use Rattle.cwtune.specs.declared.command_line.Request.{Request}
 use Rattle.cwtune.specs.declared.command_line.Request.TheVariants.{Tune}
 
@@ -11,9 +12,9 @@ AskForFight [] = Unit {0}
 AskForFight (word ∷ []) = word ≡ codes "fight"
 AskForFight (word ∷ next ∷ more) = ⊥
 
--- The capacity of a search is 1 to 65536.
+-- The capacity of a search is 1 to `MOST_REMEMBERED`.
 abbrev pub IsRequest : Request → Type 0
-IsRequest (Tune words capacity) = (1 ≤ capacity) × (capacity ≤ 65536)
+IsRequest (Tune words capacity) = (1 ≤ capacity) × (capacity ≤ MOST_REMEMBERED)
 IsRequest _ = Unit {0}
 
 -- The word for part I of K is `I/K`.

@@ -2,6 +2,7 @@
 -- that of the other tuning, but for the work.
 use Rattle.std.specs.Prelude.{◌≡◌, ℕ, ℤ, ◌*◌, ◌≤◌, List, length, slice_get, Option, Some}
 use Rattle.std.specs.Io.KnownBytes.{Appends}
+use Rattle.tune_template.specs.Limits.{MOST_SETTINGS}
 use Rattle.tune_template.specs.Instances.{InputsView, settings_of}
 use Rattle.tune_cert.specs.Problem.{Problem, problem_of}
 use Rattle.tune_cert.specs.Optimum.{IsOptimum, HasTotal, candidates_of}
@@ -21,7 +22,7 @@ pub record IsFound (p : Problem) (f : Found) : Type 0 where
   -- its version is 1 exactly if every fight counts once
   pub version : IsOwnVersion p f.version
   pub count : f.candidates ≡ candidates_of p
-  pub few : length f.rows ≤ 1000000
+  pub few : length f.rows ≤ MOST_SETTINGS
 
 -- What a plain search finds: the rows of the candidates list all fights, and each was played.
 pub record IsPlainSearch (p : Problem) (f : Found) : Type 0 where

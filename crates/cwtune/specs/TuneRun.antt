@@ -10,6 +10,7 @@ use Rattle.mars_fight.specs.Schedule.{fights_of}
 use Rattle.mars_fight.specs.ScheduleRefusal.{IsScheduleFault}
 use Rattle.mars_fight.specs.declared.fault.ScheduleFault.{ScheduleFault}
 use Rattle.mars_fight.specs.declared.fault.ScheduleFaultKind.TheVariants.{OutOfMemory as MemoryKind}
+use Rattle.tune_template.specs.Limits.{MOST_OPPONENTS}
 use Rattle.tune_template.specs.Ranges.{ranges_of, HasRanges}
 use Rattle.tune_template.specs.declared.fault.TemplateFault.{TemplateFault}
 use Rattle.tune_template.specs.declared.fault.TemplateKind.TheVariants.{OutOfMemory as NoMemory}
@@ -61,10 +62,10 @@ AreOpponents rules _ _ = ⊥
 abbrev pub setting_count : TemplateView → ℕ
 setting_count t = length (vectors_of t.ranges.spans)
 
--- Texts mean inputs: at most 64 opponents that assemble, a template with ranges, a schedule with
--- fights, and a part of the template's settings.
+-- Texts mean inputs: at most `MOST_OPPONENTS` opponents that assemble, a template with ranges, a
+-- schedule with fights, and a part of the template's settings.
 pub record Means (t : Texts) (i : InputsView) : Type 0 where
-  pub few : length t.opponents ≤ 64
+  pub few : length t.opponents ≤ MOST_OPPONENTS
   pub template : IsTemplate t.template i.template
   pub opponents : AreOpponents t.rules t.opponents i.opponents
   pub schedule : fights_of t.rules (length t.opponents) t.schedule ≡ Some i.schedule
@@ -114,15 +115,15 @@ HasNoFights _ rules opponents bytes = ⊥
 -- What each fault says of the texts: it applies, and those before it do not. Out of memory says
 -- nothing of the texts.
 abbrev pub IsTuneRefusal : RunFault → Texts → Type 0
-IsTuneRefusal TooManyOpponents t = 64 < length t.opponents
-IsTuneRefusal (Template fault) t = (length t.opponents ≤ 64) × IsTemplateFault t.template fault
+IsTuneRefusal TooManyOpponents t = MOST_OPPONENTS < length t.opponents
+IsTuneRefusal (Template fault) t = (length t.opponents ≤ MOST_OPPONENTS) × IsTemplateFault t.template fault
 IsTuneRefusal (Opponent index fault) t =
-    (view : TemplateView) × (length t.opponents ≤ 64) × IsTemplate t.template view × IsOpponentRefusal t.rules t.opponents index fault
+    (view : TemplateView) × (length t.opponents ≤ MOST_OPPONENTS) × IsTemplate t.template view × IsOpponentRefusal t.rules t.opponents index fault
 IsTuneRefusal (Schedule fault) t =
-    (view : TemplateView) × (opponents : List WarriorView) × (length t.opponents ≤ 64) × IsTemplate t.template view
+    (view : TemplateView) × (opponents : List WarriorView) × (length t.opponents ≤ MOST_OPPONENTS) × IsTemplate t.template view
     × AreOpponents t.rules t.opponents opponents × IsScheduleRefusal t.rules (length t.opponents) t.schedule fault
 IsTuneRefusal BadPart t =
-    (view : TemplateView) × (opponents : List WarriorView) × (schedule : List Fight) × (length t.opponents ≤ 64) × IsTemplate t.template view
+    (view : TemplateView) × (opponents : List WarriorView) × (schedule : List Fight) × (length t.opponents ≤ MOST_OPPONENTS) × IsTemplate t.template view
     × AreOpponents t.rules t.opponents opponents × (fights_of t.rules (length t.opponents) t.schedule ≡ Some schedule)
     × (IsPart t.part (setting_count view) → ⊥)
 IsTuneRefusal NoCandidate t = (i : InputsView) × Means t i × HasNoCandidate i

@@ -1,7 +1,9 @@
 //! The command line, as the library `clap` reads it.
 ghost use Rattle.std.specs.Prelude.{◌≡◌, ◌↔◌, ◌≤◌, map, IfOk, IsTrue, string_bytes};
+ghost use Rattle.tune_search.specs.Limits.{MOST_REMEMBERED};
 ghost use Rattle.cwtune.specs.CommandLine.{AskForFight, IsRequest};
 
+use crate::limits;
 use crate::part_word::{part_error, part_of, part_option};
 use crate::raw_rules::RawRules;
 use crate::which_setting::{WhichSetting, which_setting};
@@ -283,7 +285,7 @@ fn cache_option<'a>(alloc: Global) -> Arg<'a> {
         .long("cache")
         .value_name("NUMBER")
         .action(ArgAction::Set)
-        .value_parser(value_parser!(u32).range(1..65_537))
+        .value_parser(value_parser!(u32).range(1..i64::from(limits::MOST_REMEMBERED) + 1))
         .help(
             "Settings to remember, so that equal warriors share fights, 1 to 65536 [default: 4096]",
         )
@@ -358,10 +360,10 @@ fn commands<'a>(alloc: Global, fight: Command<'a>) -> Result<Command<'a>, AllocE
 
 // Returns the value of `--cache`, which `clap` keeps in its range, or the default.
 fn capacity_of(found: &ArgMatches<'_>) -> u32
-    ensures { (1 ≤ result) × (result ≤ 65536) }
+    ensures { (1 ≤ result) × (result ≤ MOST_REMEMBERED) }
 {
     match found.get_one::<u32>("cache") {
-        Some(capacity) if 1 <= capacity && capacity <= 65_536 => capacity,
+        Some(capacity) if 1 <= capacity && capacity <= limits::MOST_REMEMBERED => capacity,
         _ => CAPACITY,
     }
 }

@@ -4,17 +4,16 @@ ghost use Rattle.rc_instr.specs.Warrior.{Fits};
 ghost use Rattle.rc_asm.specs.Assembly.{Assembles};
 ghost use Rattle.mars_fight.specs.Listed.{IsFight};
 ghost use Rattle.mars_fight.specs.Schedule.{fights_of};
+ghost use Rattle.tune_template.specs.Limits.{MOST_OPPONENTS};
 ghost use Rattle.cwtune.specs.TuneRun.{part_texts, IsTemplate, AreOpponents, Means, IsTemplateRefusal, IsRefusalOf, AreRefused, HasNoFights, IsTuneRefusal};
 
 use crate::commands::warrior_of;
 use crate::fault::RunFault;
+use crate::limits;
 use mars_fight::{Schedule, ScheduleFaultKind};
 use rc_instr::{Rules, Warrior};
 use std::alloc::Global;
 use tune_template::{Inputs, Part, Template, TemplateKind};
-
-// The most opponents that a tuning may have.
-const MOST_OPPONENTS: usize = 64;
 
 // Reads the inputs of a tuning of a part. Of several faults the first in the order of `RunFault` is
 // returned, and `Part` last.
@@ -31,7 +30,7 @@ pub(crate) fn inputs_of(
     ensures refused { IfErr result (λ e. IsTuneRefusal e (part_texts template.now (map (λ o. o.items) opponents.now) schedule.now rules.now part)) }
     ensures candidate { IfErr result (λ e. (e ≢ RunFault.NoCandidate) × (e ≢ RunFault.Write)) }
 {
-    if opponents.len() > MOST_OPPONENTS {
+    if opponents.len() > limits::MOST_OPPONENTS {
         return Err(RunFault::TooManyOpponents);
     }
     let template = match template_of(alloc, template) {
@@ -102,10 +101,10 @@ pub(crate) fn opponent_of(
     }
 }
 
-// Assembles all opponents, at most 64, up to the first that does not assemble.
+// Assembles all opponents, at most `MOST_OPPONENTS`, up to the first that does not assemble.
 #[tactic(auto, using(crate::proofs::Opponents::opponents_more, crate::proofs::Opponents::opponents_end, crate::proofs::Opponents::opponents_whole))]
 fn opponents_of(alloc: Global, sources: &[Vec<u8>], rules: &Rules) -> Result<Vec<Warrior>, RunFault>
-    requires few { length sources.now ≤ 64 }
+    requires few { length sources.now ≤ MOST_OPPONENTS }
     ensures warriors { IfOk result (λ ws. AreOpponents rules.now (map (λ s. s.items) sources.now) ws.items) }
     ensures count { IfOk result (λ ws. length ws.items ≡ length sources.now) }
     ensures fit { IfOk result (λ ws. All (Fits rules.now) ws.items) }

@@ -13,6 +13,7 @@ mod fight_text;
 mod hints;
 mod inputs;
 pub mod laws;
+mod limits;
 mod lines;
 mod part_word;
 pub mod plain_laws;

@@ -7,6 +7,7 @@ use Rattle.rc_instr.specs.Rules.{RulesView}
 use Rattle.mars_core.specs.declared.side.Side.{Side}
 use Rattle.mars_fight.specs.Records.{Fields}
 use Rattle.mars_fight.specs.Decimal.{padded_decimal}
+use Rattle.mars_fight.specs.Limits.{MOST_FIGHTS, MOST_WEIGHT}
 use Rattle.mars_fight.specs.Schedule.{opponent_of, position_of, mover_named, weight_of, fight_made, plain_fight, weighted_fight, fight_of, fights_in, within_limit, header_of, scheduled}
 use Rattle.mars_fight.specs.ScheduleRefusal.{AreFightsRead, IsFirstWrong, IsOneTooMany, IsScheduleFault}
 use Rattle.mars_fight.specs.declared.fight.Fight.{Fight}
@@ -58,7 +59,7 @@ mover_row (x ∷ y ∷ more) = tt
 -- a weight has no other fault
 weight_row : (number : Option ℕ) → IsRowResult (weight_of number)
 weight_row None = tt
-weight_row (Some number) = chosen (nat_le 1 number && nat_le number 1000) (Ok number) (Err BadWeight) tt tt
+weight_row (Some number) = chosen (nat_le 1 number && nat_le number MOST_WEIGHT) (Ok number) (Err BadWeight) tt tt
 
 -- parts of a fight have no other fault
 made_row : (o p : Result ℕ ScheduleFaultKind) (f : Result Side ScheduleFaultKind) (w : Result ℕ ScheduleFaultKind)
@@ -138,23 +139,23 @@ wrong_none r n rows row kind w =
     let none : fights_in r n w.columns (w.fields ∷ w.rest) ≡ None = rw w.wrong refl in
     headed_as r n w.columns rows None w.read.headed (read_meant r n w.columns rows w.fights (w.fields ∷ w.rest) w.read ∙ rw none refl)
 
--- more than 10000 fights are too many
-within_limit-many : (fights : List Fight) → 10000 < length fights → within_limit fights ≡ None
+-- more than `MOST_FIGHTS` fights are too many
+within_limit-many : (fights : List Fight) → MOST_FIGHTS < length fights → within_limit fights ≡ None
 within_limit-many fights h =
-    let many : nat_le (length fights) 10000 ≡ false = grind (arith, nat_tests) in
+    let many : nat_le (length fights) MOST_FIGHTS ≡ false = grind (arith, nat_tests) in
     rw many (if_no (nat_lt 0 (length fights)) fights)
   where
     if_no : (b : Bool) (fights : List Fight) → ◌≡◌ {A = Option (List Fight)} (if b && false then Some fights else None) None
     if_no true fights = refl
     if_no false fights = refl
 
--- 10000 fights and one more are too many
-too_many_joined : (fights : List Fight) (o : Option (List Fight)) → length fights ≡ 10000 → ((more : List Fight) → o ≡ Some more → 0 < length more)
+-- `MOST_FIGHTS` fights and one more are too many
+too_many_joined : (fights : List Fight) (o : Option (List Fight)) → length fights ≡ MOST_FIGHTS → ((more : List Fight) → o ≡ Some more → 0 < length more)
     → option_and_then within_limit (joined (Some fights) o) ≡ None
 too_many_joined fights None many some = refl
 too_many_joined fights (Some more) many some = within_limit-many (fights ++ more) (omega (arith, length-append {A = Fight}, some more refl))
 
--- more than 10000 records are not a schedule
+-- more than `MOST_FIGHTS` records are not a schedule
 too_many_none : (r : RulesView) (n : ℕ) (rows : List Fields) (row : ℕ) → IsOneTooMany r n rows row → scheduled r n rows ≡ None
 too_many_none r n rows row w =
     headed_as r n w.columns rows _ w.read.headed (read_meant r n w.columns rows w.fights (w.fields ∷ w.rest) w.read)

@@ -8,6 +8,7 @@ use Rattle.mars_core.specs.declared.side.Side.{Side}
 use Rattle.mars_fight.specs.Records.{Fields}
 use Rattle.mars_fight.specs.Listed.{IsPosition, IsWeight, IsFight}
 use Rattle.mars_fight.specs.Decimal.{padded_decimal}
+use Rattle.mars_fight.specs.Limits.{MOST_FIGHTS, MOST_WEIGHT}
 use Rattle.mars_fight.specs.Schedule.{opponent_of, position_of, mover_named, weight_of, fight_made, plain_fight, weighted_fight, fight_of, fights_in, with_first, within_limit, header_of, fights_under, scheduled}
 use Rattle.mars_fight.specs.declared.fight.Fight.{Fight}
 use Rattle.mars_fight.specs.declared.record.Columns.{Columns}
@@ -42,14 +43,14 @@ position_within r (Some number) x e =
     let high : number + r.distance ≤ r.core = grind (arith, nat_tests, two.1) in
     record { low = omega (arith, t.1); high = omega (arith, t.1) }
 
--- a weight that is read is from 1 to 1000
+-- a weight that is read is from 1 to `MOST_WEIGHT`
 weight_within : (number : Option ℕ) (x : ℕ) → weight_of number ≡ Ok x → IsWeight x
 weight_within None x e = absurd (cc)
 weight_within (Some number) x e =
-    let t = tested (nat_le 1 number && nat_le number 1000) number x _ e in
-    let two = both (nat_le 1 number) (nat_le number 1000) t.0 in
+    let t = tested (nat_le 1 number && nat_le number MOST_WEIGHT) number x _ e in
+    let two = both (nat_le 1 number) (nat_le number MOST_WEIGHT) t.0 in
     let low : 1 ≤ number = grind (arith, nat_tests, two.0) in
-    let high : number ≤ 1000 = grind (arith, nat_tests, two.1) in
+    let high : number ≤ MOST_WEIGHT = grind (arith, nat_tests, two.1) in
     record { least = omega (arith, t.1); most = omega (arith, t.1) }
 
 -- the parts that a fight is made of
@@ -129,7 +130,7 @@ few_of false xs fights e = absurd (cc)
 -- the limit does not change the fights
 then_few : (o : Option (List Fight)) (fights : List Fight) → option_and_then within_limit o ≡ Some fights → o ≡ Some fights
 then_few None fights e = absurd (cc)
-then_few (Some xs) fights e = few_of (nat_lt 0 (length xs) && nat_le (length xs) 10000) xs fights e
+then_few (Some xs) fights e = few_of (nat_lt 0 (length xs) && nat_le (length xs) MOST_FIGHTS) xs fights e
 
 -- the fights under a header may be listed
 under_fights : (r : RulesView) (n : ℕ) (header : Option Columns) (rows : List Fields) (fights : List Fight) → fights_under r n header rows ≡ Some fights → All (IsFight r n) fights

@@ -2,6 +2,7 @@
 use Rattle.std.proofs.Common.{◌≡◌, ◌<◌, ◌+◌, ℕ, List, [], ◌∷◌, ◌++◌, length, drop, Some, Ok, Err, refl, sym, ◌∙◌, arith, append_assoc}
 use Rattle.rc_instr.specs.Rules.{RulesView}
 use Rattle.mars_fight.specs.Records.{Fields}
+use Rattle.mars_fight.specs.Limits.{MOST_FIGHTS}
 use Rattle.mars_fight.specs.Schedule.{fight_of, fights_in, header_of}
 use Rattle.mars_fight.specs.ScheduleRefusal.{AreFightsRead, IsHeaderAlone, IsScheduleFault}
 use Rattle.mars_fight.specs.declared.fight.Fight.{Fight}
@@ -44,7 +45,7 @@ none_listed r n m rows fights h none =
 
 -- a record that means no fight, and what is wrong with it
 pub wrong_at : (r : RulesView) (n : ℕ) (m : Columns) (rows : List Fields) (fights : List Fight) (fields : Fields) (rest : List Fields) (row : ℕ) (kind : ScheduleFaultKind)
-    → AreFightsRead r n m rows fights (fields ∷ rest) → length fights < 10000 → row ≡ length fights + 1 → fight_of r n m fields ≡ Err kind → IsScheduleFault r n rows row kind
+    → AreFightsRead r n m rows fights (fields ∷ rest) → length fights < MOST_FIGHTS → row ≡ length fights + 1 → fight_of r n m fields ≡ Err kind → IsScheduleFault r n rows row kind
 wrong_at r n m rows fights fields rest row kind h few at means = wrong_fault r n rows row kind (record {
   columns = m;
   fights = fights;

@@ -2,6 +2,7 @@
 use Rattle.std.specs.Prelude.{◌≡◌, ℕ, ◌+◌, ◌*◌, ◌<◌, ◌≤◌, List, All}
 use Rattle.std.specs.List.{sum_by}
 use Rattle.rc_instr.specs.Rules.{RulesView}
+use Rattle.mars_fight.specs.Limits.{MOST_WEIGHT}
 use Rattle.mars_fight.specs.declared.fight.Fight.{Fight}
 
 -- the position is at least the distance away from the candidate at 0, both ways round the core
@@ -9,10 +10,10 @@ pub record IsPosition (rules : RulesView) (position : ℕ) : Type 0 where
   pub low : rules.distance ≤ position
   pub high : position + rules.distance ≤ rules.core
 
--- a fight counts 1 to 1000 times
+-- a fight counts 1 to `MOST_WEIGHT` times
 pub record IsWeight (weight : ℕ) : Type 0 where
   pub least : 1 ≤ weight
-  pub most : weight ≤ 1000
+  pub most : weight ≤ MOST_WEIGHT
 
 -- the opponent exists, the position keeps the distance, and the weight is one
 pub record IsFight (rules : RulesView) (opponents : ℕ) (fight : Fight) : Type 0 where

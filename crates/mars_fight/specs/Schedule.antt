@@ -6,6 +6,7 @@ use Rattle.mars_core.specs.declared.side.Side.{Side}
 use Rattle.mars_core.specs.declared.side.Side.TheVariants.{Candidate, Opponent}
 use Rattle.mars_fight.specs.Records.{Fields, records_of}
 use Rattle.mars_fight.specs.Decimal.{padded_decimal}
+use Rattle.mars_fight.specs.Limits.{MOST_FIGHTS, MOST_WEIGHT}
 use Rattle.mars_fight.specs.declared.fight.Fight.{Fight}
 use Rattle.mars_fight.specs.declared.record.Columns.{Columns}
 use Rattle.mars_fight.specs.declared.record.Columns.TheVariants.{Plain, Weighted}
@@ -47,10 +48,10 @@ mover_named [] = Err BadFirst
 mover_named (x ∷ []) = if x == byte "c" then Ok Candidate else if x == byte "o" then Ok Opponent else Err BadFirst
 mover_named (x ∷ y ∷ more) = Err BadFirst
 
--- a weight from 1 to 1000
+-- a weight from 1 to `MOST_WEIGHT`
 abbrev pub weight_of : Option ℕ → Result ℕ ScheduleFaultKind
 weight_of None = Err BadNumber
-weight_of (Some number) = if nat_le 1 number && nat_le number 1000 then Ok number else Err BadWeight
+weight_of (Some number) = if nat_le 1 number && nat_le number MOST_WEIGHT then Ok number else Err BadWeight
 
 -- the fight of its parts, or the fault of the leftmost faulty one
 abbrev pub fight_made : Result ℕ ScheduleFaultKind → Result ℕ ScheduleFaultKind → Result Side ScheduleFaultKind → Result ℕ ScheduleFaultKind → Result Fight ScheduleFaultKind
@@ -95,9 +96,9 @@ abbrev pub fights_in : RulesView → ℕ → Columns → List Fields → Option 
 fights_in rules opponents columns [] = Some []
 fights_in rules opponents columns (fields ∷ records) = with_first (fight_of rules opponents columns fields) (fights_in rules opponents columns records)
 
--- 1 to 10000 fights
+-- 1 to `MOST_FIGHTS` fights
 abbrev pub within_limit : List Fight → Option (List Fight)
-within_limit fights = if nat_lt 0 (length fights) && nat_le (length fights) 10000 then Some fights else None
+within_limit fights = if nat_lt 0 (length fights) && nat_le (length fights) MOST_FIGHTS then Some fights else None
 
 -- the fights of the records after a header
 abbrev pub fights_under : RulesView → ℕ → Option Columns → List Fields → Option (List Fight)
@@ -108,7 +109,8 @@ fights_under rules opponents (Some columns) records = option_and_then within_lim
 abbrev pub scheduled : RulesView → ℕ → List Fields → Option (List Fight)
 scheduled rules opponents records = fights_under rules opponents (header_of records) (drop 1 records)
 
--- the fights of a schedule for `opponents` opponents under these rules: 1 to 10000, in the order of
--- the text. None if the text is not a schedule. A fight that is listed twice counts twice.
+-- the fights of a schedule for `opponents` opponents under these rules: 1 to `MOST_FIGHTS`, in
+-- the order of the text. None if the text is not a schedule. A fight that is listed twice counts
+-- twice.
 unfoldable pub fights_of : RulesView → ℕ → List ℕ → Option (List Fight)
 fights_of rules opponents bytes = scheduled rules opponents (records_of bytes)

@@ -2,6 +2,7 @@
 use Rattle.std.specs.Prelude.{◌≡◌, ℕ, ◌+◌, ◌<◌, Some, None, Err, List, ◌∷◌, ◌++◌, length, drop}
 use Rattle.rc_instr.specs.Rules.{RulesView}
 use Rattle.mars_fight.specs.Records.{Fields}
+use Rattle.mars_fight.specs.Limits.{MOST_FIGHTS}
 use Rattle.mars_fight.specs.Schedule.{fight_of, fights_in, header_of}
 use Rattle.mars_fight.specs.declared.fight.Fight.{Fight}
 use Rattle.mars_fight.specs.declared.record.Columns.{Columns}
@@ -18,26 +19,26 @@ pub record AreFightsRead (rules : RulesView) (opponents : ℕ) (columns : Column
   pub meant : fights_in rules opponents columns before ≡ Some fights
 
 -- record `row` is the first that is not a fight, and `kind` is its fault. The header is record 0,
--- and records after the 10000th fight are not looked at.
+-- and records after `MOST_FIGHTS` fights are not looked at.
 pub record IsFirstWrong (rules : RulesView) (opponents : ℕ) (records : List Fields) (row : ℕ) (kind : ScheduleFaultKind) : Type 0 where
   pub columns : Columns
   pub fights : List Fight
   pub fields : Fields
   pub rest : List Fields
   pub read : AreFightsRead rules opponents columns records fights (fields ∷ rest)
-  pub few : length fights < 10000
+  pub few : length fights < MOST_FIGHTS
   pub number : row ≡ length fights + 1
   pub wrong : fight_of rules opponents columns fields ≡ Err kind
 
--- 10000 records are fights, and one more comes after them: record 10001
+-- `MOST_FIGHTS` records are fights, and one more comes after them
 pub record IsOneTooMany (rules : RulesView) (opponents : ℕ) (records : List Fields) (row : ℕ) : Type 0 where
   pub columns : Columns
   pub fights : List Fight
   pub fields : Fields
   pub rest : List Fields
   pub read : AreFightsRead rules opponents columns records fights (fields ∷ rest)
-  pub many : length fights ≡ 10000
-  pub number : row ≡ 10001
+  pub many : length fights ≡ MOST_FIGHTS
+  pub number : row ≡ MOST_FIGHTS + 1
 
 -- the header is there, and nothing after it
 pub record IsHeaderAlone (records : List Fields) : Type 0 where

@@ -5,11 +5,9 @@ ghost use Rattle.mars_core.specs.Arena.{IsBlank};
 ghost use Rattle.mars_fight.specs.Listed.{IsPosition, IsWeight, IsFight};
 ghost use Rattle.mars_fight.specs.Play.{points_of, ArePoints};
 
+use crate::limits;
 use mars_core::{Arena, Cells, Side};
 use rc_instr::{Rules, Warrior};
-
-// The greatest weight of a fight.
-const MOST_WEIGHT: u32 = 1000;
 
 /// The points of a win, the most that a fight gives.
 pub const MOST_POINTS: u32 = 3;
@@ -29,7 +27,7 @@ pub struct Fight {
 
 impl Fight {
     // Checks that the opponent exists, that the position keeps the distance, and that the weight is
-    // from 1 to 1000.
+    // from 1 to `MOST_WEIGHT`.
     pub(crate) fn is_fight(&self, rules: &Rules, opponents: u32) -> bool
         ensures { IsTrue result ↔ IsFight rules.now opponents self.now }
     {
@@ -71,9 +69,9 @@ pub(crate) fn keeps_distance(rules: &Rules, position: u32) -> bool
     rules.distance() <= position && position <= rules.core() - rules.distance()
 }
 
-// Checks that `weight` is from 1 to 1000.
+// Checks that `weight` is from 1 to `MOST_WEIGHT`.
 pub(crate) fn is_weight(weight: u32) -> bool
     ensures { IsTrue result ↔ IsWeight weight }
 {
-    1 <= weight && weight <= MOST_WEIGHT
+    1 <= weight && weight <= limits::MOST_WEIGHT
 }

@@ -7,6 +7,7 @@
 mod decimal;
 mod fault;
 mod fight;
+mod limits;
 mod record;
 mod records;
 mod schedule;

@@ -136,7 +136,7 @@ fn read_mover(field: &[u8]) -> Result<Side, ScheduleFaultKind>
     }
 }
 
-// Reads a weight from 1 to 1000.
+// Reads a weight from 1 to `MOST_WEIGHT`.
 fn read_weight(field: &[u8]) -> Result<u32, ScheduleFaultKind>
     ensures { result ≡ weight_of (padded_decimal field.now) }
 {

@@ -2,21 +2,20 @@
 ghost use Rattle.std.specs.Prelude.{◌≡◌, ◌≢◌, ℕ, ◌<◌, ◌≤◌, ◌*◌, ◌↔◌, true, Some, None, length, drop, IfOk, IfErr, OnOk, IsTrue, All};
 ghost use Rattle.rc_instr.specs.Rules.{RulesView};
 ghost use Rattle.mars_fight.specs.Records.{records_of};
+ghost use Rattle.mars_fight.specs.Limits.{MOST_FIGHTS};
 ghost use Rattle.mars_fight.specs.Listed.{IsFight, IsPlain, greatest_points};
 ghost use Rattle.mars_fight.specs.Schedule.{fights_of, header_of, scheduled};
 ghost use Rattle.mars_fight.specs.ScheduleRefusal.{IsScheduleFault};
 
 use crate::fault::{ScheduleFault, ScheduleFaultKind};
 use crate::fight::{Fight, MOST_POINTS};
+use crate::limits;
 use crate::record::{Columns, read_columns, read_fight};
 use crate::records::Records;
 use csv::ByteRecord;
 use rc_instr::Rules;
 use std::alloc::Global;
 use std::marker::Model;
-
-// The most fights of a schedule.
-const MOST_FIGHTS: usize = 10_000;
 
 /// 1 to 10000 fights. Contracts see the list. A fight that is listed twice is played twice.
 #[derive(Debug, Drop)]
@@ -26,6 +25,7 @@ pub struct Schedule {
 
 impl Model for Schedule {
     ghost use Rattle.std.specs.Prelude.{◌<◌, ◌≤◌, List, length, All};
+    ghost use Rattle.mars_fight.specs.Limits.{MOST_FIGHTS};
     ghost use Rattle.mars_fight.specs.Listed.{IsWeight};
     ghost use Rattle.mars_fight.specs.declared.fight.Fight.{Fight};
 
@@ -33,7 +33,7 @@ impl Model for Schedule {
 
     ghost view = { λ s. s.fights.items };
 
-    ghost invariant = { λ s. (0 < length s.fights.items) × (length s.fights.items ≤ 10000) × All (λ (f : Fight). IsWeight f.weight) s.fights.items };
+    ghost invariant = { λ s. (0 < length s.fights.items) × (length s.fights.items ≤ MOST_FIGHTS) × All (λ (f : Fight). IsWeight f.weight) s.fights.items };
 }
 
 impl Schedule {
@@ -82,7 +82,7 @@ impl Schedule {
     /// Returns the fights, 1 to 10000. A fight's index is its place in this list.
     pub fn fights(&self) -> &[Fight]
         ensures fights { result.now ≡ self.now }
-        ensures few { (0 < length self.now) × (length self.now ≤ 10000) }
+        ensures few { (0 < length self.now) × (length self.now ≤ MOST_FIGHTS) }
     {
         self.fights.as_slice()
     }
@@ -138,7 +138,7 @@ fn read_header(records: &mut Records, fields: &mut ByteRecord) -> Result<Columns
     Err(fault_at(0, ScheduleFaultKind::Header))
 }
 
-// Reads the header and the fights after it: at least 1, at most 10000.
+// Reads the header and the fights after it: at least 1, at most `MOST_FIGHTS`.
 fn read_fights(
     alloc: Global,
     bytes: &[u8],
@@ -146,7 +146,7 @@ fn read_fights(
     rules: &Rules,
 ) -> Result<Vec<Fight>, ScheduleFault>
     ensures found { IfOk result (λ v. scheduled rules.now opponents (records_of bytes.now) ≡ Some v.items) }
-    ensures few { IfOk result (λ v. (0 < length v.items) × (length v.items ≤ 10000)) }
+    ensures few { IfOk result (λ v. (0 < length v.items) × (length v.items ≤ MOST_FIGHTS)) }
     ensures fault { IfErr result (λ e. IsScheduleFault rules.now opponents (records_of bytes.now) e.row e.kind) }
 {
     let mut records = Records::new(alloc, bytes);
@@ -154,8 +154,8 @@ fn read_fights(
     let columns = read_header(&mut records, &mut fields)?;
     let mut fights = Vec::new(alloc);
     while records.read(&mut fields)? {
-        if fights.len() == MOST_FIGHTS {
-            return Err(fault_at(MOST_FIGHTS as u64 + 1, ScheduleFaultKind::TooMany));
+        if fights.len() == limits::MOST_FIGHTS {
+            return Err(fault_at(limits::MOST_FIGHTS as u64 + 1, ScheduleFaultKind::TooMany));
         }
         match read_fight(&fields, columns, opponents, rules) {
             Ok(fight) => fights.push(fight)?,

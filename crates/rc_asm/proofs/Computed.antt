@@ -9,6 +9,7 @@ use Rattle.rc_expand.specs.declared.line.Line.{Line}
 use Rattle.rc_expand.specs.Names.{Table}
 use Rattle.rc_expand.specs.Expansion.{expansion_of}
 use Rattle.rc_asm.specs.declared.starts.Starts.{Starts}
+use Rattle.rc_asm.specs.Limits.{MOST_BYTES}
 use Rattle.rc_asm.specs.Names.{NameValues}
 use Rattle.rc_asm.specs.Assembly.{start_value, no_starts, instructions_from, holds_from, starts_from, names_of, IsMadeOf, Assembles, fitting, made_by, made_of, assembled}
 
@@ -70,7 +71,7 @@ module _ (source : List ℕ) (names : NameValues) (lines : List Line) where
       ∙ (ap (fitting names.rules w.code) t.2 ∙ of_fits names.rules w m.some m.within m.inside)))
 
 module _ (source : List ℕ) (constants : Table) (rules : RulesView) where
-  of_lines : (w : WarriorView) (o : Option (List Line)) → expansion_of source constants rules ≡ o → length source ≤ 65536
+  of_lines : (w : WarriorView) (o : Option (List Line)) → expansion_of source constants rules ≡ o → length source ≤ MOST_BYTES
       → option_and_then (λ lines. made_of source (names_of source constants rules lines) lines) o ≡ Some w → Assembles source constants rules w
   of_lines w None e s h = absurd (cc)
   of_lines w (Some lines) e s h = record { short = s; lines = lines; expands = e; made = made_fits source (names_of source constants rules lines) lines w _ _ _ refl refl refl h }
@@ -78,14 +79,14 @@ module _ (source : List ℕ) (constants : Table) (rules : RulesView) where
   pub computed : (w : WarriorView) → Assembles source constants rules w → assembled source constants rules ≡ Some w
   unfolding assembled
   computed w a =
-      let short : nat_le (length source) 65536 ≡ true = le-leb (length source) 65536 a.short in
+      let short : nat_le (length source) MOST_BYTES ≡ true = le-leb (length source) MOST_BYTES a.short in
       rw short (ap (option_and_then (λ lines. made_of source (names_of source constants rules lines) lines)) a.expands ∙ fits_made source (names_of source constants rules a.lines) a.lines w a.made)
 
   pub assembles : (w : WarriorView) → assembled source constants rules ≡ Some w → Assembles source constants rules w
   unfolding assembled
-  assembles w h = by_size (cases_Bool (nat_le (length source) 65536)) h where
-    by_size : (nat_le (length source) 65536 ≡ true) ⊎ (nat_le (length source) 65536 ≡ false)
-        → (if nat_le (length source) 65536 then option_and_then (λ lines. made_of source (names_of source constants rules lines) lines) (expansion_of source constants rules) else None) ≡ Some w
+  assembles w h = by_size (cases_Bool (nat_le (length source) MOST_BYTES)) h where
+    by_size : (nat_le (length source) MOST_BYTES ≡ true) ⊎ (nat_le (length source) MOST_BYTES ≡ false)
+        → (if nat_le (length source) MOST_BYTES then option_and_then (λ lines. made_of source (names_of source constants rules lines) lines) (expansion_of source constants rules) else None) ≡ Some w
         → Assembles source constants rules w
-    by_size (inl e) h = of_lines w (expansion_of source constants rules) refl (leb-true (length source) 65536 e) (rw e at h)
+    by_size (inl e) h = of_lines w (expansion_of source constants rules) refl (leb-true (length source) MOST_BYTES e) (rw e at h)
     by_size (inr e) h = let k = rw e at h in absurd (cc)

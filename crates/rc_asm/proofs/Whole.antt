@@ -14,6 +14,7 @@ use Rattle.rc_expand.specs.Expansion.{IsExpansion}
 use Rattle.rc_asm.specs.declared.fault.AsmKind.TheVariants.{OutOfMemory}
 use Rattle.rc_asm.specs.declared.starts.Starts.{Starts}
 use Rattle.rc_asm.specs.declared.fault.AsmFault.{AsmFault}
+use Rattle.rc_asm.specs.Limits.{MOST_BYTES}
 use Rattle.rc_asm.specs.Names.{NameValues, Labels, labels_of}
 use Rattle.rc_asm.specs.Assembly.{start_value, no_starts, starts_from, names_of, IsMadeOf, Assembles}
 use Rattle.rc_asm.specs.Faults.{forms_fault, values_fault, IsWarriorFault, IsFaultOfCode, IsFaultOfLines, IsAsmFault}
@@ -111,7 +112,7 @@ refusal_stops source constants rules (Ok x) h = h
 refusal_stops source constants rules (Err f) h = λ m w a. text_stops source constants rules f (h m) w a
 
 -- a fault of the lines is a fault of the text
-pub lines_refused : {A : Type 0} (source : List ℕ) (constants : Table) (rules : RulesView) (lines : List Line) (r : Result A AsmFault) → length source ≤ 65536 → IsExpansion source constants rules lines
+pub lines_refused : {A : Type 0} (source : List ℕ) (constants : Table) (rules : RulesView) (lines : List Line) (r : Result A AsmFault) → length source ≤ MOST_BYTES → IsExpansion source constants rules lines
     → IfErr r (λ f. f.kind ≢ OutOfMemory → IsFaultOfLines source (names_of source constants rules lines) lines f) → IfErr r (λ f. f.kind ≢ OutOfMemory → IsAsmFault source constants rules f)
 lines_refused source constants rules lines (Ok x) s e h = h
 lines_refused source constants rules lines (Err f) s e h = λ m. inr (inr (s, lines, e, h m))

@@ -14,6 +14,7 @@ use Rattle.rc_expand.specs.Names.{Table, entry_of}
 use Rattle.rc_expand.specs.Expansion.{IsExpansion, expansion_of}
 use Rattle.rc_asm.specs.declared.fault.AsmKind.{AsmKind}
 use Rattle.rc_asm.specs.declared.starts.Starts.{Starts}
+use Rattle.rc_asm.specs.Limits.{MOST_BYTES}
 use Rattle.rc_asm.specs.Names.{NameValues, code_lines_after, labels_of, value_at}
 use Rattle.rc_asm.specs.Instructions.{instruction_at}
 
@@ -84,10 +85,10 @@ pub record IsMadeOf (source : List ℕ) (names : NameValues) (lines : List Line)
   pub within : length warrior.code ≤ names.rules.length
   pub inside : warrior.start < length warrior.code
 
--- the text assembles to this warrior: it has at most 65536 bytes, and the lines of its expansion
--- make the warrior
+-- the text assembles to this warrior: it has at most `MOST_BYTES` bytes, and the lines of its
+-- expansion make the warrior
 pub record Assembles (source : List ℕ) (constants : Table) (rules : RulesView) (warrior : WarriorView) : Type 0 where
-  pub short : length source ≤ 65536
+  pub short : length source ≤ MOST_BYTES
   pub lines : List Line
   pub expands : IsExpansion source constants rules lines
   pub made : IsMadeOf source (names_of source constants rules lines) lines warrior
@@ -108,4 +109,4 @@ made_of source names lines = made_by names.rules (instructions_from source names
 -- the warrior to which the text assembles, computed
 unfoldable pub assembled : List ℕ → Table → RulesView → Option WarriorView
 assembled source constants rules =
-    if nat_le (length source) 65536 then option_and_then (λ lines. made_of source (names_of source constants rules lines) lines) (expansion_of source constants rules) else None
+    if nat_le (length source) MOST_BYTES then option_and_then (λ lines. made_of source (names_of source constants rules lines) lines) (expansion_of source constants rules) else None

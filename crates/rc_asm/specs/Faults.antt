@@ -20,6 +20,7 @@ use Rattle.rc_asm.specs.declared.fault.AsmKind.{AsmKind}
 use Rattle.rc_asm.specs.declared.fault.AsmKind.TheVariants.{Expand, MissingOperand, Value, AssertFailed, Warrior, TextTooLong}
 use Rattle.rc_asm.specs.declared.fault.AsmFault.{AsmFault}
 use Rattle.rc_asm.specs.declared.starts.Starts.{Starts}
+use Rattle.rc_asm.specs.Limits.{MOST_BYTES}
 use Rattle.rc_asm.specs.Shape.{shape_of}
 use Rattle.rc_asm.specs.Names.{NameValues, code_lines_after, value_at}
 use Rattle.rc_asm.specs.Instructions.{instruction_at}
@@ -95,7 +96,7 @@ IsFaultOfLines source names lines f = (lines_fault source names lines ≡ Some f
 -- first fault of the lines to which it expands
 abbrev pub IsAsmFault : List ℕ → Table → RulesView → AsmFault → Type 0
 IsAsmFault source constants rules f =
-    ((65536 < length source) × (f ≡ at_line 0 TextTooLong))
-    ⊎ (((length source ≤ 65536) × ((lines : List Line) → ¬ IsExpansion source constants rules lines) × (k : ExpandKind) × (k ≢ NoRoom) × (f.kind ≡ Expand k)
+    ((MOST_BYTES < length source) × (f ≡ at_line 0 TextTooLong))
+    ⊎ (((length source ≤ MOST_BYTES) × ((lines : List Line) → ¬ IsExpansion source constants rules lines) × (k : ExpandKind) × (k ≢ NoRoom) × (f.kind ≡ Expand k)
     × IsInTurn source constants rules (record { line = f.line; kind = k }))
-    ⊎ ((length source ≤ 65536) × (lines : List Line) × IsExpansion source constants rules lines × IsFaultOfLines source (names_of source constants rules lines) lines f))
+    ⊎ ((length source ≤ MOST_BYTES) × (lines : List Line) × IsExpansion source constants rules lines × IsFaultOfLines source (names_of source constants rules lines) lines f))

@@ -20,8 +20,8 @@ use rc_expand::{Constants, Line, expand};
 use rc_instr::{Rules, Warrior, WarriorError};
 use std::alloc::Global;
 
-// The most bytes of a text.
-const TEXT_LIMIT: usize = 65536;
+// The bytes of a text, by the name that `specs/Limits.antt` has for them too.
+const MOST_BYTES: usize = 65536;
 
 /// Assembles a Redcode text to a warrior under `rules`, with `constants` as further names.
 ///
@@ -66,7 +66,7 @@ pub fn assemble(
     ensures fault { IfErr result (λ f. f.kind ≢ OutOfMemory → IsAsmFault source.now (table_of constants.now.names.now constants.now.values.now) rules.now f) }
     ensures memory { IfErr result (λ f. f.kind ≡ OutOfMemory → f.line ≡ 0) }
 {
-    if source.len() > TEXT_LIMIT {
+    if source.len() > MOST_BYTES {
         return Err(AsmFault {
             line: 0,
             kind: AsmKind::TextTooLong,

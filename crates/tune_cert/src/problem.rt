@@ -5,6 +5,7 @@ ghost use Rattle.tune_cert.specs.Problem.{problem_of};
 ghost use Rattle.tune_cert.specs.Optimum.{greatest_of};
 ghost use Rattle.tune_cert.specs.Valid.{IsOwnVersion};
 ghost use Rattle.mars_core.specs.Arena.{IsBlank};
+ghost use Rattle.mars_fight.specs.Limits.{MOST_FIGHTS, MOST_WEIGHT};
 ghost use Rattle.mars_fight.specs.Play.{ArePoints};
 
 use mars_core::{Arena, Cells};
@@ -70,10 +71,10 @@ pub fn fight_points<C: Cells>(
 #[tactic(auto, using(crate::proofs::Weights::greatest_is))]
 pub fn greatest_total(inputs: &Inputs) -> u32
     ensures greatest { result ≡ greatest_of (problem_of inputs.now) }
-    ensures few { (problem_of inputs.now).fights ≤ 10000 }
+    ensures few { (problem_of inputs.now).fights ≤ MOST_FIGHTS }
     ensures small { result ≤ 30000000 }
 {
-    prove!(fight_count(inputs) <= 10_000);
+    prove!(0 < inputs.schedule().fights().len());
     inputs.schedule().greatest()
 }
 
@@ -81,7 +82,7 @@ pub fn greatest_total(inputs: &Inputs) -> u32
 #[tactic(auto, unfolding(crate::specs::Problem::fight_weight))]
 pub fn fight_weight(inputs: &Inputs, index: u32) -> u32
     ensures weight { result ≡ (problem_of inputs.now).weight index }
-    ensures small { result ≤ 1000 }
+    ensures small { result ≤ MOST_WEIGHT }
 {
     match inputs.schedule().fights().get(index as usize) {
         Some(fight) => fight.weight,
@@ -101,7 +102,7 @@ pub fn cert_version(inputs: &Inputs) -> u32
 // Returns the number of fights in the schedule.
 pub(crate) fn fight_count(inputs: &Inputs) -> u32
     ensures count { result ≡ (problem_of inputs.now).fights }
-    ensures few { result ≤ 10000 }
+    ensures few { result ≤ MOST_FIGHTS }
 {
     inputs.schedule().fights().len() as u32
 }

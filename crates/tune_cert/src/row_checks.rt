@@ -2,6 +2,7 @@
 ghost use Rattle.std.specs.Prelude.{◌≡◌, ◌↔◌, ◌<◌, None, Some, IsTrue, IfOk, IfSome, IfNone, length, ◌*◌, ◌≤◌, ℕ, List, true, slice_get};
 ghost use Rattle.rc_instr.specs.Warrior.{Fits};
 ghost use Rattle.mars_core.specs.Arena.{IsBlank};
+ghost use Rattle.mars_fight.specs.Limits.{MOST_FIGHTS};
 ghost use Rattle.tune_cert.specs.Problem.{problem_of};
 ghost use Rattle.tune_cert.specs.Valid.{IsCapRow, IsRightRow, listed_total};
 ghost use Rattle.tune_cert.specs.Verdict.{Rises, HavePoints, IsWrongRefused, IsWrongCap, IsWrong, IsWrongSame, IsBestRow, IsRightAlone, IsFirstOfCap, AreRightAlone, IsRightSame, IsFirstOfSame};
@@ -280,7 +281,7 @@ fn cap_row(cert: &Cert, vector: u32) -> Option<&[(u32, u8)]>
 
 // Adds up the scores that a cap row lists: points times the weight of the fight.
 fn listed_total(inputs: &Inputs, listed: &[(u32, u8)]) -> u32
-    requires few { length listed.now ≤ 10000 }
+    requires few { length listed.now ≤ MOST_FIGHTS }
     ensures sum { result ≡ listed_total (problem_of inputs.now) listed.now }
     ensures small { result ≤ 255000 * length listed.now }
 {
@@ -293,7 +294,7 @@ fn listed_total(inputs: &Inputs, listed: &[(u32, u8)]) -> u32
 
 // Adds up the most that the fights of a cap row can give.
 fn listed_most(inputs: &Inputs, listed: &[(u32, u8)]) -> u32
-    requires few { length listed.now ≤ 10000 }
+    requires few { length listed.now ≤ MOST_FIGHTS }
     ensures sum { result ≡ listed_most (problem_of inputs.now) listed.now }
     ensures small { result ≤ 3000 * length listed.now }
 {

@@ -6,6 +6,7 @@ use Rattle.std.proofs.lemmas.List.Sums.{sum_by_more, sum_by-take-le}
 use Rattle.std.proofs.lemmas.List.Sorted.{sum_by-IsPermutation}
 use Rattle.std.proofs.lemmas.Grind.{common_steps}
 use Rattle.rc_instr.specs.Warrior.{WarriorView}
+use Rattle.mars_fight.specs.Limits.{MOST_WEIGHT}
 use Rattle.mars_fight.specs.Play.{ArePoints}
 use Rattle.tune_cert.specs.Problem.{Problem}
 use Rattle.tune_cert.specs.Optimum.{all_fights, score_of, most_of, greatest_of, cap_of}
@@ -20,14 +21,14 @@ missed x n h = elim h [
 ]
 
 -- what is missed is little
-pub missed_few : (x n : ℕ) → ArePoints x → n ≤ 1000 → (3 - x) * n ≤ 3000
+pub missed_few : (x n : ℕ) → ArePoints x → n ≤ MOST_WEIGHT → (3 - x) * n ≤ 3000
 missed_few x n h few = elim h [
   | inl a ↦ rw a (omega arith)
   | inr b ↦ elim b [ inl c ↦ rw c (omega arith) | inr d ↦ rw d (omega arith) ]
 ]
 
 -- and so is what is made
-pub made_few : (x n : ℕ) → ArePoints x → n ≤ 1000 → x * n ≤ 3000
+pub made_few : (x n : ℕ) → ArePoints x → n ≤ MOST_WEIGHT → x * n ≤ 3000
 made_few x n h few = elim h [
   | inl a ↦ rw a (omega arith)
   | inr b ↦ elim b [ inl c ↦ rw c (omega arith) | inr d ↦ rw d (omega arith) ]

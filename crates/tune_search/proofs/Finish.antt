@@ -8,6 +8,7 @@ use Rattle.std.proofs.lemmas.List.Sums.{sum_by-cons}
 use Rattle.std.proofs.lemmas.Option.{slice_get_within}
 use Rattle.rc_instr.specs.Rules.{RulesView}
 use Rattle.rc_instr.specs.Warrior.{WarriorView}
+use Rattle.tune_template.specs.Limits.{MOST_SETTINGS}
 use Rattle.tune_cert.specs.Problem.{IsProblem, Problem}
 use Rattle.tune_cert.specs.Optimum.{HasTotal, IsOptimum, all_fights, candidates_of, cap_of, total_of}
 use Rattle.tune_cert.specs.Valid.{IsOwnVersion, IsVersionOf, IsCapRow, IsRightRow, IsValid, listed_fights, listed_in, numbers}
@@ -282,7 +283,7 @@ module _ (p : Problem) (laws : IsProblem p) (start : p.start < p.count) (rules :
       h v l (place_below p.start p.count v start l)
 
   -- what was found is what a search promises
-  pub finds : (version : ℕ) → IsOwnVersion p version → (l : Lead) → lead ≡ Some l → p.count ≤ 1000000 →
+  pub finds : (version : ℕ) → IsOwnVersion p version → (l : Lead) → lead ≡ Some l → p.count ≤ MOST_SETTINGS →
       IsSearch p c (record { version = version; best = l.vector; total = l.total; rows = rows; fights = f; candidates = n; copied = copied })
   finds version own l e few =
       let right_version = own_version p version own in

@@ -11,6 +11,7 @@ use Rattle.lru.specs.LruCache.{promoted}
 use Rattle.rc_instr.specs.Rules.{IsRules, RulesView}
 use Rattle.rc_instr.specs.Warrior.{Fits, IsWarrior, WarriorView}
 use Rattle.rc_instr.specs.LoadText.{load_text}
+use Rattle.mars_fight.specs.Limits.{MOST_FIGHTS}
 use Rattle.tune_cert.specs.Problem.{IsProblem, Problem}
 use Rattle.tune_cert.specs.Optimum.{all_fights, cap_of, total_of}
 use Rattle.tune_cert.specs.declared.cert.Row.{Row}
@@ -173,7 +174,7 @@ module _ (p : Problem) (laws : IsProblem p) (rules : RulesView) (c k v : ℕ) (a
       copied_is = copied_grows copied s.copied_is;
       work = s.work;
       count = s.count;
-      room = let a : f ≤ 10000 * k = s.room in omega arith;
+      room = let a : f ≤ MOST_FIGHTS * k = s.room in omega arith;
     })
 
   -- v has the warrior of u, which is remembered
@@ -238,7 +239,7 @@ module _ (p : Problem) (laws : IsProblem p) (rules : RulesView) (c k v : ℕ) (a
         copied_is = copied_grows copied s.copied_is;
         work = ap (λ m. m + copied_fights same' copied) (sym (add-zero f)) ∙ work_more p rules c k v at rows (Same u) blank f copied s.work fresh;
         count = filled_more p rules c k v at rows (Same u) blank n s.count refl;
-        room = let a : f ≤ 10000 * k = s.room in omega arith;
+        room = let a : f ≤ MOST_FIGHTS * k = s.room in omega arith;
       })
 
     -- it copies the row of u
@@ -319,13 +320,13 @@ module _ (p : Problem) (laws : IsProblem p) (rules : RulesView) (c k v : ℕ) (a
         copied_is = copied_taken lead apart;
         work = work_copied p rules c k v at rows row blank f (ap (λ o. f + copied_fights rows o) (sym was_none) ∙ s.work);
         count = filled_more p rules c k v at rows row blank n s.count (ap is_filled row_is);
-        room = let a : f ≤ 10000 * k = s.room in omega arith;
+        room = let a : f ≤ MOST_FIGHTS * k = s.room in omega arith;
       })
 
   -- v is fought
   module _ (w : WarriorView) (is : p.warrior v ≡ Some w) (made : List (ℕ × ℕ)) (c' : ℕ) (row : List (ℕ × ℕ))
       (made_is : made ≡ played p w (take (enough p w order v lead) order)) (cap_is : c' ≡ cap_of p w (take (enough p w order v lead) order))
-      (few : length made ≤ 10000) (same : IsPermutation made row) (sorted : IsSorted by_index row) where
+      (few : length made ≤ MOST_FIGHTS) (same : IsPermutation made row) (sorted : IsSorted by_index row) where
     abbrev ks : List ℕ
     ks = take (enough p w order v lead) order
 
@@ -435,5 +436,5 @@ module _ (p : Problem) (laws : IsProblem p) (rules : RulesView) (c k v : ℕ) (a
         copied_is = copied_then _ copied s.copied_is;
         work = ap (λ m. (f + m) + copied_fights rows' copied) lengths ∙ work_more p rules c k v at rows (Cap row) blank f copied s.work fresh;
         count = filled_more p rules c k v at rows (Cap row) blank n s.count refl;
-        room = let a : f ≤ 10000 * k = s.room in omega (arith, few);
+        room = let a : f ≤ MOST_FIGHTS * k = s.room in omega (arith, few);
       })

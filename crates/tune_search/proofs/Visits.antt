@@ -5,6 +5,7 @@ use Rattle.std.specs.List.{range_with_len, count_by}
 use Rattle.std.specs.Option.{is_some}
 use Rattle.std.proofs.lemmas.Bool.Decides.{nat_tests, leb_tells}
 use Rattle.rc_instr.specs.Warrior.{WarriorView}
+use Rattle.mars_fight.specs.Limits.{MOST_FIGHTS}
 use Rattle.tune_cert.specs.Problem.{Problem}
 use Rattle.tune_cert.specs.Optimum.{total_of, all_fights}
 use Rattle.tune_cert.specs.declared.cert.Row.{Row}
@@ -74,7 +75,7 @@ module _ (p : Problem) (k : ℕ) where
     lead_fought (Some lead) h = lead_of lead.vector lead.total (nat_lt lead.total t) refl h
 
     -- k was fought
-    pub fought_visit : (rows : List Row) (lead : Option Lead) (candidates fights : ℕ) → p.fights ≤ 10000 → IsProgress p k rows lead candidates fights →
+    pub fought_visit : (rows : List Row) (lead : Option Lead) (candidates fights : ℕ) → p.fights ≤ MOST_FIGHTS → IsProgress p k rows lead candidates fights →
         IsProgress p (k + 1) (rows ++ Cap (played p w (all_fights p)) ∷ []) (lead_after k t lead) (candidates + 1) (fights + p.fights)
     fought_visit rows lead candidates fights less h =
         let one : bit (is_some (p.warrior k)) ≡ 1 = ap (λ o. bit (is_some o)) is in
@@ -87,7 +88,7 @@ module _ (p : Problem) (k : ℕ) where
           lead_is = lead_fought lead h.lead_is;
           count = omega (arith, one, count, more);
           few = omega arith;
-          room = let room : fights ≤ 10000 * candidates = h.room in omega arith;
+          room = let room : fights ≤ MOST_FIGHTS * candidates = h.room in omega arith;
           work = grind (arith, work);
         }
 

@@ -2,6 +2,7 @@
 use Rattle.std.specs.Prelude.{◌≡◌, ◌≢◌, ℕ, ◌+◌, ◌<◌, ◌≤◌, Bool, true, false, not, ◌&&◌, ◌==◌, List, length, slice_get, Option, Some, None}
 use Rattle.std.specs.List.{count_by, range_with_len}
 use Rattle.rc_instr.specs.Warrior.{WarriorView}
+use Rattle.tune_template.specs.Limits.{MOST_SETTINGS}
 use Rattle.tune_cert.specs.Problem.{Problem}
 use Rattle.tune_cert.specs.Optimum.{IsOptimum, HasTotal, candidates_of}
 use Rattle.tune_cert.specs.Valid.{IsOwnVersion, IsValid, listed_in, listed_fights}
@@ -46,7 +47,7 @@ pub record IsSearch (p : Problem) (capacity : ℕ) (f : Found) : Type 0 where
   -- its version is 1 exactly if every fight counts once
   pub version : IsOwnVersion p f.version
   pub count : f.candidates ≡ candidates_of p
-  pub few : length f.rows ≤ 1000000
+  pub few : length f.rows ≤ MOST_SETTINGS
   -- a setting that does not assemble has the row `Refused`
   pub refused : (v : ℕ) → v < p.count → p.warrior v ≡ None → slice_get f.rows v ≡ Some Refused
   -- the fights of a fought setting are the first ones of its order, exactly as many as are enough

@@ -3,6 +3,7 @@
 -- the setting does not beat the lead, or all; a setting with the warrior of a recent one shares the
 -- fights of that one. The plain search plays all fights of each setting, and finds the same
 -- setting.
+pub mod Limits
 pub mod Plays
 pub mod Progress
 pub mod Order

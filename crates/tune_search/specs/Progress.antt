@@ -3,6 +3,7 @@ use Rattle.std.specs.Prelude.{◌≡◌, ℕ, ◌*◌, ◌<◌, ◌≤◌, nat_l
 use Rattle.std.specs.List.{count_by, range_with_len}
 use Rattle.std.specs.Option.{is_some}
 use Rattle.rc_instr.specs.Warrior.{WarriorView}
+use Rattle.mars_fight.specs.Limits.{MOST_FIGHTS}
 use Rattle.tune_cert.specs.Problem.{Problem}
 use Rattle.tune_cert.specs.Optimum.{total_of}
 use Rattle.tune_cert.specs.declared.cert.Row.{Row}
@@ -35,7 +36,7 @@ pub record IsProgress (p : Problem) (k : ℕ) (rows : List Row) (lead : Option L
   pub lead_is : IsLead p k lead
   pub count : candidates ≡ count_by (λ v. is_some (p.warrior v)) (range_with_len 0 k)
   pub few : candidates ≤ k
-  pub room : fights ≤ 10000 * candidates
+  pub room : fights ≤ MOST_FIGHTS * candidates
   pub work : fights ≡ candidates * p.fights
 
 abbrev pub IsPlainState : Problem → ℕ → Progress → Type 0

@@ -6,6 +6,7 @@ use Rattle.std.specs.declared.cmp.Ordering.{Ordering}
 use Rattle.rc_instr.specs.Rules.{RulesView, IsRules}
 use Rattle.rc_instr.specs.Warrior.{WarriorView, IsWarrior, Fits}
 use Rattle.rc_instr.specs.LoadText.{load_text}
+use Rattle.mars_fight.specs.Limits.{MOST_FIGHTS}
 use Rattle.tune_template.specs.Instances.{InputsView}
 use Rattle.tune_cert.specs.Problem.{Problem, problem_of}
 use Rattle.tune_cert.specs.Valid.{listed_fights}
@@ -86,7 +87,7 @@ pub record IsUnderWay (p : Problem) (rules : RulesView) (capacity k : ℕ) (rows
   pub copied_is : IsCopied p k lead copied
   pub work : fights + copied_fights rows copied ≡ listed_fights rows
   pub count : candidates ≡ count_by is_filled rows
-  pub room : fights ≤ 10000 * k
+  pub room : fights ≤ MOST_FIGHTS * k
 
 pub record IsState (i : InputsView) (capacity k : ℕ) (s : State) : Type 0 where
   pub start_is : s.start ≡ (problem_of i).start

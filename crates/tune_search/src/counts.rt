@@ -1,5 +1,7 @@
 //! The counts and the start setting of the inputs.
 ghost use Rattle.std.specs.Prelude.{◌≡◌, ◌<◌, ◌≤◌};
+ghost use Rattle.mars_fight.specs.Limits.{MOST_FIGHTS};
+ghost use Rattle.tune_template.specs.Limits.{MOST_SETTINGS};
 ghost use Rattle.tune_cert.specs.Problem.{problem_of};
 
 use tune_template::Inputs;
@@ -7,7 +9,7 @@ use tune_template::Inputs;
 // Returns the number of settings.
 pub(crate) fn setting_count(inputs: &Inputs) -> u32
     ensures count { result ≡ (problem_of inputs.now).count }
-    ensures few { result ≤ 1000000 }
+    ensures few { result ≤ MOST_SETTINGS }
 {
     inputs.count()
 }
@@ -15,7 +17,7 @@ pub(crate) fn setting_count(inputs: &Inputs) -> u32
 // Returns the number of fights.
 pub(crate) fn fight_count(inputs: &Inputs) -> u32
     ensures count { result ≡ (problem_of inputs.now).fights }
-    ensures few { result ≤ 10000 }
+    ensures few { result ≤ MOST_FIGHTS }
 {
     inputs.schedule().fights().len() as u32
 }

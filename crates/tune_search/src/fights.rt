@@ -2,6 +2,7 @@
 ghost use Rattle.std.specs.Prelude.{◌≡◌, ◌<◌, ◌≤◌, length, take, IfOk, All};
 ghost use Rattle.rc_instr.specs.Warrior.{Fits};
 ghost use Rattle.mars_core.specs.Arena.{IsBlank};
+ghost use Rattle.mars_fight.specs.Limits.{MOST_FIGHTS};
 ghost use Rattle.tune_cert.specs.Problem.{problem_of};
 ghost use Rattle.tune_cert.specs.Optimum.{all_fights, total_of, cap_of};
 ghost use Rattle.std.specs.List.Sorted.{IsPermutation};
@@ -35,7 +36,7 @@ pub(crate) fn play_all(
     requires blank { IsBlank inputs.now.rules arena.old }
     requires fits { Fits inputs.now.rules warrior.now }
     ensures listing { let p = problem_of inputs.now in IfOk result (λ b. b.listing.items ≡ played p warrior.now (all_fights p)) }
-    ensures few { IfOk result (λ b. length b.listing.items ≤ 10000) }
+    ensures few { IfOk result (λ b. length b.listing.items ≤ MOST_FIGHTS) }
     ensures total { IfOk result (λ b. b.cap ≡ total_of (problem_of inputs.now) warrior.now) }
     ensures blank { IsBlank inputs.now.rules arena.new }
 {
@@ -72,7 +73,7 @@ pub(crate) fn play_enough(
     requires below { All (λ k. k < (problem_of inputs.now).fights) order.now }
     ensures listing { let p = problem_of inputs.now in IfOk result (λ b. b.listing.items ≡ played p warrior.now (take (enough p warrior.now order.now vector lead) order.now)) }
     ensures cap { let p = problem_of inputs.now in IfOk result (λ b. b.cap ≡ cap_of p warrior.now (take (enough p warrior.now order.now vector lead) order.now)) }
-    ensures few { IfOk result (λ b. length b.listing.items ≤ 10000) }
+    ensures few { IfOk result (λ b. length b.listing.items ≤ MOST_FIGHTS) }
     ensures blank { IsBlank inputs.now.rules arena.new }
 {
     let mut listing = Vec::new(alloc);

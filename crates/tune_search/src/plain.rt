@@ -1,5 +1,6 @@
 //! The search that plays every fight of every setting.
 ghost use Rattle.std.specs.Prelude.{◌≡◌, ◌*◌, ◌<◌, ◌≤◌, ℕ, None, length, IfOk, IfErr};
+ghost use Rattle.tune_template.specs.Limits.{MOST_SETTINGS};
 ghost use Rattle.tune_cert.specs.Problem.{problem_of};
 ghost use Rattle.tune_cert.specs.Optimum.{IsOptimum, HasTotal, candidates_of};
 ghost use Rattle.tune_cert.specs.Valid.{IsOwnVersion, IsValid, listed_fights};
@@ -32,7 +33,7 @@ pub fn plain_search(alloc: Global, inputs: &Inputs) -> Result<Found, SearchFault
     ensures version { IfOk result (λ f. IsOwnVersion (problem_of inputs.now) f.version) }
     ensures candidates { IfOk result (λ f. f.candidates ≡ candidates_of (problem_of inputs.now)) }
     ensures rows { IfOk result (λ f. f.rows ≡ rows_of (problem_of inputs.now)) }
-    ensures few { IfOk result (λ f. length f.rows ≤ 1000000) }
+    ensures few { IfOk result (λ f. length f.rows ≤ MOST_SETTINGS) }
     ensures fights { IfOk result (λ f. f.fights ≡ f.candidates * (problem_of inputs.now).fights) }
     ensures listed { IfOk result (λ f. f.fights ≡ listed_fights f.rows) }
     ensures copied { IfOk result (λ f. f.copied ≡ None) }
@@ -58,7 +59,7 @@ pub fn watched_plain_search<T: Watcher>(
     ensures version { IfOk result (λ f. IsOwnVersion (problem_of inputs.now) f.version) }
     ensures candidates { IfOk result (λ f. f.candidates ≡ candidates_of (problem_of inputs.now)) }
     ensures rows { IfOk result (λ f. f.rows ≡ rows_of (problem_of inputs.now)) }
-    ensures few { IfOk result (λ f. length f.rows ≤ 1000000) }
+    ensures few { IfOk result (λ f. length f.rows ≤ MOST_SETTINGS) }
     ensures fights { IfOk result (λ f. f.fights ≡ f.candidates * (problem_of inputs.now).fights) }
     ensures listed { IfOk result (λ f. f.fights ≡ listed_fights f.rows) }
     ensures copied { IfOk result (λ f. f.copied ≡ None) }

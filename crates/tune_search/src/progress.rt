@@ -1,6 +1,7 @@
 //! What a plain search has found so far.
 ghost use Rattle.std.specs.Prelude.{◌≡◌, ◌+◌, ◌<◌, ◌≤◌, ℕ, None, length, OnOk, IfOk, IfErr};
 ghost use Rattle.mars_core.specs.Arena.{IsBlank};
+ghost use Rattle.tune_template.specs.Limits.{MOST_SETTINGS};
 ghost use Rattle.tune_cert.specs.Problem.{problem_of};
 ghost use Rattle.tune_search.specs.Progress.{IsPlainState, lead_after};
 
@@ -46,7 +47,7 @@ impl Progress {
     ) -> Result<(), SearchFault>
         requires blank { IsBlank inputs.now.rules arena.old }
         requires inside { vector < (problem_of inputs.now).count }
-        requires few { (problem_of inputs.now).count ≤ 1000000 }
+        requires few { (problem_of inputs.now).count ≤ MOST_SETTINGS }
         requires state { IsPlainState (problem_of inputs.now) vector self.old }
         ensures state { OnOk result (IsPlainState (problem_of inputs.now) (vector + 1) self.new) }
         ensures blank { IsBlank inputs.now.rules arena.new }

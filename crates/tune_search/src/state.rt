@@ -2,6 +2,7 @@
 ghost use Rattle.std.specs.Prelude.{◌≡◌, ◌+◌, ◌<◌, ◌≤◌, None, replicate, OnOk, IfOk, IfErr};
 ghost use Rattle.std.specs.Map.{lookup};
 ghost use Rattle.mars_core.specs.Arena.{IsBlank};
+ghost use Rattle.tune_template.specs.Limits.{MOST_SETTINGS};
 ghost use Rattle.tune_cert.specs.Problem.{problem_of};
 ghost use Rattle.tune_search.specs.Cache.{same_text};
 ghost use Rattle.tune_search.specs.Visits.{visit};
@@ -68,7 +69,7 @@ impl State {
     ) -> Result<(), SearchFault>
         requires blank { IsBlank inputs.now.rules arena.old }
         requires visits { visits < (problem_of inputs.now).count }
-        requires few { (problem_of inputs.now).count ≤ 1000000 }
+        requires few { (problem_of inputs.now).count ≤ MOST_SETTINGS }
         requires state { IsState inputs.now capacity visits self.old }
         ensures state { OnOk result (IsState inputs.now capacity (visits + 1) self.new) }
         ensures blank { IsBlank inputs.now.rules arena.new }
@@ -105,7 +106,7 @@ impl State {
     ) -> Result<(), SearchFault>
         requires blank { IsBlank inputs.now.rules arena.old }
         requires visits { visits < (problem_of inputs.now).count }
-        requires few { (problem_of inputs.now).count ≤ 1000000 }
+        requires few { (problem_of inputs.now).count ≤ MOST_SETTINGS }
         requires state { IsState inputs.now capacity visits self.old }
         requires candidate { IsCandidateAt inputs.now (visit (problem_of inputs.now).start visits) entrant }
         requires unknown { lookup (same_text entrant.text.items) self.old.cache.known ≡ None }

@@ -5,6 +5,7 @@ use Rattle.std.proofs.Math.Nat.{mul_assoc}
 use Rattle.std.specs.Global.{Vec}
 use Rattle.std.proofs.lemmas.List.Elements.{All-push}
 use Rattle.tune_template.specs.declared.span.Span.{Span}
+use Rattle.tune_template.specs.Limits.{MOST_CONSTANTS, MOST_SETTINGS}
 use Rattle.tune_template.specs.Ranges.{Ranges, ranges, vector_count}
 use Rattle.tune_template.specs.Steps.{HasValues, AreCounted}
 
@@ -14,7 +15,7 @@ count_push (x ∷ ss) s = ap (λ n. x.count * n) (count_push ss s) ∙ sym (mul_
 
 -- one more range is counted
 pub counted_more : (old : Ranges) (count : ℕ) (names : List (Vec ℕ)) (before : List (Vec ℕ)) (n : Vec ℕ) (spans : List Span) (s : Span) (k : ℕ)
-    → names ≡ before ++ (n ∷ []) → spans ≡ old.spans ++ (s ∷ []) → old.names ≡ map (λ v. v.items) before → AreCounted old count → length before < 8 → HasValues s → k ≡ count * s.count → k ≤ 1000000
+    → names ≡ before ++ (n ∷ []) → spans ≡ old.spans ++ (s ∷ []) → old.names ≡ map (λ v. v.items) before → AreCounted old count → length before < MOST_CONSTANTS → HasValues s → k ≡ count * s.count → k ≤ MOST_SETTINGS
     → AreCounted (ranges (map (λ v. v.items) names) spans) k
 counted_more old count names before n spans s k en es eo c room values ek small =
     let ln : length names ≡ length before + 1 = ap length en ∙ length-append before (n ∷ []) in

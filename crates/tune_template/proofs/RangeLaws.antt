@@ -12,9 +12,11 @@ use Rattle.rc_text.specs.declared.class.NameClass.{NameClass}
 use Rattle.rc_text.specs.declared.class.NameClass.TheVariants.{NoName, Reserved, Predefined, Free}
 use Rattle.rc_expand.specs.Names.{is_among}
 use Rattle.rc_expand.specs.Heads.{are_distinct}
+use Rattle.rc_asm.specs.Limits.{MOST_BYTES}
 use Rattle.tune_template.specs.declared.span.Span.{Span}
 use Rattle.tune_template.specs.declared.fault.TemplateKind.{TemplateKind}
 use Rattle.tune_template.specs.declared.fault.TemplateKind.TheVariants.{BadLine, DuplicateName, TooManyConstants, TooManyVectors, TextTooLong}
+use Rattle.tune_template.specs.Limits.{MOST_CONSTANTS, MOST_SETTINGS}
 use Rattle.tune_template.specs.Lines.{lines_of, words_of, is_range_line}
 use Rattle.tune_template.specs.Ranges.{Ranges, ranges, name_checked, span_after, span_said, with_range, worded, range_added, vector_count, at_line, line_added, then_from, ranges_from, ranges_of, HasRanges, signed_number, step_number}
 use Rattle.tune_template.specs.Laws.{first_word, name_on, AreOfLines}
@@ -50,7 +52,7 @@ ok_same x y r e f = cc
 
 with_adds : (r t : Ranges) (name : List ℕ) (s : Result Span TemplateKind) → ((x : Span) → s ≡ Ok x → Passes r.names name) → with_range r name s ≡ Ok t → Adds r t name
 with_adds r t name (Err k) p e = cc
-with_adds r t name (Ok x) p e = by_count (nat_lt 1000000 (vector_count r.spans * x.count)) e where
+with_adds r t name (Ok x) p e = by_count (nat_lt MOST_SETTINGS (vector_count r.spans * x.count)) e where
   by_count : (b : Bool) → (if b then Err TooManyVectors else Ok (ranges (r.names ++ (name ∷ [])) (r.spans ++ (x ∷ [])))) ≡ Ok t → Adds r t name
   by_count true h = cc
   by_count false h = record { names = sym (ap (λ q. q.names) (ok_same (ranges (r.names ++ (name ∷ [])) (r.spans ++ (x ∷ []))) t _ refl h)); passes = p x refl }
@@ -70,7 +72,7 @@ worded_adds r t (a ∷ b ∷ c ∷ d ∷ f ∷ g ∷ gs) e = cc
 record Good (r : Ranges) : Type 0 where
   free : All (λ name. class_of name ≡ Free) r.names
   distinct : are_distinct r.names ≡ true
-  few : length r.names ≤ 8
+  few : length r.names ≤ MOST_CONSTANTS
 
 both_true : (a b : Bool) → (a && b) ≡ true → (a ≡ true) × (b ≡ true)
 both_true true true h = (refl, refl)
@@ -100,12 +102,12 @@ distinct_push (n ∷ ns) m d s =
     rw (among_push ns m n (not_true (is_among ns n) p.0) (nat_list_eq_equiv.symm m n ∙ q.0), distinct_push ns m p.1 q.1)
 
 one_more : (r t : Ranges) (line : List ℕ) → Good r → range_added r line ≡ Ok t → Good t × (t.names ≡ r.names ++ (name_on line ∷ []))
-one_more r t line g e = by_room (nat_lt (length r.names) 8) refl e where
-  by_room : (b : Bool) → nat_lt (length r.names) 8 ≡ b → (if b then worded r (words_of (drop 6 line)) else Err TooManyConstants) ≡ Ok t → Good t × (t.names ≡ r.names ++ (name_on line ∷ []))
+one_more r t line g e = by_room (nat_lt (length r.names) MOST_CONSTANTS) refl e where
+  by_room : (b : Bool) → nat_lt (length r.names) MOST_CONSTANTS ≡ b → (if b then worded r (words_of (drop 6 line)) else Err TooManyConstants) ≡ Ok t → Good t × (t.names ≡ r.names ++ (name_on line ∷ []))
   by_room false n h = cc
   by_room true n h =
       let a = worded_adds r t (words_of (drop 6 line)) h in
-      let room : length r.names < 8 = ltb-true (length r.names) 8 n in
+      let room : length r.names < MOST_CONSTANTS = ltb-true (length r.names) MOST_CONSTANTS n in
       let distinct : are_distinct t.names ≡ true = ap are_distinct a.names ∙ distinct_push r.names (name_on line) g.distinct a.passes.new in (
         record {
           free = All-same (λ name. class_of name ≡ Free) t.names _ a.names (All-push (λ name. class_of name ≡ Free) r.names (name_on line) g.free a.passes.free);
@@ -136,7 +138,7 @@ from n r s (line ∷ lines) g e = by_line (λ q. from (n + 1) q s lines) (is_ran
 
 pub of_lines : (text : List ℕ) (r : Ranges) → HasRanges text r → AreOfLines text r
 unfolding ranges_of
-of_lines text r e = by_length (nat_le (length text) 65536) e where
+of_lines text r e = by_length (nat_le (length text) MOST_BYTES) e where
   by_length : (b : Bool) → (if b then ranges_from 1 (ranges [] []) (lines_of text) else Err (record { line = 0; kind = TextTooLong })) ≡ Ok r → AreOfLines text r
   by_length false h = cc
   by_length true h =

@@ -8,6 +8,7 @@ use Rattle.std.proofs.lemmas.List.Elements.{All-rest}
 use Rattle.std.proofs.Math.Nat.{mul-div_cancel_left, mod-lt, div-lt_iff_lt-mul, mul-le-mul_right}
 use Rattle.std.proofs.lemmas.Nat.{div-add-mod'}
 use Rattle.tune_template.specs.declared.span.Span.{Span}
+use Rattle.tune_template.specs.Limits.{MOST_CONSTANTS}
 use Rattle.tune_template.specs.Spans.{span_value, values_from}
 use Rattle.tune_template.specs.Ranges.{vector_count}
 use Rattle.tune_template.specs.Vectors.{vectors_of, start_vector, start_index}
@@ -92,9 +93,9 @@ less_than a n v h l = (div-lt_iff_lt-mul {k = n} {x = v} {y = a} h).1 l
 
 -- the values of the spans so far, and one more
 pub value_next : (all rest after : List Span) (s : Span) (done next : List ℤ) (number size place inner : ℕ) → rest ≡ s ∷ after
-    → (slice_get (vectors_of all) number ≡ option_map (λ w. done ++ w) (slice_get (vectors_of rest) place)) × (vector_count rest ≡ size) × (place < size) × (length done + length rest ≤ 8) × All HasValues rest
+    → (slice_get (vectors_of all) number ≡ option_map (λ w. done ++ w) (slice_get (vectors_of rest) place)) × (vector_count rest ≡ size) × (place < size) × (length done + length rest ≤ MOST_CONSTANTS) × All HasValues rest
     → inner ≡ size / s.count → next ≡ done ++ (span_value s (place / inner) ∷ [])
-    → (slice_get (vectors_of all) number ≡ option_map (λ w. next ++ w) (slice_get (vectors_of after) (place % inner))) × (vector_count after ≡ inner) × (place % inner < inner) × (length next + length after ≤ 8) × All HasValues after
+    → (slice_get (vectors_of all) number ≡ option_map (λ w. next ++ w) (slice_get (vectors_of after) (place % inner))) × (vector_count after ≡ inner) × (place % inner < inner) × (length next + length after ≤ MOST_CONSTANTS) × All HasValues after
 value_next all rest after s done next number size place inner e inv ei en =
     let values : All HasValues after = All-rest HasValues s after rest e inv.4 in
     let own : 0 < s.count = (subst (All HasValues) e inv.4 0 s (omega arith)).some in

@@ -6,6 +6,7 @@ use Rattle.rc_expand.specs.Names.{Table}
 use Rattle.rc_asm.specs.Assembly.{assembled}
 use Rattle.mars_fight.specs.declared.fight.Fight.{Fight}
 use Rattle.mars_fight.specs.Listed.{IsFight}
+use Rattle.tune_template.specs.Limits.{MOST_OPPONENTS}
 use Rattle.tune_template.specs.Ranges.{Ranges}
 use Rattle.tune_template.specs.Vectors.{vectors_of, start_index}
 use Rattle.tune_template.specs.declared.part.Part.{Part}
@@ -34,10 +35,10 @@ pub record InputsView : Type 0 where
   -- which of the template's settings are searched
   pub part : Part
 
--- at most 64 opponents, which fit the rules, a schedule of fights against them, and a part of the
--- template's settings
+-- at most `MOST_OPPONENTS` opponents, which fit the rules, a schedule of fights against them, and a
+-- part of the template's settings
 pub record AreInputs (i : InputsView) : Type 0 where
-  pub few : length i.opponents ≤ 64
+  pub few : length i.opponents ≤ MOST_OPPONENTS
   pub fit : All (Fits i.rules) i.opponents
   pub fights : All (IsFight i.rules (length i.opponents)) i.schedule
   pub part : IsPart i.part (length (vectors_of i.template.ranges.spans))

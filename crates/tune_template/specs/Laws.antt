@@ -4,6 +4,7 @@ use Rattle.std.specs.List.{filter}
 use Rattle.rc_text.specs.NameClasses.{class_of}
 use Rattle.rc_text.specs.declared.class.NameClass.TheVariants.{Free}
 use Rattle.rc_expand.specs.Heads.{are_distinct}
+use Rattle.tune_template.specs.Limits.{MOST_CONSTANTS}
 use Rattle.tune_template.specs.Lines.{lines_of, words_of, is_range_line}
 use Rattle.tune_template.specs.Ranges.{Ranges}
 
@@ -16,9 +17,9 @@ abbrev pub name_on : List ℕ → List ℕ
 name_on line = first_word (words_of (drop 6 line))
 
 -- one constant for each range line, in the order of the lines; each name is free, no two are the
--- same, and there are at most eight
+-- same, and there are at most `MOST_CONSTANTS`
 pub record AreOfLines (text : List ℕ) (r : Ranges) : Type 0 where
   pub names : r.names ≡ map name_on (filter is_range_line (lines_of text))
   pub free : All (λ name. class_of name ≡ Free) r.names
   pub distinct : are_distinct r.names ≡ true
-  pub few : length r.names ≤ 8
+  pub few : length r.names ≤ MOST_CONSTANTS

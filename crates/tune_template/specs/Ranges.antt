@@ -4,11 +4,13 @@ use Rattle.rc_text.specs.NameClasses.{class_of}
 use Rattle.rc_text.specs.declared.class.NameClass.{NameClass}
 use Rattle.rc_text.specs.declared.class.NameClass.TheVariants.{NoName, Reserved, Predefined, Free}
 use Rattle.rc_expand.specs.Names.{is_among}
+use Rattle.rc_asm.specs.Limits.{MOST_BYTES}
 use Rattle.mars_fight.specs.Decimal.{padded_decimal}
 use Rattle.tune_template.specs.declared.span.Span.{Span}
 use Rattle.tune_template.specs.declared.fault.TemplateKind.{TemplateKind}
 use Rattle.tune_template.specs.declared.fault.TemplateKind.TheVariants.{BadLine, DuplicateName, ReservedName, TooManyConstants, TooManyVectors, TextTooLong}
 use Rattle.tune_template.specs.declared.fault.TemplateFault.{TemplateFault}
+use Rattle.tune_template.specs.Limits.{MOST_CONSTANTS, MOST_SETTINGS}
 use Rattle.tune_template.specs.Lines.{lines_of, words_of, is_range_line}
 use Rattle.tune_template.specs.Spans.{span_of}
 
@@ -63,19 +65,19 @@ abbrev pub span_said : List (List ℕ) → List ℕ → Option ℤ → Option �
 span_said names name (Some low) (Some high) (Some step) (Some start) = span_after (name_checked names (class_of name) name) (span_of low high step start)
 span_said names name _ _ _ _ = Err BadLine
 
--- one more constant: there are at most 1000000 settings
+-- one more constant: there are at most `MOST_SETTINGS` settings
 abbrev pub with_range : Ranges → List ℕ → Result Span TemplateKind → Result Ranges TemplateKind
 with_range r name (Err k) = Err k
-with_range r name (Ok s) = if nat_lt 1000000 (vector_count r.spans * s.count) then Err TooManyVectors else Ok (ranges (r.names ++ (name ∷ [])) (r.spans ++ (s ∷ [])))
+with_range r name (Ok s) = if nat_lt MOST_SETTINGS (vector_count r.spans * s.count) then Err TooManyVectors else Ok (ranges (r.names ++ (name ∷ [])) (r.spans ++ (s ∷ [])))
 
 -- five words: NAME LOW HIGH STEP START
 unfoldable pub worded : Ranges → List (List ℕ) → Result Ranges TemplateKind
 worded r (name ∷ low ∷ high ∷ step ∷ start ∷ []) = with_range r name (span_said r.names name (signed_number low) (signed_number high) (step_number step) (signed_number start))
 worded r _ = Err BadLine
 
--- one more range line: at most eight
+-- one more range line: at most `MOST_CONSTANTS`
 abbrev pub range_added : Ranges → List ℕ → Result Ranges TemplateKind
-range_added r line = if nat_lt (length r.names) 8 then worded r (words_of (drop 6 line)) else Err TooManyConstants
+range_added r line = if nat_lt (length r.names) MOST_CONSTANTS then worded r (words_of (drop 6 line)) else Err TooManyConstants
 
 abbrev pub at_line : {A : Type 0} → ℕ → Result A TemplateKind → Result A TemplateFault
 at_line n (Ok x) = Ok x
@@ -94,9 +96,9 @@ abbrev pub ranges_from : ℕ → Ranges → List (List ℕ) → Result Ranges Te
 ranges_from n r [] = Ok r
 ranges_from n r (line ∷ lines) = then_from (line_added n r line) (λ s. ranges_from (n + 1) s lines)
 
--- the ranges of a text of at most 65536 bytes
+-- the ranges of a text of at most `MOST_BYTES` bytes
 unfoldable pub ranges_of : List ℕ → Result Ranges TemplateFault
-ranges_of text = if nat_le (length text) 65536 then ranges_from 1 (ranges [] []) (lines_of text) else Err (record { line = 0; kind = TextTooLong })
+ranges_of text = if nat_le (length text) MOST_BYTES then ranges_from 1 (ranges [] []) (lines_of text) else Err (record { line = 0; kind = TextTooLong })
 
 -- the text is a template with these ranges
 abbrev pub HasRanges : List ℕ → Ranges → Type 0

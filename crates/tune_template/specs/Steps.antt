@@ -3,6 +3,7 @@ use Rattle.std.specs.Prelude.{◌≡◌, ◌≤◌, ◌<◌, ◌+◌, ℕ, map, 
 use Rattle.tune_template.specs.declared.range.Reading.{Reading}
 use Rattle.tune_template.specs.declared.span.Span.{Span}
 use Rattle.tune_template.specs.declared.fault.TemplateFault.{TemplateFault}
+use Rattle.tune_template.specs.Limits.{MOST_CONSTANTS, MOST_SETTINGS}
 use Rattle.tune_template.specs.Lines.{lines_of}
 use Rattle.tune_template.specs.Ranges.{Ranges, ranges, vector_count, ranges_from}
 
@@ -14,12 +15,12 @@ pub record HasValues (s : Span) : Type 0 where
   pub some : 0 < s.count
   pub start : s.start < s.count
 
--- as many names as spans, at most eight, and `count` settings, at most 1000000
+-- as many names as spans, at most `MOST_CONSTANTS`, and `count` settings, at most `MOST_SETTINGS`
 pub record AreCounted (r : Ranges) (count : ℕ) : Type 0 where
   pub equal : length r.names ≡ length r.spans
-  pub few : length r.names ≤ 8
+  pub few : length r.names ≤ MOST_CONSTANTS
   pub vectors : vector_count r.spans ≡ count
-  pub small : count ≤ 1000000
+  pub small : count ≤ MOST_SETTINGS
   pub values : All HasValues r.spans
 
 -- the ranges so far, and those of the rest of the text, if a rest is left

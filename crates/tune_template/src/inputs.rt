@@ -4,6 +4,7 @@ ghost use Rattle.rc_instr.specs.Warrior.{IsWarrior, Fits};
 ghost use Rattle.rc_asm.specs.Faults.{IsAsmFault};
 ghost use Rattle.rc_asm.specs.declared.fault.AsmKind.TheVariants.{OutOfMemory as NoRoomToAssemble};
 ghost use Rattle.mars_fight.specs.Listed.{IsFight};
+ghost use Rattle.tune_template.specs.Limits.{MOST_SETTINGS, MOST_OPPONENTS};
 ghost use Rattle.tune_template.specs.Vectors.{vectors_of};
 ghost use Rattle.tune_template.specs.Parts.{whole, IsPart, part_first};
 ghost use Rattle.tune_template.specs.Instances.{constants_of, InputsView, AreInputs, settings_of, place_among, start_place, warrior_of};
@@ -48,7 +49,7 @@ impl Inputs {
         schedule: Schedule,
         rules: Rules,
     ) -> Inputs
-        requires few { length opponents.items ≤ 64 }
+        requires few { length opponents.items ≤ MOST_OPPONENTS }
         requires fit { All (Fits rules) opponents.items }
         requires fights { All (IsFight rules (length opponents.items)) schedule }
         ensures { result ≡ record { template = template; opponents = opponents.items; schedule = schedule; rules = rules; part = whole } }
@@ -119,7 +120,7 @@ impl Inputs {
     pub fn count(&self) -> u32
         ensures count { result ≡ length (settings_of self.now) }
         ensures some { 0 < result }
-        ensures few { result ≤ 1000000 }
+        ensures few { result ≤ MOST_SETTINGS }
     {
         let whole = self.template.count();
         self.part.end(whole) - self.part.first(whole)
@@ -179,7 +180,7 @@ impl Inputs {
         ensures inside { result < length (vectors_of self.now.template.ranges.spans) }
         ensures inputs { AreInputs self.now }
     {
-        prove!(self.template.count() <= 1_000_000);
+        prove!(0 < self.template.count());
         self.first() + index
     }
 }

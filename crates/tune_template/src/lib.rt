@@ -4,6 +4,7 @@
 mod fault;
 mod inputs;
 pub mod laws;
+mod limits;
 mod lines;
 mod numbers;
 mod part;

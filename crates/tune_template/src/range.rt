@@ -4,22 +4,18 @@ ghost use Rattle.std.specs.Str.{bytes_eq};
 ghost use Rattle.rc_text.specs.NameClasses.{class_of};
 ghost use Rattle.rc_expand.specs.Names.{is_among};
 ghost use Rattle.tune_template.specs.declared.fault.TemplateKind.TheVariants.{BadLine, OutOfMemory};
+ghost use Rattle.tune_template.specs.Limits.{MOST_CONSTANTS};
 ghost use Rattle.tune_template.specs.Lines.{words_of};
 ghost use Rattle.tune_template.specs.Ranges.{Ranges, ranges, worded, name_checked, span_said, signed_number, step_number, with_range, range_added};
 ghost use Rattle.tune_template.specs.Steps.{seen_ranges, HasValues, AreCounted};
 
 use crate::fault::TemplateKind;
+use crate::limits;
 use crate::lines::first_word;
 use crate::numbers::{signed_number, step_number};
 use crate::span::Span;
 use rc_text::{NameClass, name_class};
 use std::alloc::Global;
-
-// The most constants of a template.
-const MOST_CONSTANTS: usize = 8;
-
-// The most settings of a template.
-const MOST_VECTORS: u64 = 1_000_000;
 
 // The constants and their spans so far, and how many settings they have.
 #[derive(Debug, Drop)]
@@ -54,14 +50,14 @@ impl Reading {
     // Adds a constant, if there are not too many settings then.
     fn push(&mut self, alloc: Global, name: &[u8], span: Span) -> Result<(), TemplateKind>
         requires counted { AreCounted (seen_ranges self.old) self.old.count }
-        requires room { length self.old.names.items < 8 }
+        requires room { length self.old.names.items < MOST_CONSTANTS }
         requires values { HasValues span }
         ensures added { OnOk result (with_range (seen_ranges self.old) name.now (Ok span) ≡ Ok (seen_ranges self.new)) }
         ensures counted { OnOk result (AreCounted (seen_ranges self.new) self.new.count) }
         ensures refused { IfErr result (λ k. k ≢ OutOfMemory → with_range (seen_ranges self.old) name.now (Ok span) ≡ Err k) }
     {
         let count = u64::from(self.count) * u64::from(span.count);
-        if count > MOST_VECTORS {
+        if count > limits::MOST_SETTINGS {
             return Err(TemplateKind::TooManyVectors);
         }
         self.names.push(name.to_vec(alloc)?)?;
@@ -79,7 +75,7 @@ impl Reading {
         ensures counted { OnOk result (AreCounted (seen_ranges self.new) self.new.count) }
         ensures refused { IfErr result (λ k. k ≢ OutOfMemory → range_added (seen_ranges self.old) line.now ≡ Err k) }
     {
-        if self.names.len() >= MOST_CONSTANTS {
+        if self.names.len() >= limits::MOST_CONSTANTS {
             return Err(TemplateKind::TooManyConstants);
         }
         let (_, rest) = line.split_at(6);

@@ -3,6 +3,7 @@ ghost use Rattle.std.specs.Prelude.{◌≡◌, ◌≢◌, ◌<◌, ◌≤◌, �
 ghost use Rattle.rc_instr.specs.Warrior.{IsWarrior, Fits};
 ghost use Rattle.rc_asm.specs.declared.fault.AsmKind.TheVariants.{OutOfMemory as NoRoomToAssemble};
 ghost use Rattle.tune_template.specs.declared.fault.TemplateKind.TheVariants.{OutOfMemory};
+ghost use Rattle.tune_template.specs.Limits.{MOST_CONSTANTS, MOST_SETTINGS};
 ghost use Rattle.tune_template.specs.Lines.{lines_of};
 ghost use Rattle.tune_template.specs.Ranges.{Ranges, ranges, vector_count, line_added, ranges_from, ranges_of, HasRanges};
 ghost use Rattle.tune_template.specs.Vectors.{vectors_of, start_vector, start_index};
@@ -11,6 +12,7 @@ ghost use Rattle.tune_template.specs.Instances.{TemplateView, constants_of, inst
 ghost use Rattle.tune_template.specs.Steps.{seen_ranges, AreCounted, HasValues};
 
 use crate::fault::{TemplateFault, TemplateKind};
+use crate::limits;
 use crate::lines::{first_line, is_range_line};
 use crate::range::Reading;
 use crate::span::Span;
@@ -21,9 +23,6 @@ use rc_expand::Constants;
 use rc_instr::{Rules, Warrior};
 use std::alloc::Global;
 use std::marker::Model;
-
-// The most bytes of a template.
-const TEXT_LIMIT: usize = 65536;
 
 /// A Redcode text that leaves up to 8 constants open, each with a range of values.
 #[derive(Debug, Drop)]
@@ -78,7 +77,7 @@ impl Template {
         ensures refused { IfErr result (λ f. f.kind ≢ OutOfMemory → ranges_of bytes.now ≡ Err f) }
         ensures memory { IfErr result (λ f. f.kind ≡ OutOfMemory → f.line ≡ 0) }
     {
-        if bytes.len() > TEXT_LIMIT {
+        if bytes.len() > limits::MOST_BYTES {
             return Err(TemplateFault {
                 line: 0,
                 kind: TemplateKind::TextTooLong,
@@ -103,7 +102,7 @@ impl Template {
     pub fn count(&self) -> u32
         ensures count { result ≡ length (vectors_of self.now.ranges.spans) }
         ensures some { 0 < result }
-        ensures few { result ≤ 1000000 }
+        ensures few { result ≤ MOST_SETTINGS }
     {
         self.count
     }
@@ -210,7 +209,7 @@ fn read_lines(alloc: Global, bytes: &[u8]) -> Result<Reading, TemplateFault>
 
 // Decodes setting `number` of `count`: one digit for each span, the first constant slowest.
 fn values_of(spans: &[Span], count: u32, number: u32) -> Vector
-    requires few { length spans.now ≤ 8 }
+    requires few { length spans.now ≤ MOST_CONSTANTS }
     requires values { All HasValues spans.now }
     requires count { vector_count spans.now ≡ count }
     requires inside { number < count }

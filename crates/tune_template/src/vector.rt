@@ -1,13 +1,15 @@
 //! Settings: one value for each constant. The code and the formats call them vectors.
 ghost use Rattle.std.specs.Prelude.{◌≡◌, ◌<◌, ◌≤◌, ◌++◌, ◌∷◌, [], length};
+ghost use Rattle.tune_template.specs.Limits.{MOST_CONSTANTS};
 
+use crate::limits;
 use arrayvec::ArrayVec;
 use std::marker::Model;
 
 /// A setting: one value for each constant of a template, in the order of its lines. At most 8.
 #[derive(Clone, Debug, Drop)]
 pub struct Vector {
-    values: ArrayVec<i64, 8>,
+    values: ArrayVec<i64, { limits::MOST_CONSTANTS }>,
 }
 
 impl Model for Vector {
@@ -28,7 +30,7 @@ impl Vector {
     }
 
     pub(crate) fn push(&mut self, value: i64)
-        requires { length self.old < 8 }
+        requires { length self.old < MOST_CONSTANTS }
         ensures { self.new ≡ self.old ++ value ∷ [] }
     {
         self.values.push(value);

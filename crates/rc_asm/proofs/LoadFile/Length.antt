@@ -1,4 +1,5 @@
--- A load text has at most 65536 bytes: a line has at most 24, and there are at most 201 lines.
+-- A load text has at most `MOST_BYTES` bytes: a line has at most 24, and there are at most 201
+-- lines.
 use Rattle.std.proofs.Common.{◌≡◌, ℕ, suc, ◌+◌, ◌-◌, ◌*◌, ◌^◌, ◌<◌, ◌≤◌, List, [], ◌∷◌, ◌++◌, length, ap, arith, length-append, ⊎_elim}
 use Rattle.std.specs.Prelude.{All, flat_map, codes, nat_le, if◌then◌else◌}
 use Rattle.std.specs.Fmt.{decimal}
@@ -11,6 +12,7 @@ use Rattle.rc_instr.specs.declared.instruction.Modifier.TheVariants as mod'
 use Rattle.rc_instr.specs.declared.instruction.Mode.{Mode}
 use Rattle.rc_instr.specs.declared.instruction.Instruction.{Instruction}
 use Rattle.rc_instr.proofs.Numerals.{decimal_five}
+use Rattle.rc_asm.specs.Limits.{MOST_BYTES}
 use Rattle.rc_asm.proofs.LoadFile.Rows.{opcode_length, mode_len, parts_of_line}
 use Rattle.rc_asm.proofs.LoadFile.NoHeader.{parts_of_start}
 
@@ -73,7 +75,7 @@ lines_short m (i ∷ is) b s =
     omega (arith, e, l, r)
 
 -- the whole load text
-pub load_short : (m : ℕ) (w : WarriorView) → w.start < 2 ^ 16 → All (IsBelow m) w.code → m ≤ 65535 → length w.code ≤ 200 → length (load_text m w) ≤ 65536
+pub load_short : (m : ℕ) (w : WarriorView) → w.start < 2 ^ 16 → All (IsBelow m) w.code → m ≤ 65535 → length w.code ≤ 200 → length (load_text m w) ≤ MOST_BYTES
 unfolding load_text
 load_short m w l b s n =
     let rest : List ℕ = flat_map (line_text m) w.code in

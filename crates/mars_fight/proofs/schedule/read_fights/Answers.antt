@@ -1,6 +1,7 @@
 use Rattle.std.proofs.Common.{◌≡◌, ◌∙◌, ◌<◌, ◌+◌, sym, refl, arith, length, length-append, ◌++◌, ◌∷◌, []}
 use Rattle.std.proofs.lemmas.Grind.{common_steps}
 use Rattle.std.proofs.lemmas.Result.{err_from_is_err_and}
+use Rattle.mars_fight.specs.Limits.{MOST_FIGHTS}
 use Rattle.mars_fight.proofs.Walking.{one_read, wrong_at, none_listed}
 use Rattle.mars_fight.proofs.schedule.read_fights.Goals as goal
 
@@ -21,7 +22,7 @@ loop-fights-preserved c =
 pub returns-in-Err-clause-fault : goal.returns-in-Err-clause-fault
 returns-in-Err-clause-fault c =
     let next = rw c.if-branch.true at c.in_ok-read.ensures.read in
-    let few : length c.loop-fights.fights.items < 10000 = grind (arith, common_steps) in
+    let few : length c.loop-fights.fights.items < MOST_FIGHTS = grind (arith, common_steps) in
     let number : c.len-in-Err.result + 1 ≡ length c.loop-fights.fights.items + 1 = grind (arith, common_steps) in
     rw c.fault_at-in-Err.ensures
     (wrong_at _ _ _ _ c.loop-fights.fights.items _ _ _ c.in-Err.kind (rw next at c.loop-fights.invariant.read) few number (sym c.read_fight.ensures ∙ c.in-Err.is))

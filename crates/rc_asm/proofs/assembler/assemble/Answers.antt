@@ -10,7 +10,7 @@ pub returns-in-Ok-clause-refused : goal.returns-in-Ok-clause-refused
 returns-in-Ok-clause-refused c =
     let t = table_of c.args.constants.now.names.now c.args.constants.now.values.now in
     refusal_stops c.args.source.now t c.args.rules.now c.assemble_lines.result
-    (lines_refused c.args.source.now t c.args.rules.now c.as_slice.result.now c.assemble_lines.result (omega (arith, c.if-source-gt-TEXT_LIMIT.false)) (rw c.as_slice.ensures c.in-Ok.ensures.lines) c.assemble_lines.ensures.refused)
+    (lines_refused c.args.source.now t c.args.rules.now c.as_slice.result.now c.assemble_lines.result (omega (arith, c.if-source-gt-MOST_BYTES.false)) (rw c.as_slice.ensures c.in-Ok.ensures.lines) c.assemble_lines.ensures.refused)
 
 pub returns-in-Err-clause-fault : goal.returns-in-Err-clause-fault
 returns-in-Err-clause-fault c = λ h.
@@ -19,7 +19,7 @@ returns-in-Err-clause-fault c = λ h.
     let k : e.kind ≢ NoRoom = λ m. h (ap (λ (f : AsmFault). f.kind) (c.of_expansion.ensures.memory m)) in
     let is = c.of_expansion.ensures.fault k in
     inr (inl (
-      omega (arith, c.if-source-gt-TEXT_LIMIT.false),
+      omega (arith, c.if-source-gt-MOST_BYTES.false),
       c.in-Err.ensures.refused k,
       e.kind,
       k,

@@ -1,6 +1,7 @@
 use Rattle.std.proofs.Common.{arith, ◌*◌, ◌≡◌, ◌≤◌, ◌+◌, ◌∙◌, ap, length, refl, sym, subst}
 use Rattle.std.proofs.lemmas.List.FromFn.{length-map-range_with_len}
 use Rattle.std.specs.List.{sum_by, range_with_len}
+use Rattle.mars_fight.specs.Limits.{MOST_FIGHTS}
 use Rattle.tune_cert.specs.Problem.{fight_points, problem_of}
 use Rattle.mars_fight.specs.Play.{ArePoints}
 use Rattle.tune_cert.specs.Optimum.{score_of}
@@ -32,6 +33,6 @@ returns-clause-few c =
     let i = c.args.inputs.now in
     let f = fight_points i.rules i.opponents i.schedule c.args.warrior.now in
     let n : length c.loop-index.listing.items ≡ c.loop-index.index = ap length c.loop-index.invariant.fought ∙ length-map-range_with_len (λ k. (k, f k)) 0 c.loop-index.index in
-    let few : length c.schedule.result.now ≤ 10000 = c.fights-count.ensures.few.1 in
+    let few : length c.schedule.result.now ≤ MOST_FIGHTS = c.fights-count.ensures.few.1 in
     let same : length c.fights-count.result.now ≡ length c.schedule.result.now = ap length c.fights-count.ensures.fights in
     omega (arith, n, few, same, c.loop-index.auto.index-end)

@@ -1,4 +1,5 @@
 use Rattle.std.proofs.Common.{arith, ◌≡◌, sym, subst, ℕ, ◌≤◌, List}
+use Rattle.tune_template.specs.Limits.{MOST_SETTINGS}
 use Rattle.tune_cert.specs.Problem.{problem_of}
 use Rattle.tune_cert.specs.declared.cert.Row.{Row}
 use Rattle.tune_cert.proofs.Scores.{inputs_problem}
@@ -24,6 +25,6 @@ returns-clause-found g c =
     let l = c.in-Some.lead in
     let e : c.loop-visits.visits ≡ p.count = omega (arith, c.loop-visits-test.false, c.loop-visits.auto.visits-end, c.setting_count-visits-end.ensures.count) in
     let state : IsState i c.args.capacity p.count s = subst (λ (k : ℕ). IsState i c.args.capacity k s) e c.loop-visits.invariant.state in
-    let few : p.count ≤ 1000000 = omega (arith, c.setting_count-visits-end.ensures.count, c.setting_count-visits-end.ensures.few) in
+    let few : p.count ≤ MOST_SETTINGS = omega (arith, c.setting_count-visits-end.ensures.count, c.setting_count-visits-end.ensures.few) in
     subst (λ (rows : List Row). IsSearch p c.args.capacity (record { version = c.cert_version.result; best = l.vector; total = l.total; rows = rows; fights = s.fights; candidates = s.candidates; copied = s.copied })) (sym c.from_vec.ensures)
     (finds p (inputs_problem i) state.start_inside i.rules c.args.capacity s.rows.items s.lead s.order.items s.fights s.candidates s.copied s.cache.known state.going c.cert_version.result c.cert_version.ensures l c.in-Some.is few)

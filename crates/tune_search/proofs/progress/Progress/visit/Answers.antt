@@ -1,5 +1,6 @@
 use Rattle.std.proofs.Common.{arith, rules, ◌≡◌, ◌∙◌, ap, sym, length, ◌≤◌, ◌+◌, ◌++◌, ◌∷◌, [], refl, List, ℕ, Some, None}
 use Rattle.std.proofs.lemmas.List.FromFn.{length-map-range_with_len}
+use Rattle.mars_fight.specs.Limits.{MOST_FIGHTS}
 use Rattle.tune_cert.specs.Problem.{problem_of}
 use Rattle.tune_cert.specs.Optimum.{all_fights, total_of}
 use Rattle.tune_cert.specs.declared.cert.Row.TheVariants.{Cap}
@@ -24,8 +25,8 @@ returns-clause-state c =
     let is : p.warrior c.args.vector ≡ Some w = sym c.in_ok-warrior.ensures.warrior ∙ c.in-Some.is in
     let made : bout.cap ≡ total_of p w = c.in_ok-bout.ensures.total in
     let all : length bout.listing.items ≡ p.fights = ap length c.in_ok-bout.ensures.listing ∙ length-map-range_with_len (λ k. (k, p.points w k)) 0 p.fights in
-    let less : length bout.listing.items ≤ 10000 = c.in_ok-bout.ensures.few in
-    let few : p.fights ≤ 10000 = omega (arith, all, less) in
+    let less : length bout.listing.items ≤ MOST_FIGHTS = c.in_ok-bout.ensures.few in
+    let few : p.fights ≤ MOST_FIGHTS = omega (arith, all, less) in
     let row : c.from_vec.result ≡ played p w (all_fights p) = c.from_vec.ensures ∙ c.in_ok-bout.ensures.listing in
     let work : s.fights + p.fights ≡ s.fights + c.len.result = (let n : c.len.result ≡ length bout.listing.items = search rules in omega (arith, n, all)) in
     progress_along p (c.args.vector + 1) _ _ _ _ _ _ _ _ (fought_visit p c.args.vector w bout.cap is made s.rows.items s.lead s.candidates s.fights few c.requires.state)
