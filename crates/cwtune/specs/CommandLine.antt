@@ -2,7 +2,7 @@
 use Rattle.std.specs.Prelude.{◌≡◌, ℕ, ◌≤◌, ◌<◌, ◌^◌, List, [], ◌∷◌, ◌++◌, codes}
 use Rattle.std.specs.Fmt.{decimal}
 use Rattle.tune_template.specs.declared.part.Part.{Part}
-use Rattle.tune_search.specs.Limits.{MOST_REMEMBERED}
+use Rattle.tune_search.specs.Limits.{MOST_CAPACITY}
 use Rattle.cwtune.specs.declared.command_line.Request.{Request}
 use Rattle.cwtune.specs.declared.command_line.Request.TheVariants.{Tune}
 
@@ -12,9 +12,9 @@ AskForFight [] = Unit {0}
 AskForFight (word ∷ []) = word ≡ codes "fight"
 AskForFight (word ∷ next ∷ more) = ⊥
 
--- The capacity of a search is 1 to `MOST_REMEMBERED`.
+-- The capacity of a search is 1 to `MOST_CAPACITY`.
 abbrev pub IsRequest : Request → Type 0
-IsRequest (Tune words capacity) = (1 ≤ capacity) × (capacity ≤ MOST_REMEMBERED)
+IsRequest (Tune words capacity) = (1 ≤ capacity) × (capacity ≤ MOST_CAPACITY)
 IsRequest _ = Unit {0}
 
 -- The word for part I of K is `I/K`.

@@ -1,6 +1,6 @@
 //! The command line, as the library `clap` reads it.
 ghost use Rattle.std.specs.Prelude.{◌≡◌, ◌↔◌, ◌≤◌, map, IfOk, IsTrue, string_bytes};
-ghost use Rattle.tune_search.specs.Limits.{MOST_REMEMBERED};
+ghost use Rattle.tune_search.specs.Limits.{MOST_CAPACITY};
 ghost use Rattle.cwtune.specs.CommandLine.{AskForFight, IsRequest};
 
 use crate::limits;
@@ -19,7 +19,7 @@ use tune_template::Part;
 const SIDES: [&str; 2] = ["c", "o"];
 
 // The default of `--cache`.
-const CAPACITY: u32 = 4096;
+const DEFAULT_CAPACITY: u32 = 4096;
 
 // The rules, the names of the files and the part of a tuning, or of a check of its certificate.
 #[derive(Drop)]
@@ -285,7 +285,7 @@ fn cache_option<'a>(alloc: Global) -> Arg<'a> {
         .long("cache")
         .value_name("NUMBER")
         .action(ArgAction::Set)
-        .value_parser(value_parser!(u32).range(1..i64::from(limits::MOST_REMEMBERED) + 1))
+        .value_parser(value_parser!(u32).range(1..i64::from(limits::MOST_CAPACITY) + 1))
         .help(
             "Settings to remember, so that equal warriors share fights, 1 to 65536 [default: 4096]",
         )
@@ -360,11 +360,11 @@ fn commands<'a>(alloc: Global, fight: Command<'a>) -> Result<Command<'a>, AllocE
 
 // Returns the value of `--cache`, which `clap` keeps in its range, or the default.
 fn capacity_of(found: &ArgMatches<'_>) -> u32
-    ensures { (1 ≤ result) × (result ≤ MOST_REMEMBERED) }
+    ensures { (1 ≤ result) × (result ≤ MOST_CAPACITY) }
 {
     match found.get_one::<u32>("cache") {
-        Some(capacity) if 1 <= capacity && capacity <= limits::MOST_REMEMBERED => capacity,
-        _ => CAPACITY,
+        Some(capacity) if 1 <= capacity && capacity <= limits::MOST_CAPACITY => capacity,
+        _ => DEFAULT_CAPACITY,
     }
 }
 

@@ -1,9 +1,8 @@
-//! The limits of a tuning that the program tests itself, by the names that `specs/Limits.antt` of
-//! `tune_template` and `tune_search` have for them too. Code says `limits::NAME`: a clause's bare
-//! name is then the definition's.
+//! The limits of a tuning that this crate checks, named as in `specs/Limits.antt` of `tune_template`
+//! and `tune_search`. Code writes `limits::NAME`, so that a bare NAME in a clause is the definition.
 
 // The opponents of a tuning.
 pub(crate) const MOST_OPPONENTS: usize = 64;
 
-// The settings that a search remembers.
-pub(crate) const MOST_REMEMBERED: u32 = 65_536;
+// The capacity of a search.
+pub(crate) const MOST_CAPACITY: u32 = 65_536;

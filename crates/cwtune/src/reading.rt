@@ -9,7 +9,7 @@ use std::rt::Files;
 use std::{fs, io};
 
 // The most bytes of a text that is read: 1 GiB.
-const TEXT_LIMIT: u64 = 1_073_741_824;
+const MOST_FILE_BYTES: u64 = 1_073_741_824;
 
 // A file that could not be read, and why.
 #[derive(Drop)]
@@ -35,12 +35,12 @@ pub(crate) struct CheckTexts {
 
 // Reads a text to its end, or fails if it is longer than the limit.
 pub(crate) fn read_text<R: Read>(alloc: Global, input: &mut R) -> io::Result<Vec<u8>>
-    ensures short { IfOk result (λ text. length text.items ≤ TEXT_LIMIT) }
+    ensures short { IfOk result (λ text. length text.items ≤ MOST_FILE_BYTES) }
     ensures bytes { IfOk result (λ text. IsInput (R.remaining input.old) text.items) }
 {
     let mut text = Vec::new(alloc);
-    input.take(TEXT_LIMIT + 1).read_to_end(&mut text)?;
-    if text.len() as u64 > TEXT_LIMIT {
+    input.take(MOST_FILE_BYTES + 1).read_to_end(&mut text)?;
+    if text.len() as u64 > MOST_FILE_BYTES {
         return Err(io::Error::from(io::ErrorKind::FileTooLarge));
     }
     Ok(text)

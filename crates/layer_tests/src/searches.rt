@@ -1,6 +1,6 @@
 //! Tests of `tune_search`: small searches that were worked out by hand, and the texts of faults.
 ghost use Rattle.std.specs.Prelude.{◌≤◌};
-ghost use Rattle.tune_search.specs.Limits.{MOST_REMEMBERED};
+ghost use Rattle.tune_search.specs.Limits.{MOST_CAPACITY};
 
 use crate::opponents::{BOTH, two_opponents};
 use mars_fight::Schedule;
@@ -102,7 +102,7 @@ fn equal_warriors_share_their_fights(rt: HostRuntime) -> Result<(), Fail> {
 // Checks that a search that remembers `capacity` settings finds what the plain search finds, with
 // no more fights.
 fn agrees(alloc: Global, inputs: &Inputs, capacity: u32) -> Result<bool, Fail>
-    requires { (1 ≤ capacity) × (capacity ≤ MOST_REMEMBERED) }
+    requires { (1 ≤ capacity) × (capacity ≤ MOST_CAPACITY) }
 {
     let found = search(alloc, inputs, capacity)?;
     let plain = plain_search(alloc, inputs)?;

@@ -149,13 +149,13 @@ within_limit-many fights h =
     if_no true fights = refl
     if_no false fights = refl
 
--- `MOST_FIGHTS` fights and one more are too many
+-- `MOST_FIGHTS` fights and any after them are too many
 too_many_joined : (fights : List Fight) (o : Option (List Fight)) → length fights ≡ MOST_FIGHTS → ((more : List Fight) → o ≡ Some more → 0 < length more)
     → option_and_then within_limit (joined (Some fights) o) ≡ None
 too_many_joined fights None many some = refl
 too_many_joined fights (Some more) many some = within_limit-many (fights ++ more) (omega (arith, length-append {A = Fight}, some more refl))
 
--- more than `MOST_FIGHTS` records are not a schedule
+-- records are not a schedule if one comes after `MOST_FIGHTS` fights
 too_many_none : (r : RulesView) (n : ℕ) (rows : List Fields) (row : ℕ) → IsOneTooMany r n rows row → scheduled r n rows ≡ None
 too_many_none r n rows row w =
     headed_as r n w.columns rows _ w.read.headed (read_meant r n w.columns rows w.fights (w.fields ∷ w.rest) w.read)

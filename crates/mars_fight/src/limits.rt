@@ -1,5 +1,5 @@
-//! The limits of a schedule, by the names that `specs/Limits.antt` has for them too. Code says
-//! `limits::NAME`: a clause's bare name is then the definition's.
+//! The limits of a schedule, named as in `specs/Limits.antt`. Code writes `limits::NAME`, so that a
+//! bare NAME in a clause is the definition.
 
 // The fights of a schedule.
 pub(crate) const MOST_FIGHTS: usize = 10_000;

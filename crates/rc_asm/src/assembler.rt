@@ -20,8 +20,8 @@ use rc_expand::{Constants, Line, expand};
 use rc_instr::{Rules, Warrior, WarriorError};
 use std::alloc::Global;
 
-// The bytes of a text, by the name that `specs/Limits.antt` has for them too.
-const MOST_BYTES: usize = 65536;
+// The bytes of a text, named as in `specs/Limits.antt`.
+const MOST_BYTES: usize = 65_536;
 
 /// Assembles a Redcode text to a warrior under `rules`, with `constants` as further names.
 ///

@@ -6,6 +6,7 @@ use Rattle.std.specs.List.{list_all}
 use Rattle.rc_text.specs.declared.token.Token.{Token}
 use Rattle.rc_text.specs.Symbols.{name_of}
 use Rattle.rc_instr.specs.Rules.{RulesView}
+use Rattle.rc_expand.specs.Limits.{MOST_JOINED}
 use Rattle.rc_expand.specs.declared.heads.head.Head.{Head}
 use Rattle.rc_expand.specs.declared.heads.head.HeadWord.{HeadWord}
 use Rattle.rc_expand.specs.declared.heads.head.HeadWord.TheVariants as word
@@ -77,7 +78,7 @@ is_allowed _ b s = not s
 -- tokens to which no ninth counter can be joined, in however many copies: joining one takes two
 -- tokens away, and adds one counter to another
 abbrev pub has_room : ℕ → Token → Bool
-has_room n t = nat_le (2 * length t.joined + n) 18
+has_room n t = nat_le (2 * length t.joined + n) (2 * (MOST_JOINED + 1))
 
 abbrev pub is_short : List Token → Bool
 is_short ts = list_all (has_room (length ts)) ts

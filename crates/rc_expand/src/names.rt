@@ -46,8 +46,8 @@ pub fn spells(source: &[u8], token: &Token, name: &[u8]) -> bool
     is_joined_name(&source[token.lo..token.hi], token.joined.as_slice(), name)
 }
 
-// Room for a joined counter: most have two digits.
-const COUNTER_DIGITS: usize = 2;
+// Bytes to reserve for each joined counter, which has at least two digits.
+const COUNTER_ROOM: usize = 2;
 
 /// Returns the bytes of a token's name, joined counters included. The token's span must lie in
 /// `source`. Fails only if out of memory.
@@ -56,7 +56,7 @@ pub fn name_of(alloc: Global, source: &[u8], token: &Token) -> Result<Vec<u8>, A
     ensures { IfOk result (λ name. name.items ≡ name_of source.now token.now) }
 {
     let written = &source[token.lo..token.hi];
-    let room = written.len() + COUNTER_DIGITS * token.joined.len();
+    let room = written.len() + COUNTER_ROOM * token.joined.len();
     let mut name = Vec::with_capacity(alloc, room)?;
     name.extend_from_slice(written)?;
     for counter in token.joined.as_slice() {

@@ -1,6 +1,6 @@
 -- The limit of a search.
 use Rattle.std.specs.Prelude.{ℕ}
 
--- the settings that a search remembers
-abbrev pub MOST_REMEMBERED : ℕ
-MOST_REMEMBERED = 65536
+-- the capacity of a search: the settings that its cache may hold
+abbrev pub MOST_CAPACITY : ℕ
+MOST_CAPACITY = 65536

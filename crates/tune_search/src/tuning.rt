@@ -1,7 +1,7 @@
 //! The search for the optimum.
 ghost use Rattle.std.specs.Prelude.{◌≡◌, ◌<◌, ◌≤◌, ℕ, None, IfOk, IfErr};
 ghost use Rattle.tune_cert.specs.Problem.{problem_of};
-ghost use Rattle.tune_search.specs.Limits.{MOST_REMEMBERED};
+ghost use Rattle.tune_search.specs.Limits.{MOST_CAPACITY};
 ghost use Rattle.tune_search.specs.Found.{IsSearch};
 
 use crate::counts::setting_count;
@@ -34,7 +34,7 @@ use tune_template::Inputs;
 ///
 /// `NoCandidate` if no setting assembles. `OutOfMemory` if an allocation failed.
 pub fn search(alloc: Global, inputs: &Inputs, capacity: u32) -> Result<Found, SearchFault>
-    requires capacity { (1 ≤ capacity) × (capacity ≤ MOST_REMEMBERED) }
+    requires capacity { (1 ≤ capacity) × (capacity ≤ MOST_CAPACITY) }
 
     // The best setting is the optimum, the rows are a valid certificate of it, the row of each
     // fought setting lists exactly the fights that the rule above asks for, and `fights` counts
@@ -57,7 +57,7 @@ pub fn watched_search<T: Watcher>(
     capacity: u32,
     watcher: &mut T,
 ) -> Result<Found, SearchFault>
-    requires capacity { (1 ≤ capacity) × (capacity ≤ MOST_REMEMBERED) }
+    requires capacity { (1 ≤ capacity) × (capacity ≤ MOST_CAPACITY) }
 
     // The best setting is the optimum, the rows are a valid certificate of it, the row of each
     // fought setting lists exactly the fights that the rule above asks for, and `fights` counts

@@ -65,7 +65,7 @@ abbrev pub span_said : List (List ℕ) → List ℕ → Option ℤ → Option �
 span_said names name (Some low) (Some high) (Some step) (Some start) = span_after (name_checked names (class_of name) name) (span_of low high step start)
 span_said names name _ _ _ _ = Err BadLine
 
--- one more constant: there are at most `MOST_SETTINGS` settings
+-- one more constant, unless there are then more than `MOST_SETTINGS` settings
 abbrev pub with_range : Ranges → List ℕ → Result Span TemplateKind → Result Ranges TemplateKind
 with_range r name (Err k) = Err k
 with_range r name (Ok s) = if nat_lt MOST_SETTINGS (vector_count r.spans * s.count) then Err TooManyVectors else Ok (ranges (r.names ++ (name ∷ [])) (r.spans ++ (s ∷ [])))
@@ -75,7 +75,7 @@ unfoldable pub worded : Ranges → List (List ℕ) → Result Ranges TemplateKin
 worded r (name ∷ low ∷ high ∷ step ∷ start ∷ []) = with_range r name (span_said r.names name (signed_number low) (signed_number high) (step_number step) (signed_number start))
 worded r _ = Err BadLine
 
--- one more range line: at most `MOST_CONSTANTS`
+-- one more range line, unless there are `MOST_CONSTANTS` constants already
 abbrev pub range_added : Ranges → List ℕ → Result Ranges TemplateKind
 range_added r line = if nat_lt (length r.names) MOST_CONSTANTS then worded r (words_of (drop 6 line)) else Err TooManyConstants
 

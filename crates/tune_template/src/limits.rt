@@ -1,11 +1,11 @@
-//! The limits of a template, by the names that `specs/Limits.antt` has for them too. Code says
-//! `limits::NAME`: a clause's bare name is then the definition's.
-
-// The bytes of a text, as in `specs/Limits.antt` of `rc_asm`.
-pub(crate) const MOST_BYTES: usize = 65536;
+//! The limits of a template, named as in `specs/Limits.antt`. Code writes `limits::NAME`, so that a
+//! bare NAME in a clause is the definition.
 
 // The constants of a template.
 pub(crate) const MOST_CONSTANTS: usize = 8;
 
 // The settings of a template.
 pub(crate) const MOST_SETTINGS: u64 = 1_000_000;
+
+// The bytes of a text, which `specs/Limits.antt` of `rc_asm` has.
+pub(crate) const MOST_BYTES: usize = 65_536;

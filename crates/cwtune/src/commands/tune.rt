@@ -6,7 +6,7 @@ ghost use Rattle.tune_cert.specs.Problem.{problem_of};
 ghost use Rattle.tune_cert.specs.Optimum.{IsCandidate};
 ghost use Rattle.tune_cert.specs.CertText.{cert_text, cert_of};
 ghost use Rattle.tune_cert.specs.Spelling.{IsVersion};
-ghost use Rattle.tune_search.specs.Limits.{MOST_REMEMBERED};
+ghost use Rattle.tune_search.specs.Limits.{MOST_CAPACITY};
 ghost use Rattle.cwtune.specs.CertFile.{names_twice};
 ghost use Rattle.cwtune.specs.TuneRun.{Texts, texts, part_texts, Means, IsTuneRefusal, WritesTuning};
 
@@ -52,7 +52,7 @@ pub fn tune_run<W: Write, V: Write>(
     report: &mut Outlet<W>,
     cert: &mut Outlet<V>,
 ) -> Result<(), RunFault>
-    requires capacity { (1 ≤ capacity) × (capacity ≤ MOST_REMEMBERED) }
+    requires capacity { (1 ≤ capacity) × (capacity ≤ MOST_CAPACITY) }
     requires report { report.old.failed ≡ false }
     requires cert { cert.old.failed ≡ false }
 
@@ -112,7 +112,7 @@ pub fn tune_part_run<T: Watcher, W: Write, V: Write>(
     report: &mut Outlet<W>,
     cert: &mut Outlet<V>,
 ) -> Result<(), RunFault>
-    requires capacity { (1 ≤ capacity) × (capacity ≤ MOST_REMEMBERED) }
+    requires capacity { (1 ≤ capacity) × (capacity ≤ MOST_CAPACITY) }
     requires report { report.old.failed ≡ false }
     requires cert { cert.old.failed ≡ false }
 
@@ -161,7 +161,7 @@ pub(crate) fn tune<F: Files, T: Watcher, W: Write, V: Write>(
     out: &mut Outlet<W>,
     err: &mut Outlet<V>,
 ) -> u8
-    requires capacity { (1 ≤ capacity) × (capacity ≤ MOST_REMEMBERED) }
+    requires capacity { (1 ≤ capacity) × (capacity ≤ MOST_CAPACITY) }
     requires out { out.old.failed ≡ false }
     requires err { err.old.failed ≡ false }
     ensures done { result ≡ 0 → (t : Texts) × (cert : Option (List ℕ)) × (written : Option (List ℕ)) × WritesTuning t capacity out.old.bytes out.new.bytes cert written }

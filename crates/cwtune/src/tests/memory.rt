@@ -6,7 +6,7 @@
 //! refused (tools/refuse_growth.py). It then ends with the same results, or with the error
 //! `OutOfMemory` of the run itself, in no other variant, and nothing written.
 ghost use Rattle.std.specs.Prelude.{◌≡◌, ◌≤◌, false, IfOk};
-ghost use Rattle.tune_search.specs.Limits.{MOST_REMEMBERED};
+ghost use Rattle.tune_search.specs.Limits.{MOST_CAPACITY};
 
 use crate::program::program;
 use crate::tests::tuning::{BOTH, ORDER, ORDER_CERT, ORDER_REPORT, both_opponents};
@@ -139,7 +139,7 @@ type Tuned = (Result<(), RunFault>, Vec<u8>, Vec<u8>);
 
 // Tunes a template.
 fn tuned(alloc: Global, template: &[u8], capacity: u32) -> Result<Tuned, Fail>
-    requires { (1 ≤ capacity) × (capacity ≤ MOST_REMEMBERED) }
+    requires { (1 ≤ capacity) × (capacity ≤ MOST_CAPACITY) }
 {
     let rules = Rules::try_new(16, 20, 4, 4, 4)?;
     let opponents = both_opponents(alloc)?;

@@ -1,6 +1,6 @@
 //! Calls on cores, settings, searches and certificates.
 ghost use Rattle.std.specs.Prelude.{◌≤◌};
-ghost use Rattle.tune_search.specs.Limits.{MOST_REMEMBERED};
+ghost use Rattle.tune_search.specs.Limits.{MOST_CAPACITY};
 
 use crate::certificates::{FIVE, five_rows};
 use crate::machine::{FIGHTS, plays};
@@ -68,7 +68,7 @@ fn instance_assembles_a_setting(rt: HostRuntime) -> Result<(), Fail> {
 
 // Searches with this capacity. Returns the number of fights, and the certificate.
 fn found_by(alloc: Global, text: &[u8], capacity: u32) -> Result<(u64, Vec<u8>), Fail>
-    requires { (1 ≤ capacity) × (capacity ≤ MOST_REMEMBERED) }
+    requires { (1 ≤ capacity) × (capacity ≤ MOST_CAPACITY) }
 {
     let inputs = inputs_of(alloc, text)?;
     let found = search(alloc, &inputs, capacity)?;

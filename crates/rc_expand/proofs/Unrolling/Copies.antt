@@ -1,5 +1,5 @@
 -- Steps of the copies.
-use Rattle.std.proofs.Common.{◌≡◌, ℕ, ◌+◌, ◌≤◌, ◌<◌, Bool, true, false, List, [], ◌∷◌, ◌++◌, get_or, take, drop, drop-cons, length, length-drop, refl, arith, sym, ◌∙◌, ap, append_assoc, add-one, Option, Some, None, subst}
+use Rattle.std.proofs.Common.{◌≡◌, ℕ, ◌+◌, ◌≤◌, ◌<◌, Bool, true, false, List, [], ◌∷◌, ◌++◌, get_or, take, drop, drop-cons, length, length-drop, refl, arith, sym, ◌∙◌, ap, add-one, Option, Some, subst}
 use Rattle.std.specs.Prelude.{◌&&◌, option_map, option_and_then, nat_lt, All}
 use Rattle.std.proofs.lemmas.List.{drop-drop}
 use Rattle.std.proofs.lemmas.Bool.Decides.{nat_tests}
@@ -55,10 +55,6 @@ module _ (source : List ℕ) (counter : List ℕ) where
     abbrev pub Rest : List Token → List Token → Option (List Token) → Type 0
     Rest tokens copied rest = copied_tokens source counter k tokens ≡ option_map (λ r. copied ++ r) rest
 
-    pub more : (copied : List Token) (t : Token) (o : Option (List Token)) → option_map (λ r. copied ++ r) (option_map (λ r. t ∷ r) o) ≡ option_map (λ r. (copied ++ (t ∷ [])) ++ r) o
-    more copied t None = refl
-    more copied t (Some r) = ap Some (sym (append_assoc copied (t ∷ []) r))
-
     drop_two : (ts : List Token) (i : ℕ) → drop 2 (drop i ts) ≡ drop (i + 2) ts
     drop_two ts i = drop-drop 2 i ts
 
@@ -74,31 +70,33 @@ module _ (source : List ℕ) (counter : List ℕ) where
         → copied_from source counter k m t (drop i ts) ≡ copied_from source counter k true (record t { joined = t.joined ++ (k ∷ []) }) (drop (i + 2) ts)
     name_joined m t ts i h j = joined_at m t ts i j ∙ ap (option_and_then (λ n. copied_from source counter k true n (drop (i + 2) ts))) (room t h)
 
-    -- a token after which no counter is joined, and then the others
-    pub ended_list : (m : Bool) (t : Token) (ts : List Token) → joins source counter t ts ≡ false
+    -- if no counter is joined to a token, its copy comes before those of the rest
+    pub no_more_joined : (m : Bool) (t : Token) (ts : List Token) → joins source counter t ts ≡ false
         → copied_from source counter k m t ts ≡ option_map (λ r. numbered source counter k m t ∷ r) (copied_tokens source counter k ts)
-    ended_list m t [] h = refl
-    ended_list m t (u ∷ ts) h = passed_list m t u ts h
+    no_more_joined m t [] h = refl
+    no_more_joined m t (u ∷ ts) h = passed_list m t u ts h
 
-    -- the copy goes on with the token at hand
-    pub first_at : (ts : List Token) (i : ℕ) (t : Token) → i < length ts → t ≡ get_or ts i t
+    -- copying from index `i` begins with the token there
+    first_at : (ts : List Token) (i : ℕ) (t : Token) → i < length ts → t ≡ get_or ts i t
         → copied_tokens source counter k (drop i ts) ≡ copied_from source counter k false t (drop (i + 1) ts)
     first_at ts i t h e = ap (copied_tokens source counter k) (split_at ts i t h e)
 
+    -- nothing is joined to a token that is not a name
     joins_none : (t : Token) (ts : List Token) → is_name_token t ≡ false → joins source counter t ts ≡ false
     joins_none t [] h = refl
     joins_none t (u ∷ []) h = refl
     joins_none t (u ∷ v ∷ ts) h = rw h
 
+    -- and it is not the counter
     stays_as_it_is : (t : Token) → is_name_token t ≡ false → numbered source counter k false t ≡ t
     stays_as_it_is t h = rw h
 
-    -- a token that is no name is copied as it is
-    pub other_at : (ts : List Token) (i : ℕ) (t : Token) → i < length ts → t ≡ get_or ts i t → is_name_token t ≡ false
+    -- a token that is not a name is copied unchanged
+    pub kept_at : (ts : List Token) (i : ℕ) (t : Token) → i < length ts → t ≡ get_or ts i t → is_name_token t ≡ false
         → copied_tokens source counter k (drop i ts) ≡ option_map (λ r. t ∷ r) (copied_tokens source counter k (drop (i + 1) ts))
-    other_at ts i t h e n =
+    kept_at ts i t h e n =
         first_at ts i t h e
-        ∙ (ended_list false t (drop (i + 1) ts) (joins_none t (drop (i + 1) ts) n)
+        ∙ (no_more_joined false t (drop (i + 1) ts) (joins_none t (drop (i + 1) ts) n)
         ∙ ap (λ x. option_map (λ r. x ∷ r) (copied_tokens source counter k (drop (i + 1) ts))) (stays_as_it_is t n))
 
 -- an equal item

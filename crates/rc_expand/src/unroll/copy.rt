@@ -47,8 +47,9 @@ pub(crate) fn copy_tokens(
     Ok(Some(Tokens::from_vec(copied)))
 }
 
-// Copies the name at index `at`, and joins the counter to it as often as `&` and the counter come
-// after it. Returns the copy and the index after all of that, or `None` at a ninth counter.
+// Copies the name at index `at`: joins `number` to it for each `&` and counter after it, or puts
+// `number` in its place if it is the counter itself. Returns the copy and the index after it all, or
+// `None` if a ninth counter would be joined.
 fn copy_name(
     source: &[u8],
     counter: &[u8],
@@ -73,7 +74,7 @@ fn copy_name(
         made = true;
         after += 2;
     }
-    number_use(source, counter, number, made, &mut name);
+    put_number(source, counter, number, made, &mut name);
     Ok(Some((name, after)))
 }
 
@@ -150,10 +151,10 @@ fn is_use(source: &[u8], counter: &[u8], token: &Token) -> bool
     is_name_token(token) && spells(source, token, counter)
 }
 
-// Turns the name of the counter into its number; any other token stays as it is, and so does a name
-// that this copy `made` by joining.
+// Puts `number` in place of the counter's name, unless this copy `made` that name by joining. Any
+// other token stays as it is.
 #[inline(always)]
-fn number_use(source: &[u8], counter: &[u8], number: u16, made: bool, token: &mut Token)
+fn put_number(source: &[u8], counter: &[u8], number: u16, made: bool, token: &mut Token)
     requires { LiesIn source.now token.old }
     ensures { token.new ≡ numbered source.now counter.now number made token.old }
 {

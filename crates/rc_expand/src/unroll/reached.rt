@@ -8,6 +8,7 @@ ghost use Rattle.rc_expand.specs.Steps.{has_room, is_short, is_short_line};
 ghost use Rattle.rc_expand.specs.Unroll.Reached.{line_in, lines_in, reached_line};
 
 use crate::heads::head::{Head, HeadWord};
+use crate::limits::MOST_JOINED;
 use crate::line::Tokens;
 use crate::unroll::copy::{clone_head, copy_line};
 use crate::unroll::opening::earlier_labels;
@@ -30,7 +31,8 @@ pub(crate) struct Reached<'a> {
     pub is_earlier: bool,
 }
 
-// Makes a line as it stands in these copies. The first copy is made of the line itself.
+// Makes a line as it is in `copies`, the outermost first. Each copy is made of the one before, and
+// the first of `head` itself.
 pub(crate) fn make_line(
     alloc: Global,
     source: &[u8],
@@ -97,11 +99,14 @@ fn is_short(tokens: &[Token]) -> bool
     tokens.iter().all(|token| has_room(token, tokens.len()))
 }
 
+// The most tokens of a line to which no ninth counter can be joined.
+const MOST_SHORT: usize = 2 * (MOST_JOINED + 1);
+
 // Checks whether counters may be joined to one of `len` tokens: joining one takes two tokens away.
 fn has_room(token: &Token, len: usize) -> bool
     ensures { result ≡ has_room len token.now }
 {
-    len <= 18 && 2 * token.joined.len() + len <= 18
+    len <= MOST_SHORT && 2 * token.joined.len() + len <= MOST_SHORT
 }
 
 impl<'a> Reached<'a> {

@@ -2,7 +2,7 @@ use Rattle.std.proofs.Common.{◌≡◌, sym, ◌∙◌, ap, arith, ◌∷◌, d
 use Rattle.std.specs.Prelude.{option_map}
 use Rattle.rc_text.specs.declared.token.Token.{Token}
 use Rattle.rc_expand.specs.Unroll.{joins, copied_tokens}
-use Rattle.rc_expand.proofs.Unrolling.Copies.{name_joined, joined_lies, ended_list, joins_short}
+use Rattle.rc_expand.proofs.Unrolling.Copies.{name_joined, joined_lies, no_more_joined, joins_short}
 use Rattle.rc_expand.proofs.unroll.copy.copy_name.Goals.{then-loop-after-test+else-is_joined, else-loop-after-test}
 use Rattle.rc_expand.proofs.unroll.copy.copy_name.Goals as goal
 
@@ -24,5 +24,5 @@ returns-clause-copied c =
       | else-loop-after-test w ↦ joins_short s c.args.counter.now n c.args.tokens.now c.loop-after.after (omega arith)
     ] in
     c.loop-after.invariant.0
-    ∙ (ended_list s c.args.counter.now c.args.number c.loop-after.made n others no_more
-    ∙ ap (λ (t : Token). option_map (λ r. t ∷ r) (copied_tokens s c.args.counter.now c.args.number others)) (sym c.number_use.ensures))
+    ∙ (no_more_joined s c.args.counter.now c.args.number c.loop-after.made n others no_more
+    ∙ ap (λ (t : Token). option_map (λ r. t ∷ r) (copied_tokens s c.args.counter.now c.args.number others)) (sym c.put_number.ensures))

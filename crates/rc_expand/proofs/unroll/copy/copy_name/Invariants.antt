@@ -3,7 +3,7 @@ use Rattle.rc_text.specs.Symbols.{LiesIn}
 use Rattle.rc_expand.specs.Unroll.{copied_tokens, copied_from}
 use Rattle.rc_expand.proofs.unroll.copy.copy_name.Given as goal
 
--- what is still to be copied begins with the name and the counters joined to it so far
+-- copying from `at` is copying from `after`, with the name and what is joined to it so far
 abbrev pub invariant-loop-after : goal.invariant-loop-after
 invariant-loop-after l =
     (copied_tokens l.source l.counter l.number (drop l.at l.tokens) ≡ copied_from l.source l.counter l.number l.made l.name (drop l.after l.tokens))

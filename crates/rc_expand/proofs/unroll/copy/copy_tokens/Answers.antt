@@ -5,7 +5,8 @@ use Rattle.rc_text.specs.declared.token.Token.{Token}
 use Rattle.rc_text.specs.Symbols.{LiesIn}
 use Rattle.rc_expand.specs.Heads.Lines.{is_name_token}
 use Rattle.rc_expand.specs.Unroll.{copied_tokens}
-use Rattle.rc_expand.proofs.Unrolling.Copies.{more, other_at, same_read, item_lies}
+use Rattle.rc_expand.proofs.Each.{more}
+use Rattle.rc_expand.proofs.Unrolling.Copies.{kept_at, same_read, item_lies}
 use Rattle.rc_expand.proofs.unroll.copy.copy_tokens.Goals as goal
 
 pub loop-at-preserved-in-Some : goal.loop-at-preserved-in-Some
@@ -17,7 +18,7 @@ loop-at-preserved-in-Some c =
     rw c.in_ok-push-in-Some.ensures.items (
       c.loop-at.invariant.0
           ∙ (ap (option_map (λ r. c.loop-at.copied.items ++ r)) made
-          ∙ more s c.args.counter.now c.args.number c.loop-at.copied.items c.in-Some.name (f (drop c.in-Some.after c.args.tokens.now))),
+          ∙ more c.loop-at.copied.items c.in-Some.name (f (drop c.in-Some.after c.args.tokens.now))),
       All-push (LiesIn s) c.loop-at.copied.items c.in-Some.name c.loop-at.invariant.1 lies,
     )
 
@@ -27,10 +28,10 @@ loop-at-preserved c =
     let ts = c.args.tokens.now in
     let t = c.in_ok-clone_token.field-0 in
     let is : t ≡ get_or ts c.loop-at.at t = same_read ts c.loop-at.at t c.index-tokens-at.result c.in_ok-clone_token.ensures c.index-tokens-at.is in
-    let made = other_at s c.args.counter.now c.args.number ts c.loop-at.at t c.loop-at-test.true is (ap is_name_token c.in_ok-clone_token.ensures ∙ sym c.if-is_name_token.ensures) in
+    let made = kept_at s c.args.counter.now c.args.number ts c.loop-at.at t c.loop-at-test.true is (ap is_name_token c.in_ok-clone_token.ensures ∙ sym c.if-is_name_token.ensures) in
     rw c.in_ok-push.ensures.items (
       c.loop-at.invariant.0
           ∙ (ap (option_map (λ r. c.loop-at.copied.items ++ r)) made
-          ∙ more s c.args.counter.now c.args.number c.loop-at.copied.items t (copied_tokens s c.args.counter.now c.args.number (drop (c.loop-at.at + 1) ts))),
+          ∙ more c.loop-at.copied.items t (copied_tokens s c.args.counter.now c.args.number (drop (c.loop-at.at + 1) ts))),
       All-push (LiesIn s) c.loop-at.copied.items t c.loop-at.invariant.1 (item_lies s ts c.loop-at.at t c.loop-at-test.true is c.requires),
     )
