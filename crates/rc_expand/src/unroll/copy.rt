@@ -48,8 +48,8 @@ pub(crate) fn copy_tokens(
 }
 
 // Copies the name at index `at`: joins `number` to it for each `&` and counter after it, or puts
-// `number` in its place if it is the counter itself. Returns the copy and the index after it all, or
-// `None` if a ninth counter would be joined.
+// `number` in its place if it is the counter itself. Returns the copy and the index after it all,
+// or `None` if a ninth counter would be joined.
 fn copy_name(
     source: &[u8],
     counter: &[u8],
