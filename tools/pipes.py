@@ -238,12 +238,17 @@ def closed_streams(play):
     yield "a tuning without a standard input", (0, REPORT, b"", OLD_CERT), came
 
 
+def take_interrupts():
+    """Lets a run be interrupted, also if this tool runs in the background of a script."""
+    signal.signal(signal.SIGINT, signal.SIG_DFL)
+
+
 def interrupted(play):
     """Yields checks that a tuning that is ended in its search leaves an older certificate."""
     words = ["tune", "long.red", "far.csv", "CERT", "imp.red"]
     for sign in [signal.SIGTERM, signal.SIGINT, signal.SIGKILL]:
         (play.folder / "CERT").write_bytes(OLD_CERT)
-        process = play.start(words)
+        process = play.start(words, preexec_fn=take_interrupts)
         time.sleep(1)
         process.send_signal(sign)
         out, err = process.communicate(timeout=SECONDS)
