@@ -1,10 +1,9 @@
 -- Accepted certificates of all parts name the optimum of the whole.
-use Rattle.std.proofs.Common.{◌≡◌, ℕ, ◌+◌, ◌<◌, ◌≤◌, List, Option, Some, true, refl, sym, ap, subst, arith}
+use Rattle.std.proofs.Common.{◌≡◌, ℕ, ◌+◌, ◌≤◌, List, Option, Some, true, refl, sym, subst, arith}
 use Rattle.std.specs.Io.KnownBytes.{Appends}
 use Rattle.std.proofs.lemmas.Bool.{true≢false}
 use Rattle.tune_cert.specs.declared.verdict.Verdict.TheVariants.{Accepted, Rejected}
 use Rattle.tune_template.specs.Instances.{InputsView}
-use Rattle.tune_template.proofs.PartSteps.{whole_is_part}
 use Rattle.tune_cert.specs.Problem.{problem_of}
 use Rattle.tune_cert.specs.Optimum.{IsOptimum, HasTotal}
 use Rattle.tune_cert.specs.Parts.{in_part, first_setting, IsOutcome, AreOutcomes, IsBestPart}

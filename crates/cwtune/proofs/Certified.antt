@@ -1,6 +1,7 @@
 -- What a tuning wrote is accepted, and what is accepted names what the tuning found.
 use Rattle.std.proofs.Common.{◌≡◌, ◌≤◌, ℕ, ℤ, List, Option, true, sym, ◌∙◌, ap, subst}
 use Rattle.std.specs.Io.KnownBytes.{Appends}
+use Rattle.mars_fight.specs.Limits.{MOST_TOTAL}
 use Rattle.mars_fight.specs.Records.{Fields, records_of}
 use Rattle.tune_template.specs.Instances.{InputsView}
 use Rattle.tune_cert.specs.Problem.{Problem, IsProblem, problem_of}
@@ -36,7 +37,7 @@ found_of p capacity f s = record {
 
 found_spelled : (t : Texts) (i : InputsView) (f : Found) → Means t i → IsFound (problem_of i) f → Spells (records_of (cert_text (cert_of f))) (cert_of f)
 found_spelled t i f m s =
-    let most : greatest_of (problem_of i) ≤ 30000000 = subst (λ (n : ℕ). n ≤ 30000000) (greatest_is i) (most_points _ _ _ i.schedule m.schedule) in
+    let most : greatest_of (problem_of i) ≤ MOST_TOTAL = subst (λ (n : ℕ). n ≤ MOST_TOTAL) (greatest_is i) (most_points _ _ _ i.schedule m.schedule) in
     written (cert_of f) (writable (problem_of i) (inputs_problem i) (few_fights _ _ _ i.schedule m.schedule) most f s)
 
 pub spelled : (t : Texts) (capacity : ℕ) (i : InputsView) (f : Found) → Means t i → IsSearch (problem_of i) capacity f → Spells (records_of (cert_text (cert_of f))) (cert_of f)

@@ -1,5 +1,5 @@
 -- Duels that are refused.
-use Rattle.std.proofs.Common.{◌≡◌, ◌⊎◌, ℕ, List, [], inr, refl}
+use Rattle.std.proofs.Common.{◌≡◌, ◌⊎◌, [], inr, refl}
 use Rattle.rc_instr.specs.Warrior.{WarriorView}
 use Rattle.rc_asm.specs.Assembly.{Assembles}
 use Rattle.cwtune.specs.AsmRun.{IsAsmRefusal}

@@ -1,5 +1,5 @@
 -- What a plain search finds.
-use Rattle.std.proofs.Common.{◌≡◌, ℕ, ◌*◌, ◌≤◌, length}
+use Rattle.std.proofs.Common.{◌≡◌, ◌*◌, ◌≤◌, length}
 use Rattle.tune_template.specs.Limits.{MOST_SETTINGS}
 use Rattle.tune_cert.specs.Problem.{Problem}
 use Rattle.tune_cert.specs.Optimum.{IsOptimum, HasTotal, candidates_of}

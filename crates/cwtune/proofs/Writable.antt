@@ -7,7 +7,7 @@ use Rattle.std.proofs.lemmas.Bool.Decides.{nat_tests}
 use Rattle.std.proofs.lemmas.List.Elements.{All-nil, All-cons}
 use Rattle.rc_instr.specs.Rules.{RulesView}
 use Rattle.rc_instr.specs.Warrior.{WarriorView}
-use Rattle.mars_fight.specs.Limits.{MOST_FIGHTS}
+use Rattle.mars_fight.specs.Limits.{MOST_FIGHTS, MOST_TOTAL, MOST_WEIGHT}
 use Rattle.mars_fight.specs.Play.{ArePoints}
 use Rattle.mars_fight.specs.Records.{records_of}
 use Rattle.mars_fight.specs.Schedule.{header_of, fights_in, fights_under, within_limit, fights_of}
@@ -53,21 +53,21 @@ few_fights rules opponents bytes fights e =
     by_header (λ header. fights_under rules opponents header (drop 1 (records_of bytes))) (header_of (records_of bytes)) fights (λ none. absurd (cc))
     (λ columns some. limited_of (fights_in rules opponents columns (drop 1 (records_of bytes))) fights some) e
 
--- the fights of a schedule cannot give more than 30000000
-pub most_points : (rules : RulesView) (opponents : ℕ) (bytes : List ℕ) (fights : List Fight) → fights_of rules opponents bytes ≡ Some fights → greatest_points fights ≤ 30000000
+-- the fights of a schedule cannot give more than `MOST_TOTAL`
+pub most_points : (rules : RulesView) (opponents : ℕ) (bytes : List ℕ) (fights : List Fight) → fights_of rules opponents bytes ≡ Some fights → greatest_points fights ≤ MOST_TOTAL
 unfolding fights_of greatest_points
 most_points rules opponents bytes fights e =
     let all : All (IsFight rules opponents) fights = scheduled_fights rules opponents (records_of bytes) fights e in
     let few : length fights ≤ MOST_FIGHTS = few_fights rules opponents bytes fights e in
-    let most : sum_by (λ (f : Fight). 3 * f.weight) fights ≤ length fights * 3000 =
-    sum_by-le (λ (f : Fight). 3 * f.weight) 3000 fights (λ k d l. let h = all k d l in omega (arith, h.weight.most)) in
+    let most : sum_by (λ (f : Fight). 3 * f.weight) fights ≤ length fights * (3 * MOST_WEIGHT) =
+    sum_by-le (λ (f : Fight). 3 * f.weight) (3 * MOST_WEIGHT) fights (λ k d l. let h = all k d l in omega (arith, h.weight.most)) in
     omega (arith, few, most)
 
 -- a version that a search writes can be written down
 is_version : (p : Problem) (version : ℕ) → IsOwnVersion p version → IsVersion version
 is_version p version h = elim h [ inl a ↦ inl a.0 | inr b ↦ inr b.0 ]
 
-module _ (p : Problem) (laws : IsProblem p) (few : p.fights ≤ MOST_FIGHTS) (most : greatest_of p ≤ 30000000) where
+module _ (p : Problem) (laws : IsProblem p) (few : p.fights ≤ MOST_FIGHTS) (most : greatest_of p ≤ MOST_TOTAL) where
   items_of : (x : WarriorView) (a : ℕ) (row : List (ℕ × ℕ)) → IsCapRow p x a row → All IsItem row
   items_of x a [] h = All-nil IsItem
   items_of x a (e ∷ row) h =

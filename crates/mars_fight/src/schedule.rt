@@ -2,7 +2,7 @@
 ghost use Rattle.std.specs.Prelude.{◌≡◌, ◌≢◌, ℕ, ◌<◌, ◌≤◌, ◌*◌, ◌↔◌, true, Some, None, length, drop, IfOk, IfErr, OnOk, IsTrue, All};
 ghost use Rattle.rc_instr.specs.Rules.{RulesView};
 ghost use Rattle.mars_fight.specs.Records.{records_of};
-ghost use Rattle.mars_fight.specs.Limits.{MOST_FIGHTS};
+ghost use Rattle.mars_fight.specs.Limits.{MOST_FIGHTS, MOST_WEIGHT};
 ghost use Rattle.mars_fight.specs.Listed.{IsFight, IsPlain, greatest_points};
 ghost use Rattle.mars_fight.specs.Schedule.{fights_of, header_of, scheduled};
 ghost use Rattle.mars_fight.specs.ScheduleRefusal.{IsScheduleFault};
@@ -109,7 +109,7 @@ impl Schedule {
     #[tactic(auto, unfolding(crate::specs::Listed::greatest_points))]
     pub fn greatest(&self) -> u32
         ensures greatest { result ≡ greatest_points self.now }
-        ensures small { result ≤ 3000 * length self.now }
+        ensures small { result ≤ 3 * MOST_WEIGHT * length self.now }
     {
         let mut greatest: u32 = 0;
         for fight in self.fights.as_slice() {

@@ -8,14 +8,12 @@ ghost use Rattle.rc_text.specs.Reading.{ReadsOperand, RefusesOperand, Stops, is_
 
 use crate::fault::EvalFault;
 use crate::front::{after_close, first_of, operator, split_signs};
+use crate::limits;
 use crate::names::Names;
 use crate::operator::{
     Outcome, infix_outcome, level_of, name_outcome, number_outcome, prefix_outcome,
 };
 use crate::token::{Kind, Sign, Token};
-
-// The most parentheses that may be open at once.
-const MAX_OPEN: u8 = 64;
 
 /// Evaluates an expression, which has to be all of `tokens`. Each token's span must lie in
 /// `source`.
@@ -113,7 +111,7 @@ fn group<'a, N: Names>(
     ensures inside { IfOk result (λ r. All (LiesIn source.now) r.1.now) }
     ensures shorter { IfOk result (λ r. length r.1.now < length tokens.now) }
 {
-    if waiting == MAX_OPEN {
+    if waiting == limits::DEEPEST {
         return Err(EvalFault::TooDeep);
     }
     let (outcome, after) = climb(source, tokens, names, 1, waiting + 1)?;

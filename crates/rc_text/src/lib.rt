@@ -13,6 +13,7 @@ mod header;
 pub mod laws;
 mod lexeme;
 mod lexer;
+mod limits;
 mod names;
 mod operator;
 mod token;

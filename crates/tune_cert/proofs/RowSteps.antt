@@ -3,7 +3,7 @@ use Rattle.std.proofs.Common.{◌≡◌, ◌∙◌, ℕ, suc, ◌+◌, ◌<◌, 
 use Rattle.std.proofs.lemmas.Bool.Decides.{leb_tells}
 use Rattle.std.proofs.lemmas.Option.{slice_get_read}
 use Rattle.tune_cert.specs.Problem.{Problem}
-use Rattle.tune_cert.specs.Verdict.{IsRightAlone, IsRightSame, AreRightAlone, AreRightAloneBelow, AreRightSameBelow, IsFirstRow}
+use Rattle.tune_cert.specs.Verdict.{IsRightAlone, IsRightSame, AreRightAlone, IsFirstRow}
 use Rattle.tune_cert.specs.Steps.{IsFirstAlone, IsFirstSame}
 use Rattle.tune_cert.specs.declared.cert.Cert.{Cert}
 use Rattle.tune_cert.specs.declared.cert.Row.{Row}

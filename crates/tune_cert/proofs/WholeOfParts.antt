@@ -6,9 +6,9 @@ use Rattle.std.proofs.lemmas.Nat.{le-div}
 use Rattle.std.proofs.lemmas.Bool.{cases_lt}
 use Rattle.rc_instr.specs.Warrior.{WarriorView}
 use Rattle.tune_template.specs.Vectors.{vectors_of}
-use Rattle.tune_template.specs.Parts.{part, whole, IsPart, part_first, part_end, part_of}
+use Rattle.tune_template.specs.Parts.{part, IsPart, part_end}
 use Rattle.tune_template.specs.Instances.{InputsView, settings_of, warrior_of}
-use Rattle.tune_template.proofs.PartSteps.{part_some, part_inside, part_len, part_get, whole_list}
+use Rattle.tune_template.proofs.PartSteps.{part_inside, part_len, part_get, whole_list}
 use Rattle.tune_cert.specs.Problem.{Problem, problem_of}
 use Rattle.tune_cert.specs.Optimum.{IsOptimum, HasTotal, total_of}
 use Rattle.tune_cert.specs.Parts.{in_part, setting_count, first_setting, IsOutcome, AreOutcomes, IsBestPart}

@@ -1,5 +1,5 @@
 -- Tunings of parts, and what they say of the whole.
-use Rattle.std.specs.Prelude.{◌≡◌, ℕ, ◌+◌, ◌<◌, ◌≤◌, Option, Some, None, length}
+use Rattle.std.specs.Prelude.{◌≡◌, ℕ, ◌<◌, ◌≤◌, Option, Some, None, length}
 use Rattle.tune_template.specs.Vectors.{vectors_of}
 use Rattle.tune_template.specs.Parts.{part, part_first}
 use Rattle.tune_template.specs.Instances.{InputsView}

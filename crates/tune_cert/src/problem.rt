@@ -5,7 +5,7 @@ ghost use Rattle.tune_cert.specs.Problem.{problem_of};
 ghost use Rattle.tune_cert.specs.Optimum.{greatest_of};
 ghost use Rattle.tune_cert.specs.Valid.{IsOwnVersion};
 ghost use Rattle.mars_core.specs.Arena.{IsBlank};
-ghost use Rattle.mars_fight.specs.Limits.{MOST_FIGHTS, MOST_WEIGHT};
+ghost use Rattle.mars_fight.specs.Limits.{MOST_FIGHTS, MOST_TOTAL, MOST_WEIGHT};
 ghost use Rattle.mars_fight.specs.Play.{ArePoints};
 
 use mars_core::{Arena, Cells};
@@ -72,7 +72,7 @@ pub fn fight_points<C: Cells>(
 pub fn greatest_total(inputs: &Inputs) -> u32
     ensures greatest { result ≡ greatest_of (problem_of inputs.now) }
     ensures few { (problem_of inputs.now).fights ≤ MOST_FIGHTS }
-    ensures small { result ≤ 30000000 }
+    ensures small { result ≤ MOST_TOTAL }
 {
     prove!(0 < inputs.schedule().fights().len());
     inputs.schedule().greatest()

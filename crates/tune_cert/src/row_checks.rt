@@ -2,7 +2,7 @@
 ghost use Rattle.std.specs.Prelude.{◌≡◌, ◌↔◌, ◌<◌, None, Some, IsTrue, IfOk, IfSome, IfNone, length, ◌*◌, ◌≤◌, ℕ, List, true, slice_get};
 ghost use Rattle.rc_instr.specs.Warrior.{Fits};
 ghost use Rattle.mars_core.specs.Arena.{IsBlank};
-ghost use Rattle.mars_fight.specs.Limits.{MOST_FIGHTS};
+ghost use Rattle.mars_fight.specs.Limits.{MOST_FIGHTS, MOST_WEIGHT};
 ghost use Rattle.tune_cert.specs.Problem.{problem_of};
 ghost use Rattle.tune_cert.specs.Valid.{IsCapRow, IsRightRow, listed_total};
 ghost use Rattle.tune_cert.specs.Verdict.{Rises, HavePoints, IsWrongRefused, IsWrongCap, IsWrong, IsWrongSame, IsBestRow, IsRightAlone, IsFirstOfCap, AreRightAlone, IsRightSame, IsFirstOfSame};
@@ -283,7 +283,7 @@ fn cap_row(cert: &Cert, vector: u32) -> Option<&[(u32, u8)]>
 fn listed_total(inputs: &Inputs, listed: &[(u32, u8)]) -> u32
     requires few { length listed.now ≤ MOST_FIGHTS }
     ensures sum { result ≡ listed_total (problem_of inputs.now) listed.now }
-    ensures small { result ≤ 255000 * length listed.now }
+    ensures small { result ≤ 255 * MOST_WEIGHT * length listed.now }
 {
     let mut total: u32 = 0;
     for (number, points) in listed {
@@ -296,7 +296,7 @@ fn listed_total(inputs: &Inputs, listed: &[(u32, u8)]) -> u32
 fn listed_most(inputs: &Inputs, listed: &[(u32, u8)]) -> u32
     requires few { length listed.now ≤ MOST_FIGHTS }
     ensures sum { result ≡ listed_most (problem_of inputs.now) listed.now }
-    ensures small { result ≤ 3000 * length listed.now }
+    ensures small { result ≤ 3 * MOST_WEIGHT * length listed.now }
 {
     let mut most: u32 = 0;
     for (number, _) in listed {

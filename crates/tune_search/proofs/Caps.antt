@@ -21,14 +21,14 @@ missed x n h = elim h [
 ]
 
 -- what is missed is little
-pub missed_few : (x n : ℕ) → ArePoints x → n ≤ MOST_WEIGHT → (3 - x) * n ≤ 3000
+pub missed_few : (x n : ℕ) → ArePoints x → n ≤ MOST_WEIGHT → (3 - x) * n ≤ 3 * MOST_WEIGHT
 missed_few x n h few = elim h [
   | inl a ↦ rw a (omega arith)
   | inr b ↦ elim b [ inl c ↦ rw c (omega arith) | inr d ↦ rw d (omega arith) ]
 ]
 
 -- and so is what is made
-pub made_few : (x n : ℕ) → ArePoints x → n ≤ MOST_WEIGHT → x * n ≤ 3000
+pub made_few : (x n : ℕ) → ArePoints x → n ≤ MOST_WEIGHT → x * n ≤ 3 * MOST_WEIGHT
 made_few x n h few = elim h [
   | inl a ↦ rw a (omega arith)
   | inr b ↦ elim b [ inl c ↦ rw c (omega arith) | inr d ↦ rw d (omega arith) ]

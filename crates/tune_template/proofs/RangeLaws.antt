@@ -15,10 +15,10 @@ use Rattle.rc_expand.specs.Heads.{are_distinct}
 use Rattle.rc_asm.specs.Limits.{MOST_BYTES}
 use Rattle.tune_template.specs.declared.span.Span.{Span}
 use Rattle.tune_template.specs.declared.fault.TemplateKind.{TemplateKind}
-use Rattle.tune_template.specs.declared.fault.TemplateKind.TheVariants.{BadLine, DuplicateName, TooManyConstants, TooManyVectors, TextTooLong}
+use Rattle.tune_template.specs.declared.fault.TemplateKind.TheVariants.{DuplicateName, TooManyConstants, TooManyVectors, TextTooLong}
 use Rattle.tune_template.specs.Limits.{MOST_CONSTANTS, MOST_SETTINGS}
 use Rattle.tune_template.specs.Lines.{lines_of, words_of, is_range_line}
-use Rattle.tune_template.specs.Ranges.{Ranges, ranges, name_checked, span_after, span_said, with_range, worded, range_added, vector_count, at_line, line_added, then_from, ranges_from, ranges_of, HasRanges, signed_number, step_number}
+use Rattle.tune_template.specs.Ranges.{Ranges, ranges, name_checked, span_after, span_said, with_range, worded, range_added, vector_count, at_line, then_from, ranges_from, ranges_of, HasRanges, signed_number, step_number}
 use Rattle.tune_template.specs.Laws.{first_word, name_on, AreOfLines}
 
 -- a name that passed

@@ -1,4 +1,3 @@
-use Rattle.std.proofs.Common.{◌≡◌}
 use Rattle.cwtune.proofs.program.watched_program.Goals as goal
 
 -- words that ask for a fight give `Request::Fight`, so no other arm is reached

@@ -1,4 +1,4 @@
-use Rattle.std.proofs.Common.{◌≡◌, ◌≢◌, ℕ, arith, ap, sym, subst, inl, inr}
+use Rattle.std.proofs.Common.{◌≢◌, ℕ, arith, ap, sym, subst, inl, inr}
 use Rattle.rc_expand.specs.declared.fault.ExpandKind.TheVariants.{OutOfMemory as NoRoom}
 use Rattle.rc_expand.specs.Names.{table_of}
 use Rattle.rc_expand.specs.Faults.{IsInTurn}

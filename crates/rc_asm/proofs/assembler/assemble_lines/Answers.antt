@@ -1,5 +1,5 @@
 use Rattle.std.proofs.Common.{◌≡◌, None, subst}
-use Rattle.std.specs.Prelude.{IfOk, ◌≢◌}
+use Rattle.std.specs.Prelude.{◌≢◌}
 use Rattle.rc_expand.specs.Names.{table_of}
 use Rattle.rc_asm.specs.declared.fault.AsmKind.TheVariants.{OutOfMemory}
 use Rattle.rc_asm.specs.Names.{NameValues}

@@ -15,19 +15,19 @@ climb-loop-sign-preserved g t c =
     let r = more_read (g.N.Names.meaning c.args.names.now) c.args.waiting c.args.level c.level_of.result _ _ _ _ c.in-Some.sign c.in-Some.ensures.symbols c.level_of.ensures.value c.requires.level c.in-Some.ensures.tight c.loop-sign.invariant.0 _ _ c.in_ok-right.ensures.read c.in_ok-right.ensures.stops in
     (outcome_same (g.N.Names.meaning c.args.names.now) c.args.level c.args.waiting _ _ _ _ c.infix_outcome-left.ensures r, c.in_ok-right.ensures.inside, omega (arith, c.in_ok-right.ensures.shorter, c.in-Some.ensures.shorter, c.loop-sign.invariant.2))
 
-pub group-returns-then-waiting-eq-MAX_OPEN-clause-read : goal.group-returns-then-waiting-eq-MAX_OPEN-clause-read
-group-returns-then-waiting-eq-MAX_OPEN-clause-read g t c = group_full (g.N.Names.meaning c.args.names.now) c.args.waiting _ c.if-waiting-eq-MAX_OPEN.true
+pub group-returns-then-waiting-eq-DEEPEST-clause-read : goal.group-returns-then-waiting-eq-DEEPEST-clause-read
+group-returns-then-waiting-eq-DEEPEST-clause-read g t c = group_full (g.N.Names.meaning c.args.names.now) c.args.waiting _ c.if-waiting-eq-DEEPEST.true
 
 pub group-returns-in_err-outcome-clause-read : goal.group-returns-in_err-outcome-clause-read
 group-returns-in_err-outcome-clause-read g t c =
     let p = err_from_is_err_and c.from_residual.result c.from_residual.ensures.1 in
-    rw (p.1, p.2) (group_refused (g.N.Names.meaning c.args.names.now) c.args.waiting _ _ (omega (arith, c.requires.room, c.if-waiting-eq-MAX_OPEN.false)) c.in_err-outcome.ensures.read)
+    rw (p.1, p.2) (group_refused (g.N.Names.meaning c.args.names.now) c.args.waiting _ _ (omega (arith, c.requires.room, c.if-waiting-eq-DEEPEST.false)) c.in_err-outcome.ensures.read)
 
 pub group-returns-in-None-clause-read : goal.group-returns-in-None-clause-read
-group-returns-in-None-clause-read g t c = group_not_closed (g.N.Names.meaning c.args.names.now) c.args.waiting _ _ _ (omega (arith, c.requires.room, c.if-waiting-eq-MAX_OPEN.false)) c.in_ok-outcome.ensures.read c.in_ok-outcome.ensures.stops c.in-None.ensures.none
+group-returns-in-None-clause-read g t c = group_not_closed (g.N.Names.meaning c.args.names.now) c.args.waiting _ _ _ (omega (arith, c.requires.room, c.if-waiting-eq-DEEPEST.false)) c.in_ok-outcome.ensures.read c.in_ok-outcome.ensures.stops c.in-None.ensures.none
 
 pub group-returns-in-Some-clause-read : goal.group-returns-in-Some-clause-read
-group-returns-in-Some-clause-read g t c = group_read (g.N.Names.meaning c.args.names.now) c.args.waiting _ _ _ _ (omega (arith, c.requires.room, c.if-waiting-eq-MAX_OPEN.false)) c.in_ok-outcome.ensures.read c.in-Some.ensures.symbols
+group-returns-in-Some-clause-read g t c = group_read (g.N.Names.meaning c.args.names.now) c.args.waiting _ _ _ _ (omega (arith, c.requires.room, c.if-waiting-eq-DEEPEST.false)) c.in_ok-outcome.ensures.read c.in-Some.ensures.symbols
 
 pub operand-returns-in_err-outcome-clause-read : goal.operand-returns-in_err-outcome-clause-read
 operand-returns-in_err-outcome-clause-read g t c =

@@ -1,4 +1,5 @@
 use Rattle.std.proofs.Common.{◌≡◌, ◌≤◌, ◌+◌, ◌*◌, drop}
+use Rattle.mars_fight.specs.Limits.{MOST_WEIGHT}
 use Rattle.tune_cert.specs.Problem.{problem_of}
 use Rattle.tune_cert.specs.Valid.{listed_total}
 use Rattle.tune_cert.proofs.row_checks.listed_total.Given as goal
@@ -7,5 +8,5 @@ use Rattle.tune_cert.proofs.row_checks.listed_total.Given as goal
 abbrev pub invariant-loop-number : goal.invariant-loop-number
 invariant-loop-number l = record {
   sum : l.total + listed_total (problem_of l.inputs) (drop l.number-index l.listed) ≡ listed_total (problem_of l.inputs) l.listed;
-  small : l.total ≤ 255000 * l.number-index;
+  small : l.total ≤ 255 * MOST_WEIGHT * l.number-index;
 }

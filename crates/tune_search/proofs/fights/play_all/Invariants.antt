@@ -1,6 +1,7 @@
 use Rattle.std.proofs.Common.{◌≡◌, ◌≤◌, ◌*◌}
 use Rattle.std.specs.List.{sum_by, range_with_len}
 use Rattle.mars_core.specs.Arena.{IsBlank}
+use Rattle.mars_fight.specs.Limits.{MOST_WEIGHT}
 use Rattle.tune_cert.specs.Problem.{problem_of}
 use Rattle.tune_cert.specs.Optimum.{score_of}
 use Rattle.tune_search.specs.Plays.{played}
@@ -11,6 +12,6 @@ abbrev pub invariant-loop-index : goal.invariant-loop-index
 invariant-loop-index l = record {
   fought : l.listing.items ≡ played (problem_of l.fn.inputs) l.fn.warrior (range_with_len 0 l.index);
   made : l.total ≡ sum_by (score_of (problem_of l.fn.inputs) l.fn.warrior) (range_with_len 0 l.index);
-  few : l.total ≤ 3000 * l.index;
+  few : l.total ≤ 3 * MOST_WEIGHT * l.index;
   blank : IsBlank l.fn.inputs.rules l.arena;
 }

@@ -1,5 +1,6 @@
 use Rattle.std.proofs.Common.{◌≡◌, ◌≤◌, ◌+◌, ◌*◌, drop}
 use Rattle.std.specs.List.{sum_by}
+use Rattle.mars_fight.specs.Limits.{MOST_WEIGHT}
 use Rattle.mars_fight.specs.declared.fight.Fight.{Fight}
 use Rattle.mars_fight.proofs.schedule.Schedule.greatest.Given as goal
 
@@ -7,5 +8,5 @@ use Rattle.mars_fight.proofs.schedule.Schedule.greatest.Given as goal
 abbrev pub invariant-loop-fight : goal.invariant-loop-fight
 invariant-loop-fight l = record {
   sum : l.greatest + sum_by (λ (f : Fight). 3 * f.weight) (drop l.fight-index l.self) ≡ sum_by (λ (f : Fight). 3 * f.weight) l.self;
-  small : l.greatest ≤ 3000 * l.fight-index;
+  small : l.greatest ≤ 3 * MOST_WEIGHT * l.fight-index;
 }
