@@ -9,6 +9,6 @@ MOST_FIGHTS = 10000
 abbrev pub MOST_WEIGHT : ℕ
 MOST_WEIGHT = 1000
 
--- the total of a setting: 3 points in each fight, times its weight
+-- the total of a schedule: 3 points in every fight, each of the greatest weight
 abbrev pub MOST_TOTAL : ℕ
 MOST_TOTAL = 3 * MOST_WEIGHT * MOST_FIGHTS
