@@ -2,31 +2,14 @@
 
 PROGRAM = crates/cwtune/out/cwtune
 
-# How many checks run side by side: one for each processor, but at most one for each 5 GB of free
-# memory, since the largest check takes that much.
-LANES = $(shell awk -v most=$$(nproc) '/MemAvailable/ { lanes = int($$2 / 5000000); \
-	print lanes < 1 ? 1 : lanes < most ? lanes : most }' /proc/meminfo)
-
 # Tunes the example template with a quick build that is not proved: a first look, within two minutes.
 look:
 	@sh examples/look.sh
 
-# Runs the whole gate: every proof from nothing, every test, every edit that must be refused, with
-# the gate's last line. If it passed, runs the tools that need Python alone, assembles the texts that
-# ask for much with the program that it proved and built, plays the cases of input and output, the
-# runs on pipes and the cuts of three texts, and refuses in turn each request for memory and each
-# write of some runs, and each request of the tests of calls that allocate. Each of these ends with
-# the number of what passed and failed. Fails if one of these fails.
+# Runs the whole gate on a copy of the tree: every proof, every test, every edit that must be refused,
+# and every tool that tries the program, with one last line `N passed, N failed`.
 test:
-	@RT_JOBS=$(LANES) rt ci
-	@python3 tools/try_tools.py --plain
-	@python3 tools/large_texts.py $(PROGRAM)
-	@python3 tools/run_cases.py $(PROGRAM)
-	@python3 tools/pipes.py $(PROGRAM)
-	@python3 tools/cuts.py $(PROGRAM)
-	@python3 tools/refuse_memory.py $(PROGRAM)
-	@python3 tools/refuse_writes.py $(PROGRAM)
-	@python3 tools/refuse_growth.py
+	@python3 tools/gate.py
 
 # Proves and builds the program, assembles the texts that ask for much, and plays the cases of input
 # and output, the pipes and the cuts alone.
@@ -65,5 +48,5 @@ memory: build
 
 # Runs the tools for authors (docs/TOOLS.md) on the examples and compares with the stored results.
 # Needs matplotlib for the pictures, and says which Debian package has it.
-tools:
+tools: build
 	@python3 tools/try_tools.py

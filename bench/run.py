@@ -2,8 +2,8 @@
 """Measures turns per second of `cwtune fight`, and how long `cwtune asm` and `cwtune tune` take.
 
 Plays each fight of fights/, the same fights cut short, assembles each text of warriors/, and tunes
-the templates of examples/tuning/, several times; the fastest run counts. Given a pMARS server build,
-plays the fights with it too. README.md says what is measured.
+the templates of examples/tuning/, several times; the fastest run counts. Given a pMARS server
+build, plays the fights with it too, after the series of pairs.py. README.md says what is measured.
 """
 
 import argparse
@@ -13,6 +13,8 @@ import subprocess
 import sys
 import tempfile
 import time
+
+from pairs import WrongPoints, print_pairs
 
 HERE = pathlib.Path(__file__).resolve().parent
 PROGRAM = HERE.parent / "crates" / "cwtune" / "out" / "cwtune"
@@ -301,13 +303,14 @@ def read_options():
     options.add_argument("--bin", default=PROGRAM, help=program, **path)
     options.add_argument("--pmars", help="a pMARS server build to compare with", **path)
     options.add_argument("--runs", default=10, help="runs of each fight (default: 10)", **count)
+    options.add_argument("--series", default=10, help="runs of each series (default: 10)", **count)
     options.add_argument("--short", default=3, help="runs of short fights (default: 3)", **count)
     options.add_argument("--texts", default=200, help="runs of each text (default: 200)", **count)
     options.add_argument("--tunings", default=3, help="runs of each tuning (default: 3)", **count)
     read = options.parse_args()
     if read.runs < 1:
         options.error("--runs is at least 1")
-    for name in ("short", "texts", "tunings"):
+    for name in ("series", "short", "texts", "tunings"):
         if getattr(read, name) < 0:
             options.error(f"--{name} is at least 0")
     for program in (read.bin, read.pmars):
@@ -318,6 +321,9 @@ def read_options():
 
 def main():
     options = read_options()
+    if options.pmars is not None and options.series > 0:
+        print_pairs(options.bin.resolve(), options.pmars.resolve(), options.series)
+        print()
     fights = [Fight(HERE / "fights" / f"{name}.fight") for name in EXPECTED]
     ratios = []
     with tempfile.TemporaryDirectory() as folder:
@@ -350,5 +356,5 @@ def main():
 if __name__ == "__main__":
     try:
         main()
-    except (WrongResult, subprocess.TimeoutExpired) as fault:
+    except (WrongResult, WrongPoints, subprocess.TimeoutExpired) as fault:
         sys.exit(f"run.py: {fault}")

@@ -1,5 +1,5 @@
 #!/usr/bin/env python3
-"""Cuts texts after each of their bytes and runs the built program on each cut: cuts.py PROGRAM
+"""Cuts texts after each of their bytes and runs the built program on each cut: cuts.py [PROGRAM]
 
 Each beginning of a Redcode text, of a fight text with its two load files, and of a certificate has
 to be answered as a rule of this file says, which follows from `docs/FORMATS.md` and
@@ -13,17 +13,13 @@ import subprocess
 import sys
 import tempfile
 
+from endings import run_tool
+from trials import FILES, RULES, program_of, tally
+
 SECONDS = 60
-RULES = "--core=16 --cycles=20 --tasks=4 --length=4 --distance=4".split()
 IMP = b"ORG 0\nMOV.I $0, $1\n"
 FIGHT = b"rules 16 20 4 4 4\nfight 8 c\ncandidate\n" + IMP + b"opponent\n" + IMP
 CERT = b"cwcert,1,4\nbest,0,4\ncap,0,0:3 1:1\nsame,1,2\ncap,2,0:3 1:1\nsame,3,2\n"
-FILES = {
-    "imps.red": b";@tune K 0 3 1 2\nMOV 0, 1\n",
-    "both.csv": b"opponent,position,first\n0,8,c\n1,8,c\n",
-    "dat.red": b"DAT 0\n",
-    "imp.red": b"MOV 0, 1\n",
-}
 # A text as players post it.
 DWARF = b"""From: a mail header
 ;redcode-94
@@ -160,7 +156,7 @@ def check_cert(program, folder, end):
 
 
 def main():
-    program = str(pathlib.Path(sys.argv[1]).resolve(strict=True))
+    program = program_of(sys.argv[1:])
     with tempfile.TemporaryDirectory() as name:
         folder = pathlib.Path(name)
         for file, text in FILES.items():
@@ -172,10 +168,8 @@ def main():
         ]
         with concurrent.futures.ThreadPoolExecutor(os.cpu_count()) as pool:
             wrong = list(pool.map(lambda task: task[0](program, folder, task[1]), tasks))
-    failed = [line for line in wrong if line]
-    print("\n".join(failed + [f"{len(tasks) - len(failed)} passed, {len(failed)} failed"]))
-    return 1 if failed else 0
+    return tally((check.__name__, [line] if line else []) for (check, _), line in zip(tasks, wrong))
 
 
 if __name__ == "__main__":
-    sys.exit(main())
+    run_tool(main)

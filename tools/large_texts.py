@@ -1,5 +1,5 @@
 #!/usr/bin/env python3
-"""Assembles texts that ask for much: large_texts.py PROGRAM
+"""Assembles texts that ask for much: large_texts.py [PROGRAM]
 
 Each text has at most 65536 bytes, and would take seconds or gigabytes if each line of a block were
 copied in each copy around it. Prints what failed: another answer than the one expected, more than
@@ -12,6 +12,9 @@ import subprocess
 import sys
 import tempfile
 import time
+
+from endings import run_tool
+from trials import program_of, tally
 
 SECONDS = 10
 MEGABYTES = 256
@@ -93,20 +96,22 @@ def run(program, text, folder):
         return process.returncode, err.read(), seconds, usage.ru_maxrss / 1024
 
 
+def differences(program, text, fault, folder):
+    """Assembles a text. Returns how the run differs from what is expected, in a list."""
+    status, err, seconds, megabytes = run(program, text, folder)
+    expected = f"refused: Asm {fault}\n"
+    if (status, err) == (1, expected) and seconds <= SECONDS and megabytes <= MEGABYTES:
+        return []
+    return [f"expected {expected!r}, came status {status}, {err!r}"
+            f" in {seconds:.1f} seconds and {megabytes:.0f} MB"]
+
+
 def main():
-    program = sys.argv[1]
-    failed = 0
+    program = program_of(sys.argv[1:])
     with tempfile.TemporaryDirectory() as folder:
-        for name, text, fault in TEXTS:
-            status, err, seconds, megabytes = run(program, text, pathlib.Path(folder))
-            expected = f"refused: Asm {fault}\n"
-            if (status, err) != (1, expected) or seconds > SECONDS or megabytes > MEGABYTES:
-                failed += 1
-                print(f"{name}: expected {expected!r}, came status {status}, {err!r}")
-                print(f"    in {seconds:.1f} seconds and {megabytes:.0f} MB")
-    print(f"{len(TEXTS) - failed} passed, {failed} failed")
-    return 1 if failed else 0
+        return tally((name, differences(program, text, fault, pathlib.Path(folder)))
+                     for name, text, fault in TEXTS)
 
 
 if __name__ == "__main__":
-    sys.exit(main())
+    run_tool(main)

@@ -1,5 +1,5 @@
 #!/usr/bin/env python3
-"""Runs the built program on pipes, terminals and closed streams: pipes.py PROGRAM
+"""Runs the built program on pipes, terminals and closed streams: pipes.py [PROGRAM]
 
 A reader that goes away ends a run with status 3 and the line `failed: Write`. A standard input that
 cannot be read, that is a terminal or that has no end leads to a named error or a result, in bounded
@@ -19,8 +19,11 @@ import tempfile
 import threading
 import time
 
+import trials
+from endings import run_tool
+from trials import RULES, program_of, tally
+
 SECONDS = 60
-RULES = "--core=16 --cycles=20 --tasks=4 --length=4 --distance=4".split()
 FIGHT = b"""rules 16 20 4 4 4
 fight 8 c
 candidate
@@ -32,15 +35,12 @@ MOV.I $0, $1
 """
 OLD_CERT = b"cwcert,1,1\nbest,0,4\ncap,0,0:3 1:1\n"
 FILES = {
+    **trials.FILES,
     "imps.fight": FIGHT,
-    "dat.red": b"DAT 0\n",
-    "imp.red": b"MOV 0, 1\n",
-    "one.red": b"MOV 0, 1\n",
     # equal warriors, so that a long certificate takes one fight
     "many.red": b";@tune K 0 19999 1 0\nMOV 0, 1\n",
     # warriors that differ, so that a tuning takes long
     "long.red": b";@tune K 0 7999 1 0\n;@tune L 0 99 1 0\nSPL 0\nMOV K, L\nJMP -1\n",
-    "both.csv": b"opponent,position,first\n0,8,c\n1,8,c\n",
     "far.csv": b"opponent,position,first\n0,4000,c\n",
     "typo.csv": b"opponent,position,first\n0,8,x\n",
     # for what a terminal shows
@@ -331,6 +331,8 @@ def help_after_refusals(play):
     text = b"refused: NoSuchSetting 2\n  settings are 0 to 1\n"
     came = shown(play, ["asm", "--setting=2", "two.red"])
     yield "help for a setting", (1, b"", text), came
+    text = b"refused: Template line 1 EmptyRange\n  range.red, line 1: ;@tune K 2 1 1 1\n"
+    yield "help for `settings`", (1, b"", text), shown(play, ["settings", "range.red"])
     yield from help_after_other_refusals(play)
     yield "no help on a pipe", (1, b"", source.split(b"  ")[0]), play.run(["asm", "zero.red"])
 
@@ -367,30 +369,30 @@ def help_after_other_refusals(play):
     yield "no help for a rejected certificate", (1, b"rejected row 2 WrongPoints\n", b""), ended
 
 
+def compare(name, expected, came):
+    """Returns the name of a check, and what was wrong, in a list."""
+    if came == expected:
+        return name, []
+    return name, [f"expected {str(expected)[:300]}, came {str(came)[:300]}"]
+
+
+CHECKS = [
+    readers_that_go_away,
+    certificates_for_pipes,
+    standard_inputs,
+    words_of_bytes,
+    closed_streams,
+    interrupted,
+    progress,
+    help_after_refusals,
+]
+
+
 def main():
-    program = str(pathlib.Path(sys.argv[1]).resolve(strict=True))
-    passed, failed = 0, 0
     with tempfile.TemporaryDirectory() as folder:
-        play = Play(program, folder)
-        for checks in [
-            readers_that_go_away,
-            certificates_for_pipes,
-            standard_inputs,
-            words_of_bytes,
-            closed_streams,
-            interrupted,
-            progress,
-            help_after_refusals,
-        ]:
-            for name, expected, came in checks(play):
-                if came == expected:
-                    passed += 1
-                else:
-                    failed += 1
-                    print(f"{name}: expected {str(expected)[:300]}, came {str(came)[:300]}")
-    print(f"{passed} passed, {failed} failed")
-    return 1 if failed or not passed else 0
+        play = Play(program_of(sys.argv[1:]), folder)
+        return tally(compare(*result) for checks in CHECKS for result in checks(play))
 
 
 if __name__ == "__main__":
-    sys.exit(main())
+    run_tool(main)

@@ -5,8 +5,8 @@ The tests are those of the modules `memory` in the test programs that the gate b
 refused each has to pass. With a request refused it has to pass too, or to end with the error
 `OutOfMemory` of a call, at line or record 0 and in no other variant, or with an error of the test's
 own requests. Use: refuse_growth.py [TEST PROGRAM..]. Needs `cc` and a system with LD_PRELOAD.
-Prints what failed, and as its last line `N requests refused, M tests passed, K failed`. The exit
-status is 1 if a test failed.
+Prints what failed, and as its last line how many requests were refused, and `N passed, N failed`.
+The exit status is 1 if a test failed.
 """
 import concurrent.futures
 import os
@@ -15,8 +15,10 @@ import subprocess
 import sys
 import tempfile
 
-from refuse_memory import HERE
+from endings import run_tool
+from trials import library_of, program_of, tally
 
+HERE = pathlib.Path(__file__).resolve().parent
 PROGRAMS = ["crates/layer_tests/out/layer_tests_tests", "crates/cwtune/out/cwtune_tests"]
 MODULE = "memory::"
 
@@ -71,23 +73,16 @@ def refuse_each(library, program, test):
 
 def main():
     given = sys.argv[1:] or [HERE.parent / program for program in PROGRAMS]
-    programs = [str(pathlib.Path(program).resolve(strict=True)) for program in given]
+    programs = [program_of([program]) for program in given]
     tests = [test for program in programs for test in tests_of(program)]
-    total, failed = 0, 0
     with tempfile.TemporaryDirectory() as work:
-        library = f"{work}/refuse.so"
-        source = str(HERE / "refuse_memory.c")
-        subprocess.run(["cc", "-shared", "-fPIC", "-O1", "-o", library, source, "-ldl"], check=True)
+        library = library_of("refuse_memory.c", work)
         with concurrent.futures.ThreadPoolExecutor(os.cpu_count()) as pool:
             came = list(pool.map(lambda test: refuse_each(library, *test), tests))
-    for (_, test), (requests, wrong) in zip(tests, came):
-        total += requests
-        failed += len(wrong) > 0
-        for line in wrong:
-            print(f"{test}: {line}")
-    print(f"{total} requests refused, {len(tests) - failed} tests passed, {failed} failed")
-    return 1 if failed or not tests else 0
+    total = sum(requests for requests, _ in came)
+    results = [(test, wrong) for (_, test), (_, wrong) in zip(tests, came)]
+    return tally(results, f"{total} requests refused: ")
 
 
 if __name__ == "__main__":
-    sys.exit(main())
+    run_tool(main)

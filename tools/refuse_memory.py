@@ -14,8 +14,9 @@ import subprocess
 import sys
 import tempfile
 
-HERE = pathlib.Path(__file__).resolve().parent
-RULES = "--core=16 --cycles=20 --tasks=4 --length=4 --distance=4"
+from endings import run_tool
+from trials import RULES, library_of, program_of, tally
+
 OLD_CERT = "cwcert,1,1\nbest,0,0\ncap,0,-\n"
 IMP = "ORG 0\nMOV.I $0, $1\n"
 DAT = "ORG 0\nDAT.F $0, $0\n"
@@ -124,12 +125,14 @@ TUNINGS = [
 def with_rules(words):
     """Returns the words of a command with the rules after its name."""
     name, *others = words.split()
-    return [name, *RULES.split(), *others]
+    return [name, *RULES, *others]
 
 
 def all_runs():
     """Returns name, words, standard input and the expected end of each run."""
     runs = [(name, [], text, (*end, OLD_CERT)) for name, text, *end in FIGHTS]
+    settings = (0, "vectors 3\nconstant K 3 1\n", "", OLD_CERT)
+    runs.append(("settings step.red", ["settings", "step.red"], "", settings))
     for words, *end in ASSEMBLIES + CHECKS:
         runs.append((words, with_rules(words), "", (*end, OLD_CERT)))
     return runs + [(words, with_rules(words), "", tuple(end)) for words, *end in TUNINGS]
@@ -166,25 +169,16 @@ def refuse_each(program, library, words, text, expected):
 
 
 def main():
-    default = str(HERE.parent / "crates/cwtune/out/cwtune")
-    program = str(pathlib.Path(*sys.argv[1:2] or [default]).resolve(strict=True))
-    runs, total, failed = all_runs(), 0, 0
+    program, runs = program_of(sys.argv[1:]), all_runs()
     with tempfile.TemporaryDirectory() as work:
-        library = f"{work}/refuse.so"
-        source = str(HERE / "refuse_memory.c")
-        subprocess.run(["cc", "-shared", "-fPIC", "-O1", "-o", library, source, "-ldl"], check=True)
+        library = library_of("refuse_memory.c", work)
         with concurrent.futures.ThreadPoolExecutor(os.cpu_count()) as pool:
             came = list(pool.map(lambda one: refuse_each(program, library, *one[1:]), runs))
-    for (name, *_), (requests, ended, wrong) in zip(runs, came):
-        total += requests
-        if ended == 0:
-            wrong.append("no refused request was told")
-        failed += len(wrong) > 0
-        for line in wrong:
-            print(f"{name}: {line}")
-    print(f"{total} requests refused: {len(runs) - failed} passed, {failed} failed")
-    sys.exit(1 if failed else 0)
+    total = sum(requests for requests, _, _ in came)
+    results = [(name, wrong + ["no refused request was told"] * (ended == 0))
+               for (name, *_), (_, ended, wrong) in zip(runs, came)]
+    return tally(results, f"{total} requests refused: ")
 
 
 if __name__ == "__main__":
-    main()
+    run_tool(main)

@@ -1,5 +1,5 @@
 #!/usr/bin/env python3
-"""Runs the built program on writers that fail: refuse_writes.py PROGRAM
+"""Runs the built program on writers that fail: refuse_writes.py [PROGRAM]
 
 The runs are those of `refuse_memory.py`. Each write takes one byte. The first, the second and so on
 then fails, or takes no byte at all, until a run meets no such write. What was written before is a
@@ -15,7 +15,9 @@ import subprocess
 import sys
 import tempfile
 
-from refuse_memory import FILES, HERE, OLD_CERT, all_runs
+from endings import run_tool
+from refuse_memory import FILES, OLD_CERT, all_runs
+from trials import library_of, program_of, tally
 
 
 def run(program, words, text, changes):
@@ -59,22 +61,15 @@ def fail_each(program, library, words, text, end):
 
 
 def main():
-    program = str(pathlib.Path(sys.argv[1]).resolve(strict=True))
-    runs, total, failed = all_runs(), 0, 0
+    program, runs = program_of(sys.argv[1:]), all_runs()
     with tempfile.TemporaryDirectory() as work:
-        library = f"{work}/refuse.so"
-        source = str(HERE / "refuse_writes.c")
-        subprocess.run(["cc", "-shared", "-fPIC", "-O1", "-o", library, source, "-ldl"], check=True)
+        library = library_of("refuse_writes.c", work)
         with concurrent.futures.ThreadPoolExecutor(os.cpu_count()) as pool:
             came = list(pool.map(lambda one: fail_each(program, library, *one[1:]), runs))
-    for (name, *_), (writes, wrong) in zip(runs, came):
-        total += writes
-        failed += len(wrong) > 0
-        for line in wrong:
-            print(f"{name}: {line}")
-    print(f"{total} writes failed: {len(runs) - failed} passed, {failed} failed")
-    return 1 if failed else 0
+    total = sum(writes for writes, _ in came)
+    results = [(name, wrong) for (name, *_), (_, wrong) in zip(runs, came)]
+    return tally(results, f"{total} writes failed: ")
 
 
 if __name__ == "__main__":
-    sys.exit(main())
+    run_tool(main)

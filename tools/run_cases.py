@@ -1,5 +1,5 @@
 #!/usr/bin/env python3
-"""Plays cases of input and output against the built program: run_cases.py PROGRAM [CASES..]
+"""Plays cases of input and output against the built program: run_cases.py [PROGRAM [CASES..]]
 
 CASES are files such as `cases/asm.toml`; without any, all files of `cases/` are played. A file has
 `[[case]]` tables, and above them what its cases share: `files` and `folders`, which each case finds
@@ -25,6 +25,9 @@ Prints what failed, and as its last line `N passed, N failed`. The exit status i
 or there is none. A case that says anything else, or no `status`, is an error.
 """
 import concurrent.futures, os, pathlib, shlex, string, subprocess, sys, tempfile, tomllib
+
+from endings import run_tool
+from trials import program_of, tally
 
 FILLED = ["stdin", "out", "err", "err_begins"]
 NEEDED = {"name": str, "status": int}
@@ -99,7 +102,10 @@ def beginnings(case):
 
 def read_cases(path):
     """Returns the cases of a file, each with all that the cases of the file share."""
-    table = tomllib.loads(path.read_text("utf-8"))
+    try:
+        table = tomllib.loads(path.read_text("utf-8"))
+    except ValueError as error:
+        sys.exit(f"{path}: {error}")
     check_keys(table, SHARED, ["case"], path)
     cases = []
     for case in table["case"]:
@@ -179,20 +185,14 @@ def differences(program, case):
 
 
 def main():
-    if len(sys.argv) < 2:
-        sys.exit("usage: run_cases.py PROGRAM [CASES..]")
-    program = str(pathlib.Path(sys.argv[1]).resolve(strict=True))
+    program = program_of(sys.argv[1:])
     folder = pathlib.Path(__file__).resolve().parent.parent / "cases"
     paths = [pathlib.Path(name) for name in sys.argv[2:]] or sorted(folder.glob("*.toml"))
     cases = [case for path in paths for case in read_cases(path)]
     with concurrent.futures.ThreadPoolExecutor(os.cpu_count()) as pool:
         played = pool.map(lambda case: differences(program, case), cases)
-        failed = [(case["name"], wrong) for case, wrong in zip(cases, played) if wrong]
-    for name, wrong in failed:
-        print(name, *wrong, sep="\n    ")
-    print(f"{len(cases) - len(failed)} passed, {len(failed)} failed")
-    sys.exit(1 if failed or not cases else 0)
+        return tally((case["name"], wrong) for case, wrong in zip(cases, played))
 
 
 if __name__ == "__main__":
-    main()
+    run_tool(main)

@@ -2,6 +2,7 @@
 """Prints what a certificate says of each opponent, of the best settings and of the constants."""
 import argparse
 import tuning_files
+from endings import Fault, number_from, run_tool
 
 
 def print_scores(title, points, fights):
@@ -56,10 +57,13 @@ def main():
     parser.add_argument("cert")
     parser.add_argument("schedule")
     parser.add_argument("--template", help="names constants, and shows the start setting too")
-    parser.add_argument("--most", type=int, default=10, help="how many of the best settings")
+    parser.add_argument("--most", type=number_from(1), default=10, metavar="N",
+                        help="how many of the best settings [default: 10]")
     asked = parser.parse_args()
     found = tuning_files.Certificate(asked.cert)
     fights = tuning_files.read_schedule(asked.schedule)
+    if not found.is_of(fights):
+        raise Fault(f"{asked.cert} is not a certificate of the schedule {asked.schedule}", 2)
     template = tuning_files.Template(asked.template) if asked.template else None
     if template and len(template.settings) != len(found.rows):
         parser.error("the certificate is not of that template")
@@ -77,4 +81,4 @@ def main():
 
 
 if __name__ == "__main__":
-    main()
+    run_tool(main)

@@ -1,6 +1,7 @@
 #!/usr/bin/env python3
 """Prints the fights of `pmars -F SEED -r ROUNDS` as a schedule, so that totals can be compared."""
 import argparse
+from endings import number_from, run_tool
 
 
 def series(seed, rounds, core, distance):
@@ -13,15 +14,17 @@ def series(seed, rounds, core, distance):
 
 def main():
     parser = argparse.ArgumentParser(description=__doc__)
-    parser.add_argument("seed", type=int, help="the number after -F, the first position")
-    parser.add_argument("rounds", type=int, help="the number after -r")
-    parser.add_argument("opponents", type=int, help="how many opponents: the series for each")
-    parser.add_argument("--core", type=int, default=8000)
-    parser.add_argument("--distance", type=int, default=100)
+    parser.add_argument("seed", type=number_from(1, 65535),
+                        help="the number after -F, the first position")
+    parser.add_argument("rounds", type=number_from(1, 10000), help="the number after -r")
+    parser.add_argument("opponents", type=number_from(1, 64),
+                        help="how many opponents: the series for each")
+    parser.add_argument("--core", type=number_from(8, 65535), default=8000)
+    parser.add_argument("--distance", type=number_from(1, 32767), default=100)
     asked = parser.parse_args()
     if not asked.distance <= asked.seed <= asked.core - asked.distance:
         parser.error("pMARS takes a seed from the distance to the core size less the distance")
-    if not 1 <= asked.rounds * asked.opponents <= 10000:
+    if asked.rounds * asked.opponents > 10000:
         parser.error("a schedule has 1 to 10000 fights")
     print("opponent,position,first")
     for opponent in range(asked.opponents):
@@ -30,4 +33,4 @@ def main():
 
 
 if __name__ == "__main__":
-    main()
+    run_tool(main)

@@ -1,54 +1,44 @@
 #!/usr/bin/env python3
 """Tunes a template on many processors, or on many hosts, and puts the parts together.
 
-The settings are split into parts. Each part is tuned by `cwtune tune --part I/K`, and its
-certificate is checked by `cwtune check --part I/K` in a process of its own. Then the report of the
-whole template is printed as `tune` prints it, and CERT is written, the certificate of the whole
-template, which `cwtune check` accepts. Nothing here has to be trusted: the parts' certificates
-were checked, and CERT can be.
+The settings are split into parts, and each part is tuned by `cwtune tune --part I/K`. Then the
+report of the whole template is printed as `tune` prints it, and CERT is written, the certificate of
+the whole template. This tool need not be trusted: `cwtune check` checks CERT. With --check that is
+done before CERT is written, and takes as long as the tuning would on one processor.
 
-GNU parallel runs the parts (Debian package `parallel`), or `xargs -P` where it is missing. What the
-parts wrote stays in the folder CERT.parts until the tuning is done. The numbers of parts without a
-result, as after a kill, are printed at the end; with --resume only such parts run again.
+Parts that are done stay in the folder CERT.parts until CERT is written. After Ctrl-C or a crash
+repeat the command to run the others, with any --jobs. --anew throws the parts away. Parts of other
+inputs are refused.
 
-Exit status, as that of `cwtune`: 0 done; 1 the input is refused; 2 usage error; 3 a part has no
-result, or a file cannot be read or written.
+Exit status, as that of `cwtune`: 0 done; 1 an input is refused, or CERT rejected; 2 usage error;
+3 a part has no result, or a file cannot be read or written.
 """
-import argparse, os, pathlib, shutil, subprocess, sys
-from typing import NamedTuple
+import argparse, os, pathlib, shutil, signal, subprocess, sys, time
 
-from tuning_files import Template
+from endings import Fault, number_from, run_tool, whole_file
+from spread_jobs import Here, Hosts
+from spread_parts import RULES, Folder
 
 BUILT = pathlib.Path(__file__).resolve().parent.parent / "crates/cwtune/out/cwtune"
-RULES = ["core", "cycles", "tasks", "length", "distance"]
-JOB = """./cwtune tune --part {{}}/{parts} {options} --cache {cache} t.red s.csv {{}}.cert {opponents} \
->{{}}.report 2>{{}}.fault; s=$?; \
-if [ $s = 0 ]; then ./cwtune check --part {{}}/{parts} {options} t.red s.csv {{}}.cert {opponents} \
->{{}}.verdict 2>>{{}}.fault; s=$?; fi; \
-if [ $s = 1 ] && grep -qx 'refused: NoCandidate' {{}}.fault; then s=0; fi; exit $s"""
-
-
-class Part(NamedTuple):
-    """What came of a part. Without a candidate `report` and `rows` are empty."""
-
-    first: int
-    count: int
-    report: dict
-    version: str
-    rows: list
+NO_SUCH_PART = b"error: --part I/K: the template has fewer than K settings\n"
 
 
 def arguments():
     parser = argparse.ArgumentParser(
         description=__doc__, formatter_class=argparse.RawDescriptionHelpFormatter)
-    parser.add_argument("--jobs", type=int, default=os.cpu_count(), metavar="N",
-                        help="parts that run side by side, on each host [default: all processors]")
-    parser.add_argument("--parts", type=int, metavar="K",
+    parser.add_argument("--jobs", type=number_from(1), default=os.cpu_count(), metavar="N",
+                        help="parts that run side by side, on each host "
+                        "[default: the processors of this one]")
+    parser.add_argument("--parts", type=number_from(1), metavar="K",
                         help="parts to split the settings into [default: 2 for each job]")
-    parser.add_argument("--hosts", metavar="FILE",
-                        help="run on these hosts too, a line each (--sshloginfile of GNU parallel)")
+    parser.add_argument("--hosts", metavar="FILE", help="run on these hosts, a line each, over "
+                        "ssh (--sshloginfile of GNU parallel; `:` is this one)")
+    parser.add_argument("--anew", action="store_true",
+                        help="throw away the parts that are done, and begin again")
     parser.add_argument("--resume", action="store_true",
-                        help="run only the parts that have no result yet")
+                        help="go on from the parts that are done, as without this word")
+    parser.add_argument("--check", action="store_true",
+                        help="let `cwtune check` check the certificate before it is written")
     parser.add_argument("--program", default=str(BUILT), metavar="FILE", help="the program cwtune")
     parser.add_argument("--cache", type=int, default=4096, metavar="N", help="as for `cwtune tune`")
     for rule in RULES:
@@ -59,100 +49,88 @@ def arguments():
     return parser.parse_args()
 
 
-def end(status, message):
-    print(message, file=sys.stderr)
-    sys.exit(status)
+def rules_of(args):
+    return [f"--{rule}={getattr(args, rule)}" for rule in RULES if getattr(args, rule) is not None]
 
 
-def may_overwrite(path):
-    """Returns whether CERT may be written: it is missing or empty, or an older certificate."""
-    if not path.exists():
-        return True
-    with path.open("rb") as file:
-        return file.read(7) in (b"", b"cwcert,")
+def end_as(done):
+    """Ends as a run of `cwtune` did: with its line, and with its status."""
+    sys.stderr.buffer.write(done.stderr)
+    sys.exit(done.returncode if done.returncode > 0 else 3)
 
 
-def count_settings(path):
-    """Returns the number of settings, or 1 if the template is bad: `cwtune` then says why."""
+def run_program(*words, **more):
+    return subprocess.run(words, stdin=subprocess.DEVNULL, capture_output=True, **more)
+
+
+def refuse_faults(args):
+    """Ends as `tune` ends if it refuses the words or an input.
+
+    A template has at most a million settings. So if nothing else is wrong, `tune` looks at all
+    inputs, says that there is no such part, and plays no fight.
+    """
+    cert = pathlib.Path(args.cert)
+    is_new = not cert.exists()
+    part = f"--part=1/{2 ** 32 - 1}"
     try:
-        return max(1, len(Template(path).settings))
-    except (ValueError, IndexError):
-        return 1
+        done = run_program(args.program, "tune", part, *rules_of(args), f"--cache={args.cache}",
+                           "--", args.template, args.schedule, args.cert, *args.opponents)
+    finally:
+        if is_new and cert.is_file() and cert.stat().st_size == 0:
+            cert.unlink()
+    if done.stderr != NO_SUCH_PART:
+        end_as(done)
 
 
-def fill(folder, args):
-    """Copies what the parts read into the folder, under names that need no quoting."""
-    folder.mkdir(exist_ok=True)
-    names = ["cwtune", "t.red", "s.csv"] + [f"o{k}.red" for k in range(len(args.opponents))]
-    sources = [args.program, args.template, args.schedule] + args.opponents
-    for name, source in zip(names, sources):
-        shutil.copy(source, folder / name)
-    (folder / "cwtune").chmod(0o755)
-    return names
+def count_settings(args):
+    """Returns the number of settings, which the program counts."""
+    done = run_program(args.program, "settings", "--", args.template)
+    if done.returncode != 0:
+        end_as(done)
+    return int(done.stdout.split()[1])
 
 
-def job_of(args, names, parts):
-    options = " ".join(f"--{rule} {getattr(args, rule)}" for rule in RULES
-                       if getattr(args, rule) is not None)
-    return JOB.format(parts=parts, options=options, cache=args.cache, opponents=" ".join(names[3:]))
+class Progress:
+    """The parts that are done, and the line at a terminal that says how far all is."""
 
+    def __init__(self, folder):
+        self.folder, self.shown = folder, ""
+        self.parts = {n: folder.part(n) for n in range(1, folder.parts + 1)}
+        self.todo = [n for n, part in self.parts.items() if part is None]
+        self.begun, self.before = time.monotonic(), self.settings()
 
-def with_parallel(folder, args, names, job):
-    """Returns the command line of GNU parallel. It reads the numbers of the parts."""
-    words = ["parallel", "--will-cite", "--jobs", str(args.jobs), "--joblog", "log", "--retries", "3"]
-    if sys.stderr.isatty():
-        words.append("--bar")
-    if args.hosts:
-        words += ["--sshloginfile", str(pathlib.Path(args.hosts).resolve()), "--workdir", str(folder)]
-        words += [word for name in names for word in ("--basefile", name)]
-        words += [word for kind in ["cert", "report", "fault", "verdict"]
-                  for word in ("--return", "{}." + kind)] + ["--cleanup"]
-    return words + [job]
+    def done(self):
+        return [part for part in self.parts.values() if part]
 
+    def settings(self):
+        return sum(part.count for part in self.done())
 
-def run(folder, args, names, numbers, job):
-    """Runs the job of each part."""
-    if shutil.which("parallel"):
-        words = with_parallel(folder, args, names, job)
-    elif args.hosts:
-        end(2, "error: --hosts needs GNU parallel (Debian package `parallel`)")
-    else:
-        words = ["xargs", "-P", str(args.jobs), "-I{}", "sh", "-c", job]
-    lines = "".join(f"{number}\n" for number in numbers)
-    subprocess.run(words, cwd=folder, input=lines, text=True)
+    def show(self):
+        """Rewrites the line if it says something new, cut to the width of the terminal."""
+        if not sys.stderr.isatty():
+            return
+        width = os.get_terminal_size(sys.stderr.fileno()).columns or 80
+        line = self.line()[:width - 1]
+        if line != self.shown:
+            print(f"\r{line}\x1b[K", end="", file=sys.stderr, flush=True)
+        self.shown = line
 
+    def clear(self):
+        if self.shown:
+            print("\r\x1b[K", end="", file=sys.stderr, flush=True)
 
-def text_of(folder, number, kind):
-    path = folder / f"{number}.{kind}"
-    return path.read_text() if path.exists() else ""
-
-
-def is_done(folder, number):
-    """Returns whether the part has a result: an accepted certificate, or no candidate."""
-    return (text_of(folder, number, "verdict").startswith("accepted ")
-            or text_of(folder, number, "fault") == "refused: NoCandidate\n")
-
-
-def read_part(folder, number, parts, count):
-    first, end_ = (number - 1) * count // parts, number * count // parts
-    if not text_of(folder, number, "verdict"):
-        return Part(first, end_ - first, {}, "", [])
-    lines = (line.split(" ", 1) for line in text_of(folder, number, "report").splitlines())
-    head, _, *rows = text_of(folder, number, "cert").splitlines()
-    return Part(first, end_ - first, dict(lines), head.split(",")[1], rows)
-
-
-def moved(part, row):
-    """Returns a row with its settings counted within the whole template."""
-    kind, setting, rest = row.split(",")
-    twin = str(int(rest) + part.first) if kind == "same" else rest
-    return f"{kind},{int(setting) + part.first},{twin}"
-
-
-def rows_of(part):
-    if part.rows:
-        return [moved(part, row) for row in part.rows]
-    return [f"refused,{v},-" for v in range(part.first, part.first + part.count)]
+    def line(self):
+        done, settings, folder = self.done(), self.settings(), self.folder
+        line = (f"{len(done)} of {folder.parts} parts, {settings} of {folder.count} settings, "
+                f"{summed(done, 'fights', 0)} fights")
+        if any(part.report for part in done):
+            best = best_of(done)
+            line += f", best {index_of(best)} total {total_of(best)}"
+        if settings > self.before:
+            seconds = time.monotonic() - self.begun
+            left = int(seconds * (folder.count - settings) / (settings - self.before))
+            line += f", {left // 60}:{left % 60:02} left"
+        return line
 
 
 def total_of(part):
@@ -164,6 +142,11 @@ def best_of(parts):
     return max((part for part in parts if part.report), key=total_of)
 
 
+def index_of(part):
+    """Returns the index of the part's best setting within the whole template."""
+    return part.first + int(part.report["best"])
+
+
 def summed(parts, line, word):
     return sum(int(part.report[line].split()[word]) for part in parts if part.report)
 
@@ -173,61 +156,127 @@ def report_of(parts, count):
     return [
         f"vectors {count}",
         f"candidates {summed(parts, 'candidates', 0)}",
-        f"best {best.first + int(best.report['best'])}",
+        f"best {index_of(best)}",
         f"constants {best.report['constants']}",
         f"total {best.report['total']}",
         f"fights {summed(parts, 'fights', 0)} of {summed(parts, 'fights', 2)}",
     ]
 
 
-def cert_of(parts, count):
-    best = best_of(parts)
-    head = [f"cwcert,{best.version},{count}",
-            f"best,{best.first + int(best.report['best'])},{total_of(best)}"]
-    return "\n".join(head + [row for part in parts for row in rows_of(part)]) + "\n"
+def moved(part, row):
+    """Returns a row with its settings counted within the whole template."""
+    kind, setting, rest = row.split(",")
+    twin = str(int(rest) + part.first) if kind == "same" else rest
+    return f"{kind},{int(setting) + part.first},{twin}"
 
 
-def say_refusal(folder, numbers):
-    """Ends as `cwtune` did, if it refused a part for a reason that holds for every part."""
-    for number in numbers:
-        fault = text_of(folder, number, "fault")
-        if fault.startswith("refused: "):
-            end(1, fault.rstrip("\n"))
-        if fault.startswith("error: "):
-            end(2, fault.rstrip("\n"))
+def rows_of(folder, number, part):
+    """Yields the rows of a part. There has to be one for each of its settings."""
+    if not part.report:
+        yield from (f"refused,{v},-" for v in range(part.first, part.first + part.count))
+        return
+    head, _, *rows = (folder.path / f"{number}.cert").read_text().splitlines()
+    if {head.split(",")[2], part.report["vectors"], str(len(rows))} != {str(part.count)}:
+        raise Fault(f"part {number} has not {part.count} settings: {folder.told}/{number}.cert", 3)
+    for row in rows:
+        yield moved(part, row)
+
+
+def write_whole(folder, parts):
+    """Writes the certificate of the whole template into the folder, and returns its path."""
+    best = best_of(parts.values())
+    number = next(number for number, part in parts.items() if part is best)
+    path = folder.path / "whole.cert"
+    with (folder.path / f"{number}.cert").open() as file:
+        version = file.readline().split(",")[1]
+    with path.open("w") as file:
+        file.write(f"cwcert,{version},{folder.count}\nbest,{index_of(best)},{total_of(best)}\n")
+        for number, part in parts.items():
+            file.writelines(f"{row}\n" for row in rows_of(folder, number, part))
+    return path
+
+
+def check(args, folder):
+    """Checks the certificate of the whole template. Returns the line of `cwtune check`, or ends
+    with it."""
+    done = run_program("./cwtune", "check", *rules_of(args), "t.red", "s.csv", "whole.cert",
+                       *folder.names[3:], cwd=folder.path)
+    if done.returncode != 0:
+        print(done.stdout.decode(), end="")
+        print(f"{args.cert} is not written, and the parts stay in {folder.told}", file=sys.stderr)
+        end_as(done)
+    return done.stdout.decode()
+
+
+def tune_parts(args, folder, progress):
+    """Runs the parts that are not done. Returns for each its fault, or None if it has a result."""
+    options = [*rules_of(args), f"--cache={args.cache}"]
+    jobs = (Hosts if args.hosts else Here)(args, folder, options, progress.todo)
+    faults = {}
+    try:
+        progress.show()
+        while jobs.are_running():
+            for number, status in jobs.ended():
+                faults[number] = folder.keep(number, status)
+                progress.parts[number] = folder.part(number)
+            progress.show()
+            time.sleep(0.02)
+    finally:
+        jobs.stop()
+        progress.clear()
+    return faults
+
+
+def go_on(folder, progress):
+    """Returns the text that says what is done, and what to repeat."""
+    return (f"{len(progress.done())} of {folder.parts} parts are done, and kept in {folder.told}: "
+            "repeat the command to run the others")
+
+
+def say_missing(folder, progress, faults):
+    """Ends if a part has no result: as `cwtune` did if it refused the part, else with status 3."""
+    missing = [number for number, part in progress.parts.items() if part is None]
+    if not missing:
+        return
+    said = [faults[number] for number in missing if faults.get(number)]
+    for line in said:
+        if line.startswith(("refused: ", "error: ")):
+            raise Fault(line.split(": ", 1)[1].strip(), 1 if line[0] == "r" else 2)
+    told = " ".join(map(str, missing))
+    cause = f" ({said[0].strip()})" if said else ""
+    raise Fault(f"no result of {len(missing)} of {folder.parts} parts: {told}{cause}\n"
+                f"{go_on(folder, progress)}", 3)
+
+
+def finish(args, folder, progress):
+    """Puts the parts together, writes CERT and prints the report."""
+    if not any(part.report for part in progress.done()):
+        folder.end()
+        raise Fault("NoCandidate")
+    path = write_whole(folder, progress.parts)
+    verdict = check(args, folder) if args.check else ""
+    with whole_file(args.cert) as file, path.open() as whole:
+        shutil.copyfileobj(whole, file)
+    print(*report_of(progress.done(), folder.count), sep="\n")
+    print(verdict, end="", flush=True)
+    folder.end()
 
 
 def main():
+    # What `kill` sends ends it as Ctrl-C does.
+    signal.signal(signal.SIGTERM, signal.default_int_handler)
     args = arguments()
-    cert = pathlib.Path(args.cert)
-    folder = pathlib.Path(args.cert + ".parts").resolve()
-    if not may_overwrite(cert):
-        end(2, f"error: CERT is a text but not a certificate, and is not overwritten: {cert}")
-    if args.resume and not folder.exists():
-        end(2, f"error: nothing to resume: there is no folder {folder}")
-    if not args.resume and folder.exists():
-        shutil.rmtree(folder)
-    count = count_settings(args.template)
-    parts = min(count, args.parts or 2 * args.jobs)
-    names = fill(folder, args)
-    numbers = range(1, parts + 1)
-    run(folder, args, names, [n for n in numbers if not is_done(folder, n)], job_of(args, names, parts))
-    missing = [n for n in numbers if not is_done(folder, n)]
-    if missing:
-        say_refusal(folder, missing)
-        told = " ".join(map(str, missing))
-        end(3, f"failed: no result of {len(missing)} of {parts} parts: {told}\n"
-               "The others are kept. Run the same words with --resume to try these again.")
-    made = [read_part(folder, number, parts, count) for number in numbers]
-    if not any(part.report for part in made):
-        end(1, "refused: NoCandidate")
-    cert.write_text(cert_of(made, count))
-    print("\n".join(report_of(made, count)))
-    shutil.rmtree(folder)
+    refuse_faults(args)
+    folder = Folder(args, count_settings(args))
+    progress = Progress(folder)
+    try:
+        faults = tune_parts(args, folder, progress)
+        say_missing(folder, progress, faults)
+        finish(args, folder, progress)
+    except KeyboardInterrupt:
+        print(f"stopped: {go_on(folder, progress)}", file=sys.stderr)
+        raise
 
 
 if __name__ == "__main__":
-    try:
-        main()
-    except OSError as error:
-        end(3, f"failed: {error}")
+    run_tool(main)

@@ -2,13 +2,17 @@
 """Reads templates, schedules (with and without weights) and certificates (of both versions).
 
 Use: tuning_files.py FILE.. prints what each file is: a schedule or a certificate by its first
-record, anything else is read as a template. The other tools import it. It expects files that
-`cwtune` accepts, and says little of what is wrong with others.
+record, anything else is read as a template. The other tools import it. It refuses a file that is
+none of these, and `cwtune` says what is wrong with it.
 """
-import csv, itertools, pathlib, sys
+import csv, itertools, math, pathlib, re, sys
 from typing import NamedTuple
 
+from endings import Fault, run_tool
+
 HEADER = ["opponent", "position", "first"]
+BLANKS = b" \t\r"
+MOST_SETTINGS = 1000000
 
 
 class Fight(NamedTuple):
@@ -22,13 +26,14 @@ class Template:
     """The constants of a template and its settings; the first constant changes slowest."""
 
     def __init__(self, path):
-        lines = pathlib.Path(path).read_text("latin-1").split("\n")
-        ranges = [line.split() for line in lines if line.split()[:1] == [";@tune"] == [line[:6]]]
-        self.names = [words[1] for words in ranges]
-        numbers = [list(map(int, words[2:])) for words in ranges]
-        self.values = [range(low, high + 1, step) for low, high, step, _ in numbers]
+        lines = enumerate(pathlib.Path(path).read_bytes().split(b"\n"), 1)
+        ranges = [read_range(path, *line) for line in lines if is_range_line(line[1])]
+        self.names = [name for name, _, _ in ranges]
+        self.values = [values for _, values, _ in ranges]
+        if math.prod(map(len, self.values)) > MOST_SETTINGS:
+            raise Fault(f"{path}: more than {MOST_SETTINGS} settings")
         self.settings = list(itertools.product(*self.values))
-        self.start = self.settings.index(tuple(start for _, _, _, start in numbers))
+        self.start = self.settings.index(tuple(start for _, _, start in ranges))
 
     def constants(self, v):
         """Returns the values of setting v as the report says them."""
@@ -40,11 +45,28 @@ class Certificate:
     """The rows of a certificate. `rows[v]` is ("refused", None), ("same", u) or ("cap", points)."""
 
     def __init__(self, path):
-        (mark, version, count), (_, best, total), *records = read_records(path)
-        if mark != "cwcert" or version not in ("1", "2") or int(count) != len(records):
-            sys.exit(f"{path}: not a certificate")
-        self.version, self.best, self.total = int(version), int(best), int(total)
-        self.rows = [read_row(*record) for record in records]
+        try:
+            (mark, version, count), (second, best, total), *records = read_records(path)
+            self.version, self.best, self.total = int(version), int(best), int(total)
+            self.rows = [read_row(v, record) for v, record in enumerate(records)]
+            named = [self.best] + [rest for kind, rest in self.rows if kind == "same"]
+            good = int(count) == len(records) and all(map(self.has_fights, named))
+        except (ValueError, csv.Error):
+            good = False
+        if not good or (mark, second) != ("cwcert", "best") or version not in ("1", "2"):
+            raise Fault(f"{path}: not a certificate")
+
+    def has_fights(self, v):
+        """Returns whether there is a setting v, and its row lists fights."""
+        return 0 <= v < len(self.rows) and self.rows[v][0] == "cap"
+
+    def is_of(self, fights):
+        """Returns whether the certificate can be of these fights: the best setting played them
+        all, they give it its total, and no setting played another one."""
+        points = self.points(self.best)
+        listed = [rest for kind, rest in self.rows if kind == "cap"]
+        return (sorted(points) == list(range(len(fights))) and cap(points, fights) == self.total
+                and all(fight < len(fights) for rest in listed for fight in rest))
 
     def points(self, v):
         """Returns the points that setting v made, by fight, or None if it does not assemble."""
@@ -57,6 +79,22 @@ class Certificate:
         return rest if kind == "same" else v
 
 
+def is_range_line(line):
+    """Returns whether a line is `;@tune`, then a blank or the end of the line."""
+    return line[:6] == b";@tune" and line[6:7] in (b"", b" ", b"\t", b"\r")
+
+
+def read_range(path, number, line):
+    """Returns the name of a constant, its values, and the one of the start setting."""
+    words = re.split(rb"[ \t\r]+", line[6:].strip(BLANKS))
+    if len(words) == 5 and all(re.fullmatch(rb"-?[0-9]{1,5}", word) for word in words[1:]):
+        low, high, step, start = map(int, words[1:])
+        values = range(low, high + 1, step) if step > 0 else ()
+        if start in values:
+            return words[0].decode("latin-1"), values, start
+    raise Fault(f"{path}: line {number} is not a range")
+
+
 def read_records(path):
     """Returns the records of a comma-separated text; empty lines are not records."""
     with open(path, newline="", encoding="utf-8-sig") as file:
@@ -65,14 +103,27 @@ def read_records(path):
 
 def read_schedule(path):
     """Returns the fights of a schedule. Without the field `weight` each weight is 1."""
-    header, *records = read_records(path)
-    if header not in (HEADER, [*HEADER, "weight"]):
-        sys.exit(f"{path}: not a schedule")
-    return [Fight(int(opponent), int(position), first, int(*weight) if weight else 1)
-            for opponent, position, first, *weight in records]
+    try:
+        header, *records = read_records(path)
+        weights = header == [*HEADER, "weight"]
+        fights = [read_fight(record if weights else [*record, "1"]) for record in records]
+    except (ValueError, csv.Error):
+        header, fights = None, []
+    if not fights or not (weights or header == HEADER):
+        raise Fault(f"{path}: not a schedule")
+    return fights
 
 
-def read_row(kind, _, rest):
+def read_fight(record):
+    opponent, position, first, weight = record
+    return Fight(int(opponent), int(position), first, int(weight))
+
+
+def read_row(v, record):
+    """Returns the row of setting v, or raises a ValueError if the record is not one."""
+    kind, setting, rest = record
+    if kind not in ("cap", "same", "refused") or int(setting) != v:
+        raise ValueError
     if kind == "refused":
         return kind, None
     if kind == "same":
@@ -108,10 +159,10 @@ def describe(path):
 
 def main():
     if len(sys.argv) < 2 or sys.argv[1] in ("-h", "--help"):
-        sys.exit(print(__doc__.strip()))
+        return print(__doc__.strip())
     for path in sys.argv[1:]:
         print(f"{path}: {describe(path)}")
 
 
 if __name__ == "__main__":
-    main()
+    run_tool(main)

@@ -7,6 +7,7 @@ pub mod Constants
 pub mod Meaning
 pub mod Tunings
 pub mod Settings
+pub mod Templates
 pub mod Duels
 pub mod Plain
 pub mod Writable

@@ -11,6 +11,7 @@ pub mod Report
 pub mod TuneRun
 pub mod CheckRun
 pub mod SettingRun
+pub mod SettingsRun
 pub mod DuelRun
 pub mod PlainRun
 pub mod CommandLine

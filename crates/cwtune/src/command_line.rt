@@ -60,6 +60,10 @@ pub(crate) enum Request<'a> {
         file: &'a str,
         which: WhichSetting,
     },
+    // Says how many settings a template has, and what its constants are.
+    Settings {
+        file: &'a str,
+    },
     // Tunes a template; the search may remember `capacity` settings.
     Tune {
         words: TuneWords<'a>,
@@ -84,6 +88,10 @@ pub(crate) fn request_of<'a>(alloc: Global, words: &'a [String]) -> Result<Reque
     match matches.subcommand() {
         Some(("fight", found)) => fight_request(alloc, words, found),
         Some(("asm", found)) => asm_request(alloc, found),
+        Some(("settings", found)) => Ok(Request::Settings {
+            // `clap` requires the file.
+            file: found.get_str("TEMPLATE").unwrap_or(""),
+        }),
         Some(("tune", found)) => tune_request(alloc, found),
         Some(("check", found)) => Ok(Request::Check(tune_words(alloc, found)?)),
         _ => Ok(Request::Fight),
@@ -252,14 +260,27 @@ fn file<'a>(alloc: Global, name: &'a str, help: &'a str) -> Arg<'a> {
         .help(help)
 }
 
+// Makes the word TEMPLATE.
+fn template<'a>(alloc: Global) -> Arg<'a> {
+    let help =
+        "Redcode source with lines `;@tune NAME LOW HIGH STEP START`, one for each open constant";
+    file(alloc, "TEMPLATE", help)
+}
+
+fn settings<'a>(alloc: Global) -> Result<Command<'a>, AllocError> {
+    Command::new(alloc, "settings")
+        .about(
+            "Print how many settings a template has, and for each constant how many values, and its start",
+        )
+        .arg(template(alloc))
+}
+
 // Adds the files of a tuning and the options of the rules. `cert` is the help for CERT.
 fn with_files<'a>(
     alloc: Global,
     command: Command<'a>,
     cert: &'a str,
 ) -> Result<Command<'a>, AllocError> {
-    let template =
-        "Redcode source with lines `;@tune NAME LOW HIGH STEP START`, one for each open constant";
     let schedule =
         "Table of fights: the line `opponent,position,first`, then one such as `0,4000,c` for each; \
          with weights, `opponent,position,first,weight` and `0,4000,c,5`";
@@ -271,7 +292,7 @@ fn with_files<'a>(
     .num_args(1..)
     .action(ArgAction::Append);
     let command = command
-        .arg(file(alloc, "TEMPLATE", template))?
+        .arg(template(alloc))?
         .arg(file(alloc, "SCHEDULE", schedule))?
         .arg(file(alloc, "CERT", cert))?
         .arg(opponents)?
@@ -354,6 +375,7 @@ fn commands<'a>(alloc: Global, fight: Command<'a>) -> Result<Command<'a>, AllocE
     top_command(alloc)?
         .subcommand(fight)?
         .subcommand(asm(alloc)?)?
+        .subcommand(settings(alloc)?)?
         .subcommand(tune(alloc)?)?
         .subcommand(check(alloc)?)
 }

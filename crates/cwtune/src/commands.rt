@@ -6,6 +6,7 @@ mod duel;
 mod fight;
 mod plain_tune;
 mod setting;
+mod settings;
 mod tune;
 
 pub use asm::asm_run;
@@ -20,5 +21,7 @@ pub(crate) use plain_tune::plain_tune;
 pub use plain_tune::plain_tune_run;
 pub(crate) use setting::setting;
 pub use setting::setting_run;
+pub(crate) use settings::settings;
+pub use settings::settings_run;
 pub(crate) use tune::tune;
 pub use tune::{tune_part_run, tune_run};

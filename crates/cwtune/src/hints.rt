@@ -34,6 +34,7 @@ pub(crate) fn help_with<F: Files, V: Write>(
         Ok(Request::Setting { rules, file, which }) => {
             help_setting(rt, alloc, rules, file, which, err)
         }
+        Ok(Request::Settings { file }) => help_settings(rt, alloc, file, err),
         Ok(Request::Duel(words)) => help_duel(rt, alloc, &words, err),
         Ok(Request::Tune { words, capacity: _ }) => help_tuning(rt, alloc, &words, true, err),
         Ok(Request::TuneAll(words)) => help_tuning(rt, alloc, &words, true, err),
@@ -136,6 +137,24 @@ fn help_setting<F: Files, V: Write>(
     match template.instance(alloc, index, &rules) {
         Err(fault) => say_source(err, file, text.as_slice(), fault.line),
         Ok(_) => Ok(()),
+    }
+}
+
+// Writes the line of a file at which it is not a template, if it is not.
+fn help_settings<F: Files, V: Write>(
+    rt: &F,
+    alloc: Global,
+    file: &str,
+    err: &mut Outlet<V>,
+) -> Result<(), WriteFailed>
+    requires { err.old.failed ≡ false }
+{
+    let Ok(text) = read_file(rt, alloc, file) else {
+        return Ok(());
+    };
+    match template_of(alloc, text.as_slice()) {
+        Err(RunFault::Template(fault)) => say_source(err, file, text.as_slice(), fault.line),
+        _ => Ok(()),
     }
 }
 

@@ -22,6 +22,7 @@ mod progress_line;
 mod raw_rules;
 mod reading;
 mod report;
+mod settings_text;
 mod status;
 #[cfg(test)]
 mod tests;
@@ -29,7 +30,7 @@ mod which_setting;
 
 pub use commands::{
     asm_run, check_part_run, check_run, duel_run, fight_run, plain_tune_run, setting_run,
-    tune_part_run, tune_run,
+    settings_run, tune_part_run, tune_run,
 };
 pub use fault::RunFault;
 use progress_line::ProgressLine;

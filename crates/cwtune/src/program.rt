@@ -6,7 +6,7 @@ ghost use Rattle.cwtune.specs.CheckRun.{WritesVerdict};
 ghost use Rattle.cwtune.specs.CommandLine.{AskForFight};
 
 use crate::command_line::{Request, request_of};
-use crate::commands::{asm, check, duel, fight, plain_tune, setting, tune};
+use crate::commands::{asm, check, duel, fight, plain_tune, setting, settings, tune};
 use crate::fault::RunFault;
 use crate::fault_line::say_run;
 use crate::status::{DONE, FAILED, MISUSED, end_without_memory};
@@ -27,6 +27,7 @@ use tune_cert::{Silent, Watcher};
 ///   line of their fight.
 /// - `asm`: checks the rules, reads the Redcode file, and writes its load file, or that of one
 ///   setting of a template.
+/// - `settings`: reads the template, and writes the number of its settings and its constants.
 /// - `tune`: checks the rules, reads the template, the schedule and the opponents, opens or creates
 ///   the file of the certificate, finds the best setting, and writes the certificate, then the
 ///   report. A file that is another word's, or that has a text and is not a certificate, is not
@@ -102,6 +103,7 @@ pub(crate) fn watched_program<F: Files, R: Read, W: Write, V: Write, T: Watcher>
         Ok(Request::Setting { rules, file, which }) => {
             setting(rt, alloc, rules, file, which, out, err)
         }
+        Ok(Request::Settings { file }) => settings(rt, alloc, file, out, err),
         Ok(Request::Tune { words, capacity }) => {
             tune(rt, alloc, &words, capacity, watcher, out, err)
         }

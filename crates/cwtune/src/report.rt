@@ -47,7 +47,7 @@ pub(crate) fn report_of(
 
 // Appends the line of a word and a number.
 #[tactic(auto, unfolding(crate::specs::Report::number_line))]
-fn add_number(text: &mut Vec<u8>, word: &[u8], number: u32) -> Result<(), OutOfMemory>
+pub(crate) fn add_number(text: &mut Vec<u8>, word: &[u8], number: u32) -> Result<(), OutOfMemory>
     ensures { OnOk result (text.new.items ≡ text.old.items ++ number_line word.now number) }
 {
     text.extend_from_slice(word)?;

@@ -1,5 +1,4 @@
 //! Tests of the program against results worked out by hand.
-mod checking;
 mod command_line;
 mod duels;
 mod fault_lines;
@@ -7,6 +6,7 @@ mod memory;
 mod parts;
 mod plain_tunings;
 mod settings;
+mod settings_text;
 mod stand_ins;
 mod tuning;
 mod writers;

@@ -1,19 +1,36 @@
 //! Tests of `rc_expand` and `rc_asm`: texts, and their lines, load files or faults. What a run of
 //! `cwtune asm` shows of them is a case in `cases/asm.toml`.
+ghost use Rattle.rc_instr.specs.Warrior.{Fits};
+
 pub(crate) mod expansion;
 mod faults;
 mod name_tables;
-mod warriors;
 
-use rc_asm::{AsmFault, assemble};
+use rc_asm::{AsmFault, AsmKind, assemble};
 use rc_expand::Constants;
-use rc_instr::{Rules, write_loadfile};
+use rc_instr::{Rules, Warrior, write_loadfile};
 use std::alloc::Global;
 use std::test::Fail;
 
+pub(crate) fn load_of(alloc: Global, warrior: &Warrior, rules: &Rules) -> Result<Vec<u8>, Fail>
+    requires { Fits rules.now warrior.now }
+{
+    let mut text = Vec::new(alloc);
+    write_loadfile(alloc, warrior, rules, &mut text)?;
+    Ok(text)
+}
+
+// Returns the text of a fault. Out of memory is an error.
+pub(crate) fn text_of(alloc: Global, fault: AsmFault) -> Result<Vec<u8>, Fail> {
+    if fault.kind == AsmKind::OutOfMemory {
+        return Err(Fail::from(fault));
+    }
+    Ok(format!(in alloc; "{fault}")?.into_bytes())
+}
+
 // Assembles `source` under the standard rules with the constant K = 7. Returns the load file of its
-// warrior, or its fault.
-pub(crate) fn assembled(alloc: Global, source: &[u8]) -> Result<Result<Vec<u8>, AsmFault>, Fail> {
+// warrior, or the text of its fault.
+pub(crate) fn assembled(alloc: Global, source: &[u8]) -> Result<Vec<u8>, Fail> {
     let mut names = Vec::new(alloc);
     names.push(b"K".to_vec(alloc)?)?;
     let constants = Constants {
@@ -22,12 +39,8 @@ pub(crate) fn assembled(alloc: Global, source: &[u8]) -> Result<Result<Vec<u8>, 
     };
     let rules = Rules::standard();
     match assemble(alloc, source, &constants, &rules) {
-        Err(fault) => Ok(Err(fault)),
-        Ok(warrior) => {
-            let mut text = Vec::new(alloc);
-            write_loadfile(alloc, &warrior, &rules, &mut text)?;
-            Ok(Ok(text))
-        }
+        Ok(warrior) => load_of(alloc, &warrior, &rules),
+        Err(fault) => text_of(alloc, fault),
     }
 }
 

@@ -1,12 +1,14 @@
 //! Tests of `tune_cert`: certificates that are written, read and checked, and the texts of faults.
-ghost use Rattle.std.specs.Prelude.{◌≡◌, IfOk, length};
+ghost use Rattle.std.specs.Prelude.{◌≡◌, ◌<◌, ◌^◌, IfOk, length};
+ghost use Rattle.tune_cert.specs.Spelling.{IsVersion};
 
+use crate::instructions::outlets::outlet;
+use crate::instructions::texts::text_of;
 use crate::searches::inputs_of;
 use mars_fight::MOST_POINTS;
 use rc_instr::Outlet;
 use std::alloc::{AllocError, Global};
 use std::io;
-use std::io::Write;
 use std::test::Fail;
 use tune_cert::{
     CertFault, CheckFault, Found, Listing, ReadFault, Row, Rows, cert_version, fight_weight,
@@ -44,6 +46,16 @@ pub(crate) fn five_rows(alloc: Global) -> Result<Found, Fail>
     })
 }
 
+// Returns the certificate of what a search found.
+pub(crate) fn cert_of(alloc: Global, found: &Found) -> Result<Vec<u8>, Fail>
+    requires version { IsVersion found.now.version }
+    requires few { length found.now.rows < 2 ^ 32 }
+{
+    let mut out = Outlet::new(Vec::with_capacity(alloc, 256)?);
+    write_cert(alloc, found, &mut out)?;
+    Ok(out.into_inner())
+}
+
 #[test]
 fn a_certificate_is_read(rt: HostRuntime) -> Result<(), Fail> {
     let cert = read_cert(rt.alloc(), FIVE)?;
@@ -67,20 +79,24 @@ fn a_certificate_is_read(rt: HostRuntime) -> Result<(), Fail> {
 }
 
 #[test]
-fn lists_are_handed_back(rt: HostRuntime) -> Result<(), Fail> {
+fn a_listing_is_handed_back(rt: HostRuntime) -> Result<(), Fail> {
     let listing = Listing::from_vec([(0, 3), (4, 1)].to_vec(rt.alloc())?);
     assert_eq!(rt; listing.into_vec().as_slice(), [(0, 3), (4, 1)].as_slice());
-    assert_eq!(rt; five_rows(rt.alloc())?.rows.into_vec().len(), 5);
     Ok(())
+}
+
+fn copies_of(alloc: Global, rows: &[Row]) -> Result<Vec<Row>, AllocError> {
+    let mut copies = Vec::new(alloc);
+    for row in rows {
+        copies.push(row.copy(alloc)?)?;
+    }
+    Ok(copies)
 }
 
 #[test]
 fn rows_are_copied(rt: HostRuntime) -> Result<(), Fail> {
     let rows = five_rows(rt.alloc())?.rows.into_vec();
-    let mut copies = Vec::new(rt.alloc());
-    for row in rows.as_slice() {
-        copies.push(row.copy(rt.alloc())?)?;
-    }
+    let copies = copies_of(rt.alloc(), rows.as_slice())?;
     match copies.as_slice() {
         [
             Row::Refused,
@@ -101,54 +117,23 @@ fn rows_are_copied(rt: HostRuntime) -> Result<(), Fail> {
 fn inputs_say_what_a_certificate_counts(rt: HostRuntime) -> Result<(), Fail> {
     let inputs = inputs_of(rt.alloc(), b"MOV 0, 1")?;
     assert_eq!(rt; greatest_total(&inputs), 2 * MOST_POINTS);
-    assert_eq!(rt; (cert_version(&inputs), fight_weight(&inputs, 1)), (1, 1));
+    assert_eq!(rt; cert_version(&inputs), 1);
+    assert_eq!(rt; fight_weight(&inputs, 1), 1);
     Ok(())
 }
 
-// The most bytes that a `Failing` takes at a write.
+// The most bytes that a writer takes at a call.
 const PIECE: usize = 7;
 
-// Takes up to `PIECE` bytes at each of its first writes. Then each write fails, or takes no byte.
-#[derive(Drop)]
-struct Failing {
-    taken: Vec<u8>,
-    writes: usize,
-    fails: bool,
-}
-
-impl Write for Failing {
-    fn write(&mut self, buf: &[u8]) -> io::Result<usize> {
-        if self.writes == 0 {
-            return if self.fails {
-                Err(io::Error::from(io::ErrorKind::BrokenPipe))
-            } else {
-                Ok(0)
-            };
-        }
-        self.writes -= 1;
-        let count = buf.len().min(PIECE);
-        self.taken.extend_from_slice(&buf[..count])?;
-        Ok(count)
-    }
-
-    fn flush(&mut self) -> io::Result<()> {
-        Ok(())
-    }
-}
-
-// Writes the certificate of `five_rows` on a writer that takes this many writes. Returns the
-// result, and what the writer took.
+// Writes the certificate of `five_rows`. Call `bad_call` of the writer fails with `kind`, or takes
+// no byte if there is none. Returns the result, and what the writer took.
 fn cut(
     alloc: Global,
-    writes: usize,
-    fails: bool,
+    bad_call: u32,
+    kind: Option<io::ErrorKind>,
 ) -> Result<(Result<(), CertFault>, Vec<u8>), Fail> {
     let found = five_rows(alloc)?;
-    let mut out = Outlet::new(Failing {
-        taken: Vec::new(alloc),
-        writes,
-        fails,
-    });
+    let mut out = outlet(alloc, PIECE, bad_call, kind);
     let result = write_cert(alloc, &found, &mut out);
     Ok((result, out.into_inner().taken))
 }
@@ -156,17 +141,17 @@ fn cut(
 // A certificate of 95 bytes, cut after each piece.
 #[test]
 fn a_write_failure_is_reported(rt: HostRuntime) -> Result<(), Fail> {
-    for writes in 0..15usize {
-        for fails in [true, false] {
-            let (result, bytes) = cut(rt.alloc(), writes, fails)?;
-            let most = writes.saturating_mul(PIECE).min(FIVE.len());
-            assert_eq!(rt; bytes.as_slice(), &FIVE[..most], "{writes}");
+    for pieces in 0..15u32 {
+        for kind in [Some(io::ErrorKind::BrokenPipe), None] {
+            let (result, bytes) = cut(rt.alloc(), pieces + 1, kind)?;
+            let most = (pieces as usize).saturating_mul(PIECE).min(FIVE.len());
+            assert_eq!(rt; bytes.as_slice(), &FIVE[..most], "{pieces}");
             let want = if most < FIVE.len() {
                 Err(CertFault::Write)
             } else {
                 Ok(())
             };
-            assert_eq!(rt; result, want, "{writes}");
+            assert_eq!(rt; result, want, "{pieces}");
         }
     }
     Ok(())
@@ -174,15 +159,24 @@ fn a_write_failure_is_reported(rt: HostRuntime) -> Result<(), Fail> {
 
 #[test]
 fn texts_of_faults(rt: HostRuntime) -> Result<(), Fail> {
-    let write = format!(in rt.alloc(); "{}", CertFault::Write)?;
+    let write = text_of(rt.alloc(), &CertFault::Write)?;
     assert_eq!(rt; write.as_str(), "cannot write the certificate");
-    let memory = format!(in rt.alloc(); "{}", CertFault::OutOfMemory)?;
-    assert_eq!(rt; memory.as_str(), "out of memory");
-    let row = format!(in rt.alloc(); "{}", ReadFault::Malformed { row: 3 })?;
-    assert_eq!(rt; row.as_str(), "record 3 of the certificate is malformed");
-    let unread = format!(in rt.alloc(); "{}", ReadFault::OutOfMemory)?;
-    assert_eq!(rt; unread.as_str(), "out of memory");
-    let unchecked = format!(in rt.alloc(); "{}", CheckFault::OutOfMemory)?;
-    assert_eq!(rt; unchecked.as_str(), "out of memory");
+    let malformed = text_of(rt.alloc(), &ReadFault::Malformed { row: 3 })?;
+    assert_eq!(rt;
+        malformed.as_str(),
+        "record 3 of the certificate is malformed"
+    );
+    assert_eq!(rt;
+        text_of(rt.alloc(), &CertFault::OutOfMemory)?.as_str(),
+        "out of memory"
+    );
+    assert_eq!(rt;
+        text_of(rt.alloc(), &ReadFault::OutOfMemory)?.as_str(),
+        "out of memory"
+    );
+    assert_eq!(rt;
+        text_of(rt.alloc(), &CheckFault::OutOfMemory)?.as_str(),
+        "out of memory"
+    );
     Ok(())
 }

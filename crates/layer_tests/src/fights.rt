@@ -3,7 +3,7 @@
 use crate::opponents::IMP;
 use mars_core::{Arena, PackedCells, Side};
 use mars_fight::{Fight, Schedule, ScheduleFault, ScheduleFaultKind as Kind, play};
-use rc_instr::{Instruction, Rules, read_loadfile};
+use rc_instr::{Rules, read_loadfile};
 use std::alloc::{AllocError, Global};
 use std::test::Fail;
 
@@ -27,7 +27,8 @@ fn a_schedule_is_read_and_fits(rt: HostRuntime) -> Result<(), Fail> {
         },
     ];
     assert_eq!(rt; schedule.fights(), fights.as_slice());
-    for (core, distance, opponents, want) in [
+    assert_eq!(rt; (schedule.plain(), schedule.greatest()), (true, 6));
+    for &(core, distance, opponents, want) in &[
         (16, 4, 2, true),
         (16, 4, 64, true),
         (16, 4, 1, false),
@@ -49,10 +50,6 @@ fn a_schedule_is_read_and_fits(rt: HostRuntime) -> Result<(), Fail> {
     Ok(())
 }
 
-fn fault(row: u64, kind: Kind) -> Option<ScheduleFault> {
-    Some(ScheduleFault { row, kind })
-}
-
 // Returns the header, `fights` equal records, and `last`.
 fn long_text(alloc: Global, fights: u32, last: &str) -> Result<String, AllocError> {
     let mut text = String::new(alloc);
@@ -64,23 +61,23 @@ fn long_text(alloc: Global, fights: u32, last: &str) -> Result<String, AllocErro
     Ok(text)
 }
 
+// The row and the kind of the fault after some records `0,8,c`: 0 and `OutOfMemory` mean no fault.
 #[test]
 fn a_schedule_has_at_most_ten_thousand_fights(rt: HostRuntime) -> Result<(), Fail> {
     let rules = Rules::try_new(16, 20, 4, 4, 4)?;
-    for (fights, last, want) in [
-        (9999, "1,8,o", None),
-        (10_000, "", None),
-        (10_000, "1,8,o", fault(10_001, Kind::TooMany)),
-        (10_000, "x", fault(10_001, Kind::TooMany)),
-        (
-            9999,
-            "0,3,c\n0,8,c\n0,8,c\n",
-            fault(10_000, Kind::BadPosition),
-        ),
+    for &(fights, last, row, kind) in &[
+        (9999, "1,8,o", 0, Kind::OutOfMemory),
+        (10_000, "", 0, Kind::OutOfMemory),
+        (10_000, "1,8,o", 10_001, Kind::TooMany),
+        (10_000, "x", 10_001, Kind::TooMany),
+        (9999, "0,3,c\n0,8,c\n0,8,c\n", 10_000, Kind::BadPosition),
     ] {
         let text = long_text(rt.alloc(), fights, last)?;
-        let found = Schedule::read(rt.alloc(), text.as_bytes(), 2, &rules).err();
-        assert_eq!(rt; found, want, "{fights} {last:?}");
+        let found = match Schedule::read(rt.alloc(), text.as_bytes(), 2, &rules) {
+            Ok(_) => (0, Kind::OutOfMemory),
+            Err(fault) => (fault.row, fault.kind),
+        };
+        assert_eq!(rt; found, (row, kind), "{fights} {last:?}");
     }
     Ok(())
 }
@@ -88,26 +85,9 @@ fn a_schedule_has_at_most_ten_thousand_fights(rt: HostRuntime) -> Result<(), Fai
 #[test]
 fn a_schedule_may_have_weights(rt: HostRuntime) -> Result<(), Fail> {
     let rules = Rules::try_new(16, 20, 4, 4, 4)?;
-    for (text, plain, greatest) in [
-        ("opponent,position,first\n0,8,c\n1,11,o\n", true, 6),
-        (
-            "opponent,position,first,weight\n0,8,c,1\n1,11,o,001\n",
-            true,
-            6,
-        ),
-        (
-            "opponent,position,first,weight\n0,8,c,2\n1,11,o,1000\n",
-            false,
-            3006,
-        ),
-    ] {
-        let schedule = Schedule::read(rt.alloc(), text.as_bytes(), 2, &rules)?;
-        assert_eq!(rt;
-            (schedule.plain(), schedule.greatest()),
-            (plain, greatest),
-            "{text}"
-        );
-    }
+    let text = "opponent,position,first,weight\n0,8,c,2\n1,11,o,1000\n";
+    let schedule = Schedule::read(rt.alloc(), text.as_bytes(), 2, &rules)?;
+    assert_eq!(rt; (schedule.plain(), schedule.greatest()), (false, 3006));
     Ok(())
 }
 
@@ -124,27 +104,15 @@ fn one_arena_for_many_fights(rt: HostRuntime) -> Result<(), Fail> {
     let imp = read_loadfile(rt.alloc(), IMP, &rules)?;
     let lowers_a_cell = read_loadfile(rt.alloc(), b"ORG 0\nMOV.I $0, <1\nDAT.F $0, $4\n", &rules)?;
     let mut arena = Arena::<PackedCells>::try_new(rt.alloc(), &rules)?;
-    let first = play(&mut arena, &imp, &imp, &AT_EIGHT);
-    let second = play(&mut arena, &imp, &imp, &AT_EIGHT);
-    assert_eq!(rt; (first, second), (1, 1));
+    assert_eq!(rt; play(&mut arena, &imp, &imp, &AT_EIGHT), 1);
     play(&mut arena, &lowers_a_cell, &imp, &AT_EIGHT);
-    for at in 0..16 {
-        assert_eq!(rt; arena.cell(at), Instruction::empty(), "at {at}");
-    }
-    let counts = (
-        arena.task_count(Side::Candidate),
-        arena.task_count(Side::Opponent),
-        arena.turns(),
-    );
-    assert_eq!(rt; counts, (0, 0, 0));
-    let third = play(&mut arena, &imp, &imp, &AT_EIGHT);
-    assert_eq!(rt; third, 1);
+    assert_eq!(rt; play(&mut arena, &imp, &imp, &AT_EIGHT), 1);
     Ok(())
 }
 
 #[test]
 fn texts_of_faults(rt: HostRuntime) -> Result<(), Fail> {
-    for (kind, want) in [
+    for &(kind, want) in &[
         (
             Kind::Header,
             "record 7: first record must be opponent,position,first or opponent,position,first,weight",

@@ -2,6 +2,6 @@
 mod instructions;
 mod loadfiles;
 mod numbers;
-mod outlets;
-mod texts;
+pub(crate) mod outlets;
+pub(crate) mod texts;
 mod warriors;

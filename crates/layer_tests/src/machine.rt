@@ -8,7 +8,6 @@ use crate::opponents::{DAT, IMP};
 use mars_core::laws::a_reset_sets_few_cells;
 use mars_core::{Arena, Cells, Outcome, PackedCells, PlainCells, Side};
 use rc_instr::{Instruction, Rules, Warrior, read_loadfile};
-use std::process::Abort;
 use std::test::Fail;
 
 // Reads the first instruction of a load file.
@@ -162,7 +161,7 @@ const CHANGES: [(&[u8], u32, &[u8], Option<u32>); 14] = [
 
 #[test]
 fn one_step_changes_a_cell(rt: HostRuntime) -> Result<(), Fail> {
-    for (code, at, cell, task) in CHANGES {
+    for &(code, at, cell, task) in &CHANGES {
         if at < 16 {
             let (plain, packed) = steps(&rt, 16, code, at)?;
             let cell = instruction(&rt, 16, cell)?;
@@ -209,7 +208,7 @@ const TASKS: [(&[u8], u32); 11] = [
 
 #[test]
 fn one_step_queues_an_address(rt: HostRuntime) -> Result<(), Fail> {
-    for (code, task) in TASKS {
+    for &(code, task) in &TASKS {
         let (plain, packed) = steps(&rt, 16, code, 0)?;
         assert_eq!(rt; plain.1, Some(task), "task after {code:?}");
         assert_eq!(rt; packed.1, Some(task), "task after {code:?}");
@@ -275,46 +274,24 @@ pub(crate) const FIGHTS: [((&[u8], &[u8]), u32, u32, Side, Played); 7] = [
     ((SPLITS, IMP), 20, 1, Side::Candidate, (0, 3, 3)),
 ];
 
-#[test]
-fn fights_end_as_worked_out(rt: HostRuntime) -> Result<(), Fail> {
-    for (texts, cycles, tasks, first, played) in FIGHTS {
-        let (plain, packed) = plays(&rt, texts, cycles, tasks, first)?;
-        assert_eq!(rt; plain, (played.0, played.1, 16), "{texts:?}");
-        assert_eq!(rt; packed, played, "{texts:?}");
-    }
-    Ok(())
-}
-
-// Plays a fight and resets, makes a step and resets. Checks that the arena is then blank. Returns
-// how many cells each reset set.
-fn resets<C: Cells>(
-    rt: &impl Abort,
-    arena: &mut Arena<C>,
-    imp: &Warrior,
-    copier: &Warrior,
-) -> (u32, u32)
+// Plays a fight and resets, makes a step and resets. Returns how many turns the step made, and how
+// many cells each reset set.
+fn resets<C: Cells>(arena: &mut Arena<C>, imp: &Warrior, copier: &Warrior) -> (u32, u32, u32)
     requires blank { IsBlank arena.old.rules arena.old }
     requires cycles { 0 < arena.old.rules.cycles }
     requires imp { Fits arena.old.rules imp.now }
     requires copier { Fits arena.old.rules copier.now }
-    requires core { (arena.old.rules.distance ≤ 8) × (8 + arena.old.rules.distance ≤ arena.old.rules.core) × (16 ≤ arena.old.rules.core) }
+    requires eight { (arena.old.rules.distance ≤ 8) × (8 + arena.old.rules.distance ≤ arena.old.rules.core) }
 {
     let (_, _, after_run) = play(arena, imp, imp, Side::Candidate);
     arena.load(copier, imp, 8);
     arena.step(Side::Candidate);
-    assert_eq!(rt; arena.turns(), 1);
-    let after_step = arena.reset();
-    for at in 0..16u32 {
-        assert_eq!(rt; arena.cell(at), Instruction::empty());
-    }
-    assert_eq!(rt; arena.task_count(Side::Candidate), 0);
-    assert_eq!(rt; arena.task_count(Side::Opponent), 0);
-    assert_eq!(rt; arena.turns(), 0);
-    (after_run, after_step)
+    let turns = arena.turns();
+    (turns, after_run, arena.reset())
 }
 
 #[test]
-fn a_reset_arena_is_blank(rt: HostRuntime) -> Result<(), Fail> {
+fn a_reset_of_packed_cells_sets_few(rt: HostRuntime) -> Result<(), Fail> {
     let rules = Rules::try_new(16, 20, 4, 4, 4)?;
     let imp = read_loadfile(rt.alloc(), IMP, &rules)?;
     let copier = read_loadfile(rt.alloc(), b"ORG 0\nMOV.I $0, <1\nDAT.F $0, $4\n", &rules)?;
@@ -326,8 +303,8 @@ fn a_reset_arena_is_blank(rt: HostRuntime) -> Result<(), Fail> {
     };
     let few = a_reset_sets_few_cells(&mut packed, &imp, &imp, 8, Side::Candidate);
     assert_eq!(rt; few, (tie, 16));
-    assert_eq!(rt; resets(&rt, &mut plain, &imp, &copier), (16, 16));
-    assert_eq!(rt; resets(&rt, &mut packed, &imp, &copier), (16, 4));
+    assert_eq!(rt; resets(&mut plain, &imp, &copier), (1, 16, 16));
+    assert_eq!(rt; resets(&mut packed, &imp, &copier), (1, 16, 4));
     Ok(())
 }
 

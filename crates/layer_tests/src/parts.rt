@@ -8,19 +8,15 @@ use std::alloc::Global;
 use std::test::Fail;
 use tune_template::{Inputs, Part, Template};
 
-// Parts of six settings, of which the search begins with the fifth: number and parts; and the count
-// of settings, the index of the start setting and the first setting, if there is such a part.
-const PARTS: [(u32, u32, Option<(u32, u32, [i64; 2])>); 10] = [
-    (1, 1, Some((6, 4, [0, 5]))),
-    (1, 2, Some((3, 0, [0, 5]))),
-    (2, 2, Some((3, 1, [1, 6]))),
-    (2, 4, Some((2, 0, [0, 6]))),
-    (4, 4, Some((2, 0, [2, 5]))),
-    (6, 6, Some((1, 0, [2, 6]))),
-    (0, 2, None),
-    (3, 2, None),
-    (1, 7, None),
-    (0, 0, None),
+// Parts of six settings, of which the search begins with the fifth: number and parts; the count of
+// settings, the index of the start setting, and the first setting.
+const PARTS: [(u32, u32, u32, u32, [i64; 2]); 6] = [
+    (1, 1, 6, 4, [0, 5]),
+    (1, 2, 3, 0, [0, 5]),
+    (2, 2, 3, 1, [1, 6]),
+    (2, 4, 2, 0, [0, 6]),
+    (4, 4, 2, 0, [2, 5]),
+    (6, 6, 1, 0, [2, 6]),
 ];
 
 fn six_settings(alloc: Global) -> Result<Inputs, Fail> {
@@ -31,24 +27,27 @@ fn six_settings(alloc: Global) -> Result<Inputs, Fail> {
     Ok(Inputs::new(template, opponents, schedule, rules))
 }
 
+// Whether a part has this count of settings, this start setting and this first setting.
+fn is_as(part: &Inputs, count: u32, start: u32, first: [i64; 2]) -> bool {
+    prove!(0 < part.count());
+    (part.count(), part.start_number()) == (count, start)
+        && part.vector(0).as_slice() == first.as_slice()
+}
+
 #[test]
 fn parts_have_their_settings(rt: HostRuntime) -> Result<(), Fail> {
-    for (number, parts, want) in PARTS {
-        let inputs = six_settings(rt.alloc())?;
-        let found = match inputs.part(Part { number, parts }) {
-            None => None,
-            Some(part) => {
-                prove!(0 < part.count());
-                let first = part.vector(0);
-                assert_eq!(rt; first.as_slice().len(), 2);
-                Some((
-                    part.count(),
-                    part.start_number(),
-                    [first.as_slice()[0], first.as_slice()[1]],
-                ))
-            }
-        };
-        assert_eq!(rt; found, want, "{number}/{parts}");
+    for &(number, parts, count, start, first) in &PARTS {
+        match six_settings(rt.alloc())?.part(Part { number, parts }) {
+            Some(part) => assert!(rt; is_as(&part, count, start, first), "{number}/{parts}"),
+            None => assert!(rt; false, "{number}/{parts}"),
+        }
+    }
+    for &(number, parts) in &[(0, 2), (3, 2), (1, 7), (0, 0)] {
+        assert!(rt;
+            six_settings(rt.alloc())?
+                .part(Part { number, parts })
+                .is_none()
+        );
     }
     Ok(())
 }

@@ -47,15 +47,19 @@ fn after(settings: u32, count: u32, fights: u64, best: Option<Best>) -> Option<S
 fn a_search_tells_how_far_it_is(rt: HostRuntime) -> Result<(), Fail> {
     let inputs = inputs_of(rt.alloc(), THREE)?;
     let mut notes = Notes::new();
-    let _ = watched_search(rt.alloc(), &inputs, 1, &mut notes)?;
+    watched_search(rt.alloc(), &inputs, 1, &mut notes)?;
     let best = Some(Best {
         vector: 1,
         total: 4,
     });
+    let want = [
+        after(1, 3, 2, best),
+        after(2, 3, 2, best),
+        after(3, 3, 3, best),
+        None,
+    ];
+    assert_eq!(rt; notes.standings, want);
     assert_eq!(rt; notes.count, 3);
-    assert_eq!(rt; notes.standings[0], after(1, 3, 2, best));
-    assert_eq!(rt; notes.standings[1], after(2, 3, 2, best));
-    assert_eq!(rt; notes.standings[2], after(3, 3, 3, best));
     Ok(())
 }
 
@@ -64,15 +68,19 @@ fn a_search_tells_how_far_it_is(rt: HostRuntime) -> Result<(), Fail> {
 fn a_plain_search_tells_how_far_it_is(rt: HostRuntime) -> Result<(), Fail> {
     let inputs = inputs_of(rt.alloc(), THREE)?;
     let mut notes = Notes::new();
-    let _ = watched_plain_search(rt.alloc(), &inputs, &mut notes)?;
+    watched_plain_search(rt.alloc(), &inputs, &mut notes)?;
     let best = Some(Best {
         vector: 1,
         total: 4,
     });
+    let want = [
+        after(1, 3, 0, None),
+        after(2, 3, 2, best),
+        after(3, 3, 4, best),
+        None,
+    ];
+    assert_eq!(rt; notes.standings, want);
     assert_eq!(rt; notes.count, 3);
-    assert_eq!(rt; notes.standings[0], after(1, 3, 0, None));
-    assert_eq!(rt; notes.standings[1], after(2, 3, 2, best));
-    assert_eq!(rt; notes.standings[2], after(3, 3, 4, best));
     Ok(())
 }
 
@@ -88,10 +96,13 @@ fn a_check_tells_how_far_it_is(rt: HostRuntime) -> Result<(), Fail> {
         vector: 0,
         total: 4,
     });
+    let want = [
+        after(1, 4, 2, best),
+        after(2, 4, 4, best),
+        after(3, 4, 4, best),
+        after(4, 4, 4, best),
+    ];
+    assert_eq!(rt; notes.standings, want);
     assert_eq!(rt; notes.count, 4);
-    assert_eq!(rt; notes.standings[0], after(1, 4, 2, best));
-    assert_eq!(rt; notes.standings[1], after(2, 4, 4, best));
-    assert_eq!(rt; notes.standings[2], after(3, 4, 4, best));
-    assert_eq!(rt; notes.standings[3], after(4, 4, 4, best));
     Ok(())
 }

@@ -16,5 +16,6 @@ mod vector;
 pub use fault::{TemplateFault, TemplateKind};
 pub use inputs::Inputs;
 pub use part::Part;
+pub use span::Span;
 pub use template::Template;
 pub use vector::Vector;

@@ -6,14 +6,14 @@ ghost use Rattle.tune_template.specs.Steps.{HasValues};
 
 use crate::fault::TemplateKind;
 
-// The values `low`, `low + step`, .., `count` of them, and the index `start` of the one with which
-// a search begins.
+/// The values of a constant: `low`, `low + step`, .., `count` of them. A search begins with the one
+/// at index `start`.
 #[derive(Clone, Copy, Debug)]
-pub(crate) struct Span {
-    pub(crate) low: i32,
-    pub(crate) step: u16,
-    pub(crate) count: u32,
-    pub(crate) start: u32,
+pub struct Span {
+    pub low: i32,
+    pub step: u16,
+    pub count: u32,
+    pub start: u32,
 }
 
 impl Span {
@@ -49,8 +49,8 @@ impl Span {
         })
     }
 
-    // Returns the value at an index.
-    pub(crate) fn value_at(&self, index: u32) -> i64
+    /// Returns the value at `index`, counted from 0.
+    pub fn value_at(&self, index: u32) -> i64
         ensures { result ≡ span_value self.now index }
     {
         i64::from(self.low) + i64::from(index) * i64::from(self.step)

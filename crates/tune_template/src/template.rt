@@ -133,6 +133,13 @@ impl Template {
         self.names.as_slice()
     }
 
+    /// Returns the values of each constant, in the order of the lines.
+    pub fn spans(&self) -> &[Span]
+        ensures { result.now ≡ self.now.ranges.spans }
+    {
+        self.spans.as_slice()
+    }
+
     /// Assembles the text with the values of setting `number`, which must be below `count`.
     ///
     /// Fails as `rc_asm::assemble` does for the text with these values.

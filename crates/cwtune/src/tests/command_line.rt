@@ -26,7 +26,7 @@ const UNWRITTEN: [(&[&str], &[u8], u8); 4] = [
 
 #[test]
 fn a_write_failure_on_standard_error_changes_nothing(rt: HostRuntime) -> Result<(), Fail> {
-    for (given, input, status) in UNWRITTEN {
+    for &(given, input, status) in &UNWRITTEN {
         let words = words_of(rt.alloc(), given)?;
         let mut rest = input;
         let got = program(
@@ -52,7 +52,7 @@ fn unreadable_arguments_are_reported(rt: HostRuntime) {
         ),
         (io::ErrorKind::OutOfMemory, 3, "failed: OutOfMemory\n"),
     ];
-    for (kind, status, line) in table {
+    for &(kind, status, line) in &table {
         let mut err = Outlet::new(Vec::new(rt.alloc()));
         assert_eq!(rt; end_without_words(&mut err, &io::Error::from(kind)), status);
         assert_eq!(rt; err.into_inner().as_slice(), line.as_bytes());

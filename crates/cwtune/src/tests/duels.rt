@@ -21,7 +21,7 @@ const DUELS: [(&[u8], Side, &[u8]); 3] = [
 #[test]
 fn a_duel_is_played(rt: HostRuntime) -> Result<(), Fail> {
     let rules = Rules::try_new(16, 20, 4, 4, 4)?;
-    for (candidate, first, line) in DUELS {
+    for &(candidate, first, line) in &DUELS {
         let mut out = Outlet::new(Vec::new(rt.alloc()));
         let played = duel_run(rt.alloc(), candidate, DAT, &rules, 8, first, &mut out);
         assert_eq!(rt; played, Ok(()));

@@ -114,7 +114,7 @@ const TEXTS: [(RunFault, &str); 14] = [
 
 #[test]
 fn the_line_of_a_fault_names_its_variants(rt: HostRuntime) {
-    for (fault, line) in RUNS {
+    for &(fault, line) in &RUNS {
         let mut err = Outlet::new(Vec::new(rt.alloc()));
         assert!(rt; say_run(&mut err, fault).is_ok());
         assert_eq!(rt; err.into_inner().as_slice(), line.as_bytes(), "{fault:?}");
@@ -123,7 +123,7 @@ fn the_line_of_a_fault_names_its_variants(rt: HostRuntime) {
 
 #[test]
 fn the_line_of_an_assembly_fault_has_its_line_and_names(rt: HostRuntime) {
-    for (kind, line) in ASSEMBLIES {
+    for &(kind, line) in &ASSEMBLIES {
         let mut err = Outlet::new(Vec::new(rt.alloc()));
         let fault = RunFault::Asm(AsmFault { line: 0, kind });
         assert!(rt; say_run(&mut err, fault).is_ok());
@@ -133,7 +133,7 @@ fn the_line_of_an_assembly_fault_has_its_line_and_names(rt: HostRuntime) {
 
 #[test]
 fn faults_have_texts(rt: HostRuntime) -> Result<(), Fail> {
-    for (fault, want) in TEXTS {
+    for &(fault, want) in &TEXTS {
         let text = format!(in rt.alloc(); "{fault}")?;
         assert_eq!(rt; text.as_str(), want);
     }

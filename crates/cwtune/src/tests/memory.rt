@@ -11,10 +11,7 @@ ghost use Rattle.tune_search.specs.Limits.{MOST_CAPACITY};
 use crate::program::program;
 use crate::tests::tuning::{BOTH, ORDER, ORDER_CERT, ORDER_REPORT, both_opponents};
 use crate::{RunFault, asm_run, check_run, fight_run, tune_run};
-use rc_asm::{AsmFault, AsmKind};
-use rc_expand::ExpandKind;
 use rc_instr::{Outlet, Rules};
-use rc_text::{EvalFault, LexFault};
 use std::alloc::{AllocError, Global};
 use std::test::Fail;
 
@@ -28,54 +25,59 @@ fn outlet(alloc: Global) -> Result<Outlet<Vec<u8>>, AllocError>
 const POSTED: &[u8] =
     b"From: a mail header\n;redcode-94\n;name Dwarf\n;author A. K. Dewdney\n;assert CORESIZE % 4 == 0\nstep EQU 4\n  ORG start\nbomb DAT #0, #0\nstart ADD #step, bomb\n  MOV bomb, @bomb\n  JMP start\n  END\n";
 
-// Texts, and their load files or their faults, which are at line 1.
-const ASSEMBLIES: [(&[u8], Result<&[u8], AsmKind>); 12] = [
-    (b"s EQU 2+3\nDAT #0, #s*2\n", Ok(b"ORG 0\nDAT.F #0, #8\n")),
-    (b"DAT #-7/2\n", Ok(b"ORG 0\nDAT.F $0, #-3\n")),
+// Returns what a run wrote, or the text of its fault. A refused run has to have written nothing. Out
+// of memory is an error.
+fn outcome(
+    alloc: Global,
+    ended: Result<(), RunFault>,
+    written: Outlet<Vec<u8>>,
+) -> Result<Vec<u8>, Fail> {
+    let bytes = written.into_inner();
+    let Err(fault) = ended else {
+        return Ok(bytes);
+    };
+    if !bytes.is_empty() {
+        return Err(Fail::from("a refused run wrote something"));
+    }
+    if fault == RunFault::OutOfMemory {
+        return Err(Fail::from(fault));
+    }
+    Ok(format!(in alloc; "{fault}")?.into_bytes())
+}
+
+// Texts, and their load files or their faults.
+const ASSEMBLIES: [(&[u8], &[u8]); 12] = [
+    (b"s EQU 2+3\nDAT #0, #s*2\n", b"ORG 0\nDAT.F #0, #8\n"),
+    (b"DAT #-7/2\n", b"ORG 0\nDAT.F $0, #-3\n"),
     (
         b"i FOR 2\nx&i DAT #i\nROF\nJMP x01\n",
-        Ok(b"ORG 0\nDAT.F $0, #1\nDAT.F $0, #2\nJMP.B $-2, $0\n"),
+        b"ORG 0\nDAT.F $0, #1\nDAT.F $0, #2\nJMP.B $-2, $0\n",
     ),
     (
         POSTED,
-        Ok(b"ORG 1\nDAT.F #0, #0\nADD.AB #4, $-1\nMOV.I $-2, @-2\nJMP.B $-2, $0\n"),
+        b"ORG 1\nDAT.F #0, #0\nADD.AB #4, $-1\nMOV.I $-2, @-2\nJMP.B $-2, $0\n",
     ),
-    (b"MOV 1\n", Err(AsmKind::MissingOperand)),
-    (b"DAT 1/0\n", Err(AsmKind::Value(EvalFault::DivisionByZero))),
-    (b"FOR 3\n", Err(AsmKind::Expand(ExpandKind::ForWithoutRof))),
-    (
-        b"DAT 4294967296\n",
-        Err(AsmKind::Expand(ExpandKind::Text(LexFault::NumberTooLarge))),
-    ),
-    (b"MOV 1, 2, 3\n", Err(AsmKind::ExtraText)),
-    (b"DAT x\n", Err(AsmKind::Value(EvalFault::UnknownName))),
-    (b"DAT 1 +\n", Err(AsmKind::Value(EvalFault::Syntax))),
-    (b"PIN 5\n", Err(AsmKind::UnknownOpcode)),
+    (b"MOV 1\n", b"line 1: missing operand"),
+    (b"DAT 1/0\n", b"line 1: division by zero"),
+    (b"FOR 3\n", b"line 1: FOR without ROF"),
+    (b"DAT 4294967296\n", b"line 1: number above 4294967295"),
+    (b"MOV 1, 2, 3\n", b"line 1: too many operands"),
+    (b"DAT x\n", b"line 1: unknown name"),
+    (b"DAT 1 +\n", b"line 1: invalid expression"),
+    (b"PIN 5\n", b"line 1: unknown opcode or modifier"),
 ];
 
-// Whether a run was out of memory and wrote nothing.
-fn is_refused(ended: Result<(), RunFault>, bytes: &[u8]) -> bool {
-    ended == Err(RunFault::OutOfMemory) && bytes.is_empty()
+fn assembled(alloc: Global, text: &[u8]) -> Result<Vec<u8>, Fail> {
+    let rules = Rules::try_new(16, 20, 4, 4, 4)?;
+    let mut out = outlet(alloc)?;
+    let ended = asm_run(alloc, text, &rules, &mut out);
+    outcome(alloc, ended, out)
 }
 
 #[test]
 fn asm_run_writes_the_load_file(rt: HostRuntime) -> Result<(), Fail> {
-    let rules = Rules::try_new(16, 20, 4, 4, 4)?;
-    for (text, want) in ASSEMBLIES {
-        let mut out = outlet(rt.alloc())?;
-        let result = asm_run(rt.alloc(), text, &rules, &mut out);
-        let bytes = out.into_inner();
-        if is_refused(result, bytes.as_slice()) {
-            return Err(Fail::from(RunFault::OutOfMemory));
-        }
-        match want {
-            Ok(load) => assert_eq!(rt; (result, bytes.as_slice()), (Ok(()), load), "{text:?}"),
-            Err(kind) => {
-                let fault = RunFault::Asm(AsmFault { line: 1, kind });
-                assert_eq!(rt; result, Err(fault), "{text:?}");
-                assert!(rt; bytes.is_empty(), "{text:?}");
-            }
-        }
+    for &(text, want) in &ASSEMBLIES {
+        assert_eq!(rt; assembled(rt.alloc(), text)?.as_slice(), want);
     }
     Ok(())
 }
@@ -101,43 +103,48 @@ const FIGHTS: [(&[u8], &[u8]); 4] = [
     ),
 ];
 
+fn fought(alloc: Global, text: &[u8]) -> Result<Vec<u8>, Fail> {
+    let mut out = outlet(alloc)?;
+    let ended = fight_run(alloc, text, &mut out);
+    outcome(alloc, ended, out)
+}
+
 #[test]
 fn fight_run_writes_the_outcome(rt: HostRuntime) -> Result<(), Fail> {
-    for (text, line) in FIGHTS {
-        let mut out = outlet(rt.alloc())?;
-        let result = fight_run(rt.alloc(), text, &mut out);
-        let bytes = out.into_inner();
-        if is_refused(result, bytes.as_slice()) {
-            return Err(Fail::from(RunFault::OutOfMemory));
-        }
-        assert_eq!(rt; (result, bytes.as_slice()), (Ok(()), line), "{text:?}");
+    for &(text, line) in &FIGHTS {
+        assert_eq!(rt; fought(rt.alloc(), text)?.as_slice(), line);
     }
     Ok(())
+}
+
+// Plays a fight of standard input. Returns the line of its outcome. Out of memory is an error.
+fn played(rt: &HostRuntime, text: &[u8]) -> Result<Vec<u8>, Fail> {
+    let mut input = text;
+    let mut out = outlet(rt.alloc())?;
+    let mut err = outlet(rt.alloc())?;
+    let status = program(rt, rt.alloc(), &[], &mut input, &mut out, &mut err);
+    let (bytes, told) = (out.into_inner(), err.into_inner());
+    if status == 0 && told.is_empty() {
+        return Ok(bytes);
+    }
+    if status == 3 && bytes.is_empty() && told.as_slice() == b"failed: OutOfMemory\n".as_slice() {
+        return Err(Fail::from(RunFault::OutOfMemory));
+    }
+    Err(Fail::from("another status or another line"))
 }
 
 #[test]
 fn program_plays_a_fight(rt: HostRuntime) -> Result<(), Fail> {
-    for (text, line) in FIGHTS {
-        let mut input = text;
-        let mut out = outlet(rt.alloc())?;
-        let mut err = outlet(rt.alloc())?;
-        let status = program(&rt, rt.alloc(), &[], &mut input, &mut out, &mut err);
-        let (bytes, told) = (out.into_inner(), err.into_inner());
-        if status == 3 {
-            assert!(rt; bytes.is_empty());
-            assert_eq!(rt; told.as_slice(), b"failed: OutOfMemory\n".as_slice());
-            return Err(Fail::from(RunFault::OutOfMemory));
-        }
-        assert_eq!(rt; (status, bytes.as_slice()), (0, line), "{text:?}");
-        assert!(rt; told.is_empty());
+    for &(text, line) in &FIGHTS {
+        assert_eq!(rt; played(&rt, text)?.as_slice(), line);
     }
     Ok(())
 }
 
-// What a tuning returned, and what it wrote as a report and as a certificate.
-type Tuned = (Result<(), RunFault>, Vec<u8>, Vec<u8>);
+// What a tuning wrote as a report, or the text of its fault; and its certificate.
+type Tuned = (Vec<u8>, Vec<u8>);
 
-// Tunes a template.
+// Tunes a template. Out of memory is an error.
 fn tuned(alloc: Global, template: &[u8], capacity: u32) -> Result<Tuned, Fail>
     requires { (1 ≤ capacity) × (capacity ≤ MOST_CAPACITY) }
 {
@@ -146,7 +153,7 @@ fn tuned(alloc: Global, template: &[u8], capacity: u32) -> Result<Tuned, Fail>
     let mut report = outlet(alloc)?;
     let mut cert = outlet(alloc)?;
     let texts = opponents.as_slice();
-    let result = tune_run(
+    let ended = tune_run(
         alloc,
         template,
         texts,
@@ -156,51 +163,47 @@ fn tuned(alloc: Global, template: &[u8], capacity: u32) -> Result<Tuned, Fail>
         &mut report,
         &mut cert,
     );
-    Ok((result, report.into_inner(), cert.into_inner()))
+    let rows = cert.into_inner();
+    if ended.is_err() && !rows.is_empty() {
+        return Err(Fail::from("a refused run wrote a certificate"));
+    }
+    Ok((outcome(alloc, ended, report)?, rows))
 }
 
 // Four settings with one warrior.
 const SHARED: &[u8] = b";@tune K 0 3 1 2\nMOV 0, 1";
 
-// Templates, the result of a tuning that remembers 4096 settings, the report, and the certificate.
-const TUNINGS: [(&[u8], Result<(), RunFault>, &[u8], &[u8]); 5] = [
+// Templates, the report of a tuning that remembers 4096 settings or its fault, and the certificate.
+const TUNINGS: [(&[u8], &[u8], &[u8]); 5] = [
     (
         b"MOV 0, 1",
-        Ok(()),
         b"vectors 1\ncandidates 1\nbest 0\nconstants -\ntotal 4 of 6\nfights 2 of 2\n",
         b"cwcert,1,1\nbest,0,4\ncap,0,0:3 1:1\n",
     ),
     (
         SHARED,
-        Ok(()),
         b"vectors 4\ncandidates 4\nbest 0\nconstants K=0\ntotal 4 of 6\nfights 2 of 8\n",
         b"cwcert,1,4\nbest,0,4\ncap,0,0:3 1:1\nsame,1,2\ncap,2,0:3 1:1\nsame,3,2\n",
     ),
     (
         b";@tune K 0 2 1 1\nMOV 0, 1\nDAT 1/K",
-        Ok(()),
         b"vectors 3\ncandidates 2\nbest 1\nconstants K=1\ntotal 4 of 6\nfights 3 of 4\n",
         b"cwcert,1,3\nbest,1,4\nrefused,0,-\ncap,1,0:3 1:1\ncap,2,1:1\n",
     ),
     (
         b";@tune K 0 2 1 1\nMOV 0, 1\nDAT 1/K\n;assert K > 9",
-        Err(RunFault::NoCandidate),
-        b"",
+        b"no setting of the template assembles",
         b"",
     ),
-    (ORDER, Ok(()), ORDER_REPORT, ORDER_CERT),
+    (ORDER, ORDER_REPORT, ORDER_CERT),
 ];
 
 #[test]
 fn tune_run_writes_the_optimum(rt: HostRuntime) -> Result<(), Fail> {
-    for (template, want, written, rows) in TUNINGS {
-        let (result, report, cert) = tuned(rt.alloc(), template, 4096)?;
-        if is_refused(result, report.as_slice()) && cert.is_empty() {
-            return Err(Fail::from(RunFault::OutOfMemory));
-        }
-        assert_eq!(rt; result, want, "{template:?}");
-        assert_eq!(rt; report.as_slice(), written, "{template:?}");
-        assert_eq!(rt; cert.as_slice(), rows, "{template:?}");
+    for &(template, want, rows) in &TUNINGS {
+        let (report, cert) = tuned(rt.alloc(), template, 4096)?;
+        assert_eq!(rt; report.as_slice(), want);
+        assert_eq!(rt; cert.as_slice(), rows);
     }
     Ok(())
 }
@@ -209,11 +212,7 @@ fn tune_run_writes_the_optimum(rt: HostRuntime) -> Result<(), Fail> {
 #[test]
 fn tune_run_with_a_cache_of_two(rt: HostRuntime) -> Result<(), Fail> {
     let template = b";@tune K 0 5 1 0\nMOV 0, 1\nDAT K % 2";
-    let (result, report, cert) = tuned(rt.alloc(), template, 2)?;
-    if is_refused(result, report.as_slice()) && cert.is_empty() {
-        return Err(Fail::from(RunFault::OutOfMemory));
-    }
-    assert_eq!(rt; result, Ok(()));
+    let (report, cert) = tuned(rt.alloc(), template, 2)?;
     assert_eq!(rt;
         report.as_slice(),
         b"vectors 6\ncandidates 6\nbest 0\nconstants K=0\ntotal 4 of 6\nfights 3 of 12\n".as_slice()
@@ -274,19 +273,26 @@ const CHECKS: [(&[u8], bool, &[u8]); 9] = [
     ),
 ];
 
+// Checks a certificate of `SHARED`. Returns the verdict and its line. Out of memory is an error.
+fn checked(alloc: Global, cert: &[u8]) -> Result<(bool, Vec<u8>), Fail> {
+    let rules = Rules::try_new(16, 20, 4, 4, 4)?;
+    let opponents = both_opponents(alloc)?;
+    let mut out = outlet(alloc)?;
+    let texts = opponents.as_slice();
+    let ended = check_run(alloc, SHARED, texts, BOTH, &rules, cert, &mut out);
+    let bytes = out.into_inner();
+    if ended.is_err() && !bytes.is_empty() {
+        return Err(Fail::from("a refused run wrote something"));
+    }
+    Ok((ended?, bytes))
+}
+
 #[test]
 fn check_run_writes_the_verdict(rt: HostRuntime) -> Result<(), Fail> {
-    let rules = Rules::try_new(16, 20, 4, 4, 4)?;
-    let opponents = both_opponents(rt.alloc())?;
-    for (cert, accepted, line) in CHECKS {
-        let mut out = outlet(rt.alloc())?;
-        let texts = opponents.as_slice();
-        let result = check_run(rt.alloc(), SHARED, texts, BOTH, &rules, cert, &mut out);
-        let bytes = out.into_inner();
-        if result.is_err() {
-            assert!(rt; bytes.is_empty());
-        }
-        assert_eq!(rt; (result?, bytes.as_slice()), (accepted, line), "{cert:?}");
+    for &(cert, accepted, line) in &CHECKS {
+        let (found, bytes) = checked(rt.alloc(), cert)?;
+        assert_eq!(rt; found, accepted);
+        assert_eq!(rt; bytes.as_slice(), line);
     }
     Ok(())
 }

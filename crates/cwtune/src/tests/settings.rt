@@ -18,7 +18,7 @@ const SETTINGS: [(WhichSetting, &[u8]); 3] = [
 #[test]
 fn a_setting_gives_the_load_file_of_its_warrior(rt: HostRuntime) -> Result<(), Fail> {
     let rules = Rules::try_new(16, 20, 4, 4, 4)?;
-    for (which, file) in SETTINGS {
+    for &(which, file) in &SETTINGS {
         let mut out = Outlet::new(Vec::new(rt.alloc()));
         assert_eq!(rt;
             setting_run(rt.alloc(), PAIRS, which, &rules, &mut out),

@@ -186,38 +186,45 @@ const REFUSED: [(&[u8], &[u8], RunFault); 3] = [
 ];
 
 #[test]
-fn a_refused_run_writes_nothing(rt: HostRuntime) -> Result<(), Fail> {
-    for (template, schedule, want) in REFUSED {
+fn a_refused_tuning_writes_nothing(rt: HostRuntime) -> Result<(), Fail> {
+    for &(template, schedule, want) in &REFUSED {
         assert_eq!(rt; refusal(rt.alloc(), template, schedule)?, Some(want));
     }
-    let rules = Rules::try_new(16, 20, 4, 4, 4)?;
+    Ok(())
+}
+
+#[test]
+fn a_refused_assembly_writes_nothing(rt: HostRuntime) {
     let mut out = Outlet::new(Broken);
     let fault = AsmFault {
         line: 1,
         kind: AsmKind::MissingOperand,
     };
-    assert_eq!(rt;
-        asm_run(rt.alloc(), b"MOV 1", &rules, &mut out),
-        Err(RunFault::Asm(fault))
-    );
+    let result = asm_run(rt.alloc(), b"MOV 1", &Rules::standard(), &mut out);
+    assert_eq!(rt; result, Err(RunFault::Asm(fault)));
     assert!(rt; !out.failed());
+}
+
+#[test]
+fn a_refused_fight_writes_nothing(rt: HostRuntime) {
     let mut out = Outlet::new(Broken);
-    assert_eq!(rt;
-        fight_run(rt.alloc(), b"", &mut out),
-        Err(RunFault::FightText { line: 1 })
-    );
+    let result = fight_run(rt.alloc(), b"", &mut out);
+    assert_eq!(rt; result, Err(RunFault::FightText { line: 1 }));
     assert!(rt; !out.failed());
+}
+
+#[test]
+fn a_refused_check_writes_nothing(rt: HostRuntime) -> Result<(), Fail> {
     let opponents = both_opponents(rt.alloc())?;
     let texts = opponents.as_slice();
+    let rules = Rules::standard();
     let mut out = Outlet::new(Broken);
     let fault = ScheduleFault {
         row: 0,
         kind: ScheduleFaultKind::Header,
     };
-    assert_eq!(rt;
-        check_run(rt.alloc(), ORDER, texts, b"", &rules, ORDER_CERT, &mut out),
-        Err(RunFault::Schedule(fault))
-    );
+    let result = check_run(rt.alloc(), ORDER, texts, b"", &rules, ORDER_CERT, &mut out);
+    assert_eq!(rt; result, Err(RunFault::Schedule(fault)));
     assert!(rt; !out.failed());
     Ok(())
 }

@@ -33,67 +33,75 @@ fn joined(source: &[u8], token: Token, counter: u16) -> Token
     token
 }
 
-// Makes a table of the names `x`, `x01` and `x014096` with the values 7, 8 and 9.
-fn table_of_three<'a>(alloc: Global) -> Result<NameTable<'a, u64>, Fail> {
-    let mut table = NameTable::with_capacity(alloc, 3)?;
-    let source = b"x014096".as_slice();
-    table.add(alloc, source, &name_token(source, 1), 7)?;
-    table.add(alloc, source, &name_token(source, 3), 8)?;
-    table.add(alloc, source, &name_token(source, 7), 9)?;
-    Ok(table)
+// Adds the first `hi` bytes of `source` to `table`. Returns whether the name is new.
+fn add_front<'a>(
+    alloc: Global,
+    table: &mut NameTable<'a, u64>,
+    source: &'a [u8],
+    hi: usize,
+    value: u64,
+) -> Result<bool, Fail>
+    requires { hi ≤ length source.now }
+{
+    Ok(table.add(alloc, source, &name_token(source, hi), value)?)
 }
 
+fn value_of(table: &NameTable<'_, u64>, source: &[u8], token: &Token) -> Option<u64>
+    requires { LiesIn source.now token.now }
+{
+    table.get(source, token).copied()
+}
+
+// A table of the names `x`, `x01` and `x014096` with the values 7, 8 and 9.
 #[test]
 fn names_are_found_by_their_tokens(rt: HostRuntime) -> Result<(), Fail> {
-    let table = table_of_three(rt.alloc())?;
+    let mut table = NameTable::with_capacity(rt.alloc(), 3)?;
+    let names = b"x014096".as_slice();
+    add_front(rt.alloc(), &mut table, names, 1, 7)?;
+    add_front(rt.alloc(), &mut table, names, 3, 8)?;
+    add_front(rt.alloc(), &mut table, names, 7, 9)?;
     let source = b"x01y".as_slice();
-    assert_eq!(rt; table.get(source, &name_token(source, 1)).copied(), Some(7));
-    assert_eq!(rt; table.get(source, &name_token(source, 2)).copied(), None);
-    assert_eq!(rt; table.get(source, &name_token(source, 3)).copied(), Some(8));
-    assert_eq!(rt; table.get(source, &name_token(source, 4)).copied(), None);
-    Ok(())
-}
-
-#[test]
-fn names_are_found_by_their_counters(rt: HostRuntime) -> Result<(), Fail> {
-    let table = table_of_three(rt.alloc())?;
-    let source = b"x".as_slice();
+    let fronts = [
+        value_of(&table, source, &name_token(source, 1)),
+        value_of(&table, source, &name_token(source, 2)),
+        value_of(&table, source, &name_token(source, 3)),
+        value_of(&table, source, &name_token(source, 4)),
+    ];
+    assert_eq!(rt; fronts, [Some(7), None, Some(8), None]);
     let token = joined(source, name_token(source, 1), 1);
-    assert_eq!(rt; table.get(source, &token).copied(), Some(8));
+    let one = value_of(&table, source, &token);
     let token = joined(source, token, 4096);
-    assert_eq!(rt; table.get(source, &token).copied(), Some(9));
+    let two = value_of(&table, source, &token);
     let token = joined(source, token, 0);
-    assert_eq!(rt; table.get(source, &token).copied(), None);
+    let three = value_of(&table, source, &token);
+    assert_eq!(rt; [one, two, three], [Some(8), Some(9), None]);
     Ok(())
 }
 
 #[test]
 fn a_name_keeps_its_first_value(rt: HostRuntime) -> Result<(), Fail> {
-    let alloc = rt.alloc();
-    let mut table = NameTable::new(alloc);
+    let mut table = NameTable::new(rt.alloc());
     let source = b"step".as_slice();
     let token = name_token(source, 4);
-    assert_eq!(rt; table.get(source, &token).copied(), None);
-    let other = b"Step".as_slice();
-    assert!(rt; table.add(alloc, source, &token, 1_u64)?);
-    assert!(rt; table.add(alloc, other, &name_token(other, 4), 2)?);
-    assert!(rt; !table.add(alloc, source, &token, 3)?);
-    assert_eq!(rt; table.get(source, &token).copied(), Some(1));
+    assert_eq!(rt; value_of(&table, source, &token), None);
+    assert!(rt; add_front(rt.alloc(), &mut table, source, 4, 1)?);
+    assert!(rt; add_front(rt.alloc(), &mut table, b"Step", 4, 2)?);
+    assert!(rt; !add_front(rt.alloc(), &mut table, source, 4, 3)?);
+    assert_eq!(rt; value_of(&table, source, &token), Some(1));
     Ok(())
 }
 
 #[test]
 fn many_names_are_found(rt: HostRuntime) -> Result<(), Fail> {
-    let alloc = rt.alloc();
-    let mut table = NameTable::new(alloc);
+    let mut table = NameTable::new(rt.alloc());
     let source = b"x".as_slice();
     for i in 0..1000_u16 {
         let token = joined(source, name_token(source, 1), i);
-        assert!(rt; table.add(alloc, source, &token, u64::from(i))?);
+        assert!(rt; table.add(rt.alloc(), source, &token, u64::from(i))?);
     }
     for i in 0..1000_u16 {
         let token = joined(source, name_token(source, 1), i);
-        assert_eq!(rt; table.get(source, &token).copied(), Some(u64::from(i)));
+        assert_eq!(rt; value_of(&table, source, &token), Some(u64::from(i)));
     }
     Ok(())
 }

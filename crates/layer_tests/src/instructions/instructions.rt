@@ -30,7 +30,7 @@ fn default_modifiers_of_all_opcodes(rt: HostRuntime) {
     let whole = [Modifier::I, Modifier::AB, Modifier::B, Modifier::AB];
     let both = [Modifier::F, Modifier::AB, Modifier::B, Modifier::AB];
     let less = [Modifier::B, Modifier::AB, Modifier::B, Modifier::AB];
-    for (opcode, want) in [
+    for &(opcode, want) in &[
         (Opcode::Dat, always_f),
         (Opcode::Mov, whole),
         (Opcode::Add, both),
@@ -48,7 +48,7 @@ fn default_modifiers_of_all_opcodes(rt: HostRuntime) {
         (Opcode::Spl, always_b),
         (Opcode::Nop, always_f),
     ] {
-        for other in OTHERS {
+        for &other in &OTHERS {
             assert_eq!(rt;
                 defaults_of(opcode, other),
                 want,
@@ -70,7 +70,7 @@ fn same_instructions_agree_in_all_six_parts(rt: HostRuntime) {
     };
     assert_eq!(rt; Instruction::empty(), empty);
     assert!(rt; empty.is_same(&Instruction::empty()));
-    for other in [
+    for &other in &[
         Instruction {
             opcode: Opcode::Nop,
             ..empty

@@ -1,4 +1,5 @@
 //! Load files read and written back.
+use crate::assembly::load_of;
 use rc_instr::Mode::{
     AIndirect, APostincrement, APredecrement, BIndirect, BPostincrement, BPredecrement, Direct,
     Immediate,
@@ -8,7 +9,7 @@ use rc_instr::Opcode::{
     Add, Dat, Div, Djn, Jmn, Jmp, Jmz, Mod, Mov, Mul, Nop, Seq, Slt, Sne, Spl, Sub,
 };
 use rc_instr::laws::{equal_load_texts_are_equal_warriors, load_text_reads_as_its_warrior};
-use rc_instr::{Instruction, Mode, Modifier, Opcode, Rules, read_loadfile, write_loadfile};
+use rc_instr::{Instruction, Mode, Modifier, Opcode, Rules, read_loadfile};
 use std::test::Fail;
 
 fn cell(
@@ -71,15 +72,20 @@ fn code_of_text() -> [Instruction; 16] {
 }
 
 #[test]
-fn a_text_of_all_words_is_read_and_appended(rt: HostRuntime) -> Result<(), Fail> {
+fn a_text_of_all_words_is_read_and_written(rt: HostRuntime) -> Result<(), Fail> {
     let rules = Rules::standard();
     let warrior = read_loadfile(rt.alloc(), TEXT.as_bytes(), &rules)?;
     assert_eq!(rt; warrior.start(), 15);
     assert_eq!(rt; warrior.code(), code_of_text().as_slice());
-    let mut out = Vec::from_slice(rt.alloc(), b"before\n")?;
-    write_loadfile(rt.alloc(), &warrior, &rules, &mut out)?;
-    let want = format!(in rt.alloc(); "before\n{TEXT}")?;
-    assert_eq!(rt; out.as_slice(), want.as_bytes());
+    let text = load_of(rt.alloc(), &warrior, &rules)?;
+    assert_eq!(rt; text.as_slice(), TEXT.as_bytes());
+    Ok(())
+}
+
+#[test]
+fn a_text_reads_as_the_warrior_that_wrote_it(rt: HostRuntime) -> Result<(), Fail> {
+    let rules = Rules::standard();
+    let warrior = read_loadfile(rt.alloc(), TEXT.as_bytes(), &rules)?;
     let again = load_text_reads_as_its_warrior(rt.alloc(), &warrior, &rules)?;
     assert_eq!(rt; again.start(), 15);
     assert_eq!(rt; again.code(), code_of_text().as_slice());
@@ -89,7 +95,7 @@ fn a_text_of_all_words_is_read_and_appended(rt: HostRuntime) -> Result<(), Fail>
 
 #[test]
 fn a_number_above_half_of_the_core_has_a_minus(rt: HostRuntime) -> Result<(), Fail> {
-    for (core, number, spelling) in [
+    for &(core, number, spelling) in &[
         (8, 4, "4"),
         (8, 5, "-3"),
         (16, 8, "8"),
@@ -108,9 +114,8 @@ fn a_number_above_half_of_the_core_has_a_minus(rt: HostRuntime) -> Result<(), Fa
         let warrior = read_loadfile(rt.alloc(), text.as_bytes(), &rules)?;
         let want = cell(Dat, F, Direct, number, Immediate, number);
         assert_eq!(rt; warrior.code(), [want].as_slice());
-        let mut out = Vec::new(rt.alloc());
-        write_loadfile(rt.alloc(), &warrior, &rules, &mut out)?;
-        assert_eq!(rt; out.as_slice(), text.as_bytes());
+        let written = load_of(rt.alloc(), &warrior, &rules)?;
+        assert_eq!(rt; written.as_slice(), text.as_bytes());
     }
     Ok(())
 }

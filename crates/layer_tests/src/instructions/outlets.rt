@@ -8,14 +8,14 @@ use std::io;
 use std::io::Write;
 use std::test::Fail;
 
-// A writer that takes at most `most` bytes at a call, fails at call `bad_call` (counted from 1),
-// and counts its calls.
+// A writer that takes at most `most` bytes at a call, and counts its calls. Call `bad_call` (counted
+// from 1) fails with `kind`, or takes no byte if there is none.
 #[derive(Drop)]
-struct Fake {
-    taken: Vec<u8>,
+pub(crate) struct Fake {
+    pub(crate) taken: Vec<u8>,
     most: usize,
     bad_call: u32,
-    kind: io::ErrorKind,
+    kind: Option<io::ErrorKind>,
     calls: u32,
 }
 
@@ -23,7 +23,10 @@ impl Write for Fake {
     fn write(&mut self, buf: &[u8]) -> io::Result<usize> {
         self.calls = self.calls.saturating_add(1);
         if self.calls == self.bad_call {
-            return Err(io::Error::from(self.kind));
+            return match self.kind {
+                Some(kind) => Err(io::Error::from(kind)),
+                None => Ok(0),
+            };
         }
         let count = buf.len().min(self.most);
         self.taken.extend_from_slice(&buf[..count])?;
@@ -35,8 +38,13 @@ impl Write for Fake {
     }
 }
 
-// Returns an outlet over a writer that takes `most` bytes at a call and fails at call `bad_call`.
-fn outlet(alloc: Global, most: usize, bad_call: u32, kind: io::ErrorKind) -> Outlet<Fake>
+// Returns an outlet over such a writer.
+pub(crate) fn outlet(
+    alloc: Global,
+    most: usize,
+    bad_call: u32,
+    kind: Option<io::ErrorKind>,
+) -> Outlet<Fake>
     ensures { result.failed ≡ false }
 {
     Outlet::new(Fake {
@@ -50,12 +58,12 @@ fn outlet(alloc: Global, most: usize, bad_call: u32, kind: io::ErrorKind) -> Out
 
 #[test]
 fn a_writer_is_not_called_again_after_a_failure(rt: HostRuntime) {
-    for kind in [
+    for &kind in &[
         io::ErrorKind::BrokenPipe,
         io::ErrorKind::OutOfMemory,
         io::ErrorKind::Interrupted,
     ] {
-        let mut outlet = outlet(rt.alloc(), 3, 3, kind);
+        let mut outlet = outlet(rt.alloc(), 3, 3, Some(kind));
         assert_eq!(rt; outlet.write(b"abcde"), Ok(3));
         assert_eq!(rt; outlet.write(b""), Ok(0));
         assert!(rt; !outlet.failed());
@@ -70,7 +78,7 @@ fn a_writer_is_not_called_again_after_a_failure(rt: HostRuntime) {
 
 #[test]
 fn a_writer_that_takes_no_byte_has_failed(rt: HostRuntime) {
-    let mut outlet = outlet(rt.alloc(), 0, 9, io::ErrorKind::Other);
+    let mut outlet = outlet(rt.alloc(), 5, 1, None);
     assert_eq!(rt; outlet.write(b"abcde"), Err(WriteFailed));
     assert!(rt; outlet.failed());
     assert_eq!(rt; outlet.into_inner().calls, 1);
@@ -78,14 +86,14 @@ fn a_writer_that_takes_no_byte_has_failed(rt: HostRuntime) {
 
 // Writes `abcde` as a whole. Returns the result, and what the writer took.
 fn whole_write(alloc: Global, most: usize, bad_call: u32) -> (Result<(), WriteFailed>, Vec<u8>) {
-    let mut outlet = outlet(alloc, most, bad_call, io::ErrorKind::BrokenPipe);
+    let mut outlet = outlet(alloc, most, bad_call, Some(io::ErrorKind::BrokenPipe));
     let result = outlet.write_all(b"abcde");
     (result, outlet.into_inner().taken)
 }
 
 #[test]
 fn a_whole_text_is_written_piece_by_piece(rt: HostRuntime) {
-    for (most, bad_call, want, taken) in [
+    for &(most, bad_call, want, taken) in &[
         (5, 9, Ok(()), b"abcde".as_slice()),
         (2, 9, Ok(()), b"abcde"),
         (1, 9, Ok(()), b"abcde"),

@@ -4,13 +4,13 @@ use std::alloc::{AllocError, Global};
 use std::error::Error;
 use std::test::Fail;
 
-fn text_of<E: Error>(alloc: Global, error: &E) -> Result<String, AllocError> {
+pub(crate) fn text_of<E: Error>(alloc: Global, error: &E) -> Result<String, AllocError> {
     format!(in alloc; "{error}")
 }
 
 #[test]
 fn texts_of_rules(rt: HostRuntime) -> Result<(), Fail> {
-    for (error, want) in [
+    for &(error, want) in &[
         (RulesError::Core, "core size must be 8 to 65535"),
         (RulesError::Cycles, "cycles must be 1 to 1000000"),
         (RulesError::Tasks, "tasks must be 1 to 8000"),
@@ -27,7 +27,7 @@ fn texts_of_rules(rt: HostRuntime) -> Result<(), Fail> {
 
 #[test]
 fn texts_of_warriors(rt: HostRuntime) -> Result<(), Fail> {
-    for (error, want) in [
+    for &(error, want) in &[
         (WarriorError::Empty, "no instructions"),
         (
             WarriorError::TooLong,

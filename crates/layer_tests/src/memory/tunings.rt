@@ -1,23 +1,23 @@
 //! Calls on cores, settings, searches and certificates.
 ghost use Rattle.std.specs.Prelude.{◌≤◌};
+ghost use Rattle.rc_instr.specs.Warrior.{Fits};
 ghost use Rattle.tune_search.specs.Limits.{MOST_CAPACITY};
 
-use crate::certificates::{FIVE, five_rows};
+use crate::assembly::{load_of, text_of};
+use crate::certificates::{FIVE, cert_of, five_rows};
 use crate::machine::{FIGHTS, plays};
 use crate::searches::{THREE, inputs_of};
-use crate::templates::instance_text;
-use rc_asm::{AsmFault, AsmKind};
-use rc_instr::Outlet;
-use rc_text::EvalFault;
+use rc_instr::{Outlet, Rules};
 use std::alloc::Global;
 use std::test::Fail;
 use tune_cert::{Reason, Verdict, check, read_cert, write_cert};
 use tune_search::search;
+use tune_template::Template;
 
 // Each fight is played on plain and on packed cells.
 #[test]
 fn an_arena_is_made(rt: HostRuntime) -> Result<(), Fail> {
-    for (texts, cycles, tasks, first, played) in FIGHTS {
+    for &(texts, cycles, tasks, first, played) in &FIGHTS {
         let (plain, packed) = plays(&rt, texts, cycles, tasks, first)?;
         assert_eq!(rt; plain, (played.0, played.1, 16), "{texts:?}");
         assert_eq!(rt; packed, played, "{texts:?}");
@@ -35,33 +35,63 @@ const ORDER: &[u8] = b";@tune K 0 2 1 1\nMOV 0, 1\nDAT K";
 const HALF: &[u8] = b";@tune K 0 5 1 0\nMOV 0, 1\nDAT K % 2";
 
 // Templates, the index of a setting, and its load file or its fault.
-const INSTANCES: [(&[u8], u32, Result<&[u8], AsmFault>); 5] = [
-    (b"MOV 0, 1", 0, Ok(b"ORG 0\nMOV.I $0, $1\n")),
-    (IMPS, 3, Ok(b"ORG 0\nMOV.I $0, $1\n")),
+const INSTANCES: [(&[u8], u32, &[u8]); 12] = [
+    (b"MOV 0, 1", 0, b"ORG 0\nMOV.I $0, $1\n"),
+    (IMPS, 3, b"ORG 0\nMOV.I $0, $1\n"),
+    (THREE, 0, b"line 3: division by zero"),
+    (THREE, 1, b"ORG 0\nMOV.I $0, $1\nDAT.F $0, $1\n"),
+    (ORDER, 2, b"ORG 0\nMOV.I $0, $1\nDAT.F $0, $2\n"),
     (
-        THREE,
-        0,
-        Err(AsmFault {
-            line: 3,
-            kind: AsmKind::Value(EvalFault::DivisionByZero),
-        }),
+        b";@tune A 0 1 1 1\n;@tune B 5 9 2 9\nDAT A, B",
+        4,
+        b"ORG 0\nDAT.F $1, $7\n",
     ),
-    (THREE, 1, Ok(b"ORG 0\nMOV.I $0, $1\nDAT.F $0, $1\n")),
-    (ORDER, 2, Ok(b"ORG 0\nMOV.I $0, $1\nDAT.F $0, $2\n")),
+    (
+        b";@tune K -9 -3 3 -3\ni FOR 2\nDAT K, i\nROF",
+        1,
+        b"ORG 0\nDAT.F $-6, $1\nDAT.F $-6, $2\n",
+    ),
+    (
+        b";@tune N 0 3 1 0\nFOR N\nNOP\nROF\nJMP 0",
+        2,
+        b"ORG 0\nNOP.F $0, $0\nNOP.F $0, $0\nJMP.B $0, $0\n",
+    ),
+    (
+        b";@tune K 2 4 1 2\n;assert K > 3\nDAT K",
+        2,
+        b"ORG 0\nDAT.F $0, $4\n",
+    ),
+    (
+        b";@tune K 2 4 1 2\n;assert K > 3\nDAT K",
+        1,
+        b"line 2: assertion failed",
+    ),
+    (
+        b";@tune K 0 1 1 0\nK DAT 0",
+        1,
+        b"line 2: name already defined",
+    ),
+    (b";@tune K 0 1 1 0\nDAT k", 0, b"line 2: unknown name"),
 ];
+
+// Assembles the setting of index `index`. Returns its load file, or the text of its fault. The
+// rules are 16 cells, 20 cycles, 4 tasks, length 4 and distance 4.
+fn instance_text(alloc: Global, text: &[u8], index: u32) -> Result<Vec<u8>, Fail> {
+    let rules = Rules::try_new(16, 20, 4, 4, 4)?;
+    let template = Template::read(alloc, text)?;
+    if index >= template.count() {
+        return Err(Fail::from("no such setting"));
+    }
+    match template.instance(alloc, index, &rules) {
+        Ok(warrior) => load_of(alloc, &warrior, &rules),
+        Err(fault) => text_of(alloc, fault),
+    }
+}
 
 #[test]
 fn instance_assembles_a_setting(rt: HostRuntime) -> Result<(), Fail> {
-    for (text, index, want) in INSTANCES {
-        match instance_text(rt.alloc(), text, index)? {
-            Ok(load) => assert_eq!(rt; Ok(load.as_slice()), want, "{text:?}"),
-            Err(fault) => {
-                if fault.kind == AsmKind::OutOfMemory {
-                    return Err(Fail::from(fault));
-                }
-                assert_eq!(rt; Err(fault), want, "{text:?}");
-            }
-        }
+    for &(text, index, want) in &INSTANCES {
+        assert_eq!(rt; instance_text(rt.alloc(), text, index)?.as_slice(), want);
     }
     Ok(())
 }
@@ -72,9 +102,7 @@ fn found_by(alloc: Global, text: &[u8], capacity: u32) -> Result<(u64, Vec<u8>),
 {
     let inputs = inputs_of(alloc, text)?;
     let found = search(alloc, &inputs, capacity)?;
-    let mut out = Outlet::new(Vec::with_capacity(alloc, 256)?);
-    write_cert(alloc, &found, &mut out)?;
-    Ok((u64::from(found.fights), out.into_inner()))
+    Ok((u64::from(found.fights), cert_of(alloc, &found)?))
 }
 
 // Templates, with the fights of a search that remembers 4096 settings, and the certificate.
@@ -99,9 +127,10 @@ const SEARCHES: [(&[u8], u64, &[u8]); 4] = [
 
 #[test]
 fn search_finds_the_optimum(rt: HostRuntime) -> Result<(), Fail> {
-    for (text, fights, cert) in SEARCHES {
+    for &(text, fights, cert) in &SEARCHES {
         let (played, bytes) = found_by(rt.alloc(), text, 4096)?;
-        assert_eq!(rt; (played, bytes.as_slice()), (fights, cert), "{text:?}");
+        assert_eq!(rt; played, fights);
+        assert_eq!(rt; bytes.as_slice(), cert);
     }
     Ok(())
 }
@@ -112,7 +141,8 @@ fn search_with_a_cache_of_two(rt: HostRuntime) -> Result<(), Fail> {
     let (played, bytes) = found_by(rt.alloc(), HALF, 2)?;
     let cert =
         b"cwcert,1,6\nbest,0,4\ncap,0,0:3 1:1\ncap,1,1:1\nsame,2,0\nsame,3,1\nsame,4,0\nsame,5,1\n";
-    assert_eq!(rt; (played, bytes.as_slice()), (3, cert.as_slice()));
+    assert_eq!(rt; played, 3);
+    assert_eq!(rt; bytes.as_slice(), cert.as_slice());
     Ok(())
 }
 
@@ -132,7 +162,7 @@ fn write_cert_writes_every_row(rt: HostRuntime) -> Result<(), Fail> {
 
 #[test]
 fn read_cert_reads_every_row(rt: HostRuntime) -> Result<(), Fail> {
-    for text in CERTS {
+    for &text in &CERTS {
         let cert = read_cert(rt.alloc(), text.0)?;
         assert_eq!(rt; cert.count, 4);
         assert_eq!(rt; cert.rows.as_slice().len(), text.1);
@@ -205,16 +235,19 @@ const CERTS: [(&[u8], usize, Verdict); 8] = [
     ),
 ];
 
+// Checks a certificate of `IMPS`.
+fn verdict_of(alloc: Global, cert: &[u8]) -> Result<Verdict, Fail> {
+    let inputs = inputs_of(alloc, IMPS)?;
+    Ok(check(alloc, &inputs, cert)?)
+}
+
 #[test]
 fn check_gives_the_verdict(rt: HostRuntime) -> Result<(), Fail> {
-    for (cert, _, want) in CERTS {
-        let inputs = inputs_of(rt.alloc(), IMPS)?;
-        assert_eq!(rt; check(rt.alloc(), &inputs, cert)?, want, "{cert:?}");
+    for &(cert, _, want) in &CERTS {
+        assert_eq!(rt; verdict_of(rt.alloc(), cert)?, want);
     }
-    let inputs = inputs_of(rt.alloc(), IMPS)?;
-    let malformed = check(rt.alloc(), &inputs, b"cwcert,7,4\n")?;
     assert_eq!(rt;
-        malformed,
+        verdict_of(rt.alloc(), b"cwcert,7,4\n")?,
         Verdict::Rejected {
             row: 0,
             reason: Reason::Malformed

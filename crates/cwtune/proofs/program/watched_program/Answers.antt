@@ -28,6 +28,15 @@ returns-in-Ok-Setting-clause-refused g c = λ asked ends. let fight = c.request_
 pub returns-in-Ok-Setting-clause-understood : goal.returns-in-Ok-Setting-clause-understood
 returns-in-Ok-Setting-clause-understood g c = λ asked ends. let fight = c.request_of.ensures.fight asked in let other = c.in-Ok-Setting.is in absurd (cc)
 
+pub returns-in-Ok-Settings-clause-done : goal.returns-in-Ok-Settings-clause-done
+returns-in-Ok-Settings-clause-done g c = λ asked ends. let fight = c.request_of.ensures.fight asked in let other = c.in-Ok-Settings.is in absurd (cc)
+
+pub returns-in-Ok-Settings-clause-refused : goal.returns-in-Ok-Settings-clause-refused
+returns-in-Ok-Settings-clause-refused g c = λ asked ends. let fight = c.request_of.ensures.fight asked in let other = c.in-Ok-Settings.is in absurd (cc)
+
+pub returns-in-Ok-Settings-clause-understood : goal.returns-in-Ok-Settings-clause-understood
+returns-in-Ok-Settings-clause-understood g c = λ asked ends. let fight = c.request_of.ensures.fight asked in let other = c.in-Ok-Settings.is in absurd (cc)
+
 pub returns-in-Ok-Tune-clause-done : goal.returns-in-Ok-Tune-clause-done
 returns-in-Ok-Tune-clause-done g c = λ asked ends. let fight = c.request_of.ensures.fight asked in let other = c.in-Ok-Tune.is in absurd (cc)
 

@@ -1,0 +1,154 @@
+"""The folder CERT.parts of `spread.py`: what the parts are made of, and the results of those done.
+
+    spread.json      the number of parts and of settings, and a fingerprint of all inputs
+    cwtune, t.red, s.csv, o0.red ..   copies of the program and of the inputs
+    I.cert, I.done   the certificate of part I; its report, and the hash of the certificate
+    I.PID.*          what the run with that process id has written of part I
+
+A part is done when `I.done` is there and the certificate has its hash, so neither a kill nor a
+crash leaves half a part that is taken for a whole one.
+"""
+import fcntl, hashlib, json, os, pathlib, re, shutil
+from typing import NamedTuple
+
+from endings import Fault, whole_file
+
+MARK, MADE_BY = "spread.json", "spread.py 1"
+RULES = {"core": 8000, "cycles": 80000, "tasks": 8000, "length": 100, "distance": 100}
+OWN = r"cwtune|[ts]\.(red|csv)|o\d+\.red|whole\.cert|\d+\.(cert|done)|\d+\.\d+\.\w+|.*\.\d+\.new"
+UNFINISHED = r"\d+\.\d+\.\w+|.*\.\d+\.new"
+
+
+class Part(NamedTuple):
+    """What came of a part. Without a candidate `report` is empty."""
+
+    first: int
+    count: int
+    report: dict
+
+
+def hash_of(path):
+    with open(path, "rb") as file:
+        return hashlib.file_digest(file, "sha256").hexdigest()
+
+
+def fingerprint(args, paths):
+    """Returns a value for each thing that the parts depend on. The paths are in the order of
+    `names_of`."""
+    program, template, schedule, *opponents = map(hash_of, paths)
+    rules = {rule: number if getattr(args, rule) is None else getattr(args, rule)
+             for rule, number in RULES.items()}
+    return {"template": template, "schedule": schedule, "opponents": opponents, "rules": rules,
+            "cache": args.cache, "program": program}
+
+
+def names_of(args):
+    """Returns the names of the copies, which need no quoting."""
+    return ["cwtune", "t.red", "s.csv"] + [f"o{k}.red" for k in range(len(args.opponents))]
+
+
+class Folder:
+    """A folder that `spread.py` made for CERT, locked until `spread.py` ends."""
+
+    def __init__(self, args, count):
+        self.told = f"{args.cert}.parts"
+        self.path = pathlib.Path(self.told).resolve()
+        self.names, self.name = names_of(args), os.getpid()
+        self.path.mkdir(exist_ok=True)
+        self.lock = os.open(self.path, os.O_RDONLY)
+        try:
+            fcntl.flock(self.lock, fcntl.LOCK_EX | fcntl.LOCK_NB)
+        except BlockingIOError:
+            raise Fault(f"another spread.py is at work in {self.told}", 2) from None
+        made = self.read_mark()
+        sources = [args.program, args.template, args.schedule, *args.opponents]
+        copies = [self.path / name for name in self.names]
+        if args.anew or "of" not in made:
+            self.remove(OWN)
+            made = self.fill(args, sources, copies, count)
+        self.check(args, made, fingerprint(args, sources))
+        self.check(args, made, fingerprint(args, copies))
+        self.remove(UNFINISHED)
+        self.parts, self.count = made["parts"], made["count"]
+
+    def read_mark(self):
+        """Returns what the folder says of itself, which is little if it is new. A folder that this
+        tool did not make is refused."""
+        files = os.listdir(self.path)
+        if all(re.fullmatch(rf"{MARK}\.\d+\.new", name) for name in files):
+            return {}
+        try:
+            made = json.loads((self.path / MARK).read_text())
+            if made["by"] == MADE_BY:
+                return made
+        except (FileNotFoundError, ValueError, KeyError, TypeError):
+            pass
+        raise Fault(f"{self.told} is not a folder of this spread.py, and is not touched", 2)
+
+    def fill(self, args, sources, copies, count):
+        """Copies the inputs, and then writes the mark with their fingerprint."""
+        self.write_mark({"by": MADE_BY})
+        for source, copy in zip(sources, copies):
+            shutil.copyfile(source, copy)
+        copies[0].chmod(0o755)
+        made = {"by": MADE_BY, "parts": min(count, args.parts or 2 * args.jobs), "count": count,
+                "of": fingerprint(args, copies)}
+        self.write_mark(made)
+        return made
+
+    def write_mark(self, made):
+        with whole_file(self.path / MARK) as file:
+            json.dump(made, file)
+
+    def check(self, args, made, wanted):
+        """Refuses a folder of other inputs, or of another number of parts."""
+        other = [name for name, value in wanted.items() if made["of"][name] != value]
+        if other:
+            raise Fault(f"the parts in {self.told} are of other inputs ({', '.join(other)}): "
+                        "give --anew to throw them away and begin again, or another CERT", 2)
+        if args.parts and min(args.parts, made["count"]) != made["parts"]:
+            raise Fault(f"{self.told} has {made['parts']} parts: leave out --parts, or give --anew "
+                        "to throw them away and begin again", 2)
+
+    def remove(self, pattern):
+        """Removes the files with such names."""
+        for name in os.listdir(self.path):
+            if re.fullmatch(pattern, name):
+                (self.path / name).unlink()
+
+    def end(self):
+        """Removes the folder, but no file that somebody else put there."""
+        self.remove(OWN)
+        if os.listdir(self.path) == [MARK]:
+            (self.path / MARK).unlink()
+            self.path.rmdir()
+
+    def file(self, number, kind):
+        """Returns where this run writes something of a part."""
+        return self.path / f"{number}.{self.name}.{kind}"
+
+    def keep(self, number, status):
+        """Keeps what a run of a part wrote, if that is a result. Returns the fault if it is not."""
+        fault = self.file(number, "fault").read_text(errors="surrogateescape")
+        report, cert = {}, None
+        if status == 0:
+            lines = self.file(number, "report").read_text().splitlines()
+            report = dict(line.split(" ", 1) for line in lines)
+            cert = hash_of(self.file(number, "cert"))
+            self.file(number, "cert").replace(self.path / f"{number}.cert")
+        elif (status, fault) != (1, "refused: NoCandidate\n"):
+            return fault or f"failed: it ended with status {status}\n"
+        with whole_file(self.path / f"{number}.done") as file:
+            json.dump({"report": report, "cert": cert}, file)
+        return None
+
+    def part(self, number):
+        """Returns what came of a part, or None if it is not done."""
+        try:
+            done = json.loads((self.path / f"{number}.done").read_text())
+            if done["cert"] and hash_of(self.path / f"{number}.cert") != done["cert"]:
+                return None
+        except (FileNotFoundError, ValueError):
+            return None
+        first, end = (number - 1) * self.count // self.parts, number * self.count // self.parts
+        return Part(first, end - first, done["report"])
