@@ -26,6 +26,7 @@ def copy_tree(to, *left_out):
 def run(words, folder):
     """Runs a step and prints what it prints. Returns how much passed and failed."""
     last = ""
+    print(f"{time.strftime('%H:%M:%S')} {' '.join(words)}", flush=True)
     with subprocess.Popen(words, cwd=folder, env=ENVIRONMENT, stdout=subprocess.PIPE,
                           encoding="utf-8", errors="replace") as step:
         for line in step.stdout:
