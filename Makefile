@@ -46,7 +46,8 @@ bench: build
 memory: build
 	@python3 tools/refuse_memory.py $(PROGRAM)
 
-# Runs the tools for authors (docs/TOOLS.md) on the examples and compares with the stored results.
-# Needs matplotlib for the pictures, and says which Debian package has it.
+# Proves and builds the program, runs the tools for authors (docs/TOOLS.md) on the examples, and
+# compares with the stored results. Needs matplotlib for the pictures, and says which Debian package
+# has it.
 tools: build
 	@python3 tools/try_tools.py

@@ -13,6 +13,9 @@ from endings import run_tool
 ROOT = pathlib.Path(__file__).resolve().parent.parent
 STEPS = ["edits.py", "try_tools.py --plain", "large_texts.py", "run_cases.py", "pipes.py",
          "cuts.py", "refuse_memory.py", "refuse_writes.py", "refuse_growth.py"]
+# Ends a tool, and all that it has started, after 20 minutes. A tool in Python says where it was.
+WATCHED = ["timeout", "--signal=ABRT", "--kill-after=5", "1200", sys.executable, "-X",
+           "faulthandler"]
 # With RT_JOBS set, `rt ci` gives each check one job, though processors are idle.
 ENVIRONMENT = {name: value for name, value in os.environ.items() if name != "RT_JOBS"}
 
@@ -29,9 +32,13 @@ def run(words, folder):
     print(f"{time.strftime('%H:%M:%S')} {' '.join(words)}", flush=True)
     with subprocess.Popen(words, cwd=folder, env=ENVIRONMENT, stdout=subprocess.PIPE,
                           encoding="utf-8", errors="replace") as step:
-        for line in step.stdout:
-            print(line, end="", flush=True)
-            last = line
+        try:
+            for line in step.stdout:
+                print(line, end="", flush=True)
+                last = line
+        except KeyboardInterrupt:
+            step.terminate()
+            raise
     count = re.search(r"(\d+) passed, (\d+) failed", last)
     passed, failed = (int(it) for it in count.groups()) if count else (0, 0)
     return passed, max(failed, int(step.returncode != 0 or not count))
@@ -55,7 +62,8 @@ def main():
             copy_tree(copy)
         for step in STEPS if not failed else []:
             tool, *words = step.split() + (anew if step == "edits.py" else [])
-            counts = run([sys.executable, str(copy / "tools" / tool), *words], copy)
+            python = [sys.executable] if tool == "edits.py" else WATCHED
+            counts = run([*python, str(copy / "tools" / tool), *words], copy)
             passed, failed = passed + counts[0], failed + counts[1]
     used = resource.getrusage(resource.RUSAGE_CHILDREN)
     print(f"The gate took {minutes(time.monotonic() - began)}, and "

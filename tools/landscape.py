@@ -2,9 +2,9 @@
 """Draws the totals of a tuning over its constants, as an SVG or a PNG file by the name's end.
 
 One constant is a line, two are a map of colours, more are a map for each choice of the constants
-before the last two. A setting that was dropped has no total: it is grey. On a line it is a triangle
-at its cap, which its total does not exceed. The best setting is a star; a setting that does not
-assemble is left white. Needs matplotlib (Debian: python3-matplotlib).
+before the last two. A setting that was dropped has no total, so it is grey: a square of a map, or a
+triangle on a line, as high as its total can be at most. The best setting is a star; a setting that
+does not assemble is left white. Needs matplotlib (Debian: python3-matplotlib).
 """
 import argparse, itertools, math
 import tuning_files
@@ -134,7 +134,9 @@ def main():
     if asked.schedule:
         fights = tuning_files.read_schedule(asked.schedule)
     if not found.is_of(fights):
-        raise Fault(f"{asked.cert} is not a certificate of the schedule {asked.schedule}", 2)
+        wrong = (f" is not a certificate of the schedule {asked.schedule}" if asked.schedule
+                 else ": the points of the best setting do not make its total")
+        raise Fault(asked.cert + wrong, 2)
     plot = load_pyplot()
     draw = draw_line if len(template.names) == 1 else draw_maps
     figure = draw(plot, template, found, read_caps(found, fights))

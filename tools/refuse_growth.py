@@ -73,7 +73,7 @@ def refuse_each(library, program, test):
 
 def main():
     given = sys.argv[1:] or [HERE.parent / program for program in PROGRAMS]
-    programs = [program_of([program]) for program in given]
+    programs = [program_of([program], "rt test") for program in given]
     tests = [test for program in programs for test in tests_of(program)]
     with tempfile.TemporaryDirectory() as work:
         library = library_of("refuse_memory.c", work)

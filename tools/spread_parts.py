@@ -66,8 +66,11 @@ class Folder:
         if args.anew or "of" not in made:
             self.remove(OWN)
             made = self.fill(args, sources, copies, count)
-        self.check(args, made, fingerprint(args, sources))
-        self.check(args, made, fingerprint(args, copies))
+        self.compare(made, fingerprint(args, sources), "the parts in {} are of other inputs ({})")
+        self.compare(made, fingerprint(args, copies), "the copies in {} were changed ({})")
+        if args.parts and min(args.parts, made["count"]) != made["parts"]:
+            raise Fault(f"{self.told} has {made['parts']} parts: leave out --parts, or give --anew "
+                        "to throw them away and begin again", 2)
         self.remove(UNFINISHED)
         self.parts, self.count = made["parts"], made["count"]
 
@@ -100,15 +103,12 @@ class Folder:
         with whole_file(self.path / MARK) as file:
             json.dump(made, file)
 
-    def check(self, args, made, wanted):
-        """Refuses a folder of other inputs, or of another number of parts."""
+    def compare(self, made, wanted, told):
+        """Refuses a folder of which the fingerprint is another one."""
         other = [name for name, value in wanted.items() if made["of"][name] != value]
         if other:
-            raise Fault(f"the parts in {self.told} are of other inputs ({', '.join(other)}): "
-                        "give --anew to throw them away and begin again, or another CERT", 2)
-        if args.parts and min(args.parts, made["count"]) != made["parts"]:
-            raise Fault(f"{self.told} has {made['parts']} parts: leave out --parts, or give --anew "
-                        "to throw them away and begin again", 2)
+            raise Fault(f"{told.format(self.told, ', '.join(other))}: give --anew to throw the "
+                        "parts away and begin again, or another CERT", 2)
 
     def remove(self, pattern):
         """Removes the files with such names."""

@@ -16,18 +16,20 @@ FILES = {
 }
 
 
-def program_of(words):
+def program_of(words, command="make build"):
     """Returns the path of the program that the first word names, by default the one built here."""
     path = pathlib.Path(words[0] if words else BUILT)
     if not path.is_file():
-        raise Fault(f"no program {path} (`make build` builds one)", 2)
+        raise Fault(f"no program {path} (`{command}` builds one)", 2)
     return str(path.resolve())
 
 
 def library_of(source, work):
     """Compiles a library for LD_PRELOAD in the folder `work`. Returns its path. Needs `cc`."""
     library, source = f"{work}/refuse.so", str(pathlib.Path(__file__).with_name(source))
-    subprocess.run(["cc", "-shared", "-fPIC", "-O1", "-o", library, source, "-ldl"], check=True)
+    words = ["cc", "-shared", "-fPIC", "-O1", "-o", library, source, "-ldl"]
+    if subprocess.run(words).returncode != 0:
+        raise Fault(f"cc does not compile {source}", 3)
     return library
 
 

@@ -57,6 +57,11 @@ class Place:
     def done_parts(self):
         return len(list(self.folder.glob("CERT.parts/*.done")))
 
+    def wait_for_parts(self, parts, job):
+        """Waits until so many parts are done, or the job has ended."""
+        while self.done_parts() < parts and job.poll() is None:
+            time.sleep(0.002)
+
     def kill_at(self, parts, number, seconds, *words):
         """Ends `spread.py` by a signal, `seconds` after `parts` parts are done.
 
@@ -64,17 +69,20 @@ class Place:
         """
         job = subprocess.Popen(self.words(words), cwd=self.folder, stdout=subprocess.DEVNULL,
                                stderr=subprocess.PIPE)
-        while self.done_parts() < parts and job.poll() is None:
-            time.sleep(0.002)
+        self.wait_for_parts(parts, job)
         time.sleep(seconds)
         job.send_signal(number)
         return job.communicate()[1].decode()
 
     def unfinished(self):
         """Leaves CERT.parts as a kill leaves it, with some of 12 parts done and no CERT."""
-        self.clear()
-        while not self.done_parts():
-            self.kill_at(2, signal.SIGKILL, 0, "--jobs=1", "--parts=12", *DECOY)
+        for _ in range(10):
+            self.clear()
+            said = self.kill_at(2, signal.SIGKILL, 0, "--jobs=1", "--parts=12", *DECOY)
+            if self.done_parts():
+                break
+        else:
+            raise ValueError(f"no kill left a part: {said}")
         (self.folder / "CERT").unlink(missing_ok=True)
 
     def clear(self):
@@ -130,7 +138,7 @@ def other_inputs(place):
         ("program", ["--program=./program", *DECOY]),
     ]:
         said = (f"error: the parts in CERT.parts are of other inputs ({other}): give --anew to "
-                "throw them away and begin again, or another CERT\n")
+                "throw the parts away and begin again, or another CERT\n")
         before = place.done_parts()
         yield compare(f"parts of another {other} are refused", (2, "", said, before, None),
                       (*place.spread(*words), place.done_parts(), place.read("CERT")))
@@ -152,7 +160,9 @@ def damaged_parts(place):
                       (place.spread("--jobs=4", *DECOY)[1], place.read("CERT")))
     place.unfinished()
     (place.folder / "CERT.parts/t.red").write_bytes(b"MOV 0, 1\n")
-    yield compare("a copy that was changed is refused", 2, place.spread(*DECOY)[0])
+    yield compare("a copy that was changed is refused", (
+        2, "", "error: the copies in CERT.parts were changed (template): give --anew to throw the "
+        "parts away and begin again, or another CERT\n"), place.spread(*DECOY))
     place.clear()
 
 
@@ -177,8 +187,7 @@ def folders(place):
     (place.folder / "CERT.parts").unlink()
     job = subprocess.Popen(place.words(["--jobs=1", "--parts=12", *DECOY]), cwd=place.folder,
                            stdout=subprocess.DEVNULL)
-    while not place.done_parts():
-        time.sleep(0.002)
+    place.wait_for_parts(1, job)
     job.send_signal(signal.SIGSTOP)
     said = "error: another spread.py is at work in CERT.parts\n"
     yield compare("two at once", (2, "", said), place.spread(*DECOY))

@@ -3,11 +3,11 @@
 
 Also gives them what they have to refuse, and kills `spread.py` and starts it again. With --plain no
 picture is drawn, which needs matplotlib. With --store the results replace those stored; look at the
-difference before you keep them. A picture is compared by its words and numbers, and by how many of
-its settings are grey. Prints what failed, and as its last line `N passed, N failed`; the exit
+difference before you keep them. A picture is compared by its words and numbers, and by how many
+grey marks it has. Prints what failed, and as its last line `N passed, N failed`; the exit
 status is 1 if a run failed.
 """
-import argparse, os, pathlib, re, signal, subprocess, sys, tempfile
+import argparse, contextlib, os, pathlib, re, signal, subprocess, sys, tempfile
 
 import try_spread
 from endings import Fault, run_tool
@@ -33,7 +33,7 @@ PLAIN = {
     "no-weights.txt": "landscape.py stone.red weighted.cert picture.svg",
     "other-template.txt": "landscape.py step.red weighted.cert picture.svg",
 }
-# What the tools have to refuse: the words, and how they end. The files are those of `BAD`.
+# Files that are refused, beside those of examples/tuning/.
 BAD = {
     "binary": bytes(range(256)),
     "empty": b"",
@@ -41,10 +41,12 @@ BAD = {
     "row.cert": b"cwcert,1,1\nbest,0,3\ncap,0\n",
     "twin.cert": b"cwcert,1,2\nbest,0,3\ncap,0,0:3\nsame,1,2\n",
     "best.cert": b"cwcert,1,1\nbest,1,3\ncap,0,0:3\n",
+    "total.cert": (EXAMPLES / "step.cert").read_bytes().replace(b"best,3,16", b"best,3,17"),
     "range.red": b"NOP\n;@tune K 0 5 1\n",
     "ranges.red": b"".join(b";@tune %c 0 9999 1 0\n" % name for name in b"ABC"),
 }
 NO_FILE = "No such file or directory"
+# What the tools have to refuse: the words, the line on standard error, and the status.
 REFUSALS = [
     ("scores.py none schedule.csv", f"failed: none: {NO_FILE}", 3),
     ("scores.py step.cert none", f"failed: none: {NO_FILE}", 3),
@@ -73,6 +75,8 @@ REFUSALS = [
     ("tuning_files.py none", f"failed: none: {NO_FILE}", 3),
     ("landscape.py none step.cert x.png", f"failed: none: {NO_FILE}", 3),
     ("landscape.py step.red binary x.png", "refused: binary: not a certificate", 1),
+    ("landscape.py step.red total.cert x.png",
+     "error: total.cert: the points of the best setting do not make its total", 2),
     ("landscape.py step.red step.cert x.png --schedule six.csv",
      "error: step.cert is not a certificate of the schedule six.csv", 2),
     *((f"landscape.py step.red step.cert {name}",
@@ -80,7 +84,8 @@ REFUSALS = [
       for name in ["x.jpg", "x", "png"]),
     *((f"{tool} none", "error: no program none (`make build` builds one)", 2)
       for tool in ["run_cases.py", "cuts.py", "pipes.py", "large_texts.py", "refuse_memory.py",
-                   "refuse_writes.py", "refuse_growth.py"]),
+                   "refuse_writes.py"]),
+    ("refuse_growth.py none", "error: no program none (`rt test` builds one)", 2),
 ]
 NO_FOLDER = ("landscape.py step.red step.cert none/x.png", f"failed: none/x.png: {NO_FILE}", 3)
 TOOLS = ["tuning_files.py", "series.py", "scores.py", "landscape.py", "spread.py", "try_tools.py"]
@@ -146,6 +151,15 @@ def refusals(rows, python):
         yield "refusals write no file", differences(files, sorted(os.listdir(folder)))
 
 
+def interrupt(job):
+    """Ends a job by Ctrl-C. One that comes just before the job reads is not seen, so that another
+    has to follow."""
+    while job.poll() is None:
+        job.send_signal(signal.SIGINT)
+        with contextlib.suppress(subprocess.TimeoutExpired):
+            job.wait(5)
+
+
 def signals():
     """Closes the pipe of a tool, and interrupts tools. Yields names, and what was wrong."""
     words = [sys.executable, HERE / "scores.py", "step.cert", "schedule.csv"]
@@ -160,7 +174,7 @@ def signals():
             job = subprocess.Popen([sys.executable, *f"{HERE}/{tool}".split()], cwd=folder,
                                    stderr=subprocess.PIPE)
             with open(f"{folder}/pipe", "w"):  # which waits until the tool reads it
-                job.send_signal(signal.SIGINT)
+                interrupt(job)
                 said = job.communicate()[1]
             yield f"Ctrl-C in {tool}", differences((-signal.SIGINT, b""), (job.returncode, said))
 

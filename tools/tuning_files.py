@@ -1,9 +1,9 @@
 #!/usr/bin/env python3
 """Reads templates, schedules (with and without weights) and certificates (of both versions).
 
-Use: tuning_files.py FILE.. prints what each file is: a schedule or a certificate by its first
-record, anything else is read as a template. The other tools import it. It refuses a file that is
-none of these, and `cwtune` says what is wrong with it.
+Use: tuning_files.py FILE.. prints what each file is: a schedule or a certificate if its first record
+says so, and a template otherwise. The other tools import it. A file that is none of these is
+refused in a few words; what exactly is wrong with it, `cwtune` says.
 """
 import csv, itertools, math, pathlib, re, sys
 from typing import NamedTuple
