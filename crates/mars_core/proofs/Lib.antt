@@ -1,5 +1,6 @@
 pub mod Below
 pub mod Packing
+pub mod Classes
 pub mod Stores
 pub mod Written
 pub mod Sums

@@ -1,5 +1,5 @@
 -- Words and their parts.
-use Rattle.std.specs.Prelude.{Bool, ◌==◌, if◌then◌else◌}
+use Rattle.std.specs.Prelude.{Bool, true, false, ◌==◌, if◌then◌else◌}
 use Rattle.std.proofs.Common.{◌≡◌, ℕ, zero, suc, sym, ◌∙◌, ◌<◌, ◌≤◌, ◌+◌, ◌*◌, ◌-◌, ◌/◌, ◌%◌, ◌⊎◌, inl, inr, ap, refl, arith}
 use Rattle.rc_instr.specs.Instruction.{opcode_number, modifier_number, mode_number, same_instruction}
 use Rattle.rc_instr.specs.declared.instruction.Instruction.{Instruction}
@@ -11,9 +11,11 @@ use Rattle.rc_instr.specs.declared.instruction.Mode.{Mode}
 use Rattle.rc_instr.specs.declared.instruction.Mode.TheVariants.{Immediate, Direct, AIndirect, BIndirect, APredecrement, BPredecrement, APostincrement, BPostincrement}
 use Rattle.mars_core.specs.Numbers.{with_field}
 use Rattle.mars_core.specs.Numbers.{ANumber, BNumber}
-use Rattle.mars_core.specs.Packed.{packed, unpacked, mark_of, marked, same_parts, opcode_of, modifier_of, mode_of}
+use Rattle.mars_core.specs.Classes.{key_of, class_of_key, class_of}
+use Rattle.mars_core.specs.Codes.{opcode_of, modifier_of, mode_of}
+use Rattle.mars_core.specs.Packed.{IsClassed, class_in, packed, unpacked, mark_of, marked, same_parts}
 
-opcode_small : (o : Opcode) → (opcode_number o < 16) × (opcode_of (opcode_number o) ≡ o)
+pub opcode_small : (o : Opcode) → (opcode_number o < 16) × (opcode_of (opcode_number o) ≡ o)
 opcode_small Dat = (omega arith, refl)
 opcode_small Mov = (omega arith, refl)
 opcode_small Add = (omega arith, refl)
@@ -31,7 +33,7 @@ opcode_small Slt = (omega arith, refl)
 opcode_small Spl = (omega arith, refl)
 opcode_small Nop = (omega arith, refl)
 
-modifier_small : (k : Modifier) → (modifier_number k < 8) × (modifier_of (modifier_number k) ≡ k)
+pub modifier_small : (k : Modifier) → (modifier_number k < 8) × (modifier_of (modifier_number k) ≡ k)
 modifier_small A = (omega arith, refl)
 modifier_small B = (omega arith, refl)
 modifier_small AB = (omega arith, refl)
@@ -40,7 +42,7 @@ modifier_small F = (omega arith, refl)
 modifier_small X = (omega arith, refl)
 modifier_small I = (omega arith, refl)
 
-mode_small : (m : Mode) → (mode_number m < 8) × (mode_of (mode_number m) ≡ m)
+pub mode_small : (m : Mode) → (mode_number m < 8) × (mode_of (mode_number m) ≡ m)
 mode_small Immediate = (omega arith, refl)
 mode_small Direct = (omega arith, refl)
 mode_small AIndirect = (omega arith, refl)
@@ -58,6 +60,65 @@ parts : (o o' : ℕ) (k k' : ℕ) (m m' n n' x x' y y' : ℕ) → o ≡ o' → k
     instruction (opcode_of o) (modifier_of k) (mode_of m) x (mode_of n) y ≡ instruction (opcode_of o') (modifier_of k') (mode_of m') x' (mode_of n') y'
 parts o o' k k' m m' n n' x x' y y' eo ek em ex en ey = rw (eo, ek, em, ex, en, ey) refl
 
+-- a class is at most the last one
+either_small : (b : Bool) (x y : ℕ) → x < 41 → y < 41 → (if b then x else y) < 41
+either_small true x y h l = h
+either_small false x y h l = l
+
+pub class_small : (k : ℕ) → class_of_key k < 41
+unfolding class_of_key
+class_small k =
+    either_small (k == 2318) 1 _ (omega arith) (
+    either_small (k == 2361) 2 _ (omega arith) (
+    either_small (k == 6414) 3 _ (omega arith) (
+    either_small (k == 2066) 4 _ (omega arith) (
+    either_small (k == 2161) 5 _ (omega arith) (
+    either_small (k == 10553) 6 _ (omega arith) (
+    either_small (k == 2929) 7 _ (omega arith) (
+    either_small (k == 15886) 8 _ (omega arith) (
+    either_small (k == 8505) 9 _ (omega arith) (
+    either_small (k == 2324) 10 _ (omega arith) (
+    either_small (k == 2406) 11 _ (omega arith) (
+    either_small (k == 14606) 12 _ (omega arith) (
+    either_small (k == 2074) 13 _ (omega arith) (
+    either_small (k == 10580) 14 _ (omega arith) (
+    either_small (k == 2417) 15 _ (omega arith) (
+    either_small (k == 10510) 16 _ (omega arith) (
+    either_small (k == 2332) 17 _ (omega arith) (
+    either_small (k == 2398) 18 _ (omega arith) (
+    either_small (k == 14676) 19 _ (omega arith) (
+    either_small (k == 11278) 20 _ (omega arith) (
+    either_small (k == 14449) 21 _ (omega arith) (
+    either_small (k == 11534) 22 _ (omega arith) (
+    either_small (k == 4366) 23 _ (omega arith) (
+    either_small (k == 2308) 24 _ (omega arith) (
+    either_small (k == 2873) 25 _ (omega arith) (
+    either_small (k == 3342) 26 _ (omega arith) (
+    either_small (k == 2058) 27 _ (omega arith) (
+    either_small (k == 337) 28 _ (omega arith) (
+    either_small (k == 2369) 29 _ (omega arith) (
+    either_small (k == 10609) 30 _ (omega arith) (
+    either_small (k == 2416) 31 _ (omega arith) (
+    either_small (k == 2062) 32 _ (omega arith) (
+    either_small (k == 2385) 33 _ (omega arith) (
+    either_small (k == 11022) 34 _ (omega arith) (
+    either_small (k == 11524) 35 _ (omega arith) (
+    either_small (k == 15217) 36 _ (omega arith) (
+    either_small (k == 10577) 37 _ (omega arith) (
+    either_small (k == 2377) 38 _ (omega arith) (
+    either_small (k == 3844) 39 _ (omega arith) (
+    either_small (k == 2154) 40 _ (omega arith) (
+    omega arith))))))))))))))))))))))))))))))))))))))))
+
+-- the word of an opcode and a modifier alone
+pub coded_opcode : (o k w : ℕ) → w ≡ k + 8 * o → o < 16 → k < 8 → opcode_of (w / 8 % 16) ≡ opcode_of o
+coded_opcode o k w e lo lk = let h : w / 8 % 16 ≡ o = omega arith in ap opcode_of h
+
+pub coded_modifier : (o k w : ℕ) → w ≡ k + 8 * o → o < 16 → k < 8 → modifier_of (w % 8) ≡ modifier_of k
+coded_modifier o k w e lo lk = let h : w % 8 ≡ k = omega arith in ap modifier_of h
+
+pub ruleset coded = (coded_opcode, coded_modifier)
+
 pub unpacked_packed : (i : Instruction) (w : ℕ) → w ≡ packed i → i.a_number < 65536 → i.b_number < 65536 → unpacked w ≡ i
 unfolding packed unpacked
 unpacked_packed i w e a b =
@@ -65,13 +126,34 @@ unpacked_packed i w e a b =
     let sk = modifier_small i.modifier in
     let sm = mode_small i.a_mode in
     let sn = mode_small i.b_mode in
-    let o : w / 8 % 16 ≡ opcode_number i.opcode = omega (arith, so.0, sk.0) in
-    let k : w % 8 ≡ modifier_number i.modifier = omega (arith, so.0, sk.0) in
-    let m : w / 256 % 8 ≡ mode_number i.a_mode = omega (arith, so.0, sk.0, sm.0, sn.0) in
-    let n : w / 2048 % 8 ≡ mode_number i.b_mode = omega (arith, so.0, sk.0, sm.0, sn.0) in
-    let x : w / 65536 % 65536 ≡ i.a_number = omega (arith, so.0, sk.0, sm.0, sn.0) in
-    let y : w / 281474976710656 ≡ i.b_number = omega (arith, so.0, sk.0, sm.0, sn.0) in
+    let c = class_small (key_of i) in
+    let o : w / 8 % 16 ≡ opcode_number i.opcode = omega (arith, so.0, sk.0, sm.0, sn.0, c) in
+    let k : w % 8 ≡ modifier_number i.modifier = omega (arith, so.0, sk.0, sm.0, sn.0, c) in
+    let m : w / 256 % 8 ≡ mode_number i.a_mode = omega (arith, so.0, sk.0, sm.0, sn.0, c) in
+    let n : w / 2048 % 8 ≡ mode_number i.b_mode = omega (arith, so.0, sk.0, sm.0, sn.0, c) in
+    let x : w / 65536 % 65536 ≡ i.a_number = omega (arith, so.0, sk.0, sm.0, sn.0, c) in
+    let y : w / 281474976710656 ≡ i.b_number = omega (arith, so.0, sk.0, sm.0, sn.0, c) in
     rw (o, k, m, n, x, y, so.1, sk.1, sm.1, sn.1) refl
+
+-- the class that is packed is that of the instruction
+pub classed_packed : (i : Instruction) (w : ℕ) → w ≡ packed i → i.a_number < 65536 → i.b_number < 65536 → IsClassed w
+unfolding packed
+classed_packed i w e a b =
+    let so = opcode_small i.opcode in
+    let sk = modifier_small i.modifier in
+    let sm = mode_small i.a_mode in
+    let sn = mode_small i.b_mode in
+    let c = class_small (key_of i) in
+    let h : class_in w ≡ class_of i = omega (arith, so.0, sk.0, sm.0, sn.0, c) in
+    record { class_is = λ l. h ∙ sym (ap class_of (unpacked_packed i w e a b)) }
+
+-- a word without a class
+pub classed_low : (w : ℕ) → w < 4294967296 → IsClassed w
+classed_low w l = record { class_is = λ h. absurd (omega arith) }
+
+-- what keeps the class and changes no more than the numbers
+same_class : (v w : ℕ) → class_in v ≡ class_in w → class_of (unpacked v) ≡ class_of (unpacked w) → IsClassed w → IsClassed v
+same_class v w e f h = record { class_is = λ l. let k : 0 < class_in w = omega (arith, e) in e ∙ h.class_is k ∙ sym f }
 
 pub with_a : (w n k v : ℕ) → k ≡ n → n < 65536 → v ≡ w % 65536 + 65536 * k + 4294967296 * (w / 4294967296) →
     unpacked v ≡ with_field ANumber n (unpacked w)
@@ -89,6 +171,12 @@ with_b w n k v h l e =
     (let h : v / 256 % 8 ≡ w / 256 % 8 = omega arith in h) (let h : v / 65536 % 65536 ≡ w / 65536 % 65536 = omega arith in h)
     (let h : v / 2048 % 8 ≡ w / 2048 % 8 = omega arith in h) (let h : v / 281474976710656 ≡ n = omega arith in h)
 
+pub classed_a : (w n k v : ℕ) → k ≡ n → n < 65536 → v ≡ w % 65536 + 65536 * k + 4294967296 * (w / 4294967296) → IsClassed w → IsClassed v
+classed_a w n k v h l e p = same_class v w (let h : class_in v ≡ class_in w = omega arith in h) (ap class_of (with_a w n k v h l e)) p
+
+pub classed_b : (w n k v : ℕ) → k ≡ n → n < 65536 → v ≡ w % 281474976710656 + 281474976710656 * k → IsClassed w → IsClassed v
+classed_b w n k v h l e p = same_class v w (let h : class_in v ≡ class_in w = omega arith in h) (ap class_of (with_b w n k v h l e)) p
+
 -- a mark changes nothing in the instruction
 pub unpacked_marked : (w : ℕ) → unpacked (marked w) ≡ unpacked w
 unfolding unpacked marked mark_of
@@ -97,6 +185,12 @@ unpacked_marked w =
     parts _ _ _ _ _ _ _ _ _ _ _ _ (let h : v / 8 % 16 ≡ w / 8 % 16 = omega arith in h) (let h : v % 8 ≡ w % 8 = omega arith in h)
     (let h : v / 256 % 8 ≡ w / 256 % 8 = omega arith in h) (let h : v / 65536 % 65536 ≡ w / 65536 % 65536 = omega arith in h)
     (let h : v / 2048 % 8 ≡ w / 2048 % 8 = omega arith in h) (let h : v / 281474976710656 ≡ w / 281474976710656 = omega arith in h)
+
+pub classed_marked : (w v : ℕ) → v ≡ w + 32768 * (1 - w / 32768 % 2) → IsClassed w → IsClassed v
+unfolding marked mark_of
+classed_marked w v e p =
+    let f : v ≡ marked w = e in
+    same_class v w (let h : class_in v ≡ class_in w = omega arith in h) (ap class_of (ap unpacked f ∙ unpacked_marked w)) p
 
 pub mark_marked : (w : ℕ) → mark_of (marked w) ≡ 1
 unfolding marked mark_of

@@ -3,13 +3,14 @@ use Rattle.std.proofs.Common.{◌≡◌, ◌≢◌, ℕ, zero, suc, ◌<◌, ◌
 use Rattle.std.specs.Prelude.{slice_set, count_by, Contains, All, map, replicate}
 use Rattle.std.proofs.lemmas.Bool.Decides.{eqb_tells}
 use Rattle.std.proofs.lemmas.List.Sums.{sum_by-set, sum_by-cons, count_by-le-length}
-use Rattle.std.proofs.lemmas.List.Elements.{All-push, All-nil, Contains-push, Contains-append_left}
+use Rattle.std.proofs.lemmas.List.Elements.{All-push, All-nil, All-get_or, All-set, All-replicate, Contains-push, Contains-append_left}
 use Rattle.std.proofs.lemmas.List.{get_or-map, map-set, length-replicate, length-map}
 use Rattle.rc_instr.specs.Instruction.{empty_cell}
 use Rattle.rc_instr.specs.declared.instruction.Instruction.{Instruction}
-use Rattle.mars_core.specs.Packed.{packed, unpacked, is_marked, empty_word, marked, mark_of}
+use Rattle.mars_core.specs.Packed.{packed, unpacked, is_marked, empty_word, marked, mark_of, IsClassed}
+use Rattle.mars_core.specs.Classes.{class_of_key}
 use Rattle.mars_core.specs.Store.{IsStore, ListsWritten}
-use Rattle.mars_core.proofs.Packing.{unpacked_packed, unpacked_marked, mark_marked}
+use Rattle.mars_core.proofs.Packing.{unpacked_packed, unpacked_marked, mark_marked, classed_packed, classed_low}
 
 pub marked_is : (w v : ℕ) → v ≡ marked w → is_marked v ≡ true
 marked_is w v e = rw (e, mark_marked w) refl
@@ -70,8 +71,8 @@ at_or_other words at w k l = elim (eqb_tells k at) [
 stored : (words journal journal' : List ℕ) (count count' at w : ℕ) → IsStore words journal count → at < length words → is_marked w ≡ true →
     length words ≤ length journal' → count' ≡ count_by is_marked (slice_set words at w) →
     ((k : ℕ) → Contains (take count journal) k → Contains (take count' journal') k) → Contains (take count' journal') at →
-    All (λ j. j < length words) (take count' journal') → IsStore (slice_set words at w) journal' count'
-stored words journal journal' count count' at w s l m roomy counts keeps has within = record {
+    All (λ j. j < length words) (take count' journal') → IsClassed w → IsStore (slice_set words at w) journal' count'
+stored words journal journal' count count' at w s l m roomy counts keeps has within class = record {
   small = omega (arith, s.small, length-set words at w);
   room = omega (arith, length-set words at w);
   counted = counts;
@@ -86,22 +87,27 @@ stored words journal journal' count count' at w s l m roomy counts keeps has wit
         | inr p ↦ keeps k (s.listed k (omega (arith, length-set words at w)) (sym (ap is_marked p.1) ∙ e))
       ];
   within = λ k d h. rw (length-set words at w) (within k d h);
+  classed = All-set IsClassed words at w class s.classed;
 }
 
 pub stored_again : (words journal : List ℕ) (count at w : ℕ) → IsStore words journal count → at < length words → is_marked (get_or words at 0) ≡ true →
-    is_marked w ≡ true → IsStore (slice_set words at w) journal count
-stored_again words journal count at w s l u m =
-    stored words journal journal count count at w s l m s.room (s.counted ∙ sym (counted_same words at w l u m)) (λ k h. h) (s.listed at l u) s.within
+    is_marked w ≡ true → IsClassed w → IsStore (slice_set words at w) journal count
+stored_again words journal count at w s l u m p =
+    stored words journal journal count count at w s l m s.room (s.counted ∙ sym (counted_same words at w l u m)) (λ k h. h) (s.listed at l u) s.within p
 
 pub stored_first : (words journal : List ℕ) (count at w : ℕ) → IsStore words journal count → at < length words → is_marked (get_or words at 0) ≡ false →
-    is_marked w ≡ true → IsStore (slice_set words at w) (slice_set journal count at) (count + 1)
-stored_first words journal count at w s l u m =
+    is_marked w ≡ true → IsClassed w → IsStore (slice_set words at w) (slice_set journal count at) (count + 1)
+stored_first words journal count at w s l u m p =
     let left = room_left words journal count at s l u in
     let taken = taken_more journal count at (omega (arith, left, s.room)) in
     stored words journal (slice_set journal count at) count (count + 1) at w s l m (omega (arith, s.room, length-set journal count at))
     (sym (counted_more words at w l u m ∙ ap (λ n. n + 1) (sym s.counted)))
     (λ k h. rw taken (Contains-append_left (take count journal) (at ∷ []) k h)) (rw taken (Contains-push (take count journal) at))
-    (rw taken (All-push (λ j. j < length words) (take count journal) at s.within l))
+    (rw taken (All-push (λ j. j < length words) (take count journal) at s.within l)) p
+
+-- each word keeps a class that is right
+pub word_classed : (words journal : List ℕ) (count at : ℕ) → IsStore words journal count → at < length words → IsClassed (get_or words at 0)
+word_classed words journal count at s l = All-get_or IsClassed words at 0 l s.classed
 
 pub item_at : (words : List ℕ) (at : ℕ) → at < length words → get_or (map unpacked words) at empty_cell ≡ unpacked (get_or words at 0)
 item_at words at l = get_or-map unpacked words at 0 empty_cell l
@@ -140,7 +146,7 @@ blanks_of words old e = ap (λ xs. map unpacked xs) e ∙ blanks (length old) �
 
 -- the empty word is not marked
 pub empty_unmarked : is_marked empty_word ≡ false
-unfolding empty_word packed mark_of
+unfolding empty_word packed mark_of class_of_key
 empty_unmarked = refl
 
 get_or_replicate : (m k x : ℕ) → k < m → get_or (replicate m x) k 0 ≡ x
@@ -155,6 +161,13 @@ none_counted (suc m) =
     let r : bit (is_marked empty_word) + count_by is_marked (replicate m empty_word) ≡ 0 = omega (arith, e, none_counted m) in
     sum_by-cons (λ x. bit (is_marked x)) empty_word (replicate m empty_word) ∙ r
 
+empty_classed : IsClassed empty_word
+unfolding empty_word
+empty_classed = classed_packed empty_cell (packed empty_cell) refl (omega arith) (omega arith)
+
+all_empty : (m : ℕ) → All IsClassed (replicate m empty_word)
+all_empty m = All-replicate IsClassed m empty_word empty_classed
+
 pub fresh_store : (m : ℕ) (journal : List ℕ) → m ≤ 65535 → m ≤ length journal → IsStore (replicate m empty_word) journal 0
 fresh_store m journal l r = let n = length-replicate m empty_word in record {
   small = omega (arith, n);
@@ -163,6 +176,7 @@ fresh_store m journal l r = let n = length-replicate m empty_word in record {
   empty = λ k h e. get_or_replicate m k empty_word (omega (arith, n));
   listed = λ k h e. absurd (let t : true ≡ false = sym e ∙ ap is_marked (get_or_replicate m k empty_word (omega (arith, n))) ∙ empty_unmarked in cc);
   within = All-nil (λ j. j < length (replicate m empty_word));
+  classed = all_empty m;
 }
 
-pub ruleset stores = (room_left, stored_again, stored_first, fresh_store)
+pub ruleset stores = (room_left, stored_again, stored_first, fresh_store, word_classed)

@@ -8,6 +8,8 @@ pub mod Pairs
 pub mod Step
 pub mod State
 pub mod Fight
+pub mod Codes
+pub mod Classes
 pub mod Packed
 pub mod Store
 pub mod Evaluated

@@ -1,43 +1,18 @@
 -- An instruction in one word of 64 bits, with a mark. From the lowest bit on:
 --
---   bits   0 .. 2    3 .. 6   8 .. 10   11 .. 13   15     16 .. 31   48 .. 63
---          modifier  opcode   A-mode    B-mode     mark   A-number   B-number
+--   bits   0 .. 2    3 .. 6   8 .. 10   11 .. 13   15     16 .. 31   32 .. 47   48 .. 63
+--          modifier  opcode   A-mode    B-mode     mark   A-number   class      B-number
 --
 -- The other bits are 0.
---
--- Opcodes, modifiers and modes are numbered in the order of their declaration.
-use Rattle.std.specs.Prelude.{ℕ, Bool, ◌+◌, ◌-◌, ◌*◌, ◌/◌, ◌%◌, ◌==◌, ◌&&◌, if◌then◌else◌}
-use Rattle.rc_instr.specs.Instruction.{opcode_number, modifier_number, mode_number, empty_cell}
+use Rattle.std.specs.Prelude.{◌≡◌, ℕ, ◌<◌, Bool, ◌+◌, ◌-◌, ◌*◌, ◌/◌, ◌%◌, ◌==◌, ◌&&◌}
+use Rattle.rc_instr.specs.Instruction.{modifier_number, empty_cell}
 use Rattle.rc_instr.specs.declared.instruction.Instruction.{Instruction}
-use Rattle.rc_instr.specs.declared.instruction.Opcode.{Opcode}
-use Rattle.rc_instr.specs.declared.instruction.Opcode.TheVariants.{Dat, Mov, Add, Sub, Mul, Div, Mod, Jmp, Jmz, Jmn, Djn, Seq, Sne, Slt, Spl, Nop}
-use Rattle.rc_instr.specs.declared.instruction.Modifier.{Modifier}
-use Rattle.rc_instr.specs.declared.instruction.Modifier.TheVariants.{A, B, AB, BA, F, X, I}
-use Rattle.rc_instr.specs.declared.instruction.Mode.{Mode}
-use Rattle.rc_instr.specs.declared.instruction.Mode.TheVariants.{Immediate, Direct, AIndirect, BIndirect, APredecrement, BPredecrement, APostincrement, BPostincrement}
-
-abbrev pub opcode_of : ℕ → Opcode
-opcode_of n =
-    if n == 0 then Dat else if n == 1 then Mov else if n == 2 then Add else if n == 3 then Sub
-    else if n == 4 then Mul else if n == 5 then Div else if n == 6 then Mod else if n == 7 then Jmp
-    else if n == 8 then Jmz else if n == 9 then Jmn else if n == 10 then Djn else if n == 11 then Seq
-    else if n == 12 then Sne else if n == 13 then Slt else if n == 14 then Spl else Nop
-
-abbrev pub modifier_of : ℕ → Modifier
-modifier_of n =
-    if n == 0 then A else if n == 1 then B else if n == 2 then AB else if n == 3 then BA
-    else if n == 4 then F else if n == 5 then X else I
-
-abbrev pub mode_of : ℕ → Mode
-mode_of n =
-    if n == 0 then Immediate else if n == 1 then Direct else if n == 2 then AIndirect else if n == 3 then BIndirect
-    else if n == 4 then APredecrement else if n == 5 then BPredecrement else if n == 6 then APostincrement else BPostincrement
+use Rattle.mars_core.specs.Classes.{key_of, class_of}
+use Rattle.mars_core.specs.Codes.{opcode_of, modifier_of, mode_of}
 
 -- the word of an instruction without a mark
 unfoldable pub packed : Instruction → ℕ
-packed i =
-    modifier_number i.modifier + 8 * opcode_number i.opcode + 256 * (mode_number i.a_mode + 8 * mode_number i.b_mode)
-    + 65536 * i.a_number + 281474976710656 * i.b_number
+packed i = key_of i + 65536 * i.a_number + 4294967296 * class_of i + 281474976710656 * i.b_number
 
 -- the instruction of a word
 unfoldable pub unpacked : ℕ → Instruction
@@ -49,6 +24,14 @@ unpacked w = record {
   b_mode = mode_of (w / 2048 % 8);
   b_number = w / 281474976710656;
 }
+
+-- the class that a word keeps
+abbrev pub class_in : ℕ → ℕ
+class_in w = w / 4294967296 % 65536
+
+-- The class in a word is 0, or that of its instruction.
+pub record IsClassed (w : ℕ) : Type 0 where
+  pub class_is : 0 < class_in w → class_in w ≡ class_of (unpacked w)
 
 -- 1 if the word is marked, else 0
 unfoldable pub mark_of : ℕ → ℕ

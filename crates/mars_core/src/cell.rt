@@ -5,8 +5,11 @@ ghost use Rattle.rc_instr.specs.declared.instruction.Modifier.{Modifier};
 ghost use Rattle.rc_instr.specs.Instruction.{same_instruction};
 ghost use Rattle.rc_instr.specs.declared.instruction.Instruction.{Instruction};
 ghost use Rattle.mars_core.specs.Numbers.{with_field};
+ghost use Rattle.mars_core.specs.Classes.{class_of};
+ghost use Rattle.mars_core.specs.Codes.{opcode_of, modifier_of};
 ghost use Rattle.mars_core.specs.Numbers.{ANumber, BNumber};
 
+use crate::packed::{modifier_from, opcode_from};
 use rc_instr::{Instruction, Mode, Modifier, Opcode};
 
 /// A cell in the form in which a store keeps it.
@@ -18,9 +21,18 @@ pub trait Cell: Copy {
     fn of(instruction: Instruction) -> Self
         ensures { held result ≡ instruction };
 
+    /// Returns a cell with an opcode and a modifier, by their numbers.
+    fn coded(opcode: u64, modifier: u64) -> Self
+        requires { (opcode < 16) × (modifier < 8) }
+        ensures { ((held result).opcode ≡ opcode_of opcode) × ((held result).modifier ≡ modifier_of modifier) };
+
     /// Returns the instruction in the cell.
     fn instruction(self) -> Instruction
         ensures { result ≡ held self };
+
+    /// Returns the class of the instruction, if the store keeps it; else 0.
+    fn class(self) -> u64
+        ensures { 0 < result → result ≡ class_of (held self) };
 
     fn opcode(self) -> Opcode
         ensures { result ≡ (held self).opcode };
@@ -70,8 +82,22 @@ impl Cell for Instruction {
     }
 
     #[inline]
+    fn coded(opcode: u64, modifier: u64) -> Instruction {
+        Instruction {
+            opcode: opcode_from(opcode),
+            modifier: modifier_from(modifier),
+            ..Instruction::empty()
+        }
+    }
+
+    #[inline]
     fn instruction(self) -> Instruction {
         self
+    }
+
+    #[inline]
+    fn class(self) -> u64 {
+        0
     }
 
     #[inline]

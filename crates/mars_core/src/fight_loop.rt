@@ -7,7 +7,7 @@ ghost use Rattle.mars_core.specs.declared.side.Side.{Side};
 
 use crate::cells::Cells;
 use crate::tasks::Tasks;
-use crate::turn::take_turn;
+use crate::turn::next_turn;
 
 // Alternates turns, `mine` first, until a queue is empty or `cycles` are over.
 // Returns the number of turns.
@@ -39,10 +39,10 @@ pub(crate) fn alternate<C: Cells>(
         return 0;
     }
     for cycle in 0..cycles {
-        if take_turn(cells, mine, size) {
+        if next_turn(cells, mine, size) {
             return 2 * cycle + 1;
         }
-        if take_turn(cells, theirs, size) {
+        if next_turn(cells, theirs, size) {
             return 2 * cycle + 2;
         }
     }

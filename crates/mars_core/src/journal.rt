@@ -1,7 +1,7 @@
 //! Cells in words, with a journal of those that were written.
 ghost use Rattle.std.specs.Prelude.{◌≡◌, ◌<◌, ◌≤◌, ◌+◌, slice_set, replicate, length, true, IfOk};
 ghost use Rattle.rc_instr.specs.Instruction.{empty_cell};
-ghost use Rattle.mars_core.specs.Packed.{unpacked, is_marked, empty_word};
+ghost use Rattle.mars_core.specs.Packed.{unpacked, is_marked, empty_word, IsClassed};
 ghost use Rattle.mars_core.specs.Store.{IsStore, ListsWritten};
 
 use crate::cells::Cells;
@@ -38,6 +38,7 @@ fn put(words: &mut Vec<u64>, journal: &mut Vec<u16>, count: &mut usize, at: u32,
     requires store { IsStore words.old.items journal.old.items count.old }
     requires at { at < length words.old.items }
     requires marked { is_marked word ≡ true }
+    requires classed { IsClassed word }
     ensures words { words.new.items ≡ slice_set words.old.items at word }
     ensures store { IsStore words.new.items journal.new.items count.new }
     ensures marks { count.new ≤ count.old + 1 }
@@ -96,7 +97,7 @@ impl Cells for PackedCells {
         self.words.len() as u32
     }
 
-    #[tactic(auto, using(crate::proofs::Stores::item_at), unfolding(crate::specs::Core::cell_at))]
+    #[tactic(auto, using(crate::proofs::Stores::item_at, crate::proofs::Stores::word_classed), unfolding(crate::specs::Core::cell_at))]
     #[inline]
     fn cell(&self, at: u32) -> PackedCell {
         PackedCell {

@@ -4,6 +4,7 @@
 #![tactic(auto)]
 
 mod arena;
+mod arm;
 mod cell;
 mod cells;
 mod effect;

@@ -2,19 +2,22 @@
 ghost use Rattle.std.specs.Prelude.{◌≡◌, ◌<◌, ◌%◌};
 ghost use Rattle.rc_instr.specs.Instruction.{opcode_number, modifier_number, mode_number};
 ghost use Rattle.rc_instr.specs.declared.instruction.Instruction.{Instruction};
-ghost use Rattle.mars_core.specs.Packed.{packed, unpacked, is_marked, marked, empty_word, same_parts, opcode_of, modifier_of, mode_of};
+ghost use Rattle.mars_core.specs.Classes.{class_of_key};
+ghost use Rattle.mars_core.specs.Codes.{opcode_of, modifier_of, mode_of};
+ghost use Rattle.mars_core.specs.Packed.{IsClassed, packed, unpacked, is_marked, marked, empty_word, same_parts};
 
 use crate::cell::Cell;
 use rc_instr::{Instruction, Mode, Modifier, Opcode};
 
-/// A cell in one word: its instruction, and the mark of a cell that was written.
+/// A cell in one word: its instruction, its class, and the mark of a cell that was written.
 #[derive(Clone, Copy, Drop)]
 pub struct PackedCell {
     pub(crate) word: u64,
+    ghost classed: { IsClassed word },
 }
 
 #[inline]
-fn opcode_from(number: u64) -> Opcode
+pub(crate) fn opcode_from(number: u64) -> Opcode
     requires { number < 16 }
     ensures { result ≡ opcode_of number }
 {
@@ -39,7 +42,7 @@ fn opcode_from(number: u64) -> Opcode
 }
 
 #[inline]
-fn modifier_from(number: u64) -> Modifier
+pub(crate) fn modifier_from(number: u64) -> Modifier
     requires { number < 8 }
     ensures { result ≡ modifier_of number }
 {
@@ -55,7 +58,7 @@ fn modifier_from(number: u64) -> Modifier
 }
 
 #[inline]
-fn mode_from(number: u64) -> Mode
+pub(crate) fn mode_from(number: u64) -> Mode
     requires { number < 8 }
     ensures { result ≡ mode_of number }
 {
@@ -95,22 +98,75 @@ fn mode_code(mode: Mode) -> u64
     mode as u64
 }
 
+// Returns the class of a key, 0 if it has none.
+#[inline]
+#[tactic(auto, unfolding(crate::specs::Classes::class_of_key))]
+fn class_in(key: u64) -> u64
+    ensures value { result ≡ class_of_key key }
+    ensures small { result < 256 }
+{
+    match key {
+        2318 => 1, // MOV.I $, $
+        2361 => 2, // JMP.B $, $
+        6414 => 3, // MOV.I $, @
+        2066 => 4, // ADD.AB #, $
+        2161 => 5, // SPL.B #, $
+        10553 => 6, // JMP.B $, <
+        2929 => 7, // SPL.B @, $
+        15886 => 8, // MOV.I }, >
+        8505 => 9, // JMP.B $, {
+        2324 => 10, // ADD.F $, $
+        2406 => 11, // SNE.I $, $
+        14606 => 12, // MOV.I $, >
+        2074 => 13, // SUB.AB #, $
+        10580 => 14, // DJN.F $, <
+        2417 => 15, // SPL.B $, $
+        10510 => 16, // MOV.I $, <
+        2332 => 17, // SUB.F $, $
+        2398 => 18, // SEQ.I $, $
+        14676 => 19, // DJN.F $, >
+        11278 => 20, // MOV.I {, <
+        14449 => 21, // SPL.B #, >
+        11534 => 22, // MOV.I <, <
+        4366 => 23, // MOV.I $, *
+        2308 => 24, // DAT.F $, $
+        2873 => 25, // JMP.B @, $
+        3342 => 26, // MOV.I <, $
+        2058 => 27, // MOV.AB #, $
+        337 => 28, // DJN.B $, #
+        2369 => 29, // JMZ.B $, $
+        10609 => 30, // SPL.B $, <
+        2416 => 31, // SPL.A $, $
+        2062 => 32, // MOV.I #, $
+        2385 => 33, // DJN.B $, $
+        11022 => 34, // MOV.I @, <
+        11524 => 35, // DAT.F <, <
+        15217 => 36, // SPL.B @, >
+        10577 => 37, // DJN.B $, <
+        2377 => 38, // JMN.B $, $
+        3844 => 39, // DAT.F >, $
+        2154 => 40, // SLT.AB #, $
+        _ => 0,
+    }
+}
+
 // Packs an instruction, without a mark.
 #[tactic(auto, unfolding(crate::specs::Packed::packed))]
 #[inline]
 fn pack(instruction: Instruction) -> u64
     ensures { result ≡ packed instruction }
 {
-    let key = modifier_code(instruction.modifier) + 8 * opcode_code(instruction.opcode);
+    let code = modifier_code(instruction.modifier) + 8 * opcode_code(instruction.opcode);
     let modes = mode_code(instruction.a_mode) + 8 * mode_code(instruction.b_mode);
     let a = u64::from(instruction.a_number);
     let b = u64::from(instruction.b_number);
-    key + 256 * modes + 65536 * a + 281474976710656 * b
+    let key = code + 256 * modes;
+    key + 65536 * a + 4294967296 * class_in(key) + 281474976710656 * b
 }
 
 impl PackedCell {
     // Returns the empty cell, without a mark.
-    #[tactic(auto, unfolding(crate::specs::Packed::empty_word))]
+    #[tactic(auto, using(crate::proofs::Packing::classed_packed), unfolding(crate::specs::Packed::empty_word))]
     #[inline]
     pub(crate) fn empty() -> PackedCell
         ensures { result.word ≡ empty_word }
@@ -121,7 +177,7 @@ impl PackedCell {
     }
 
     // Returns the cell with a mark.
-    #[tactic(auto, unfolding(crate::specs::Packed::mark_of, crate::specs::Packed::marked))]
+    #[tactic(auto, using(crate::proofs::Packing::classed_marked), unfolding(crate::specs::Packed::mark_of, crate::specs::Packed::marked))]
     #[inline]
     pub(crate) fn marked(self) -> PackedCell
         ensures { result.word ≡ marked self.word }
@@ -145,11 +201,19 @@ impl PackedCell {
 impl Cell for PackedCell {
     ghost held = { λ c. unpacked c.word };
 
-    #[tactic(auto, using(crate::proofs::Packing::unpacked_packed))]
+    #[tactic(auto, using(crate::proofs::Packing::unpacked_packed, crate::proofs::Packing::classed_packed))]
     #[inline]
     fn of(instruction: Instruction) -> PackedCell {
         PackedCell {
             word: pack(instruction),
+        }
+    }
+
+    #[tactic(auto, using(crate::proofs::Packing::coded, crate::proofs::Packing::classed_low), unfolding(crate::specs::Packed::unpacked))]
+    #[inline]
+    fn coded(opcode: u64, modifier: u64) -> PackedCell {
+        PackedCell {
+            word: modifier + 8 * opcode,
         }
     }
 
@@ -164,6 +228,11 @@ impl Cell for PackedCell {
             b_mode: self.b_mode(),
             b_number: (self.word / 281474976710656) as u16,
         }
+    }
+
+    #[inline]
+    fn class(self) -> u64 {
+        self.word / 4294967296 % 65536
     }
 
     #[tactic(auto, unfolding(crate::specs::Packed::unpacked))]
@@ -215,6 +284,7 @@ impl Cell for PackedCell {
         (self.word / 281474976710656) as u32
     }
 
+    #[tactic(auto, using(crate::proofs::Packing::classed_a))]
     #[inline]
     fn with_a_number(self, number: u32) -> PackedCell {
         let low = self.word % 65536;
@@ -224,6 +294,7 @@ impl Cell for PackedCell {
         }
     }
 
+    #[tactic(auto, using(crate::proofs::Packing::classed_b))]
     #[inline]
     fn with_b_number(self, number: u32) -> PackedCell {
         let low = self.word % 281474976710656;

@@ -1,11 +1,14 @@
 //! One turn of a side: its first task executes an instruction, and queues what follows.
 ghost use Rattle.std.specs.Prelude.{◌≡◌, false, ◌<◌, ◌≤◌, ◌==◌, ◌+◌, ◌∷◌, [], ◌++◌, length, drop, if◌then◌else◌, nat_lt};
 ghost use Rattle.circular_buffer.specs.Buffer.{buffer};
-ghost use Rattle.mars_core.specs.Core.{IsCore, AreTasks};
+ghost use Rattle.rc_instr.specs.Warrior.{IsBelow};
+ghost use Rattle.mars_core.specs.Classes.{class_of};
+ghost use Rattle.mars_core.specs.Core.{cell_at, IsCore, AreTasks};
 ghost use Rattle.mars_core.specs.Step.{step_of, leaves};
 ghost use Rattle.mars_core.specs.State.{appended, core_after, tasks_after};
 ghost use Rattle.mars_core.specs.Evaluated.{addresses};
 
+use crate::arm::arm;
 use crate::cell::Cell;
 use crate::cells::{Cells, read, write};
 use crate::effect::{Queued, act};
@@ -38,24 +41,128 @@ pub(crate) fn take_turn<C: Cells>(cells: &mut C, tasks: &mut Tasks, size: u32) -
     if tasks.is_empty() {
         return true;
     }
+    next_turn(cells, tasks, size)
+}
+
+// Takes one turn of a side that has a task. Returns whether the queue is empty afterwards.
+#[tactic(auto, using(crate::proofs::Queues::queues), unfolding(crate::specs::State::core_after, crate::specs::State::tasks_after))]
+#[inline(always)]
+pub(crate) fn next_turn<C: Cells>(cells: &mut C, tasks: &mut Tasks, size: u32) -> bool
+    requires core { IsCore size (C.items cells.old) }
+    requires tasks { AreTasks size tasks.old.items }
+    requires some { 0 < length tasks.old.items }
+    ensures cells { C.items cells.new ≡ core_after (C.items cells.old) tasks.old.items }
+    ensures tasks { tasks.new ≡ buffer (tasks_after tasks.old.capacity (C.items cells.old) tasks.old.items) tasks.old.capacity }
+    ensures over { result ≡ (length tasks.new.items == 0) }
+    ensures core { IsCore size (C.items cells.new) }
+    ensures below { AreTasks size tasks.new.items }
+    ensures marks { C.marks cells.new ≤ C.marks cells.old + 3 }
+{
     let pc = tasks.first();
-    let executed = execute(cells, size, pc);
+    let cell = read(cells, size, pc);
+    let class = cell.class();
+    if class == 0 {
+        return any_turn(cells, tasks, size);
+    }
+    let executed = execute(cells, size, pc, cell, class);
     requeue(tasks, size, pc, executed)
 }
 
-// Executes the instruction at `pc` (1994 draft). MOV.I, SPL and NOP come before the match of
-// opcodes, since they are frequent and need no field of the operands' copies.
-#[tactic(auto, unfolding(crate::specs::Step::step_of, crate::specs::Step::effect_of, crate::specs::Pairs::computed))]
+// Takes one turn of a side that has a task, whatever its instruction is. It stays out of line, so
+// that it takes no registers from the arms.
+#[tactic(auto, using(crate::proofs::Queues::queues), unfolding(crate::specs::State::core_after, crate::specs::State::tasks_after))]
+#[inline(never)]
+fn any_turn<C: Cells>(cells: &mut C, tasks: &mut Tasks, size: u32) -> bool
+    requires core { IsCore size (C.items cells.old) }
+    requires tasks { AreTasks size tasks.old.items }
+    requires some { 0 < length tasks.old.items }
+    ensures cells { C.items cells.new ≡ core_after (C.items cells.old) tasks.old.items }
+    ensures tasks { tasks.new ≡ buffer (tasks_after tasks.old.capacity (C.items cells.old) tasks.old.items) tasks.old.capacity }
+    ensures over { result ≡ (length tasks.new.items == 0) }
+    ensures core { IsCore size (C.items cells.new) }
+    ensures below { AreTasks size tasks.new.items }
+    ensures marks { C.marks cells.new ≤ C.marks cells.old + 3 }
+{
+    let pc = tasks.first();
+    let cell = read(cells, size, pc);
+    let executed = execute_any(cells, size, pc, cell);
+    requeue(tasks, size, pc, executed)
+}
+
+// Executes the instruction at `pc`, which is `cell` (1994 draft). A frequent one has an arm of its
+// own, in which the numbers of its opcode, modifier and modes are constants: one jump leads there.
+// The last class has the arm `_`. A call in place of an arm would cost a second jump.
 #[inline(always)]
-fn execute<C: Cells>(cells: &mut C, size: u32, pc: u32) -> Executed
+fn execute<C: Cells>(cells: &mut C, size: u32, pc: u32, cell: C::Kept, class: u64) -> Executed
     requires core { IsCore size (C.items cells.old) }
     requires pc { pc < size }
+    requires cell { C.Kept.held cell ≡ cell_at (C.items cells.old) pc }
+    requires below { IsBelow size (C.Kept.held cell) }
+    requires some { 0 < class }
+    requires class { class ≡ class_of (C.Kept.held cell) }
     ensures value { leaves (C.items cells.new) (addresses size pc result.jump result.queued) ≡ step_of (C.items cells.old) pc }
     ensures core { IsCore size (C.items cells.new) }
     ensures jump { result.jump < size }
     ensures marks { C.marks cells.new ≤ C.marks cells.old + 3 }
 {
-    let cell = read(cells, size, pc);
+    match class {
+        1 => arm::<C, 1, 6, 1, 1>(cells, size, pc, cell), // MOV.I $, $
+        2 => arm::<C, 7, 1, 1, 1>(cells, size, pc, cell), // JMP.B $, $
+        3 => arm::<C, 1, 6, 1, 3>(cells, size, pc, cell), // MOV.I $, @
+        4 => arm::<C, 2, 2, 0, 1>(cells, size, pc, cell), // ADD.AB #, $
+        5 => arm::<C, 14, 1, 0, 1>(cells, size, pc, cell), // SPL.B #, $
+        6 => arm::<C, 7, 1, 1, 5>(cells, size, pc, cell), // JMP.B $, <
+        7 => arm::<C, 14, 1, 3, 1>(cells, size, pc, cell), // SPL.B @, $
+        8 => arm::<C, 1, 6, 6, 7>(cells, size, pc, cell), // MOV.I }, >
+        9 => arm::<C, 7, 1, 1, 4>(cells, size, pc, cell), // JMP.B $, {
+        10 => arm::<C, 2, 4, 1, 1>(cells, size, pc, cell), // ADD.F $, $
+        11 => arm::<C, 12, 6, 1, 1>(cells, size, pc, cell), // SNE.I $, $
+        12 => arm::<C, 1, 6, 1, 7>(cells, size, pc, cell), // MOV.I $, >
+        13 => arm::<C, 3, 2, 0, 1>(cells, size, pc, cell), // SUB.AB #, $
+        14 => arm::<C, 10, 4, 1, 5>(cells, size, pc, cell), // DJN.F $, <
+        15 => arm::<C, 14, 1, 1, 1>(cells, size, pc, cell), // SPL.B $, $
+        16 => arm::<C, 1, 6, 1, 5>(cells, size, pc, cell), // MOV.I $, <
+        17 => arm::<C, 3, 4, 1, 1>(cells, size, pc, cell), // SUB.F $, $
+        18 => arm::<C, 11, 6, 1, 1>(cells, size, pc, cell), // SEQ.I $, $
+        19 => arm::<C, 10, 4, 1, 7>(cells, size, pc, cell), // DJN.F $, >
+        20 => arm::<C, 1, 6, 4, 5>(cells, size, pc, cell), // MOV.I {, <
+        21 => arm::<C, 14, 1, 0, 7>(cells, size, pc, cell), // SPL.B #, >
+        22 => arm::<C, 1, 6, 5, 5>(cells, size, pc, cell), // MOV.I <, <
+        23 => arm::<C, 1, 6, 1, 2>(cells, size, pc, cell), // MOV.I $, *
+        24 => arm::<C, 0, 4, 1, 1>(cells, size, pc, cell), // DAT.F $, $
+        25 => arm::<C, 7, 1, 3, 1>(cells, size, pc, cell), // JMP.B @, $
+        26 => arm::<C, 1, 6, 5, 1>(cells, size, pc, cell), // MOV.I <, $
+        27 => arm::<C, 1, 2, 0, 1>(cells, size, pc, cell), // MOV.AB #, $
+        28 => arm::<C, 10, 1, 1, 0>(cells, size, pc, cell), // DJN.B $, #
+        29 => arm::<C, 8, 1, 1, 1>(cells, size, pc, cell), // JMZ.B $, $
+        30 => arm::<C, 14, 1, 1, 5>(cells, size, pc, cell), // SPL.B $, <
+        31 => arm::<C, 14, 0, 1, 1>(cells, size, pc, cell), // SPL.A $, $
+        32 => arm::<C, 1, 6, 0, 1>(cells, size, pc, cell), // MOV.I #, $
+        33 => arm::<C, 10, 1, 1, 1>(cells, size, pc, cell), // DJN.B $, $
+        34 => arm::<C, 1, 6, 3, 5>(cells, size, pc, cell), // MOV.I @, <
+        35 => arm::<C, 0, 4, 5, 5>(cells, size, pc, cell), // DAT.F <, <
+        36 => arm::<C, 14, 1, 3, 7>(cells, size, pc, cell), // SPL.B @, >
+        37 => arm::<C, 10, 1, 1, 5>(cells, size, pc, cell), // DJN.B $, <
+        38 => arm::<C, 9, 1, 1, 1>(cells, size, pc, cell), // JMN.B $, $
+        39 => arm::<C, 0, 4, 7, 1>(cells, size, pc, cell), // DAT.F >, $
+        _ => arm::<C, 13, 2, 0, 1>(cells, size, pc, cell), // SLT.AB #, $
+    }
+}
+
+// Executes any instruction. MOV.I, SPL and NOP come before the match of opcodes, since they are
+// frequent and need no field of the operands' copies.
+#[tactic(auto, unfolding(crate::specs::Step::step_of, crate::specs::Step::effect_of, crate::specs::Pairs::computed))]
+#[inline(always)]
+fn execute_any<C: Cells>(cells: &mut C, size: u32, pc: u32, cell: C::Kept) -> Executed
+    requires core { IsCore size (C.items cells.old) }
+    requires pc { pc < size }
+    requires cell { C.Kept.held cell ≡ cell_at (C.items cells.old) pc }
+    requires below { IsBelow size (C.Kept.held cell) }
+    ensures value { leaves (C.items cells.new) (addresses size pc result.jump result.queued) ≡ step_of (C.items cells.old) pc }
+    ensures core { IsCore size (C.items cells.new) }
+    ensures jump { result.jump < size }
+    ensures marks { C.marks cells.new ≤ C.marks cells.old + 3 }
+{
     if cell.is_mov_i() {
         let (a, b) = operands(cells, size, pc, cell);
         write(cells, size, b.address, a.copy);

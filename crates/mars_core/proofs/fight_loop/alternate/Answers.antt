@@ -20,42 +20,42 @@ returns-then-is_empty-clause-turns g c first =
     ]
 
 -- the side that moves first has lost its last task
-pub returns-then-take_turn-clause-turns : goal.returns-then-take_turn-clause-turns
-returns-then-take_turn-clause-turns g c first =
+pub returns-then-next_turn-clause-turns : goal.returns-then-next_turn-clause-turns
+returns-then-next_turn-clause-turns g c first =
     let h = c.loop-cycle.invariant in
-    let moved = mine_moved _ _ _ first c.loop-cycle.cycle _ _ _ _ _ h.mine_room c.take_turn.ensures.cells
-    (ap (λ b. b.items) c.take_turn.ensures.tasks) h.mine_some h.theirs_some (h.going first) in
-    let none : length c.take_turn.new.tasks.items ≡ 0 = eqb-true _ _ (sym c.take_turn.ensures.over ∙ c.if-take_turn.true) in
+    let moved = mine_moved _ _ _ first c.loop-cycle.cycle _ _ _ _ _ h.mine_room c.next_turn.ensures.cells
+    (ap (λ b. b.items) c.next_turn.ensures.tasks) h.mine_some h.theirs_some (h.going first) in
+    let none : length c.next_turn.new.tasks.items ≡ 0 = eqb-true _ _ (sym c.next_turn.ensures.over ∙ c.if-next_turn.true) in
     sym (ends_here _ _ first c.args.cycles (2 * c.loop-cycle.cycle + 1) _ _ _ (omega arith) moved (over_mine first _ _ _ none))
 
-pub returns-then-take_turn-clause-state : goal.returns-then-take_turn-clause-state
-returns-then-take_turn-clause-state g c first =
+pub returns-then-next_turn-clause-state : goal.returns-then-next_turn-clause-state
+returns-then-next_turn-clause-state g c first =
     let h = c.loop-cycle.invariant in
-    let moved = mine_moved _ _ _ first c.loop-cycle.cycle _ _ _ _ _ h.mine_room c.take_turn.ensures.cells
-    (ap (λ b. b.items) c.take_turn.ensures.tasks) h.mine_some h.theirs_some (h.going first) in
+    let moved = mine_moved _ _ _ first c.loop-cycle.cycle _ _ _ _ _ h.mine_room c.next_turn.ensures.cells
+    (ap (λ b. b.items) c.next_turn.ensures.tasks) h.mine_some h.theirs_some (h.going first) in
     moved.state
 
 -- the other side has lost its last task
-pub returns-then-take_turn-2-clause-turns : goal.returns-then-take_turn-2-clause-turns
-returns-then-take_turn-2-clause-turns g c first =
+pub returns-then-next_turn-2-clause-turns : goal.returns-then-next_turn-2-clause-turns
+returns-then-next_turn-2-clause-turns g c first =
     let h = c.loop-cycle.invariant in
-    let some : length c.take_turn.new.tasks.items ≡ 0 → ⊥ = eqb-false _ _ (sym c.take_turn.ensures.over ∙ c.if-take_turn.false) in
-    let half = mine_moved _ _ _ first c.loop-cycle.cycle _ _ _ _ _ h.mine_room c.take_turn.ensures.cells
-    (ap (λ b. b.items) c.take_turn.ensures.tasks) h.mine_some h.theirs_some (h.going first) in
-    let moved = theirs_moved _ _ _ first c.loop-cycle.cycle _ _ _ _ _ h.theirs_room c.take_turn-in-loop-cycle.ensures.cells
-    (ap (λ b. b.items) c.take_turn-in-loop-cycle.ensures.tasks) some h.theirs_some half in
-    let none : length c.take_turn-in-loop-cycle.new.tasks.items ≡ 0 = eqb-true _ _ (sym c.take_turn-in-loop-cycle.ensures.over ∙ c.if-take_turn-2.true) in
+    let some : length c.next_turn.new.tasks.items ≡ 0 → ⊥ = eqb-false _ _ (sym c.next_turn.ensures.over ∙ c.if-next_turn.false) in
+    let half = mine_moved _ _ _ first c.loop-cycle.cycle _ _ _ _ _ h.mine_room c.next_turn.ensures.cells
+    (ap (λ b. b.items) c.next_turn.ensures.tasks) h.mine_some h.theirs_some (h.going first) in
+    let moved = theirs_moved _ _ _ first c.loop-cycle.cycle _ _ _ _ _ h.theirs_room c.next_turn-in-loop-cycle.ensures.cells
+    (ap (λ b. b.items) c.next_turn-in-loop-cycle.ensures.tasks) some h.theirs_some half in
+    let none : length c.next_turn-in-loop-cycle.new.tasks.items ≡ 0 = eqb-true _ _ (sym c.next_turn-in-loop-cycle.ensures.over ∙ c.if-next_turn-2.true) in
     let twice : 2 * c.loop-cycle.cycle + 2 ≡ 2 * (c.loop-cycle.cycle + 1) = omega arith in
     twice ∙ sym (ends_here _ _ first c.args.cycles (2 * (c.loop-cycle.cycle + 1)) _ _ _ (omega arith) moved (over_theirs first _ _ _ none))
 
-pub returns-then-take_turn-2-clause-state : goal.returns-then-take_turn-2-clause-state
-returns-then-take_turn-2-clause-state g c first =
+pub returns-then-next_turn-2-clause-state : goal.returns-then-next_turn-2-clause-state
+returns-then-next_turn-2-clause-state g c first =
     let h = c.loop-cycle.invariant in
-    let some : length c.take_turn.new.tasks.items ≡ 0 → ⊥ = eqb-false _ _ (sym c.take_turn.ensures.over ∙ c.if-take_turn.false) in
-    let half = mine_moved _ _ _ first c.loop-cycle.cycle _ _ _ _ _ h.mine_room c.take_turn.ensures.cells
-    (ap (λ b. b.items) c.take_turn.ensures.tasks) h.mine_some h.theirs_some (h.going first) in
-    let moved = theirs_moved _ _ _ first c.loop-cycle.cycle _ _ _ _ _ h.theirs_room c.take_turn-in-loop-cycle.ensures.cells
-    (ap (λ b. b.items) c.take_turn-in-loop-cycle.ensures.tasks) some h.theirs_some half in
+    let some : length c.next_turn.new.tasks.items ≡ 0 → ⊥ = eqb-false _ _ (sym c.next_turn.ensures.over ∙ c.if-next_turn.false) in
+    let half = mine_moved _ _ _ first c.loop-cycle.cycle _ _ _ _ _ h.mine_room c.next_turn.ensures.cells
+    (ap (λ b. b.items) c.next_turn.ensures.tasks) h.mine_some h.theirs_some (h.going first) in
+    let moved = theirs_moved _ _ _ first c.loop-cycle.cycle _ _ _ _ _ h.theirs_room c.next_turn-in-loop-cycle.ensures.cells
+    (ap (λ b. b.items) c.next_turn-in-loop-cycle.ensures.tasks) some h.theirs_some half in
     let twice : 2 * (c.loop-cycle.cycle + 1) ≡ 2 * c.loop-cycle.cycle + 2 = omega arith in
     moved.state ∙ ap (play_of _ _ first) twice
 
@@ -63,21 +63,21 @@ returns-then-take_turn-2-clause-state g c first =
 pub loop-cycle-preserved : goal.loop-cycle-preserved
 loop-cycle-preserved g c =
     let h = c.loop-cycle.invariant in
-    let some : length c.take_turn.new.tasks.items ≡ 0 → ⊥ = eqb-false _ _ (sym c.take_turn.ensures.over ∙ c.if-take_turn.false) in
+    let some : length c.next_turn.new.tasks.items ≡ 0 → ⊥ = eqb-false _ _ (sym c.next_turn.ensures.over ∙ c.if-next_turn.false) in
     record {
       going = λ first.
-          let half = mine_moved _ _ _ first c.loop-cycle.cycle _ _ _ _ _ h.mine_room c.take_turn.ensures.cells
-          (ap (λ b. b.items) c.take_turn.ensures.tasks) h.mine_some h.theirs_some (h.going first) in
-          theirs_moved _ _ _ first c.loop-cycle.cycle _ _ _ _ _ h.theirs_room c.take_turn-in-loop-cycle.ensures.cells
-          (ap (λ b. b.items) c.take_turn-in-loop-cycle.ensures.tasks) some h.theirs_some half;
+          let half = mine_moved _ _ _ first c.loop-cycle.cycle _ _ _ _ _ h.mine_room c.next_turn.ensures.cells
+          (ap (λ b. b.items) c.next_turn.ensures.tasks) h.mine_some h.theirs_some (h.going first) in
+          theirs_moved _ _ _ first c.loop-cycle.cycle _ _ _ _ _ h.theirs_room c.next_turn-in-loop-cycle.ensures.cells
+          (ap (λ b. b.items) c.next_turn-in-loop-cycle.ensures.tasks) some h.theirs_some half;
       mine_some = some;
-      theirs_some = eqb-false _ _ (sym c.take_turn-in-loop-cycle.ensures.over ∙ c.if-take_turn-2.false);
-      core = c.take_turn-in-loop-cycle.ensures.core;
-      mine_below = c.take_turn.ensures.below;
-      theirs_below = c.take_turn-in-loop-cycle.ensures.below;
-      mine_room = ap (λ b. b.capacity) c.take_turn.ensures.tasks ∙ h.mine_room;
-      theirs_room = ap (λ b. b.capacity) c.take_turn-in-loop-cycle.ensures.tasks ∙ h.theirs_room;
-      marks = omega (arith, h.marks, c.take_turn.ensures.marks, c.take_turn-in-loop-cycle.ensures.marks);
+      theirs_some = eqb-false _ _ (sym c.next_turn-in-loop-cycle.ensures.over ∙ c.if-next_turn-2.false);
+      core = c.next_turn-in-loop-cycle.ensures.core;
+      mine_below = c.next_turn.ensures.below;
+      theirs_below = c.next_turn-in-loop-cycle.ensures.below;
+      mine_room = ap (λ b. b.capacity) c.next_turn.ensures.tasks ∙ h.mine_room;
+      theirs_room = ap (λ b. b.capacity) c.next_turn-in-loop-cycle.ensures.tasks ∙ h.theirs_room;
+      marks = omega (arith, h.marks, c.next_turn.ensures.marks, c.next_turn-in-loop-cycle.ensures.marks);
     }
 
 -- all cycles were made

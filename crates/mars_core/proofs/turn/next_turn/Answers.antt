@@ -1,0 +1,6 @@
+use Rattle.mars_core.proofs.Queues.{appended_below, rest_below}
+use Rattle.mars_core.proofs.turn.next_turn.Goals as goal
+
+pub returns-clause-below : goal.returns-clause-below
+returns-clause-below g c =
+    rw c.requeue.ensures.tasks (appended_below _ _ _ _ (rest_below _ _ c.requires.tasks) c.requeue.ensures.below)

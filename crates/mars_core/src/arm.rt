@@ -1,0 +1,91 @@
+//! Instructions whose opcode, modifier and modes are known at compile time.
+ghost use Rattle.std.specs.Prelude.{◌≡◌, ◌<◌, ◌≤◌, ◌+◌};
+ghost use Rattle.rc_instr.specs.Warrior.{IsBelow};
+ghost use Rattle.mars_core.specs.Classes.{IsCoded};
+ghost use Rattle.mars_core.specs.Codes.{opcode_of, modifier_of, mode_of};
+ghost use Rattle.mars_core.specs.Core.{cell_at, IsCore};
+ghost use Rattle.mars_core.specs.Numbers.{sum_of};
+ghost use Rattle.mars_core.specs.Operand.{operand_of};
+ghost use Rattle.mars_core.specs.Step.{step_of, effect_of, leaves};
+ghost use Rattle.mars_core.specs.Evaluated.{addresses, located, located_from};
+
+use crate::cell::Cell;
+use crate::cells::Cells;
+use crate::effect::{Queued, act};
+use crate::operand::{Evaluated, evaluate};
+use crate::packed::mode_from;
+use crate::turn::Executed;
+
+// Executes the instruction at `pc`, which is `cell`. The const parameters stand for its opcode,
+// modifier and modes, as `Codes` numbers them.
+#[tactic(auto, unfolding(crate::specs::Step::step_of))]
+#[inline(always)]
+pub(crate) fn arm<
+    C: Cells,
+    const OPCODE: u64,
+    const MODIFIER: u64,
+    const A_MODE: u64,
+    const B_MODE: u64,
+>(cells: &mut C, size: u32, pc: u32, cell: C::Kept) -> Executed
+    requires codes { (OPCODE < 16) × (MODIFIER < 8) }
+    requires modes { (A_MODE < 8) × (B_MODE < 8) }
+    requires core { IsCore size (C.items cells.old) }
+    requires pc { pc < size }
+    requires cell { C.Kept.held cell ≡ cell_at (C.items cells.old) pc }
+    requires below { IsBelow size (C.Kept.held cell) }
+    requires coded { IsCoded OPCODE MODIFIER A_MODE B_MODE (C.Kept.held cell) }
+    ensures value { leaves (C.items cells.new) (addresses size pc result.jump result.queued) ≡ step_of (C.items cells.old) pc }
+    ensures core { IsCore size (C.items cells.new) }
+    ensures jump { result.jump < size }
+    ensures marks { C.marks cells.new ≤ C.marks cells.old + 3 }
+{
+    let a = evaluate_in::<C, A_MODE>(cells, size, pc, cell.a_number());
+    let b = evaluate_in::<C, B_MODE>(cells, size, pc, cell.b_number());
+    let queued = act_as::<C, OPCODE, MODIFIER>(cells, size, pc, a, b);
+    Executed {
+        queued,
+        jump: a.address,
+    }
+}
+
+// Evaluates an operand in the mode that `MODE` stands for.
+#[inline]
+fn evaluate_in<C: Cells, const MODE: u64>(
+    cells: &mut C,
+    size: u32,
+    pc: u32,
+    n: u32,
+) -> Evaluated<C::Kept>
+    requires mode { MODE < 8 }
+    requires core { IsCore size (C.items cells.old) }
+    requires pc { pc < size }
+    requires n { n < size }
+    ensures value { located result.address (C.Kept.held result.copy) (C.items cells.new) ≡ located_from size pc (operand_of size (C.items cells.old) pc (mode_of MODE) n) }
+    ensures address { result.address < size }
+    ensures copy { IsBelow size (C.Kept.held result.copy) }
+    ensures core { IsCore size (C.items cells.new) }
+    ensures marks { C.marks cells.new ≤ C.marks cells.old + 1 }
+{
+    evaluate(cells, size, pc, mode_from(MODE), n)
+}
+
+// Executes the opcode and the modifier that the const parameters stand for.
+#[inline]
+fn act_as<C: Cells, const OPCODE: u64, const MODIFIER: u64>(
+    cells: &mut C,
+    size: u32,
+    pc: u32,
+    a: Evaluated<C::Kept>,
+    b: Evaluated<C::Kept>,
+) -> Queued
+    requires codes { (OPCODE < 16) × (MODIFIER < 8) }
+    requires core { IsCore size (C.items cells.old) }
+    requires a { IsBelow size (C.Kept.held a.copy) × (a.address < size) }
+    requires b { IsBelow size (C.Kept.held b.copy) × (b.address < size) }
+    ensures value { leaves (C.items cells.new) (addresses size pc a.address result)
+        ≡ effect_of (opcode_of OPCODE) (modifier_of MODIFIER) size (C.items cells.old) pc a.address (C.Kept.held a.copy) (C.Kept.held b.copy) b.address }
+    ensures core { IsCore size (C.items cells.new) }
+    ensures marks { C.marks cells.new ≤ C.marks cells.old + 1 }
+{
+    act(cells, size, pc, C::Kept::coded(OPCODE, MODIFIER), a, b)
+}
