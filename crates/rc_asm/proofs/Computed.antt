@@ -1,10 +1,12 @@
 -- The warrior of a text, computed.
 use Rattle.std.proofs.Common.{◌≡◌, ℕ, ◌<◌, ◌≤◌, Bool, true, false, List, length, Option, Some, None, refl, ◌∙◌, ap, arith, inl, inr}
-use Rattle.std.specs.Prelude.{ℤ, pos, negsuc, ◌&&◌, ◌⊎◌, nat_le, nat_lt, option_map, option_and_then, if◌then◌else◌}
+use Rattle.std.specs.Result.{result_ok}
+use Rattle.std.specs.Prelude.{Result, Ok, Err, ℤ, pos, negsuc, ◌&&◌, ◌⊎◌, nat_le, nat_lt, option_map, option_and_then, if◌then◌else◌}
 use Rattle.std.proofs.lemmas.Bool.{and_parts, and_from, le-leb, lt-ltb, ltb-true, leb-true, cases_Bool}
 use Rattle.rc_instr.specs.declared.instruction.Instruction.{Instruction}
 use Rattle.rc_instr.specs.Rules.{RulesView}
 use Rattle.rc_instr.specs.Warrior.{WarriorView, warrior_view}
+use Rattle.rc_expand.specs.declared.fault.ExpandFault.{ExpandFault}
 use Rattle.rc_expand.specs.declared.line.Line.{Line}
 use Rattle.rc_expand.specs.Names.{Table}
 use Rattle.rc_expand.specs.Expansion.{expansion_of}
@@ -71,22 +73,22 @@ module _ (source : List ℕ) (names : NameValues) (lines : List Line) where
       ∙ (ap (fitting names.rules w.code) t.2 ∙ of_fits names.rules w m.some m.within m.inside)))
 
 module _ (source : List ℕ) (constants : Table) (rules : RulesView) where
-  of_lines : (w : WarriorView) (o : Option (List Line)) → expansion_of source constants rules ≡ o → length source ≤ MOST_BYTES
-      → option_and_then (λ lines. made_of source (names_of source constants rules lines) lines) o ≡ Some w → Assembles source constants rules w
-  of_lines w None e s h = absurd (cc)
-  of_lines w (Some lines) e s h = record { short = s; lines = lines; expands = e; made = made_fits source (names_of source constants rules lines) lines w _ _ _ refl refl refl h }
+  of_lines : (w : WarriorView) (o : Result (List Line) ExpandFault) → expansion_of source constants rules ≡ o → length source ≤ MOST_BYTES
+      → option_and_then (λ lines. made_of source (names_of source constants rules lines) lines) (result_ok o) ≡ Some w → Assembles source constants rules w
+  of_lines w (Err f) e s h = absurd (cc)
+  of_lines w (Ok lines) e s h = record { short = s; lines = lines; expands = e; made = made_fits source (names_of source constants rules lines) lines w _ _ _ refl refl refl h }
 
   pub computed : (w : WarriorView) → Assembles source constants rules w → assembled source constants rules ≡ Some w
   unfolding assembled
   computed w a =
       let short : nat_le (length source) MOST_BYTES ≡ true = le-leb (length source) MOST_BYTES a.short in
-      rw short (ap (option_and_then (λ lines. made_of source (names_of source constants rules lines) lines)) a.expands ∙ fits_made source (names_of source constants rules a.lines) a.lines w a.made)
+      rw short (ap (λ o. option_and_then (λ lines. made_of source (names_of source constants rules lines) lines) (result_ok o)) a.expands ∙ fits_made source (names_of source constants rules a.lines) a.lines w a.made)
 
   pub assembles : (w : WarriorView) → assembled source constants rules ≡ Some w → Assembles source constants rules w
   unfolding assembled
   assembles w h = by_size (cases_Bool (nat_le (length source) MOST_BYTES)) h where
     by_size : (nat_le (length source) MOST_BYTES ≡ true) ⊎ (nat_le (length source) MOST_BYTES ≡ false)
-        → (if nat_le (length source) MOST_BYTES then option_and_then (λ lines. made_of source (names_of source constants rules lines) lines) (expansion_of source constants rules) else None) ≡ Some w
+        → (if nat_le (length source) MOST_BYTES then option_and_then (λ lines. made_of source (names_of source constants rules lines) lines) (result_ok (expansion_of source constants rules)) else None) ≡ Some w
         → Assembles source constants rules w
     by_size (inl e) h = of_lines w (expansion_of source constants rules) refl (leb-true (length source) MOST_BYTES e) (rw e at h)
     by_size (inr e) h = let k = rw e at h in absurd (cc)

@@ -8,6 +8,7 @@ use Rattle.rc_instr.specs.declared.warrior.WarriorError.TheVariants.{Empty, TooL
 use Rattle.rc_instr.specs.Rules.{RulesView, IsRules}
 use Rattle.rc_instr.specs.Warrior.{WarriorView, warrior_view, IsWarrior, IsBelow, Fits}
 use Rattle.rc_instr.specs.WarriorRefusal.{IsWarriorError}
+use Rattle.rc_expand.specs.declared.fault.ExpandFault.{ExpandFault}
 use Rattle.rc_expand.specs.declared.line.Line.{Line}
 use Rattle.rc_expand.specs.Names.{Table, entry_of, or_else}
 use Rattle.rc_expand.specs.Expansion.{IsExpansion}
@@ -24,7 +25,19 @@ use Rattle.rc_asm.proofs.Steps.{faulty}
 some_is : {A : Type 0} (x y : A) → Some x ≡ Some y → x ≡ y
 some_is x y h = cc
 
-map_some : {A B : Type 0} (f : A → B) (o : Option A) (y : B) → option_map f o ≡ Some y → (x : A) × (o ≡ Some x) × (f x ≡ y)
+abbrev ok_line : List Line → Result (List Line) ExpandFault
+ok_line x = Ok x
+
+abbrev IsOk : List Line → List Line → Type 0
+IsOk x y = ok_line x ≡ ok_line y
+
+ok_is : (x y : List Line) → IsOk x y → x ≡ y
+ok_is x y h = cc
+
+not_both : (x : List Line) (e : ExpandFault) → ok_line x ≡ Err e → ⊥
+not_both x e h = cc
+
+pub map_some : {A B : Type 0} (f : A → B) (o : Option A) (y : B) → option_map f o ≡ Some y → (x : A) × (o ≡ Some x) × (f x ≡ y)
 map_some f None y h = absurd (cc)
 map_some f (Some x) y h = (x, refl, some_is (f x) y h)
 
@@ -80,12 +93,12 @@ module _ (source : List ℕ) (names : NameValues) (lines : List Line) where
 -- the expansion of a text is unique
 made_of_these : (source : List ℕ) (constants : Table) (rules : RulesView) (lines : List Line) (p : WarriorView) → IsExpansion source constants rules lines → Assembles source constants rules p → IsMadeOf source (names_of source constants rules lines) lines p
 made_of_these source constants rules lines p e a =
-    subst (λ ls. IsMadeOf source (names_of source constants rules ls) ls p) (some_is a.lines lines (sym a.expands ∙ e)) a.made
+    subst (λ ls. IsMadeOf source (names_of source constants rules ls) ls p) (ok_is a.lines lines (sym a.expands ∙ e)) a.made
 
 -- a text with a fault assembles to no warrior
 pub text_stops : (source : List ℕ) (constants : Table) (rules : RulesView) (f : AsmFault) → IsAsmFault source constants rules f → (p : WarriorView) → Assembles source constants rules p → ⊥
 text_stops source constants rules f (inl h) p a = omega (arith, h.0, a.short)
-text_stops source constants rules f (inr (inl h)) p a = h.1 a.lines a.expands
+text_stops source constants rules f (inr (inl h)) p a = not_both a.lines h.1 (sym a.expands ∙ h.2)
 text_stops source constants rules f (inr (inr h)) p a =
     lines_stop source (names_of source constants rules h.1) h.1 f h.3 p (made_of_these source constants rules h.1 p h.2 a)
 

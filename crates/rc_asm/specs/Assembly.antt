@@ -1,6 +1,7 @@
 -- The warrior that a text assembles to. Instructions, labels and ORG are the 1994 draft's;
 -- `;assert` and END with a start are pMARS's.
 use Rattle.std.specs.Prelude.{◌≡◌, ◌≤◌, ◌<◌, ℕ, nat_le, nat_lt, if◌then◌else◌, Bool, true, false, ◌&&◌, not, ℤ, pos, negsuc, List, [], ◌∷◌, length, Option, Some, None, option_and_then, option_map, Result, Ok, Err}
+use Rattle.std.specs.Result.{result_ok}
 use Rattle.rc_text.specs.declared.token.Token.{Token}
 use Rattle.rc_text.specs.declared.fault.EvalFault.{EvalFault}
 use Rattle.rc_text.specs.Values.{is_zero}
@@ -109,4 +110,4 @@ made_of source names lines = made_by names.rules (instructions_from source names
 -- the warrior to which the text assembles, computed
 unfoldable pub assembled : List ℕ → Table → RulesView → Option WarriorView
 assembled source constants rules =
-    if nat_le (length source) MOST_BYTES then option_and_then (λ lines. made_of source (names_of source constants rules lines) lines) (expansion_of source constants rules) else None
+    if nat_le (length source) MOST_BYTES then option_and_then (λ lines. made_of source (names_of source constants rules lines) lines) (result_ok (expansion_of source constants rules)) else None

@@ -8,14 +8,13 @@ use Rattle.rc_instr.specs.Rules.{RulesView}
 use Rattle.rc_instr.specs.declared.instruction.Instruction.{Instruction}
 use Rattle.rc_instr.specs.declared.warrior.WarriorError.{WarriorError}
 use Rattle.rc_instr.specs.declared.warrior.WarriorError.TheVariants as warrior
-use Rattle.rc_expand.specs.declared.fault.ExpandKind.{ExpandKind}
+use Rattle.rc_expand.specs.declared.fault.ExpandFault.{ExpandFault}
 use Rattle.rc_expand.specs.declared.fault.ExpandKind.TheVariants.{OutOfMemory as NoRoom}
 use Rattle.rc_expand.specs.declared.line.LineWord.{LineWord}
 use Rattle.rc_expand.specs.declared.line.LineWord.TheVariants.{Code, Org, End, Assert}
 use Rattle.rc_expand.specs.declared.line.Line.{Line}
 use Rattle.rc_expand.specs.Names.{Table, or_else}
-use Rattle.rc_expand.specs.Expansion.{IsExpansion}
-use Rattle.rc_expand.specs.Faults.{IsInTurn}
+use Rattle.rc_expand.specs.Expansion.{IsExpansion, expansion_of}
 use Rattle.rc_asm.specs.declared.fault.AsmKind.{AsmKind}
 use Rattle.rc_asm.specs.declared.fault.AsmKind.TheVariants.{Expand, MissingOperand, Value, AssertFailed, Warrior, TextTooLong}
 use Rattle.rc_asm.specs.declared.fault.AsmFault.{AsmFault}
@@ -92,11 +91,10 @@ pub record IsFaultOfCode (source : List ℕ) (names : NameValues) (lines : List 
 abbrev pub IsFaultOfLines : List ℕ → NameValues → List Line → AsmFault → Type 0
 IsFaultOfLines source names lines f = (lines_fault source names lines ≡ Some f) ⊎ IsFaultOfCode source names lines f
 
--- the first fault of a text: too long; or no expansion, for a reason other than memory; or the
--- first fault of the lines to which it expands
+-- the first fault of a text: too long; or that of its expansion; or the first fault of the lines to
+-- which it expands
 abbrev pub IsAsmFault : List ℕ → Table → RulesView → AsmFault → Type 0
 IsAsmFault source constants rules f =
     ((MOST_BYTES < length source) × (f ≡ at_line 0 TextTooLong))
-    ⊎ (((length source ≤ MOST_BYTES) × ((lines : List Line) → ¬ IsExpansion source constants rules lines) × (k : ExpandKind) × (k ≢ NoRoom) × (f.kind ≡ Expand k)
-    × IsInTurn source constants rules (record { line = f.line; kind = k }))
+    ⊎ (((length source ≤ MOST_BYTES) × (e : ExpandFault) × (expansion_of source constants rules ≡ Err e) × (e.kind ≢ NoRoom) × (f ≡ at_line e.line (Expand e.kind)))
     ⊎ ((length source ≤ MOST_BYTES) × (lines : List Line) × IsExpansion source constants rules lines × IsFaultOfLines source (names_of source constants rules lines) lines f))

@@ -9,6 +9,7 @@ pub mod Names
 pub mod Instructions
 pub mod Assembly
 pub mod Faults
+pub mod Outcome
 pub mod Seen
 pub mod Steps
 pub mod Printed

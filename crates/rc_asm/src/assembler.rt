@@ -1,5 +1,5 @@
 //! The assembler: expansion, the values of the lines, their forms if that fails, and the warrior.
-ghost use Rattle.std.specs.Prelude.{◌≡◌, ◌≢◌, ◌↔◌, ◌<◌, ◌^◌, ◌-◌, ℕ, pos, All, IfErr, IfOk, Some, None};
+ghost use Rattle.std.specs.Prelude.{◌≡◌, ◌≢◌, ◌↔◌, ◌<◌, ◌^◌, ◌-◌, ℕ, pos, All, IfErr, IfOk, MatchResult, Some, None, Ok, Err};
 ghost use Rattle.rc_expand.specs.Names.{table_of, or_else};
 ghost use Rattle.rc_expand.specs.Expansion.{LineLies};
 ghost use Rattle.rc_instr.specs.Warrior.{IsBelow, WarriorView, IsWarrior, Fits};
@@ -7,6 +7,7 @@ ghost use Rattle.rc_instr.specs.Rules.{IsRules};
 ghost use Rattle.rc_asm.specs.Steps.{IsStarted};
 ghost use Rattle.rc_asm.specs.Assembly.{start_value, names_of, IsMadeOf, Assembles};
 ghost use Rattle.rc_asm.specs.Faults.{forms_fault, IsWarriorFault, IsFaultOfLines, IsAsmFault};
+ghost use Rattle.rc_asm.specs.Outcome.{outcome_of};
 ghost use Rattle.rc_asm.specs.Seen.{seen_names};
 ghost use Rattle.rc_asm.specs.declared.fault.AsmKind.TheVariants.{OutOfMemory};
 
@@ -56,11 +57,14 @@ pub fn assemble(
     constants: &Constants,
     rules: &Rules,
 ) -> Result<Warrior, AsmFault>
+    // Unless memory runs out, the result is the warrior of the definition, or the first fault.
+    ensures outcome { MatchResult result (λ w. outcome_of source.now (table_of constants.now.names.now constants.now.values.now) rules.now ≡ Ok w)
+        (λ f. f.kind ≢ OutOfMemory → outcome_of source.now (table_of constants.now.names.now constants.now.values.now) rules.now ≡ Err f) }
     ensures warrior { IfOk result (Assembles source.now (table_of constants.now.names.now constants.now.values.now) rules.now) }
     ensures is_warrior { IfOk result IsWarrior }
     ensures fits { IfOk result (Fits rules.now) }
 
-    // Unless memory runs out, a text is refused only if it assembles to no warrior, and the fault
+    // The same in other words: a text is refused only if it assembles to no warrior, and the fault
     // is the first one.
     ensures refused { IfErr result (λ f. f.kind ≢ OutOfMemory → (w : WarriorView) → Assembles source.now (table_of constants.now.names.now constants.now.values.now) rules.now w → ⊥) }
     ensures fault { IfErr result (λ f. f.kind ≢ OutOfMemory → IsAsmFault source.now (table_of constants.now.names.now constants.now.values.now) rules.now f) }

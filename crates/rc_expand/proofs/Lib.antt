@@ -1,11 +1,8 @@
 pub mod NameSteps
-pub mod ShortNames
 pub mod Each
 pub mod TableSteps
-pub mod Distinct
 pub mod PlainHeads
 pub mod PlainLines
 pub mod Reading
 pub mod Unrolling
 pub mod Replacing
-pub mod Finishing

@@ -1,7 +1,7 @@
 -- Texts of plain lines: each begins with an opcode word or with ORG. Their heads, from their
 -- tokens.
 use Rattle.std.proofs.Common.{◌≡◌, ℕ, suc, ◌<◌, true, false, List, [], ◌∷◌, ◌++◌, length, Some, None, refl, sym, ◌∙◌, ap, append_assoc}
-use Rattle.std.specs.Prelude.{◌&&◌, not, Option, option_map, option_and_then, if◌then◌else◌, is_none, codes}
+use Rattle.std.specs.Prelude.{◌&&◌, not, Option, option_map, if◌then◌else◌, codes, Ok}
 use Rattle.std.proofs.lemmas.List.{append-nil}
 use Rattle.rc_text.specs.declared.token.Kind.TheVariants.{Name}
 use Rattle.rc_text.specs.declared.token.Token.{Token}
@@ -19,8 +19,9 @@ use Rattle.rc_expand.specs.declared.line.Line.{Line}
 use Rattle.rc_expand.specs.declared.line.LineWord.TheVariants as line
 use Rattle.rc_expand.specs.Heads.Lines.{is_name_kind, is_line_end_kind, is_reserved_class, is_unjoined, bytes_of, is_free, word_of_name, word_of_kind, unlabelled, labelled, head_with_word, headed, head_of, line_of_tokens, line_then, lines_from, lines_read}
 use Rattle.rc_expand.specs.Heads.Nesting.{nesting_fault}
-use Rattle.rc_expand.specs.Heads.{equ_lines, named_once, equ_of_line, equs_of, with_equs, heads_of}
-use Rattle.rc_expand.specs.Unroll.{all_of}
+use Rattle.rc_expand.specs.Results.{mapped, and_then}
+use Rattle.rc_expand.specs.Heads.{equ_lines, lines_or, nested, nested_lines, equs_from, equs_of, with_equs, heads_of}
+use Rattle.rc_expand.specs.Heads.Faults.{text_fault}
 
 -- ---- plain lines
 
@@ -215,19 +216,18 @@ module _ (source : List ℕ) where
 
   module _ (rules : RulesView) where
     -- and no EQU name
-    no_equs : (ps : List PlainLine) → equs_of source [] rules (plain_heads ps) ≡ Some []
+    no_equs : (ps : List PlainLine) → equs_of source [] rules (plain_heads ps) ≡ Ok []
     unfolding equs_of
-    no_equs ps = ap (λ hs. option_and_then (named_once [] rules) (all_of (equ_of_line source) hs)) (plain_equs ps)
+    no_equs ps = ap (λ hs. equs_from source [] rules hs []) (plain_equs ps)
 
     -- the first part of the expansion
     pub heads_there : (ps : List PlainLine) → ArePlain source ps → tokens_of source ≡ record { tokens = plain_tokens ps; ending = None }
-        → heads_of source [] rules ≡ Some (record { lines = plain_heads ps; equs = [] })
+        → heads_of source [] rules ≡ Ok (record { lines = plain_heads ps; equs = [] })
     unfolding heads_of
     heads_there ps a e =
-        ap (λ l. option_and_then (with_equs source [] rules) (lines_read source l)) e
-        ∙ ap (option_and_then (with_equs source [] rules)) (lines_there ps a)
-        ∙ ap (λ o. if is_none o then option_map (λ equs. record { lines = plain_heads ps; equs = equs }) (equs_of source [] rules (plain_heads ps)) else None) (plain_nests ps)
-        ∙ ap (option_map (λ equs. record { lines = plain_heads ps; equs = equs })) (no_equs ps)
+        ap (λ o. and_then (with_equs source [] rules) (and_then nested_lines (lines_or (text_fault source) o))) (ap (lines_read source) e ∙ lines_there ps a)
+        ∙ ap (λ o. and_then (with_equs source [] rules) (nested (plain_heads ps) o)) (plain_nests ps)
+        ∙ ap (mapped (λ equs. record { lines = plain_heads ps; equs = equs })) (no_equs ps)
 
 -- there is a head for each line
 pub heads_length : (ps : List PlainLine) → length (plain_heads ps) ≡ length ps

@@ -5,8 +5,6 @@ pub mod HeadSteps
 pub mod EquLines
 pub mod TableFound
 pub mod TablePlaces
-pub mod FaultSteps
 pub mod TextFaults
-pub mod HeadFaults
 pub mod NestingSteps
 pub mod LabelLaws

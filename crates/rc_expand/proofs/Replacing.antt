@@ -1,6 +1,3 @@
--- The steps of the third pass: EQU names and labels.
+-- The steps of the third pass: EQU names and lines.
 pub mod ReplaceSteps
 pub mod LineSteps
-pub mod Labelled
-pub mod Settled
-pub mod Moved

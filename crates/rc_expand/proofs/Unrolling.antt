@@ -5,6 +5,4 @@ pub mod Reaching
 pub mod Short
 pub mod ContextSteps
 pub mod CountSteps
-pub mod OpeningSteps
 pub mod Equation
-pub mod Staying

@@ -1,46 +1,36 @@
 -- The definitions, applied to the context of an expansion.
-use Rattle.std.specs.Prelude.{ℕ, Bool, List, Option, option_map}
+use Rattle.std.specs.Prelude.{ℕ, Bool, List, Option, Result}
 use Rattle.rc_text.specs.declared.token.Token.{Token}
-use Rattle.rc_text.specs.Symbols.{name_of}
+use Rattle.rc_expand.specs.declared.fault.ExpandFault.{ExpandFault}
 use Rattle.rc_expand.specs.declared.heads.head.Head.{Head}
 use Rattle.rc_expand.specs.declared.context.Context.{Context}
 use Rattle.rc_expand.specs.Names.{Table, table_of}
-use Rattle.rc_expand.specs.Replace.Lines.{is_new_label}
-use Rattle.rc_expand.specs.Unroll.{Opening, Unrolled, outside, block_of, opening, count_of, is_known, is_new_counter, copies_of, copies_from, deeper_at, one_line, one_more_copy, copied_block}
+use Rattle.rc_expand.specs.Unroll.{Opening, Step, Deeper, outside, block_of, opening, count_of, counter_name, copy_of, copies_of, copies_from, deeper_at}
 
 abbrev pub table : Context → Table
 table s = table_of s.constants.now.names.now s.constants.now.values.now
 
+abbrev pub deeper_by : Context → ℕ → ℕ → List Head → Step
+deeper_by s levels = deeper_at s.source.now (table s) s.rules.now s.equs.now levels
+
 -- lines with their blocks unrolled, which may nest `levels` deep
-abbrev pub unrolled_by : Context → Bool → ℕ → List Head → Option Unrolled
-unrolled_by s b levels hs = outside s.source.now (table s) s.rules.now s.equs.now b (deeper_at s.source.now (table s) s.rules.now s.equs.now levels) hs
+abbrev pub unrolled_by : Context → Bool → ℕ → List Head → Step
+unrolled_by s b levels hs = outside s.source.now (table s) s.rules.now s.equs.now b (deeper_by s levels) hs
 
-abbrev pub block_by : Context → ℕ → Head → List Head → Head → Option Unrolled
-block_by s levels f block rof = block_of s.source.now (table s) s.rules.now s.equs.now (deeper_at s.source.now (table s) s.rules.now s.equs.now levels) f block rof
+abbrev pub block_by : Context → ℕ → Head → List Head → Head → Step
+block_by s levels f block rof = block_of s.source.now (table s) s.rules.now s.equs.now (deeper_by s levels) f block rof
 
-abbrev pub opening_by : Context → Head → Option Opening
+abbrev pub opening_by : Context → Head → Result Opening ExpandFault
 opening_by s f = opening s.source.now (table s) s.rules.now s.equs.now f
 
-abbrev pub copy_by : Context → ℕ → Option (List ℕ) → List Head → ℕ → Option Unrolled
-copy_by s levels counter block k = option_map one_more_copy (deeper_at s.source.now (table s) s.rules.now s.equs.now levels (copied_block s.source.now counter k block))
+abbrev pub copy_by : Context → ℕ → (line : ℕ) → Option (List ℕ) → List Head → ℕ → Step
+copy_by s levels line counter block k = copy_of s.source.now (table s) s.rules.now s.equs.now (deeper_by s levels) line counter block k
 
-abbrev pub copies_by : Context → ℕ → Option (List ℕ) → List Head → ℕ → Option Unrolled
-copies_by s levels counter block count = copies_of s.source.now (table s) s.rules.now s.equs.now (deeper_at s.source.now (table s) s.rules.now s.equs.now levels) counter block count
+abbrev pub copies_by_from : Context → ℕ → (line : ℕ) → Option (List ℕ) → List Head → ℕ → ℕ → Step
+copies_by_from s levels line counter block count k = copies_from (copy_by s levels line counter block) count k
 
-abbrev pub copies_by_from : Context → ℕ → Option (List ℕ) → List Head → ℕ → ℕ → Option Unrolled
-copies_by_from s levels counter block count k = copies_from (λ k. deeper_at s.source.now (table s) s.rules.now s.equs.now levels (copied_block s.source.now counter k block)) count k
+abbrev pub count_by : Context → ℕ → List Token → Result ℕ ExpandFault
+count_by s line ts = count_of s.source.now (table s) s.rules.now s.equs.now line ts
 
-abbrev pub unrolled_line_by : Context → Bool → Head → Option Unrolled
-unrolled_line_by s b h = one_line s.source.now (table s) s.rules.now s.equs.now b h
-
-abbrev pub count_by : Context → List Token → Option ℕ
-count_by s ts = count_of s.source.now (table s) s.rules.now s.equs.now ts
-
-abbrev pub is_known_by : Context → List ℕ → Bool
-is_known_by s name = is_known (table s) s.rules.now s.equs.now name
-
-abbrev pub is_new_by : Context → Option Token → Bool
-is_new_by s counter = is_new_counter s.source.now (table s) s.rules.now s.equs.now (option_map (name_of s.source.now) counter)
-
-abbrev pub is_new_label_by : Context → List ℕ → Bool
-is_new_label_by s name = is_new_label (table s) s.rules.now s.equs.now name
+abbrev pub counter_name_by : Context → ℕ → Option Token → Result (Option (List ℕ)) ExpandFault
+counter_name_by s line counter = counter_name s.source.now (table s) s.rules.now s.equs.now line counter

@@ -1,5 +1,6 @@
 -- The definitions at concrete texts, computed.
 use Rattle.std.specs.Prelude.{◌≡◌, refl, ℕ, List, [], ◌∷◌, ◌++◌, map, codes, Option, Some, option_map, Bool, true, false, is_some}
+use Rattle.std.specs.Result.{result_ok}
 use Rattle.rc_text.specs.Reading.{before_operand, after_operand}
 use Rattle.rc_text.specs.declared.token.Sign.TheVariants.{Hash, Comma, Plus, Star}
 use Rattle.rc_text.specs.Symbols.{Symbol, Identifier, Numeral, Mark, name_of, symbols_of}
@@ -9,13 +10,13 @@ use Rattle.rc_text.specs.NameClasses.{is_opcode_word}
 use Rattle.rc_expand.specs.Names.{given_names}
 use Rattle.rc_expand.specs.Heads.Lines.{is_free, is_opcode, word_of_name, head_of, lines_read}
 use Rattle.rc_expand.specs.Replace.{replaced_tokens}
-use Rattle.rc_expand.specs.Unroll.{copied_line, is_taken, count_of, opening, block_of, one_line, unrolled}
+use Rattle.rc_expand.specs.Unroll.{copied_line, is_taken, count_of, opening, unrolled}
 use Rattle.rc_expand.specs.Heads.{equs_of, heads_of}
 use Rattle.rc_expand.specs.Replace.Lines.{line_of, replaced}
 use Rattle.rc_expand.specs.Expansion.{expansion_of}
 
 abbrev lines_of : List ℕ → Option (List Line)
-lines_of text = expansion_of text [] (rules_view 16 20 4 4 4)
+lines_of text = result_ok (expansion_of text [] (rules_view 16 20 4 4 4))
 
 -- lines, each with a line feed after it
 abbrev text_of : List (List ℕ) → List ℕ
@@ -44,25 +45,25 @@ copies_of_a_line : shown_lines (codes "i FOR 2" ∷ codes "x&i DAT #i" ∷ codes
     shown (codes "x01" ∷ []) (Identifier (codes "DAT") ∷ Mark Hash ∷ Numeral 1 ∷ [])
     ∷ shown (codes "x02" ∷ []) (Identifier (codes "DAT") ∷ Mark Hash ∷ Numeral 2 ∷ [])
     ∷ shown [] (Identifier (codes "JMP") ∷ Identifier (codes "x01") ∷ []) ∷ [])
-unfolding heads_of equs_of line_of replaced unrolled given_names is_taken count_of opening block_of one_line copied_line replaced_tokens is_free is_opcode word_of_name head_of lines_read is_opcode_word before_operand after_operand
+unfolding expansion_of heads_of equs_of line_of replaced unrolled given_names is_taken count_of opening copied_line replaced_tokens is_free is_opcode word_of_name head_of lines_read is_opcode_word before_operand after_operand
 copies_of_a_line = refl
 
 -- an EQU name stands for tokens, not for a value
 tokens_in_place : shown_lines (codes "s EQU 2+3" ∷ codes "DAT #0, #s*2" ∷ [])
     ≡ Some (shown [] (Identifier (codes "DAT") ∷ Mark Hash ∷ Numeral 0 ∷ Mark Comma ∷ Mark Hash ∷ Numeral 2 ∷ Mark Plus ∷ Numeral 3 ∷ Mark Star ∷ Numeral 2 ∷ []) ∷ [])
-unfolding heads_of equs_of line_of replaced unrolled given_names is_taken count_of opening block_of one_line copied_line replaced_tokens is_free is_opcode word_of_name head_of lines_read is_opcode_word before_operand after_operand
+unfolding expansion_of heads_of equs_of line_of replaced unrolled given_names is_taken count_of opening copied_line replaced_tokens is_free is_opcode word_of_name head_of lines_read is_opcode_word before_operand after_operand
 tokens_in_place = refl
 
 -- two nested blocks, a dropped one, and END before the end
 nested_blocks : label_names_of (codes "a FOR 2" ∷ codes "b FOR a" ∷ codes "x&a&b NOP a,b ; c" ∷ codes "ROF" ∷ codes "ROF" ∷ codes "FOR 0" ∷ codes "junk EQU 5" ∷ codes "ROF" ∷ codes "END x0101" ∷ codes "= =" ∷ [])
     ≡ Some ((codes "x0101" ∷ []) ∷ (codes "x0201" ∷ []) ∷ (codes "x0202" ∷ []) ∷ [] ∷ [])
-unfolding heads_of equs_of line_of replaced unrolled given_names is_taken count_of opening block_of one_line copied_line replaced_tokens is_free is_opcode word_of_name head_of lines_read is_opcode_word before_operand after_operand
+unfolding expansion_of heads_of equs_of line_of replaced unrolled given_names is_taken count_of opening copied_line replaced_tokens is_free is_opcode word_of_name head_of lines_read is_opcode_word before_operand after_operand
 nested_blocks = refl
 
 -- a joined name that spells the counter of an inner block is that counter
 joined_counter : shown_lines (codes "i FOR 1" ∷ codes "x01 FOR 2" ∷ codes "DAT x&i" ∷ codes "ROF" ∷ codes "ROF" ∷ [])
     ≡ Some (shown [] (Identifier (codes "DAT") ∷ Numeral 1 ∷ []) ∷ shown [] (Identifier (codes "DAT") ∷ Numeral 2 ∷ []) ∷ [])
-unfolding heads_of equs_of line_of replaced unrolled given_names is_taken count_of opening block_of one_line copied_line replaced_tokens is_free is_opcode word_of_name head_of lines_read is_opcode_word before_operand after_operand
+unfolding expansion_of heads_of equs_of line_of replaced unrolled given_names is_taken count_of opening copied_line replaced_tokens is_free is_opcode word_of_name head_of lines_read is_opcode_word before_operand after_operand
 joined_counter = refl
 
 -- a FOR alone, the counter of an enclosing block, a counter written with `&`, an EQU in a block, a
@@ -70,12 +71,12 @@ joined_counter = refl
 refused_texts : map has_lines ((codes "FOR 3" ∷ []) ∷ (codes "i FOR 2" ∷ codes "i FOR 2" ∷ codes "ROF" ∷ codes "ROF" ∷ []) ∷ (codes "i FOR 2" ∷ codes "x&i FOR 2" ∷ codes "ROF" ∷ codes "ROF" ∷ [])
     ∷ (codes "FOR 1" ∷ codes "s EQU 2" ∷ codes "ROF" ∷ []) ∷ (codes "FOR 0" ∷ codes "a ROF" ∷ []) ∷ (codes "i FOR 1" ∷ codes "x&i&i&i&i&i&i&i&i&i NOP" ∷ codes "ROF" ∷ []) ∷ [])
     ≡ false ∷ false ∷ false ∷ false ∷ false ∷ false ∷ []
-unfolding heads_of equs_of line_of replaced unrolled given_names is_taken count_of opening block_of one_line copied_line replaced_tokens is_free is_opcode word_of_name head_of lines_read is_opcode_word before_operand after_operand
+unfolding expansion_of heads_of equs_of line_of replaced unrolled given_names is_taken count_of opening copied_line replaced_tokens is_free is_opcode word_of_name head_of lines_read is_opcode_word before_operand after_operand
 refused_texts = refl
 
 -- in a dropped block only FOR, ROF and END count
 dropped_lines : map has_lines ((codes "FOR 0" ∷ codes "FOR 0" ∷ codes "a ROF 3" ∷ codes "CORESIZE EQU" ∷ codes "x FOR" ∷ codes "ROF" ∷ codes "ROF" ∷ codes "NOP" ∷ [])
     ∷ (codes "i FOR 1" ∷ codes "FOR 0" ∷ codes "x&i&i&i&i&i&i&i&i&i NOP" ∷ codes "ROF" ∷ codes "ROF" ∷ []) ∷ [])
     ≡ true ∷ true ∷ []
-unfolding heads_of equs_of line_of replaced unrolled given_names is_taken count_of opening block_of one_line copied_line replaced_tokens is_free is_opcode word_of_name head_of lines_read is_opcode_word before_operand after_operand
+unfolding expansion_of heads_of equs_of line_of replaced unrolled given_names is_taken count_of opening copied_line replaced_tokens is_free is_opcode word_of_name head_of lines_read is_opcode_word before_operand after_operand
 dropped_lines = refl

@@ -1,8 +1,10 @@
 -- The expansion as a whole: its three parts, one after the other.
-use Rattle.std.specs.Prelude.{◌≡◌, ℕ, List, Option, Some, option_and_then, All}
+use Rattle.std.specs.Prelude.{◌≡◌, ℕ, List, Result, Ok, All}
 use Rattle.rc_text.specs.Symbols.{LiesIn}
 use Rattle.rc_instr.specs.Rules.{RulesView}
+use Rattle.rc_expand.specs.declared.fault.ExpandFault.{ExpandFault}
 use Rattle.rc_expand.specs.declared.line.Line.{Line}
+use Rattle.rc_expand.specs.Results.{and_then}
 use Rattle.rc_expand.specs.Names.{Table}
 use Rattle.rc_expand.specs.Unroll.{unrolled}
 use Rattle.rc_expand.specs.Heads.{Heads, heads_of}
@@ -14,13 +16,14 @@ pub record LineLies (source : List ℕ) (l : Line) : Type 0 where
   pub tokens : All (LiesIn source) l.tokens
 
 module _ (source : List ℕ) (constants : Table) (rules : RulesView) where
-  abbrev pub expansion_by : Heads → Option (List Line)
-  expansion_by r = option_and_then (replaced constants rules source r.equs) (unrolled source constants rules r.equs r.lines)
+  abbrev pub expansion_by : Heads → Result (List Line) ExpandFault
+  expansion_by r = and_then (replaced constants rules source r.equs) (unrolled source constants rules r.equs r.lines)
 
-  -- the three parts, one after the other
-  abbrev pub expansion_of : Option (List Line)
-  expansion_of = option_and_then expansion_by (heads_of source constants rules)
+  -- the three parts, one after the other: the lines of the expansion, or the first fault with its
+  -- line
+  unfoldable pub expansion_of : Result (List Line) ExpandFault
+  expansion_of = and_then expansion_by (heads_of source constants rules)
 
 -- the text expands to these lines
 abbrev pub IsExpansion : List ℕ → Table → RulesView → List Line → Type 0
-IsExpansion source constants rules lines = expansion_of source constants rules ≡ Some lines
+IsExpansion source constants rules lines = expansion_of source constants rules ≡ Ok lines

@@ -4,8 +4,7 @@ pub mod Lines
 pub mod Nesting
 pub mod Faults
 pub mod NameTables
-use Rattle.std.specs.Prelude.{ℕ, zero, suc, pred, Bool, true, ◌&&◌, not, List, [], ◌∷◌, map, Option, Some, None, is_none, if◌then◌else◌, option_and_then, option_map}
-use Rattle.std.specs.List.{list_all}
+use Rattle.std.specs.Prelude.{ℕ, zero, suc, pred, List, [], ◌∷◌, ◌++◌, Option, Some, None, if◌then◌else◌, Result, Ok, Err}
 use Rattle.rc_text.specs.declared.token.Token.{Token}
 use Rattle.rc_text.specs.Symbols.{name_of}
 use Rattle.rc_text.specs.Tokens.{tokens_of}
@@ -13,11 +12,15 @@ use Rattle.rc_instr.specs.Rules.{RulesView}
 use Rattle.rc_expand.specs.declared.heads.head.Head.{Head}
 use Rattle.rc_expand.specs.declared.heads.head.HeadWord.{HeadWord}
 use Rattle.rc_expand.specs.declared.heads.head.HeadWord.TheVariants as word
-use Rattle.rc_expand.specs.Names.{is_among, Table}
+use Rattle.rc_expand.specs.declared.fault.ExpandFault.{ExpandFault}
+use Rattle.rc_expand.specs.declared.fault.ExpandKind.TheVariants.{DuplicateName, BadDirective}
+use Rattle.rc_expand.specs.Results.{at_line, mapped, and_then}
+use Rattle.rc_expand.specs.Names.{Table}
 use Rattle.rc_expand.specs.Heads.Lines.{lines_read}
+use Rattle.rc_expand.specs.Heads.Faults.{text_fault}
 use Rattle.rc_expand.specs.Replace.{Equs}
 use Rattle.rc_expand.specs.Heads.Nesting.{nesting_fault}
-use Rattle.rc_expand.specs.Unroll.{plain_token, all_of, is_taken}
+use Rattle.rc_expand.specs.Unroll.{plain_token, is_known}
 
 abbrev pub equ_lines_by : HeadWord → ℕ → Head → (ℕ → List Head) → List Head
 equ_lines_by word.For n h next = next (suc n)
@@ -30,47 +33,53 @@ abbrev pub equ_lines : ℕ → List Head → List Head
 equ_lines n [] = []
 equ_lines n (h ∷ hs) = equ_lines_by h.word n h (λ m. equ_lines m hs)
 
--- no name occurs twice
-abbrev pub are_distinct : List (List ℕ) → Bool
-are_distinct [] = true
-are_distinct (n ∷ ns) = not (is_among ns n) && are_distinct ns
-
 -- the lines of a text, and its EQU names with their tokens
 pub record Heads : Type 0 where
   pub lines : List Head
   pub equs : Equs
 
-module _ (constants : Table) (rules : RulesView) where
-  -- not a constant and not a predefined name
-  abbrev pub is_new : List ℕ → Bool
-  is_new name = not (is_taken constants rules name)
+-- the lines were read, or the text has a fault of its own
+abbrev pub lines_or : Option ExpandFault → Option (List Head) → Result (List Head) ExpandFault
+lines_or fault (Some hs) = Ok hs
+lines_or (Some f) None = Err f
+lines_or None None = Ok []
 
-  -- no EQU name is defined twice, and each is new
-  abbrev pub are_new : List (List ℕ) → Bool
-  are_new names = are_distinct names && list_all is_new names
+-- blocks nest, or there is a fault
+abbrev pub nested : List Head → Option ExpandFault → Result (List Head) ExpandFault
+nested hs None = Ok hs
+nested hs (Some f) = Err f
 
-  abbrev pub named_once : Equs → Option Equs
-  named_once equs = if are_new (map (λ e. e.0) equs) then Some equs else None
+abbrev pub nested_lines : List Head → Result (List Head) ExpandFault
+nested_lines hs = nested hs (nesting_fault 0 0 hs)
 
 module _ (source : List ℕ) where
+  -- the lines of the text up to END
+  abbrev pub text_lines : Result (List Head) ExpandFault
+  text_lines = lines_or (text_fault source) (lines_read source (tokens_of source))
+
   -- EQU needs exactly one plain name before it
   abbrev pub equ_token : List (List Token) → Option Token
   equ_token (l ∷ []) = plain_token source l
   equ_token _ = None
 
-  -- the name and the tokens after EQU
-  abbrev pub equ_of_line : Head → Option (List ℕ × List Token)
-  equ_of_line h = option_map (λ t. (name_of source t, h.rest)) (equ_token h.labels)
-
   module _ (constants : Table) (rules : RulesView) where
-    -- the EQU names with their tokens
-    unfoldable pub equs_of : List Head → Option Equs
-    equs_of hs = option_and_then (named_once constants rules) (all_of equ_of_line (equ_lines 0 hs))
+    -- an EQU line defines a name, which must not be a constant, a predefined name or an EQU name
+    -- of a line before it
+    abbrev pub with_equ : Head → Equs → Option Token → Result Equs ExpandFault
+    with_equ h equs None = Err (at_line h.number BadDirective)
+    with_equ h equs (Some t) = if is_known constants rules equs (name_of source t) then Err (at_line h.number DuplicateName) else Ok (equs ++ ((name_of source t, record { tokens = h.rest; line = h.number }) ∷ []))
 
-    -- blocks have to nest without a fault
-    abbrev pub with_equs : List Head → Option Heads
-    with_equs hs = if is_none (nesting_fault 0 0 hs) then option_map (λ equs. record { lines = hs; equs = equs }) (equs_of hs) else None
+    abbrev pub equs_from : List Head → Equs → Result Equs ExpandFault
+    equs_from [] equs = Ok equs
+    equs_from (h ∷ hs) equs = and_then (equs_from hs) (with_equ h equs (equ_token h.labels))
 
-    -- the lines up to END, and the EQU names outside their blocks
-    unfoldable pub heads_of : Option Heads
-    heads_of = option_and_then with_equs (lines_read source (tokens_of source))
+    -- the EQU names of the EQU lines outside blocks
+    unfoldable pub equs_of : List Head → Result Equs ExpandFault
+    equs_of hs = equs_from (equ_lines 0 hs) []
+
+    abbrev pub with_equs : List Head → Result Heads ExpandFault
+    with_equs hs = mapped (λ equs. record { lines = hs; equs = equs }) (equs_of hs)
+
+    -- the lines up to END, whose blocks must nest, and the EQU names outside the blocks
+    unfoldable pub heads_of : Result Heads ExpandFault
+    heads_of = and_then with_equs (and_then nested_lines text_lines)

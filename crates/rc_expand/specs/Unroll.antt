@@ -1,10 +1,11 @@
 -- The second part of the expansion: FOR blocks are replaced by their copies (FOR, ROF and `&` are
 -- from pMARS).
 pub mod Reached
-use Rattle.std.specs.Prelude.{ℕ, zero, suc, Bool, true, false, ◌&&◌, ◌||◌, not, ◌+◌, nat_le, nat_lt, ℤ, pos, negsuc, List, [], ◌∷◌, ◌++◌, length, map, Option, Some, None, if◌then◌else◌, option_and_then, option_map, is_some, ◌≡◌, ◌≤◌, ◌<◌, Result, Ok, Err, IfSome, IfNone, ◌≢◌}
-use Rattle.std.specs.Global.{Vec}
+pub mod SoFar
+use Rattle.std.specs.Prelude.{ℕ, zero, suc, Bool, true, false, ◌&&◌, ◌||◌, not, ◌+◌, nat_le, nat_lt, ℤ, pos, negsuc, List, [], ◌∷◌, ◌++◌, length, map, Option, Some, None, if◌then◌else◌, option_and_then, option_map, is_some, Result, Ok, Err}
 use Rattle.std.specs.Result.{result_ok}
 use Rattle.std.specs.Str.{bytes_eq}
+use Rattle.rc_text.specs.declared.token.Kind.{Kind}
 use Rattle.rc_text.specs.declared.token.Kind.TheVariants.{Number}
 use Rattle.rc_text.specs.declared.token.Token.{Token}
 use Rattle.rc_text.specs.Symbols.{name_of, symbols_of}
@@ -14,14 +15,13 @@ use Rattle.rc_expand.specs.declared.heads.head.HeadWord.{HeadWord}
 use Rattle.rc_expand.specs.declared.heads.head.HeadWord.TheVariants as word
 use Rattle.rc_expand.specs.declared.fault.ExpandFault.{ExpandFault}
 use Rattle.rc_expand.specs.declared.fault.ExpandKind.{ExpandKind}
-use Rattle.rc_expand.specs.declared.fault.ExpandKind.TheVariants.{OutOfMemory, EquTooDeep, TooManyTokens}
-use Rattle.rc_expand.specs.declared.replace.ReplaceFault.{ReplaceFault}
-use Rattle.rc_expand.specs.declared.replace.ReplaceFault.TheVariants as replace
+use Rattle.rc_expand.specs.declared.fault.ExpandKind.TheVariants.{DuplicateName, BadDirective, CountRefused, TooManyLines, ForWithoutRof, RofWithoutFor, ForTooDeep}
 use Rattle.rc_instr.specs.Rules.{RulesView}
 use Rattle.rc_expand.specs.Limits.{MOST_LINES, MOST_COPIES, DEEPEST_BLOCK, MOST_JOINED}
+use Rattle.rc_expand.specs.Results.{at_line, mapped, and_then}
 use Rattle.rc_expand.specs.Names.{Table, entry_of, given_names, CURLINE}
 use Rattle.rc_expand.specs.Heads.Lines.{choose, is_name_token, is_ampersand, is_colon, is_free, has_modifier, is_unjoined, bare_line}
-use Rattle.rc_expand.specs.Replace.{Equs, replaced_tokens}
+use Rattle.rc_expand.specs.Replace.{EquText, Equs, replaced_tokens}
 
 -- what the FOR of a block says: its counter, the labels before the counter, and the number of
 -- copies
@@ -30,7 +30,7 @@ pub record Opening : Type 0 where
   pub earlier : List (List Token)
   pub count : ℕ
 
--- unrolled lines, and the number of copies of blocks that were made for them
+-- the unrolled lines so far, and the number of copies of blocks that were made for them
 pub record Unrolled : Type 0 where
   pub lines : List Head
   pub copies : ℕ
@@ -38,19 +38,26 @@ pub record Unrolled : Type 0 where
 abbrev pub nothing : Unrolled
 nothing = record { lines = []; copies = 0 }
 
--- two results, one after the other; nothing if one is missing
-abbrev pub unrolled_both : Option Unrolled → Option Unrolled → Option Unrolled
-unrolled_both (Some a) (Some b) = Some (record { lines = a.lines ++ b.lines; copies = a.copies + b.copies })
-unrolled_both (Some a) None = None
-unrolled_both None o = None
+-- what unrolling makes of the lines so far
+abbrev pub Step : Type 0
+Step = Unrolled → Result Unrolled ExpandFault
 
-abbrev pub one_more_copy : Unrolled → Unrolled
-one_more_copy u = record { lines = u.lines; copies = suc u.copies }
+-- lines and copies of blocks are within their limit, if there is one more
+abbrev pub has_room : Unrolled → Bool
+has_room u = nat_lt (length u.lines + u.copies) MOST_LINES
+
+-- one more line
+abbrev pub with_line : Head → Step
+with_line h u = if has_room u then Ok (record u { lines = u.lines ++ (h ∷ []) }) else Err (at_line h.number TooManyLines)
+
+-- one more copy of a block whose FOR is at this line
+abbrev pub with_copy : ℕ → Step
+with_copy line u = if has_room u then Ok (record u { copies = u.copies + 1 }) else Err (at_line line TooManyLines)
 
 -- `n` copies, one after the other; the first is for the number `k` of the counter
-abbrev pub copies_from : (ℕ → Option Unrolled) → ℕ → ℕ → Option Unrolled
-copies_from f zero k = Some nothing
-copies_from f (suc n) k = unrolled_both (option_map one_more_copy (f k)) (copies_from f n (k + 1))
+abbrev pub copies_from : (ℕ → Step) → ℕ → ℕ → Step
+copies_from f zero k u = Ok u
+copies_from f (suc n) k u = and_then (copies_from f n (k + 1)) (f k u)
 
 -- f of every item, or nothing if one has none
 abbrev pub all_of : {A B : Type 0} → (A → Option B) → List A → Option (List B)
@@ -58,9 +65,9 @@ all_of f [] = Some []
 all_of f (x ∷ xs) = option_and_then (λ y. option_map (λ ys. y ∷ ys) (all_of f xs)) (f x)
 
 -- the labels before a counter go on a line of their own
-abbrev pub earlier_line : ℕ → List (List Token) → List Head
-earlier_line number [] = []
-earlier_line number (l ∷ ls) = bare_line number (l ∷ ls) ∷ []
+abbrev pub with_earlier : ℕ → List (List Token) → Step
+with_earlier number [] u = Ok u
+with_earlier number (l ∷ ls) u = with_line (bare_line number (l ∷ ls)) u
 
 -- all labels but the last
 abbrev pub earlier_of : List (List Token) → List (List Token)
@@ -80,6 +87,54 @@ is_bare_rof h = not h.spoiled && is_bare h.labels h.rest
 abbrev pub small_count : ℤ → Option ℕ
 small_count (negsuc n) = Some 0
 small_count (pos n) = if nat_le n MOST_COPIES then Some n else None
+
+abbrev pub is_number_kind : Kind → Bool
+is_number_kind (Number n) = true
+is_number_kind _ = false
+
+-- a number that no counter was joined to
+abbrev pub is_plain_number : Token → Bool
+is_plain_number t = is_number_kind t.kind && is_unjoined t.joined
+
+-- a label that copying made a number, with or without its colon: it was the name of an enclosing
+-- counter, written without `&`
+abbrev pub is_enclosing : List Token → Bool
+is_enclosing (t ∷ []) = is_plain_number t
+is_enclosing (t ∷ u ∷ []) = is_plain_number t && is_colon u
+is_enclosing _ = false
+
+-- the later of two lines
+abbrev pub later_line : ℕ → ℕ → ℕ
+later_line a b = if nat_lt a b then b else a
+
+-- why such a label is no counter
+abbrev pub counter_kind : List Token → ExpandKind
+counter_kind l = if is_enclosing l then DuplicateName else BadDirective
+
+abbrev pub plain_or : ExpandFault → Option Token → Result (Option Token) ExpandFault
+plain_or fault None = Err fault
+plain_or fault (Some t) = Ok (Some t)
+
+-- a counter that is an EQU name is refused at the later of the two lines
+abbrev pub unless_equ : (line : ℕ) → List ℕ → Option EquText → Result (Option (List ℕ)) ExpandFault
+unless_equ line name None = Ok (Some name)
+unless_equ line name (Some e) = Err (at_line (later_line line e.line) DuplicateName)
+
+abbrev pub counted : (line : ℕ) → Option ℕ → Result ℕ ExpandFault
+counted line None = Err (at_line line CountRefused)
+counted line (Some n) = Ok n
+
+abbrev pub at_rof : Head → Step
+at_rof rof u = if is_bare_rof rof then Ok u else Err (at_line rof.number BadDirective)
+
+-- EQU is allowed only outside blocks, and no ninth counter may be joined to a name of the line
+abbrev pub line_checked : (line : ℕ) → HeadWord → (in_block spoiled : Bool) → Result (Unit {0}) ExpandFault
+line_checked line word.Rof b s = Err (at_line line RofWithoutFor)
+line_checked line word.Equ true s = Err (at_line line BadDirective)
+line_checked line _ b s = if s then Err (at_line line BadDirective) else Ok tt
+
+abbrev pub checked_line : (in_block : Bool) → Head → Result (Unit {0}) ExpandFault
+checked_line b h = line_checked h.number h.word b h.spoiled
 
 module _ (constants : Table) (rules : RulesView) where
   -- a constant or a predefined name, CURLINE included
@@ -160,70 +215,62 @@ module _ (source : List ℕ) where
   abbrev pub plain_token : List Token → Option Token
   plain_token l = option_and_then if_unjoined (label_token l)
 
-  abbrev pub plain_name : List Token → Option (List ℕ)
-  plain_name l = option_map (name_of source) (plain_token l)
-
-  -- the counter is the last label, if any; nothing if it is not plain
-  abbrev pub counter_token : List (List Token) → Option (Option Token)
-  counter_token [] = Some None
-  counter_token (l ∷ []) = option_map (λ t. Some t) (plain_token l)
-  counter_token (l ∷ m ∷ ls) = counter_token (m ∷ ls)
+  -- the counter is the last label, if any, and must be plain
+  abbrev pub counter_of : (line : ℕ) → List (List Token) → Result (Option Token) ExpandFault
+  counter_of line [] = Ok None
+  counter_of line (l ∷ []) = plain_or (at_line line (counter_kind l)) (plain_token l)
+  counter_of line (l ∷ m ∷ ls) = counter_of line (m ∷ ls)
 
   module _ (constants : Table) (rules : RulesView) where
     module _ (equs : Equs) where
       -- the count of a block, after replacing its EQU names
-      unfoldable pub count_of : List Token → Option ℕ
-      count_of ts = option_and_then (λ r. option_and_then small_count (result_ok (evaluation_of (given_names constants rules) (symbols_of source r)))) (replaced_tokens source equs ts)
+      unfoldable pub count_of : (line : ℕ) → List Token → Result ℕ ExpandFault
+      count_of line ts = and_then (λ r. counted line (option_and_then small_count (result_ok (evaluation_of (given_names constants rules) (symbols_of source r))))) (replaced_tokens source equs line [] ts)
 
-      -- a counter must not be an EQU name, a constant or a predefined name; the counter of an
-      -- enclosing block became a number in the copy, so it is not plain
-      abbrev pub is_new_counter : Option (List ℕ) → Bool
-      is_new_counter None = true
-      is_new_counter (Some name) = not (is_known constants rules equs name)
+      -- the name of a counter, which must not be a constant, a predefined name or an EQU name; the
+      -- counter of an enclosing block became a number in the copy, so it is not plain
+      abbrev pub counter_name : (line : ℕ) → Option Token → Result (Option (List ℕ)) ExpandFault
+      counter_name line None = Ok None
+      counter_name line (Some t) = if is_taken constants rules (name_of source t) then Err (at_line line DuplicateName) else unless_equ line (name_of source t) (entry_of equs (name_of source t))
 
-      -- unrolls the lines of a block, one level deeper
-      abbrev pub Deeper : Type 0
-      Deeper = List Head → Option Unrolled
-
-      abbrev pub copies_of : Deeper → Option (List ℕ) → List Head → ℕ → Option Unrolled
-      copies_of deeper counter block count = copies_from (λ k. deeper (copied_block counter k block)) count 1
-
-      -- the labels before the counter, then the copies
-      abbrev pub opened : Deeper → Head → List Head → Opening → Option Unrolled
-      opened deeper f block o = unrolled_both (Some (record { lines = earlier_line f.number o.earlier; copies = 0 })) (copies_of deeper o.counter block o.count)
-
-      abbrev pub counted : Head → Option Token → Option Opening
-      counted f counter =
-          if is_new_counter (option_map (name_of source) counter) then
-          option_map (λ n. record { counter = option_map (name_of source) counter; earlier = earlier_of f.labels; count = n }) (count_of f.rest)
-          else None
+      abbrev pub counted_by : Head → Option (List ℕ) → Result Opening ExpandFault
+      counted_by f name = mapped (λ n. record { counter = name; earlier = earlier_of f.labels; count = n }) (count_of f.number f.rest)
 
       -- what FOR says: the counter, the labels before it and the count
-      unfoldable pub opening : Head → Option Opening
-      opening f = if not f.spoiled then option_and_then (counted f) (counter_token f.labels) else None
+      unfoldable pub opening : Head → Result Opening ExpandFault
+      opening f = if f.spoiled then Err (at_line f.number BadDirective) else and_then (counted_by f) (and_then (counter_name f.number) (counter_of f.number f.labels))
+
+      -- unrolls the lines of a block, whose FOR is at a line, one level deeper
+      abbrev pub Deeper : Type 0
+      Deeper = ℕ → List Head → Step
+
+      -- the copy for `k`
+      abbrev pub copy_of : Deeper → (line : ℕ) → Option (List ℕ) → List Head → ℕ → Step
+      copy_of deeper line counter block k u = and_then (deeper line (copied_block counter k block)) (with_copy line u)
+
+      abbrev pub copies_of : Deeper → (line : ℕ) → Option (List ℕ) → List Head → ℕ → Step
+      copies_of deeper line counter block count = copies_from (copy_of deeper line counter block) count 1
+
+      -- the labels before the counter, then the copies
+      abbrev pub opened : Deeper → Head → List Head → Unrolled → Opening → Result Unrolled ExpandFault
+      opened deeper f block u o = and_then (copies_of deeper f.number o.counter block o.count) (with_earlier f.number o.earlier u)
 
       -- a whole block: its FOR, the lines in it, and its ROF
-      unfoldable pub block_of : Deeper → Head → List Head → Head → Option Unrolled
-      block_of deeper f block rof = if is_bare_rof rof then option_and_then (opened deeper f block) (opening f) else None
+      abbrev pub block_of : Deeper → Head → List Head → Head → Step
+      block_of deeper f block rof u = and_then (at_rof rof) (and_then (opened deeper f block u) (opening f))
 
-      -- a line other than FOR; EQU is allowed only outside blocks
-      abbrev pub by_word : HeadWord → (in_block spoiled : Bool) → Head → Option Unrolled
-      by_word word.Rof b s h = None
-      by_word word.Equ true s h = None
-      by_word _ b true h = None
-      by_word _ b false h = Some (record { lines = h ∷ []; copies = 0 })
-
-      unfoldable pub one_line : (in_block : Bool) → Head → Option Unrolled
-      one_line b h = by_word h.word b h.spoiled h
+      -- a line other than FOR
+      abbrev pub one_line : (in_block : Bool) → Head → Step
+      one_line b h u = and_then (λ i. with_line h u) (checked_line b h)
 
       -- a line outside of all blocks: FOR begins one
-      abbrev pub line_outside : HeadWord → (Unit {0} → Option Unrolled) → (Unit {0} → Option Unrolled) → Option Unrolled
+      abbrev pub line_outside : HeadWord → (Unit {0} → Result Unrolled ExpandFault) → (Unit {0} → Result Unrolled ExpandFault) → Result Unrolled ExpandFault
       line_outside word.For begins goes_on = begins tt
       line_outside _ begins goes_on = goes_on tt
 
       -- a line in a block in which `n` more are open: either the number of open blocks after it, or
       -- the end of the block
-      abbrev pub line_inside : HeadWord → ℕ → (ℕ → Option Unrolled) → (Unit {0} → Option Unrolled) → Option Unrolled
+      abbrev pub line_inside : HeadWord → ℕ → (ℕ → Result Unrolled ExpandFault) → (Unit {0} → Result Unrolled ExpandFault) → Result Unrolled ExpandFault
       line_inside word.For n goes_on ends = goes_on (suc n)
       line_inside word.Rof zero goes_on ends = ends tt
       line_inside word.Rof (suc n) goes_on ends = goes_on n
@@ -232,28 +279,24 @@ module _ (source : List ℕ) where
       -- lines with their blocks unrolled; `inside` is at a line of the block of `f`, in which
       -- `opened` more are open
       abbrev mutual
-        pub outside : (in_block : Bool) → Deeper → List Head → Option Unrolled
-        outside b deeper [] = Some nothing
-        outside b deeper (h ∷ hs) = line_outside h.word (λ u. inside b deeper h 0 [] hs) (λ u. unrolled_both (one_line b h) (outside b deeper hs))
+        pub outside : (in_block : Bool) → Deeper → List Head → Step
+        outside b deeper [] u = Ok u
+        outside b deeper (h ∷ hs) u = line_outside h.word (λ i. inside b deeper h 0 [] hs u) (λ i. and_then (outside b deeper hs) (one_line b h u))
 
-        pub inside : (in_block : Bool) → Deeper → Head → ℕ → List Head → List Head → Option Unrolled
-        inside b deeper f opened block [] = None
-        inside b deeper f opened block (h ∷ hs) =
-            line_inside h.word opened (λ n. inside b deeper f n (block ++ (h ∷ [])) hs)
-            (λ u. unrolled_both (block_of deeper f block h) (outside b deeper hs))
+        pub inside : (in_block : Bool) → Deeper → Head → ℕ → List Head → List Head → Step
+        inside b deeper f opened block [] u = Err (at_line f.number ForWithoutRof)
+        inside b deeper f opened block (h ∷ hs) u =
+            line_inside h.word opened (λ n. inside b deeper f n (block ++ (h ∷ [])) hs u)
+            (λ i. and_then (outside b deeper hs) (block_of deeper f block h u))
 
       -- unrolls the lines of a block in which blocks may nest `levels` deep
       abbrev pub deeper_at : ℕ → Deeper
-      deeper_at zero = λ hs. None
-      deeper_at (suc levels) = outside true (deeper_at levels)
-
-      -- lines and copies of blocks are within their limit
-      abbrev pub within_limit : Unrolled → Option (List Head)
-      within_limit u = if nat_le (length u.lines + u.copies) MOST_LINES then Some u.lines else None
+      deeper_at zero = λ line hs u. Err (at_line line ForTooDeep)
+      deeper_at (suc levels) = λ line. outside true (deeper_at levels)
 
       -- the second part: blocks give way to their copies
-      unfoldable pub unrolled : List Head → Option (List Head)
-      unrolled hs = option_and_then within_limit (outside false (deeper_at DEEPEST_BLOCK) hs)
+      unfoldable pub unrolled : List Head → Result (List Head) ExpandFault
+      unrolled hs = mapped (λ u. u.lines) (outside false (deeper_at DEEPEST_BLOCK) hs nothing)
 
 -- the lines of a block up to its ROF, the ROF, and the lines after it
 pub record Cut : Type 0 where
@@ -274,26 +317,3 @@ cut_by _ n goes_on ends = goes_on n
 abbrev pub cut : ℕ → List Head → Option Cut
 cut n [] = None
 cut n (h ∷ hs) = cut_by h.word n (λ m. option_map (longer (h ∷ [])) (cut m hs)) (record { block = []; rof = h; after = hs })
-
--- A call that appends to `old` lines and `n` copies. On Ok it adds what the definition gives,
--- within the limit. A fault other than OutOfMemory means that the definition gives nothing, or too
--- much.
-abbrev pub Appends : List Head → ℕ → Result (Unit {0}) ExpandFault → Option Unrolled → List Head → ℕ → Type 0
-Appends old n (Ok u) r new m = IfNone r ⊥ × IfSome r (λ a. (new ≡ old ++ a.lines) × (m ≡ n + a.copies)) × (length new + m ≤ MOST_LINES)
-Appends old n (Err e) r new m = (e.kind ≢ OutOfMemory) → IfSome r (λ a. MOST_LINES < length old + length a.lines + (n + a.copies))
-
--- the result is what the definition gives; a fault other than OutOfMemory means that it gives
--- nothing
-abbrev pub Gives : {A : Type 0} → Result A ExpandFault → Option A → Type 0
-Gives (Ok x) o = o ≡ Some x
-Gives (Err e) o = (e.kind ≢ OutOfMemory) → o ≡ None
-
--- `Gives` for a Vec, by its items
-abbrev pub GivesItems : {A : Type 0} → Result (Vec A) ExpandFault → Option (List A) → Type 0
-GivesItems (Ok v) o = o ≡ Some v.items
-GivesItems (Err e) o = (e.kind ≢ OutOfMemory) → o ≡ None
-
-abbrev pub IsReplaceFault : ReplaceFault → ExpandKind → Type 0
-IsReplaceFault replace.TooDeep k = k ≡ EquTooDeep
-IsReplaceFault replace.TooMany k = k ≡ TooManyTokens
-IsReplaceFault replace.OutOfMemory k = k ≡ OutOfMemory

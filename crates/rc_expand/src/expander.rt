@@ -1,28 +1,18 @@
 //! The expansion of a text: its lines are read, blocks are unrolled, and EQU names are replaced.
-ghost use Rattle.std.specs.Prelude.{◌≡◌, ◌≢◌, All, IfOk, IfErr, List, Some};
+ghost use Rattle.std.specs.Prelude.{◌≡◌, ◌≢◌, All, IfOk, IfErr, Ok, Err};
 ghost use Rattle.rc_expand.specs.declared.fault.ExpandKind.TheVariants.{OutOfMemory};
-ghost use Rattle.rc_expand.specs.declared.line.Line.{Line};
+ghost use Rattle.rc_expand.specs.Results.{Returns};
 ghost use Rattle.rc_expand.specs.Names.{table_of};
-ghost use Rattle.rc_expand.specs.Expansion.{LineLies, IsExpansion};
-ghost use Rattle.rc_expand.specs.Faults.{IsInTurn};
-ghost use Rattle.rc_text.specs.Tokens.{tokens_of};
-ghost use Rattle.rc_expand.specs.declared.heads.head.Head.{Head};
-ghost use Rattle.rc_expand.specs.Heads.Lines.{HeadLies, lines_read};
-ghost use Rattle.rc_expand.specs.Finish.{FinishesBy};
+ghost use Rattle.rc_expand.specs.Expansion.{LineLies, expansion_of};
 
 use crate::constants::Constants;
 use crate::context::Context;
-use crate::fault::{ExpandFault, ExpandKind, placed};
-use crate::heads::head::Head;
-use crate::heads::read::read_lines;
+use crate::fault::{ExpandFault, placed};
 use crate::heads::read_heads;
-use crate::limits::MOST_LINES;
-use crate::line::{Expanded, Line, Lines};
+use crate::line::{Expanded, Lines};
 use crate::names::GivenNames;
 use crate::replace::labelling::replace_lines;
 use crate::replace::links::link_equs;
-use crate::replace::moving::move_lines;
-use crate::unroll::plain::all_stay;
 use crate::unroll::unroll;
 use rc_instr::Rules;
 use std::alloc::Global;
@@ -46,25 +36,21 @@ use std::alloc::Global;
 ///   tokens beside it; `DuplicateName` for a counter that is taken; `EquTooDeep`, `TooManyTokens`
 ///   or `CountRefused` for a count that cannot be replaced, has no value or is above 4096;
 ///   `TooManyLines` for more than 4096 lines and copies.
-/// - `DuplicateName`: a label that is defined twice, or is an EQU name, a constant or a predefined
-///   name; `EquTooDeep`: EQU names nested more than 16 deep; `TooManyTokens`: more than 4096 tokens
-///   or EQU replacements in a line.
+/// - In each unrolled line, first `DuplicateName`: a label or an EQU name that is defined before,
+///   or is a constant or a predefined name; then `EquTooDeep`: EQU names nested more than 16 deep;
+///   `TooManyTokens`: more than 4096 tokens or EQU replacements in a line.
 /// - `OutOfMemory`, at line 0, if memory runs out.
 ///
-/// It is proved that a fault of the first three items comes first, in this order and at its first
-/// line. Otherwise a text that cannot be unrolled gives any kind but `Text`, and one that can gives
-/// a kind of the fifth item. Which fault of unrolling or of the fifth item is returned, and its
-/// line, is tested.
+/// It is proved that the result is the expansion, or the first fault with its line, unless memory
+/// runs out.
 pub fn expand(
     alloc: Global,
     source: &[u8],
     constants: &Constants,
     rules: &Rules,
 ) -> Result<Expanded, ExpandFault>
-    ensures lines { IfOk result (λ e. IsExpansion source.now (table_of constants.now.names.now constants.now.values.now) rules.now e.lines) }
+    ensures expansion { Returns (λ e. e.lines) result (expansion_of source.now (table_of constants.now.names.now constants.now.values.now) rules.now) }
     ensures spans { IfOk result (λ e. All (LineLies source.now) e.lines) }
-    ensures refused { IfErr result (λ f. f.kind ≢ OutOfMemory → (lines : List Line) → IsExpansion source.now (table_of constants.now.names.now constants.now.values.now) rules.now lines → ⊥) }
-    ensures first { IfErr result (λ f. f.kind ≢ OutOfMemory → IsInTurn source.now (table_of constants.now.names.now constants.now.values.now) rules.now f) }
     ensures memory { IfErr result (λ f. f.kind ≡ OutOfMemory → f.line ≡ 0) }
 {
     match expand_text(alloc, source, constants, rules) {
@@ -74,16 +60,15 @@ pub fn expand(
 }
 
 // Does what `expand` does, but an `OutOfMemory` may carry the line at which it came up.
+#[tactic(auto, unfolding(crate::specs::Expansion::expansion_of))]
 fn expand_text(
     alloc: Global,
     source: &[u8],
     constants: &Constants,
     rules: &Rules,
 ) -> Result<Expanded, ExpandFault>
-    ensures lines { IfOk result (λ e. IsExpansion source.now (table_of constants.now.names.now constants.now.values.now) rules.now e.lines) }
+    ensures expansion { Returns (λ e. e.lines) result (expansion_of source.now (table_of constants.now.names.now constants.now.values.now) rules.now) }
     ensures spans { IfOk result (λ e. All (LineLies source.now) e.lines) }
-    ensures refused { IfErr result (λ f. f.kind ≢ OutOfMemory → (lines : List Line) → IsExpansion source.now (table_of constants.now.names.now constants.now.values.now) rules.now lines → ⊥) }
-    ensures first { IfErr result (λ f. f.kind ≢ OutOfMemory → IsInTurn source.now (table_of constants.now.names.now constants.now.values.now) rules.now f) }
 {
     let names = GivenNames { constants, rules };
     let (heads, equs) = read_heads(alloc, source, &names)?;
@@ -96,51 +81,9 @@ fn expand_text(
         equs: &equs,
         links: &links,
     };
-    expand_heads(&context, heads)
-}
-
-// Finishes the expansion of the lines that were read. Those of a text without blocks are moved. If
-// that fails, they are read once more, since the fault of the expansion is found without moving.
-fn expand_heads(context: &Context, heads: Vec<Head>) -> Result<Expanded, ExpandFault>
-    requires lies { All (HeadLies context.now.source.now) heads.items }
-    requires read { lines_read context.now.source.now (tokens_of context.now.source.now) ≡ Some heads.items }
-    ensures { FinishesBy context.now heads.items result }
-{
-    if heads.len() > MOST_LINES || !all_stay(&heads) {
-        return finish_heads(context, &heads);
-    }
-    match move_lines(context, heads) {
-        Ok(lines) => Ok(expanded(lines)),
-        Err(found) => if found.kind == ExpandKind::OutOfMemory {
-            Err(found)
-        } else {
-            finish_again(context)
-        },
-    }
-}
-
-// Reads the lines again, and finishes their expansion.
-fn finish_again(context: &Context) -> Result<Expanded, ExpandFault>
-    ensures { (hs : List Head) → lines_read context.now.source.now (tokens_of context.now.source.now) ≡ Some hs → FinishesBy context.now hs result }
-{
-    let heads = read_lines(context.alloc, context.source)?;
-    finish_heads(context, &heads)
-}
-
-// Finishes the expansion of the lines that were read.
-fn finish_heads(context: &Context, heads: &[Head]) -> Result<Expanded, ExpandFault>
-    requires lies { All (HeadLies context.now.source.now) heads.now }
-    ensures { FinishesBy context.now heads.now result }
-{
-    let reached = unroll(context, heads)?;
-    let lines = replace_lines(context, &reached)?;
-    Ok(expanded(lines))
-}
-
-fn expanded(lines: Vec<Line>) -> Expanded
-    ensures { result.lines ≡ lines.items }
-{
-    Expanded {
+    let reached = unroll(&context, heads.as_slice())?;
+    let lines = replace_lines(&context, reached.as_slice())?;
+    Ok(Expanded {
         lines: Lines::from_vec(lines),
-    }
+    })
 }

@@ -1,14 +1,12 @@
 //! The first pass: the lines of a text up to END, each with its labels, its word and what comes
 //! after it. Blocks have to nest without a fault, and each EQU line outside of them gives a name
 //! and its tokens. Nothing is copied or replaced yet.
-ghost use Rattle.std.specs.Prelude.{◌≡◌, ◌≢◌, All, IfOk, IfErr};
-ghost use Rattle.rc_expand.specs.declared.fault.ExpandKind.TheVariants.{OutOfMemory};
+ghost use Rattle.std.specs.Prelude.{◌≡◌, ◌≢◌, All, IfOk, Ok, Err};
+ghost use Rattle.rc_expand.specs.Results.{Returns};
 ghost use Rattle.rc_expand.specs.Names.{table_of};
 ghost use Rattle.rc_expand.specs.Heads.{heads_of};
-ghost use Rattle.rc_expand.specs.Heads.Faults.{IsHeadFault};
 ghost use Rattle.rc_expand.specs.Heads.Lines.{HeadLies};
 ghost use Rattle.rc_expand.specs.Replace.{EqusLie};
-ghost use Rattle.rc_expand.specs.Steps.{GivesHeads};
 
 pub(crate) mod blocks;
 pub(crate) mod equs;
@@ -28,14 +26,13 @@ use crate::names::GivenNames;
 use std::alloc::Global;
 
 // Reads the lines of a text, checks how its blocks nest, and collects its EQU names.
-#[tactic(auto, using(crate::proofs::Reading::FaultSteps::of_nesting, crate::proofs::Reading::FaultSteps::of_equs), unfolding(crate::specs::Heads::heads_of))]
+#[tactic(auto, unfolding(crate::specs::Heads::heads_of))]
 pub(crate) fn read_heads(
     alloc: Global,
     source: &[u8],
     names: &GivenNames,
 ) -> Result<(Vec<Head>, NameTable<'static, Equ>), ExpandFault>
-    ensures heads { GivesHeads result (heads_of source.now (table_of names.now.constants.now.names.now names.now.constants.now.values.now) names.now.rules.now) }
-    ensures first { IfErr result (λ f. f.kind ≢ OutOfMemory → IsHeadFault source.now (table_of names.now.constants.now.names.now names.now.constants.now.values.now) names.now.rules.now f) }
+    ensures heads { Returns (λ p. record { lines = p.0.items; equs = p.1 }) result (heads_of source.now (table_of names.now.constants.now.names.now names.now.constants.now.values.now) names.now.rules.now) }
     ensures lines { IfOk result (λ p. All (HeadLies source.now) p.0.items) }
     ensures equs { IfOk result (λ p. EqusLie source.now p.1) }
 {

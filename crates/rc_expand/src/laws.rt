@@ -4,28 +4,19 @@ ghost use Rattle.rc_text.specs.declared.token.Token.{Token};
 ghost use Rattle.rc_instr.specs.Rules.{RulesView};
 ghost use Rattle.rc_expand.specs.declared.line.Line.{Line};
 ghost use Rattle.rc_expand.specs.declared.fault.ExpandFault.{ExpandFault};
+ghost use Rattle.rc_expand.specs.Results.{and_then};
 ghost use Rattle.rc_expand.specs.declared.heads.head.Head.{Head};
 ghost use Rattle.rc_expand.specs.Names.{Table};
-ghost use Rattle.rc_expand.specs.Heads.{Heads, heads_of};
 ghost use Rattle.rc_expand.specs.Expansion.{IsExpansion};
-ghost use Rattle.rc_expand.specs.Heads.Faults.{IsHeadFault};
 ghost use Rattle.rc_expand.specs.declared.heads.head.HeadWord.TheVariants as word;
 ghost use Rattle.rc_expand.specs.Heads.Lines.{labelled};
 ghost use Rattle.rc_expand.specs.Heads.Nesting.{nesting_fault, AreNested, Closed, closed_lines, opens_or_closes, IsClosed};
 ghost use Rattle.rc_expand.specs.Replace.{Equs};
-ghost use Rattle.rc_expand.specs.Unroll.{Unrolled, unrolled_both, one_line, block_of, outside};
+ghost use Rattle.rc_expand.specs.Unroll.{Unrolled, Deeper, one_line, block_of, outside};
 
 /// A text has at most one expansion.
 pub fn one_expansion()
     ensures { (source : List ℕ) (constants : Table) (rules : RulesView) (a b : List Line) → IsExpansion source constants rules a → IsExpansion source constants rules b → a ≡ b }
-{}
-
-/// Before unrolling, a text has at most one fault: of its tokens, of its blocks or of its EQU
-/// lines. It has none if it has lines and EQU names.
-#[tactic(auto, using(crate::proofs::Reading::HeadFaults::one_fault))]
-pub fn one_fault_before_unrolling()
-    ensures one { (source : List ℕ) (constants : Table) (rules : RulesView) (f g : ExpandFault) → IsHeadFault source constants rules f → IsHeadFault source constants rules g → f ≡ g }
-    ensures none { (source : List ℕ) (constants : Table) (rules : RulesView) (r : Heads) (f : ExpandFault) → heads_of source constants rules ≡ Some r → IsHeadFault source constants rules f → ⊥ }
 {}
 
 /// Blocks have no fault exactly if all are closed and at most 8 are nested. Otherwise the fault is
@@ -42,20 +33,20 @@ pub fn labels_come_before_the_rest()
     ensures { (source : List ℕ) (ts : List Token) → flat_map (λ x. x) (labelled source ts).labels ++ (labelled source ts).after ≡ ts }
 {}
 
-/// What lines unroll to. A line that is neither FOR nor ROF is taken by itself, and the lines after
-/// it are unrolled in turn. A FOR, closed lines and a ROF are one block, and the lines after it are
-/// unrolled in turn. Closed lines unroll to the same whatever comes after them.
+/// What lines unroll to, after the lines so far. A line that is neither FOR nor ROF is taken by
+/// itself, and then the lines after it. A FOR, closed lines and a ROF are one block, and then come
+/// the lines after it. Closed lines unroll to the same whatever comes after them.
 ///
 /// `deeper` unrolls the lines of a block.
 #[tactic(auto, using(crate::proofs::Unrolling::Equation::out_line, crate::proofs::Unrolling::Equation::out_block, crate::proofs::Unrolling::Equation::out_then))]
 pub fn blocks_unroll_in_place()
-    ensures line { (source : List ℕ) (constants : Table) (rules : RulesView) (equs : Equs) (b : Bool) (deeper : List Head → Option Unrolled) (h : Head) (after : List Head)
+    ensures line { (source : List ℕ) (constants : Table) (rules : RulesView) (equs : Equs) (b : Bool) (deeper : Deeper source constants rules equs) (h : Head) (after : List Head) (u : Unrolled)
         → opens_or_closes h.word ≡ false
-        → outside source constants rules equs b deeper (h ∷ after) ≡ unrolled_both (one_line source constants rules equs b h) (outside source constants rules equs b deeper after) }
-    ensures block { (source : List ℕ) (constants : Table) (rules : RulesView) (equs : Equs) (b : Bool) (deeper : List Head → Option Unrolled) (n : ℕ) (c : Closed) (f r : Head) (after : List Head)
+        → outside source constants rules equs b deeper (h ∷ after) u ≡ and_then (outside source constants rules equs b deeper after) (one_line source constants rules equs b h u) }
+    ensures block { (source : List ℕ) (constants : Table) (rules : RulesView) (equs : Equs) (b : Bool) (deeper : Deeper source constants rules equs) (n : ℕ) (c : Closed) (f r : Head) (after : List Head) (u : Unrolled)
         → IsClosed n c → f.word ≡ word.For → r.word ≡ word.Rof
-        → outside source constants rules equs b deeper (f ∷ (closed_lines c ++ (r ∷ after))) ≡ unrolled_both (block_of source constants rules equs deeper f (closed_lines c) r) (outside source constants rules equs b deeper after) }
-    ensures parts { (source : List ℕ) (constants : Table) (rules : RulesView) (equs : Equs) (b : Bool) (deeper : List Head → Option Unrolled) (n : ℕ) (c : Closed) (after : List Head)
+        → outside source constants rules equs b deeper (f ∷ (closed_lines c ++ (r ∷ after))) u ≡ and_then (outside source constants rules equs b deeper after) (block_of source constants rules equs deeper f (closed_lines c) r u) }
+    ensures parts { (source : List ℕ) (constants : Table) (rules : RulesView) (equs : Equs) (b : Bool) (deeper : Deeper source constants rules equs) (n : ℕ) (c : Closed) (after : List Head) (u : Unrolled)
         → IsClosed n c
-        → outside source constants rules equs b deeper (closed_lines c ++ after) ≡ unrolled_both (outside source constants rules equs b deeper (closed_lines c)) (outside source constants rules equs b deeper after) }
+        → outside source constants rules equs b deeper (closed_lines c ++ after) u ≡ and_then (outside source constants rules equs b deeper after) (outside source constants rules equs b deeper (closed_lines c) u) }
 {}

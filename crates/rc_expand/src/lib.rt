@@ -4,7 +4,6 @@
 //! lines of blocks, and `replace` puts the tokens of EQU names in place.
 #![tactic(auto)]
 
-mod clash;
 mod constants;
 mod context;
 mod expander;

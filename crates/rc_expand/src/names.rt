@@ -1,5 +1,5 @@
 //! The names of a text, with joined counters, and the values given from outside of it.
-ghost use Rattle.std.specs.Prelude.{◌≡◌, ◌≢◌, List, ℕ, ◌++◌, ◌∷◌, [], map, ◌+◌, ◌-◌, ◌<◌, ◌≤◌, ◌^◌, true, MatchOption, OnOk, IfOk};
+ghost use Rattle.std.specs.Prelude.{◌≡◌, ◌≢◌, List, ℕ, ◌++◌, ◌∷◌, [], map, ◌+◌, MatchOption, OnOk, IfOk};
 ghost use Rattle.std.specs.Str.{bytes_eq};
 ghost use Rattle.std.specs.Int.Digits.{digits_of};
 ghost use Rattle.rc_expand.specs.Names.{entry_of, predefined, table_of};
@@ -66,19 +66,7 @@ pub fn name_of(alloc: Global, source: &[u8], token: &Token) -> Result<Vec<u8>, A
 }
 
 // Compares `name` with `bytes` and the counters joined to them, without building the joined name.
-// Most names have no counters, and are compared at once.
-#[inline(always)]
 pub(crate) fn is_joined_name(bytes: &[u8], counters: &[u16], name: &[u8]) -> bool
-    ensures { result ≡ bytes_eq (joined_name bytes.now counters.now) name.now }
-{
-    if counters.is_empty() {
-        return bytes == name;
-    }
-    is_counted_name(bytes, counters, name)
-}
-
-// Compares `name` with `bytes` and any number of counters joined to them.
-fn is_counted_name(bytes: &[u8], counters: &[u16], name: &[u8]) -> bool
     ensures { result ≡ bytes_eq (joined_name bytes.now counters.now) name.now }
 {
     let mut rest = match after_bytes(bytes, name) {
@@ -159,34 +147,9 @@ fn constant_value(constants: &Constants, source: &[u8], token: &Token) -> Option
     None
 }
 
-// The bytes of the shortest predefined name.
-const SHORTEST_PREDEFINED: usize = 7;
-
-// Checks for a name that is shorter than every predefined one, as most are.
-#[inline(always)]
-fn is_short(token: &Token) -> bool
-    requires { token.now.lo ≤ token.now.hi }
-    ensures unjoined { result ≡ true → token.now.joined ≡ [] }
-    ensures few { result ≡ true → token.now.hi - token.now.lo < 7 }
-{
-    token.joined.is_empty() && token.hi - token.lo < SHORTEST_PREDEFINED
-}
-
-// Looks up a predefined name. Most names are too short to be one.
-#[inline(always)]
-fn predefined_value(rules: &Rules, source: &[u8], token: &Token) -> Option<i64>
-    requires { LiesIn source.now token.now }
-    ensures { result ≡ entry_of (predefined rules.now) (name_of source.now token.now) }
-{
-    if is_short(token) {
-        return None;
-    }
-    long_value(rules, source, token)
-}
-
 // Compares a name with each predefined one but CURLINE, which has no value before lines are
 // counted.
-fn long_value(rules: &Rules, source: &[u8], token: &Token) -> Option<i64>
+fn predefined_value(rules: &Rules, source: &[u8], token: &Token) -> Option<i64>
     requires { LiesIn source.now token.now }
     ensures { result ≡ entry_of (predefined rules.now) (name_of source.now token.now) }
 {

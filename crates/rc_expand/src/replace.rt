@@ -1,170 +1,116 @@
-//! The third pass: EQU lines are dropped, EQU names in the other lines are replaced by their
-//! tokens, in which EQU names are replaced in turn, and each label has to be new. The replacement
-//! itself is here, since the count of a FOR needs it too.
-ghost use Rattle.std.specs.Prelude.{◌≡◌, ℕ, List, [], ◌∷◌, ◌++◌, ◌+◌, ◌≤◌, ◌<◌, length, MatchResult, Some, None, option_map, All, IfSome, IfOk, OnOk};
+//! The third pass: each line of the unrolled text in turn, first the names that it defines, then
+//! its tokens, in which EQU names give way to their own. EQU lines are dropped. The replacement of
+//! tokens is here, since the count of a FOR needs it too.
+ghost use Rattle.std.specs.Prelude.{◌≡◌, ◌≢◌, ℕ, List, [], ◌∷◌, ◌++◌, ◌+◌, ◌≤◌, length, MatchResult, Ok, Err, Some, None, option_map, All, IfSome, IfOk, OnOk};
 ghost use Rattle.rc_text.specs.Symbols.{LiesIn};
-ghost use Rattle.rc_expand.specs.declared.limits.TheConstants.{MOST_TOKENS, MOST_REPLACEMENTS};
-ghost use Rattle.rc_expand.specs.Heads.NameTables.{at_place, ArePlaces, AreLinks};
-ghost use Rattle.rc_expand.specs.Unroll.{IsReplaceFault};
-ghost use Rattle.rc_expand.specs.Replace.{EqusLie, one, equ_at, inner_at, replaced_within, replaced_tokens, Adds, Replaces};
+ghost use Rattle.rc_expand.specs.Results.{Returns};
+ghost use Rattle.rc_expand.specs.Heads.NameTables.{at_place, ArePlaces};
+ghost use Rattle.rc_expand.specs.Replace.{EqusLie, one, equ_in, equ_at, inner_at, replaced_within, replaced_tokens, with_token};
+ghost use Rattle.rc_expand.specs.Replace.SoFar.{replaced_so_far};
 
 pub(crate) mod finish;
 pub(crate) mod labelling;
 pub(crate) mod links;
-pub(crate) mod moving;
 
-use crate::fault::{ExpandFault, ExpandKind};
-use crate::heads::equs::Equ;
-use crate::heads::table::NameTable;
+use crate::context::Context;
+use crate::fault::{ExpandFault, ExpandKind, fault};
 use crate::heads::words::clone_token;
 use crate::limits::{DEEPEST_EQU, MOST_REPLACEMENTS, MOST_TOKENS};
 use crate::line::Tokens;
-use crate::replace::links::{Links, link_tokens};
+use crate::replace::links::link_tokens;
 use rc_text::Token;
-use std::alloc::{AllocError, AllocFailed, Global};
 
-// Why EQU names cannot be replaced.
-#[derive(Clone, Copy, Debug, PartialEq, Eq)]
-pub(crate) enum ReplaceFault {
-    TooDeep,
-    TooMany,
-    OutOfMemory,
-}
-
-impl From<AllocError> for ReplaceFault {
-    ghost use Rattle.std.specs.Prelude.{◌≡◌};
-    ghost use Rattle.rc_expand.specs.declared.replace.ReplaceFault.TheVariants.{OutOfMemory};
-
-    ghost from_gives = { λ _ e. e ≡ OutOfMemory };
-
-    fn from(_error: AllocError) -> Self {
-        ReplaceFault::OutOfMemory
-    }
-}
-
-impl<T: Drop> From<AllocFailed<T>> for ReplaceFault {
-    ghost use Rattle.std.specs.Prelude.{◌≡◌};
-    ghost use Rattle.rc_expand.specs.declared.replace.ReplaceFault.TheVariants.{OutOfMemory};
-
-    ghost from_gives = { λ _ e. e ≡ OutOfMemory };
-
-    fn from(_error: AllocFailed<T>) -> Self {
-        ReplaceFault::OutOfMemory
-    }
-}
-
-// Gives the fault of a replacement its line.
-pub(crate) fn replace_fault(line: u64, cause: ReplaceFault) -> ExpandFault
-    ensures { IsReplaceFault cause result.kind }
-{
-    let kind = match cause {
-        ReplaceFault::TooDeep => ExpandKind::EquTooDeep,
-        ReplaceFault::TooMany => ExpandKind::TooManyTokens,
-        ReplaceFault::OutOfMemory => ExpandKind::OutOfMemory,
-    };
-    ExpandFault { line, kind }
-}
-
-// The tokens so far, and the number of EQU names that were replaced in them.
+// The tokens of a line so far, its number, and how many EQU names were replaced in it.
 #[derive(Drop)]
 pub(crate) struct Replacing {
+    line: u64,
     tokens: Vec<Token>,
     replacements: u32,
-    ghost room: { length tokens.items ≤ MOST_TOKENS },
-    ghost counted: { replacements ≤ MOST_REPLACEMENTS },
 }
 
-// Replaces EQU names, at most `DEEPEST_EQU` deep, within `MOST_TOKENS` and `MOST_REPLACEMENTS`.
+// Replaces the EQU names of `tokens`, at most `DEEPEST_EQU` deep. `front` are the tokens before
+// them in the line, which are left alone but count.
 #[tactic(auto, unfolding(crate::specs::Replace::replaced_tokens))]
 pub(crate) fn replace_tokens(
-    alloc: Global,
-    source: &[u8],
+    context: &Context,
+    line: u64,
+    front: Vec<Token>,
     tokens: &[Token],
-    equs: &NameTable<Equ>,
-    links: &[Links],
-) -> Result<Tokens, ReplaceFault>
-    requires inside { All (LiesIn source.now) tokens.now }
-    requires lies { EqusLie source.now equs.now }
-    requires links { AreLinks source.now equs.now links.now }
-    ensures inside { IfOk result (All (LiesIn source.now)) }
-    ensures tokens { Replaces result (replaced_tokens source.now equs.now tokens.now) }
+) -> Result<Tokens, ExpandFault>
+    requires front { All (LiesIn context.now.source.now) front.items }
+    requires inside { All (LiesIn context.now.source.now) tokens.now }
+    ensures inside { IfOk result (All (LiesIn context.now.source.now)) }
+    ensures tokens { Returns (λ t. t) result (replaced_tokens context.now.source.now context.now.equs.now line front.items tokens.now) }
 {
-    let places = link_tokens(alloc, source, tokens, equs)?;
+    let places = link_tokens(context.alloc, context.source, tokens, context.equs)?;
     let mut out = Replacing {
-        tokens: Vec::with_capacity(alloc, tokens.len())?,
+        line,
+        tokens: front,
         replacements: 0,
     };
-    append_replaced(
-        &mut out,
-        source,
-        tokens,
-        places.as_slice(),
-        equs,
-        links,
-        DEEPEST_EQU,
-    )?;
+    append_replaced(&mut out, context, tokens, places.as_slice(), DEEPEST_EQU)?;
     Ok(Tokens::from_vec(out.tokens))
 }
 
 // Returns the tokens of the EQU name at an index of the table, and their links.
 fn body_at<'a>(
-    source: &[u8],
-    equs: &'a NameTable<'_, Equ>,
-    links: &'a [Links],
+    context: &Context<'a>,
     place: Option<usize>,
 ) -> Option<(&'a [Token], &'a [Option<usize>])>
-    requires lies { EqusLie source.now equs.now }
-    requires links { AreLinks source.now equs.now links.now }
-    ensures tokens { option_map (λ p. p.0.now) result ≡ at_place equs.now place }
-    ensures places { IfSome result (λ p. ArePlaces source.now equs.now p.0.now p.1.now) }
-    ensures inside { IfSome result (λ p. All (LiesIn source.now) p.0.now) }
+    ensures tokens { option_map (λ p. p.0.now) result ≡ option_map (λ e. e.tokens) (at_place context.now.equs.now place) }
+    ensures places { IfSome result (λ p. ArePlaces context.now.source.now context.now.equs.now p.0.now p.1.now) }
+    ensures inside { IfSome result (λ p. All (LiesIn context.now.source.now) p.0.now) }
 {
     match place {
-        Some(i) => match equs.at(i) {
-            Some(equ) => Some((equ.tokens(), links[i].as_slice())),
+        Some(i) => match context.equs.at(i) {
+            Some(equ) => Some((equ.tokens(), context.links[i].as_slice())),
             None => None,
         },
         None => None,
     }
 }
 
+// Appends a token that is not an EQU name.
+fn push_token(out: &mut Replacing, source: &[u8], token: &Token) -> Result<(), ExpandFault>
+    requires inside { LiesIn source.now token.now }
+    requires before { All (LiesIn source.now) out.old.tokens.items }
+    ensures after { OnOk result (All (LiesIn source.now) out.new.tokens.items) }
+    ensures adds { Returns (λ u. replaced_so_far out.new) result (with_token token.now (replaced_so_far out.old)) }
+{
+    if out.tokens.len() >= MOST_TOKENS {
+        return Err(fault(out.line, ExpandKind::TooManyTokens));
+    }
+    out.tokens.push(clone_token(token)?)?;
+    Ok(())
+}
+
 // Appends a token, or the tokens of the EQU name that it is.
 #[cycle(replace)]
 fn append_one(
     out: &mut Replacing,
-    source: &[u8],
+    context: &Context,
     token: &Token,
     place: Option<usize>,
-    equs: &NameTable<Equ>,
-    links: &[Links],
     levels: u8,
-) -> Result<(), ReplaceFault>
-    requires inside { LiesIn source.now token.now }
-    requires place { at_place equs.now place ≡ equ_at source.now equs.now token.now }
-    requires lies { EqusLie source.now equs.now }
-    requires links { AreLinks source.now equs.now links.now }
-    requires before { All (LiesIn source.now) out.old.tokens.items }
-    ensures after { OnOk result (All (LiesIn source.now) out.new.tokens.items) }
-    ensures adds { Adds out.old.tokens.items out.old.replacements result
-        (one (inner_at source.now equs.now levels) token.now (equ_at source.now equs.now token.now)) out.new.tokens.items out.new.replacements }
+) -> Result<(), ExpandFault>
+    requires inside { LiesIn context.now.source.now token.now }
+    requires place { at_place context.now.equs.now place ≡ equ_in context.now.source.now context.now.equs.now token.now }
+    requires before { All (LiesIn context.now.source.now) out.old.tokens.items }
+    ensures after { OnOk result (All (LiesIn context.now.source.now) out.new.tokens.items) }
+    ensures adds { Returns (λ u. replaced_so_far out.new) result
+        (one (inner_at context.now.source.now context.now.equs.now levels) token.now (equ_at context.now.source.now context.now.equs.now token.now) (replaced_so_far out.old)) }
 {
-    match body_at(source, equs, links, place) {
-        None => {
-            if out.tokens.len() == MOST_TOKENS {
-                return Err(ReplaceFault::TooMany);
-            }
-            out.tokens.push(clone_token(token)?)?;
-            Ok(())
-        }
+    match body_at(context, place) {
+        None => push_token(out, context.source, token),
         Some((body, places)) => {
             if levels == 0 {
-                return Err(ReplaceFault::TooDeep);
+                return Err(fault(out.line, ExpandKind::EquTooDeep));
             }
-            if out.replacements == MOST_REPLACEMENTS {
-                return Err(ReplaceFault::TooMany);
+            if out.replacements >= MOST_REPLACEMENTS {
+                return Err(fault(out.line, ExpandKind::TooManyTokens));
             }
             out.replacements += 1;
-            append_replaced(out, source, body, places, equs, links, levels - 1)
+            append_replaced(out, context, body, places, levels - 1)
         }
     }
 }
@@ -173,23 +119,20 @@ fn append_one(
 #[cycle(replace)]
 fn append_replaced(
     out: &mut Replacing,
-    source: &[u8],
+    context: &Context,
     tokens: &[Token],
     places: &[Option<usize>],
-    equs: &NameTable<Equ>,
-    links: &[Links],
     levels: u8,
-) -> Result<(), ReplaceFault>
-    requires inside { All (LiesIn source.now) tokens.now }
-    requires places { ArePlaces source.now equs.now tokens.now places.now }
-    requires lies { EqusLie source.now equs.now }
-    requires links { AreLinks source.now equs.now links.now }
-    requires before { All (LiesIn source.now) out.old.tokens.items }
-    ensures after { OnOk result (All (LiesIn source.now) out.new.tokens.items) }
-    ensures adds { Adds out.old.tokens.items out.old.replacements result (replaced_within source.now equs.now levels tokens.now) out.new.tokens.items out.new.replacements }
+) -> Result<(), ExpandFault>
+    requires inside { All (LiesIn context.now.source.now) tokens.now }
+    requires places { ArePlaces context.now.source.now context.now.equs.now tokens.now places.now }
+    requires before { All (LiesIn context.now.source.now) out.old.tokens.items }
+    ensures after { OnOk result (All (LiesIn context.now.source.now) out.new.tokens.items) }
+    ensures adds { Returns (λ u. replaced_so_far out.new) result
+        (replaced_within context.now.source.now context.now.equs.now levels tokens.now (replaced_so_far out.old)) }
 {
     for i in 0..tokens.len() {
-        append_one(out, source, &tokens[i], places[i], equs, links, levels)?;
+        append_one(out, context, &tokens[i], places[i], levels)?;
     }
     Ok(())
 }

@@ -1,20 +1,18 @@
 //! The second pass: each FOR block is replaced by copies of its lines, outer blocks first. In a
 //! copy the name of the counter becomes its number, or is joined to another name by `&`. No copy is
 //! kept: a line that is reached keeps where it is from, and is made when it is looked at.
-ghost use Rattle.std.specs.Prelude.{◌≡◌, ◌≢◌, List, ℕ, Bool, ◌++◌, ◌∷◌, [], ◌+◌, ◌<◌, ◌≤◌, length, All, IfOk, IfSome, OnOk, MatchOption, MatchResult, option_map, Some, None, true, false};
+ghost use Rattle.std.specs.Prelude.{◌≡◌, ◌≢◌, List, ℕ, ◌+◌, ◌<◌, ◌≤◌, length, All, IfOk, IfSome, OnOk, MatchOption, option_map, Some, None, Ok, Err};
+ghost use Rattle.rc_expand.specs.Results.{Returns};
 ghost use Rattle.rc_expand.specs.Heads.Lines.{HeadLies};
-ghost use Rattle.rc_expand.specs.Unroll.{Cut, cut, Unrolled, Appends, earlier_line, earlier_of, unrolled};
-ghost use Rattle.rc_expand.specs.Steps.{GivesLines, is_allowed};
+ghost use Rattle.rc_expand.specs.Unroll.{Cut, cut, with_line, with_earlier, line_checked, checked_line, one_line, earlier_of, unrolled};
 ghost use Rattle.rc_expand.specs.Unroll.Reached.{line_in, lines_in, reached_part, reached_lines, ReachedLies};
-ghost use Rattle.rc_expand.specs.Faults.{OnlyOf, is_unroll_kind};
-ghost use Rattle.rc_expand.specs.declared.fault.ExpandKind.TheVariants.{OutOfMemory};
-ghost use Rattle.rc_expand.specs.declared.limits.TheConstants.{MOST_LINES};
-ghost use Rattle.rc_expand.specs.Context.{table, unrolled_by, block_by, copy_by, copies_by, unrolled_line_by};
+ghost use Rattle.rc_expand.specs.Unroll.SoFar.{unrolled_so_far};
+ghost use Rattle.rc_expand.specs.Context.{table, unrolled_by, block_by, copy_by, copies_by_from};
 
 pub(crate) mod copy;
 pub(crate) mod opening;
-pub(crate) mod plain;
 pub(crate) mod reached;
+pub(crate) mod unrolling;
 
 use crate::context::Context;
 use crate::fault::{ExpandFault, ExpandKind, fault};
@@ -22,14 +20,7 @@ use crate::heads::head::{Head, HeadWord, Labels};
 use crate::limits::{DEEPEST_BLOCK, MOST_LINES};
 use crate::unroll::opening::{begin_block, check_rof};
 use crate::unroll::reached::{Copying, Reached, clone_copies, is_short_line, make_line, with_copy};
-
-// The lines so far, and the number of copies of blocks.
-#[derive(Drop)]
-pub(crate) struct Unrolling<'a> {
-    lines: Vec<Reached<'a>>,
-    copies: usize,
-    ghost room: { length lines.items + copies ≤ MOST_LINES },
-}
+use crate::unroll::unrolling::Unrolling;
 
 // Appends lines as they stand in `copies`, with their blocks unrolled. Blocks may nest `levels`
 // deep.
@@ -44,9 +35,8 @@ pub(crate) fn append_lines<'a>(
 ) -> Result<(), ExpandFault>
     requires lies { All (HeadLies context.now.source.now) heads.now }
     requires before { All (ReachedLies context.now.source.now) out.old.lines.items }
-    ensures adds { Appends (reached_lines context.now.source.now out.old.lines.items) out.old.copies result (unrolled_by context.now in_block levels (lines_in context.now.source.now copies.now heads.now)) (reached_lines context.now.source.now out.new.lines.items) out.new.copies }
+    ensures adds { Returns (λ u. unrolled_so_far context.now.source.now out.new) result (unrolled_by context.now in_block levels (lines_in context.now.source.now copies.now heads.now) (unrolled_so_far context.now.source.now out.old)) }
     ensures after { OnOk result (All (ReachedLies context.now.source.now) out.new.lines.items) }
-    ensures kind { OnlyOf is_unroll_kind result }
 {
     let mut rest = heads;
     while let Some((head, after)) = rest.split_first() {
@@ -74,9 +64,8 @@ pub(crate) fn unroll<'a>(
     heads: &'a [Head],
 ) -> Result<Vec<Reached<'a>>, ExpandFault>
     requires lies { All (HeadLies context.now.source.now) heads.now }
-    ensures lines { GivesLines context.now.source.now result (unrolled context.now.source.now (table context.now) context.now.rules.now context.now.equs.now heads.now) }
+    ensures lines { Returns (λ v. reached_lines context.now.source.now v.items) result (unrolled context.now.source.now (table context.now) context.now.rules.now context.now.equs.now heads.now) }
     ensures inside { IfOk result (λ v. All (ReachedLies context.now.source.now) v.items) }
-    ensures kind { OnlyOf is_unroll_kind result }
 {
     let mut out = Unrolling {
         lines: Vec::new(context.alloc),
@@ -122,11 +111,10 @@ fn append<'a>(
 ) -> Result<(), ExpandFault>
     requires head { HeadLies context.now.source.now head.now }
     requires before { All (ReachedLies context.now.source.now) out.old.lines.items }
-    ensures adds { Appends (reached_lines context.now.source.now out.old.lines.items) out.old.copies result (Some (record { lines = reached_part context.now.source.now is_earlier (line_in context.now.source.now copies.now head.now) ∷ []; copies = 0 })) (reached_lines context.now.source.now out.new.lines.items) out.new.copies }
+    ensures adds { Returns (λ u. unrolled_so_far context.now.source.now out.new) result (with_line (reached_part context.now.source.now is_earlier (line_in context.now.source.now copies.now head.now)) (unrolled_so_far context.now.source.now out.old)) }
     ensures after { OnOk result (All (ReachedLies context.now.source.now) out.new.lines.items) }
-    ensures kind { OnlyOf is_unroll_kind result }
 {
-    if out.lines.len() + out.copies == MOST_LINES {
+    if out.lines.len() + out.copies >= MOST_LINES {
         return Err(fault(head.number, ExpandKind::TooManyLines));
     }
     let copies = clone_copies(context.alloc, copies)?;
@@ -139,10 +127,9 @@ fn append<'a>(
 }
 
 // Refuses a ROF alone, an EQU in a block, and a line to which a ninth counter was to be joined.
-// This depends on nothing of a line but its word and whether it is spoiled.
+// This depends on nothing of a line but its number, its word and whether it is spoiled.
 fn check_line(head: &Head, in_block: bool) -> Result<(), ExpandFault>
-    ensures allowed { MatchResult result (λ u. is_allowed head.now.word in_block head.now.spoiled ≡ true) (λ e. is_allowed head.now.word in_block head.now.spoiled ≡ false) }
-    ensures kind { OnlyOf is_unroll_kind result }
+    ensures { Returns (λ u. u) result (line_checked head.now.number head.now.word in_block head.now.spoiled) }
 {
     match head.word {
         HeadWord::Rof => return Err(fault(head.number, ExpandKind::RofWithoutFor)),
@@ -157,7 +144,8 @@ fn check_line(head: &Head, in_block: bool) -> Result<(), ExpandFault>
     Ok(())
 }
 
-// Checks a line as it stands in `copies`.
+// Checks a line as it stands in `copies`. A line in many copies is made only if a ninth counter may
+// be joined to it.
 fn check_copied_line(
     context: &Context,
     copies: &[Copying],
@@ -165,10 +153,7 @@ fn check_copied_line(
     in_block: bool,
 ) -> Result<(), ExpandFault>
     requires { HeadLies context.now.source.now head.now }
-    ensures line { MatchResult result
-        (λ u. unrolled_line_by context.now in_block (line_in context.now.source.now copies.now head.now) ≡ Some (record { lines = line_in context.now.source.now copies.now head.now ∷ []; copies = 0 }))
-        (λ e. e.kind ≢ OutOfMemory → unrolled_line_by context.now in_block (line_in context.now.source.now copies.now head.now) ≡ None) }
-    ensures kind { OnlyOf is_unroll_kind result }
+    ensures { Returns (λ u. u) result (checked_line in_block (line_in context.now.source.now copies.now head.now)) }
 {
     if copies.is_empty() || is_short_line(head) {
         return check_line(head, in_block);
@@ -187,9 +172,8 @@ fn append_line<'a>(
 ) -> Result<(), ExpandFault>
     requires head { HeadLies context.now.source.now head.now }
     requires before { All (ReachedLies context.now.source.now) out.old.lines.items }
-    ensures adds { Appends (reached_lines context.now.source.now out.old.lines.items) out.old.copies result (unrolled_line_by context.now in_block (line_in context.now.source.now copies.now head.now)) (reached_lines context.now.source.now out.new.lines.items) out.new.copies }
+    ensures adds { Returns (λ u. unrolled_so_far context.now.source.now out.new) result (one_line context.now.source.now (table context.now) context.now.rules.now context.now.equs.now in_block (line_in context.now.source.now copies.now head.now) (unrolled_so_far context.now.source.now out.old)) }
     ensures after { OnOk result (All (ReachedLies context.now.source.now) out.new.lines.items) }
-    ensures kind { OnlyOf is_unroll_kind result }
 {
     check_copied_line(context, copies, head, in_block)?;
     append(out, context, copies, head, false)
@@ -206,9 +190,8 @@ fn append_earlier<'a>(
     requires first { HeadLies context.now.source.now first.now }
     requires labels { labels.now ≡ earlier_of (line_in context.now.source.now copies.now first.now).labels }
     requires before { All (ReachedLies context.now.source.now) out.old.lines.items }
-    ensures adds { Appends (reached_lines context.now.source.now out.old.lines.items) out.old.copies result (Some (record { lines = earlier_line (line_in context.now.source.now copies.now first.now).number labels.now; copies = 0 })) (reached_lines context.now.source.now out.new.lines.items) out.new.copies }
+    ensures adds { Returns (λ u. unrolled_so_far context.now.source.now out.new) result (with_earlier first.now.number labels.now (unrolled_so_far context.now.source.now out.old)) }
     ensures after { OnOk result (All (ReachedLies context.now.source.now) out.new.lines.items) }
-    ensures kind { OnlyOf is_unroll_kind result }
 {
     if labels.as_slice().is_empty() {
         return Ok(());
@@ -230,11 +213,10 @@ fn append_copy<'a>(
 ) -> Result<(), ExpandFault>
     requires block { All (HeadLies context.now.source.now) block.now }
     requires before { All (ReachedLies context.now.source.now) out.old.lines.items }
-    ensures adds { Appends (reached_lines context.now.source.now out.old.lines.items) out.old.copies result (copy_by context.now levels (option_map (λ b. b.now) counter.entry) (lines_in context.now.source.now copies.now block.now) number) (reached_lines context.now.source.now out.new.lines.items) out.new.copies }
+    ensures adds { Returns (λ u. unrolled_so_far context.now.source.now out.new) result (copy_by context.now levels line (option_map (λ b. b.now) counter.entry) (lines_in context.now.source.now copies.now block.now) number (unrolled_so_far context.now.source.now out.old)) }
     ensures after { OnOk result (All (ReachedLies context.now.source.now) out.new.lines.items) }
-    ensures kind { OnlyOf is_unroll_kind result }
 {
-    if out.lines.len() + out.copies == MOST_LINES {
+    if out.lines.len() + out.copies >= MOST_LINES {
         return Err(fault(line, ExpandKind::TooManyLines));
     }
     out.copies += 1;
@@ -264,9 +246,8 @@ fn append_copies<'a>(
 ) -> Result<(), ExpandFault>
     requires block { All (HeadLies context.now.source.now) block.now }
     requires before { All (ReachedLies context.now.source.now) out.old.lines.items }
-    ensures adds { Appends (reached_lines context.now.source.now out.old.lines.items) out.old.copies result (copies_by context.now levels (option_map (λ b. b.now) counter.entry) (lines_in context.now.source.now copies.now block.now) count) (reached_lines context.now.source.now out.new.lines.items) out.new.copies }
+    ensures adds { Returns (λ u. unrolled_so_far context.now.source.now out.new) result (copies_by_from context.now levels line (option_map (λ b. b.now) counter.entry) (lines_in context.now.source.now copies.now block.now) count 1 (unrolled_so_far context.now.source.now out.old)) }
     ensures after { OnOk result (All (ReachedLies context.now.source.now) out.new.lines.items) }
-    ensures kind { OnlyOf is_unroll_kind result }
 {
     for done in 0..count {
         append_copy(out, context, copies, counter, done + 1, line, block, levels)?;
@@ -290,9 +271,8 @@ fn append_block<'a>(
     requires block { All (HeadLies context.now.source.now) block.now }
     requires rof { HeadLies context.now.source.now rof.now }
     requires before { All (ReachedLies context.now.source.now) out.old.lines.items }
-    ensures adds { Appends (reached_lines context.now.source.now out.old.lines.items) out.old.copies result (block_by context.now levels (line_in context.now.source.now copies.now first.now) (lines_in context.now.source.now copies.now block.now) (line_in context.now.source.now copies.now rof.now)) (reached_lines context.now.source.now out.new.lines.items) out.new.copies }
+    ensures adds { Returns (λ u. unrolled_so_far context.now.source.now out.new) result (block_by context.now levels (line_in context.now.source.now copies.now first.now) (lines_in context.now.source.now copies.now block.now) (line_in context.now.source.now copies.now rof.now) (unrolled_so_far context.now.source.now out.old)) }
     ensures after { OnOk result (All (ReachedLies context.now.source.now) out.new.lines.items) }
-    ensures kind { OnlyOf is_unroll_kind result }
 {
     let opened = make_line(context.alloc, context.source, copies, first)?;
     let closed = make_line(context.alloc, context.source, copies, rof)?;

@@ -1,15 +1,13 @@
 -- The EQU lines of a text, line by line.
-use Rattle.std.proofs.Common.{◌≡◌, ◌≢◌, ℕ, zero, suc, ◌+◌, ◌-◌, ◌<◌, List, [], ◌∷◌, ◌++◌, Some, None, refl, sym, ◌∙◌, ap, arith, add-one}
-use Rattle.std.specs.Prelude.{option_and_then}
-use Rattle.rc_text.specs.declared.token.Token.{Token}
+use Rattle.std.proofs.Common.{◌≡◌, ◌≢◌, ℕ, zero, suc, ◌+◌, ◌-◌, ◌<◌, List, [], ◌∷◌, length, refl, sym, ◌∙◌, ap, arith, add-one}
+use Rattle.std.specs.Prelude.{Ok}
 use Rattle.rc_instr.specs.Rules.{RulesView}
 use Rattle.rc_expand.specs.declared.heads.head.Head.{Head}
 use Rattle.rc_expand.specs.declared.heads.head.HeadWord.{HeadWord}
 use Rattle.rc_expand.specs.declared.heads.head.HeadWord.TheVariants as word
 use Rattle.rc_expand.specs.Names.{Table}
 use Rattle.rc_expand.specs.Replace.{Equs}
-use Rattle.rc_expand.specs.Heads.{equ_lines, equ_lines_by}
-use Rattle.rc_expand.specs.Steps.{new_equ, collected}
+use Rattle.rc_expand.specs.Heads.{equ_lines, equ_lines_by, equs_from, equs_of}
 
 -- a FOR opens a block, and a ROF closes one
 pub at_for : (lines : List Head) (h : Head) (hs : List Head) (n : ℕ) → lines ≡ h ∷ hs → h.word ≡ word.For → equ_lines n lines ≡ equ_lines (n + 1) hs
@@ -39,11 +37,13 @@ at_other lines h hs n l e f r = ap (equ_lines n) l ∙ by_word h.word n e f r wh
   by_word word.Rof n e f r = absurd (r refl)
   by_word _ n e f r = refl
 
-module _ (source : List ℕ) (constants : Table) (rules : RulesView) (equs : Equs) (h : Head) (hs : List Head) where
-  -- a new EQU name is taken up
-  pub one_more : (e : List ℕ × List Token) → new_equ source constants rules equs h ≡ Some e → collected source constants rules equs (h ∷ hs) ≡ collected source constants rules (equs ++ (e ∷ [])) hs
-  one_more e n = ap (option_and_then (λ e. collected source constants rules (equs ++ (e ∷ [])) hs)) n
+module _ (source : List ℕ) (constants : Table) (rules : RulesView) where
+  -- before the first line
+  pub equs_start : (hs : List Head) → equs_of source constants rules hs ≡ equs_from source constants rules (equ_lines 0 hs) []
+  unfolding equs_of
+  equs_start hs = refl
 
-  -- one that is taken ends the reading
-  pub refused : new_equ source constants rules equs h ≡ None → collected source constants rules equs (h ∷ hs) ≡ None
-  refused n = ap (option_and_then (λ e. collected source constants rules (equs ++ (e ∷ [])) hs)) n
+  -- no line is left
+  pub equs_end : (n : ℕ) (hs : List Head) (equs : Equs) → length hs ≡ 0 → equs_from source constants rules (equ_lines n hs) equs ≡ Ok equs
+  equs_end n [] equs h = refl
+  equs_end n (x ∷ xs) equs h = absurd (omega arith)

@@ -9,7 +9,8 @@ use Rattle.rc_expand.specs.declared.heads.head.HeadWord.{HeadWord}
 use Rattle.rc_expand.specs.declared.heads.head.HeadWord.TheVariants as word
 use Rattle.rc_expand.specs.declared.fault.ExpandFault.{ExpandFault}
 use Rattle.rc_expand.specs.declared.fault.ExpandKind.TheVariants.{ForTooDeep}
-use Rattle.rc_expand.specs.Heads.Nesting.{at_line, nesting_by, nesting_fault, Closed, NoLine, OneMore, Block, closed_lines, opens_or_closes, IsClosed, Opened, Outside, Within, opened_lines, IsOpened, outermost_or, AreNested}
+use Rattle.rc_expand.specs.Results.{at_line}
+use Rattle.rc_expand.specs.Heads.Nesting.{nesting_by, nesting_fault, Closed, NoLine, OneMore, Block, closed_lines, opens_or_closes, IsClosed, Opened, Outside, Within, opened_lines, IsOpened, outermost_or, AreNested}
 
 -- how many blocks are open
 abbrev open_count : Opened → ℕ

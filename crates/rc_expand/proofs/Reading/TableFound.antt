@@ -94,17 +94,6 @@ module _ {A : Type 0} (name : List ℕ) where
     by_name false true s h = cc
     by_name false false s h = h
 
-  -- a name that was added is fresh
-  pub added_is_fresh : {added : Bool} (table : List (List ℕ × A)) (known : Bool) → false ≡ known → true ≡ added → added ≡ not (is_some (entry_of table name)) → (not known && not (is_among (names_in table) name)) ≡ true
-  added_is_fresh table known k t e = rw (← k, ← seen_found table) (sym (t ∙ e))
-
-  -- a name that was not added is not fresh
-  pub kept_is_not_fresh : {added : Bool} (table : List (List ℕ × A)) (known : Bool) → false ≡ added → added ≡ not (is_some (entry_of table name)) → (not known && not (is_among (names_in table) name)) ≡ false
-  kept_is_not_fresh table known t e = ap (λ b. not known && not b) (sym (seen_found table)) ∙ (ap (λ b. not known && b) (sym (t ∙ e)) ∙ neither (not known)) where
-    neither : (b : Bool) → (b && false) ≡ false
-    neither true = refl
-    neither false = refl
-
 module _ {S : Type 0} (write : S → List ℕ → S) where
   -- one list of bytes after another
   pub fed_more : (s t u : S) (a b : List ℕ) → t ≡ fold write s (flat_map fed.u8 a) → u ≡ fold write t (flat_map fed.u8 b) → u ≡ fold write s (flat_map fed.u8 (a ++ b))

@@ -5,7 +5,7 @@ use Rattle.std.proofs.lemmas.List.{append-nil, map-append}
 use Rattle.std.proofs.lemmas.List.Elements.{All-same}
 use Rattle.rc_text.specs.declared.token.Token.{Token}
 use Rattle.rc_text.specs.Symbols.{LiesIn}
-use Rattle.rc_expand.specs.Replace.{Equs, EqusLie, equ_at}
+use Rattle.rc_expand.specs.Replace.{EquText, Equs, EqusLie, equ_in}
 use Rattle.rc_expand.specs.Heads.NameTables.{at_place, ArePlaces, AreLinks}
 
 module _ {A : Type 0} where
@@ -87,25 +87,25 @@ module _ {X Y Z : Type 0} (f : X → Z) (g : Y → Z) where
 module _ (source : List ℕ) (equs : Equs) where
   -- the place of a token
   pub place_of : (tokens : List Token) (places : List (Option ℕ)) (i : ℕ) (t : Token) → ArePlaces source equs tokens places → i < length tokens → t ≡ get_or tokens i t
-      → at_place equs (get_or places i None) ≡ equ_at source equs t
-  place_of tokens places i t p h e = same_at (at_place equs) (equ_at source equs) places tokens i None t p h ∙ ap (equ_at source equs) (sym e)
+      → at_place equs (get_or places i None) ≡ equ_in source equs t
+  place_of tokens places i t p h e = same_at (at_place equs) (equ_in source equs) places tokens i None t p h ∙ ap (equ_in source equs) (sym e)
 
-  value_is : (table : Equs) (i : ℕ) (body : List Token) (d : List ℕ × List Token) → Some body ≡ at_place table (Some i) → (get_or table i d).1 ≡ body
+  value_is : (table : Equs) (i : ℕ) (body : EquText) (d : List ℕ × EquText) → Some body ≡ at_place table (Some i) → (get_or table i d).1 ≡ body
   value_is [] i body d h = cc
   value_is (e ∷ es) zero body d h = sym (ap (λ o. value_or o body) h)
   value_is (e ∷ es) (suc i) body d h = value_is es i body d h
 
   -- the tokens of an EQU name are linked
-  pub body_linked : (links : List (List (Option ℕ))) (i : ℕ) (body tokens : List Token) (l places : List (Option ℕ)) → AreLinks source equs links → Some body ≡ at_place equs (Some i)
-      → tokens ≡ body → l ≡ get_or links i l → places ≡ l → ArePlaces source equs tokens places
+  pub body_linked : (links : List (List (Option ℕ))) (i : ℕ) (body : EquText) (tokens : List Token) (l places : List (Option ℕ)) → AreLinks source equs links → Some body ≡ at_place equs (Some i)
+      → tokens ≡ body.tokens → l ≡ get_or links i l → places ≡ l → ArePlaces source equs tokens places
   body_linked links i body tokens l places a h t e p =
-      let d : List ℕ × List Token = ([], []) in
+      let d : List ℕ × EquText = ([], body) in
       ap (map (at_place equs)) (p ∙ e)
-      ∙ (same_at (map (at_place equs)) (λ x. map (equ_at source equs) x.1) links equs i l d a (place_inside equs i body h)
-      ∙ ap (map (equ_at source equs)) (value_is equs i body d h ∙ sym t))
+      ∙ (same_at (map (at_place equs)) (λ x. map (equ_in source equs) x.1.tokens) links equs i l d a (place_inside equs i body h)
+      ∙ ap (map (equ_in source equs)) (ap (λ (e : EquText). e.tokens) (value_is equs i body d h) ∙ sym t))
 
   -- and lie in the source
-  pub body_lies : (i : ℕ) (body tokens : List Token) → EqusLie source equs → Some body ≡ at_place equs (Some i) → tokens ≡ body → All (LiesIn source) tokens
+  pub body_lies : (i : ℕ) (body : EquText) (tokens : List Token) → EqusLie source equs → Some body ≡ at_place equs (Some i) → tokens ≡ body.tokens → All (LiesIn source) tokens
   body_lies i body tokens a h t =
-      let d : List ℕ × List Token = ([], []) in
-      All-same (LiesIn source) tokens (get_or equs i d).1 (t ∙ sym (value_is equs i body d h)) (a i d (place_inside equs i body h))
+      let d : List ℕ × EquText = ([], body) in
+      All-same (LiesIn source) tokens (get_or equs i d).1.tokens (t ∙ sym (ap (λ (e : EquText). e.tokens) (value_is equs i body d h))) (a i d (place_inside equs i body h))

@@ -5,7 +5,7 @@ use Rattle.rc_text.specs.Symbols.{counter_text}
 use Rattle.rc_expand.specs.declared.heads.table.Spelling.{Spelling}
 use Rattle.rc_expand.specs.declared.heads.table.Spelling.TheVariants.{Written, Copied}
 use Rattle.rc_expand.specs.Names.{entry_of}
-use Rattle.rc_expand.specs.Replace.{Equs, equ_at}
+use Rattle.rc_expand.specs.Replace.{Equs, equ_in}
 
 -- bytes, then the counters joined to them
 abbrev pub joined_name : List ℕ → List ℕ → List ℕ
@@ -27,8 +27,8 @@ at_place table (Some i) = option_map (λ e. e.1) (slice_get table i)
 
 -- `places` has for each token its index among the EQU names, or None
 abbrev pub ArePlaces : List ℕ → Equs → List Token → List (Option ℕ) → Type 0
-ArePlaces source equs tokens places = map (at_place equs) places ≡ map (equ_at source equs) tokens
+ArePlaces source equs tokens places = map (at_place equs) places ≡ map (equ_in source equs) tokens
 
 -- `links` has this for the tokens of every EQU name
 abbrev pub AreLinks : List ℕ → Equs → List (List (Option ℕ)) → Type 0
-AreLinks source equs links = map (λ l. map (at_place equs) l) links ≡ map (λ e. map (equ_at source equs) e.1) equs
+AreLinks source equs links = map (λ l. map (at_place equs) l) links ≡ map (λ e. map (equ_in source equs) e.1.tokens) equs

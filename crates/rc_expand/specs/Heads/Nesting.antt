@@ -6,11 +6,8 @@ use Rattle.rc_expand.specs.declared.heads.head.HeadWord.{HeadWord}
 use Rattle.rc_expand.specs.declared.heads.head.HeadWord.TheVariants as word
 use Rattle.rc_expand.specs.declared.fault.ExpandFault.{ExpandFault}
 use Rattle.rc_expand.specs.declared.fault.ExpandKind.TheVariants.{ForWithoutRof, RofWithoutFor, ForTooDeep}
-use Rattle.rc_expand.specs.declared.fault.ExpandKind.{ExpandKind}
 use Rattle.rc_expand.specs.Limits.{DEEPEST_BLOCK}
-
-abbrev pub at_line : ℕ → ExpandKind → ExpandFault
-at_line line kind = record { line = line; kind = kind }
+use Rattle.rc_expand.specs.Results.{at_line}
 
 -- one line; `opened` blocks are open before it, the outermost since line `outermost`
 abbrev pub nesting_by : HeadWord → (line opened outermost : ℕ) → (ℕ → ℕ → Option ExpandFault) → Option ExpandFault

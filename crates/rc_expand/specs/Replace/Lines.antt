@@ -1,7 +1,6 @@
--- The third part of the expansion: EQU lines are dropped, lines give up their EQU names, and each
--- label must be new.
-use Rattle.std.specs.Prelude.{ℕ, Bool, true, false, ◌&&◌, not, nat_le, List, [], ◌∷◌, ◌++◌, length, map, Option, Some, None, if◌then◌else◌, option_and_then, flat_map}
-use Rattle.std.specs.List.{list_all, filter}
+-- The third part of the expansion: line by line, the names that a line defines must be new, its EQU
+-- names give way to their tokens, and EQU lines are dropped.
+use Rattle.std.specs.Prelude.{ℕ, ◌||◌, List, [], ◌∷◌, ◌++◌, map, Option, Some, None, if◌then◌else◌, flat_map, Result, Ok, Err}
 use Rattle.rc_text.specs.declared.token.Token.{Token}
 use Rattle.rc_text.specs.Symbols.{name_of}
 use Rattle.rc_instr.specs.Rules.{RulesView}
@@ -11,11 +10,12 @@ use Rattle.rc_expand.specs.declared.heads.head.HeadWord.TheVariants as word
 use Rattle.rc_expand.specs.declared.line.Line.{Line}
 use Rattle.rc_expand.specs.declared.line.LineWord.{LineWord}
 use Rattle.rc_expand.specs.declared.line.LineWord.TheVariants as line
-use Rattle.rc_expand.specs.Limits.{MOST_TOKENS}
-use Rattle.rc_expand.specs.Names.{Table}
+use Rattle.rc_expand.specs.declared.fault.ExpandFault.{ExpandFault}
+use Rattle.rc_expand.specs.declared.fault.ExpandKind.TheVariants.{DuplicateName}
+use Rattle.rc_expand.specs.Results.{mapped, and_then, at_line}
+use Rattle.rc_expand.specs.Names.{Table, is_among}
 use Rattle.rc_expand.specs.Replace.{Equs, line_tokens}
-use Rattle.rc_expand.specs.Unroll.{label_token, all_of, is_known}
-use Rattle.rc_expand.specs.Heads.{are_distinct}
+use Rattle.rc_expand.specs.Unroll.{label_token, is_taken}
 
 abbrev pub as_list : {A : Type 0} → Option A → List A
 as_list None = []
@@ -27,14 +27,6 @@ line_word word.Org = line.Org
 line_word word.End = line.End
 line_word word.Assert = line.Assert
 line_word _ = line.Code
-
-abbrev pub is_equ_word : HeadWord → Bool
-is_equ_word word.Equ = true
-is_equ_word _ = false
-
--- EQU lines are dropped
-abbrev pub kept_lines : List Head → List Head
-kept_lines hs = filter (λ h. not (is_equ_word h.word)) hs
 
 module _ (source : List ℕ) where
   abbrev pub own_step : Option Token → List Token → List Token
@@ -55,39 +47,57 @@ module _ (source : List ℕ) where
   other_labels [] = []
   other_labels (l ∷ ls) = other_step (label_token source l) (l ∷ ls) (other_labels ls)
 
-  -- the names of all labels
-  abbrev pub label_names : List Line → List (List ℕ)
-  label_names lines = flat_map (λ l. map (name_of source) l.labels) lines
+  abbrev pub finished : Head → HeadWord → List Token → Line
+  finished h w tokens = record { number = h.number; labels = own_labels h.labels; word = line_word w; tokens = tokens }
 
-  -- the tokens of a line are within their limit
-  abbrev pub finished : Head → HeadWord → List Token → Option Line
-  finished h w tokens = if nat_le (length tokens) MOST_TOKENS then Some (record { number = h.number; labels = own_labels h.labels; word = line_word w; tokens = tokens }) else None
-
-  abbrev pub made_line : Equs → Head → HeadWord → List Token → Option Line
-  made_line equs h w tokens = option_and_then (finished h w) (line_tokens source equs w tokens)
+  abbrev pub made_line : Equs → Head → HeadWord → List Token → Result Line ExpandFault
+  made_line equs h w tokens = mapped (finished h w) (line_tokens source equs h.number w tokens)
 
   -- a would-be label that is not a single name makes its line code and begins its tokens
-  abbrev pub line_with_labels : Equs → Head → List (List Token) → Option Line
+  abbrev pub line_with_labels : Equs → Head → List (List Token) → Result Line ExpandFault
   line_with_labels equs h [] = made_line equs h h.word h.rest
   line_with_labels equs h (l ∷ ls) = made_line equs h word.Code (flat_map (λ x. x) (l ∷ ls) ++ (as_list h.directive ++ h.rest))
 
   -- a line with its EQU names replaced
-  unfoldable pub line_of : Equs → Head → Option Line
+  unfoldable pub line_of : Equs → Head → Result Line ExpandFault
   line_of equs h = line_with_labels equs h (other_labels h.labels)
 
+  -- the names that a line defines: its labels, or its EQU name
+  abbrev pub names_of : Head → List (List ℕ)
+  names_of h = map (name_of source) (own_labels h.labels)
+
+-- the names defined so far, and the lines of the expansion
+pub record Replacement : Type 0 where
+  pub names : List (List ℕ)
+  pub lines : List Line
+
 module _ (constants : Table) (rules : RulesView) where
-  -- a label must not be an EQU name, a constant or a predefined name
-  abbrev pub is_new_label : Equs → List ℕ → Bool
-  is_new_label equs name = not (is_known constants rules equs name)
+  -- names are defined one after the other. None may be a constant, a predefined name or defined
+  -- before.
+  abbrev pub defined : (number : ℕ) → List (List ℕ) → (before : List (List ℕ)) → Result (List (List ℕ)) ExpandFault
+  defined number [] before = Ok before
+  defined number (n ∷ ns) before = if is_taken constants rules n || is_among before n then Err (at_line number DuplicateName) else defined number ns (before ++ (n ∷ []))
 
-  -- no label is defined twice, and each is new
-  abbrev pub labels_are_new : Equs → List (List ℕ) → Bool
-  labels_are_new equs names = are_distinct names && list_all (is_new_label equs) names
+  module _ (source : List ℕ) (equs : Equs) where
+    abbrev pub with_line : List Line → List (List ℕ) → Line → Replacement
+    with_line lines names l = record { names = names; lines = lines ++ (l ∷ []) }
 
-  module _ (source : List ℕ) where
-    abbrev pub labelled_once : Equs → List Line → Option (List Line)
-    labelled_once equs lines = if labels_are_new equs (label_names source lines) then Some lines else None
+    -- an EQU line is dropped, and any other is added
+    abbrev pub line_added : HeadWord → Head → List Line → List (List ℕ) → Result Replacement ExpandFault
+    line_added word.Equ h lines names = Ok (record { names = names; lines = lines })
+    line_added _ h lines names = mapped (with_line lines names) (line_of source equs h)
 
-    -- the third part: EQU lines are dropped, EQU names are replaced, and each label must be new
-    unfoldable pub replaced : Equs → List Head → Option (List Line)
-    replaced equs hs = option_and_then (labelled_once equs) (all_of (line_of source equs) (kept_lines hs))
+    -- one more line: its names, then its tokens
+    abbrev pub line_replaced : Head → Replacement → Result Replacement ExpandFault
+    line_replaced h r = and_then (line_added h.word h r.lines) (defined h.number (names_of source h) r.names)
+
+    abbrev pub lines_replaced : List Head → Replacement → Result Replacement ExpandFault
+    lines_replaced [] r = Ok r
+    lines_replaced (h ∷ hs) r = and_then (lines_replaced hs) (line_replaced h r)
+
+    abbrev pub no_lines : Replacement
+    no_lines = record { names = []; lines = [] }
+
+    -- the third part: each line in turn
+    unfoldable pub replaced : List Head → Result (List Line) ExpandFault
+    replaced hs = mapped (λ r. r.lines) (lines_replaced hs no_lines)

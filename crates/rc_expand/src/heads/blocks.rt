@@ -2,7 +2,7 @@
 ghost use Rattle.std.specs.Prelude.{◌≡◌, MatchResult, Some, None};
 ghost use Rattle.rc_expand.specs.Heads.Nesting.{nesting_fault};
 
-use crate::fault::{ExpandFault, ExpandKind};
+use crate::fault::{ExpandFault, ExpandKind, fault};
 use crate::heads::head::{Head, HeadWord};
 use crate::limits::DEEPEST_BLOCK;
 
@@ -18,10 +18,7 @@ pub(crate) fn check_blocks(heads: &[Head]) -> Result<(), ExpandFault>
         match heads[i].word {
             HeadWord::For => {
                 if opened == DEEPEST_BLOCK {
-                    return Err(ExpandFault {
-                        line: heads[i].number,
-                        kind: ExpandKind::ForTooDeep,
-                    });
+                    return Err(fault(heads[i].number, ExpandKind::ForTooDeep));
                 }
                 if opened == 0 {
                     outermost = heads[i].number;
@@ -30,10 +27,7 @@ pub(crate) fn check_blocks(heads: &[Head]) -> Result<(), ExpandFault>
             }
             HeadWord::Rof => {
                 if opened == 0 {
-                    return Err(ExpandFault {
-                        line: heads[i].number,
-                        kind: ExpandKind::RofWithoutFor,
-                    });
+                    return Err(fault(heads[i].number, ExpandKind::RofWithoutFor));
                 }
                 opened -= 1;
             }
@@ -41,10 +35,7 @@ pub(crate) fn check_blocks(heads: &[Head]) -> Result<(), ExpandFault>
         }
     }
     if opened > 0 {
-        return Err(ExpandFault {
-            line: outermost,
-            kind: ExpandKind::ForWithoutRof,
-        });
+        return Err(fault(outermost, ExpandKind::ForWithoutRof));
     }
     Ok(())
 }

@@ -1,15 +1,12 @@
 //! EQU lines: the table of EQU names and their tokens.
-ghost use Rattle.std.specs.Prelude.{◌≡◌, ◌≢◌, [], false, is_some, All, IfOk, IfErr, MatchResult, Some, None};
-ghost use Rattle.rc_expand.specs.declared.fault.ExpandKind.TheVariants.{OutOfMemory, BadDirective};
+ghost use Rattle.std.specs.Prelude.{◌≡◌, ◌≢◌, [], ◌∷◌, ◌++◌, false, is_some, option_map, All, IfOk, MatchResult, Some, None, Ok, Err};
+ghost use Rattle.rc_expand.specs.declared.fault.ExpandKind.TheVariants.{BadDirective};
 ghost use Rattle.rc_text.specs.Symbols.{LiesIn, name_of};
+ghost use Rattle.rc_expand.specs.Results.{Returns, at_line};
 ghost use Rattle.rc_expand.specs.Heads.Lines.{HeadLies};
-ghost use Rattle.rc_expand.specs.Heads.{equ_token, equ_of_line, equs_of, equ_lines};
-ghost use Rattle.rc_expand.specs.Heads.Faults.{equ_fault, equs_fault};
-ghost use Rattle.rc_expand.specs.Heads.Nesting.{at_line};
+ghost use Rattle.rc_expand.specs.Heads.{equ_token, equs_of, with_equ};
 ghost use Rattle.rc_expand.specs.Names.{table_of, entry_of};
 ghost use Rattle.rc_expand.specs.Replace.{EqusLie};
-ghost use Rattle.rc_expand.specs.Steps.{new_equ};
-ghost use Rattle.rc_expand.specs.Unroll.{Gives};
 
 use crate::fault::{ExpandFault, ExpandKind, fault};
 use crate::heads::head::{Head, HeadWord};
@@ -30,23 +27,22 @@ pub(crate) struct Equ {
 }
 
 impl Model for Equ {
-    ghost use Rattle.std.specs.Prelude.{List};
-    ghost use Rattle.rc_text.specs.declared.token.Token.{Token};
+    ghost use Rattle.rc_expand.specs.Replace.{EquText};
 
-    ghost Value = { List Token };
+    ghost Value = { EquText };
 
-    ghost view = { λ e. e.tokens };
+    ghost view = { λ e. record { tokens = e.tokens; line = e.line } };
 }
 
 impl Equ {
     pub(crate) fn new(tokens: Tokens, line: u64) -> Self
-        ensures { result ≡ tokens }
+        ensures { result ≡ record { tokens = tokens; line = line } }
     {
         Equ { tokens, line }
     }
 
     pub(crate) fn tokens(&self) -> &[Token]
-        ensures { result.now ≡ self.now }
+        ensures { result.now ≡ self.now.tokens }
     {
         self.tokens.as_slice()
     }
@@ -63,9 +59,7 @@ pub(crate) fn collect_equs(
     heads: &[Head],
 ) -> Result<NameTable<'static, Equ>, ExpandFault>
     requires { All (HeadLies source.now) heads.now }
-    ensures equs { Gives result (equs_of source.now (table_of names.now.constants.now.names.now names.now.constants.now.values.now) names.now.rules.now heads.now) }
-    ensures first { IfErr result (λ f. f.kind ≢ OutOfMemory
-        → equs_fault source.now (table_of names.now.constants.now.names.now names.now.constants.now.values.now) names.now.rules.now [] (equ_lines 0 heads.now) ≡ Some f) }
+    ensures equs { Returns (λ t. t) result (equs_of source.now (table_of names.now.constants.now.names.now names.now.constants.now.values.now) names.now.rules.now heads.now) }
     ensures inside { IfOk result (EqusLie source.now) }
 {
     let mut opened: usize = 0;
@@ -112,11 +106,9 @@ fn read_equ(
     head: &Head,
 ) -> Result<(KeptName<'static>, Equ), ExpandFault>
     requires head { HeadLies source.now head.now }
-    ensures equ { Gives result (new_equ source.now (table_of names.now.constants.now.names.now names.now.constants.now.values.now) names.now.rules.now equs.now head.now) }
-    ensures fault { IfErr result (λ f. f.kind ≢ OutOfMemory
-        → equ_fault source.now (table_of names.now.constants.now.names.now names.now.constants.now.values.now) names.now.rules.now equs.now head.now ≡ Some f) }
+    ensures equ { Returns (λ e. equs.now ++ (e ∷ [])) result (with_equ source.now (table_of names.now.constants.now.names.now names.now.constants.now.values.now) names.now.rules.now head.now equs.now (equ_token source.now head.now.labels)) }
     ensures new { IfOk result (λ e. is_some (entry_of equs.now e.0) ≡ false) }
-    ensures inside { IfOk result (λ e. All (LiesIn source.now) e.1) }
+    ensures inside { IfOk result (λ e. All (LiesIn source.now) e.1.tokens) }
 {
     let token = equ_token(source, head)?;
     if is_taken(names, source, token) || equ_line(equs, source, token).is_some() {
@@ -130,7 +122,7 @@ fn read_equ(
 // Returns the line that defines the EQU name that a token is.
 pub(crate) fn equ_line(equs: &NameTable<Equ>, source: &[u8], token: &Token) -> Option<u64>
     requires { LiesIn source.now token.now }
-    ensures { is_some result ≡ is_some (entry_of equs.now (name_of source.now token.now)) }
+    ensures { result ≡ option_map (λ e. e.line) (entry_of equs.now (name_of source.now token.now)) }
 {
     match equs.get(source, token) {
         Some(equ) => Some(equ.line),

@@ -1,13 +1,13 @@
 //! From tokens to lines.
-ghost use Rattle.std.specs.Prelude.{◌≡◌, ◌≢◌, List, ℕ, ◌++◌, [], ◌+◌, ◌≤◌, ◌&&◌, IsTrue, length, drop, All, IfOk, IfErr, IfSome, MatchResult, Ok, None};
-ghost use Rattle.rc_expand.specs.declared.fault.ExpandKind.TheVariants.{OutOfMemory};
+ghost use Rattle.std.specs.Prelude.{◌≡◌, ◌≢◌, List, ℕ, ◌++◌, [], ◌+◌, ◌≤◌, ◌&&◌, IsTrue, length, drop, All, IfOk, IfSome, MatchResult, Ok, Err, None};
 ghost use Rattle.rc_text.specs.Tokens.{tokens_of, TakesToken};
 ghost use Rattle.rc_text.specs.Symbols.{LiesIn};
 ghost use Rattle.rc_expand.specs.Heads.Lines.{HeadLies, head_of, is_free, is_ampersand, goes_on, tail_len, begins_label, labelled, is_line_end_kind, line_of_tokens, has_end, lines_read};
-ghost use Rattle.rc_expand.specs.Unroll.{GivesItems};
-ghost use Rattle.rc_expand.specs.Heads.Faults.{IsEnding, IsTextFault};
+ghost use Rattle.rc_expand.specs.Results.{Returns};
+ghost use Rattle.rc_expand.specs.Heads.{text_lines};
+ghost use Rattle.rc_expand.specs.Heads.Faults.{IsEnding};
 
-use crate::fault::{ExpandFault, ExpandKind};
+use crate::fault::{ExpandFault, ExpandKind, fault};
 use crate::heads::head::{Head, HeadWord, Labels};
 use crate::heads::words::{clone_token, clone_tokens, is_ampersand, is_colon, is_free, word_of};
 use crate::line::Tokens;
@@ -20,8 +20,7 @@ const BYTES_OF_A_LINE: usize = 24;
 // Reads the lines of a text, up to the first with END.
 #[tactic(auto, unfolding(crate::specs::Heads::Lines::lines_read))]
 pub(crate) fn read_lines(alloc: Global, source: &[u8]) -> Result<Vec<Head>, ExpandFault>
-    ensures lines { GivesItems result (lines_read source.now (tokens_of source.now)) }
-    ensures text { IfErr result (λ f. f.kind ≢ OutOfMemory → IsTextFault source.now f) }
+    ensures lines { Returns (λ v. v.items) result (text_lines source.now) }
     ensures inside { IfOk result (λ v. All (HeadLies source.now) v.items) }
 {
     let mut lexer = Lexer::new(source);
@@ -98,32 +97,8 @@ fn begins_label(source: &[u8], tokens: &[Token], at: usize) -> bool
     }
 }
 
-// Reads the labels of a line, of which most have at most one. Returns them and the index after
-// them.
+// Reads the labels of a line. Returns them and the index after them.
 fn read_labels(
-    alloc: Global,
-    source: &[u8],
-    tokens: &[Token],
-) -> Result<(Labels, usize), AllocError>
-    requires { All (LiesIn source.now) tokens.now }
-    ensures labels { IfOk result (λ p. p.0 ≡ (labelled source.now tokens.now).labels) }
-    ensures rest { IfOk result (λ p. drop p.1 tokens.now ≡ (labelled source.now tokens.now).after) }
-    ensures place { IfOk result (λ p. p.1 ≤ length tokens.now) }
-    ensures inside { IfOk result (λ p. All (All (LiesIn source.now)) p.0) }
-{
-    if !begins_label(source, tokens, 0) {
-        return Ok((Labels::none(alloc), 0));
-    }
-    let end = label_end(source, tokens, 1);
-    if begins_label(source, tokens, end) {
-        return many_labels(alloc, source, tokens);
-    }
-    let label = clone_tokens(alloc, &tokens[..end])?;
-    Ok((Labels::one(label), end))
-}
-
-// Does what `read_labels` does, whose short way is for one label. Starts from the first again.
-fn many_labels(
     alloc: Global,
     source: &[u8],
     tokens: &[Token],
@@ -224,10 +199,7 @@ fn next_token(lexer: &mut Lexer) -> Result<Option<Token>, ExpandFault>
 {
     match lexer.next_token() {
         Ok(token) => Ok(token),
-        Err(cause) => Err(ExpandFault {
-            line: lexer.line(),
-            kind: ExpandKind::Text(cause),
-        }),
+        Err(cause) => Err(fault(lexer.line(), ExpandKind::Text(cause))),
     }
 }
 

@@ -5,7 +5,6 @@ ghost use Rattle.std.specs.Str.{bytes_eq};
 ghost use Rattle.std.specs.Int.Digits.{digits_of};
 ghost use Rattle.rc_text.specs.Symbols.{LiesIn, name_of, counter_text};
 ghost use Rattle.rc_expand.specs.Names.{entry_of};
-ghost use Rattle.indexmap.specs.IndexMap.{insert_entry};
 ghost use Rattle.rc_expand.specs.Heads.NameTables.{joined_name, with_name, at_place};
 
 use crate::names::{is_joined_name, name_of};
@@ -193,16 +192,6 @@ impl<'a, V: Drop> NameTable<'a, V> {
         Ok(self.entries.len() > before)
     }
 
-    // Gives a name a value, whether it is in the table or not. Fails only if out of memory; the
-    // table then stays as it is.
-    pub(crate) fn put(&mut self, name: KeptName<'a>, value: V) -> Result<(), AllocError>
-        ensures table { OnOk result (self.new ≡ insert_entry bytes_eq self.old name.entry value) }
-        ensures refused { OnErr result (self.new ≡ self.old) }
-    {
-        self.entries.insert(name, value)?;
-        Ok(())
-    }
-
     /// Returns the value of the name that a token spells, joined counters included. The token's
     /// span must lie in `source`.
     pub fn get(&self, source: &[u8], token: &Token) -> Option<&V>
@@ -213,13 +202,6 @@ impl<'a, V: Drop> NameTable<'a, V> {
             return None;
         }
         self.entries.get(spelled(source, token))
-    }
-
-    // Checks for a table without names.
-    pub(crate) fn is_empty(&self) -> bool
-        ensures { (name : List ℕ) → result ≡ true → None ≡ entry_of self.now name }
-    {
-        self.entries.len() == 0
     }
 
     // Returns the index of the name that a token spells. The token's span must lie in `source`.

@@ -8,22 +8,12 @@ ghost use Rattle.rc_expand.specs.Heads.Lines.{is_reserved_class, is_name_token, 
 
 use crate::heads::head::HeadWord;
 use crate::line::Tokens;
-use rc_text::{Joined, Kind, Sign, Token, is_opcode_word, is_reserved_name, is_same_word};
+use rc_text::{Kind, Sign, Token, is_opcode_word, is_reserved_name, is_same_word};
 use std::alloc::{AllocError, Global};
 
-// Copies a token. Most have no counters, and skip the loop that copies them.
 pub(crate) fn clone_token(token: &Token) -> Result<Token, AllocError>
     ensures { IfOk result (λ t. t ≡ token.now) }
 {
-    if token.joined.is_empty() {
-        return Ok(Token {
-            kind: token.kind,
-            lo: token.lo,
-            hi: token.hi,
-            line: token.line,
-            joined: Joined::new(),
-        });
-    }
     token.clone()
 }
 

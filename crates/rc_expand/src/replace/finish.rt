@@ -1,54 +1,25 @@
 //! From an unrolled line to a line of the expansion.
-ghost use Rattle.std.specs.Prelude.{◌≡◌, ◌++◌, ◌≤◌, length, flat_map, All, IfOk, IfSome, OnOk};
+ghost use Rattle.std.specs.Prelude.{◌≡◌, ◌≢◌, ◌++◌, ◌≤◌, length, flat_map, All, IfOk, IfSome, OnOk, Ok, Err};
 ghost use Rattle.rc_text.specs.Symbols.{LiesIn};
+ghost use Rattle.rc_expand.specs.Results.{Returns};
 ghost use Rattle.rc_expand.specs.Heads.Lines.{HeadLies};
-ghost use Rattle.rc_expand.specs.Heads.NameTables.{AreLinks};
-ghost use Rattle.rc_expand.specs.Replace.{EqusLie, exempt_len_of_code, exempt_len, line_tokens, Replaces};
-ghost use Rattle.rc_expand.specs.Faults.{OnlyOf, is_replace_kind};
-ghost use Rattle.rc_expand.specs.Unroll.{Gives};
+ghost use Rattle.rc_expand.specs.Replace.{exempt_len_of_code, exempt_len, line_tokens};
 ghost use Rattle.rc_expand.specs.Replace.Lines.{as_list, line_word, own_labels, other_labels, made_line, line_of};
 ghost use Rattle.rc_expand.specs.Expansion.{LineLies};
 
 use crate::context::Context;
-use crate::fault::{ExpandFault, ExpandKind, fault};
-use crate::heads::equs::Equ;
+use crate::fault::ExpandFault;
 use crate::heads::head::{Head, HeadWord};
 use crate::heads::labels::label_token;
-use crate::heads::table::NameTable;
-use crate::heads::words::{clone_token, clone_tokens, has_modifier, with_front};
-use crate::limits::MOST_TOKENS;
+use crate::heads::words::{clone_token, has_modifier};
 use crate::line::{Line, LineWord, Tokens};
-use crate::replace::links::{Links, needs_no_replacement};
-use crate::replace::{ReplaceFault, replace_fault, replace_tokens};
+use crate::replace::replace_tokens;
 use rc_text::Token;
 use std::alloc::{AllocError, Global};
 
 // Splits the labels before the first that is not a single name. From there on they are not labels:
 // they are tokens of a line of code.
-#[inline(always)]
 pub(crate) fn split_labels<'a>(
-    alloc: Global,
-    source: &[u8],
-    labels: &'a [Tokens],
-) -> Result<(Tokens, &'a [Tokens]), AllocError>
-    requires { All (All (LiesIn source.now)) labels.now }
-    ensures own { IfOk result (λ p. p.0 ≡ own_labels source.now labels.now) }
-    ensures others { IfOk result (λ p. p.1.now ≡ other_labels source.now labels.now) }
-    ensures own_inside { IfOk result (λ p. All (LiesIn source.now) p.0) }
-    ensures others_inside { IfOk result (λ p. All (All (LiesIn source.now)) p.1.now) }
-{
-    if let Some((label, after)) = labels.split_first() {
-        if after.is_empty() {
-            if let Some(token) = label_token(source, label.as_slice()) {
-                return Ok((Tokens::one(clone_token(token)?), after));
-            }
-        }
-    }
-    split_many(alloc, source, labels)
-}
-
-// Does what `split_labels` does, whose short way is for one label.
-fn split_many<'a>(
     alloc: Global,
     source: &[u8],
     labels: &'a [Tokens],
@@ -71,15 +42,22 @@ fn split_many<'a>(
     Ok((own, rest))
 }
 
-// Makes the line of the expansion for an unrolled line.
+// Makes the line of the expansion for an unrolled line, whose labels are split.
 #[tactic(auto, unfolding(crate::specs::Replace::Lines::line_of))]
-pub(crate) fn line_of(context: &Context, head: &Head) -> Result<Line, ExpandFault>
+pub(crate) fn line_of(
+    context: &Context,
+    head: &Head,
+    labels: Tokens,
+    others: &[Tokens],
+) -> Result<Line, ExpandFault>
     requires head { HeadLies context.now.source.now head.now }
-    ensures line { Gives result (line_of context.now.source.now context.now.equs.now head.now) }
+    requires labels { labels ≡ own_labels context.now.source.now head.now.labels }
+    requires labels_inside { All (LiesIn context.now.source.now) labels }
+    requires others { others.now ≡ other_labels context.now.source.now head.now.labels }
+    requires others_inside { All (All (LiesIn context.now.source.now)) others.now }
+    ensures line { Returns (λ l. l) result (line_of context.now.source.now context.now.equs.now head.now) }
     ensures inside { IfOk result (LineLies context.now.source.now) }
-    ensures kind { OnlyOf is_replace_kind result }
 {
-    let (labels, others) = split_labels(context.alloc, context.source, head.labels.as_slice())?;
     if others.is_empty() {
         return make_line(context, head, labels, head.word, head.rest.as_slice());
     }
@@ -164,7 +142,7 @@ fn exempt_len_of_code(source: &[u8], tokens: &[Token]) -> usize
 }
 
 // Counts the tokens that EQU names do not replace at the front of a line.
-pub(crate) fn exempt_len(source: &[u8], word: HeadWord, tokens: &[Token]) -> usize
+fn exempt_len(source: &[u8], word: HeadWord, tokens: &[Token]) -> usize
     requires { All (LiesIn source.now) tokens.now }
     ensures exempt { result ≡ exempt_len source.now word tokens.now }
     ensures room { result ≤ length tokens.now }
@@ -176,31 +154,24 @@ pub(crate) fn exempt_len(source: &[u8], word: HeadWord, tokens: &[Token]) -> usi
 }
 
 // Replaces the EQU names of a line.
-#[tactic(auto, using(crate::proofs::Replacing::Settled::line_settled))]
 fn line_tokens(
-    alloc: Global,
-    source: &[u8],
-    equs: &NameTable<Equ>,
-    links: &[Links],
+    context: &Context,
+    line: u64,
     word: HeadWord,
     tokens: &[Token],
-) -> Result<Tokens, ReplaceFault>
-    requires inside { All (LiesIn source.now) tokens.now }
-    requires lies { EqusLie source.now equs.now }
-    requires links { AreLinks source.now equs.now links.now }
-    ensures tokens { Replaces result (line_tokens source.now equs.now word tokens.now) }
-    ensures inside { IfOk result (All (LiesIn source.now)) }
+) -> Result<Tokens, ExpandFault>
+    requires inside { All (LiesIn context.now.source.now) tokens.now }
+    ensures tokens { Returns (λ t. t) result (line_tokens context.now.source.now context.now.equs.now line word tokens.now) }
+    ensures inside { IfOk result (All (LiesIn context.now.source.now)) }
 {
-    let (front, back) = tokens.split_at(exempt_len(source, word, tokens));
-    if needs_no_replacement(source, back, equs) {
-        return Ok(clone_tokens(alloc, tokens)?);
-    }
-    let replaced = replace_tokens(alloc, source, back, equs, links)?;
-    Ok(with_front(alloc, front, replaced)?)
+    let (front, back) = tokens.split_at(exempt_len(context.source, word, tokens));
+    let mut kept = Vec::new(context.alloc);
+    push_tokens(&mut kept, context.source, front)?;
+    replace_tokens(context, line, kept, back)
 }
 
 // Converts the word of a line. Anything that is left and not a directive is code.
-pub(crate) fn line_word(word: HeadWord) -> LineWord
+fn line_word(word: HeadWord) -> LineWord
     ensures { result ≡ line_word word }
 {
     match word {
@@ -223,24 +194,10 @@ fn make_line(
     requires labels { labels ≡ own_labels context.now.source.now head.now.labels }
     requires labels_inside { All (LiesIn context.now.source.now) labels }
     requires inside { All (LiesIn context.now.source.now) tokens.now }
-    ensures line { Gives result (made_line context.now.source.now context.now.equs.now head.now word tokens.now) }
+    ensures line { Returns (λ l. l) result (made_line context.now.source.now context.now.equs.now head.now word tokens.now) }
     ensures inside { IfOk result (LineLies context.now.source.now) }
-    ensures kind { OnlyOf is_replace_kind result }
 {
-    let tokens = match line_tokens(
-        context.alloc,
-        context.source,
-        context.equs,
-        context.links,
-        word,
-        tokens,
-    ) {
-        Ok(tokens) => tokens,
-        Err(cause) => return Err(replace_fault(head.number, cause)),
-    };
-    if tokens.as_slice().len() > MOST_TOKENS {
-        return Err(fault(head.number, ExpandKind::TooManyTokens));
-    }
+    let tokens = line_tokens(context, head.number, word, tokens)?;
     Ok(Line {
         number: head.number,
         labels,

@@ -1,15 +1,13 @@
 //! For each EQU body: which of its tokens are EQU names themselves. Looked up once, since a name
 //! may be as long as the text.
-ghost use Rattle.std.specs.Prelude.{◌≡◌, ◌≤◌, true, length, All, IfOk, IfSome, option_map, map};
+ghost use Rattle.std.specs.Prelude.{◌≡◌, All, IfOk, IfSome, option_map, map};
 ghost use Rattle.rc_text.specs.Symbols.{LiesIn};
-ghost use Rattle.rc_expand.specs.Replace.{EqusLie, equ_at};
-ghost use Rattle.rc_expand.specs.Steps.{are_settled};
+ghost use Rattle.rc_expand.specs.Replace.{EqusLie, equ_in};
 ghost use Rattle.rc_expand.specs.Heads.NameTables.{at_place, ArePlaces, AreLinks};
 
 use crate::heads::equs::Equ;
 use crate::heads::table::NameTable;
 use crate::heads::words::is_name_token;
-use crate::limits::MOST_TOKENS;
 use rc_text::Token;
 use std::alloc::{AllocError, Global};
 use std::marker::Model;
@@ -34,15 +32,6 @@ impl Links {
     {
         self.places.as_slice()
     }
-}
-
-// Checks that no token is an EQU name and that there are at most `MOST_TOKENS`.
-pub(crate) fn needs_no_replacement(source: &[u8], tokens: &[Token], equs: &NameTable<Equ>) -> bool
-    requires { All (LiesIn source.now) tokens.now }
-    ensures settled { result ≡ true → are_settled source.now equs.now tokens.now ≡ true }
-    ensures few { result ≡ true → length tokens.now ≤ MOST_TOKENS }
-{
-    tokens.len() <= MOST_TOKENS && are_settled(source, tokens, equs)
 }
 
 // Looks up each of `tokens` in the table of EQU names.
@@ -83,29 +72,11 @@ pub(crate) fn link_equs(
 // Returns the index of the EQU name that a token is.
 fn equ_place(source: &[u8], token: &Token, equs: &NameTable<Equ>) -> Option<usize>
     requires { LiesIn source.now token.now }
-    ensures { at_place equs.now result ≡ equ_at source.now equs.now token.now }
+    ensures { at_place equs.now result ≡ equ_in source.now equs.now token.now }
 {
     if is_name_token(token) {
         equs.place(source, token)
     } else {
         None
     }
-}
-
-// Checks that no token is an EQU name.
-fn are_settled(source: &[u8], tokens: &[Token], equs: &NameTable<Equ>) -> bool
-    requires { All (LiesIn source.now) tokens.now }
-    ensures { result ≡ true → are_settled source.now equs.now tokens.now ≡ true }
-{
-    if equs.is_empty() {
-        return true;
-    }
-    let mut rest = tokens;
-    while let Some((token, after)) = rest.split_first() {
-        if equ_place(source, token, equs).is_some() {
-            return false;
-        }
-        rest = after;
-    }
-    true
 }

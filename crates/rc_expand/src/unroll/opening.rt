@@ -1,21 +1,22 @@
 //! What the FOR of a block says: its counter, the labels before it, and its count; and its ROF.
-ghost use Rattle.std.specs.Prelude.{◌≡◌, [], true, false, Some, None, All, IfOk, IfSome, MatchResult, option_map};
+ghost use Rattle.std.specs.Prelude.{◌≡◌, ◌≢◌, [], true, false, Some, None, Ok, Err, All, IfOk, IfSome, option_map};
 ghost use Rattle.rc_text.specs.Symbols.{LiesIn, name_of};
+ghost use Rattle.rc_expand.specs.Results.{Returns, at_line};
 ghost use Rattle.rc_expand.specs.Heads.Lines.{HeadLies};
-ghost use Rattle.rc_expand.specs.Unroll.{Gives, counter_token, small_count, earlier_of, is_bare_rof};
-ghost use Rattle.rc_expand.specs.Faults.{OnlyOf, is_unroll_kind};
-ghost use Rattle.rc_expand.specs.Steps.{Starts};
-ghost use Rattle.rc_expand.specs.Context.{opening_by, count_by, is_new_by};
+ghost use Rattle.rc_expand.specs.Unroll.{Unrolled, is_plain_number, is_enclosing, counter_kind, counter_of, small_count, later_line, earlier_of, is_bare_rof, at_rof};
+ghost use Rattle.rc_expand.specs.Unroll.SoFar.{seen_start};
+ghost use Rattle.rc_expand.specs.Context.{opening_by, count_by, counter_name_by};
 
-use crate::clash::clash_with_given;
 use crate::context::Context;
 use crate::fault::{ExpandFault, ExpandKind, fault};
+use crate::heads::equs::equ_line;
 use crate::heads::head::{Head, Labels};
 use crate::heads::labels::plain_token;
+use crate::heads::words::{is_colon, is_unjoined};
 use crate::limits::MOST_COPIES;
 use crate::line::Tokens;
-use crate::names::GivenNames;
-use crate::replace::{ReplaceFault, replace_fault, replace_tokens};
+use crate::names::{GivenNames, is_taken};
+use crate::replace::replace_tokens;
 use crate::unroll::copy::clone_labels;
 use rc_text::{Kind, Token, eval};
 use std::alloc::{AllocError, Global};
@@ -30,22 +31,21 @@ pub(crate) struct BlockStart<'a> {
 }
 
 // Reads the FOR of a block: whether it is spoiled, then its counter, then its count.
+#[tactic(auto, unfolding(crate::specs::Unroll::opening))]
 pub(crate) fn begin_block<'a>(
     context: &Context<'a>,
     first: &Head,
 ) -> Result<BlockStart<'a>, ExpandFault>
     requires first { HeadLies context.now.source.now first.now }
-    ensures opening { Starts result (opening_by context.now first.now) }
+    ensures opening { Returns seen_start result (opening_by context.now first.now) }
     ensures earlier { IfOk result (λ o. o.earlier ≡ earlier_of first.now.labels) }
-    ensures kind { OnlyOf is_unroll_kind result }
 {
     if first.spoiled {
         return Err(fault(first.number, ExpandKind::BadDirective));
     }
     let token = counter_token(context.source, first)?;
-    check_counter(context, token, first.number)?;
+    let counter = counter_name(context, token, first.number)?;
     let count = count_of(context, first)?;
-    let counter = counter_name(context, token);
     let earlier = earlier_labels(context.alloc, context.source, first.labels.as_slice())?;
     Ok(BlockStart {
         counter,
@@ -54,27 +54,45 @@ pub(crate) fn begin_block<'a>(
     })
 }
 
-// Returns why the label before FOR cannot be its counter. If copying made it a number, it is the
-// counter of an enclosing block.
-fn counter_fault(line: u64, label: &[Token]) -> ExpandFault
-    ensures { is_unroll_kind result.kind ≡ true }
+// Checks for a label that is the counter of an enclosing block and nothing else. Copying made it a
+// number; a name written with `&` would still show it.
+fn is_enclosing(label: &[Token]) -> bool
+    ensures { result ≡ is_enclosing label.now }
 {
     match label {
-        [token, ..] => match token.kind {
-            Kind::Number(_) => fault(line, ExpandKind::DuplicateName),
-            _ => fault(line, ExpandKind::BadDirective),
-        },
-        [] => fault(line, ExpandKind::BadDirective),
+        [token] => is_number(token),
+        [token, colon] => is_number(token) && is_colon(colon),
+        _ => false,
+    }
+}
+
+// Checks for a number to which no counter is joined.
+fn is_number(token: &Token) -> bool
+    ensures { result ≡ is_plain_number token.now }
+{
+    match token.kind {
+        Kind::Number(_) => is_unjoined(token),
+        _ => false,
+    }
+}
+
+// Returns why the label before FOR cannot be its counter.
+fn counter_fault(line: u64, label: &[Token]) -> ExpandFault
+    ensures { result ≡ at_line line (counter_kind label.now) }
+{
+    if is_enclosing(label) {
+        fault(line, ExpandKind::DuplicateName)
+    } else {
+        fault(line, ExpandKind::BadDirective)
     }
 }
 
 // Returns the counter, which is the last label before FOR.
 fn counter_token<'a>(source: &[u8], first: &'a Head) -> Result<Option<&'a Token>, ExpandFault>
     requires { HeadLies source.now first.now }
-    ensures token { MatchResult result (λ o. counter_token source.now first.now.labels ≡ Some (option_map (λ t. t.now) o)) (λ e. counter_token source.now first.now.labels ≡ None) }
+    ensures token { Returns (λ o. option_map (λ t. t.now) o) result (counter_of source.now first.now.number first.now.labels) }
     ensures inside { IfOk result (λ o. IfSome o (λ t. LiesIn source.now t.now)) }
     ensures written { IfOk result (λ o. IfSome o (λ t. t.now.joined ≡ [])) }
-    ensures kind { OnlyOf is_unroll_kind result }
 {
     let labels = first.labels.as_slice();
     if labels.len() == 0 {
@@ -106,19 +124,10 @@ fn small_count(value: i64) -> Option<u16>
 #[tactic(auto, unfolding(crate::specs::Unroll::count_of))]
 fn count_of(context: &Context, first: &Head) -> Result<u16, ExpandFault>
     requires first { HeadLies context.now.source.now first.now }
-    ensures count { Gives result (count_by context.now first.now.rest) }
-    ensures kind { OnlyOf is_unroll_kind result }
+    ensures { Returns (λ n. n) result (count_by context.now first.now.number first.now.rest) }
 {
-    let tokens = match replace_tokens(
-        context.alloc,
-        context.source,
-        first.rest.as_slice(),
-        context.equs,
-        context.links,
-    ) {
-        Ok(tokens) => tokens,
-        Err(cause) => return Err(replace_fault(first.number, cause)),
-    };
+    let front = Vec::new(context.alloc);
+    let tokens = replace_tokens(context, first.number, front, first.rest.as_slice())?;
     let names = GivenNames {
         constants: context.constants,
         rules: context.rules,
@@ -134,8 +143,7 @@ fn count_of(context: &Context, first: &Head) -> Result<u16, ExpandFault>
 
 // Refuses a ROF with something before or after it on its line.
 pub(crate) fn check_rof(rof: &Head) -> Result<(), ExpandFault>
-    ensures bare { MatchResult result (λ u. is_bare_rof rof.now ≡ true) (λ e. is_bare_rof rof.now ≡ false) }
-    ensures kind { OnlyOf is_unroll_kind result }
+    ensures { (u : Unrolled) → Returns (λ i. u) result (at_rof rof.now u) }
 {
     if is_bare_rof(rof) {
         Ok(())
@@ -160,16 +168,48 @@ fn is_bare_rof(rof: &Head) -> bool
     }
 }
 
-// Returns the name of a counter.
-fn counter_name<'a>(context: &Context<'a>, counter: Option<&Token>) -> Option<&'a [u8]>
+// Returns the name of a counter. `DuplicateName` if it is a constant or a predefined name, at the
+// FOR, or an EQU name, at the later of the two lines.
+fn counter_name<'a>(
+    context: &Context<'a>,
+    counter: Option<&Token>,
+    line: u64,
+) -> Result<Option<&'a [u8]>, ExpandFault>
     requires inside { IfSome counter (λ t. LiesIn context.now.source.now t.now) }
     requires written { IfSome counter (λ t. t.now.joined ≡ []) }
-    ensures { option_map (λ b. b.now) result ≡ option_map (λ t. name_of context.now.source.now t.now) counter.entry }
+    ensures { Returns (λ o. option_map (λ b. b.now) o) result (counter_name_by context.now line (option_map (λ t. t.now) counter.entry)) }
 {
     match counter {
-        None => None,
-        Some(token) => Some(&context.source[token.lo..token.hi]),
+        None => Ok(None),
+        Some(token) => {
+            check_counter(context, token, line)?;
+            Ok(Some(&context.source[token.lo..token.hi]))
+        }
     }
+}
+
+// Refuses a counter that is a constant, a predefined name or an EQU name.
+fn check_counter(context: &Context, token: &Token, line: u64) -> Result<(), ExpandFault>
+    requires { LiesIn context.now.source.now token.now }
+    ensures { Returns (λ u. Some (name_of context.now.source.now token.now)) result (counter_name_by context.now line (Some token.now)) }
+{
+    let names = GivenNames {
+        constants: context.constants,
+        rules: context.rules,
+    };
+    if is_taken(&names, context.source, token) {
+        return Err(fault(line, ExpandKind::DuplicateName));
+    }
+    match equ_line(context.equs, context.source, token) {
+        Some(other) => Err(fault(later_line(line, other), ExpandKind::DuplicateName)),
+        None => Ok(()),
+    }
+}
+
+fn later_line(one: u64, other: u64) -> u64
+    ensures { result ≡ later_line one other }
+{
+    if one < other { other } else { one }
 }
 
 // Copies all labels but the last.
@@ -186,19 +226,4 @@ pub(crate) fn earlier_labels(
         return Ok(Labels::none(alloc));
     }
     clone_labels(alloc, &labels[..labels.len() - 1])
-}
-
-// Refuses a counter that is a constant, a predefined name or an EQU name.
-fn check_counter(context: &Context, counter: Option<&Token>, line: u64) -> Result<(), ExpandFault>
-    requires inside { IfSome counter (λ t. LiesIn context.now.source.now t.now) }
-    ensures new { MatchResult result (λ u. is_new_by context.now (option_map (λ t. t.now) counter.entry) ≡ true) (λ e. is_new_by context.now (option_map (λ t. t.now) counter.entry) ≡ false) }
-    ensures kind { OnlyOf is_unroll_kind result }
-{
-    match counter {
-        None => Ok(()),
-        Some(token) => match clash_with_given(context, token, line) {
-            Some(later) => Err(fault(later, ExpandKind::DuplicateName)),
-            None => Ok(()),
-        },
-    }
 }

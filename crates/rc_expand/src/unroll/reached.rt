@@ -110,25 +110,6 @@ fn has_room(token: &Token, len: usize) -> bool
 }
 
 impl<'a> Reached<'a> {
-    // Checks for a line that is as the text has it.
-    pub(crate) fn is_as_written(&self) -> bool
-        ensures { (source : List ℕ) → result ≡ true → reached_line source self.now ≡ self.now.head.now }
-    {
-        !self.is_earlier && self.copies.is_empty()
-    }
-
-    // Returns the word of the line.
-    #[tactic(auto, using(crate::proofs::Unrolling::Reaching::word_in))]
-    pub(crate) fn word(&self) -> HeadWord
-        ensures { (source : List ℕ) → (reached_line source self.now).word ≡ result }
-    {
-        if self.is_earlier {
-            HeadWord::Bare
-        } else {
-            self.head.word
-        }
-    }
-
     // Makes the line.
     pub(crate) fn make(&self, alloc: Global, source: &[u8]) -> Result<Head, AllocError>
         requires { HeadLies source.now self.now.head.now }

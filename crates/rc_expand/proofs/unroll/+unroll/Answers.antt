@@ -1,103 +1,178 @@
-use Rattle.std.proofs.Common.{◌≡◌, refl, sym, ◌∙◌, ap, arith, subst, ◌<◌, ◌+◌, map, true, false}
-use Rattle.std.specs.Prelude.{Ok, Err, MatchResult, option_map}
+use Rattle.std.proofs.Common.{◌≡◌, ◌<◌, ◌+◌, refl, sym, ◌∙◌, ap, arith, subst, length}
+use Rattle.std.specs.Prelude.{Err, option_map}
 use Rattle.std.proofs.lemmas.Result.{err_from_is_err_and}
 use Rattle.std.proofs.lemmas.List.Elements.{All-rest}
+use Rattle.rc_expand.specs.Limits.{MOST_LINES}
+use Rattle.rc_expand.specs.Results.{Returns, and_then}
 use Rattle.rc_expand.specs.Heads.Lines.{HeadLies}
-use Rattle.rc_expand.specs.Unroll.{is_bare_rof, copied_line}
-use Rattle.rc_expand.specs.Context.{opening_by}
+use Rattle.rc_expand.specs.Unroll.{at_rof, copied_block}
+use Rattle.rc_expand.specs.Context.{unrolled_by, opening_by, copies_by_from}
 use Rattle.rc_expand.specs.Unroll.Reached.{line_in, lines_in, reached_lines}
-use Rattle.rc_expand.proofs.Unrolling.UnrollSteps.{more_at, fails_at, refused_at, nothing_at, counts_copy}
-use Rattle.rc_expand.proofs.Unrolling.ContextSteps.{refused_by, earlier_fails, copies_fail, block_ends, block_first_in, for_alone_in, line_first_in, no_lines_in, copy_first, no_copies, copy_is}
+use Rattle.rc_expand.specs.Unroll.SoFar.{unrolled_so_far, seen_start}
+use Rattle.rc_expand.proofs.Unrolling.Reaching.{number_in, reached_length, anyway}
+use Rattle.rc_expand.proofs.Unrolling.ContextSteps.{block_refused, earlier_fails, copies_fail, block_ends, block_first, for_alone, line_first, no_lines, copy_first, no_copies, copy_is}
 use Rattle.rc_expand.proofs.unroll.+unroll.Goals as goal
 
 pub append_block-returns-in_err-opening-clause-adds : goal.append_block-returns-in_err-opening-clause-adds
 append_block-returns-in_err-opening-clause-adds t c =
+    let k = c.args.context.now in
+    let s = k.source.now in
+    let cs = c.args.copies.now in
+    let f = line_in s cs c.args.first.now in
+    let block = lines_in s cs c.args.block.now in
+    let rof = line_in s cs c.args.rof.now in
+    let old = unrolled_so_far s c.args.out.now in
     let p = err_from_is_err_and c.from_residual-in_err-opening.result c.from_residual-in_err-opening.ensures.1 in
-    rw (p.1, p.2) (refused_at (reached_lines c.args.context.now.source.now c.args.out.now.lines.items) (reached_lines c.args.context.now.source.now c.args.out.now.lines.items) c.args.out.now.copies c.args.out.now.copies c.in_err-opening.field-0.0 _ (λ h. refused_by c.args.context.now c.args.levels (line_in c.args.context.now.source.now c.args.copies.now c.args.first.now) (lines_in c.args.context.now.source.now c.args.copies.now c.args.block.now) (line_in c.args.context.now.source.now c.args.copies.now c.args.rof.now) (ap (opening_by c.args.context.now) (sym c.in_ok-opened.ensures.made) ∙ c.in_err-opening.ensures.opening h)))
+    rw (p.1, p.2) (λ h. block_refused k c.args.levels f block rof old c.in_err-opening.field-0.0 (ap (opening_by k) (sym c.in_ok-opened.ensures.made) ∙ c.in_err-opening.ensures.opening h))
 
 pub append_block-returns-in_err-append_earlier-clause-adds : goal.append_block-returns-in_err-append_earlier-clause-adds
 append_block-returns-in_err-append_earlier-clause-adds t c =
+    let k = c.args.context.now in
+    let s = k.source.now in
+    let cs = c.args.copies.now in
+    let f = line_in s cs c.args.first.now in
+    let block = lines_in s cs c.args.block.now in
+    let rof = line_in s cs c.args.rof.now in
+    let old = unrolled_so_far s c.args.out.now in
+    let o = seen_start c.in_ok-opening.opening in
+    let is = ap (opening_by k) (sym c.in_ok-opened.ensures.made) ∙ c.in_ok-opening.ensures.opening in
+    let same = number_in s cs c.args.first.now in
     let p = err_from_is_err_and c.from_residual-in_err-append_earlier.result c.from_residual-in_err-append_earlier.ensures.1 in
-    rw (p.1, p.2) (earlier_fails c.args.context.now c.args.levels (line_in c.args.context.now.source.now c.args.copies.now c.args.first.now) (lines_in c.args.context.now.source.now c.args.copies.now c.args.block.now) (line_in c.args.context.now.source.now c.args.copies.now c.args.rof.now) (record { counter = option_map (λ b. b.now) c.in_ok-opening.opening.counter; earlier = c.in_ok-opening.opening.earlier; count = c.in_ok-opening.opening.count }) (ap (opening_by c.args.context.now) (sym c.in_ok-opened.ensures.made) ∙ c.in_ok-opening.ensures.opening) (reached_lines c.args.context.now.source.now c.args.out.now.lines.items) c.args.out.now.copies c.in_err-append_earlier.field-0.0 (reached_lines c.args.context.now.source.now c.append_earlier.new.out.lines.items) c.append_earlier.new.out.copies c.in_err-append_earlier.ensures.adds)
+    rw (p.1, p.2) (λ h. earlier_fails k c.args.levels f block rof old o is c.args.first.now.number same c.in_err-append_earlier.field-0.0 (c.in_err-append_earlier.ensures.adds h))
 
 pub append_block-returns-in_err-append_copies-clause-adds : goal.append_block-returns-in_err-append_copies-clause-adds
 append_block-returns-in_err-append_copies-clause-adds t c =
+    let k = c.args.context.now in
+    let s = k.source.now in
+    let cs = c.args.copies.now in
+    let f = line_in s cs c.args.first.now in
+    let block = lines_in s cs c.args.block.now in
+    let rof = line_in s cs c.args.rof.now in
+    let old = unrolled_so_far s c.args.out.now in
+    let o = seen_start c.in_ok-opening.opening in
+    let is = ap (opening_by k) (sym c.in_ok-opened.ensures.made) ∙ c.in_ok-opening.ensures.opening in
+    let same = number_in s cs c.args.first.now in
     let p = err_from_is_err_and c.from_residual-in_err-append_copies.result c.from_residual-in_err-append_copies.ensures.1 in
-    rw (p.1, p.2) (copies_fail c.args.context.now c.args.levels (line_in c.args.context.now.source.now c.args.copies.now c.args.first.now) (lines_in c.args.context.now.source.now c.args.copies.now c.args.block.now) (line_in c.args.context.now.source.now c.args.copies.now c.args.rof.now) (record { counter = option_map (λ b. b.now) c.in_ok-opening.opening.counter; earlier = c.in_ok-opening.opening.earlier; count = c.in_ok-opening.opening.count }) (ap (opening_by c.args.context.now) (sym c.in_ok-opened.ensures.made) ∙ c.in_ok-opening.ensures.opening) (reached_lines c.args.context.now.source.now c.args.out.now.lines.items) c.args.out.now.copies (reached_lines c.args.context.now.source.now c.append_earlier.new.out.lines.items) c.append_earlier.new.out.copies tt c.in_ok-append_earlier.ensures.adds (reached_lines c.args.context.now.source.now c.append_copies.new.out.lines.items) c.append_copies.new.out.copies c.in_err-append_copies.field-0.0 c.in_err-append_copies.ensures.adds)
+    rw (p.1, p.2) (λ h. copies_fail k c.args.levels f block rof old o is c.args.first.now.number same (unrolled_so_far s c.append_earlier.new.out) c.in_ok-append_earlier.ensures.adds c.in_err-append_copies.field-0.0 (c.in_err-append_copies.ensures.adds h))
 
 pub append_block-returns-clause-adds : goal.append_block-returns-clause-adds
 append_block-returns-clause-adds t c =
-    block_ends c.args.context.now c.args.levels (line_in c.args.context.now.source.now c.args.copies.now c.args.first.now) (lines_in c.args.context.now.source.now c.args.copies.now c.args.block.now) (line_in c.args.context.now.source.now c.args.copies.now c.args.rof.now) (record { counter = option_map (λ b. b.now) c.in_ok-opening.opening.counter; earlier = c.in_ok-opening.opening.earlier; count = c.in_ok-opening.opening.count }) (ap (opening_by c.args.context.now) (sym c.in_ok-opened.ensures.made) ∙ c.in_ok-opening.ensures.opening) (reached_lines c.args.context.now.source.now c.args.out.now.lines.items) c.args.out.now.copies (reached_lines c.args.context.now.source.now c.append_earlier.new.out.lines.items) c.append_earlier.new.out.copies tt c.in_ok-append_earlier.ensures.adds (reached_lines c.args.context.now.source.now c.append_copies.new.out.lines.items) c.append_copies.new.out.copies tt c.check_rof.result c.in_ok-append_copies.ensures.adds
-    (subst (λ r. MatchResult c.check_rof.result (λ u. is_bare_rof r ≡ true) (λ e. is_bare_rof r ≡ false)) c.in_ok-closed.ensures.made c.check_rof.ensures.bare)
+    let k = c.args.context.now in
+    let s = k.source.now in
+    let cs = c.args.copies.now in
+    let f = line_in s cs c.args.first.now in
+    let block = lines_in s cs c.args.block.now in
+    let rof = line_in s cs c.args.rof.now in
+    let old = unrolled_so_far s c.args.out.now in
+    let o = seen_start c.in_ok-opening.opening in
+    let is = ap (opening_by k) (sym c.in_ok-opened.ensures.made) ∙ c.in_ok-opening.ensures.opening in
+    let same = number_in s cs c.args.first.now in
+    let new = unrolled_so_far s c.append_copies.new.out in
+    let ends = block_ends k c.args.levels f block rof old o is c.args.first.now.number same (unrolled_so_far s c.append_earlier.new.out) c.in_ok-append_earlier.ensures.adds new c.in_ok-append_copies.ensures.adds in
+    subst (λ r. Returns (λ u. new) c.check_rof.result r) (ap (λ h. at_rof h new) c.in_ok-closed.ensures.made ∙ sym ends) (c.check_rof.ensures new)
+
+pub append_block-returns-clause-after : goal.append_block-returns-clause-after
+append_block-returns-clause-after t c = anyway _ c.check_rof.result c.in_ok-append_copies.ensures.after
 
 pub append_copies-returns-in_err-append_copy-clause-adds : goal.append_copies-returns-in_err-append_copy-clause-adds
 append_copies-returns-in_err-append_copy-clause-adds t c =
+    let k = c.args.context.now in
+    let s = k.source.now in
+    let cs = c.args.copies.now in
     let p = err_from_is_err_and c.from_residual.result c.from_residual.ensures.1 in
-    rw (p.1, p.2) (c.loop-done.invariant.1 (Err c.in_err-append_copy.field-0.0) (reached_lines c.args.context.now.source.now c.append_copy.new.out.lines.items) c.append_copy.new.out.copies
-    (fails_at (reached_lines c.args.context.now.source.now c.loop-done.out.lines.items) (reached_lines c.args.context.now.source.now c.append_copy.new.out.lines.items) c.loop-done.out.copies c.append_copy.new.out.copies c.in_err-append_copy.field-0.0 _ _ _ (copy_first c.args.context.now c.args.levels (option_map (λ b. b.now) c.args.counter) (lines_in c.args.context.now.source.now c.args.copies.now c.args.block.now) c.args.count c.loop-done.done c.loop-done-test.true) c.in_err-append_copy.ensures.adds))
+    rw (p.1, p.2) (λ h. c.loop-done.invariant.0 ∙ (copy_first k c.args.levels c.args.line (option_map (λ b. b.now) c.args.counter) (lines_in s cs c.args.block.now) c.args.count c.loop-done.done (unrolled_so_far s c.loop-done.out) c.loop-done-test.true ∙ ap (and_then _) (c.in_err-append_copy.ensures.adds h)))
 
 pub append_copies-loop-done-preserved : goal.append_copies-loop-done-preserved
-append_copies-loop-done-preserved t c = (
-  c.in_ok-append_copy.ensures.adds.2,
-  λ result new m h. c.loop-done.invariant.1 result new m
-      (more_at (reached_lines c.args.context.now.source.now c.loop-done.out.lines.items) (reached_lines c.args.context.now.source.now c.append_copy.new.out.lines.items) new c.loop-done.out.copies c.append_copy.new.out.copies m _ result _ _ _ (copy_first c.args.context.now c.args.levels (option_map (λ b. b.now) c.args.counter) (lines_in c.args.context.now.source.now c.args.copies.now c.args.block.now) c.args.count c.loop-done.done c.loop-done-test.true) c.in_ok-append_copy.ensures.adds h),
-  c.in_ok-append_copy.ensures.after,
-)
+append_copies-loop-done-preserved t c =
+    let k = c.args.context.now in
+    let s = k.source.now in
+    let cs = c.args.copies.now in (
+      c.loop-done.invariant.0 ∙ (copy_first k c.args.levels c.args.line (option_map (λ b. b.now) c.args.counter) (lines_in s cs c.args.block.now) c.args.count c.loop-done.done (unrolled_so_far s c.loop-done.out) c.loop-done-test.true ∙ ap (and_then _) c.in_ok-append_copy.ensures.adds),
+      c.in_ok-append_copy.ensures.after,
+    )
 
 pub append_copies-returns-clause-adds : goal.append_copies-returns-clause-adds
 append_copies-returns-clause-adds t c =
-    c.loop-done.invariant.1 (Ok tt) (reached_lines c.args.context.now.source.now c.loop-done.out.lines.items) c.loop-done.out.copies (nothing_at (reached_lines c.args.context.now.source.now c.loop-done.out.lines.items) c.loop-done.out.copies tt _ (no_copies c.args.context.now c.args.levels (option_map (λ b. b.now) c.args.counter) (lines_in c.args.context.now.source.now c.args.copies.now c.args.block.now) c.args.count c.loop-done.done c.loop-done-test.false) c.loop-done.invariant.0)
+    let k = c.args.context.now in
+    let s = k.source.now in
+    let cs = c.args.copies.now in
+    c.loop-done.invariant.0 ∙ no_copies k c.args.levels c.args.line (option_map (λ b. b.now) c.args.counter) (lines_in s cs c.args.block.now) c.args.count c.loop-done.done (unrolled_so_far s c.loop-done.out) c.loop-done-test.false
 
 pub append_copy-returns-in_ok-copies-in-Some-clause-adds : goal.append_copy-returns-in_ok-copies-in-Some-clause-adds
 append_copy-returns-in_ok-copies-in-Some-clause-adds t c =
-    let s = c.args.context.now.source.now in
+    let k = c.args.context.now in
+    let s = k.source.now in
+    let cs = c.args.copies.now in
     let h : 0 < c.args.levels = omega arith in
-    let made : map (copied_line s c.in-Some.name.now c.args.number) (lines_in s c.args.copies.now c.args.block.now) ≡ lines_in s c.deref.result.now c.args.block.now =
-    c.in_ok-copies-in-Some.ensures s c.args.block.now ∙ ap (λ cs. lines_in s cs c.args.block.now) (sym c.deref.ensures.value) in
-    let e = copy_is c.args.context.now c.args.levels c.in-Some.name.now (option_map (λ b. b.now) c.args.counter) (lines_in s c.args.copies.now c.args.block.now) (lines_in s c.deref.result.now c.args.block.now) c.args.number h
-    (ap (option_map (λ b. b.now)) c.in-Some.is) made in
-    rw e (counts_copy (reached_lines s c.args.out.now.lines.items) (reached_lines s c.append_lines-in-Some.new.out.lines.items) c.args.out.now.copies (c.args.out.now.copies + 1) c.append_lines-in-Some.new.out.copies c.append_lines-in-Some.result _ refl c.append_lines-in-Some.ensures.adds)
+    let room : length (reached_lines s c.args.out.now.lines.items) + c.args.out.now.copies < MOST_LINES = omega (arith, reached_length s c.args.out.now.lines.items) in
+    let counter = option_map (λ b. b.now) c.args.counter in
+    let block = lines_in s cs c.args.block.now in
+    let made : copied_block s counter c.args.number block ≡ lines_in s c.deref.result.now c.args.block.now =
+    ap (λ o. copied_block s (option_map (λ b. b.now) o) c.args.number block) c.in-Some.is ∙ (c.in_ok-copies-in-Some.ensures s c.args.block.now ∙ ap (λ cs. lines_in s cs c.args.block.now) (sym c.deref.ensures.value)) in
+    let e = copy_is k c.args.levels c.args.line counter block c.args.number (lines_in s c.deref.result.now c.args.block.now) (unrolled_so_far s c.args.out.now) h room made in
+    subst (λ r. Returns (λ u. unrolled_so_far s c.append_lines-in-Some.new.out) c.append_lines-in-Some.result r) (sym e) c.append_lines-in-Some.ensures.adds
+
+pub append_copy-returns-in-None-clause-adds : goal.append_copy-returns-in-None-clause-adds
+append_copy-returns-in-None-clause-adds t c =
+    let k = c.args.context.now in
+    let s = k.source.now in
+    let cs = c.args.copies.now in
+    let h : 0 < c.args.levels = omega arith in
+    let room : length (reached_lines s c.args.out.now.lines.items) + c.args.out.now.copies < MOST_LINES = omega (arith, reached_length s c.args.out.now.lines.items) in
+    let counter = option_map (λ b. b.now) c.args.counter in
+    let block = lines_in s cs c.args.block.now in
+    let made : copied_block s counter c.args.number block ≡ block = ap (λ o. copied_block s (option_map (λ b. b.now) o) c.args.number block) c.in-None.is in
+    let e = copy_is k c.args.levels c.args.line counter block c.args.number block (unrolled_so_far s c.args.out.now) h room made in
+    subst (λ r. Returns (λ u. unrolled_so_far s c.append_lines.new.out) c.append_lines.result r) (sym e) c.append_lines.ensures.adds
 
 pub append_lines-returns-in-None-clause-adds : goal.append_lines-returns-in-None-clause-adds
 append_lines-returns-in-None-clause-adds t c =
-    c.loop-head.invariant.2 (Err c.fault.result) (reached_lines c.args.context.now.source.now c.loop-head.out.lines.items) c.loop-head.out.copies (refused_at (reached_lines c.args.context.now.source.now c.loop-head.out.lines.items) (reached_lines c.args.context.now.source.now c.loop-head.out.lines.items) c.loop-head.out.copies c.loop-head.out.copies c.fault.result _ (λ h. for_alone_in c.args.context.now c.args.levels c.args.copies.now c.args.in_block c.loop-head.rest.now c.in-Some.head.now c.in-Some.after.now c.in-Some.ensures.cases.0 c.in-For.is c.in-None.ensures.cut))
+    let k = c.args.context.now in
+    let s = k.source.now in
+    let cs = c.args.copies.now in
+    λ h. c.loop-head.invariant.0
+    ∙ for_alone k c.args.levels cs c.args.in_block c.loop-head.rest.now (unrolled_so_far s c.loop-head.out) c.in-Some.head.now c.in-Some.after.now c.in-Some.ensures.cases.0 c.in-For.is c.in-None.ensures.cut
+    ∙ ap Err (sym c.fault.ensures)
 
 pub append_lines-returns-in_err-append_block-in-Some-cut_block-clause-adds : goal.append_lines-returns-in_err-append_block-in-Some-cut_block-clause-adds
 append_lines-returns-in_err-append_block-in-Some-cut_block-clause-adds t c =
+    let k = c.args.context.now in
+    let s = k.source.now in
+    let cs = c.args.copies.now in
     let p = err_from_is_err_and c.from_residual.result c.from_residual.ensures.1 in
-    rw (p.1, p.2) (c.loop-head.invariant.2 (Err c.in_err-append_block-in-Some-cut_block.field-0.0) (reached_lines c.args.context.now.source.now c.append_block.new.out.lines.items) c.append_block.new.out.copies
-    (fails_at (reached_lines c.args.context.now.source.now c.loop-head.out.lines.items) (reached_lines c.args.context.now.source.now c.append_block.new.out.lines.items) c.loop-head.out.copies c.append_block.new.out.copies c.in_err-append_block-in-Some-cut_block.field-0.0 _ _ _ (block_first_in c.args.context.now c.args.levels c.args.copies.now c.args.in_block c.loop-head.rest.now c.in-Some.head.now c.in-Some.after.now _ c.in-Some.ensures.cases.0 c.in-For.is c.in-Some-cut_block.ensures.cut) c.in_err-append_block-in-Some-cut_block.ensures.adds))
+    rw (p.1, p.2) (λ h. c.loop-head.invariant.0 ∙ (block_first k c.args.levels cs c.args.in_block c.loop-head.rest.now (unrolled_so_far s c.loop-head.out) c.in-Some.head.now c.in-Some.after.now c.in-Some.ensures.cases.0 _ c.in-For.is c.in-Some-cut_block.ensures.cut ∙ ap (and_then _) (c.in_err-append_block-in-Some-cut_block.ensures.adds h)))
 
 pub append_lines-loop-head-preserved-in-Some-cut_block : goal.append_lines-loop-head-preserved-in-Some-cut_block
-append_lines-loop-head-preserved-in-Some-cut_block t c = (
-  c.in_ok-append_block-in-Some-cut_block.ensures.adds.2,
-  c.in-Some-cut_block.ensures.after,
-  λ result new m h. c.loop-head.invariant.2 result new m
-      (more_at (reached_lines c.args.context.now.source.now c.loop-head.out.lines.items) (reached_lines c.args.context.now.source.now c.append_block.new.out.lines.items) new c.loop-head.out.copies c.append_block.new.out.copies m _ result _ _ _
-      (block_first_in c.args.context.now c.args.levels c.args.copies.now c.args.in_block c.loop-head.rest.now c.in-Some.head.now c.in-Some.after.now _ c.in-Some.ensures.cases.0 c.in-For.is c.in-Some-cut_block.ensures.cut)
-      c.in_ok-append_block-in-Some-cut_block.ensures.adds h),
-  c.in_ok-append_block-in-Some-cut_block.ensures.after,
-)
+append_lines-loop-head-preserved-in-Some-cut_block t c =
+    let k = c.args.context.now in
+    let s = k.source.now in
+    let cs = c.args.copies.now in (
+      c.loop-head.invariant.0 ∙ (block_first k c.args.levels cs c.args.in_block c.loop-head.rest.now (unrolled_so_far s c.loop-head.out) c.in-Some.head.now c.in-Some.after.now c.in-Some.ensures.cases.0 _ c.in-For.is c.in-Some-cut_block.ensures.cut ∙ ap (and_then _) c.in_ok-append_block-in-Some-cut_block.ensures.adds),
+      c.in-Some-cut_block.ensures.after,
+      c.in_ok-append_block-in-Some-cut_block.ensures.after,
+    )
 
 pub append_lines-returns-in_err-append_line-in_default-word-clause-adds : goal.append_lines-returns-in_err-append_line-in_default-word-clause-adds
 append_lines-returns-in_err-append_line-in_default-word-clause-adds t c =
+    let k = c.args.context.now in
+    let s = k.source.now in
+    let cs = c.args.copies.now in
     let p = err_from_is_err_and c.from_residual-in_err-append_line-in_default-word.result c.from_residual-in_err-append_line-in_default-word.ensures.1 in
-    rw (p.1, p.2) (c.loop-head.invariant.2 (Err c.in_err-append_line-in_default-word.field-0.0) (reached_lines c.args.context.now.source.now c.append_line.new.out.lines.items) c.append_line.new.out.copies
-    (fails_at (reached_lines c.args.context.now.source.now c.loop-head.out.lines.items) (reached_lines c.args.context.now.source.now c.append_line.new.out.lines.items) c.loop-head.out.copies c.append_line.new.out.copies c.in_err-append_line-in_default-word.field-0.0 _ _ _
-    (line_first_in c.args.context.now c.args.levels c.args.copies.now c.args.in_block c.loop-head.rest.now c.in-Some.head.now c.in-Some.after.now c.in-Some.ensures.cases.0 c.in_default-word.not-For) c.in_err-append_line-in_default-word.ensures.adds))
+    rw (p.1, p.2) (λ h. c.loop-head.invariant.0 ∙ (line_first k c.args.levels cs c.args.in_block c.loop-head.rest.now (unrolled_so_far s c.loop-head.out) c.in-Some.head.now c.in-Some.after.now c.in-Some.ensures.cases.0 c.in_default-word.not-For ∙ ap (and_then _) (c.in_err-append_line-in_default-word.ensures.adds h)))
 
 pub append_lines-loop-head-preserved : goal.append_lines-loop-head-preserved
-append_lines-loop-head-preserved t c = (
-  c.in_ok-append_line-in_default-word.ensures.adds.2,
-  All-rest (HeadLies c.args.context.now.source.now) c.in-Some.head.now c.in-Some.after.now c.loop-head.rest.now c.in-Some.ensures.cases.0 c.loop-head.invariant.1,
-  λ result new m h. c.loop-head.invariant.2 result new m
-      (more_at (reached_lines c.args.context.now.source.now c.loop-head.out.lines.items) (reached_lines c.args.context.now.source.now c.append_line.new.out.lines.items) new c.loop-head.out.copies c.append_line.new.out.copies m _ result _ _ _
-      (line_first_in c.args.context.now c.args.levels c.args.copies.now c.args.in_block c.loop-head.rest.now c.in-Some.head.now c.in-Some.after.now c.in-Some.ensures.cases.0 c.in_default-word.not-For)
-      c.in_ok-append_line-in_default-word.ensures.adds h),
-  c.in_ok-append_line-in_default-word.ensures.after,
-)
+append_lines-loop-head-preserved t c =
+    let k = c.args.context.now in
+    let s = k.source.now in
+    let cs = c.args.copies.now in (
+      c.loop-head.invariant.0 ∙ (line_first k c.args.levels cs c.args.in_block c.loop-head.rest.now (unrolled_so_far s c.loop-head.out) c.in-Some.head.now c.in-Some.after.now c.in-Some.ensures.cases.0 c.in_default-word.not-For ∙ ap (and_then _) c.in_ok-append_line-in_default-word.ensures.adds),
+      All-rest (HeadLies s) c.in-Some.head.now c.in-Some.after.now c.loop-head.rest.now c.in-Some.ensures.cases.0 c.loop-head.invariant.1,
+      c.in_ok-append_line-in_default-word.ensures.after,
+    )
 
 pub append_lines-returns-clause-adds : goal.append_lines-returns-clause-adds
 append_lines-returns-clause-adds t c =
-    c.loop-head.invariant.2 (Ok tt) (reached_lines c.args.context.now.source.now c.loop-head.out.lines.items) c.loop-head.out.copies
-    (nothing_at (reached_lines c.args.context.now.source.now c.loop-head.out.lines.items) c.loop-head.out.copies tt _ (no_lines_in c.args.context.now c.args.levels c.args.copies.now c.args.in_block c.loop-head.rest.now c.in_default.ensures.cases) c.loop-head.invariant.0)
+    let k = c.args.context.now in
+    let s = k.source.now in
+    let cs = c.args.copies.now in
+    c.loop-head.invariant.0 ∙ no_lines k c.args.levels cs c.args.in_block c.loop-head.rest.now (unrolled_so_far s c.loop-head.out) c.in_default.ensures.cases

@@ -1,85 +1,97 @@
 use Rattle.std.proofs.Common.{◌≡◌, refl, ◌∙◌, sym, ap, arith, length, List, [], ◌∷◌, ◌++◌, ℕ}
 use Rattle.std.proofs.lemmas.List.Elements.{All-rest, All-push, All-same, All-nil}
-use Rattle.std.specs.Prelude.{All}
-use Rattle.rc_text.specs.declared.token.Token.{Token}
+use Rattle.std.proofs.lemmas.Result.{err_from_is_err_and}
+use Rattle.std.specs.Prelude.{All, Ok}
 use Rattle.rc_text.specs.Symbols.{LiesIn}
 use Rattle.rc_instr.specs.Rules.{RulesView}
+use Rattle.rc_expand.specs.Results.{and_then}
 use Rattle.rc_expand.specs.Names.{Table, table_of}
 use Rattle.rc_expand.specs.Heads.Lines.{HeadLies}
-use Rattle.rc_expand.specs.Heads.{equ_lines}
-use Rattle.rc_expand.specs.Steps.{collected}
-use Rattle.rc_expand.specs.Heads.Faults.{equs_fault}
-use Rattle.rc_expand.proofs.Reading.FaultSteps.{one_right}
+use Rattle.rc_expand.specs.Heads.{equ_lines, equs_from}
+use Rattle.rc_expand.specs.Replace.{EquText}
 use Rattle.rc_expand.proofs.Reading.TableFound.{name_pushed}
-use Rattle.rc_expand.proofs.Distinct.{equs_collected}
-use Rattle.rc_expand.proofs.Reading.EquLines.{at_for, at_rof, at_equ, at_inner_equ, at_other, one_more}
+use Rattle.rc_expand.proofs.Reading.EquLines.{at_for, at_rof, at_equ, at_inner_equ, at_other, equs_start, equs_end}
 use Rattle.rc_expand.proofs.heads.equs.collect_equs.Goals as goal
 
 pub loop-head-init : goal.loop-head-init
 loop-head-init c =
     let t : Table = table_of c.args.names.now.constants.now.names.now c.args.names.now.constants.now.values.now in
     let r : RulesView = c.args.names.now.rules.now in
-    rw c.new-equs.ensures (equs_collected c.args.source.now t r c.args.heads.now, omega arith, c.requires, All-nil (λ e. All (LiesIn c.args.source.now) e.1), refl)
+    let s = c.args.source.now in
+    rw c.new-equs.ensures (equs_start s t r c.args.heads.now, omega arith, c.requires, All-nil (λ e. All (LiesIn s) e.1.tokens))
 
 pub loop-head-preserved-in-For : goal.loop-head-preserved-in-For
 loop-head-preserved-in-For c =
     let t : Table = table_of c.args.names.now.constants.now.names.now c.args.names.now.constants.now.values.now in
-    let r : RulesView = c.args.names.now.rules.now in (
-      c.loop-head.invariant.0 ∙ ap (collected c.args.source.now t r c.loop-head.equs) (at_for c.loop-head.rest.now c.in-Some.head.now c.in-Some.after.now c.loop-head.opened c.in-Some.ensures.cases.0 c.in-For.is),
+    let r : RulesView = c.args.names.now.rules.now in
+    let s = c.args.source.now in (
+      c.loop-head.invariant.0 ∙ ap (λ hs. equs_from s t r hs c.loop-head.equs) (at_for c.loop-head.rest.now c.in-Some.head.now c.in-Some.after.now c.loop-head.opened c.in-Some.ensures.cases.0 c.in-For.is),
       omega (arith, c.loop-head.invariant.1, ap length c.in-Some.ensures.cases.0),
-      All-rest (HeadLies c.args.source.now) c.in-Some.head.now c.in-Some.after.now c.loop-head.rest.now c.in-Some.ensures.cases.0 c.loop-head.invariant.2,
+      All-rest (HeadLies s) c.in-Some.head.now c.in-Some.after.now c.loop-head.rest.now c.in-Some.ensures.cases.0 c.loop-head.invariant.2,
       c.loop-head.invariant.3,
-      c.loop-head.invariant.4 ∙ ap (equs_fault c.args.source.now t r c.loop-head.equs) (at_for c.loop-head.rest.now c.in-Some.head.now c.in-Some.after.now c.loop-head.opened c.in-Some.ensures.cases.0 c.in-For.is),
     )
 
 pub loop-head-preserved-in-Rof : goal.loop-head-preserved-in-Rof
 loop-head-preserved-in-Rof c =
     let t : Table = table_of c.args.names.now.constants.now.names.now c.args.names.now.constants.now.values.now in
-    let r : RulesView = c.args.names.now.rules.now in (
-      c.loop-head.invariant.0 ∙ ap (collected c.args.source.now t r c.loop-head.equs) (at_rof c.loop-head.rest.now c.in-Some.head.now c.in-Some.after.now c.loop-head.opened c.saturating_sub-opened.result c.in-Some.ensures.cases.0 c.in-Rof.is (omega (arith, c.saturating_sub-opened.ensures))),
+    let r : RulesView = c.args.names.now.rules.now in
+    let s = c.args.source.now in (
+      c.loop-head.invariant.0 ∙ ap (λ hs. equs_from s t r hs c.loop-head.equs) (at_rof c.loop-head.rest.now c.in-Some.head.now c.in-Some.after.now c.loop-head.opened c.saturating_sub-opened.result c.in-Some.ensures.cases.0 c.in-Rof.is (omega (arith, c.saturating_sub-opened.ensures))),
       omega (arith, c.loop-head.invariant.1, ap length c.in-Some.ensures.cases.0, c.saturating_sub-opened.ensures),
-      All-rest (HeadLies c.args.source.now) c.in-Some.head.now c.in-Some.after.now c.loop-head.rest.now c.in-Some.ensures.cases.0 c.loop-head.invariant.2,
+      All-rest (HeadLies s) c.in-Some.head.now c.in-Some.after.now c.loop-head.rest.now c.in-Some.ensures.cases.0 c.loop-head.invariant.2,
       c.loop-head.invariant.3,
-      c.loop-head.invariant.4 ∙ ap (equs_fault c.args.source.now t r c.loop-head.equs) (at_rof c.loop-head.rest.now c.in-Some.head.now c.in-Some.after.now c.loop-head.opened c.saturating_sub-opened.result c.in-Some.ensures.cases.0 c.in-Rof.is (omega (arith, c.saturating_sub-opened.ensures))),
     )
 
 pub loop-head-preserved-in_ok-insert-in-Equ : goal.loop-head-preserved-in_ok-insert-in-Equ
 loop-head-preserved-in_ok-insert-in-Equ c =
     let t : Table = table_of c.args.names.now.constants.now.names.now c.args.names.now.constants.now.values.now in
     let r : RulesView = c.args.names.now.rules.now in
-    let e : List ℕ × List Token = (c.in_ok-name-in-Equ.name, c.in_ok-name-in-Equ.equ) in
+    let s = c.args.source.now in
+    let e : List ℕ × EquText = (c.in_ok-name-in-Equ.name, c.in_ok-name-in-Equ.equ) in
     let pushed : c.insert.new.self ≡ c.loop-head.equs ++ (e ∷ []) = name_pushed c.in_ok-name-in-Equ.name c.loop-head.equs c.insert.new.self c.in_ok-name-in-Equ.name c.in_ok-name-in-Equ.equ c.in_ok-insert-in-Equ.ensures.table refl c.in_ok-name-in-Equ.ensures.new in (
       c.loop-head.invariant.0
-          ∙ (ap (collected c.args.source.now t r c.loop-head.equs) (at_equ c.loop-head.rest.now c.in-Some.head.now c.in-Some.after.now c.loop-head.opened c.in-Some.ensures.cases.0 c.in-Equ.is (omega (arith, c.if-opened-eq0.true)))
-          ∙ (one_more c.args.source.now t r c.loop-head.equs c.in-Some.head.now (equ_lines c.loop-head.opened c.in-Some.after.now) e c.in_ok-name-in-Equ.ensures.equ
-          ∙ ap (λ q. collected c.args.source.now t r q (equ_lines c.loop-head.opened c.in-Some.after.now)) (sym pushed))),
+          ∙ (ap (λ hs. equs_from s t r hs c.loop-head.equs) (at_equ c.loop-head.rest.now c.in-Some.head.now c.in-Some.after.now c.loop-head.opened c.in-Some.ensures.cases.0 c.in-Equ.is (omega (arith, c.if-opened-eq0.true)))
+          ∙ ap (and_then (equs_from s t r (equ_lines c.loop-head.opened c.in-Some.after.now))) (c.in_ok-name-in-Equ.ensures.equ ∙ ap Ok (sym pushed))),
       omega (arith, c.loop-head.invariant.1, ap length c.in-Some.ensures.cases.0),
-      All-rest (HeadLies c.args.source.now) c.in-Some.head.now c.in-Some.after.now c.loop-head.rest.now c.in-Some.ensures.cases.0 c.loop-head.invariant.2,
-      All-same (λ e. All (LiesIn c.args.source.now) e.1) c.insert.new.self _ pushed (All-push (λ e. All (LiesIn c.args.source.now) e.1) c.loop-head.equs e c.loop-head.invariant.3 c.in_ok-name-in-Equ.ensures.inside),
-      c.loop-head.invariant.4
-          ∙ (ap (equs_fault c.args.source.now t r c.loop-head.equs) (at_equ c.loop-head.rest.now c.in-Some.head.now c.in-Some.after.now c.loop-head.opened c.in-Some.ensures.cases.0 c.in-Equ.is (omega (arith, c.if-opened-eq0.true)))
-          ∙ (one_right c.args.source.now t r c.loop-head.equs c.in-Some.head.now (equ_lines c.loop-head.opened c.in-Some.after.now) e c.in_ok-name-in-Equ.ensures.equ
-          ∙ ap (λ q. equs_fault c.args.source.now t r q (equ_lines c.loop-head.opened c.in-Some.after.now)) (sym pushed))),
+      All-rest (HeadLies s) c.in-Some.head.now c.in-Some.after.now c.loop-head.rest.now c.in-Some.ensures.cases.0 c.loop-head.invariant.2,
+      All-same (λ e. All (LiesIn s) e.1.tokens) c.insert.new.self _ pushed (All-push (λ e. All (LiesIn s) e.1.tokens) c.loop-head.equs e c.loop-head.invariant.3 c.in_ok-name-in-Equ.ensures.inside),
     )
 
 pub loop-head-preserved-else-opened-eq0 : goal.loop-head-preserved-else-opened-eq0
 loop-head-preserved-else-opened-eq0 c =
     let t : Table = table_of c.args.names.now.constants.now.names.now c.args.names.now.constants.now.values.now in
-    let r : RulesView = c.args.names.now.rules.now in (
-      c.loop-head.invariant.0 ∙ ap (collected c.args.source.now t r c.loop-head.equs) (at_inner_equ c.loop-head.rest.now c.in-Some.head.now c.in-Some.after.now c.loop-head.opened c.in-Some.ensures.cases.0 c.in-Equ.is (omega (arith, c.if-opened-eq0.false))),
+    let r : RulesView = c.args.names.now.rules.now in
+    let s = c.args.source.now in (
+      c.loop-head.invariant.0 ∙ ap (λ hs. equs_from s t r hs c.loop-head.equs) (at_inner_equ c.loop-head.rest.now c.in-Some.head.now c.in-Some.after.now c.loop-head.opened c.in-Some.ensures.cases.0 c.in-Equ.is (omega (arith, c.if-opened-eq0.false))),
       omega (arith, c.loop-head.invariant.1, ap length c.in-Some.ensures.cases.0),
-      All-rest (HeadLies c.args.source.now) c.in-Some.head.now c.in-Some.after.now c.loop-head.rest.now c.in-Some.ensures.cases.0 c.loop-head.invariant.2,
+      All-rest (HeadLies s) c.in-Some.head.now c.in-Some.after.now c.loop-head.rest.now c.in-Some.ensures.cases.0 c.loop-head.invariant.2,
       c.loop-head.invariant.3,
-      c.loop-head.invariant.4 ∙ ap (equs_fault c.args.source.now t r c.loop-head.equs) (at_inner_equ c.loop-head.rest.now c.in-Some.head.now c.in-Some.after.now c.loop-head.opened c.in-Some.ensures.cases.0 c.in-Equ.is (omega (arith, c.if-opened-eq0.false))),
     )
 
 pub loop-head-preserved : goal.loop-head-preserved
 loop-head-preserved c =
     let t : Table = table_of c.args.names.now.constants.now.names.now c.args.names.now.constants.now.values.now in
-    let r : RulesView = c.args.names.now.rules.now in (
-      c.loop-head.invariant.0 ∙ ap (collected c.args.source.now t r c.loop-head.equs) (at_other c.loop-head.rest.now c.in-Some.head.now c.in-Some.after.now c.loop-head.opened c.in-Some.ensures.cases.0 c.in_default-word.not-Equ c.in_default-word.not-For c.in_default-word.not-Rof),
+    let r : RulesView = c.args.names.now.rules.now in
+    let s = c.args.source.now in (
+      c.loop-head.invariant.0 ∙ ap (λ hs. equs_from s t r hs c.loop-head.equs) (at_other c.loop-head.rest.now c.in-Some.head.now c.in-Some.after.now c.loop-head.opened c.in-Some.ensures.cases.0 c.in_default-word.not-Equ c.in_default-word.not-For c.in_default-word.not-Rof),
       omega (arith, c.loop-head.invariant.1, ap length c.in-Some.ensures.cases.0),
-      All-rest (HeadLies c.args.source.now) c.in-Some.head.now c.in-Some.after.now c.loop-head.rest.now c.in-Some.ensures.cases.0 c.loop-head.invariant.2,
+      All-rest (HeadLies s) c.in-Some.head.now c.in-Some.after.now c.loop-head.rest.now c.in-Some.ensures.cases.0 c.loop-head.invariant.2,
       c.loop-head.invariant.3,
-      c.loop-head.invariant.4 ∙ ap (equs_fault c.args.source.now t r c.loop-head.equs) (at_other c.loop-head.rest.now c.in-Some.head.now c.in-Some.after.now c.loop-head.opened c.in-Some.ensures.cases.0 c.in_default-word.not-Equ c.in_default-word.not-For c.in_default-word.not-Rof),
     )
+
+pub returns-in_err-name-in-Equ-clause-equs : goal.returns-in_err-name-in-Equ-clause-equs
+returns-in_err-name-in-Equ-clause-equs c =
+    let t : Table = table_of c.args.names.now.constants.now.names.now c.args.names.now.constants.now.values.now in
+    let r : RulesView = c.args.names.now.rules.now in
+    let s = c.args.source.now in
+    let p = err_from_is_err_and c.from_residual.result c.from_residual.ensures.1 in
+    rw (p.1, p.2) (λ h. c.loop-head.invariant.0
+    ∙ (ap (λ hs. equs_from s t r hs c.loop-head.equs) (at_equ c.loop-head.rest.now c.in-Some.head.now c.in-Some.after.now c.loop-head.opened c.in-Some.ensures.cases.0 c.in-Equ.is (omega (arith, c.if-opened-eq0.true)))
+    ∙ ap (and_then (equs_from s t r (equ_lines c.loop-head.opened c.in-Some.after.now))) (c.in_err-name-in-Equ.ensures.equ h)))
+
+pub returns-clause-equs : goal.returns-clause-equs
+returns-clause-equs c =
+    let t : Table = table_of c.args.names.now.constants.now.names.now c.args.names.now.constants.now.values.now in
+    let r : RulesView = c.args.names.now.rules.now in
+    let s = c.args.source.now in
+    c.loop-head.invariant.0 ∙ equs_end s t r c.loop-head.opened c.loop-head.rest.now c.loop-head.equs c.in_default.ensures.cases

@@ -1,61 +1,33 @@
-use Rattle.std.proofs.Common.{◌≡◌, ◌∙◌, ◌∷◌, ◌+◌, sym, ap, arith, drop, length-drop}
-use Rattle.std.proofs.lemmas.List.Elements.{All-push}
+use Rattle.std.proofs.Common.{◌≡◌, ◌∙◌, arith, refl}
+use Rattle.std.proofs.lemmas.Result.{err_from_is_err_and}
 use Rattle.rc_expand.specs.Context.{table}
-use Rattle.rc_expand.specs.Steps.{names_in}
-use Rattle.rc_expand.specs.Expansion.{LineLies}
-use Rattle.rc_expand.specs.Unroll.Reached.{reached_line, reached_lines}
-use Rattle.rc_expand.proofs.Each.{split_at}
-use Rattle.rc_expand.proofs.Unrolling.Reaching.{reached_length}
-use Rattle.rc_expand.proofs.Replacing.LineSteps.{kept_equ, kept_other}
-use Rattle.rc_expand.proofs.Replacing.Labelled.{made_past, made_more, taken_more, all_taken, not_taken}
+use Rattle.rc_expand.specs.Unroll.Reached.{reached_lines}
+use Rattle.rc_expand.specs.Replace.SoFar.{lines_so_far}
+use Rattle.rc_expand.proofs.Replacing.LineSteps.{line_next, line_fails, lines_end, all_replaced}
 use Rattle.rc_expand.proofs.replace.labelling.replace_lines.Goals as goal
-use Rattle.rc_expand.proofs.replace.labelling.replace_lines.Goals.{in-Equ, in_default+in-Ok+in_ok-push-in-Ok}
-
-pub returns-in-Err : goal.returns-in-Err
-returns-in-Err c =
-    let st = c.args.context.now in
-    let s = st.source.now in
-    let here = reached_lines s (drop c.loop-i.i c.args.reached.now) in
-    let behind = reached_lines s (drop (c.loop-i.i + 1) c.args.reached.now) in
-    let step : here ≡ reached_line s c.index-reached-i.result ∷ behind = ap (reached_lines s) (split_at c.args.reached.now c.loop-i.i c.index-reached-i.result c.loop-i-test.true c.index-reached-i.is) in
-    record {
-      lines = λ k. not_taken (table st) st.rules.now s st.equs.now (reached_lines s c.args.reached.now) c.loop-i.lines.items (reached_line s c.index-reached-i.result) here behind (names_in c.loop-i.seen)
-          c.loop-i.invariant.0 c.loop-i.invariant.1
-          (kept_other here (reached_line s c.index-reached-i.result) behind step (λ w. c.in_default.not-Equ (sym (c.word.ensures s) ∙ w)))
-          (c.in-Err.ensures.line (λ e. k (c.in_ok-least_fault-in-Err.ensures.memory e)));
-      inside = tt;
-      kind = c.in_ok-least_fault-in-Err.ensures.kind;
-    }
 
 pub loop-i-preserved : goal.loop-i-preserved
 loop-i-preserved c =
-    let st = c.args.context.now in
-    let s = st.source.now in
-    let i = c.loop-i.invariant in
-    let one = reached_line s c.index-reached-i.result in
-    let here = reached_lines s (drop c.loop-i.i c.args.reached.now) in
-    let behind = reached_lines s (drop (c.loop-i.i + 1) c.args.reached.now) in
-    let step : here ≡ one ∷ behind = ap (reached_lines s) (split_at c.args.reached.now c.loop-i.i c.index-reached-i.result c.loop-i-test.true c.index-reached-i.is) in
-    elim c.match-word.branch [
-      | in-Equ w ↦
-          rw (w.lines-is, w.seen-is) (
-            made_past (table st) st.rules.now s st.equs.now (reached_lines s c.args.reached.now) c.loop-i.lines.items here behind (kept_equ here one behind step (c.word.ensures s ∙ w.in-Equ.is)) i.0,
-            i.1,
-            i.2,
-          )
-      | in_default+in-Ok+in_ok-push-in-Ok w ↦
-          rw (w.lines-is, w.seen-is, w.in_ok-push-in-Ok.ensures.items) (
-            made_more (table st) st.rules.now s st.equs.now (reached_lines s c.args.reached.now) c.loop-i.lines.items one here behind w.in-Ok.line
-                (kept_other here one behind step (λ v. w.in_default.not-Equ (sym (c.word.ensures s) ∙ v))) w.in-Ok.ensures.line.0 i.0,
-            taken_more (table st) st.rules.now s st.equs.now c.loop-i.lines.items (names_in c.loop-i.seen) (names_in w.take_line.new.seen) w.in-Ok.line i.1 w.in-Ok.ensures.line.1,
-            All-push (LineLies s) c.loop-i.lines.items w.in-Ok.line i.2 w.in-Ok.ensures.inside,
-          )
-    ]
+    let k = c.args.context.now in (
+      c.loop-i.invariant.0
+          ∙ line_next (table k) k.rules.now k.source.now k.equs.now c.args.reached.now c.loop-i.i (lines_so_far c.loop-i.out) c.index-reached-i.result c.in_ok-head.head c.loop-i-test.true c.index-reached-i.is c.in_ok-head.ensures.made
+          (lines_so_far c.replace_line.new.out) c.in_ok-replace_line.ensures.line,
+      c.in_ok-replace_line.ensures.after,
+    )
+
+pub returns-in_err-replace_line-clause-lines : goal.returns-in_err-replace_line-clause-lines
+returns-in_err-replace_line-clause-lines c =
+    let k = c.args.context.now in
+    let p = err_from_is_err_and c.from_residual-in_err-replace_line.result c.from_residual-in_err-replace_line.ensures.1 in
+    rw (p.1, p.2) (λ h. all_replaced (table k) k.rules.now k.source.now k.equs.now (reached_lines k.source.now c.args.reached.now) _ _
+    (c.loop-i.invariant.0
+    ∙ line_fails (table k) k.rules.now k.source.now k.equs.now c.args.reached.now c.loop-i.i (lines_so_far c.loop-i.out) c.index-reached-i.result c.in_ok-head.head c.loop-i-test.true c.index-reached-i.is c.in_ok-head.ensures.made
+    c.in_err-replace_line.field-0.0 (c.in_err-replace_line.ensures.line h))
+    refl)
 
 pub returns-clause-lines : goal.returns-clause-lines
 returns-clause-lines c =
-    let st = c.args.context.now in
-    let s = st.source.now in
-    let rest = drop c.loop-i.i c.args.reached.now in
-    all_taken (table st) st.rules.now s st.equs.now (reached_lines s c.args.reached.now) c.loop-i.lines.items (reached_lines s rest) (names_in c.loop-i.seen) c.loop-i.invariant.0 c.loop-i.invariant.1
-    (omega (arith, reached_length s rest, length-drop c.loop-i.i c.args.reached.now, c.loop-i-test.false))
+    let k = c.args.context.now in
+    all_replaced (table k) k.rules.now k.source.now k.equs.now (reached_lines k.source.now c.args.reached.now) _ _
+    (c.loop-i.invariant.0 ∙ lines_end (table k) k.rules.now k.source.now k.equs.now c.args.reached.now c.loop-i.i (lines_so_far c.loop-i.out) (omega (arith, c.loop-i-test.false)))
+    refl

@@ -1,33 +1,42 @@
-use Rattle.std.proofs.Common.{rules, FitsSigned, w64, ◌≡◌, sym, ◌∙◌, ap, Some}
+use Rattle.std.proofs.Common.{rules, FitsSigned, w64, ◌≡◌, [], sym, ◌∙◌, ap}
+use Rattle.std.specs.Prelude.{Ok, Err}
 use Rattle.std.proofs.lemmas.Int.{to_z-of_z}
-use Rattle.rc_text.specs.Symbols.{symbols_of}
+use Rattle.std.proofs.lemmas.Result.{err_from_is_err_and}
 use Rattle.rc_expand.specs.Replace.{replaced_tokens}
-use Rattle.rc_expand.specs.Names.{given_names}
-use Rattle.rc_expand.specs.Unroll.{small_count}
-use Rattle.rc_expand.specs.Context.{table}
-use Rattle.rc_expand.proofs.Unrolling.CountSteps.{count_made, count_none, no_value}
+use Rattle.rc_expand.specs.Unroll.{small_count, counted}
+use Rattle.rc_expand.proofs.Unrolling.CountSteps.{count_valued, count_valueless, count_refused}
 use Rattle.rc_expand.proofs.unroll.opening.count_of.Goals as goal
 
-pub returns-in-Some-clause-count : goal.returns-in-Some-clause-count
-returns-in-Some-clause-count c =
+pub returns-in_err-tokens : goal.returns-in_err-tokens
+returns-in_err-tokens c =
     let s = c.args.context.now in
-    let fed : replaced_tokens s.source.now s.equs.now c.args.first.now.rest ≡ Some c.as_slice-2.result.now =
-    ap (replaced_tokens s.source.now s.equs.now) (sym c.as_slice.ensures) ∙ (c.in-Ok.ensures.tokens ∙ ap Some (sym c.as_slice-2.ensures)) in
-    let f : FitsSigned w64 c.in-Ok-eval.value = search rules in
-    count_made s c.args.first.now.rest c.as_slice-2.result.now c.in-Ok-eval.value fed c.in-Ok-eval.ensures.value ∙ (ap small_count (sym (to_z-of_z w64 c.in-Ok-eval.value f)) ∙ sym c.in-Some.ensures)
+    let n = c.args.first.now.number in
+    let same = ap (replaced_tokens s.source.now s.equs.now n []) (sym c.as_slice.ensures) ∙ ap (λ f. replaced_tokens s.source.now s.equs.now n f c.as_slice.result.now) (sym c.new-front.ensures.items) in
+    let p = err_from_is_err_and c.from_residual.result c.from_residual.ensures.1 in
+    rw (p.1, p.2) (λ h. count_refused s n c.args.first.now.rest c.in_err-tokens.field-0.0 (same ∙ c.in_err-tokens.ensures.tokens h))
 
-pub returns-in-Ok-eval-clause-count : goal.returns-in-Ok-eval-clause-count
-returns-in-Ok-eval-clause-count c =
+pub returns-in-Some : goal.returns-in-Some
+returns-in-Some c =
     let s = c.args.context.now in
-    let fed : replaced_tokens s.source.now s.equs.now c.args.first.now.rest ≡ Some c.as_slice-2.result.now =
-    ap (replaced_tokens s.source.now s.equs.now) (sym c.as_slice.ensures) ∙ (c.in-Ok.ensures.tokens ∙ ap Some (sym c.as_slice-2.ensures)) in
-    let f : FitsSigned w64 c.in-Ok-eval.value = search rules in
-    λ h. count_made s c.args.first.now.rest c.as_slice-2.result.now c.in-Ok-eval.value fed c.in-Ok-eval.ensures.value ∙ (ap small_count (sym (to_z-of_z w64 c.in-Ok-eval.value f)) ∙ sym c.in-None.ensures)
+    let n = c.args.first.now.number in
+    let same = ap (replaced_tokens s.source.now s.equs.now n []) (sym c.as_slice.ensures) ∙ ap (λ f. replaced_tokens s.source.now s.equs.now n f c.as_slice.result.now) (sym c.new-front.ensures.items) in
+    let fed = same ∙ (c.in_ok-tokens.ensures.tokens ∙ ap Ok (sym c.as_slice-2.ensures)) in
+    let f : FitsSigned w64 c.in-Ok.value = search rules in
+    count_valued s n c.args.first.now.rest c.as_slice-2.result.now c.in-Ok.value _ fed (sym c.in-Ok.is ∙ c.eval.ensures.reading) (c.in-Some.ensures ∙ ap small_count (to_z-of_z w64 c.in-Ok.value f))
 
-pub returns-clause-count : goal.returns-clause-count
-returns-clause-count c =
+pub returns-in-Ok : goal.returns-in-Ok
+returns-in-Ok c =
     let s = c.args.context.now in
-    let fed : replaced_tokens s.source.now s.equs.now c.args.first.now.rest ≡ Some c.as_slice-2.result.now =
-    ap (replaced_tokens s.source.now s.equs.now) (sym c.as_slice.ensures) ∙ (c.in-Ok.ensures.tokens ∙ ap Some (sym c.as_slice-2.ensures)) in
-    λ h. count_none s c.args.first.now.rest c.as_slice-2.result.now fed
-    (no_value (given_names (table s) s.rules.now) (symbols_of s.source.now c.as_slice-2.result.now) c.eval.result c.in-Err-eval.field-0 c.in-Err-eval.is c.eval.ensures.only)
+    let n = c.args.first.now.number in
+    let same = ap (replaced_tokens s.source.now s.equs.now n []) (sym c.as_slice.ensures) ∙ ap (λ f. replaced_tokens s.source.now s.equs.now n f c.as_slice.result.now) (sym c.new-front.ensures.items) in
+    let fed = same ∙ (c.in_ok-tokens.ensures.tokens ∙ ap Ok (sym c.as_slice-2.ensures)) in
+    let f : FitsSigned w64 c.in-Ok.value = search rules in
+    λ h. count_valued s n c.args.first.now.rest c.as_slice-2.result.now c.in-Ok.value _ fed (sym c.in-Ok.is ∙ c.eval.ensures.reading) (c.in-None.ensures ∙ ap small_count (to_z-of_z w64 c.in-Ok.value f)) ∙ ap Err (sym c.fault.ensures)
+
+pub returns : goal.returns
+returns c =
+    let s = c.args.context.now in
+    let n = c.args.first.now.number in
+    let same = ap (replaced_tokens s.source.now s.equs.now n []) (sym c.as_slice.ensures) ∙ ap (λ f. replaced_tokens s.source.now s.equs.now n f c.as_slice.result.now) (sym c.new-front.ensures.items) in
+    let fed = same ∙ (c.in_ok-tokens.ensures.tokens ∙ ap Ok (sym c.as_slice-2.ensures)) in
+    λ h. count_valueless s n c.args.first.now.rest c.as_slice-2.result.now c.in-Err.field-0 fed (sym c.in-Err.is ∙ c.eval.ensures.reading) ∙ ap Err (sym c.fault-in-Err.ensures)

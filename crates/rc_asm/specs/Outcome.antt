@@ -1,0 +1,50 @@
+-- What a text assembles to: a warrior, or the first fault with its line.
+use Rattle.std.specs.Prelude.{ℕ, nat_le, nat_lt, if◌then◌else◌, ℤ, pos, negsuc, List, [], ◌∷◌, length, Option, Some, None, Result, Ok, Err}
+use Rattle.rc_instr.specs.Rules.{RulesView}
+use Rattle.rc_instr.specs.Warrior.{WarriorView, warrior_view}
+use Rattle.rc_instr.specs.declared.instruction.Instruction.{Instruction}
+use Rattle.rc_instr.specs.declared.warrior.WarriorError.TheVariants.{Empty, TooLong, BadStart}
+use Rattle.rc_expand.specs.declared.fault.ExpandFault.{ExpandFault}
+use Rattle.rc_expand.specs.declared.line.Line.{Line}
+use Rattle.rc_expand.specs.Names.{Table}
+use Rattle.rc_expand.specs.Expansion.{expansion_of}
+use Rattle.rc_asm.specs.declared.fault.AsmKind.TheVariants.{Expand, Warrior, TextTooLong}
+use Rattle.rc_asm.specs.declared.fault.AsmFault.{AsmFault}
+use Rattle.rc_asm.specs.declared.starts.Starts.{Starts}
+use Rattle.rc_asm.specs.Limits.{MOST_BYTES}
+use Rattle.rc_asm.specs.Names.{NameValues}
+use Rattle.rc_asm.specs.Results.{and_then, with_fault}
+use Rattle.rc_asm.specs.Assembly.{instructions_from, starts_from, start_value, no_starts, names_of}
+use Rattle.rc_asm.specs.Faults.{at_line, lines_fault}
+
+-- the start is inside the code
+abbrev pub started : List Instruction → ℤ → Result WarriorView AsmFault
+started code (pos n) = if nat_lt n (length code) then Ok (warrior_view code n) else Err (at_line 0 (Warrior BadStart))
+started code (negsuc n) = Err (at_line 0 (Warrior BadStart))
+
+-- the code with its start, if they are a warrior under the rules
+abbrev pub fitted : RulesView → List Instruction → ℤ → Result WarriorView AsmFault
+fitted rules [] start = Err (at_line 0 (Warrior Empty))
+fitted rules (i ∷ is) start = if nat_lt rules.length (length (i ∷ is)) then Err (at_line 0 (Warrior TooLong)) else started (i ∷ is) start
+
+-- lines without a fault have both
+abbrev pub fitted_by : RulesView → Option (List Instruction) → Option Starts → Result WarriorView AsmFault
+fitted_by rules (Some code) (Some s) = fitted rules code (start_value s)
+fitted_by rules code s = Err (at_line 0 (Warrior Empty))
+
+abbrev pub unless : Option AsmFault → Result WarriorView AsmFault → Result WarriorView AsmFault
+unless None r = r
+unless (Some f) r = Err f
+
+-- what expanded lines make
+abbrev pub lines_outcome : List ℕ → NameValues → List Line → Result WarriorView AsmFault
+lines_outcome source names lines = unless (lines_fault source names lines) (fitted_by names.rules (instructions_from source names 0 lines) (starts_from source names 0 no_starts lines))
+
+abbrev pub expand_fault : ExpandFault → AsmFault
+expand_fault e = at_line e.line (Expand e.kind)
+
+-- the length, the expansion, and what its lines make
+unfoldable pub outcome_of : List ℕ → Table → RulesView → Result WarriorView AsmFault
+outcome_of source constants rules =
+    if nat_le (length source) MOST_BYTES then and_then (λ lines. lines_outcome source (names_of source constants rules lines) lines) (with_fault expand_fault (expansion_of source constants rules))
+    else Err (at_line 0 TextTooLong)
