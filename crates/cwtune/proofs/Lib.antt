@@ -1,15 +1,2 @@
-pub mod Parting
 pub mod ReadLimits
-pub mod Refusals
 pub mod Words
-pub mod Opponents
-pub mod Constants
-pub mod Meaning
-pub mod Tunings
-pub mod Settings
-pub mod Templates
-pub mod Duels
-pub mod Plain
-pub mod Writable
-pub mod Certified
-pub mod AcceptedParts

@@ -5,18 +5,21 @@ ghost use Rattle.cwtune.specs.CommandLine.{AskForFight, IsRequest};
 
 use crate::limits;
 use crate::part_word::{part_error, part_of, part_option};
-use crate::raw_rules::RawRules;
-use crate::which_setting::{WhichSetting, which_setting};
+use crate::setting_word::which_setting;
 use clap::builder::ValueParser;
 use clap::error::ErrorKind;
 use clap::{Arg, ArgAction, ArgMatches, Command, Error, value_parser};
 use mars_core::Side;
 use rc_instr::Rules;
 use std::alloc::{AllocError, Global};
+use tune_runs::{RawRules, WhichSetting};
 use tune_template::Part;
 
 // The words for the sides, as in a schedule: candidate and opponent.
 const SIDES: [&str; 2] = ["c", "o"];
+
+// What `--version` says after the name: the version, and the kit that all proofs passed with.
+const VERSION: &str = "1.0.0 (proved with rattle-kit-13f)";
 
 // The default of `--cache`.
 const DEFAULT_CAPACITY: u32 = 4096;
@@ -270,7 +273,7 @@ fn template<'a>(alloc: Global) -> Arg<'a> {
 fn settings<'a>(alloc: Global) -> Result<Command<'a>, AllocError> {
     Command::new(alloc, "settings")
         .about(
-            "Print how many settings a template has, and for each constant how many values, and its start",
+            "Print the number of settings of a template, and the name, number of values and START of each constant",
         )
         .arg(template(alloc))
 }
@@ -361,6 +364,7 @@ fn top_command<'a>(alloc: Global) -> Result<Command<'a>, AllocError> {
     let command = Command::new(alloc, "cwtune")
         .no_binary_name(true)
         .bin_name("cwtune")?
+        .version(VERSION)
         .about(
             "Plays Core War fights and finds the best values for a warrior's constants. With no command, same as `fight`.",
         )

@@ -4,7 +4,6 @@
 //! A line is written in pieces and takes no memory, so that it can report that memory ran out.
 ghost use Rattle.std.specs.Prelude.{◌≡◌, false, is_err};
 
-use crate::fault::RunFault;
 use itoa::Buffer;
 use mars_core::Side;
 use mars_fight::{ScheduleFault, ScheduleFaultKind};
@@ -13,6 +12,7 @@ use rc_expand::ExpandKind;
 use rc_instr::{LoadFault, Outlet, RulesError, WarriorError, WriteFailed};
 use rc_text::{EvalFault, LexFault};
 use std::io::Write;
+use tune_runs::RunFault;
 use tune_template::{TemplateFault, TemplateKind};
 
 // Writes the line of a fault: `failed: Write`, `failed: OutOfMemory`, or `refused: ` and its names.

@@ -4,13 +4,8 @@
 ghost use Rattle.std.specs.Prelude.{◌≡◌, false};
 
 use crate::command_line::{DuelWords, Request, TuneWords, request_of};
-use crate::commands::warrior_of;
-use crate::fault::RunFault;
 use crate::fault_line::say_asm;
-use crate::inputs::{inputs_of, template_of};
-use crate::raw_rules::{RawRules, rules_of};
-use crate::reading::{TuneTexts, read_file, read_texts};
-use crate::which_setting::WhichSetting;
+use crate::reading::{TuneFiles, read_file, read_texts};
 use itoa::Buffer;
 use mars_fight::ScheduleFaultKind;
 use rc_asm::AsmFault;
@@ -18,6 +13,7 @@ use rc_instr::{Outlet, Rules, RulesError, WriteFailed};
 use std::alloc::Global;
 use std::io::Write;
 use std::rt::Files;
+use tune_runs::{RawRules, RunFault, WhichSetting, inputs_of, rules_of, template_of, warrior_of};
 use tune_template::Inputs;
 
 // Writes what helps after the words were refused, if anything does.
@@ -140,7 +136,7 @@ fn help_setting<F: Files, V: Write>(
     }
 }
 
-// Writes the line of a file at which it is not a template, if it is not.
+// Writes the line at fault of a file that is no template.
 fn help_settings<F: Files, V: Write>(
     rt: &F,
     alloc: Global,
@@ -173,27 +169,20 @@ fn help_tuning<F: Files, V: Write>(
         Ok(rules) => rules,
         Err(error) => return say_limit(err, rules_limit(error)),
     };
-    let Ok(texts) = read_texts(rt, alloc, words) else {
+    let Ok(files) = read_texts(rt, alloc, words) else {
         return Ok(());
     };
-    match inputs_of(
-        alloc,
-        texts.template.as_slice(),
-        texts.opponents.as_slice(),
-        texts.schedule.as_slice(),
-        &rules,
-        words.part,
-    ) {
-        Ok(inputs) if needs_candidate => say_start(alloc, words, &texts, &inputs, err),
+    match inputs_of(alloc, &files.texts(&rules, words.part)) {
+        Ok(inputs) if needs_candidate => say_start(alloc, words, &files, &inputs, err),
         Ok(_) => Ok(()),
-        Err(fault) => say_fault_of(words, &texts, &rules, fault, err),
+        Err(fault) => say_fault_of(words, &files, &rules, fault, err),
     }
 }
 
 // Writes the text of a tuning that is at fault.
 fn say_fault_of<V: Write>(
     words: &TuneWords<'_>,
-    texts: &TuneTexts,
+    files: &TuneFiles,
     rules: &Rules,
     fault: RunFault,
     err: &mut Outlet<V>,
@@ -202,11 +191,11 @@ fn say_fault_of<V: Write>(
 {
     match fault {
         RunFault::Template(fault) => {
-            say_source(err, words.template, texts.template.as_slice(), fault.line)
+            say_source(err, words.template, files.template.as_slice(), fault.line)
         }
         RunFault::Opponent { index, fault } => {
             let place = index as usize;
-            let (Some(name), Some(text)) = (words.opponents.get(place), texts.opponents.get(place))
+            let (Some(name), Some(text)) = (words.opponents.get(place), files.opponents.get(place))
             else {
                 return Ok(());
             };
@@ -231,7 +220,7 @@ fn say_fault_of<V: Write>(
 fn say_start<V: Write>(
     alloc: Global,
     words: &TuneWords<'_>,
-    texts: &TuneTexts,
+    files: &TuneFiles,
     inputs: &Inputs,
     err: &mut Outlet<V>,
 ) -> Result<(), WriteFailed>
@@ -244,7 +233,7 @@ fn say_start<V: Write>(
     err.write_all(b"  start setting:")?;
     say_asm(err, fault)?;
     err.write_all(b"\n")?;
-    say_source(err, words.template, texts.template.as_slice(), fault.line)
+    say_source(err, words.template, files.template.as_slice(), fault.line)
 }
 
 fn rules_limit(error: RulesError) -> &'static str {

@@ -7,39 +7,28 @@ ghost use Rattle.std.specs.Prelude.{◌≡◌, false};
 mod cert_file;
 mod command_line;
 mod commands;
-mod fault;
 mod fault_line;
-mod fight_text;
 mod hints;
-mod inputs;
-pub mod laws;
 mod limits;
-mod lines;
 mod part_word;
-pub mod plain_laws;
 pub mod program;
 mod progress_line;
-mod raw_rules;
 mod reading;
-mod report;
-mod settings_text;
+mod setting_word;
 mod status;
 #[cfg(test)]
 mod tests;
-mod which_setting;
 
-pub use commands::{
-    asm_run, check_part_run, check_run, duel_run, fight_run, plain_tune_run, setting_run,
-    settings_run, tune_part_run, tune_run,
-};
-pub use fault::RunFault;
 use progress_line::ProgressLine;
 use rc_instr::Outlet;
 use status::REFUSED;
 use std::io::{IsTerminal, Read, Write};
 use std::process::ExitCode;
 use std::{env, io};
-pub use which_setting::WhichSetting;
+pub use tune_runs::{
+    RunFault, TuneTexts, WhichSetting, asm_run, check_part_run, check_run, duel_run, fight_run,
+    laws, plain_laws, plain_tune_run, setting_run, settings_run, tune_part_run, tune_run,
+};
 
 // Returns the words after the program's name.
 fn words_of(rt: &HostRuntime) -> io::Result<Vec<String>> {

@@ -1,13 +1,13 @@
 //! The program, apart from `main`: words and three streams in, an exit status out.
 ghost use Rattle.std.specs.Prelude.{◌≡◌, ◌≢◌, ◌⊎◌, ◌≤◌, ℕ, List, Option, map, true, false, string_bytes, IsTrue};
-ghost use Rattle.cwtune.specs.FightRun.{WritesFight, IsRefusedText, IsInput};
-ghost use Rattle.cwtune.specs.TuneRun.{Texts};
-ghost use Rattle.cwtune.specs.CheckRun.{WritesVerdict};
+ghost use Rattle.tune_runs.specs.FightRun.{WritesFight, IsRefusedText};
+ghost use Rattle.cwtune.specs.Input.{IsInput};
+ghost use Rattle.tune_runs.specs.TuneRun.{Texts};
+ghost use Rattle.tune_runs.specs.CheckRun.{WritesVerdict};
 ghost use Rattle.cwtune.specs.CommandLine.{AskForFight};
 
 use crate::command_line::{Request, request_of};
 use crate::commands::{asm, check, duel, fight, plain_tune, setting, settings, tune};
-use crate::fault::RunFault;
 use crate::fault_line::say_run;
 use crate::status::{DONE, FAILED, MISUSED, end_without_memory};
 use clap::error::ErrorKind;
@@ -17,6 +17,7 @@ use std::io;
 use std::io::{Read, Write};
 use std::rt::Files;
 use tune_cert::{Silent, Watcher};
+use tune_runs::RunFault;
 
 /// Runs the command that `words` ask for, and returns the exit status: 0 success or accepted, 1
 /// input refused or certificate rejected, 2 usage error, or a file CERT that is not overwritten, 3

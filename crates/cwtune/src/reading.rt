@@ -1,12 +1,15 @@
 //! Reads whole texts from readers and files.
-ghost use Rattle.std.specs.Prelude.{◌≤◌, length, IfOk};
-ghost use Rattle.cwtune.specs.FightRun.{IsInput};
+ghost use Rattle.std.specs.Prelude.{◌≡◌, ◌≤◌, length, IfOk};
+ghost use Rattle.cwtune.specs.Input.{IsInput};
 
 use crate::command_line::TuneWords;
+use rc_instr::Rules;
 use std::alloc::Global;
 use std::io::Read;
 use std::rt::Files;
 use std::{fs, io};
+use tune_runs::TuneTexts;
+use tune_template::Part;
 
 // The most bytes of a text that is read: 1 GiB.
 const MOST_FILE_BYTES: u64 = 1_073_741_824;
@@ -18,18 +21,37 @@ pub(crate) struct Unread<'a> {
     pub(crate) error: io::Error,
 }
 
-// The texts of a tuning.
+// The files of a tuning, read.
 #[derive(Drop)]
-pub(crate) struct TuneTexts {
+pub(crate) struct TuneFiles {
     pub(crate) template: Vec<u8>,
     pub(crate) schedule: Vec<u8>,
     pub(crate) opponents: Vec<Vec<u8>>,
 }
 
-// The texts of a tuning, and a certificate of it.
+impl TuneFiles {
+    // Returns the texts of the tuning under `rules`, of this part.
+    pub(crate) fn texts<'a>(&'a self, rules: &'a Rules, part: Part) -> TuneTexts<'a>
+        ensures template { result.template.now ≡ self.now.template.items }
+        ensures opponents { result.opponents.now ≡ self.now.opponents.items }
+        ensures schedule { result.schedule.now ≡ self.now.schedule.items }
+        ensures rules { result.rules.now ≡ rules.now }
+        ensures part { result.part ≡ part }
+    {
+        TuneTexts {
+            template: self.template.as_slice(),
+            opponents: self.opponents.as_slice(),
+            schedule: self.schedule.as_slice(),
+            rules,
+            part,
+        }
+    }
+}
+
+// The files of a check, read.
 #[derive(Drop)]
-pub(crate) struct CheckTexts {
-    pub(crate) tuning: TuneTexts,
+pub(crate) struct CheckFiles {
+    pub(crate) tuning: TuneFiles,
     pub(crate) cert: Vec<u8>,
 }
 
@@ -56,13 +78,13 @@ pub(crate) fn read_check_texts<'a, F: Files>(
     rt: &F,
     alloc: Global,
     words: &TuneWords<'a>,
-) -> Result<CheckTexts, Unread<'a>> {
+) -> Result<CheckFiles, Unread<'a>> {
     let template = read_named(rt, alloc, words.template)?;
     let schedule = read_named(rt, alloc, words.schedule)?;
     let cert = read_named(rt, alloc, words.cert)?;
     let opponents = read_files(rt, alloc, words.opponents.as_slice())?;
-    Ok(CheckTexts {
-        tuning: TuneTexts {
+    Ok(CheckFiles {
+        tuning: TuneFiles {
             template,
             schedule,
             opponents,
@@ -76,8 +98,8 @@ pub(crate) fn read_texts<'a, F: Files>(
     rt: &F,
     alloc: Global,
     words: &TuneWords<'a>,
-) -> Result<TuneTexts, Unread<'a>> {
-    Ok(TuneTexts {
+) -> Result<TuneFiles, Unread<'a>> {
+    Ok(TuneFiles {
         template: read_named(rt, alloc, words.template)?,
         schedule: read_named(rt, alloc, words.schedule)?,
         opponents: read_files(rt, alloc, words.opponents.as_slice())?,

@@ -2,11 +2,11 @@
 ghost use Rattle.std.specs.Prelude.{◌≡◌, ◌≢◌, ◌⊎◌, false};
 
 use crate::cert_file::NotOpened;
-use crate::fault::RunFault;
 use crate::fault_line::{say_cert, say_file, say_run, say_text};
 use rc_instr::Outlet;
 use std::io;
 use std::io::Write;
+use tune_runs::RunFault;
 
 // Names the fault of a run on standard error, and returns the exit status.
 pub(crate) fn end_run<V: Write>(err: &mut Outlet<V>, fault: RunFault) -> u8

@@ -3,9 +3,9 @@ use Rattle.std.proofs.Common.{◌≡◌, ◌≢◌, ℕ, zero, suc, ◌<◌, ari
 use Rattle.std.specs.List.{slice_get, slice_set}
 use Rattle.std.proofs.lemmas.List.{length-replicate}
 use Rattle.rc_instr.specs.Warrior.{WarriorView}
-use Rattle.tune_cert.specs.Problem.{Problem}
+use Rattle.tune_problem.specs.Problem.{Problem}
 use Rattle.tune_cert.specs.Steps.{AreAssembled}
-use Rattle.tune_cert.proofs.Certificates.{some_is, same_number}
+use Rattle.tune_problem.proofs.Certificates.{some_is, same_number}
 
 none_yet : (n v : ℕ) (w : WarriorView) → slice_get (replicate n None) v ≡ Some (Some w) → ⊥
 none_yet zero v w e = cc

@@ -6,7 +6,7 @@ use Rattle.mars_fight.specs.Records.{Fields}
 use Rattle.tune_cert.specs.CertText.{rows_fields, count_fields, best_fields, cert_fields}
 use Rattle.tune_cert.specs.Spelling.{IsNumber, IsVersion, Spells, HasForm, IsMalformed, IsReadRefusal}
 use Rattle.tune_cert.specs.Steps.{AreRows, HasRow, IsBadCount, IsBadBest, IsBadRow}
-use Rattle.tune_cert.specs.declared.cert.Cert.{Cert}
+use Rattle.tune_problem.specs.declared.cert.Cert.{Cert}
 use Rattle.tune_cert.specs.declared.fault.ReadFault.{ReadFault}
 use Rattle.tune_cert.specs.declared.fault.ReadFault.TheVariants.{Malformed, OutOfMemory}
 

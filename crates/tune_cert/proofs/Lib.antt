@@ -1,8 +1,5 @@
-pub mod Weights
 pub mod Written
-pub mod CapRows
-pub mod Certificates
-pub mod Scores
+pub mod ListedCaps
 pub mod RowChecks
 pub mod RowSteps
 pub mod Assembled
@@ -13,5 +10,4 @@ pub mod RowLists
 pub mod CertParts
 pub mod WrittenBack
 pub mod OneSpelling
-pub mod Optimal
-pub mod WholeOfParts
+pub mod RightVerdicts

@@ -7,9 +7,9 @@ use Rattle.std.proofs.lemmas.List.Elements.{All-head, All-tail}
 use Rattle.mars_fight.specs.Records.{Fields}
 use Rattle.tune_cert.specs.CertText.{item_text, spaced_text, list_text, kind_text, last_text, rows_fields, best_fields, cert_fields}
 use Rattle.tune_cert.specs.Spelling.{IsNumber, IsItem, IsRow, Spells}
-use Rattle.tune_cert.specs.declared.cert.Row.{Row}
-use Rattle.tune_cert.specs.declared.cert.Row.TheVariants.{Refused, Same, Cap}
-use Rattle.tune_cert.specs.declared.cert.Cert.{Cert}
+use Rattle.tune_problem.specs.declared.cert.Row.{Row}
+use Rattle.tune_problem.specs.declared.cert.Row.TheVariants.{Refused, Same, Cap}
+use Rattle.tune_problem.specs.declared.cert.Cert.{Cert}
 use Rattle.rc_instr.proofs.Numerals.{decimal_one}
 use Rattle.tune_cert.proofs.ItemText.{fine_parts}
 use Rattle.tune_cert.proofs.Spaced.{dash_only}

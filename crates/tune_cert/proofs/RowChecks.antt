@@ -4,12 +4,12 @@ use Rattle.std.specs.List.{range_with_len}
 use Rattle.std.proofs.lemmas.List.{length-map}
 use Rattle.std.proofs.lemmas.List.FromFn.{length-range_with_len}
 use Rattle.rc_instr.specs.Warrior.{WarriorView}
-use Rattle.tune_cert.specs.Problem.{Problem, IsProblem}
-use Rattle.tune_cert.specs.Optimum.{most_besides, cap_of, all_fights}
-use Rattle.tune_cert.specs.Valid.{numbers, IsCapRow}
+use Rattle.tune_problem.specs.Problem.{Problem, IsProblem}
+use Rattle.tune_problem.specs.Optimum.{most_besides, cap_of, all_fights}
+use Rattle.tune_problem.specs.Valid.{numbers, IsCapRow}
 use Rattle.tune_cert.specs.Verdict.{Rises, HavePoints}
 use Rattle.tune_cert.specs.Steps.{AreNumbers, listed_cap}
-use Rattle.tune_cert.proofs.CapRows.{row_few, row_sum}
+use Rattle.tune_problem.proofs.CapRows.{row_few, row_sum}
 
 -- a cap row rises and has its points
 pub cap_row_of : (p : Problem) (w : WarriorView) (a : ℕ) (row : List (ℕ × ℕ)) → Rises a row → HavePoints p w row → IsCapRow p w a row

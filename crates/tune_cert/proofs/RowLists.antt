@@ -6,7 +6,7 @@ use Rattle.mars_fight.specs.Records.{Fields}
 use Rattle.tune_cert.specs.CertText.{rows_fields, row_fields}
 use Rattle.tune_cert.specs.Spelling.{IsRow, HasForm}
 use Rattle.tune_cert.specs.Steps.{AreRows, HasRow, IsBadRecord}
-use Rattle.tune_cert.specs.declared.cert.Row.{Row}
+use Rattle.tune_problem.specs.declared.cert.Row.{Row}
 
 -- what stands at a place, and what comes behind it
 suc_more : (n : ℕ) (xs : List Fields) (x : Fields) (rest : List Fields) → drop n xs ≡ x ∷ rest → (drop (suc n) xs ≡ rest) × (slice_get xs n ≡ Some x)

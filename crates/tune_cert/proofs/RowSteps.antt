@@ -2,12 +2,12 @@
 use Rattle.std.proofs.Common.{◌≡◌, ◌∙◌, ℕ, suc, ◌+◌, ◌<◌, List, length, Some, slice_get, get_or, ap, arith, subst, inl, inr}
 use Rattle.std.proofs.lemmas.Bool.Decides.{leb_tells}
 use Rattle.std.proofs.lemmas.Option.{slice_get_read}
-use Rattle.tune_cert.specs.Problem.{Problem}
+use Rattle.tune_problem.specs.Problem.{Problem}
 use Rattle.tune_cert.specs.Verdict.{IsRightAlone, IsRightSame, AreRightAlone, IsFirstRow}
 use Rattle.tune_cert.specs.Steps.{IsFirstAlone, IsFirstSame}
-use Rattle.tune_cert.specs.declared.cert.Cert.{Cert}
-use Rattle.tune_cert.specs.declared.cert.Row.{Row}
-use Rattle.tune_cert.specs.declared.cert.Row.TheVariants.{Refused, Same, Cap}
+use Rattle.tune_problem.specs.declared.cert.Cert.{Cert}
+use Rattle.tune_problem.specs.declared.cert.Row.{Row}
+use Rattle.tune_problem.specs.declared.cert.Row.TheVariants.{Refused, Same, Cap}
 use Rattle.tune_cert.specs.declared.verdict.Reason.{Reason}
 
 -- the row that is read at an index

@@ -4,22 +4,22 @@ use Rattle.std.specs.Prelude.{IfOk}
 use Rattle.std.proofs.lemmas.Option.{slice_get_within}
 use Rattle.rc_instr.specs.Warrior.{WarriorView}
 use Rattle.mars_fight.specs.Records.{Fields}
-use Rattle.tune_cert.specs.Problem.{Problem, IsProblem}
-use Rattle.tune_cert.specs.Optimum.{cap_of, beats}
-use Rattle.tune_cert.specs.Valid.{numbers, IsVersionOf, IsRightRow, IsValid}
+use Rattle.tune_problem.specs.Problem.{Problem, IsProblem}
+use Rattle.tune_problem.specs.Optimum.{cap_of, beats}
+use Rattle.tune_problem.specs.Valid.{numbers, IsVersionOf, IsRightRow, IsValid}
 use Rattle.tune_cert.specs.Spelling.{Spells}
 use Rattle.tune_cert.specs.Verdict.{IsBestRow, IsWrongRefused, IsWrongCap, IsWrongSame, IsWrong, IsWrongRow, IsRejected, IsVerdict, IsRightAlone, IsRightSame, AreRightAlone, IsFirstRow, IsFirstOfCert, IsFirst}
 use Rattle.tune_cert.specs.Steps.{AreRightSame, IsCertVerdict, IsFirstVerdict}
-use Rattle.tune_cert.specs.declared.cert.Cert.{Cert}
+use Rattle.tune_problem.specs.declared.cert.Cert.{Cert}
 use Rattle.tune_cert.specs.declared.fault.CheckFault.{CheckFault}
-use Rattle.tune_cert.specs.declared.cert.Row.{Row}
-use Rattle.tune_cert.specs.declared.cert.Row.TheVariants.{Refused, Same, Cap}
+use Rattle.tune_problem.specs.declared.cert.Row.{Row}
+use Rattle.tune_problem.specs.declared.cert.Row.TheVariants.{Refused, Same, Cap}
 use Rattle.tune_cert.specs.declared.verdict.Reason.{Reason}
 use Rattle.tune_cert.specs.declared.verdict.Reason.TheVariants.{Malformed, RowCount, BestRow, WrongPoints, RepeatedFight, CapTooHigh, NotSame, NotRefused, Version}
 use Rattle.tune_cert.specs.declared.verdict.Verdict.{Verdict}
 use Rattle.tune_cert.specs.declared.verdict.Verdict.TheVariants.{Accepted, Rejected}
-use Rattle.tune_cert.proofs.CapRows.{whole}
-use Rattle.tune_cert.proofs.Certificates.{some_is}
+use Rattle.tune_problem.proofs.CapRows.{whole}
+use Rattle.tune_problem.proofs.Certificates.{some_is}
 use Rattle.tune_cert.proofs.RowChecks.{cap_row_rises, cap_row_points, all_listed}
 
 right_of : (p : Problem) (c : Cert) (v : ℕ) (row : Row) → IsRightAlone p c v row → IsRightSame p c v row → IsRightRow p c v row
@@ -113,11 +113,6 @@ pub accepts : (p : Problem) → IsProblem p → (c d : Cert) (v : Verdict) → c
 accepts p laws c d (Accepted best total) e h valid = rw (h.1, h.2, e) refl
 accepts p laws c d (Rejected number reason) e h valid = absurd (not_valid p laws c number reason h (subst (λ (x : Cert). IsValid p x) (sym e) valid))
 
-pub accepts_if : (p : Problem) → IsProblem p → (c d : Cert) (r : Result Verdict CheckFault) → c ≡ d → IfOk r (IsCertVerdict p c) → IsValid p d →
-    IfOk r (λ v. v ≡ Accepted d.best d.total)
-accepts_if p laws c d (Ok v) e h valid = accepts p laws c d v e h valid
-accepts_if p laws c d (Err f) e h valid = tt
-
 not_malformed : (p : Problem) (c : Cert) (v : ℕ) (row : Row) → IsWrong p c v row Malformed → ⊥
 not_malformed p c v Refused w = w
 not_malformed p c v (Same u) w = w
@@ -147,7 +142,5 @@ first_answered p records c (Rejected number RepeatedFight) s h = (c, s, h)
 first_answered p records c (Rejected number CapTooHigh) s h = (c, s, h)
 first_answered p records c (Rejected number NotSame) s h = (c, s, h)
 first_answered p records c (Rejected number NotRefused) s h = (c, s, h)
-
-pub ruleset verdicts = (answered, first_answered)
 
 pub ruleset certs = (valid_of, first_of_cert)

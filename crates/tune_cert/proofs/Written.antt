@@ -3,8 +3,8 @@ use Rattle.std.proofs.Common.{◌≡◌, ℕ, ◌<◌, ◌+◌, List, [], ◌∷
 use Rattle.std.proofs.Math.Seq.{drop-cons}
 use Rattle.csv.specs.Writing.{default_writer, row_text}
 use Rattle.tune_cert.specs.CertText.{rows_fields, row_fields, count_fields, best_fields, cert_fields, records_text, cert_text}
-use Rattle.tune_cert.specs.declared.cert.Cert.{Cert}
-use Rattle.tune_cert.specs.declared.cert.Row.{Row}
+use Rattle.tune_problem.specs.declared.cert.Cert.{Cert}
+use Rattle.tune_problem.specs.declared.cert.Row.{Row}
 
 rows_step : (rows : List Row) (i n : ℕ) (row : Row) → i < length rows → row ≡ get_or rows i row
     → records_text (rows_fields (drop i rows) n) ≡ row_text default_writer (row_fields n row) ++ records_text (rows_fields (drop (i + 1) rows) (n + 1))

@@ -9,8 +9,8 @@ use Rattle.mars_fight.proofs.Reading.{none_left}
 use Rattle.mars_fight.specs.Records.{Fields, records_of}
 use Rattle.tune_cert.specs.CertText.{rows_fields, row_fields, cert_fields, count_fields, best_fields, records_text, cert_text}
 use Rattle.tune_cert.specs.Spelling.{IsCert, Spells}
-use Rattle.tune_cert.specs.declared.cert.Row.{Row}
-use Rattle.tune_cert.specs.declared.cert.Cert.{Cert}
+use Rattle.tune_problem.specs.declared.cert.Row.{Row}
+use Rattle.tune_problem.specs.declared.cert.Cert.{Cert}
 
 written_from : (records : List Fields) (n : ℕ) → length records ≤ n → records_from default_config n st.StartRecord (records_text records) ≡ map read_back records
 unfolding records_from records_text

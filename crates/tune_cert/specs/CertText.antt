@@ -1,12 +1,11 @@
 -- The text of a certificate: records of three fields, as the crate `csv` writes them by default.
-use Rattle.std.specs.Prelude.{ℕ, ◌+◌, List, [], ◌∷◌, ◌++◌, codes, flat_map, length}
+use Rattle.std.specs.Prelude.{ℕ, ◌+◌, List, [], ◌∷◌, ◌++◌, codes, flat_map}
 use Rattle.std.specs.Fmt.{decimal}
 use Rattle.csv.specs.Writing.{default_writer, row_text}
 use Rattle.mars_fight.specs.Records.{Fields}
-use Rattle.tune_cert.specs.declared.cert.Cert.{Cert}
-use Rattle.tune_cert.specs.declared.cert.Found.{Found}
-use Rattle.tune_cert.specs.declared.cert.Row.{Row}
-use Rattle.tune_cert.specs.declared.cert.Row.TheVariants.{Refused, Same, Cap}
+use Rattle.tune_problem.specs.declared.cert.Cert.{Cert}
+use Rattle.tune_problem.specs.declared.cert.Row.{Row}
+use Rattle.tune_problem.specs.declared.cert.Row.TheVariants.{Refused, Same, Cap}
 
 -- A fight with its points: `7:3`.
 unfoldable pub item_text : ℕ × ℕ → List ℕ
@@ -57,7 +56,3 @@ records_text (fields ∷ records) = row_text default_writer fields ++ records_te
 
 unfoldable pub cert_text : Cert → List ℕ
 cert_text c = records_text (cert_fields c)
-
--- The certificate that a search writes.
-abbrev pub cert_of : Found → Cert
-cert_of f = record { version = f.version; count = length f.rows; best = f.best; total = f.total; rows = f.rows }

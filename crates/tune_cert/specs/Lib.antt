@@ -1,11 +1,7 @@
--- The optimum is the first setting, in order, whose warrior makes the most points in all fights. A
--- certificate shows for each setting why it is not better: it does not assemble, it shares
--- another's warrior, or its cap does not beat the best. A valid certificate names the optimum.
-pub mod Problem
-pub mod Optimum
-pub mod Valid
+-- A certificate has one text, and a text spells at most one certificate. The verdict on bytes is
+-- Accepted exactly if they spell a valid certificate, and then names the optimum. A rejection names
+-- the first record at which a check fails, and why.
 pub mod CertText
 pub mod Spelling
 pub mod Verdict
-pub mod Parts
 pub mod Steps

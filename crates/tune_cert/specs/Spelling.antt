@@ -3,9 +3,9 @@ use Rattle.std.specs.Prelude.{◌≡◌, ◌⊎◌, ℕ, zero, suc, ◌<◌, ◌
 use Rattle.mars_fight.specs.Play.{ArePoints}
 use Rattle.mars_fight.specs.Records.{Fields}
 use Rattle.tune_cert.specs.CertText.{row_fields, count_fields, best_fields, cert_fields}
-use Rattle.tune_cert.specs.declared.cert.Cert.{Cert}
-use Rattle.tune_cert.specs.declared.cert.Row.{Row}
-use Rattle.tune_cert.specs.declared.cert.Row.TheVariants.{Refused, Same, Cap}
+use Rattle.tune_problem.specs.declared.cert.Cert.{Cert}
+use Rattle.tune_problem.specs.declared.cert.Row.{Row}
+use Rattle.tune_problem.specs.declared.cert.Row.TheVariants.{Refused, Same, Cap}
 use Rattle.tune_cert.specs.declared.fault.ReadFault.{ReadFault}
 use Rattle.tune_cert.specs.declared.fault.ReadFault.TheVariants.{Malformed, OutOfMemory}
 

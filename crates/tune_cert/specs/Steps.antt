@@ -4,17 +4,17 @@ use Rattle.std.specs.Prelude.{◌≡◌, ℕ, suc, ◌+◌, ◌-◌, ◌*◌, �
 use Rattle.mars_fight.specs.Records.{Fields}
 use Rattle.tune_cert.specs.CertText.{spaced_text, list_text, rows_fields, count_fields, best_fields}
 use Rattle.tune_cert.specs.Spelling.{IsNumber, IsVersion, IsItem, IsRow, HasForm}
-use Rattle.tune_cert.specs.declared.cert.Row.{Row}
+use Rattle.tune_problem.specs.declared.cert.Row.{Row}
 use Rattle.tune_cert.specs.declared.fault.ReadFault.{ReadFault}
 use Rattle.tune_cert.specs.declared.fault.ReadFault.TheVariants.{Malformed, OutOfMemory}
 use Rattle.std.specs.List.{sum_by}
 use Rattle.rc_instr.specs.Warrior.{WarriorView}
-use Rattle.tune_cert.specs.Problem.{Problem}
-use Rattle.tune_cert.specs.Optimum.{most_besides}
-use Rattle.tune_cert.specs.Valid.{numbers, listed_total, IsValid}
+use Rattle.tune_problem.specs.Problem.{Problem}
+use Rattle.tune_problem.specs.Optimum.{most_besides}
+use Rattle.tune_problem.specs.Valid.{numbers, listed_total, IsValid}
 use Rattle.tune_cert.specs.Verdict.{IsRejected, IsRightSame, IsFirstOfCap, IsFirstOfSame, IsFirstOfCert}
-use Rattle.tune_cert.specs.declared.cert.Cert.{Cert}
-use Rattle.tune_cert.specs.declared.cert.Row.TheVariants.{Refused, Same, Cap}
+use Rattle.tune_problem.specs.declared.cert.Cert.{Cert}
+use Rattle.tune_problem.specs.declared.cert.Row.TheVariants.{Refused, Same, Cap}
 use Rattle.tune_cert.specs.declared.verdict.Reason.{Reason}
 use Rattle.tune_cert.specs.declared.verdict.Verdict.{Verdict}
 use Rattle.tune_cert.specs.declared.verdict.Verdict.TheVariants.{Accepted, Rejected}

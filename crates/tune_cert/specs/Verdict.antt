@@ -2,13 +2,13 @@
 use Rattle.std.specs.Prelude.{◌≡◌, ◌≢◌, ◌⊎◌, ℕ, ◌+◌, ◌<◌, ◌≤◌, true, List, [], ◌∷◌, length, slice_get, Some, None}
 use Rattle.rc_instr.specs.Warrior.{WarriorView}
 use Rattle.mars_fight.specs.Records.{Fields}
-use Rattle.tune_cert.specs.Problem.{Problem}
-use Rattle.tune_cert.specs.Optimum.{all_fights, cap_of, beats, IsOptimum, HasTotal}
-use Rattle.tune_cert.specs.Valid.{numbers, listed_total, IsVersionOf, IsValid, IsRightRow}
+use Rattle.tune_problem.specs.Problem.{Problem}
+use Rattle.tune_problem.specs.Optimum.{all_fights, cap_of, beats, IsOptimum, HasTotal}
+use Rattle.tune_problem.specs.Valid.{numbers, listed_total, IsVersionOf, IsValid, IsRightRow}
 use Rattle.tune_cert.specs.Spelling.{Spells, IsMalformed, IsFirstMalformed}
-use Rattle.tune_cert.specs.declared.cert.Cert.{Cert}
-use Rattle.tune_cert.specs.declared.cert.Row.{Row}
-use Rattle.tune_cert.specs.declared.cert.Row.TheVariants.{Refused, Same, Cap}
+use Rattle.tune_problem.specs.declared.cert.Cert.{Cert}
+use Rattle.tune_problem.specs.declared.cert.Row.{Row}
+use Rattle.tune_problem.specs.declared.cert.Row.TheVariants.{Refused, Same, Cap}
 use Rattle.tune_cert.specs.declared.verdict.Reason.{Reason}
 use Rattle.tune_cert.specs.declared.verdict.Reason.TheVariants.{Malformed, RowCount, BestRow, WrongPoints, RepeatedFight, CapTooHigh, NotSame, NotRefused, Version}
 use Rattle.tune_cert.specs.declared.verdict.Verdict.{Verdict}
@@ -176,3 +176,14 @@ IsFirstReject p records number reason = (c : Cert) × Spells records c × IsFirs
 abbrev pub IsFirst : Problem → List Fields → Verdict → Type 0
 IsFirst p records (Accepted best total) = Unit {0}
 IsFirst p records (Rejected number reason) = IsFirstReject p records number reason
+
+-- All that is promised of a verdict on records, whoever made them.
+pub record IsRightVerdict (p : Problem) (records : List Fields) (verdict : Verdict) : Type 0 where
+  -- what it says holds
+  pub holds : IsVerdict p records verdict
+  -- a rejection names the first record at which a check fails, and the first reason there
+  pub first : IsFirst p records verdict
+  -- an accepted certificate names the optimum and its total
+  pub optimum : IsOptimal p verdict
+  -- a valid certificate is accepted
+  pub accepted : (c : Cert) → Spells records c → IsValid p c → verdict ≡ Accepted c.best c.total

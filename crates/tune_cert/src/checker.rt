@@ -2,23 +2,19 @@
 ghost use Rattle.std.specs.Prelude.{◌≡◌, ◌+◌, length, IfOk, IfSome, IfNone};
 ghost use Rattle.mars_core.specs.Arena.{IsBlank};
 ghost use Rattle.mars_fight.specs.Records.{records_of};
-ghost use Rattle.tune_cert.specs.Problem.{problem_of};
-ghost use Rattle.tune_cert.specs.Spelling.{Spells};
-ghost use Rattle.tune_cert.specs.Valid.{IsValid};
-ghost use Rattle.tune_cert.specs.Verdict.{IsWrongRow, IsVerdict, IsOptimal, AreRightAlone, IsFirstRow, IsFirst};
+ghost use Rattle.tune_problem.specs.Problem.{problem_of};
+ghost use Rattle.tune_cert.specs.Verdict.{IsWrongRow, AreRightAlone, IsFirstRow, IsRightVerdict};
 ghost use Rattle.tune_cert.specs.Steps.{AreRightSame, IsCertVerdict, IsFirstVerdict};
-ghost use Rattle.tune_cert.specs.declared.cert.Cert.{Cert};
 
-use crate::cert::{Cert, Row};
 use crate::fault::{CheckFault, ReadFault};
-use crate::problem::cert_version;
 use crate::read::read_cert;
 use crate::row_checks::{check_alone, check_same, is_best_row};
+use crate::telling::{before_rows, tell_row};
 use crate::verdict::{Reason, Verdict};
 use crate::warriors::no_warriors;
-use crate::watcher::{Silent, Standing, Watcher, before_rows, tell_row};
 use mars_core::{Arena, PackedCells};
 use std::alloc::Global;
+use tune_problem::{Cert, Row, Silent, Standing, Watcher, cert_version};
 use tune_template::Inputs;
 
 // A record by its index, and what is wrong with it.
@@ -49,18 +45,10 @@ struct Wrong {
 ///
 /// `OutOfMemory` if an allocation failed.
 pub fn check(alloc: Global, inputs: &Inputs, bytes: &[u8]) -> Result<Verdict, CheckFault>
-    // What the verdict says of the bytes holds.
-    ensures verdict { IfOk result (IsVerdict (problem_of inputs.now) (records_of bytes.now)) }
-
-    // Everything that is checked before the record and the reason of a rejection is right.
-    ensures first { IfOk result (IsFirst (problem_of inputs.now) (records_of bytes.now)) }
-
-    // An accepted certificate names the optimum and its total, whoever made it.
-    ensures optimum { IfOk result (IsOptimal (problem_of inputs.now)) }
-
-    // A valid certificate is accepted, unless memory runs out.
-    ensures accepted { (c : Cert) → Spells (records_of bytes.now) c → IsValid (problem_of inputs.now) c
-        → IfOk result (λ v. v ≡ Verdict.Accepted c.best c.total) }
+    // What the verdict says of the bytes holds, everything that is checked before a rejection is
+    // right, an accepted certificate names the optimum and its total, whoever made it, and a valid
+    // one is accepted, unless memory runs out.
+    ensures verdict { IfOk result (IsRightVerdict (problem_of inputs.now) (records_of bytes.now)) }
 {
     watched_check(alloc, inputs, bytes, &mut Silent)
 }
@@ -71,25 +59,16 @@ pub fn check(alloc: Global, inputs: &Inputs, bytes: &[u8]) -> Result<Verdict, Ch
 /// # Errors
 ///
 /// `OutOfMemory` if an allocation failed.
-#[tactic(auto, using(crate::proofs::Verdicts::verdicts))]
 pub fn watched_check<T: Watcher>(
     alloc: Global,
     inputs: &Inputs,
     bytes: &[u8],
     watcher: &mut T,
 ) -> Result<Verdict, CheckFault>
-    // What the verdict says of the bytes holds.
-    ensures verdict { IfOk result (IsVerdict (problem_of inputs.now) (records_of bytes.now)) }
-
-    // Everything that is checked before the record and the reason of a rejection is right.
-    ensures first { IfOk result (IsFirst (problem_of inputs.now) (records_of bytes.now)) }
-
-    // An accepted certificate names the optimum and its total, whoever made it.
-    ensures optimum { IfOk result (IsOptimal (problem_of inputs.now)) }
-
-    // A valid certificate is accepted, unless memory runs out.
-    ensures accepted { (c : Cert) → Spells (records_of bytes.now) c → IsValid (problem_of inputs.now) c
-        → IfOk result (λ v. v ≡ Verdict.Accepted c.best c.total) }
+    // What the verdict says of the bytes holds, everything that is checked before a rejection is
+    // right, an accepted certificate names the optimum and its total, whoever made it, and a valid
+    // one is accepted, unless memory runs out.
+    ensures verdict { IfOk result (IsRightVerdict (problem_of inputs.now) (records_of bytes.now)) }
 {
     match read_cert(alloc, bytes) {
         Ok(cert) => check_cert(alloc, inputs, &cert, watcher),

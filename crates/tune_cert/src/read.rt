@@ -6,16 +6,16 @@ ghost use Rattle.std.specs.Fmt.{decimal};
 ghost use Rattle.tune_cert.specs.CertText.{count_fields, best_fields, kind_text, last_text, row_fields, item_text, spaced_text};
 ghost use Rattle.tune_cert.specs.Spelling.{IsNumber, IsVersion, Spells, IsRow, IsItem, IsReadRefusal};
 ghost use Rattle.tune_cert.specs.Steps.{AreRows, IsBadCount, IsBadBest, IsBadRow, AreSpaced, AreItems};
-ghost use Rattle.tune_cert.specs.declared.cert.Row.{Row};
-ghost use Rattle.tune_cert.specs.declared.cert.Cert.{Cert};
+ghost use Rattle.tune_problem.specs.declared.cert.Row.{Row};
+ghost use Rattle.tune_problem.specs.declared.cert.Cert.{Cert};
 ghost use Rattle.mars_fight.specs.Play.{ArePoints};
 
-use crate::cert::{Cert, Listing, Row, Rows};
 use crate::fault::ReadFault;
 use csv::ByteRecord;
 use mars_fight::{Records, three_fields};
 use rc_instr::{OutOfMemory, after, decimal_at, decimal_of};
 use std::alloc::Global;
+use tune_problem::{Cert, Listing, Row, Rows};
 
 /// Parses a certificate, without judging it: `check` compares it with the inputs of a tuning.
 ///

@@ -3,23 +3,24 @@ ghost use Rattle.std.specs.Prelude.{◌≡◌, ◌↔◌, ◌<◌, None, Some, I
 ghost use Rattle.rc_instr.specs.Warrior.{Fits};
 ghost use Rattle.mars_core.specs.Arena.{IsBlank};
 ghost use Rattle.mars_fight.specs.Limits.{MOST_FIGHTS, MOST_WEIGHT};
-ghost use Rattle.tune_cert.specs.Problem.{problem_of};
-ghost use Rattle.tune_cert.specs.Valid.{IsCapRow, IsRightRow, listed_total};
+ghost use Rattle.tune_problem.specs.Problem.{problem_of};
+ghost use Rattle.tune_problem.specs.Valid.{IsCapRow, IsRightRow, listed_total};
 ghost use Rattle.tune_cert.specs.Verdict.{Rises, HavePoints, IsWrongRefused, IsWrongCap, IsWrong, IsWrongSame, IsBestRow, IsRightAlone, IsFirstOfCap, AreRightAlone, IsRightSame, IsFirstOfSame};
 ghost use Rattle.tune_cert.specs.Steps.{IsFirstAlone, IsFirstSame, AreNumbers, AreAssembled, listed_most, listed_cap};
-ghost use Rattle.tune_cert.specs.declared.cert.Row.TheVariants.{Cap, Same};
+ghost use Rattle.tune_problem.specs.declared.cert.Row.TheVariants.{Cap, Same};
 ghost use Rattle.rc_instr.specs.Warrior.{WarriorView};
-ghost use Rattle.tune_cert.specs.Optimum.{beats};
+ghost use Rattle.tune_problem.specs.Optimum.{beats};
 
-use crate::cert::{Cert, Row};
 use crate::fault::CheckFault;
-use crate::problem::{fight_count, fight_points, fight_weight, greatest_total, setting_warrior};
 use crate::verdict::Reason;
 use crate::warriors::assemble_once;
 use mars_core::{Arena, PackedCells};
 use mars_fight::MOST_POINTS;
 use rc_instr::{Instruction, Warrior};
 use std::alloc::Global;
+use tune_problem::{
+    Cert, Row, fight_count, fight_points, fight_weight, greatest_total, setting_warrior,
+};
 use tune_template::Inputs;
 
 // Checks a refused or a cap row, and passes over a row that refers to another setting.
@@ -306,7 +307,7 @@ fn listed_most(inputs: &Inputs, listed: &[(u32, u8)]) -> u32
 }
 
 // Returns the cap of a row: the scores that it lists, and the most that the other fights can give.
-#[tactic(auto, using(crate::proofs::CapRows::besides_row))]
+#[tactic(auto, using(crate::proofs::ListedCaps::besides_row))]
 fn listed_cap(inputs: &Inputs, listed: &[(u32, u8)]) -> u32
     requires row { (w : WarriorView) × IsCapRow (problem_of inputs.now) w 0 listed.now }
     ensures { result ≡ listed_cap (problem_of inputs.now) listed.now }

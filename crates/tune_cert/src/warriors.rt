@@ -1,11 +1,11 @@
 //! The warriors of settings to which rows refer, kept so that each is assembled once.
 ghost use Rattle.std.specs.Prelude.{◌≡◌, ◌<◌, None, Some, slice_get, replicate, IfOk, OnOk};
-ghost use Rattle.tune_cert.specs.Problem.{problem_of};
+ghost use Rattle.tune_problem.specs.Problem.{problem_of};
 ghost use Rattle.tune_cert.specs.Steps.{AreAssembled};
 
-use crate::problem::setting_warrior;
 use rc_instr::{OutOfMemory, Warrior};
 use std::alloc::{AllocError, Global};
+use tune_problem::setting_warrior;
 use tune_template::Inputs;
 
 // Returns `None` for each of `count` settings: no warrior is made yet.

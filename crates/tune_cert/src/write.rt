@@ -3,17 +3,18 @@ ghost use Rattle.std.specs.Prelude.{◌≡◌, ◌<◌, ◌↔◌, ◌^◌, ◌+
 ghost use Rattle.std.specs.Fmt.{decimal};
 ghost use Rattle.std.specs.Io.KnownBytes.{Appends};
 ghost use Rattle.csv.specs.Writing.{default_writer, row_text, text_written};
-ghost use Rattle.tune_cert.specs.CertText.{item_text, spaced_text, list_text, row_fields, rows_fields, count_fields, best_fields, records_text, cert_text, cert_of};
+ghost use Rattle.tune_cert.specs.CertText.{item_text, spaced_text, list_text, row_fields, rows_fields, count_fields, best_fields, records_text, cert_text};
+ghost use Rattle.tune_problem.specs.Valid.{cert_of};
 ghost use Rattle.tune_cert.specs.Spelling.{IsVersion};
 ghost use Rattle.tune_cert.specs.Steps.{IsReady};
 
-use crate::cert::{Found, Row};
 use crate::fault::CertFault;
 use csv::{Writer, WriterBuilder};
 use itoa::Buffer;
 use rc_instr::{OutOfMemory, Outlet};
 use std::alloc::Global;
 use std::io::Write;
+use tune_problem::{Found, Row};
 
 /// Writes the certificate of what a search found.
 ///

@@ -3,10 +3,10 @@ use Rattle.std.proofs.Common.{◌≡◌, ◌≢◌, ℕ, zero, suc, ◌+◌, ◌
 use Rattle.std.specs.List.{slice_get, count_by, range_with_len}
 use Rattle.std.proofs.lemmas.Bool.Decides.{nat_tests, leb_tells}
 use Rattle.rc_instr.specs.Warrior.{WarriorView}
-use Rattle.tune_cert.specs.Problem.{Problem}
-use Rattle.tune_cert.specs.declared.cert.Found.{Found}
-use Rattle.tune_cert.specs.declared.cert.Row.TheVariants.{Cap}
-use Rattle.tune_cert.proofs.Certificates.{same_number}
+use Rattle.tune_problem.specs.Problem.{Problem}
+use Rattle.tune_problem.specs.declared.cert.Found.{Found}
+use Rattle.tune_problem.specs.declared.cert.Row.TheVariants.{Cap}
+use Rattle.tune_problem.proofs.Certificates.{same_number}
 use Rattle.tune_search.specs.Visits.{place, visit}
 use Rattle.tune_search.specs.Recent.{Has, IsRecalled, IsRecent, NoneHas}
 use Rattle.tune_search.specs.Sharing.{HasRowOf}

@@ -8,9 +8,9 @@ use Rattle.std.proofs.lemmas.Grind.{common_steps}
 use Rattle.rc_instr.specs.Warrior.{WarriorView}
 use Rattle.mars_fight.specs.Limits.{MOST_WEIGHT}
 use Rattle.mars_fight.specs.Play.{ArePoints}
-use Rattle.tune_cert.specs.Problem.{Problem}
-use Rattle.tune_cert.specs.Optimum.{all_fights, score_of, most_of, greatest_of, cap_of}
-use Rattle.tune_cert.proofs.CapRows.{cap_is}
+use Rattle.tune_problem.specs.Problem.{Problem}
+use Rattle.tune_problem.specs.Optimum.{all_fights, score_of, most_of, greatest_of, cap_of}
+use Rattle.tune_problem.proofs.CapRows.{cap_is}
 use Rattle.tune_search.specs.Plays.{played}
 
 -- what is missed of 3 points and what is made are 3 times the weight together

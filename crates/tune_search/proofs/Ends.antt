@@ -1,13 +1,15 @@
 -- What was found after all vectors.
-use Rattle.std.proofs.Common.{◌≡◌, ℕ, ◌*◌, ◌<◌, ◌≤◌, arith, List, Option, Some, None, ◌∙◌, ap, sym, subst, map, length}
+use Rattle.std.proofs.Common.{◌≡◌, ℕ, ◌*◌, ◌<◌, ◌≤◌, arith, List, Option, Some, None, refl, ◌∙◌, ap, sym, subst, map, length}
 use Rattle.std.specs.List.{range_with_len}
-use Rattle.tune_cert.specs.Problem.{Problem}
-use Rattle.tune_cert.specs.Optimum.{total_of, HasTotal, IsOptimum, candidates_of}
-use Rattle.tune_cert.specs.declared.cert.Row.{Row}
+use Rattle.tune_template.specs.Limits.{MOST_SETTINGS}
+use Rattle.tune_problem.specs.Problem.{Problem}
+use Rattle.tune_problem.specs.Optimum.{total_of, HasTotal, IsOptimum, candidates_of}
+use Rattle.tune_problem.specs.declared.cert.Row.{Row}
 use Rattle.tune_search.specs.Plays.{row_of, rows_of}
+use Rattle.tune_search.specs.PlainFound.{IsPlainSearch}
 use Rattle.tune_search.specs.Progress.{IsBest, IsLead, IsProgress}
 use Rattle.tune_search.specs.declared.lead.Lead.{Lead}
-use Rattle.tune_cert.specs.Valid.{listed_fights, IsOwnVersion, IsValid}
+use Rattle.tune_problem.specs.Valid.{listed_fights, IsOwnVersion, IsValid}
 use Rattle.tune_search.proofs.Listed.{listed_rows}
 use Rattle.tune_search.proofs.Rightness.{own_version, rows_valid}
 
@@ -50,3 +52,24 @@ module _ (p : Problem) (k : ℕ) (rows : List Row) (lead : Option Lead) (candida
 
   pub ends_valid : (version : ℕ) → IsOwnVersion p version → (best : Lead) → lead ≡ Some best → IsValid p (record { version = version; count = length rows; best = best.vector; total = best.total; rows = rows })
   ends_valid version own best is = rows_valid p rows ends_rows version best.vector best.total (own_version p version own) (ends_best best is)
+
+  -- all that a plain search promises
+  pub ends_found : (version : ℕ) → IsOwnVersion p version → (best : Lead) → lead ≡ Some best → p.count ≤ MOST_SETTINGS →
+      IsPlainSearch p (record { version = version; best = best.vector; total = best.total; rows = rows; fights = fights; candidates = candidates; copied = None })
+  ends_found version own best is few =
+      let valid = ends_valid version own best is in
+      let as_many : length rows ≡ p.count = valid.rows_are in
+      record {
+        found = record {
+          optimum = ends_optimum best is;
+          total_is = ends_total best is;
+          valid = valid;
+          version = own;
+          count = ends_candidates;
+          few = omega (arith, as_many, few);
+        };
+        rows = ends_rows;
+        work = h.work;
+        listed = ends_listed;
+        copied = refl;
+      }

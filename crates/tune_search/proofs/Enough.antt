@@ -1,8 +1,8 @@
 -- When a vector has fought enough.
 use Rattle.std.proofs.Common.{◌≡◌, ℕ, ◌<◌, ◌≤◌, arith, Bool, true, false, not, List, take, Option, ap, ◌⊎◌, inl, inr}
 use Rattle.rc_instr.specs.Warrior.{WarriorView}
-use Rattle.tune_cert.specs.Problem.{Problem}
-use Rattle.tune_cert.specs.Optimum.{cap_of}
+use Rattle.tune_problem.specs.Problem.{Problem}
+use Rattle.tune_problem.specs.Optimum.{cap_of}
 use Rattle.tune_search.specs.Order.{beats_lead, enough}
 use Rattle.tune_search.specs.declared.lead.Lead.{Lead}
 use Rattle.mars_core.proofs.Least.{least_is, least_is_least}

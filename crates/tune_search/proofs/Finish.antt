@@ -9,14 +9,14 @@ use Rattle.std.proofs.lemmas.Option.{slice_get_within}
 use Rattle.rc_instr.specs.Rules.{RulesView}
 use Rattle.rc_instr.specs.Warrior.{WarriorView}
 use Rattle.tune_template.specs.Limits.{MOST_SETTINGS}
-use Rattle.tune_cert.specs.Problem.{IsProblem, Problem}
-use Rattle.tune_cert.specs.Optimum.{HasTotal, IsOptimum, all_fights, candidates_of, cap_of, total_of}
-use Rattle.tune_cert.specs.Valid.{IsOwnVersion, IsVersionOf, IsCapRow, IsRightRow, IsValid, listed_fights, listed_in, numbers}
-use Rattle.tune_cert.specs.declared.cert.Row.{Row}
-use Rattle.tune_cert.specs.declared.cert.Cert.{Cert}
-use Rattle.tune_cert.specs.declared.cert.Row.TheVariants.{Cap, Refused, Same}
-use Rattle.tune_cert.proofs.Certificates.{Trails, not_beats, same_number, some_is, trails}
-use Rattle.tune_cert.proofs.CapRows.{row_total}
+use Rattle.tune_problem.specs.Problem.{IsProblem, Problem}
+use Rattle.tune_problem.specs.Optimum.{HasTotal, IsOptimum, all_fights, candidates_of, cap_of, total_of}
+use Rattle.tune_problem.specs.Valid.{IsOwnVersion, IsVersionOf, IsCapRow, IsRightRow, IsValid, listed_fights, listed_in, numbers}
+use Rattle.tune_problem.specs.declared.cert.Row.{Row}
+use Rattle.tune_problem.specs.declared.cert.Cert.{Cert}
+use Rattle.tune_problem.specs.declared.cert.Row.TheVariants.{Cap, Refused, Same}
+use Rattle.tune_problem.proofs.Certificates.{Trails, not_beats, same_number, some_is, trails}
+use Rattle.tune_problem.proofs.CapRows.{row_total}
 use Rattle.tune_search.specs.Order.{beats_lead, enough, fight_order}
 use Rattle.tune_search.specs.Visits.{IsBestAfter, IsFought, IsLeadAfter, place}
 use Rattle.tune_search.specs.Sharing.{HasRowOf, IsExplained, IsVisited}

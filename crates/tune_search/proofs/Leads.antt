@@ -2,9 +2,9 @@
 use Rattle.std.proofs.Common.{◌≡◌, ℕ, suc, ◌<◌, ◌≤◌, arith, Bool, true, false, not, ◌&&◌, nat_lt, ◌==◌, List, Option, Some, None, take, refl, sym, ◌∙◌, ap, ◌⊎◌, inl, inr}
 use Rattle.std.proofs.lemmas.Bool.Decides.{nat_tests, leb_tells}
 use Rattle.rc_instr.specs.Warrior.{WarriorView}
-use Rattle.tune_cert.specs.Problem.{Problem}
-use Rattle.tune_cert.specs.Optimum.{beats, cap_of, total_of}
-use Rattle.tune_cert.proofs.Certificates.{Trails, not_beats, same_number, some_is, trails}
+use Rattle.tune_problem.specs.Problem.{Problem}
+use Rattle.tune_problem.specs.Optimum.{beats, cap_of, total_of}
+use Rattle.tune_problem.proofs.Certificates.{Trails, not_beats, same_number, some_is, trails}
 use Rattle.tune_search.specs.Order.{beats_lead, enough}
 use Rattle.tune_search.specs.Visits.{IsLeadAfter, place, visit}
 use Rattle.tune_search.specs.Sharing.{copies}

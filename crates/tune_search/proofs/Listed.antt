@@ -6,9 +6,9 @@ use Rattle.std.specs.Option.{is_some}
 use Rattle.std.proofs.lemmas.List.Sums.{sum_by-cons}
 use Rattle.std.proofs.lemmas.List.FromFn.{length-map-range_with_len}
 use Rattle.rc_instr.specs.Warrior.{WarriorView}
-use Rattle.tune_cert.specs.Problem.{Problem}
-use Rattle.tune_cert.specs.Optimum.{all_fights, candidates_of}
-use Rattle.tune_cert.specs.Valid.{listed_in, listed_fights}
+use Rattle.tune_problem.specs.Problem.{Problem}
+use Rattle.tune_problem.specs.Optimum.{all_fights, candidates_of}
+use Rattle.tune_problem.specs.Valid.{listed_in, listed_fights}
 use Rattle.tune_search.specs.Plays.{played, row_with, row_of, rows_of}
 
 -- one more vector, with a warrior or without one

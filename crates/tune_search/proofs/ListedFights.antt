@@ -10,13 +10,13 @@ use Rattle.std.proofs.lemmas.List.Sorted.{sum_by-IsPermutation, length_permutati
 use Rattle.std.proofs.lemmas.List.FromFn.{length-range_with_len, get_or-range_with_len}
 use Rattle.std.proofs.lemmas.Map.Keys.{IsDistinct-IsPermutation, IsDistinct-from_apart, apart_from_distinct}
 use Rattle.rc_instr.specs.Warrior.{WarriorView}
-use Rattle.tune_cert.specs.Problem.{Problem}
-use Rattle.tune_cert.specs.Optimum.{cap_of, all_fights, score_of, most_of}
-use Rattle.tune_cert.proofs.CapRows.{cap_is}
+use Rattle.tune_problem.specs.Problem.{Problem}
+use Rattle.tune_problem.specs.Optimum.{cap_of, all_fights, score_of, most_of}
+use Rattle.tune_problem.proofs.CapRows.{cap_is}
 use Rattle.tune_search.specs.Plays.{played}
 use Rattle.tune_search.specs.Visits.{IsListed}
 use Rattle.tune_search.specs.State.{by_index}
-use Rattle.tune_cert.specs.Valid.{numbers, IsCapRow}
+use Rattle.tune_problem.specs.Valid.{numbers, IsCapRow}
 
 apart_tests : (a b : ℕ) → nat_eq a b ≡ false → a ≢ b
 apart_tests a b h e = grind (arith, nat_tests)

@@ -4,8 +4,8 @@ use Rattle.std.specs.List.Sorted.{IsPermutation}
 use Rattle.std.proofs.lemmas.List.Sorted.{IsPermutation-refl, IsPermutation-cons, IsPermutation-trans, IsPermutation-sym, IsPermutation-middle}
 use Rattle.rc_instr.specs.Warrior.{WarriorView}
 use Rattle.mars_fight.specs.Play.{ArePoints}
-use Rattle.tune_cert.specs.Problem.{Problem, IsProblem}
-use Rattle.tune_cert.specs.Optimum.{all_fights}
+use Rattle.tune_problem.specs.Problem.{Problem, IsProblem}
+use Rattle.tune_problem.specs.Optimum.{all_fights}
 use Rattle.tune_search.specs.Plays.{played}
 use Rattle.tune_search.specs.Order.{with_points, by_points, order_after, fight_order}
 

@@ -9,9 +9,9 @@ use Rattle.rc_instr.specs.Rules.{IsRules, RulesView}
 use Rattle.rc_instr.specs.Warrior.{Fits, IsWarrior, WarriorView}
 use Rattle.rc_instr.specs.LoadText.{load_text}
 use Rattle.rc_instr.proofs.Loads.{load_law}
-use Rattle.tune_cert.specs.Problem.{Problem}
-use Rattle.tune_cert.specs.declared.cert.Row.{Row}
-use Rattle.tune_cert.proofs.Certificates.{some_is}
+use Rattle.tune_problem.specs.Problem.{Problem}
+use Rattle.tune_problem.specs.declared.cert.Row.{Row}
+use Rattle.tune_problem.proofs.Certificates.{some_is}
 use Rattle.tune_search.specs.Recent.{Has, NoneHas}
 use Rattle.tune_search.specs.Cache.{same_text}
 use Rattle.tune_search.specs.State.{IsKnown}

@@ -4,14 +4,14 @@ use Rattle.std.specs.List.{range_with_len, sum_by, slice_get}
 use Rattle.std.proofs.lemmas.Option.{slice_get_within, slice_get-get_or}
 use Rattle.std.proofs.lemmas.List.FromFn.{length-map-range_with_len, get_or-map-range_with_len}
 use Rattle.rc_instr.specs.Warrior.{WarriorView}
-use Rattle.tune_cert.specs.Problem.{Problem}
-use Rattle.tune_cert.specs.Optimum.{total_of, all_fights, cap_of, score_of}
-use Rattle.tune_cert.specs.Valid.{numbers, listed_total, IsCapRow, IsRightRow, IsVersionOf, IsOwnVersion, IsValid}
-use Rattle.tune_cert.specs.declared.cert.Cert.{Cert}
-use Rattle.tune_cert.specs.declared.cert.Row.{Row}
-use Rattle.tune_cert.specs.declared.cert.Row.TheVariants.{Refused}
-use Rattle.tune_cert.proofs.Certificates.{Trails, not_beats, some_is}
-use Rattle.tune_cert.proofs.CapRows.{row_sum, cap_is}
+use Rattle.tune_problem.specs.Problem.{Problem}
+use Rattle.tune_problem.specs.Optimum.{total_of, all_fights, cap_of, score_of}
+use Rattle.tune_problem.specs.Valid.{numbers, listed_total, IsCapRow, IsRightRow, IsVersionOf, IsOwnVersion, IsValid}
+use Rattle.tune_problem.specs.declared.cert.Cert.{Cert}
+use Rattle.tune_problem.specs.declared.cert.Row.{Row}
+use Rattle.tune_problem.specs.declared.cert.Row.TheVariants.{Refused}
+use Rattle.tune_problem.proofs.Certificates.{Trails, not_beats, some_is}
+use Rattle.tune_problem.proofs.CapRows.{row_sum, cap_is}
 use Rattle.tune_search.specs.Plays.{played, row_with, row_of, rows_of}
 use Rattle.tune_search.specs.Progress.{IsBest}
 

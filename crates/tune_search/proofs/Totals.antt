@@ -6,9 +6,9 @@ use Rattle.std.proofs.lemmas.List.Sums.{sum_by-take-drop}
 use Rattle.std.proofs.lemmas.List.Sorted.{sum_by-IsPermutation, length_permutation}
 use Rattle.std.proofs.lemmas.List.FromFn.{length-range_with_len}
 use Rattle.rc_instr.specs.Warrior.{WarriorView}
-use Rattle.tune_cert.specs.Problem.{Problem, IsProblem}
-use Rattle.tune_cert.specs.Optimum.{total_of, cap_of, all_fights, score_of, most_of}
-use Rattle.tune_cert.proofs.CapRows.{scores_most, cap_is}
+use Rattle.tune_problem.specs.Problem.{Problem, IsProblem}
+use Rattle.tune_problem.specs.Optimum.{total_of, cap_of, all_fights, score_of, most_of}
+use Rattle.tune_problem.proofs.CapRows.{scores_most, cap_is}
 
 pub order_length : (p : Problem) (order : List ℕ) → IsPermutation (all_fights p) order → length order ≡ p.fights
 order_length p order h = length_permutation (all_fights p) order h ∙ length-range_with_len 0 p.fights

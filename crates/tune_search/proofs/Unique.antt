@@ -1,8 +1,8 @@
 -- There is one lead, and one list of recent settings.
 use Rattle.std.proofs.Common.{◌≡◌, ◌≢◌, ℕ, zero, suc, ◌≤◌, arith, List, [], ◌∷◌, ◌++◌, Option, Some, None, take, refl, sym, ◌∙◌, ap, inl, inr, subst}
 use Rattle.rc_instr.specs.Warrior.{WarriorView}
-use Rattle.tune_cert.specs.Problem.{Problem}
-use Rattle.tune_cert.proofs.Certificates.{Trails, trails}
+use Rattle.tune_problem.specs.Problem.{Problem}
+use Rattle.tune_problem.proofs.Certificates.{Trails, trails}
 use Rattle.tune_search.specs.Visits.{IsBestAfter, IsLeadAfter, visit}
 use Rattle.tune_search.specs.Recent.{IsRecalled, IsRecent, NoneHas}
 use Rattle.tune_search.specs.declared.lead.Lead.{Lead}

@@ -12,11 +12,11 @@ use Rattle.rc_instr.specs.Rules.{IsRules, RulesView}
 use Rattle.rc_instr.specs.Warrior.{Fits, IsWarrior, WarriorView}
 use Rattle.rc_instr.specs.LoadText.{load_text}
 use Rattle.mars_fight.specs.Limits.{MOST_FIGHTS}
-use Rattle.tune_cert.specs.Problem.{IsProblem, Problem}
-use Rattle.tune_cert.specs.Optimum.{all_fights, cap_of, total_of}
-use Rattle.tune_cert.specs.declared.cert.Row.{Row}
-use Rattle.tune_cert.specs.declared.cert.Row.TheVariants.{Cap, Refused, Same}
-use Rattle.tune_cert.proofs.Certificates.{some_is}
+use Rattle.tune_problem.specs.Problem.{IsProblem, Problem}
+use Rattle.tune_problem.specs.Optimum.{all_fights, cap_of, total_of}
+use Rattle.tune_problem.specs.declared.cert.Row.{Row}
+use Rattle.tune_problem.specs.declared.cert.Row.TheVariants.{Cap, Refused, Same}
+use Rattle.tune_problem.proofs.Certificates.{some_is}
 use Rattle.tune_search.specs.Plays.{played}
 use Rattle.tune_search.specs.Order.{beats_lead, by_points, enough, fight_order, order_after}
 use Rattle.tune_search.specs.Visits.{IsFought, IsLeadAfter, IsListed, place, visit}

@@ -6,10 +6,10 @@ use Rattle.std.specs.Option.{is_some}
 use Rattle.std.proofs.lemmas.Bool.Decides.{nat_tests, leb_tells}
 use Rattle.rc_instr.specs.Warrior.{WarriorView}
 use Rattle.mars_fight.specs.Limits.{MOST_FIGHTS}
-use Rattle.tune_cert.specs.Problem.{Problem}
-use Rattle.tune_cert.specs.Optimum.{total_of, all_fights}
-use Rattle.tune_cert.specs.declared.cert.Row.{Row}
-use Rattle.tune_cert.specs.declared.cert.Row.TheVariants.{Refused, Cap}
+use Rattle.tune_problem.specs.Problem.{Problem}
+use Rattle.tune_problem.specs.Optimum.{total_of, all_fights}
+use Rattle.tune_problem.specs.declared.cert.Row.{Row}
+use Rattle.tune_problem.specs.declared.cert.Row.TheVariants.{Refused, Cap}
 use Rattle.tune_search.specs.Plays.{played, row_with, row_of}
 use Rattle.tune_search.specs.Progress.{IsBest, IsLead, lead_after, IsProgress}
 use Rattle.tune_search.specs.declared.lead.Lead.{Lead}

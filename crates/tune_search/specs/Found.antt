@@ -3,13 +3,12 @@ use Rattle.std.specs.Prelude.{◌≡◌, ◌≢◌, ℕ, ◌+◌, ◌<◌, ◌�
 use Rattle.std.specs.List.{count_by, range_with_len}
 use Rattle.rc_instr.specs.Warrior.{WarriorView}
 use Rattle.tune_template.specs.Limits.{MOST_SETTINGS}
-use Rattle.tune_cert.specs.Problem.{Problem}
-use Rattle.tune_cert.specs.Optimum.{IsOptimum, HasTotal, candidates_of}
-use Rattle.tune_cert.specs.Valid.{IsOwnVersion, IsValid, listed_in, listed_fights}
-use Rattle.tune_cert.specs.CertText.{cert_of}
-use Rattle.tune_cert.specs.declared.cert.Found.{Found}
-use Rattle.tune_cert.specs.declared.cert.Row.{Row}
-use Rattle.tune_cert.specs.declared.cert.Row.TheVariants.{Refused, Cap}
+use Rattle.tune_problem.specs.Problem.{Problem}
+use Rattle.tune_problem.specs.Optimum.{IsOptimum, HasTotal, candidates_of}
+use Rattle.tune_problem.specs.Valid.{IsOwnVersion, IsValid, listed_in, listed_fights, cert_of}
+use Rattle.tune_problem.specs.declared.cert.Found.{Found}
+use Rattle.tune_problem.specs.declared.cert.Row.{Row}
+use Rattle.tune_problem.specs.declared.cert.Row.TheVariants.{Refused, Cap}
 use Rattle.tune_search.specs.Visits.{IsFought}
 use Rattle.tune_search.specs.Sharing.{IsVisited}
 

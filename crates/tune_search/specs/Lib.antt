@@ -11,5 +11,6 @@ pub mod Visits
 pub mod Recent
 pub mod Sharing
 pub mod Found
+pub mod PlainFound
 pub mod Cache
 pub mod State

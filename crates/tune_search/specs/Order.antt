@@ -3,8 +3,8 @@ use Rattle.std.specs.Prelude.{ℕ, Bool, true, false, not, ◌==◌, List, ◌++
 use Rattle.std.specs.List.{filter}
 use Rattle.rc_instr.specs.Warrior.{WarriorView}
 use Rattle.mars_core.specs.Fight.{least}
-use Rattle.tune_cert.specs.Problem.{Problem}
-use Rattle.tune_cert.specs.Optimum.{all_fights, cap_of, beats}
+use Rattle.tune_problem.specs.Problem.{Problem}
+use Rattle.tune_problem.specs.Optimum.{all_fights, cap_of, beats}
 use Rattle.tune_search.specs.Plays.{played}
 use Rattle.tune_search.specs.declared.lead.Lead.{Lead}
 

@@ -4,9 +4,9 @@ use Rattle.std.specs.List.{count_by, range_with_len}
 use Rattle.std.specs.Option.{is_some}
 use Rattle.rc_instr.specs.Warrior.{WarriorView}
 use Rattle.mars_fight.specs.Limits.{MOST_FIGHTS}
-use Rattle.tune_cert.specs.Problem.{Problem}
-use Rattle.tune_cert.specs.Optimum.{total_of}
-use Rattle.tune_cert.specs.declared.cert.Row.{Row}
+use Rattle.tune_problem.specs.Problem.{Problem}
+use Rattle.tune_problem.specs.Optimum.{total_of}
+use Rattle.tune_problem.specs.declared.cert.Row.{Row}
 use Rattle.tune_search.specs.Plays.{row_of}
 use Rattle.tune_search.specs.declared.lead.Lead.{Lead}
 use Rattle.tune_search.specs.declared.progress.Progress.{Progress}

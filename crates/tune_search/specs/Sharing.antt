@@ -1,9 +1,9 @@
 -- Which settings are fought, and what the others share.
 use Rattle.std.specs.Prelude.{◌≡◌, ◌≢◌, ℕ, ◌<◌, ◌⊎◌, Bool, true, false, ◌&&◌, nat_lt, ◌==◌, List, slice_get, Option, Some, None}
 use Rattle.rc_instr.specs.Warrior.{WarriorView}
-use Rattle.tune_cert.specs.Problem.{Problem}
-use Rattle.tune_cert.specs.declared.cert.Row.{Row}
-use Rattle.tune_cert.specs.declared.cert.Row.TheVariants.{Refused, Same}
+use Rattle.tune_problem.specs.Problem.{Problem}
+use Rattle.tune_problem.specs.declared.cert.Row.{Row}
+use Rattle.tune_problem.specs.declared.cert.Row.TheVariants.{Refused, Same}
 use Rattle.tune_search.specs.Visits.{place, IsLeadAfter, IsFought}
 use Rattle.tune_search.specs.Recent.{NoneHas, Has, IsRecent}
 use Rattle.tune_search.specs.declared.lead.Lead.{Lead}

@@ -8,10 +8,10 @@ use Rattle.rc_instr.specs.Warrior.{WarriorView, IsWarrior, Fits}
 use Rattle.rc_instr.specs.LoadText.{load_text}
 use Rattle.mars_fight.specs.Limits.{MOST_FIGHTS}
 use Rattle.tune_template.specs.Instances.{InputsView}
-use Rattle.tune_cert.specs.Problem.{Problem, problem_of}
-use Rattle.tune_cert.specs.Valid.{listed_fights}
-use Rattle.tune_cert.specs.declared.cert.Row.{Row}
-use Rattle.tune_cert.specs.declared.cert.Row.TheVariants.{Refused, Same, Cap}
+use Rattle.tune_problem.specs.Problem.{Problem, problem_of}
+use Rattle.tune_problem.specs.Valid.{listed_fights}
+use Rattle.tune_problem.specs.declared.cert.Row.{Row}
+use Rattle.tune_problem.specs.declared.cert.Row.TheVariants.{Refused, Same, Cap}
 use Rattle.tune_search.specs.Order.{beats_lead, order_after}
 use Rattle.tune_search.specs.Visits.{place, IsLeadAfter, IsFought}
 use Rattle.tune_search.specs.Recent.{IsRecent}

@@ -1,12 +1,12 @@
 //! Settings that assemble.
 ghost use Rattle.std.specs.Prelude.{◌≡◌, ◌<◌, None, IfOk, IfErr, IfSome, IfNone};
-ghost use Rattle.tune_cert.specs.Problem.{problem_of};
+ghost use Rattle.tune_problem.specs.Problem.{problem_of};
 ghost use Rattle.tune_search.specs.State.{IsCandidateAt};
 
 use crate::fault::SearchFault;
 use rc_instr::{Warrior, write_loadfile};
 use std::alloc::Global;
-use tune_cert::setting_warrior;
+use tune_problem::setting_warrior;
 use tune_template::Inputs;
 
 // A setting that assembles, its warrior, and the load file of that.

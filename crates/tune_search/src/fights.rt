@@ -3,8 +3,8 @@ ghost use Rattle.std.specs.Prelude.{◌≡◌, ◌<◌, ◌≤◌, length, take,
 ghost use Rattle.rc_instr.specs.Warrior.{Fits};
 ghost use Rattle.mars_core.specs.Arena.{IsBlank};
 ghost use Rattle.mars_fight.specs.Limits.{MOST_FIGHTS};
-ghost use Rattle.tune_cert.specs.Problem.{problem_of};
-ghost use Rattle.tune_cert.specs.Optimum.{all_fights, total_of, cap_of};
+ghost use Rattle.tune_problem.specs.Problem.{problem_of};
+ghost use Rattle.tune_problem.specs.Optimum.{all_fights, total_of, cap_of};
 ghost use Rattle.std.specs.List.Sorted.{IsPermutation};
 ghost use Rattle.tune_search.specs.Order.{enough};
 ghost use Rattle.tune_search.specs.Plays.{played};
@@ -14,7 +14,7 @@ use mars_core::{Arena, PackedCells};
 use mars_fight::MOST_POINTS;
 use rc_instr::Warrior;
 use std::alloc::{AllocError, Global};
-use tune_cert::{fight_points, fight_weight, greatest_total};
+use tune_problem::{fight_points, fight_weight, greatest_total};
 use tune_template::Inputs;
 
 // Fights of a warrior in the order in which they were played, each with its points, and the cap of
@@ -26,7 +26,7 @@ pub(crate) struct Bout {
 }
 
 // Plays all fights of the schedule, in order.
-#[tactic(auto, unfolding(tune_cert::specs::Optimum::total_of))]
+#[tactic(auto, unfolding(tune_problem::specs::Optimum::total_of))]
 pub(crate) fn play_all(
     alloc: Global,
     arena: &mut Arena<PackedCells>,

@@ -1,13 +1,13 @@
 //! Laws of the search. A law is a function with an empty body: its contract is what is proved.
 ghost use Rattle.std.specs.Prelude.{◌≡◌, ◌<◌, ◌≤◌, ℕ, List, Option, Some, true};
 ghost use Rattle.rc_instr.specs.Warrior.{WarriorView};
-ghost use Rattle.tune_cert.specs.Problem.{Problem};
+ghost use Rattle.tune_problem.specs.Problem.{Problem};
 ghost use Rattle.tune_search.specs.Visits.{IsLeadAfter};
 ghost use Rattle.tune_search.specs.Recent.{IsRecent};
 ghost use Rattle.tune_search.specs.Found.{IsSearch, was_fought, fought_count};
 
 use crate::lead::Lead;
-use tune_cert::Found;
+use tune_problem::Found;
 
 /// States that after any number of visits there is at most one value of the lead, `None` included,
 /// and at most one list of recent settings.

@@ -4,7 +4,7 @@ ghost use Rattle.tune_search.specs.Order.{beats_lead};
 ghost use Rattle.tune_search.specs.Sharing.{copies};
 ghost use Rattle.tune_search.specs.State.{next_lead, lead_taken};
 
-use tune_cert::Best;
+use tune_problem::Best;
 
 // The best setting so far, and its total.
 #[derive(Clone, Copy)]

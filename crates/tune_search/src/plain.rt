@@ -1,11 +1,7 @@
 //! The search that plays every fight of every setting.
-ghost use Rattle.std.specs.Prelude.{◌≡◌, ◌*◌, ◌<◌, ◌≤◌, ℕ, None, length, IfOk, IfErr};
-ghost use Rattle.tune_template.specs.Limits.{MOST_SETTINGS};
-ghost use Rattle.tune_cert.specs.Problem.{problem_of};
-ghost use Rattle.tune_cert.specs.Optimum.{IsOptimum, HasTotal, candidates_of};
-ghost use Rattle.tune_cert.specs.Valid.{IsOwnVersion, IsValid, listed_fights};
-ghost use Rattle.tune_cert.specs.CertText.{cert_of};
-ghost use Rattle.tune_search.specs.Plays.{rows_of};
+ghost use Rattle.std.specs.Prelude.{◌≡◌, ◌<◌, ℕ, None, IfOk, IfErr};
+ghost use Rattle.tune_problem.specs.Problem.{problem_of};
+ghost use Rattle.tune_search.specs.PlainFound.{IsPlainSearch};
 
 use crate::counts::setting_count;
 use crate::fault::SearchFault;
@@ -13,7 +9,7 @@ use crate::lead::best_of;
 use crate::progress::Progress;
 use mars_core::{Arena, PackedCells};
 use std::alloc::Global;
-use tune_cert::{Found, Rows, Silent, Standing, Watcher, cert_version};
+use tune_problem::{Found, Rows, Silent, Standing, Watcher, cert_version};
 use tune_template::Inputs;
 
 /// Finds the optimum: the first setting of the template with the greatest total in the fights of
@@ -27,16 +23,9 @@ use tune_template::Inputs;
 ///
 /// `NoCandidate` if no setting assembles. `OutOfMemory` if an allocation failed.
 pub fn plain_search(alloc: Global, inputs: &Inputs) -> Result<Found, SearchFault>
-    ensures optimum { IfOk result (λ f. IsOptimum (problem_of inputs.now) f.best) }
-    ensures total { IfOk result (λ f. HasTotal (problem_of inputs.now) f.best f.total) }
-    ensures valid { let p = problem_of inputs.now in IfOk result (λ f. IsValid p (cert_of f)) }
-    ensures version { IfOk result (λ f. IsOwnVersion (problem_of inputs.now) f.version) }
-    ensures candidates { IfOk result (λ f. f.candidates ≡ candidates_of (problem_of inputs.now)) }
-    ensures rows { IfOk result (λ f. f.rows ≡ rows_of (problem_of inputs.now)) }
-    ensures few { IfOk result (λ f. length f.rows ≤ MOST_SETTINGS) }
-    ensures fights { IfOk result (λ f. f.fights ≡ f.candidates * (problem_of inputs.now).fights) }
-    ensures listed { IfOk result (λ f. f.fights ≡ listed_fights f.rows) }
-    ensures copied { IfOk result (λ f. f.copied ≡ None) }
+    // The best setting is the optimum, the rows are a valid certificate of it and list every fight
+    // of every candidate, and `fights` counts these.
+    ensures found { IfOk result (IsPlainSearch (problem_of inputs.now)) }
     ensures none { let p = problem_of inputs.now in IfErr result (λ e. e ≡ SearchFault.NoCandidate → (v : ℕ) → v < p.count → p.warrior v ≡ None) }
 {
     watched_plain_search(alloc, inputs, &mut Silent)
@@ -53,16 +42,9 @@ pub fn watched_plain_search<T: Watcher>(
     inputs: &Inputs,
     watcher: &mut T,
 ) -> Result<Found, SearchFault>
-    ensures optimum { IfOk result (λ f. IsOptimum (problem_of inputs.now) f.best) }
-    ensures total { IfOk result (λ f. HasTotal (problem_of inputs.now) f.best f.total) }
-    ensures valid { let p = problem_of inputs.now in IfOk result (λ f. IsValid p (cert_of f)) }
-    ensures version { IfOk result (λ f. IsOwnVersion (problem_of inputs.now) f.version) }
-    ensures candidates { IfOk result (λ f. f.candidates ≡ candidates_of (problem_of inputs.now)) }
-    ensures rows { IfOk result (λ f. f.rows ≡ rows_of (problem_of inputs.now)) }
-    ensures few { IfOk result (λ f. length f.rows ≤ MOST_SETTINGS) }
-    ensures fights { IfOk result (λ f. f.fights ≡ f.candidates * (problem_of inputs.now).fights) }
-    ensures listed { IfOk result (λ f. f.fights ≡ listed_fights f.rows) }
-    ensures copied { IfOk result (λ f. f.copied ≡ None) }
+    // The best setting is the optimum, the rows are a valid certificate of it and list every fight
+    // of every candidate, and `fights` counts these.
+    ensures found { IfOk result (IsPlainSearch (problem_of inputs.now)) }
     ensures none { let p = problem_of inputs.now in IfErr result (λ e. e ≡ SearchFault.NoCandidate → (v : ℕ) → v < p.count → p.warrior v ≡ None) }
 {
     let mut arena = Arena::<PackedCells>::try_new(alloc, inputs.rules())?;

@@ -2,7 +2,7 @@
 ghost use Rattle.std.specs.Prelude.{◌≡◌, ◌+◌, ◌<◌, ◌≤◌, ℕ, None, length, OnOk, IfOk, IfErr};
 ghost use Rattle.mars_core.specs.Arena.{IsBlank};
 ghost use Rattle.tune_template.specs.Limits.{MOST_SETTINGS};
-ghost use Rattle.tune_cert.specs.Problem.{problem_of};
+ghost use Rattle.tune_problem.specs.Problem.{problem_of};
 ghost use Rattle.tune_search.specs.Progress.{IsPlainState, lead_after};
 
 use crate::fault::SearchFault;
@@ -10,7 +10,7 @@ use crate::fights::play_all;
 use crate::lead::Lead;
 use mars_core::{Arena, PackedCells};
 use std::alloc::Global;
-use tune_cert::{Listing, Row, setting_warrior};
+use tune_problem::{Listing, Row, setting_warrior};
 use tune_template::Inputs;
 
 // The rows of the settings so far, the lead, and counts of candidates and of fights played.

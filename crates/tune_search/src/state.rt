@@ -3,21 +3,21 @@ ghost use Rattle.std.specs.Prelude.{◌≡◌, ◌+◌, ◌<◌, ◌≤◌, None
 ghost use Rattle.std.specs.Map.{lookup};
 ghost use Rattle.mars_core.specs.Arena.{IsBlank};
 ghost use Rattle.tune_template.specs.Limits.{MOST_SETTINGS};
-ghost use Rattle.tune_cert.specs.Problem.{problem_of};
+ghost use Rattle.tune_problem.specs.Problem.{problem_of};
 ghost use Rattle.tune_search.specs.Cache.{same_text};
 ghost use Rattle.tune_search.specs.Visits.{visit};
 ghost use Rattle.tune_search.specs.State.{IsCandidateAt, IsState};
 
 use crate::cache::Cache;
 use crate::candidate::{Candidate, candidate_at};
-use crate::counts::{fight_count, setting_count, start_setting};
+use crate::counts::{setting_count, start_setting};
 use crate::fault::SearchFault;
 use crate::fights::play_enough;
 use crate::lead::{Lead, copies, next_lead, take_lead};
 use crate::order::{all_in_order, learn_order, sort_by_index, visited};
 use mars_core::{Arena, PackedCells};
 use std::alloc::{AllocError, Global};
-use tune_cert::{Listing, Row};
+use tune_problem::{Listing, Row, fight_count};
 use tune_template::Inputs;
 
 // `rows` has a row for each setting, `Refused` until it is visited. `order` is that of the next

@@ -1,6 +1,6 @@
 //! The search for the optimum.
 ghost use Rattle.std.specs.Prelude.{◌≡◌, ◌<◌, ◌≤◌, ℕ, None, IfOk, IfErr};
-ghost use Rattle.tune_cert.specs.Problem.{problem_of};
+ghost use Rattle.tune_problem.specs.Problem.{problem_of};
 ghost use Rattle.tune_search.specs.Limits.{MOST_CAPACITY};
 ghost use Rattle.tune_search.specs.Found.{IsSearch};
 
@@ -10,7 +10,7 @@ use crate::lead::best_of;
 use crate::state::State;
 use mars_core::{Arena, PackedCells};
 use std::alloc::Global;
-use tune_cert::{Found, Rows, Silent, Standing, Watcher, cert_version};
+use tune_problem::{Found, Rows, Silent, Standing, Watcher, cert_version};
 use tune_template::Inputs;
 
 /// Finds the optimum: the first setting of the template with the greatest total in the fights of

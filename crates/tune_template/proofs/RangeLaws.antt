@@ -11,7 +11,6 @@ use Rattle.rc_text.specs.NameClasses.{class_of}
 use Rattle.rc_text.specs.declared.class.NameClass.{NameClass}
 use Rattle.rc_text.specs.declared.class.NameClass.TheVariants.{NoName, Reserved, Predefined, Free}
 use Rattle.rc_expand.specs.Names.{is_among}
-use Rattle.rc_expand.specs.Heads.{are_distinct}
 use Rattle.rc_asm.specs.Limits.{MOST_BYTES}
 use Rattle.tune_template.specs.declared.span.Span.{Span}
 use Rattle.tune_template.specs.declared.fault.TemplateKind.{TemplateKind}
@@ -19,7 +18,7 @@ use Rattle.tune_template.specs.declared.fault.TemplateKind.TheVariants.{Duplicat
 use Rattle.tune_template.specs.Limits.{MOST_CONSTANTS, MOST_SETTINGS}
 use Rattle.tune_template.specs.Lines.{lines_of, words_of, is_range_line}
 use Rattle.tune_template.specs.Ranges.{Ranges, ranges, name_checked, span_after, span_said, with_range, worded, range_added, vector_count, at_line, then_from, ranges_from, ranges_of, HasRanges, signed_number, step_number}
-use Rattle.tune_template.specs.Laws.{first_word, name_on, AreOfLines}
+use Rattle.tune_template.specs.Laws.{first_word, name_on, are_distinct, AreOfLines}
 
 -- a name that passed
 record Passes (names : List (List ℕ)) (name : List ℕ) : Type 0 where

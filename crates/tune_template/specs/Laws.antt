@@ -1,9 +1,9 @@
 -- What the ranges of a template are, in terms of its lines.
-use Rattle.std.specs.Prelude.{◌≡◌, ℕ, ◌≤◌, true, List, [], ◌∷◌, drop, length, map, All}
+use Rattle.std.specs.Prelude.{◌≡◌, ℕ, ◌≤◌, Bool, true, ◌&&◌, not, List, [], ◌∷◌, drop, length, map, All}
 use Rattle.std.specs.List.{filter}
 use Rattle.rc_text.specs.NameClasses.{class_of}
 use Rattle.rc_text.specs.declared.class.NameClass.TheVariants.{Free}
-use Rattle.rc_expand.specs.Heads.{are_distinct}
+use Rattle.rc_expand.specs.Names.{is_among}
 use Rattle.tune_template.specs.Limits.{MOST_CONSTANTS}
 use Rattle.tune_template.specs.Lines.{lines_of, words_of, is_range_line}
 use Rattle.tune_template.specs.Ranges.{Ranges}
@@ -15,6 +15,11 @@ first_word (w ∷ ws) = w
 -- the name on a range line: the first word after `;@tune`
 abbrev pub name_on : List ℕ → List ℕ
 name_on line = first_word (words_of (drop 6 line))
+
+-- no name occurs twice
+abbrev pub are_distinct : List (List ℕ) → Bool
+are_distinct [] = true
+are_distinct (n ∷ ns) = not (is_among ns n) && are_distinct ns
 
 -- one constant for each range line, in the order of the lines; each name is free, no two are the
 -- same, and there are at most `MOST_CONSTANTS`

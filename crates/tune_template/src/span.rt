@@ -49,7 +49,7 @@ impl Span {
         })
     }
 
-    /// Returns the value at `index`, counted from 0.
+    /// Returns the value at `index`. The least value is at 0.
     pub fn value_at(&self, index: u32) -> i64
         ensures { result ≡ span_value self.now index }
     {

@@ -133,7 +133,7 @@ impl Template {
         self.names.as_slice()
     }
 
-    /// Returns the values of each constant, in the order of the lines.
+    /// Returns the span of each constant's values, in the order of the lines.
     pub fn spans(&self) -> &[Span]
         ensures { result.now ≡ self.now.ranges.spans }
     {

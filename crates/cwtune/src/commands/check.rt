@@ -1,127 +1,18 @@
 //! The command `check`: from texts and a certificate to the line of the verdict.
-ghost use Rattle.std.specs.Prelude.{◌≡◌, ◌≢◌, ◌↔◌, ◌⊎◌, ◌≤◌, ℕ, List, map, true, false, IfOk, IfErr, IsErrOf, IsTrue};
-ghost use Rattle.tune_template.specs.Instances.{InputsView};
-ghost use Rattle.cwtune.specs.TuneRun.{Texts, texts, part_texts, Means, IsTuneRefusal};
-ghost use Rattle.cwtune.specs.CheckRun.{accepts, WritesVerdict};
+ghost use Rattle.std.specs.Prelude.{◌≡◌, ◌⊎◌, ◌≤◌, ℕ, List, true, false, IsTrue};
+ghost use Rattle.rc_instr.specs.Rules.{rules_view};
+ghost use Rattle.tune_runs.specs.TuneRun.{part_texts};
+ghost use Rattle.tune_runs.specs.CheckRun.{WritesVerdict};
 
 use crate::command_line::TuneWords;
-use crate::fault::RunFault;
-use crate::inputs::inputs_of;
-use crate::lines::verdict_line;
-use crate::raw_rules::rules_of;
 use crate::reading::read_check_texts;
 use crate::status::{DONE, REFUSED, end_file, end_part, end_run};
-use rc_instr::{Outlet, Rules};
+use rc_instr::Outlet;
 use std::alloc::Global;
 use std::io::Write;
 use std::rt::Files;
-use tune_cert::{CheckFault, Silent, Verdict, Watcher, watched_check};
-use tune_template::Part;
-
-/// Checks a certificate of a tuning, whoever made it, and writes the line of the verdict. Returns
-/// whether it is accepted.
-///
-/// The line is `accepted best W total T` if the bytes spell a valid certificate; W is then the
-/// optimum of the tuning and T its total. Else it is `rejected row R REASON`, with the record, from
-/// 0, and what is wrong there. The template is a Redcode text with `;@tune` lines, each opponent a
-/// Redcode text, the schedule a table of fights. Plays only fights that the certificate lists. The
-/// outlet must not have failed.
-///
-/// # Errors
-///
-/// The first that applies: `TooManyOpponents` for more than 64, `Template` with the fault of its
-/// text, `Opponent` with the index of the first that does not assemble and its fault, `Schedule`
-/// with the fault of its text. Nothing is written then. `Write` if the writer failed: an unknown
-/// part of the line may be out. `OutOfMemory` if an allocation failed: nothing is written.
-pub fn check_run<W: Write>(
-    alloc: Global,
-    template: &[u8],
-    opponents: &[Vec<u8>],
-    schedule: &[u8],
-    rules: &Rules,
-    cert: &[u8],
-    out: &mut Outlet<W>,
-) -> Result<bool, RunFault>
-    requires { out.old.failed ≡ false }
-
-    // What was written is the line of the right verdict on the certificate, for the inputs in the
-    // texts.
-    ensures verdict { IfOk result (λ accepted. WritesVerdict (texts template.now (map (λ o. o.items) opponents.now) schedule.now rules.now) cert.now accepted out.old.bytes out.new.bytes) }
-
-    // Refused texts have no meaning, and nothing was written.
-    ensures refused { IfErr result (λ e. e ≢ RunFault.Write →
-        (e ≢ RunFault.NoCandidate) × IsTuneRefusal e (texts template.now (map (λ o. o.items) opponents.now) schedule.now rules.now) × (out.new ≡ out.old)) }
-    ensures write { IsErrOf result RunFault.Write ↔ IsTrue out.new.failed }
-
-    // Texts that have a meaning are not refused.
-    ensures meaning { (i : InputsView) → Means (texts template.now (map (λ o. o.items) opponents.now) schedule.now rules.now) i
-        → IfErr result (λ e. (e ≡ RunFault.Write) ⊎ (e ≡ RunFault.OutOfMemory)) }
-{
-    check_part_run(
-        alloc,
-        template,
-        opponents,
-        schedule,
-        rules,
-        Part::whole(),
-        &mut Silent,
-        cert,
-        out,
-    )
-}
-
-/// Checks a certificate of a tuning of one part of a template's settings, and writes the line of
-/// the verdict. Returns whether it is accepted.
-///
-/// The settings are counted from 0 within the part, in the certificate and in the line. Tells
-/// `watcher` how far the check is. `check_run` is this run for part 1 of 1 with a silent watcher,
-/// and the rest is as there.
-///
-/// # Errors
-///
-/// Those of `check_run`; and `Part`, after `Schedule`, if there is no such part: nothing is written
-/// then.
-#[tactic(auto, using(crate::proofs::Tunings::refused_inputs))]
-pub fn check_part_run<T: Watcher, W: Write>(
-    alloc: Global,
-    template: &[u8],
-    opponents: &[Vec<u8>],
-    schedule: &[u8],
-    rules: &Rules,
-    part: Part,
-    watcher: &mut T,
-    cert: &[u8],
-    out: &mut Outlet<W>,
-) -> Result<bool, RunFault>
-    requires { out.old.failed ≡ false }
-
-    // What was written is the line of the right verdict on the certificate, for the inputs in the
-    // texts.
-    ensures verdict { IfOk result (λ accepted. WritesVerdict (part_texts template.now (map (λ o. o.items) opponents.now) schedule.now rules.now part) cert.now accepted out.old.bytes out.new.bytes) }
-
-    // Refused texts have no meaning, and nothing was written.
-    ensures refused { IfErr result (λ e. e ≢ RunFault.Write →
-        (e ≢ RunFault.NoCandidate) × IsTuneRefusal e (part_texts template.now (map (λ o. o.items) opponents.now) schedule.now rules.now part) × (out.new ≡ out.old)) }
-    ensures write { IsErrOf result RunFault.Write ↔ IsTrue out.new.failed }
-
-    // Texts that have a meaning are not refused.
-    ensures meaning { (i : InputsView) → Means (part_texts template.now (map (λ o. o.items) opponents.now) schedule.now rules.now part) i
-        → IfErr result (λ e. (e ≡ RunFault.Write) ⊎ (e ≡ RunFault.OutOfMemory)) }
-{
-    let inputs = match inputs_of(alloc, template, opponents, schedule, rules, part) {
-        Ok(inputs) => inputs,
-        Err(fault) => return Err(fault),
-    };
-    let checked = watched_check(alloc, &inputs, cert, watcher);
-    watcher.end();
-    let verdict = match checked {
-        Ok(verdict) => verdict,
-        Err(CheckFault::OutOfMemory) => return Err(RunFault::OutOfMemory),
-    };
-    let line = verdict_line(alloc, verdict)?;
-    out.write_all(line.as_slice())?;
-    Ok(is_accepted(&verdict))
-}
+use tune_cert::Watcher;
+use tune_runs::{RunFault, check_part_run, rules_of};
 
 // Runs the command on files.
 pub(crate) fn check<F: Files, T: Watcher, W: Write, V: Write>(
@@ -134,8 +25,12 @@ pub(crate) fn check<F: Files, T: Watcher, W: Write, V: Write>(
 ) -> u8
     requires out { out.old.failed ≡ false }
     requires err { err.old.failed ≡ false }
-    ensures done { result ≡ 0 → (t : Texts) × (cert : List ℕ) × WritesVerdict t cert true out.old.bytes out.new.bytes }
-    ensures refused { result ≡ 1 → (out.new ≡ out.old) ⊎ ((t : Texts) × (cert : List ℕ) × WritesVerdict t cert false out.old.bytes out.new.bytes) }
+    ensures done { let r = words.now.rules in let rules = rules_view r.core r.cycles r.tasks r.length r.distance in
+        result ≡ 0 → (template : List ℕ) × (opponents : List (List ℕ)) × (schedule : List ℕ) × (cert : List ℕ)
+        × WritesVerdict (part_texts template opponents schedule rules words.now.part) cert true out.old.bytes out.new.bytes }
+    ensures refused { let r = words.now.rules in let rules = rules_view r.core r.cycles r.tasks r.length r.distance in
+        result ≡ 1 → (out.new ≡ out.old) ⊎ ((template : List ℕ) × (opponents : List (List ℕ)) × (schedule : List ℕ) × (cert : List ℕ)
+        × WritesVerdict (part_texts template opponents schedule rules words.now.part) cert false out.old.bytes out.new.bytes) }
     ensures failed { IsTrue out.new.failed → result ≡ 3 }
     ensures misused { result ≡ 2 → out.new ≡ out.old }
     ensures status { result ≤ 3 }
@@ -144,33 +39,20 @@ pub(crate) fn check<F: Files, T: Watcher, W: Write, V: Write>(
         Ok(rules) => rules,
         Err(error) => return end_run(err, RunFault::Rules(error)),
     };
-    let texts = match read_check_texts(rt, alloc, words) {
-        Ok(texts) => texts,
+    let files = match read_check_texts(rt, alloc, words) {
+        Ok(files) => files,
         Err(unread) => return end_file(err, &unread.error, "read", unread.name),
     };
     match check_part_run(
         alloc,
-        texts.tuning.template.as_slice(),
-        texts.tuning.opponents.as_slice(),
-        texts.tuning.schedule.as_slice(),
-        &rules,
-        words.part,
+        &files.tuning.texts(&rules, words.part),
         watcher,
-        texts.cert.as_slice(),
+        files.cert.as_slice(),
         out,
     ) {
         Ok(true) => DONE,
         Ok(false) => REFUSED,
         Err(RunFault::Part) => end_part(err),
         Err(fault) => end_run(err, fault),
-    }
-}
-
-fn is_accepted(verdict: &Verdict) -> bool
-    ensures { result ≡ accepts verdict.now }
-{
-    match verdict {
-        Verdict::Accepted { best: _, total: _ } => true,
-        Verdict::Rejected { row: _, reason: _ } => false,
     }
 }

@@ -1,154 +1,19 @@
 //! The command `tune`: from texts to the certificate of the best setting, and a report.
-ghost use Rattle.std.specs.Prelude.{◌≡◌, ◌≢◌, ◌↔◌, ◌≤◌, ◌<◌, ◌^◌, ◌⊎◌, ℕ, List, Option, map, length, false, IfErr, OnOk, IsErrOf, IsTrue};
-ghost use Rattle.std.specs.Io.KnownBytes.{Appends};
-ghost use Rattle.tune_template.specs.Instances.{InputsView};
-ghost use Rattle.tune_cert.specs.Problem.{problem_of};
-ghost use Rattle.tune_cert.specs.Optimum.{IsCandidate};
-ghost use Rattle.tune_cert.specs.CertText.{cert_text, cert_of};
-ghost use Rattle.tune_cert.specs.Spelling.{IsVersion};
+ghost use Rattle.std.specs.Prelude.{◌≡◌, ◌≢◌, ◌≤◌, ◌<◌, ℕ, List, Option, false, IsTrue};
+ghost use Rattle.rc_instr.specs.Rules.{rules_view};
 ghost use Rattle.tune_search.specs.Limits.{MOST_CAPACITY};
 ghost use Rattle.cwtune.specs.CertFile.{names_twice};
-ghost use Rattle.cwtune.specs.TuneRun.{Texts, texts, part_texts, Means, IsTuneRefusal, WritesTuning};
+ghost use Rattle.tune_runs.specs.TuneRun.{part_texts, WritesTuning};
 
-use crate::cert_file::open_cert;
 use crate::command_line::TuneWords;
-use crate::fault::RunFault;
-use crate::inputs::inputs_of;
-use crate::raw_rules::rules_of;
-use crate::reading::read_texts;
-use crate::report::report_of;
-use crate::status::{DONE, end_cert, end_file, end_part, end_run};
-use rc_instr::{Outlet, Rules};
+use crate::commands::opening::{Opened, open_tuning};
+use crate::status::{DONE, end_part, end_run};
+use rc_instr::Outlet;
 use std::alloc::Global;
 use std::io::Write;
 use std::rt::Files;
-use tune_cert::{CertFault, Found, Silent, Watcher, write_cert};
-use tune_search::{SearchFault, watched_search};
-use tune_template::Part;
-
-/// Finds the optimum of a template, and writes its certificate, then the report.
-///
-/// The optimum is the first setting with the greatest total against the opponents in the fights of
-/// the schedule. The template is a Redcode text with `;@tune` lines, each opponent a Redcode text,
-/// the schedule a table of fights. The search remembers up to `capacity` settings, 1 to 65536, so
-/// that equal warriors share their fights. The certificate and the report are made before either is
-/// written, and the certificate is written whole before the report begins. Neither outlet
-/// must have failed.
-///
-/// # Errors
-///
-/// The first that applies: `TooManyOpponents` for more than 64, `Template` with the fault of its
-/// text, `Opponent` with the index of the first that does not assemble and its fault, `Schedule`
-/// with the fault of its text, `NoCandidate` if no setting assembles. Nothing is written then.
-/// `Write` if a writer failed: an unknown part of its text may be out, and after the certificate's
-/// writer the report's gets nothing. `OutOfMemory` if an allocation failed: nothing is written.
-pub fn tune_run<W: Write, V: Write>(
-    alloc: Global,
-    template: &[u8],
-    opponents: &[Vec<u8>],
-    schedule: &[u8],
-    rules: &Rules,
-    capacity: u32,
-    report: &mut Outlet<W>,
-    cert: &mut Outlet<V>,
-) -> Result<(), RunFault>
-    requires capacity { (1 ≤ capacity) × (capacity ≤ MOST_CAPACITY) }
-    requires report { report.old.failed ≡ false }
-    requires cert { cert.old.failed ≡ false }
-
-    // Both texts are of one `Found` for which `IsSearch` holds: a valid certificate was written,
-    // and the report of its best setting, the optimum.
-    ensures tuning { OnOk result (WritesTuning (texts template.now (map (λ o. o.items) opponents.now) schedule.now rules.now) capacity
-        report.old.bytes report.new.bytes cert.old.bytes cert.new.bytes) }
-
-    // Refused texts have no meaning or no candidate, and nothing was written.
-    ensures refused { IfErr result (λ e. e ≢ RunFault.Write →
-        IsTuneRefusal e (texts template.now (map (λ o. o.items) opponents.now) schedule.now rules.now)
-        × (report.new ≡ report.old) × (cert.new ≡ cert.old)) }
-    ensures write { IsErrOf result RunFault.Write ↔ (IsTrue report.new.failed ⊎ IsTrue cert.new.failed) }
-
-    // The report begins only after the certificate is out.
-    ensures order { IsTrue cert.new.failed → report.new ≡ report.old }
-
-    // Texts that have a meaning and a candidate are not refused.
-    ensures meaning { (i : InputsView) (v : ℕ) → Means (texts template.now (map (λ o. o.items) opponents.now) schedule.now rules.now) i
-        → v < (problem_of i).count → IsCandidate (problem_of i) v
-        → IfErr result (λ e. (e ≡ RunFault.Write) ⊎ (e ≡ RunFault.OutOfMemory)) }
-{
-    tune_part_run(
-        alloc,
-        template,
-        opponents,
-        schedule,
-        rules,
-        Part::whole(),
-        capacity,
-        &mut Silent,
-        report,
-        cert,
-    )
-}
-
-/// Finds the optimum of one part of a template's settings, and writes its certificate, then the
-/// report, as if the template had no other settings. So both count settings from 0 within the part.
-///
-/// Tells `watcher` how far the search is. `tune_run` is this run for part 1 of 1 with a silent
-/// watcher, and the rest is as there.
-///
-/// # Errors
-///
-/// Those of `tune_run`; and `Part`, after `Schedule`, if there is no such part: nothing is written
-/// then.
-#[tactic(auto, using(crate::proofs::Tunings::refused_means))]
-pub fn tune_part_run<T: Watcher, W: Write, V: Write>(
-    alloc: Global,
-    template: &[u8],
-    opponents: &[Vec<u8>],
-    schedule: &[u8],
-    rules: &Rules,
-    part: Part,
-    capacity: u32,
-    watcher: &mut T,
-    report: &mut Outlet<W>,
-    cert: &mut Outlet<V>,
-) -> Result<(), RunFault>
-    requires capacity { (1 ≤ capacity) × (capacity ≤ MOST_CAPACITY) }
-    requires report { report.old.failed ≡ false }
-    requires cert { cert.old.failed ≡ false }
-
-    // Both texts are of one `Found` for which `IsSearch` holds: a valid certificate was written,
-    // and the report of its best setting, the optimum.
-    ensures tuning { OnOk result (WritesTuning (part_texts template.now (map (λ o. o.items) opponents.now) schedule.now rules.now part) capacity
-        report.old.bytes report.new.bytes cert.old.bytes cert.new.bytes) }
-
-    // Refused texts have no meaning or no candidate, and nothing was written.
-    ensures refused { IfErr result (λ e. e ≢ RunFault.Write →
-        IsTuneRefusal e (part_texts template.now (map (λ o. o.items) opponents.now) schedule.now rules.now part)
-        × (report.new ≡ report.old) × (cert.new ≡ cert.old)) }
-    ensures write { IsErrOf result RunFault.Write ↔ (IsTrue report.new.failed ⊎ IsTrue cert.new.failed) }
-
-    // The report begins only after the certificate is out.
-    ensures order { IsTrue cert.new.failed → report.new ≡ report.old }
-
-    // Texts that have a meaning and a candidate are not refused.
-    ensures meaning { (i : InputsView) (v : ℕ) → Means (part_texts template.now (map (λ o. o.items) opponents.now) schedule.now rules.now part) i
-        → v < (problem_of i).count → IsCandidate (problem_of i) v
-        → IfErr result (λ e. (e ≡ RunFault.Write) ⊎ (e ≡ RunFault.OutOfMemory)) }
-{
-    let inputs = match inputs_of(alloc, template, opponents, schedule, rules, part) {
-        Ok(inputs) => inputs,
-        Err(fault) => return Err(fault),
-    };
-    let searched = watched_search(alloc, &inputs, capacity, watcher);
-    watcher.end();
-    let found = match searched {
-        Ok(found) => found,
-        Err(SearchFault::NoCandidate) => return Err(RunFault::NoCandidate),
-        Err(SearchFault::OutOfMemory) => return Err(RunFault::OutOfMemory),
-    };
-    let text = report_of(alloc, &inputs, &found)?;
-    write_both(alloc, &found, text.as_slice(), report, cert)
-}
+use tune_cert::Watcher;
+use tune_runs::{RunFault, tune_part_run};
 
 // Runs the command on files. Opens the file of the certificate last, just before the search; if it
 // names another word's file, nothing is written.
@@ -164,32 +29,27 @@ pub(crate) fn tune<F: Files, T: Watcher, W: Write, V: Write>(
     requires capacity { (1 ≤ capacity) × (capacity ≤ MOST_CAPACITY) }
     requires out { out.old.failed ≡ false }
     requires err { err.old.failed ≡ false }
-    ensures done { result ≡ 0 → (t : Texts) × (cert : Option (List ℕ)) × (written : Option (List ℕ)) × WritesTuning t capacity out.old.bytes out.new.bytes cert written }
+    ensures done { let r = words.now.rules in let rules = rules_view r.core r.cycles r.tasks r.length r.distance in
+        result ≡ 0 → (template : List ℕ) × (opponents : List (List ℕ)) × (schedule : List ℕ) × (cert : Option (List ℕ)) × (written : Option (List ℕ))
+        × WritesTuning (part_texts template opponents schedule rules words.now.part) capacity out.old.bytes out.new.bytes cert written }
     ensures refused { result ≡ 1 → out.new ≡ out.old }
     ensures failed { IsTrue out.new.failed → result ≡ 3 }
     ensures misused { result ≡ 2 → out.new ≡ out.old }
     ensures named { IsTrue (names_twice words.now) → (result ≢ 0) × (out.new ≡ out.old) }
     ensures status { result ≤ 3 }
 {
-    let rules = match rules_of(words.rules) {
-        Ok(rules) => rules,
-        Err(error) => return end_run(err, RunFault::Rules(error)),
+    let opened = match open_tuning(rt, alloc, words, err) {
+        Ok(opened) => opened,
+        Err(status) => return status,
     };
-    let texts = match read_texts(rt, alloc, words) {
-        Ok(texts) => texts,
-        Err(unread) => return end_file(err, &unread.error, "read", unread.name),
-    };
-    let mut cert = match open_cert(rt, alloc, words) {
-        Ok(file) => Outlet::new(file),
-        Err(refused) => return end_cert(err, &refused, words.cert),
-    };
+    let Opened {
+        rules,
+        files,
+        mut cert,
+    } = opened;
     match tune_part_run(
         alloc,
-        texts.template.as_slice(),
-        texts.opponents.as_slice(),
-        texts.schedule.as_slice(),
-        &rules,
-        words.part,
+        &files.texts(&rules, words.part),
         capacity,
         watcher,
         out,
@@ -199,31 +59,4 @@ pub(crate) fn tune<F: Files, T: Watcher, W: Write, V: Write>(
         Err(RunFault::Part) => end_part(err),
         Err(fault) => end_run(err, fault),
     }
-}
-
-// Writes the certificate, then the report.
-pub(crate) fn write_both<W: Write, V: Write>(
-    alloc: Global,
-    found: &Found,
-    text: &[u8],
-    report: &mut Outlet<W>,
-    cert: &mut Outlet<V>,
-) -> Result<(), RunFault>
-    requires version { IsVersion found.now.version }
-    requires few { length found.now.rows < 2 ^ 32 }
-    requires report { report.old.failed ≡ false }
-    requires cert { cert.old.failed ≡ false }
-    ensures cert { OnOk result (Appends cert.old.bytes cert.new.bytes (cert_text (cert_of found.now))) }
-    ensures report { OnOk result (Appends report.old.bytes report.new.bytes text.now) }
-    ensures refused { IfErr result (λ e. e ≢ RunFault.Write → (e ≡ RunFault.OutOfMemory) × (report.new ≡ report.old) × (cert.new ≡ cert.old)) }
-    ensures write { IsErrOf result RunFault.Write ↔ (IsTrue report.new.failed ⊎ IsTrue cert.new.failed) }
-    ensures order { IsTrue cert.new.failed → report.new ≡ report.old }
-{
-    match write_cert(alloc, found, cert) {
-        Ok(()) => {}
-        Err(CertFault::Write) => return Err(RunFault::Write),
-        Err(CertFault::OutOfMemory) => return Err(RunFault::OutOfMemory),
-    }
-    report.write_all(text)?;
-    Ok(())
 }

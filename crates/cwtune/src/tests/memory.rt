@@ -25,8 +25,8 @@ fn outlet(alloc: Global) -> Result<Outlet<Vec<u8>>, AllocError>
 const POSTED: &[u8] =
     b"From: a mail header\n;redcode-94\n;name Dwarf\n;author A. K. Dewdney\n;assert CORESIZE % 4 == 0\nstep EQU 4\n  ORG start\nbomb DAT #0, #0\nstart ADD #step, bomb\n  MOV bomb, @bomb\n  JMP start\n  END\n";
 
-// Returns what a run wrote, or the text of its fault. A refused run has to have written nothing. Out
-// of memory is an error.
+// Returns what a run wrote, or the text of its fault. A refused run has to have written nothing.
+// Out of memory is an error.
 fn outcome(
     alloc: Global,
     ended: Result<(), RunFault>,

@@ -1,7 +1,7 @@
 //! `tune_part_run` and `check_part_run`, under rules of 16 cells, 20 cycles, 4 tasks, length 4 and
 //! distance 4.
 use crate::tests::tuning::{BOTH, both_opponents};
-use crate::{check_part_run, tune_part_run};
+use crate::{TuneTexts, check_part_run, tune_part_run};
 use rc_instr::{Outlet, Rules};
 use std::test::Fail;
 use tune_cert::Silent;
@@ -21,13 +21,15 @@ fn a_part_is_tuned(rt: HostRuntime) -> Result<(), Fail> {
     let mut cert = Outlet::new(Vec::new(rt.alloc()));
     let tuned = tune_part_run(
         rt.alloc(),
-        HALF,
-        opponents.as_slice(),
-        BOTH,
-        &rules,
-        Part {
-            number: 2,
-            parts: 2,
+        &TuneTexts {
+            template: HALF,
+            opponents: opponents.as_slice(),
+            schedule: BOTH,
+            rules: &rules,
+            part: Part {
+                number: 2,
+                parts: 2,
+            },
         },
         4096,
         &mut Silent,
@@ -50,13 +52,15 @@ fn a_part_is_checked(rt: HostRuntime) -> Result<(), Fail> {
     let mut line = Outlet::new(Vec::new(rt.alloc()));
     let checked = check_part_run(
         rt.alloc(),
-        HALF,
-        opponents.as_slice(),
-        BOTH,
-        &rules,
-        Part {
-            number: 2,
-            parts: 2,
+        &TuneTexts {
+            template: HALF,
+            opponents: opponents.as_slice(),
+            schedule: BOTH,
+            rules: &rules,
+            part: Part {
+                number: 2,
+                parts: 2,
+            },
         },
         &mut Silent,
         CERT,

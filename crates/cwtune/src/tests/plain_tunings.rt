@@ -1,7 +1,7 @@
 //! `plain_tune_run`, under rules of 16 cells, 20 cycles, 4 tasks, length 4 and distance 4.
 use crate::tests::stand_ins::Broken;
 use crate::tests::tuning::{BOTH, both_opponents};
-use crate::{RunFault, plain_tune_run};
+use crate::{RunFault, TuneTexts, plain_tune_run};
 use rc_instr::{Outlet, Rules};
 use std::test::Fail;
 use tune_cert::Silent;
@@ -18,11 +18,13 @@ fn all_fights_are_played_and_listed(rt: HostRuntime) -> Result<(), Fail> {
     let mut cert = Outlet::new(Vec::new(rt.alloc()));
     let tuned = plain_tune_run(
         rt.alloc(),
-        IMPS,
-        opponents.as_slice(),
-        BOTH,
-        &rules,
-        Part::whole(),
+        &TuneTexts {
+            template: IMPS,
+            opponents: opponents.as_slice(),
+            schedule: BOTH,
+            rules: &rules,
+            part: Part::whole(),
+        },
         &mut Silent,
         &mut report,
         &mut cert,
@@ -47,11 +49,13 @@ fn a_write_failure_is_reported_before_the_report(rt: HostRuntime) -> Result<(), 
     let mut cert = Outlet::new(Broken);
     let tuned = plain_tune_run(
         rt.alloc(),
-        IMPS,
-        opponents.as_slice(),
-        BOTH,
-        &rules,
-        Part::whole(),
+        &TuneTexts {
+            template: IMPS,
+            opponents: opponents.as_slice(),
+            schedule: BOTH,
+            rules: &rules,
+            part: Part::whole(),
+        },
         &mut Silent,
         &mut report,
         &mut cert,

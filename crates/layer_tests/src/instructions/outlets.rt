@@ -8,8 +8,8 @@ use std::io;
 use std::io::Write;
 use std::test::Fail;
 
-// A writer that takes at most `most` bytes at a call, and counts its calls. Call `bad_call` (counted
-// from 1) fails with `kind`, or takes no byte if there is none.
+// A writer that takes at most `most` bytes at a call, and counts its calls. Call `bad_call`
+// (counted from 1) fails with `kind`, or takes no byte if there is none.
 #[derive(Drop)]
 pub(crate) struct Fake {
     pub(crate) taken: Vec<u8>,

@@ -18,7 +18,8 @@ const LOADS: [&[u8]; 4] = [
     b"ORG 1\nDAT.F #0, #0\nADD.AB #4, $-1\nMOV.I $-2, @-2\nJMP.B $-2, $0\n",
 ];
 
-// Reads a load file and appends it to `before`. Out of memory, which leaves that alone, is an error.
+// Reads a load file and appends it to `before`. Out of memory, which leaves that alone, is an
+// error.
 fn appended(alloc: Global, load: &[u8]) -> Result<Vec<u8>, Fail> {
     let rules = Rules::try_new(16, 20, 4, 4, 4)?;
     let warrior = read_loadfile(alloc, load, &rules)?;

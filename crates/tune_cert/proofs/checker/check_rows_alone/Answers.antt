@@ -1,5 +1,5 @@
 use Rattle.std.proofs.Common.{◌∙◌, sym, subst, IfSome, IfNone}
-use Rattle.tune_cert.specs.Problem.{problem_of}
+use Rattle.tune_problem.specs.Problem.{problem_of}
 use Rattle.tune_cert.specs.Verdict.{IsWrong, IsRightAlone}
 use Rattle.tune_cert.specs.Steps.{IsFirstAlone}
 use Rattle.tune_cert.proofs.RowSteps.{row_here, one_more, first_alone}

@@ -1,8 +1,8 @@
 use Rattle.std.proofs.Common.{◌≡◌, ◌<◌, ℕ, Some, slice_get}
 use Rattle.mars_core.specs.Arena.{IsBlank}
-use Rattle.tune_cert.specs.Problem.{problem_of}
+use Rattle.tune_problem.specs.Problem.{problem_of}
 use Rattle.tune_cert.specs.Verdict.{IsRightAlone}
-use Rattle.tune_cert.specs.declared.cert.Row.{Row}
+use Rattle.tune_problem.specs.declared.cert.Row.{Row}
 use Rattle.tune_cert.proofs.checker.check_rows_alone.Given as goal
 
 -- the refused and the cap rows so far are right

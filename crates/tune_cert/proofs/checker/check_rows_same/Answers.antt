@@ -1,5 +1,5 @@
 use Rattle.std.proofs.Common.{◌∙◌, ap, sym, subst, arith, replicate, None, IfSome, IfNone}
-use Rattle.tune_cert.specs.Problem.{problem_of}
+use Rattle.tune_problem.specs.Problem.{problem_of}
 use Rattle.tune_cert.specs.Verdict.{IsWrong, IsRightSame}
 use Rattle.tune_cert.specs.Steps.{IsFirstSame}
 use Rattle.tune_cert.proofs.Assembled.{none_assembled}

@@ -1,8 +1,8 @@
 use Rattle.std.proofs.Common.{◌≡◌, ◌<◌, ℕ, Some, slice_get}
-use Rattle.tune_cert.specs.Problem.{problem_of}
+use Rattle.tune_problem.specs.Problem.{problem_of}
 use Rattle.tune_cert.specs.Verdict.{IsRightSame}
 use Rattle.tune_cert.specs.Steps.{AreAssembled}
-use Rattle.tune_cert.specs.declared.cert.Row.{Row}
+use Rattle.tune_problem.specs.declared.cert.Row.{Row}
 use Rattle.tune_cert.proofs.checker.check_rows_same.Given as goal
 
 -- the rows so far that refer to other vectors are right

@@ -3,7 +3,7 @@ use Rattle.std.specs.Prelude.{All}
 use Rattle.tune_cert.specs.CertText.{rows_fields}
 use Rattle.tune_cert.specs.Spelling.{IsRow}
 use Rattle.tune_cert.specs.Steps.{AreRows}
-use Rattle.tune_cert.specs.declared.cert.Row.{Row}
+use Rattle.tune_problem.specs.declared.cert.Row.{Row}
 use Rattle.tune_cert.proofs.read.read_rows.Given as goal
 
 abbrev pub invariant-loop-rows : goal.invariant-loop-rows

@@ -1,10 +1,10 @@
 use Rattle.std.proofs.Common.{◌≡◌, ◌∙◌, sym, refl, true, false, ℕ, subst}
 use Rattle.rc_instr.specs.Warrior.{WarriorView}
-use Rattle.tune_cert.specs.Problem.{problem_of}
-use Rattle.tune_cert.specs.Optimum.{cap_of, beats}
-use Rattle.tune_cert.specs.Valid.{numbers, IsCapRow}
+use Rattle.tune_problem.specs.Problem.{problem_of}
+use Rattle.tune_problem.specs.Optimum.{cap_of, beats}
+use Rattle.tune_problem.specs.Valid.{numbers, IsCapRow}
 use Rattle.tune_cert.specs.Verdict.{HavePoints}
-use Rattle.tune_cert.proofs.Certificates.{some_is}
+use Rattle.tune_problem.proofs.Certificates.{some_is}
 use Rattle.tune_cert.proofs.RowChecks.{cap_row_of, listed_is_cap}
 use Rattle.tune_cert.proofs.row_checks.check_fights.Goals as goal
 

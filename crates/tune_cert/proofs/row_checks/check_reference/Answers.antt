@@ -1,10 +1,10 @@
 use Rattle.std.proofs.Common.{◌≡◌, ◌<◌, ◌∙◌, sym, ap, arith, refl, length, true, false, Some, ℕ, subst}
 use Rattle.std.proofs.lemmas.Option.{slice_get_within, get_or_from_slice_get}
-use Rattle.tune_cert.specs.Problem.{problem_of}
-use Rattle.tune_cert.specs.Optimum.{cap_of, beats}
-use Rattle.tune_cert.specs.Valid.{numbers}
-use Rattle.tune_cert.specs.declared.cert.Row.TheVariants.{Cap}
-use Rattle.tune_cert.proofs.Certificates.{some_is}
+use Rattle.tune_problem.specs.Problem.{problem_of}
+use Rattle.tune_problem.specs.Optimum.{cap_of, beats}
+use Rattle.tune_problem.specs.Valid.{numbers}
+use Rattle.tune_problem.specs.declared.cert.Row.TheVariants.{Cap}
+use Rattle.tune_problem.proofs.Certificates.{some_is}
 use Rattle.tune_cert.proofs.RowChecks.{listed_is_cap}
 use Rattle.tune_cert.proofs.row_checks.check_reference.Goals as goal
 

@@ -1,6 +1,6 @@
 use Rattle.std.proofs.Common.{◌↔◌, drop}
 use Rattle.mars_core.specs.Arena.{IsBlank}
-use Rattle.tune_cert.specs.Problem.{problem_of}
+use Rattle.tune_problem.specs.Problem.{problem_of}
 use Rattle.tune_cert.specs.Verdict.{HavePoints}
 use Rattle.tune_cert.proofs.row_checks.have_points.Given as goal
 

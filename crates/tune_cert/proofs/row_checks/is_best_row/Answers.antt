@@ -1,10 +1,10 @@
 use Rattle.std.proofs.Common.{◌≡◌, ◌∙◌, arith, ap, sym, refl, length, false, List, ℕ, subst, Some}
 use Rattle.std.specs.Prelude.{IsTrue}
-use Rattle.tune_cert.specs.Problem.{problem_of}
-use Rattle.tune_cert.specs.Optimum.{all_fights}
-use Rattle.tune_cert.specs.Valid.{numbers}
+use Rattle.tune_problem.specs.Problem.{problem_of}
+use Rattle.tune_problem.specs.Optimum.{all_fights}
+use Rattle.tune_problem.specs.Valid.{numbers}
 use Rattle.tune_cert.specs.Steps.{AreNumbers}
-use Rattle.tune_cert.specs.declared.cert.Row.TheVariants.{Cap}
+use Rattle.tune_problem.specs.declared.cert.Row.TheVariants.{Cap}
 use Rattle.tune_cert.proofs.RowChecks.{all_numbers, numbers_all, all_listed}
 use Rattle.tune_cert.proofs.row_checks.is_best_row.Goals as goal
 

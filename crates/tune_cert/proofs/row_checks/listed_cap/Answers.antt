@@ -1,9 +1,10 @@
 use Rattle.std.proofs.Common.{◌≤◌, arith, length}
-use Rattle.tune_cert.specs.Problem.{problem_of}
-use Rattle.tune_cert.specs.Optimum.{greatest_of}
+use Rattle.tune_problem.specs.Problem.{problem_of}
+use Rattle.tune_problem.specs.Optimum.{greatest_of}
 use Rattle.tune_cert.specs.Steps.{listed_most}
-use Rattle.tune_cert.proofs.CapRows.{row_few, row_most}
-use Rattle.tune_cert.proofs.Scores.{inputs_problem}
+use Rattle.tune_problem.proofs.CapRows.{row_few}
+use Rattle.tune_cert.proofs.ListedCaps.{row_most}
+use Rattle.tune_problem.proofs.Scores.{inputs_problem}
 use Rattle.tune_cert.proofs.row_checks.listed_cap.Goals as goal
 
 pub listed_most-most-requires : goal.listed_most-most-requires

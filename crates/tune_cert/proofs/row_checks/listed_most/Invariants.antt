@@ -1,6 +1,6 @@
 use Rattle.std.proofs.Common.{◌≡◌, ◌≤◌, ◌+◌, ◌*◌, drop}
 use Rattle.mars_fight.specs.Limits.{MOST_WEIGHT}
-use Rattle.tune_cert.specs.Problem.{problem_of}
+use Rattle.tune_problem.specs.Problem.{problem_of}
 use Rattle.tune_cert.specs.Steps.{listed_most}
 use Rattle.tune_cert.proofs.row_checks.listed_most.Given as goal
 

@@ -1,7 +1,7 @@
 use Rattle.std.proofs.Common.{◌≡◌, ◌≤◌, ◌+◌, ◌*◌, drop}
 use Rattle.mars_fight.specs.Limits.{MOST_WEIGHT}
-use Rattle.tune_cert.specs.Problem.{problem_of}
-use Rattle.tune_cert.specs.Valid.{listed_total}
+use Rattle.tune_problem.specs.Problem.{problem_of}
+use Rattle.tune_problem.specs.Valid.{listed_total}
 use Rattle.tune_cert.proofs.row_checks.listed_total.Given as goal
 
 -- the scores so far, and those of the rest

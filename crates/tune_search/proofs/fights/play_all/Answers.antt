@@ -2,9 +2,9 @@ use Rattle.std.proofs.Common.{arith, ◌*◌, ◌≡◌, ◌≤◌, ◌+◌, ◌
 use Rattle.std.proofs.lemmas.List.FromFn.{length-map-range_with_len}
 use Rattle.std.specs.List.{sum_by, range_with_len}
 use Rattle.mars_fight.specs.Limits.{MOST_FIGHTS}
-use Rattle.tune_cert.specs.Problem.{fight_points, problem_of}
+use Rattle.tune_problem.specs.Problem.{fight_points, problem_of}
 use Rattle.mars_fight.specs.Play.{ArePoints}
-use Rattle.tune_cert.specs.Optimum.{score_of}
+use Rattle.tune_problem.specs.Optimum.{score_of}
 use Rattle.tune_search.proofs.Caps.{made_few}
 use Rattle.tune_search.proofs.Ranges.{sum_more, map_more}
 use Rattle.tune_search.proofs.fights.play_all.Goals as goal

@@ -1,5 +1,5 @@
 use Rattle.std.proofs.Common.{arith, ◌≡◌, ◌∙◌, ap, sym, below_more, get_or, subst}
-use Rattle.tune_cert.specs.Problem.{problem_of}
+use Rattle.tune_problem.specs.Problem.{problem_of}
 use Rattle.mars_fight.specs.Play.{ArePoints}
 use Rattle.tune_search.specs.Order.{beats_lead}
 use Rattle.tune_search.proofs.Caps.{cap_none, cap_more, cap_room, played_more}

@@ -1,7 +1,7 @@
 use Rattle.std.proofs.Common.{◌≡◌, ℕ, ◌<◌, take, true}
 use Rattle.mars_core.specs.Arena.{IsBlank}
-use Rattle.tune_cert.specs.Problem.{problem_of}
-use Rattle.tune_cert.specs.Optimum.{cap_of}
+use Rattle.tune_problem.specs.Problem.{problem_of}
+use Rattle.tune_problem.specs.Optimum.{cap_of}
 use Rattle.tune_search.specs.Plays.{played}
 use Rattle.tune_search.specs.Order.{beats_lead}
 use Rattle.tune_search.proofs.fights.play_enough.Given as goal

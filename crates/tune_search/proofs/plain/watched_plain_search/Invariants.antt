@@ -1,5 +1,5 @@
 use Rattle.mars_core.specs.Arena.{IsBlank}
-use Rattle.tune_cert.specs.Problem.{problem_of}
+use Rattle.tune_problem.specs.Problem.{problem_of}
 use Rattle.tune_search.specs.Progress.{IsPlainState}
 use Rattle.tune_search.proofs.plain.watched_plain_search.Given as goal
 

@@ -1,5 +1,5 @@
 use Rattle.std.proofs.Common.{◌≡◌, replicate}
-use Rattle.tune_cert.specs.declared.cert.Row.TheVariants.{Refused}
+use Rattle.tune_problem.specs.declared.cert.Row.TheVariants.{Refused}
 use Rattle.tune_search.proofs.state.blank_rows.Given as goal
 
 abbrev pub invariant-loop-row : goal.invariant-loop-row

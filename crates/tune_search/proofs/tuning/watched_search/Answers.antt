@@ -1,8 +1,8 @@
 use Rattle.std.proofs.Common.{arith, ◌≡◌, sym, subst, ℕ, ◌≤◌, List}
 use Rattle.tune_template.specs.Limits.{MOST_SETTINGS}
-use Rattle.tune_cert.specs.Problem.{problem_of}
-use Rattle.tune_cert.specs.declared.cert.Row.{Row}
-use Rattle.tune_cert.proofs.Scores.{inputs_problem}
+use Rattle.tune_problem.specs.Problem.{problem_of}
+use Rattle.tune_problem.specs.declared.cert.Row.{Row}
+use Rattle.tune_problem.proofs.Scores.{inputs_problem}
 use Rattle.tune_search.specs.Found.{IsSearch}
 use Rattle.tune_search.specs.State.{IsState}
 use Rattle.tune_search.proofs.Finish.{finds, finds_none}

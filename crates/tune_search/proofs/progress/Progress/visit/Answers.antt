@@ -1,9 +1,9 @@
 use Rattle.std.proofs.Common.{arith, rules, ◌≡◌, ◌∙◌, ap, sym, length, ◌≤◌, ◌+◌, ◌++◌, ◌∷◌, [], refl, List, ℕ, Some, None}
 use Rattle.std.proofs.lemmas.List.FromFn.{length-map-range_with_len}
 use Rattle.mars_fight.specs.Limits.{MOST_FIGHTS}
-use Rattle.tune_cert.specs.Problem.{problem_of}
-use Rattle.tune_cert.specs.Optimum.{all_fights, total_of}
-use Rattle.tune_cert.specs.declared.cert.Row.TheVariants.{Cap}
+use Rattle.tune_problem.specs.Problem.{problem_of}
+use Rattle.tune_problem.specs.Optimum.{all_fights, total_of}
+use Rattle.tune_problem.specs.declared.cert.Row.TheVariants.{Cap}
 use Rattle.tune_search.specs.Plays.{played}
 use Rattle.tune_search.proofs.Visits.{refused_visit, fought_visit, progress_along}
 use Rattle.tune_search.proofs.progress.Progress.visit.Goals as goal

@@ -1,7 +1,7 @@
 use Rattle.std.proofs.Common.{◌<◌, ◌∙◌, ap, sym, refl, subst, replicate, ℕ}
 use Rattle.std.specs.List.{range_with_len}
-use Rattle.tune_cert.specs.Problem.{problem_of}
-use Rattle.tune_cert.specs.declared.cert.Row.TheVariants.{Refused}
+use Rattle.tune_problem.specs.Problem.{problem_of}
+use Rattle.tune_problem.specs.declared.cert.Row.TheVariants.{Refused}
 use Rattle.tune_search.specs.Cache.{CacheView}
 use Rattle.tune_search.proofs.Visiting.{under_way_along}
 use Rattle.tune_search.proofs.Finish.{starts}

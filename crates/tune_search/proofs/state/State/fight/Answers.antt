@@ -1,10 +1,10 @@
 use Rattle.std.proofs.Common.{◌≡◌, ◌+◌, ◌==◌, ◌<◌, ◌∙◌, ◌∷◌, if◌then◌else◌, ap, sym, refl, subst, length, List, ℕ, All, take}
 use Rattle.std.specs.List.{slice_set}
 use Rattle.std.specs.List.Sorted.{IsPermutation}
-use Rattle.tune_cert.specs.Problem.{problem_of}
-use Rattle.tune_cert.specs.Optimum.{all_fights, cap_of}
-use Rattle.tune_cert.specs.declared.cert.Row.TheVariants.{Cap}
-use Rattle.tune_cert.proofs.Scores.{inputs_problem}
+use Rattle.tune_problem.specs.Problem.{problem_of}
+use Rattle.tune_problem.specs.Optimum.{all_fights, cap_of}
+use Rattle.tune_problem.specs.declared.cert.Row.TheVariants.{Cap}
+use Rattle.tune_problem.proofs.Scores.{inputs_problem}
 use Rattle.tune_search.specs.Plays.{played}
 use Rattle.tune_search.specs.Order.{by_points, enough}
 use Rattle.tune_search.specs.Visits.{visit}

@@ -3,8 +3,8 @@ use Rattle.std.specs.Map.{lookup}
 use Rattle.std.specs.Prelude.{IfSome, IfNone}
 use Rattle.lru.specs.LruCache.{promoted}
 use Rattle.rc_instr.specs.LoadText.{load_text}
-use Rattle.tune_cert.specs.Problem.{problem_of}
-use Rattle.tune_cert.proofs.Scores.{inputs_problem}
+use Rattle.tune_problem.specs.Problem.{problem_of}
+use Rattle.tune_problem.proofs.Scores.{inputs_problem}
 use Rattle.tune_search.specs.Cache.{CacheView, cache_view, same_text}
 use Rattle.tune_search.specs.Visits.{visit}
 use Rattle.tune_search.specs.Sharing.{copies}

@@ -1,5 +1,0 @@
-use Rattle.cwtune.proofs.Refusals.{only_memory}
-use Rattle.cwtune.proofs.commands.asm.asm_run.Goals as goal
-
-pub returns-in-Err-clause-meaning : goal.returns-in-Err-clause-meaning
-returns-in-Err-clause-meaning g c w a = only_memory c.in-Err.fault _ _ w c.in-Err.ensures.refused a

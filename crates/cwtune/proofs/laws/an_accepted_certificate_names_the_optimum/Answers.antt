@@ -1,5 +1,0 @@
-use Rattle.cwtune.proofs.Certified.{certified}
-use Rattle.cwtune.proofs.laws.an_accepted_certificate_names_the_optimum.Goals as goal
-
-pub returns : goal.returns
-returns c = certified

@@ -1,5 +1,0 @@
-use Rattle.cwtune.proofs.Meaning.{one_meaning}
-use Rattle.cwtune.proofs.laws.texts_have_one_meaning.Goals as goal
-
-pub returns : goal.returns
-returns c = one_meaning

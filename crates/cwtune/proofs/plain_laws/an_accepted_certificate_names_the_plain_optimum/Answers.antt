@@ -1,5 +1,0 @@
-use Rattle.cwtune.proofs.Certified.{plain_certified}
-use Rattle.cwtune.proofs.plain_laws.an_accepted_certificate_names_the_plain_optimum.Goals as goal
-
-pub returns : goal.returns
-returns c = plain_certified

@@ -1,0 +1,5 @@
+pub mod Weights
+pub mod CapRows
+pub mod Certificates
+pub mod Scores
+pub mod WholeOfParts

@@ -1,0 +1,33 @@
+//! Laws of the definitions. A law is a function with an empty body: its contract is what is proved.
+ghost use Rattle.std.specs.Prelude.{◌≡◌, ◌+◌, ◌≤◌, ℕ, Option, Some, None};
+ghost use Rattle.tune_template.specs.Instances.{InputsView};
+ghost use Rattle.tune_problem.specs.Problem.{Problem, IsProblem, problem_of};
+ghost use Rattle.tune_problem.specs.Optimum.{IsOptimum, HasTotal};
+ghost use Rattle.tune_problem.specs.Valid.{IsValid};
+ghost use Rattle.tune_problem.specs.Parts.{in_part, setting_count, first_setting, IsOutcome, AreOutcomes, IsBestPart};
+
+use crate::cert::Cert;
+
+/// States that a valid certificate names the optimum and its total, and that there is only one
+/// optimum.
+///
+/// The first needs one fact, which holds for any inputs: a fight gives 0, 1 or 3 points.
+pub fn a_valid_certificate_names_the_optimum()
+    ensures names { (p : Problem) (c : Cert) → IsProblem p → IsValid p c → IsOptimum p c.best × HasTotal p c.best c.total }
+    ensures one { (p : Problem) (v w : ℕ) → IsOptimum p v → IsOptimum p w → v ≡ w }
+    ensures inputs { (i : InputsView) → IsProblem (problem_of i) }
+{}
+
+/// States that tunings of all parts of the settings are a tuning of the whole: of the parts with
+/// the greatest total, the first one's optimum is the optimum of all settings, and has this total
+/// there. If no part has a candidate, the whole has none.
+///
+/// A setting's index in the whole is its index in its part, counted on from where the part begins.
+pub fn the_best_part_has_the_optimum()
+    ensures optimum { (i : InputsView) (parts : ℕ) (outcome : ℕ → Option (ℕ × ℕ)) (number best total : ℕ) → 1 ≤ parts → parts ≤ setting_count i
+        → AreOutcomes i parts outcome → IsBestPart parts outcome number best total
+        → IsOutcome (problem_of (in_part i 1 1)) (Some (first_setting i number parts + best, total)) }
+    ensures none { (i : InputsView) (parts : ℕ) (outcome : ℕ → Option (ℕ × ℕ)) → 1 ≤ parts → parts ≤ setting_count i
+        → AreOutcomes i parts outcome → ((number : ℕ) → 1 ≤ number → number ≤ parts → outcome number ≡ None)
+        → IsOutcome (problem_of (in_part i 1 1)) None }
+{}

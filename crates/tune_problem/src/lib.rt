@@ -1,0 +1,17 @@
+//! What a tuning asks, and what is right: the optimum, and valid certificates of it.
+//!
+//! The optimum is the first setting with the greatest total. A certificate has a row for each
+//! setting, which shows why that setting is not better. Both the search and the checker stand on
+//! this crate, and neither knows the other. In this API a setting is called a vector.
+#![tactic(auto)]
+
+mod cert;
+pub mod laws;
+mod problem;
+mod watcher;
+
+pub use cert::{Cert, Found, Listing, Row, Rows};
+pub use problem::{
+    cert_version, fight_count, fight_points, fight_weight, greatest_total, setting_warrior,
+};
+pub use watcher::{Best, Silent, Standing, Watcher};

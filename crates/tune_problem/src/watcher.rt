@@ -1,0 +1,43 @@
+//! Watchers of searches and checks, which are told how far these are.
+
+/// How far a search or a check is.
+#[derive(Clone, Copy, Debug, PartialEq, Eq)]
+pub struct Standing {
+    /// The number of settings that are done.
+    pub settings: u32,
+    /// The number of settings in all.
+    pub count: u32,
+    /// The number of fights played so far.
+    pub fights: u64,
+    /// The best setting so far. In a check, the one that the certificate names.
+    pub best: Option<Best>,
+}
+
+/// A setting and its total.
+#[derive(Clone, Copy, Debug, PartialEq, Eq)]
+pub struct Best {
+    /// The index of the setting, from 0.
+    pub vector: u32,
+    /// Its total, or what a certificate claims for it.
+    pub total: u32,
+}
+
+/// Is told how far a search or a check is. No result depends on it.
+pub trait Watcher {
+    /// Called after each setting.
+    fn see(&mut self, standing: Standing);
+
+    /// Called by the commands of `cwtune` when the search or the check has ended, before anything
+    /// is written. Searches and checks do not call it.
+    fn end(&mut self);
+}
+
+/// A watcher that does nothing.
+#[derive(Drop)]
+pub struct Silent;
+
+impl Watcher for Silent {
+    fn see(&mut self, _standing: Standing) {}
+
+    fn end(&mut self) {}
+}

@@ -1,0 +1,12 @@
+pub mod Parting
+pub mod Refusals
+pub mod Opponents
+pub mod Constants
+pub mod Meaning
+pub mod Tunings
+pub mod OneSetting
+pub mod Templates
+pub mod Duels
+pub mod Writable
+pub mod Certified
+pub mod AcceptedParts

@@ -1,0 +1,43 @@
+-- What the run of a check writes.
+use Rattle.std.specs.Prelude.{◌≡◌, ℕ, Bool, true, false, List, ◌∷◌, [], ◌++◌, codes, Option}
+use Rattle.std.specs.Fmt.{decimal}
+use Rattle.std.specs.Io.KnownBytes.{Appends}
+use Rattle.mars_fight.specs.Records.{records_of}
+use Rattle.tune_template.specs.Instances.{InputsView}
+use Rattle.tune_problem.specs.Problem.{problem_of}
+use Rattle.tune_cert.specs.Verdict.{IsRightVerdict}
+use Rattle.tune_cert.specs.declared.verdict.Reason.{Reason}
+use Rattle.tune_cert.specs.declared.verdict.Reason.TheVariants.{Malformed, RowCount, BestRow, WrongPoints, RepeatedFight, CapTooHigh, NotSame, NotRefused, Version}
+use Rattle.tune_cert.specs.declared.verdict.Verdict.{Verdict}
+use Rattle.tune_cert.specs.declared.verdict.Verdict.TheVariants.{Accepted, Rejected}
+use Rattle.tune_runs.specs.TuneRun.{Texts, Means}
+
+abbrev pub reason_text : Reason → List ℕ
+reason_text Malformed = codes "Malformed"
+reason_text RowCount = codes "RowCount"
+reason_text BestRow = codes "BestRow"
+reason_text WrongPoints = codes "WrongPoints"
+reason_text RepeatedFight = codes "RepeatedFight"
+reason_text CapTooHigh = codes "CapTooHigh"
+reason_text NotSame = codes "NotSame"
+reason_text NotRefused = codes "NotRefused"
+reason_text Version = codes "Version"
+
+-- `accepted best W total T`, or `rejected row R REASON`.
+abbrev pub check_line : Verdict → List ℕ
+check_line (Accepted best total) = codes "accepted best " ++ decimal best ++ codes " total " ++ decimal total ++ 10 ∷ []
+check_line (Rejected row reason) = codes "rejected row " ++ decimal row ++ 32 ∷ reason_text reason ++ 10 ∷ []
+
+abbrev pub accepts : Verdict → Bool
+accepts (Accepted best total) = true
+accepts (Rejected row reason) = false
+
+-- The line of the right verdict on the bytes was written; `accepted` says whether it accepts.
+abbrev pub WritesVerdict : Texts → List ℕ → Bool → Option (List ℕ) → Option (List ℕ) → Type 0
+WritesVerdict t cert accepted old new =
+    (i : InputsView) × (verdict : Verdict) × Means t i × IsRightVerdict (problem_of i) (records_of cert) verdict
+    × (accepted ≡ accepts verdict) × Appends old new (check_line verdict)
+
+-- The right verdict on the bytes accepts them, with this best setting and total.
+abbrev pub Accepts : Texts → List ℕ → ℕ → ℕ → Type 0
+Accepts t cert best total = (i : InputsView) × Means t i × IsRightVerdict (problem_of i) (records_of cert) (Accepted best total)

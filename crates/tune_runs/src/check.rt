@@ -1,0 +1,128 @@
+//! A check: from texts and a certificate to the line of the verdict.
+ghost use Rattle.std.specs.Prelude.{◌≡◌, ◌≢◌, ◌↔◌, ◌⊎◌, map, true, false, IfOk, IfErr, IsErrOf, IsTrue};
+ghost use Rattle.tune_template.specs.Instances.{InputsView};
+ghost use Rattle.tune_runs.specs.TuneRun.{texts, Means, IsTuneRefusal};
+ghost use Rattle.tune_runs.specs.TuneTexts.{texts_given};
+ghost use Rattle.tune_runs.specs.CheckRun.{accepts, WritesVerdict};
+
+use crate::fault::RunFault;
+use crate::inputs::inputs_of;
+use crate::lines::verdict_line;
+use crate::tune_texts::TuneTexts;
+use rc_instr::{Outlet, Rules};
+use std::alloc::Global;
+use std::io::Write;
+use tune_cert::{CheckFault, Silent, Verdict, Watcher, watched_check};
+use tune_template::Part;
+
+/// Checks a certificate of a tuning, whoever made it, and writes the line of the verdict. Returns
+/// whether it is accepted.
+///
+/// The line is `accepted best W total T` if the bytes spell a valid certificate; W is then the
+/// optimum of the tuning and T its total. Else it is `rejected row R REASON`, with the record, from
+/// 0, and what is wrong there. The template is a Redcode text with `;@tune` lines, each opponent a
+/// Redcode text, the schedule a table of fights. Plays only fights that the certificate lists. The
+/// outlet must not have failed.
+///
+/// # Errors
+///
+/// The first that applies: `TooManyOpponents` for more than 64, `Template` with the fault of its
+/// text, `Opponent` with the index of the first that does not assemble and its fault, `Schedule`
+/// with the fault of its text. Nothing is written then. `Write` if the writer failed: an unknown
+/// part of the line may be out. `OutOfMemory` if an allocation failed: nothing is written.
+pub fn check_run<W: Write>(
+    alloc: Global,
+    template: &[u8],
+    opponents: &[Vec<u8>],
+    schedule: &[u8],
+    rules: &Rules,
+    cert: &[u8],
+    out: &mut Outlet<W>,
+) -> Result<bool, RunFault>
+    requires { out.old.failed ≡ false }
+
+    // What was written is the line of the right verdict on the certificate, for the inputs in the
+    // texts.
+    ensures verdict { IfOk result (λ accepted. WritesVerdict (texts template.now (map (λ o. o.items) opponents.now) schedule.now rules.now) cert.now accepted out.old.bytes out.new.bytes) }
+
+    // Refused texts have no meaning, and nothing was written.
+    ensures refused { IfErr result (λ e. e ≢ RunFault.Write →
+        (e ≢ RunFault.NoCandidate) × IsTuneRefusal e (texts template.now (map (λ o. o.items) opponents.now) schedule.now rules.now) × (out.new ≡ out.old)) }
+    ensures write { IsErrOf result RunFault.Write ↔ IsTrue out.new.failed }
+
+    // Texts that have a meaning are not refused.
+    ensures meaning { (i : InputsView) → Means (texts template.now (map (λ o. o.items) opponents.now) schedule.now rules.now) i
+        → IfErr result (λ e. (e ≡ RunFault.Write) ⊎ (e ≡ RunFault.OutOfMemory)) }
+{
+    check_part_run(
+        alloc,
+        &TuneTexts {
+            template,
+            opponents,
+            schedule,
+            rules,
+            part: Part::whole(),
+        },
+        &mut Silent,
+        cert,
+        out,
+    )
+}
+
+/// Checks a certificate of a tuning of one part of a template's settings, and writes the line of
+/// the verdict. Returns whether it is accepted.
+///
+/// The settings are counted from 0 within the part, in the certificate and in the line. Tells
+/// `watcher` how far the check is. `check_run` is this run for part 1 of 1 with a silent watcher,
+/// and the rest is as there.
+///
+/// # Errors
+///
+/// Those of `check_run`; and `Part`, after `Schedule`, if there is no such part: nothing is written
+/// then.
+#[tactic(auto, using(crate::proofs::Tunings::refused_inputs))]
+pub fn check_part_run<T: Watcher, W: Write>(
+    alloc: Global,
+    given: &TuneTexts<'_>,
+    watcher: &mut T,
+    cert: &[u8],
+    out: &mut Outlet<W>,
+) -> Result<bool, RunFault>
+    requires { out.old.failed ≡ false }
+
+    // What was written is the line of the right verdict on the certificate, for the inputs in the
+    // texts.
+    ensures verdict { IfOk result (λ accepted. WritesVerdict (texts_given given.now) cert.now accepted out.old.bytes out.new.bytes) }
+
+    // Refused texts have no meaning, and nothing was written.
+    ensures refused { IfErr result (λ e. e ≢ RunFault.Write →
+        (e ≢ RunFault.NoCandidate) × IsTuneRefusal e (texts_given given.now) × (out.new ≡ out.old)) }
+    ensures write { IsErrOf result RunFault.Write ↔ IsTrue out.new.failed }
+
+    // Texts that have a meaning are not refused.
+    ensures meaning { (i : InputsView) → Means (texts_given given.now) i
+        → IfErr result (λ e. (e ≡ RunFault.Write) ⊎ (e ≡ RunFault.OutOfMemory)) }
+{
+    let inputs = match inputs_of(alloc, given) {
+        Ok(inputs) => inputs,
+        Err(fault) => return Err(fault),
+    };
+    let checked = watched_check(alloc, &inputs, cert, watcher);
+    watcher.end();
+    let verdict = match checked {
+        Ok(verdict) => verdict,
+        Err(CheckFault::OutOfMemory) => return Err(RunFault::OutOfMemory),
+    };
+    let line = verdict_line(alloc, verdict)?;
+    out.write_all(line.as_slice())?;
+    Ok(is_accepted(&verdict))
+}
+
+fn is_accepted(verdict: &Verdict) -> bool
+    ensures { result ≡ accepts verdict.now }
+{
+    match verdict {
+        Verdict::Accepted { best: _, total: _ } => true,
+        Verdict::Rejected { row: _, reason: _ } => false,
+    }
+}

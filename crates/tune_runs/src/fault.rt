@@ -1,0 +1,95 @@
+//! Why a run ends without its answer.
+ghost use Rattle.std.specs.Prelude.{◌≡◌};
+
+use mars_core::Side;
+use mars_fight::ScheduleFault;
+use rc_asm::AsmFault;
+use rc_instr::{LoadFault, OutOfMemory as MemoryRefused, RulesError, WriteFailed};
+use std::alloc::AllocFailed;
+use thiserror::Error;
+use tune_template::TemplateFault;
+
+/// Why a run ends without its answer. If several faults apply, the first in this order is returned,
+/// except that `Part` comes before `NoCandidate`, and `Position` last in a fight of two texts.
+///
+/// `FightText`, `Rules`, `Load` and `Position` are of fights; `Asm` is of an assembly, and of the
+/// candidate's text in a fight of two texts, whose other text is `Opponent` with index 0;
+/// `TooManyOpponents` to `NoCandidate` and `Part` are of tunings, and of checks except for
+/// `NoCandidate`; `Template`, `NoSuchSetting` and `Asm` are of the assembly of a setting. No fault
+/// inside another is ever its own `OutOfMemory`.
+#[derive(Clone, Copy, Debug, PartialEq, Eq, Error)]
+pub enum RunFault {
+    /// The fight text is malformed at this line, from 1.
+    #[error("line {line} of the fight text is malformed")]
+    FightText { line: u64 },
+    /// A number of the rules is out of range.
+    #[error("{0}")]
+    Rules(RulesError),
+    /// A load file is malformed, or its warrior breaks the rules. Its lines count from 1 within it.
+    #[error("{fault}")]
+    Load { side: Side, fault: LoadFault },
+    /// The position is nearer to address 0 than the distance of the rules.
+    #[error("the warriors are nearer to each other than the distance of the rules")]
+    Position,
+    /// The text does not assemble.
+    #[error("{0}")]
+    Asm(AsmFault),
+    /// There are more than 64 opponents.
+    #[error("more than 64 opponents")]
+    TooManyOpponents,
+    /// The template has a bad `;@tune` line, or is too long.
+    #[error("template: {0}")]
+    Template(TemplateFault),
+    /// The opponent at this index, from 0, does not assemble.
+    #[error("opponent {index}: {fault}")]
+    Opponent { index: u32, fault: AsmFault },
+    /// The schedule has a bad record.
+    #[error("schedule: {0}")]
+    Schedule(ScheduleFault),
+    /// No setting of the template assembles.
+    #[error("no setting of the template assembles")]
+    NoCandidate,
+    /// A writer failed.
+    #[error("cannot write the output")]
+    Write,
+    /// An allocation failed.
+    #[error("out of memory")]
+    OutOfMemory,
+    /// The template has no such part: the part's number is not 1 to the number of parts, or there
+    /// are more parts than settings.
+    #[error("no such part of the settings")]
+    Part,
+    /// The template has no setting at this index, from 0.
+    #[error("the template has no setting {index}")]
+    NoSuchSetting { index: u32 },
+}
+
+impl From<MemoryRefused> for RunFault {
+    ghost use Rattle.tune_runs.specs.declared.fault.RunFault.TheVariants.{OutOfMemory as MemoryFault};
+
+    ghost from_gives = { λ _ e. e ≡ MemoryFault };
+
+    fn from(_refused: MemoryRefused) -> RunFault {
+        RunFault::OutOfMemory
+    }
+}
+
+impl<T: Drop> From<AllocFailed<T>> for RunFault {
+    ghost use Rattle.tune_runs.specs.declared.fault.RunFault.TheVariants.{OutOfMemory as MemoryFault};
+
+    ghost from_gives = { λ _ e. e ≡ MemoryFault };
+
+    fn from(_refused: AllocFailed<T>) -> RunFault {
+        RunFault::OutOfMemory
+    }
+}
+
+impl From<WriteFailed> for RunFault {
+    ghost use Rattle.tune_runs.specs.declared.fault.RunFault.TheVariants.{Write as WriteFault};
+
+    ghost from_gives = { λ _ e. e ≡ WriteFault };
+
+    fn from(_failed: WriteFailed) -> RunFault {
+        RunFault::Write
+    }
+}

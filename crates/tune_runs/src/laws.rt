@@ -1,0 +1,56 @@
+//! Laws of tunings and their certificates. A law is a function with an empty body: its contract is
+//! what is proved.
+ghost use Rattle.std.specs.Prelude.{◌≡◌, ◌+◌, ◌≤◌, ℕ, ℤ, List, Option, Some, true};
+ghost use Rattle.std.specs.Io.KnownBytes.{Appends};
+ghost use Rattle.mars_fight.specs.Records.{records_of};
+ghost use Rattle.tune_template.specs.Instances.{InputsView};
+ghost use Rattle.tune_problem.specs.Problem.{problem_of};
+ghost use Rattle.tune_cert.specs.CertText.{cert_text};
+ghost use Rattle.tune_problem.specs.Valid.{cert_of};
+ghost use Rattle.tune_cert.specs.Spelling.{Spells};
+ghost use Rattle.tune_search.specs.Found.{IsSearch};
+ghost use Rattle.tune_runs.specs.Report.{report_text, report_for};
+ghost use Rattle.tune_problem.specs.Parts.{first_setting, IsOutcome, IsBestPart};
+ghost use Rattle.tune_runs.specs.TuneRun.{Texts, of_part, Means, IsTuning, WritesTuning};
+ghost use Rattle.tune_cert.specs.Verdict.{IsRightVerdict};
+ghost use Rattle.tune_runs.specs.CheckRun.{WritesVerdict, Accepts, check_line};
+
+use tune_cert::{Found, Verdict};
+
+/// States that the texts of a tuning have at most one meaning.
+pub fn texts_have_one_meaning()
+    ensures { (t : Texts) (i j : InputsView) → Means t i → Means t j → i ≡ j }
+{}
+
+/// States of whatever a search may find: the text of its certificate spells that certificate, and
+/// the right verdict on this text is Accepted, with its best setting and total.
+pub fn a_written_certificate_is_accepted()
+    ensures spelled { (t : Texts) (capacity : ℕ) (i : InputsView) (f : Found) → Means t i → IsSearch (problem_of i) capacity f
+        → Spells (records_of (cert_text (cert_of f))) (cert_of f) }
+    ensures accepted { (t : Texts) (capacity : ℕ) (i : InputsView) (f : Found) (v : Verdict) → Means t i → IsSearch (problem_of i) capacity f
+        → IsRightVerdict (problem_of i) (records_of (cert_text (cert_of f))) v → v ≡ Verdict.Accepted f.best f.total }
+{}
+
+/// States the certified optimum: if a tuning wrote its certificate and its report, and a check of
+/// any bytes for the same texts accepts them, then the check's line names the best setting and the
+/// total of that report.
+pub fn an_accepted_certificate_names_the_optimum()
+    ensures { (t : Texts) (capacity : ℕ) (bytes : List ℕ) (report report_after cert cert_after out out_after : Option (List ℕ))
+        → WritesTuning t capacity report report_after cert cert_after → WritesVerdict t bytes true out out_after
+        → (i : InputsView) × (f : Found) × (values : List ℤ) × IsTuning t capacity i f values
+        × Appends report report_after (report_text (report_for i f values)) × Appends out out_after (check_line (Verdict.Accepted f.best f.total)) }
+{}
+
+/// States that accepted certificates of all parts name the optimum of the whole: whoever has a line
+/// of acceptance for each part knows that, of the parts with the greatest total, the first one's
+/// best setting is the optimum of all settings, with this total. Its index in the whole is counted
+/// on from where its part begins.
+pub fn accepted_parts_name_the_optimum()
+    // A line of acceptance names what its certificate is accepted with.
+    ensures line { (t : Texts) (bytes : List ℕ) (out out_after : Option (List ℕ)) → WritesVerdict t bytes true out out_after
+        → (best total : ℕ) × Accepts t bytes best total × Appends out out_after (check_line (Verdict.Accepted best total)) }
+    ensures optimum { (t : Texts) (parts : ℕ) (cert : ℕ → List ℕ) (best total : ℕ → ℕ) (number : ℕ)
+        → ((n : ℕ) → 1 ≤ n → n ≤ parts → Accepts (of_part t n parts) (cert n) (best n) (total n))
+        → IsBestPart parts (λ n. Some (best n, total n)) number (best number) (total number)
+        → (i : InputsView) × Means (of_part t 1 1) i × IsOutcome (problem_of i) (Some (first_setting i number parts + best number, total number)) }
+{}

@@ -1,0 +1,35 @@
+//! Rules as they were given, not yet checked.
+ghost use Rattle.std.specs.Prelude.{◌≡◌, ◌↔◌, IsOk, IfOk, IfErr};
+ghost use Rattle.rc_instr.specs.Rules.{rules_view, IsRules};
+ghost use Rattle.rc_instr.specs.RulesRefusal.{IsFirstBroken};
+
+use rc_instr::{Rules, RulesError};
+
+/// The five numbers of rules, in any range.
+#[derive(Clone, Copy)]
+pub struct RawRules {
+    /// The size of the core in cells.
+    pub core: u32,
+    /// The cycles until a tie.
+    pub cycles: u32,
+    /// The most tasks of a warrior.
+    pub tasks: u32,
+    /// The most instructions of a warrior.
+    pub length: u32,
+    /// The least distance between two warriors in cells.
+    pub distance: u32,
+}
+
+/// Checks raw rules.
+///
+/// # Errors
+///
+/// The first number that is out of range: `Core` for a core of 7 or less or more than 65535 cells,
+/// and so on, as `Rules::try_new` has it.
+pub fn rules_of(raw: RawRules) -> Result<Rules, RulesError>
+    ensures ok { IsOk result ↔ IsRules (rules_view raw.core raw.cycles raw.tasks raw.length raw.distance) }
+    ensures rules { IfOk result (λ r. r ≡ rules_view raw.core raw.cycles raw.tasks raw.length raw.distance) }
+    ensures refused { IfErr result (λ e. IsFirstBroken e (rules_view raw.core raw.cycles raw.tasks raw.length raw.distance)) }
+{
+    Rules::try_new(raw.core, raw.cycles, raw.tasks, raw.length, raw.distance)
+}
