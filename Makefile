@@ -1,6 +1,7 @@
-.PHONY: look test cases build prove demo bench memory tools
+.PHONY: look test cases build prove demo bench compare memory tools dist deb install uninstall
 
 PROGRAM = crates/cwtune/out/cwtune
+PREFIX = /usr/local
 
 # Tunes the example template with a quick build that is not proved: a first look, within two minutes.
 look:
@@ -12,7 +13,7 @@ test:
 	@python3 tools/gate.py
 
 # Proves and builds the program, assembles the texts that ask for much, and plays the cases of input
-# and output, the pipes and the cuts alone.
+# and output, the pipes and the cuts, without the rest of the gate.
 cases: build
 	@python3 tools/large_texts.py $(PROGRAM)
 	@python3 tools/run_cases.py $(PROGRAM)
@@ -51,3 +52,24 @@ memory: build
 # has it.
 tools: build
 	@python3 tools/try_tools.py
+
+# Plays a thousand fights and assembles texts by pMARS too, and fails if something differs that
+# is not known to. PMARS=PATH is a server build; without it one is built from Debian's sources.
+compare: build
+	@python3 tools/compare_pmars.py $(or $(PMARS),"$$(sh tools/pmars.sh)")
+
+# Packs the proved program, with its manual page, tools, examples and documents, into dist/.
+dist: build
+	@python3 tools/dist.py tar dist
+
+# Makes a Debian package of the release in dist/.
+deb: build
+	@python3 tools/dist.py deb dist
+
+# Puts the release below PREFIX, by default /usr/local.
+install: build
+	@python3 tools/dist.py install $(PREFIX)
+
+# Removes what `make install` put below PREFIX.
+uninstall:
+	@python3 tools/dist.py uninstall $(PREFIX)

@@ -15,10 +15,11 @@ HERE = pathlib.Path(__file__).resolve().parent
 WARRIORS = HERE.parent / "examples" / "warriors"
 sys.path.insert(0, str(HERE.parent / "tools"))
 
-from series import series  # noqa: E402  (the folder of the tools has to be known first)
+# The folder of the tools has to be known first.
+from pmars_games import Game, fights_of  # noqa: E402
+from program import Rules  # noqa: E402
 
-# The rules and the length of each series, and the position of its first fight.
-CORE, CYCLES, TASKS, LENGTH, DISTANCE = 8000, 80_000, 8000, 100, 100
+# How many fights a series has, and the position of the first.
 ROUNDS, SEED = 60, 3000
 
 
@@ -31,38 +32,11 @@ class Pair:
 
     def __init__(self, candidate, opponent, programs, folder):
         self.name = f"{candidate}:{opponent}"
-        self.folder = pathlib.Path(folder)
         cwtune, pmars = map(str, programs)
-        first, second = (self.warrior(name) for name in (candidate, opponent))
-        self.tune = [cwtune, "tune", f"--core={CORE}", f"--cycles={CYCLES}", f"--tasks={TASKS}"]
-        self.tune += [f"--length={LENGTH}", f"--distance={DISTANCE}"]
-        self.tune += [self.template(candidate), self.schedule(), self.file("cert.csv", ""), second]
-        self.pmars = [pmars, "-b", "-k", "-F", str(SEED), "-r", str(ROUNDS), "-s", str(CORE)]
-        self.pmars += ["-c", str(CYCLES), "-p", str(TASKS), "-l", str(LENGTH)]
-        self.pmars += ["-d", str(DISTANCE), first, second]
-
-    def file(self, name, text):
-        """Writes a file of this series, and returns its path."""
-        path = self.folder / name
-        path.write_text(text, encoding="ascii")
-        return str(path)
-
-    def warrior(self, name):
-        """Returns the path of a load file that both programs read as Redcode."""
-        # Without an assertion pMARS prints a warning for each warrior.
-        text = (WARRIORS / f"{name}.load").read_text(encoding="ascii")
-        return self.file(f"{name}.red", ";assert 1\n" + text)
-
-    def template(self, name):
-        """Returns the path of a template with one setting, which is the warrior."""
-        text = (WARRIORS / f"{name}.load").read_text(encoding="ascii")
-        return self.file(f"{name}-template.red", ";@tune ONE 0 0 1 0\n" + text)
-
-    def schedule(self):
-        """Returns the path of the fights of the series, as `tools/series.py` has them."""
-        fights = series(SEED, ROUNDS, CORE, DISTANCE)
-        records = "".join(f"0,{position},{first}\n" for position, first in fights)
-        return self.file("schedule.csv", "opponent,position,first\n" + records)
+        loads = [(WARRIORS / f"{name}.load").read_text("ascii") for name in (candidate, opponent)]
+        game = Game(Rules(), *loads, folder)
+        self.tune = game.tune_words(cwtune, fights_of(game.rules, SEED, ROUNDS))
+        self.pmars = game.series_words(pmars, SEED, ROUNDS)
 
     def play_tune(self):
         """Returns the seconds of the series by `cwtune tune`, and the candidate's points."""

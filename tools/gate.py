@@ -11,8 +11,8 @@ import argparse, os, pathlib, re, resource, shutil, subprocess, sys, tempfile, t
 from endings import run_tool
 
 ROOT = pathlib.Path(__file__).resolve().parent.parent
-STEPS = ["edits.py", "try_tools.py --plain", "large_texts.py", "run_cases.py", "pipes.py",
-         "cuts.py", "refuse_memory.py", "refuse_writes.py", "refuse_growth.py"]
+STEPS = ["edits.py", "try_tools.py --plain", "large_texts.py", "limits.py", "run_cases.py",
+         "pipes.py", "cuts.py", "refuse_memory.py", "refuse_writes.py", "refuse_growth.py"]
 # Ends a tool, and all that it has started, after 20 minutes. A tool in Python says where it was.
 WATCHED = ["timeout", "--signal=ABRT", "--kill-after=5", "1200", sys.executable, "-X",
            "faulthandler"]
@@ -21,13 +21,13 @@ ENVIRONMENT = {name: value for name, value in os.environ.items() if name != "RT_
 
 
 def copy_tree(to, *left_out):
-    """Copies the tree without what was made in it and without the folders `left_out`."""
+    """Copies the tree without what was built in it and without the folders `left_out`."""
     ignored = shutil.ignore_patterns(".git", "out", "__pycache__", *left_out)
     shutil.copytree(ROOT, to, ignore=ignored, dirs_exist_ok=True)
 
 
 def run(words, folder):
-    """Runs a step and prints what it prints. Returns how much passed and failed."""
+    """Runs a step and prints what it prints. Returns the numbers that passed and failed."""
     last = ""
     print(f"{time.strftime('%H:%M:%S')} {' '.join(words)}", flush=True)
     with subprocess.Popen(words, cwd=folder, env=ENVIRONMENT, stdout=subprocess.PIPE,
@@ -50,8 +50,8 @@ def minutes(seconds):
 
 def main():
     parser = argparse.ArgumentParser(description=__doc__.partition("\n")[0])
-    parser.add_argument("--anew", action="store_true", help="prove and try what earlier runs on "
-                        "this machine passed, too (only with a kit whose `rt ci` has --anew)")
+    parser.add_argument("--anew", action="store_true", help="prove and try again what earlier "
+                        "runs on this machine passed (only with a kit whose `rt ci` has --anew)")
     anew = ["--anew"] if parser.parse_args().anew else []
     began = time.monotonic()
     with tempfile.TemporaryDirectory(prefix="cwtune-gate-") as name:

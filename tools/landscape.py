@@ -28,10 +28,7 @@ def load_pyplot():
 
 
 def read_caps(found, fights):
-    """Returns for each setting its cap and whether it was dropped, or None if it does not assemble.
-
-    Without a schedule each weight is 1, and the fights are those of the best setting.
-    """
+    """Returns for each setting its cap and whether it was dropped, or None if it has no warrior."""
     caps = []
     for v in range(len(found.rows)):
         points = found.points(v)
@@ -128,15 +125,7 @@ def main():
     found = tuning_files.Certificate(asked.cert)
     if not template.names or len(template.settings) != len(found.rows):
         parser.error("the template has no constants, or the certificate is not of that template")
-    if found.version == 2 and not asked.schedule:
-        parser.error("a certificate of version 2 needs --schedule, for the weights")
-    fights = [tuning_files.Fight(0, 0, "c", 1)] * len(found.points(found.best))
-    if asked.schedule:
-        fights = tuning_files.read_schedule(asked.schedule)
-    if not found.is_of(fights):
-        wrong = (f" is not a certificate of the schedule {asked.schedule}" if asked.schedule
-                 else ": the points of the best setting do not make its total")
-        raise Fault(asked.cert + wrong, 2)
+    fights = found.fights(asked.schedule)
     plot = load_pyplot()
     draw = draw_line if len(template.names) == 1 else draw_maps
     figure = draw(plot, template, found, read_caps(found, fights))

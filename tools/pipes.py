@@ -3,8 +3,8 @@
 
 A reader that goes away ends a run with status 3 and the line `failed: Write`. A standard input that
 cannot be read, that is a terminal or that has no end leads to a named error or a result, in bounded
-time. A standard error that is a terminal gets a progress line, and help after a refusal. A word that
-is not UTF-8 is a usage error.
+time. A standard error that is a terminal gets a progress line, and help after a refusal. A word
+that is not UTF-8 is a usage error.
 Expected values follow from `docs/FORMATS.md`. Prints what failed, and as its last line
 `N passed, N failed`. The exit status is 1 if a check failed.
 """

@@ -2,7 +2,7 @@
 """Prints what a certificate says of each opponent, of the best settings and of the constants."""
 import argparse
 import tuning_files
-from endings import Fault, number_from, run_tool
+from endings import number_from, run_tool
 
 
 def print_scores(title, points, fights):
@@ -61,9 +61,7 @@ def main():
                         help="how many of the best settings [default: 10]")
     asked = parser.parse_args()
     found = tuning_files.Certificate(asked.cert)
-    fights = tuning_files.read_schedule(asked.schedule)
-    if not found.is_of(fights):
-        raise Fault(f"{asked.cert} is not a certificate of the schedule {asked.schedule}", 2)
+    fights = found.fights(asked.schedule)
     template = tuning_files.Template(asked.template) if asked.template else None
     if template and len(template.settings) != len(found.rows):
         parser.error("the certificate is not of that template")

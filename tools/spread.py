@@ -10,22 +10,22 @@ Parts that are done stay in the folder CERT.parts until CERT is written. After C
 repeat the command to run the others, with any --jobs. --anew throws the parts away. Parts of other
 inputs are refused.
 
-Exit status, as that of `cwtune`: 0 done; 1 an input is refused, or CERT rejected; 2 usage error;
-3 a part has no result, or a file cannot be read or written.
+Exit status, as that of `cwtune`: 0 done; 1 an input is refused, or CERT rejected; 2 usage error, or
+CERT.parts is of other inputs; 3 a part has no result, or a file cannot be read or written.
 """
 import argparse, os, pathlib, shutil, signal, subprocess, sys, time
 
 from endings import Fault, number_from, run_tool, whole_file
+from program import add_program, add_rules, rules_of
 from spread_jobs import Here, Hosts
-from spread_parts import RULES, Folder
+from spread_parts import Folder, Jobs
 
-BUILT = pathlib.Path(__file__).resolve().parent.parent / "crates/cwtune/out/cwtune"
 NO_SUCH_PART = b"error: --part I/K: the template has fewer than K settings\n"
 
 
 def arguments():
-    parser = argparse.ArgumentParser(
-        description=__doc__, formatter_class=argparse.RawDescriptionHelpFormatter)
+    parser = argparse.ArgumentParser(description=__doc__, allow_abbrev=False,
+                                     formatter_class=argparse.RawDescriptionHelpFormatter)
     parser.add_argument("--jobs", type=number_from(1), default=os.cpu_count(), metavar="N",
                         help="parts that run side by side, on each host "
                         "[default: the processors of this one]")
@@ -35,22 +35,19 @@ def arguments():
                         "ssh (--sshloginfile of GNU parallel; `:` is this one)")
     parser.add_argument("--anew", action="store_true",
                         help="throw away the parts that are done, and begin again")
+    parser.add_argument("--merge", type=number_from(1), metavar="K", help="run nothing, and put "
+                        "together the K parts that jobs of a cluster wrote: CERT.1 .. CERT.K")
     parser.add_argument("--resume", action="store_true",
-                        help="go on from the parts that are done, as without this word")
+                        help="no effect: to go on from the parts that are done is the default")
     parser.add_argument("--check", action="store_true",
                         help="let `cwtune check` check the certificate before it is written")
-    parser.add_argument("--program", default=str(BUILT), metavar="FILE", help="the program cwtune")
-    parser.add_argument("--cache", type=int, default=4096, metavar="N", help="as for `cwtune tune`")
-    for rule in RULES:
-        parser.add_argument(f"--{rule}", type=int, metavar="N", help="as for `cwtune tune`")
+    add_program(parser)
+    parser.add_argument("--cache", type=int, default=4096, metavar="N", help="as for `cwtune`")
+    add_rules(parser)
     for name in ["template", "schedule", "cert"]:
         parser.add_argument(name, metavar=name.upper())
     parser.add_argument("opponents", nargs="+", metavar="OPPONENT")
     return parser.parse_args()
-
-
-def rules_of(args):
-    return [f"--{rule}={getattr(args, rule)}" for rule in RULES if getattr(args, rule) is not None]
 
 
 def end_as(done):
@@ -71,10 +68,10 @@ def refuse_faults(args):
     """
     cert = pathlib.Path(args.cert)
     is_new = not cert.exists()
-    part = f"--part=1/{2 ** 32 - 1}"
+    words = [f"--part=1/{2 ** 32 - 1}", *rules_of(args).words(), f"--cache={args.cache}", "--"]
     try:
-        done = run_program(args.program, "tune", part, *rules_of(args), f"--cache={args.cache}",
-                           "--", args.template, args.schedule, args.cert, *args.opponents)
+        done = run_program(args.program, "tune", *words, args.template, args.schedule, args.cert,
+                           *args.opponents)
     finally:
         if is_new and cert.is_file() and cert.stat().st_size == 0:
             cert.unlink()
@@ -175,42 +172,40 @@ def rows_of(folder, number, part):
     if not part.report:
         yield from (f"refused,{v},-" for v in range(part.first, part.first + part.count))
         return
-    head, _, *rows = (folder.path / f"{number}.cert").read_text().splitlines()
+    head, _, *rows = folder.cert(number).read_text().splitlines()
     if {head.split(",")[2], part.report["vectors"], str(len(rows))} != {str(part.count)}:
-        raise Fault(f"part {number} has not {part.count} settings: {folder.told}/{number}.cert", 3)
+        raise Fault(f"the certificate of part {number} has not {part.count} settings", 3)
     for row in rows:
         yield moved(part, row)
 
 
 def write_whole(folder, parts):
-    """Writes the certificate of the whole template into the folder, and returns its path."""
+    """Puts the certificate of the whole template together."""
     best = best_of(parts.values())
     number = next(number for number, part in parts.items() if part is best)
-    path = folder.path / "whole.cert"
-    with (folder.path / f"{number}.cert").open() as file:
+    with folder.cert(number).open() as file:
         version = file.readline().split(",")[1]
-    with path.open("w") as file:
+    with folder.whole().open("w") as file:
         file.write(f"cwcert,{version},{folder.count}\nbest,{index_of(best)},{total_of(best)}\n")
         for number, part in parts.items():
             file.writelines(f"{row}\n" for row in rows_of(folder, number, part))
-    return path
 
 
 def check(args, folder):
     """Checks the certificate of the whole template. Returns the line of `cwtune check`, or ends
     with it."""
-    done = run_program("./cwtune", "check", *rules_of(args), "t.red", "s.csv", "whole.cert",
-                       *folder.names[3:], cwd=folder.path)
+    (program, *files), place = folder.check_words()
+    done = run_program(program, "check", *rules_of(args).words(), "--", *files, cwd=place)
     if done.returncode != 0:
         print(done.stdout.decode(), end="")
-        print(f"{args.cert} is not written, and the parts stay in {folder.told}", file=sys.stderr)
+        print(f"{args.cert} is not written, and the parts stay", file=sys.stderr)
         end_as(done)
     return done.stdout.decode()
 
 
 def tune_parts(args, folder, progress):
     """Runs the parts that are not done. Returns for each its fault, or None if it has a result."""
-    options = [*rules_of(args), f"--cache={args.cache}"]
+    options = [*rules_of(args).words(), f"--cache={args.cache}"]
     jobs = (Hosts if args.hosts else Here)(args, folder, options, progress.todo)
     faults = {}
     try:
@@ -244,8 +239,8 @@ def say_missing(folder, progress, faults):
             raise Fault(line.split(": ", 1)[1].strip(), 1 if line[0] == "r" else 2)
     told = " ".join(map(str, missing))
     cause = f" ({said[0].strip()})" if said else ""
-    raise Fault(f"no result of {len(missing)} of {folder.parts} parts: {told}{cause}\n"
-                f"{go_on(folder, progress)}", 3)
+    hint = "" if isinstance(folder, Jobs) else f"\n{go_on(folder, progress)}"
+    raise Fault(f"no result of {len(missing)} of {folder.parts} parts: {told}{cause}{hint}", 3)
 
 
 def finish(args, folder, progress):
@@ -253,9 +248,9 @@ def finish(args, folder, progress):
     if not any(part.report for part in progress.done()):
         folder.end()
         raise Fault("NoCandidate")
-    path = write_whole(folder, progress.parts)
+    write_whole(folder, progress.parts)
     verdict = check(args, folder) if args.check else ""
-    with whole_file(args.cert) as file, path.open() as whole:
+    with whole_file(args.cert) as file, folder.whole().open() as whole:
         shutil.copyfileobj(whole, file)
     print(*report_of(progress.done(), folder.count), sep="\n")
     print(verdict, end="", flush=True)
@@ -267,7 +262,14 @@ def main():
     signal.signal(signal.SIGTERM, signal.default_int_handler)
     args = arguments()
     refuse_faults(args)
-    folder = Folder(args, count_settings(args))
+    count = count_settings(args)
+    if args.merge:
+        folder = Jobs(args, count)
+        progress = Progress(folder)
+        say_missing(folder, progress, {})
+        finish(args, folder, progress)
+        return
+    folder = Folder(args, count)
     progress = Progress(folder)
     try:
         faults = tune_parts(args, folder, progress)

@@ -12,11 +12,12 @@ import fcntl, hashlib, json, os, pathlib, re, shutil
 from typing import NamedTuple
 
 from endings import Fault, whole_file
+from program import rules_of
 
 MARK, MADE_BY = "spread.json", "spread.py 1"
-RULES = {"core": 8000, "cycles": 80000, "tasks": 8000, "length": 100, "distance": 100}
 OWN = r"cwtune|[ts]\.(red|csv)|o\d+\.red|whole\.cert|\d+\.(cert|done)|\d+\.\d+\.\w+|.*\.\d+\.new"
 UNFINISHED = r"\d+\.\d+\.\w+|.*\.\d+\.new"
+NO_CANDIDATE = "refused: NoCandidate\n"
 
 
 class Part(NamedTuple):
@@ -25,6 +26,17 @@ class Part(NamedTuple):
     first: int
     count: int
     report: dict
+
+
+def part_of(number, parts, count, report):
+    """Returns part `number` of `parts` of the settings, with its report."""
+    first, end = (number - 1) * count // parts, number * count // parts
+    return Part(first, end - first, report)
+
+
+def report_in(path):
+    """Returns the lines of a report by their first words."""
+    return dict(line.split(" ", 1) for line in path.read_text().splitlines())
 
 
 def hash_of(path):
@@ -36,15 +48,51 @@ def fingerprint(args, paths):
     """Returns a value for each thing that the parts depend on. The paths are in the order of
     `names_of`."""
     program, template, schedule, *opponents = map(hash_of, paths)
-    rules = {rule: number if getattr(args, rule) is None else getattr(args, rule)
-             for rule, number in RULES.items()}
-    return {"template": template, "schedule": schedule, "opponents": opponents, "rules": rules,
-            "cache": args.cache, "program": program}
+    return {"template": template, "schedule": schedule, "opponents": opponents,
+            "rules": rules_of(args)._asdict(), "cache": args.cache, "program": program}
 
 
 def names_of(args):
     """Returns the names of the copies, which need no quoting."""
     return ["cwtune", "t.red", "s.csv"] + [f"o{k}.red" for k in range(len(args.opponents))]
+
+
+class Jobs:
+    """The parts that the jobs of a cluster have written beside CERT.
+
+    Job I writes the certificate of its part as CERT.I, and what `tune` prints as CERT.I.report and
+    CERT.I.fault.
+    """
+
+    def __init__(self, args, count):
+        self.args, self.told, self.count = args, args.cert, count
+        self.parts = args.merge
+
+    def cert(self, number):
+        return pathlib.Path(f"{self.told}.{number}")
+
+    def part(self, number):
+        """Returns what came of a part, or None if it has no result."""
+        try:
+            fault = pathlib.Path(f"{self.told}.{number}.fault").read_text(errors="replace")
+            report = report_in(pathlib.Path(f"{self.told}.{number}.report"))
+        except (FileNotFoundError, ValueError):
+            return None
+        if report and not {"vectors", "best", "total", "fights"} <= report.keys():
+            return None
+        is_done = fault == "" if report else fault == NO_CANDIDATE
+        return part_of(number, self.parts, self.count, report) if is_done else None
+
+    def whole(self):
+        return pathlib.Path(f"{self.told}.whole")
+
+    def check_words(self):
+        args = self.args
+        return [args.program, args.template, args.schedule, self.whole(), *args.opponents], None
+
+    def end(self):
+        """Leaves the files of the jobs where they are."""
+        self.whole().unlink(missing_ok=True)
 
 
 class Folder:
@@ -75,8 +123,8 @@ class Folder:
         self.parts, self.count = made["parts"], made["count"]
 
     def read_mark(self):
-        """Returns what the folder says of itself, which is little if it is new. A folder that this
-        tool did not make is refused."""
+        """Returns what the folder says of itself: nothing if it is new. Refuses a folder that this
+        tool did not make."""
         files = os.listdir(self.path)
         if all(re.fullmatch(rf"{MARK}\.\d+\.new", name) for name in files):
             return {}
@@ -104,7 +152,7 @@ class Folder:
             json.dump(made, file)
 
     def compare(self, made, wanted, told):
-        """Refuses a folder of which the fingerprint is another one."""
+        """Refuses a folder whose fingerprint differs."""
         other = [name for name, value in wanted.items() if made["of"][name] != value]
         if other:
             raise Fault(f"{told.format(self.told, ', '.join(other))}: give --anew to throw the "
@@ -132,23 +180,34 @@ class Folder:
         fault = self.file(number, "fault").read_text(errors="surrogateescape")
         report, cert = {}, None
         if status == 0:
-            lines = self.file(number, "report").read_text().splitlines()
-            report = dict(line.split(" ", 1) for line in lines)
+            report = report_in(self.file(number, "report"))
             cert = hash_of(self.file(number, "cert"))
-            self.file(number, "cert").replace(self.path / f"{number}.cert")
-        elif (status, fault) != (1, "refused: NoCandidate\n"):
+            self.file(number, "cert").replace(self.cert(number))
+        elif (status, fault) != (1, NO_CANDIDATE):
             return fault or f"failed: it ended with status {status}\n"
         with whole_file(self.path / f"{number}.done") as file:
             json.dump({"report": report, "cert": cert}, file)
         return None
 
+    def cert(self, number):
+        """Returns where the certificate of a part is, once the part is done."""
+        return self.path / f"{number}.cert"
+
     def part(self, number):
         """Returns what came of a part, or None if it is not done."""
         try:
             done = json.loads((self.path / f"{number}.done").read_text())
-            if done["cert"] and hash_of(self.path / f"{number}.cert") != done["cert"]:
+            if done["cert"] and hash_of(self.cert(number)) != done["cert"]:
                 return None
         except (FileNotFoundError, ValueError):
             return None
-        first, end = (number - 1) * self.count // self.parts, number * self.count // self.parts
-        return Part(first, end - first, done["report"])
+        return part_of(number, self.parts, self.count, done["report"])
+
+    def whole(self):
+        """Returns where the certificate of the whole template is put together."""
+        return self.path / "whole.cert"
+
+    def check_words(self):
+        """Returns the program and the files of a check of the whole, and the folder to run in."""
+        return ["./cwtune", "t.red", "s.csv", "whole.cert", *self.names[3:]], self.path
+

@@ -2,8 +2,8 @@
 import pathlib, subprocess
 
 from endings import Fault
+from program import BUILT
 
-BUILT = pathlib.Path(__file__).resolve().parent.parent / "crates/cwtune/out/cwtune"
 RULES = "--core=16 --cycles=20 --tasks=4 --length=4 --distance=4".split()
 FILES = {
     "dat.red": b"DAT 0\n",
@@ -36,8 +36,8 @@ def library_of(source, work):
 def tally(results, before=""):
     """Prints what failed, and as its last line `N passed, N failed`. Returns the exit status.
 
-    Each of the results is a name, and a list of what was wrong. Status 1 says that one failed, or
-    that there is none.
+    Each of the results is a name, and a list of what was wrong. Status 1: one failed, or there were
+    none.
     """
     passed = failed = 0
     for name, wrong in results:

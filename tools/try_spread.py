@@ -265,15 +265,36 @@ for word in "$@"; do case $word in [0-9]*.cert) sed -i '$d' $word;; esac; done; 
     total = f"""set -o pipefail; {place.program} "$@" | sed 's/^total 4/total 5/'\n"""
     for name, text, words, end in [
         ("a row too few", short, ["--parts=1"],
-         (3, "", "failed: part 1 has not 4 settings: CERT.parts/1.cert\n")),
+         (3, "", "failed: the certificate of part 1 has not 4 settings\n")),
         ("another total", total, ["--check"], (1, "rejected row 1 BestRow\n",
-         "CERT is not written, and the parts stay in CERT.parts\n")),
+         "CERT is not written, and the parts stay\n")),
     ]:
         place.write("liar", b"#!/bin/bash\n" + text.encode())
         (place.folder / "liar").chmod(0o755)
         came = place.spread("--program=./liar", *words, *SMALL)
         yield compare(name, (*end, None), (*came, place.read("CERT")))
         place.clear()
+
+
+def merged(place):
+    """Runs the parts as jobs of a cluster do, and puts them together."""
+    unbroken = place.spread("--parts=3", *DECOY), place.read("CERT")
+    place.clear()
+    for job in "123":
+        env = {**os.environ, "CWTUNE": place.program, "SLURM_ARRAY_TASK_ID": job,
+               "SLURM_ARRAY_TASK_COUNT": "3"}
+        subprocess.run(["sh", str(EXAMPLES / "slurm.sh"), *DECOY], cwd=place.folder, env=env)
+    yield compare("--merge makes what an unbroken run makes", unbroken,
+                  (place.spread("--merge=3", *DECOY), place.read("CERT")))
+    place.clear()
+    yield compare("--merge --check", (0, "accepted"), (
+        (came := place.spread("--merge=3", "--check", *DECOY))[0], came[1].splitlines()[-1][:8]))
+    place.clear()
+    (place.folder / "CERT.2.report").write_bytes(b"")
+    yield compare("--merge without a part", (
+        3, "", "failed: no result of 1 of 3 parts: 2\n", None),
+        (*place.spread("--merge=3", *DECOY), place.read("CERT")))
+    yield compare("--merge of too many parts", 3, place.spread("--merge=4", *DECOY)[0])
 
 
 def progress(place):
@@ -299,7 +320,7 @@ def progress(place):
 
 def trials(program):
     for plays in [after_kills, other_inputs, damaged_parts, folders, templates, faults, liars,
-                  progress]:
+                  merged, progress]:
         with tempfile.TemporaryDirectory() as folder:
             try:
                 for name, wrong in plays(Place(program, folder)):

@@ -9,7 +9,7 @@ status is 1 if a run failed.
 """
 import argparse, contextlib, os, pathlib, re, signal, subprocess, sys, tempfile
 
-import try_spread
+import try_authors, try_spread
 from endings import Fault, run_tool
 from trials import program_of, tally
 
@@ -84,11 +84,13 @@ REFUSALS = [
       for name in ["x.jpg", "x", "png"]),
     *((f"{tool} none", "error: no program none (`make build` builds one)", 2)
       for tool in ["run_cases.py", "cuts.py", "pipes.py", "large_texts.py", "refuse_memory.py",
-                   "refuse_writes.py"]),
+                   "refuse_writes.py", "limits.py"]),
+    ("compare_pmars.py none", "error: no program none (`sh tools/pmars.sh` builds one)", 2),
     ("refuse_growth.py none", "error: no program none (`rt test` builds one)", 2),
 ]
 NO_FOLDER = ("landscape.py step.red step.cert none/x.png", f"failed: none/x.png: {NO_FILE}", 3)
-TOOLS = ["tuning_files.py", "series.py", "scores.py", "landscape.py", "spread.py", "try_tools.py"]
+TOOLS = ["tuning_files.py", "series.py", "scores.py", "landscape.py", "spread.py", "warrior.py",
+         "holdout.py", "compare_pmars.py", "manual.py", "dist.py", "try_tools.py"]
 PICTURES = {
     "line.txt": "landscape.py step.red step.cert",
     "map.txt": "landscape.py stone.red all-fights.cert",
@@ -198,8 +200,9 @@ def main():
     parser.add_argument("program", nargs="*", metavar="PROGRAM", help="the program cwtune")
     asked = parser.parse_args()
     program = program_of(asked.program)
-    # A shell may start what runs in the background with Ctrl-C ignored.
+    # What runs in the background may be started with Ctrl-C ignored or held back.
     signal.signal(signal.SIGINT, signal.default_int_handler)
+    signal.pthread_sigmask(signal.SIG_SETMASK, [])
     rows = REFUSALS
     python = sys.executable
     results = {name: run(python, words) for name, words in PLAIN.items()}
@@ -213,7 +216,7 @@ def main():
             (EXPECTED / name).write_text(result, "utf-8")
     helps = ((tool, [] if helped(tool) else ["no help"]) for tool in TOOLS)
     return tally([*stored(results), *helps, *refusals(rows, python), *signals(),
-                  *try_spread.trials(program)])
+                  *try_authors.trials(program), *try_spread.trials(program)])
 
 
 if __name__ == "__main__":

@@ -1,8 +1,8 @@
 #!/usr/bin/env python3
 """Reads templates, schedules (with and without weights) and certificates (of both versions).
 
-Use: tuning_files.py FILE.. prints what each file is: a schedule or a certificate if its first record
-says so, and a template otherwise. The other tools import it. A file that is none of these is
+Use: tuning_files.py FILE.. prints what each file is: a schedule or a certificate if its first
+record says so, and a template otherwise. The other tools import it. A file that is none of these is
 refused in a few words; what exactly is wrong with it, `cwtune` says.
 """
 import csv, itertools, math, pathlib, re, sys
@@ -45,6 +45,7 @@ class Certificate:
     """The rows of a certificate. `rows[v]` is ("refused", None), ("same", u) or ("cap", points)."""
 
     def __init__(self, path):
+        self.path = path
         try:
             (mark, version, count), (second, best, total), *records = read_records(path)
             self.version, self.best, self.total = int(version), int(best), int(total)
@@ -67,6 +68,21 @@ class Certificate:
         listed = [rest for kind, rest in self.rows if kind == "cap"]
         return (sorted(points) == list(range(len(fights))) and cap(points, fights) == self.total
                 and all(fight < len(fights) for rest in listed for fight in rest))
+
+    def fights(self, schedule):
+        """Returns the fights of a schedule, which is a path. Without one each weight is 1, and the
+        fights are those of the best setting."""
+        if schedule:
+            fights = read_schedule(schedule)
+        elif self.version == 2:
+            raise Fault(f"{self.path} is of a schedule with weights: give --schedule", 2)
+        else:
+            fights = [Fight(0, 0, "c", 1)] * len(self.points(self.best))
+        if not self.is_of(fights):
+            wrong = (f" is not a certificate of the schedule {schedule}" if schedule
+                     else ": the points of the best setting do not make its total")
+            raise Fault(self.path + wrong, 2)
+        return fights
 
     def points(self, v):
         """Returns the points that setting v made, by fight, or None if it does not assemble."""

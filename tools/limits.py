@@ -1,0 +1,106 @@
+#!/usr/bin/env python3
+"""Runs `cwtune` at the ends of its limits: limits.py [PROGRAM]
+
+The contracts allow any call to end out of memory, so that these runs succeed with memory enough can
+only be tested. Prints what failed, and as its last line `N passed, N failed`; the exit status is
+1 if a run failed.
+"""
+import argparse, pathlib, subprocess, tempfile
+
+from endings import run_tool
+from trials import program_of, tally
+
+SECONDS = 120
+IMP, DIES = "MOV 0, 1\n", "DAT 0\n"
+SHORT = "--cycles=10"
+
+
+def schedule(fights, opponents=1):
+    """Returns the text of a schedule that goes through the opponents in turn."""
+    records = "".join(f"{i % opponents},4000,c\n" for i in range(fights))
+    return f"opponent,position,first\n{records}"
+
+
+def report(settings, constants, total, fights, best=0):
+    """Returns the report of a tuning all of whose settings assemble."""
+    return (f"vectors {settings}\ncandidates {settings}\nbest {best}\nconstants {constants}\n"
+            f"total {total}\nfights {fights}\n")
+
+
+def ranges(names, count):
+    """Returns range lines, each of `count` values."""
+    return "".join(f";@tune {name} 0 {count - 1} 1 0\n" for name in names)
+
+
+def start(names):
+    return " ".join(f"{name}=0" for name in names)
+
+
+LONG = "ORG 199\n" + "DAT.F $0, $1\n" * 199 + "JMP.B $0, $0\n"
+# The name of a run, the files that it needs, its words, and what it prints.
+RUNS = [
+    ("the smallest core", {"a": IMP, "b": DIES},
+     "fight --core=8 --length=4 --distance=4 a b", "win 3 turns 2\n"),
+    ("the largest core", {"a": IMP, "b": DIES}, "fight --core=65535 a b", "win 3 turns 2\n"),
+    ("the most cycles", {"a": IMP, "b": IMP}, "fight --cycles=1000000 a b",
+     "tie 1 turns 2000000\n"),
+    ("one cycle", {"a": IMP, "b": IMP}, "fight --cycles=1 a b", "tie 1 turns 2\n"),
+    ("one task", {"a": "SPL 0\nJMP -1\n", "b": DIES}, "fight --tasks=1 a b", "win 3 turns 2\n"),
+    # SPL 0 adds a task in each of its turns until there are 8000.
+    ("the most tasks", {"a": "SPL 0\nJMP -1\n", "b": "JMP 0\n"}, "fight --tasks=8000 a b",
+     "tie 1 turns 160000\n"),
+    ("200 instructions", {"a": LONG}, "asm --length=200 --distance=200 a", LONG),
+    ("a start at the last of 200 instructions", {"a": LONG, "b": DIES},
+     "fight --length=200 --distance=200 a b", "win 3 turns 2\n"),
+    ("65536 bytes", {"a": DIES + ";" * (65536 - len(DIES))}, "asm a", "ORG 0\nDAT.F $0, $0\n"),
+    ("10000 fights", {"t": IMP, "s": schedule(10000), "b": DIES}, "tune t s CERT b",
+     report(1, "-", "30000 of 30000", "10000 of 10000")),
+    ("64 opponents", {"t": IMP, "s": schedule(64, 64), "b": DIES}, f"tune t s CERT {'b ' * 64}",
+     report(1, "-", "192 of 192", "64 of 64")),
+    ("8 constants", {"t": ranges("ABCDEFGH", 2) + IMP, "s": schedule(1), "b": DIES},
+     "tune t s CERT b", report(256, start("ABCDEFGH"), "3 of 3", "1 of 256")),
+    ("65536 settings", {"t": ranges("AB", 256) + IMP, "s": schedule(1), "b": DIES},
+     f"tune {SHORT} t s CERT b", report(65536, start("AB"), "3 of 3", "1 of 65536")),
+    ("65536 settings remembered", {"t": ranges("AB", 256) + "MOV 0, 1\nDAT A, B\n",
+                                   "s": schedule(1), "b": DIES},
+     f"tune {SHORT} --cache=65536 t s CERT b",
+     report(65536, start("AB"), "3 of 3", "1 of 65536")),
+    ("1000000 settings", {"t": ranges("AB", 1000) + IMP, "s": schedule(1), "b": DIES},
+     f"tune {SHORT} t s CERT b", report(1000000, start("AB"), "3 of 3", "1 of 1000000")),
+]
+
+
+def run(program, words, folder):
+    """Returns the status and all that a run prints."""
+    done = subprocess.run([program, *words.split()], cwd=folder, stdin=subprocess.DEVNULL,
+                          capture_output=True, encoding="ascii", timeout=SECONDS)
+    return done.returncode, done.stdout, done.stderr
+
+
+def differences(expected, came):
+    """Returns how a run differs from what is expected, in a list."""
+    return [] if came == (0, expected, "") else [f"expected {expected!r}, came {came!r}"[:2000]]
+
+
+def trials(program):
+    """Yields names, and what was wrong. The certificate of each tuning is checked."""
+    for name, files, words, expected in RUNS:
+        with tempfile.TemporaryDirectory() as folder:
+            for file, text in files.items():
+                pathlib.Path(folder, file).write_text(text, "ascii")
+            yield name, differences(expected, run(program, words, folder))
+            if words.startswith("tune"):
+                lines = dict(line.split(" ", 1) for line in expected.splitlines())
+                checked = f"accepted best {lines['best']} total {lines['total'].split()[0]}\n"
+                words = words.replace("tune", "check").replace("--cache=65536 ", "")
+                yield f"{name}, checked", differences(checked, run(program, words, folder))
+
+
+def main():
+    parser = argparse.ArgumentParser(description=__doc__.partition("\n")[0])
+    parser.add_argument("program", nargs="*", metavar="PROGRAM", help="the program cwtune")
+    return tally(trials(program_of(parser.parse_args().program)))
+
+
+if __name__ == "__main__":
+    run_tool(main)
