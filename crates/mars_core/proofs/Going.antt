@@ -39,7 +39,7 @@ other_other Candidate = refl
 other_other Opponent = refl
 
 -- after whole cycles the first side moves
-mover_even : (first : Side) (c : ℕ) → mover_of first (2 * c) ≡ first
+pub mover_even : (first : Side) (c : ℕ) → mover_of first (2 * c) ≡ first
 mover_even first zero = refl
 mover_even first (suc c) =
     let two : 2 * suc c ≡ suc (suc (2 * c)) = omega arith in

@@ -11,3 +11,7 @@ pub mod Least
 pub mod Loading
 pub mod Going
 pub mod Outcomes
+pub mod Marks
+pub mod Stretches
+pub mod Returns
+pub mod Snapshots

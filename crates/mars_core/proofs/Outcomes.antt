@@ -32,7 +32,7 @@ pub left_is : (limit limit' : ℕ) (start start' left left' : State) (first firs
 left_is limit limit' start start' left left' first first' turns turns' el es ef et e h = rw (← el, ← es, ef, et) (e ∙ h)
 
 -- the turns of a fight are the least number after which it is over
-turns_least : (limit : ℕ) (start : State) (first : Side) (cycles : ℕ) →
+pub turns_least : (limit : ℕ) (start : State) (first : Side) (cycles : ℕ) →
     IsLeast (λ k. is_over (play_of limit start first k)) (2 * cycles) (turns_of limit start first cycles)
 unfolding turns_of
 turns_least limit start first cycles = least_is_least (λ k. is_over (play_of limit start first k)) (2 * cycles)

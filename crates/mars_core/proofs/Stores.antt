@@ -10,7 +10,7 @@ use Rattle.rc_instr.specs.declared.instruction.Instruction.{Instruction}
 use Rattle.mars_core.specs.Packed.{packed, unpacked, is_marked, empty_word, marked, mark_of, IsClassed}
 use Rattle.mars_core.specs.Classes.{class_of_key}
 use Rattle.mars_core.specs.Store.{IsStore, ListsWritten}
-use Rattle.mars_core.proofs.Packing.{unpacked_packed, unpacked_marked, mark_marked, classed_packed, classed_low}
+use Rattle.mars_core.proofs.Packing.{unpacked_packed, unpacked_marked, mark_marked, classed_packed}
 
 pub marked_is : (w v : ℕ) → v ≡ marked w → is_marked v ≡ true
 marked_is w v e = rw (e, mark_marked w) refl
@@ -69,7 +69,7 @@ at_or_other words at w k l = elim (eqb_tells k at) [
 
 -- in any journal that has what this one has, and `at`: words with a marked one there are a store
 stored : (words journal journal' : List ℕ) (count count' at w : ℕ) → IsStore words journal count → at < length words → is_marked w ≡ true →
-    length words ≤ length journal' → count' ≡ count_by is_marked (slice_set words at w) →
+    length journal' ≡ length words → count' ≡ count_by is_marked (slice_set words at w) →
     ((k : ℕ) → Contains (take count journal) k → Contains (take count' journal') k) → Contains (take count' journal') at →
     All (λ j. j < length words) (take count' journal') → IsClassed w → IsStore (slice_set words at w) journal' count'
 stored words journal journal' count count' at w s l m roomy counts keeps has within class = record {
@@ -168,7 +168,7 @@ empty_classed = classed_packed empty_cell (packed empty_cell) refl (omega arith)
 all_empty : (m : ℕ) → All IsClassed (replicate m empty_word)
 all_empty m = All-replicate IsClassed m empty_word empty_classed
 
-pub fresh_store : (m : ℕ) (journal : List ℕ) → m ≤ 65535 → m ≤ length journal → IsStore (replicate m empty_word) journal 0
+pub fresh_store : (m : ℕ) (journal : List ℕ) → m ≤ 65535 → length journal ≡ m → IsStore (replicate m empty_word) journal 0
 fresh_store m journal l r = let n = length-replicate m empty_word in record {
   small = omega (arith, n);
   room = omega (arith, n);

@@ -1,36 +1,45 @@
 -- An arena as contracts see it, and what holds of every arena.
-use Rattle.std.specs.Prelude.{◌≡◌, ℕ, ◌*◌, ◌≤◌, List}
+use Rattle.std.specs.Prelude.{◌≡◌, ℕ, ◌+◌, ◌*◌, ◌%◌, ◌≤◌, List, length}
 use Rattle.rc_instr.specs.Rules.{RulesView, IsRules}
 use Rattle.rc_instr.specs.declared.instruction.Instruction.{Instruction}
 use Rattle.circular_buffer.specs.Buffer.{Buffer}
 use Rattle.mars_core.specs.Core.{IsCore, AreTasks}
 use Rattle.mars_core.specs.State.{State, blank_of}
+use Rattle.mars_core.specs.Snapshot.{SnapshotView}
 
 pub record ArenaView : Type 0 where
   pub rules : RulesView
   pub state : State
   -- the turns made since the load
   pub turns : ℕ
+  -- the fights that were run, modulo 2 to the 64
+  pub fights : ℕ
   -- the number of cells that a reset would set
   pub marks : ℕ
 
-abbrev pub arena : RulesView → List Instruction → List ℕ → List ℕ → ℕ → ℕ → ArenaView
-arena rules core candidate opponent turns marks =
-    record { rules = rules; state = record { core = core; candidate = candidate; opponent = opponent }; turns = turns; marks = marks }
+abbrev pub arena : RulesView → List Instruction → List ℕ → List ℕ → ℕ → ℕ → ℕ → ArenaView
+arena rules core candidate opponent turns fights marks =
+    record { rules = rules; state = record { core = core; candidate = candidate; opponent = opponent }; turns = turns; fights = fights; marks = marks }
 
--- A blank arena for these rules: empty cells, no tasks, no turns made, and any marks.
+-- The count of fights after `more` further ones.
+abbrev pub fights_after : ℕ → ℕ → ℕ
+fights_after fights more = (fights + more) % 18446744073709551616
+
+-- A blank arena for these rules: empty cells, no tasks, no turns made, after any number of fights,
+-- and with any marks.
 pub record IsBlank (rules : RulesView) (a : ArenaView) : Type 0 where
   pub rules_kept : a.rules ≡ rules
   pub state : a.state ≡ blank_of rules.core
   pub turns : a.turns ≡ 0
 
--- What holds of every arena: checked rules, a core and tasks of their size, and queues with room
--- for the tasks that the rules allow.
-pub record IsArena (rules : RulesView) (core : List Instruction) (candidate opponent : Buffer ℕ) (turns : ℕ) : Type 0 where
+-- What holds of every arena: checked rules, a core and tasks of their size, queues with room for the
+-- tasks that the rules allow, and a snapshot of as many cells.
+pub record IsArena (rules : RulesView) (core : List Instruction) (candidate opponent : Buffer ℕ) (snapshot : SnapshotView) (turns : ℕ) : Type 0 where
   pub rules_hold : IsRules rules
   pub core_holds : IsCore rules.core core
   pub candidate_room : candidate.capacity ≡ rules.tasks
   pub opponent_room : opponent.capacity ≡ rules.tasks
   pub candidate_below : AreTasks rules.core candidate.items
   pub opponent_below : AreTasks rules.core opponent.items
+  pub snapshot_size : length snapshot.core ≡ rules.core
   pub within : turns ≤ 2 * rules.cycles

@@ -1,6 +1,6 @@
 -- A core is a ring of m cells, each one instruction: the list of its m instructions (1994 draft).
-use Rattle.std.specs.Prelude.{◌≡◌, ℕ, ◌+◌, ◌<◌, ◌≤◌, List, ◌++◌, length, take, drop, slice_index_or, slice_set, All}
-use Rattle.rc_instr.specs.Instruction.{empty_cell}
+use Rattle.std.specs.Prelude.{◌≡◌, ℕ, ◌+◌, ◌<◌, ◌≤◌, List, ◌++◌, length, take, drop, slice_index_or, slice_set, count_by, not, All}
+use Rattle.rc_instr.specs.Instruction.{empty_cell, same_instruction}
 use Rattle.rc_instr.specs.Warrior.{IsBelow}
 use Rattle.rc_instr.specs.declared.instruction.Instruction.{Instruction}
 use Rattle.mars_core.specs.Numbers.{field_of, with_field}
@@ -24,6 +24,10 @@ pub record IsCore (m : ℕ) (core : List Instruction) : Type 0 where
   pub small : m ≤ 65535
   pub size : length core ≡ m
   pub numbers : All (IsBelow m) core
+
+-- The number of cells that are not empty.
+unfoldable pub filled_in : List Instruction → ℕ
+filled_in core = count_by (λ i. not (same_instruction i empty_cell)) core
 
 -- Tasks are addresses below m.
 pub record AreTasks (m : ℕ) (tasks : List ℕ) : Type 0 where

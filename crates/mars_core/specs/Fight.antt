@@ -35,3 +35,10 @@ pub record IsOutcome (limit : ℕ) (start : State) (first : Side) (cycles : ℕ)
   pub within : o.turns ≤ 2 * cycles
   pub ends : (is_over (play_of limit start first o.turns) ≡ true) ⊎ (o.turns ≡ 2 * cycles)
   pub points : o.points ≡ points_in (play_of limit start first o.turns)
+
+-- A state that comes back after p cycles, the same side moving first, and until then no side loses
+-- its last task.
+pub record ComesBack (limit : ℕ) (s : State) (first : Side) (p : ℕ) : Type 0 where
+  pub some : 0 < p
+  pub back : play_of limit s first (2 * p) ≡ s
+  pub lasts : turns_of limit s first p ≡ 2 * p

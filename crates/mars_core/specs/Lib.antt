@@ -14,4 +14,5 @@ pub mod Packed
 pub mod Store
 pub mod Evaluated
 pub mod Queue
+pub mod Snapshot
 pub mod Arena

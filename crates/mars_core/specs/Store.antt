@@ -1,21 +1,22 @@
 -- Cells in words, and a journal of those that were written.
-use Rattle.std.specs.Prelude.{◌≡◌, ℕ, ◌<◌, ◌≤◌, true, false, List, length, take, map, slice_index, All, Contains, count_by, ◌⊎◌}
+use Rattle.std.specs.Prelude.{◌≡◌, ℕ, ◌<◌, ◌≤◌, Bool, true, false, List, length, take, map, slice_index, All, Contains, count_by, ◌⊎◌}
 use Rattle.rc_instr.specs.declared.instruction.Instruction.{Instruction}
 use Rattle.mars_core.specs.Packed.{unpacked, is_marked, empty_word, IsClassed}
 
--- the instructions in the words, and the number of addresses in the journal
+-- the instructions in the words, the marks of the words, and the number of addresses in the journal
 pub record StoreView : Type 0 where
   pub items : List Instruction
+  pub marked : List Bool
   pub marks : ℕ
 
 abbrev pub store_view : List ℕ → ℕ → StoreView
-store_view words count = record { items = map unpacked words; marks = count }
+store_view words count = record { items = map unpacked words; marked = map is_marked words; marks = count }
 
 -- The first `count` items of the journal are the addresses of the marked cells, and it has room for
 -- those of all cells. A cell without a mark is empty. No word keeps a wrong class.
 pub record IsStore (words journal : List ℕ) (count : ℕ) : Type 0 where
   pub small : length words ≤ 65535
-  pub room : length words ≤ length journal
+  pub room : length journal ≡ length words
   pub counted : count ≡ count_by is_marked words
   pub empty : (k : ℕ) → k < length words → is_marked (slice_index words k) ≡ false → slice_index words k ≡ empty_word
   pub listed : (k : ℕ) → k < length words → is_marked (slice_index words k) ≡ true → Contains (take count journal) k

@@ -1,14 +1,15 @@
 //! The arena in which two warriors fight.
 ghost use Rattle.std.specs.Prelude.{◌≡◌, ◌+◌, ◌*◌, ◌<◌, ◌≤◌, length, slice_index, IfOk};
 ghost use Rattle.rc_instr.specs.Warrior.{Fits, IsBelow};
-ghost use Rattle.mars_core.specs.Core.{cell_at};
+ghost use Rattle.mars_core.specs.Core.{cell_at, filled_in};
 ghost use Rattle.mars_core.specs.State.{blank_of, start_of, turn_of, play_of, tasks_of};
 
 use crate::cell::Cell;
 use crate::cells::{Cells, PlainCells, load_code, read};
-use crate::fight_loop::alternate;
+use crate::fight_loop::decide;
 use crate::journal::PackedCells;
 use crate::side::Side;
+use crate::snapshot::Snapshot;
 use crate::tasks::Tasks;
 use crate::turn::take_turn;
 use rc_instr::{Instruction, OutOfMemory, Rules, Warrior};
@@ -26,13 +27,16 @@ pub struct Outcome {
 
 /// A core and the tasks of two warriors, under fixed rules.
 ///
-/// Contracts see the rules, the state, the turns since the load, and the marks of the cells.
+/// Contracts see the rules, the state, the turns since the load, how many fights were run, and the
+/// marks of the cells.
 #[derive(Drop)]
 pub struct Arena<C: Cells> {
     cells: C,
     candidate: Tasks,
     opponent: Tasks,
+    snapshot: Snapshot<C>,
     turns: u32,
+    fights: u64,
     rules: Rules,
 }
 
@@ -41,13 +45,13 @@ impl<C: Cells> Model for Arena<C> {
 
     ghost Value = { ArenaView };
 
-    ghost view = { λ a. arena a.rules (C.items a.cells) a.candidate.items a.opponent.items a.turns (C.marks a.cells) };
+    ghost view = { λ a. arena a.rules (C.items a.cells) a.candidate.items a.opponent.items a.turns a.fights (C.marks a.cells) };
 
-    ghost invariant = { λ a. IsArena a.rules (C.items a.cells) a.candidate a.opponent a.turns };
+    ghost invariant = { λ a. IsArena a.rules (C.items a.cells) a.candidate a.opponent a.snapshot a.turns };
 }
 
 impl<C: Cells> Arena<C> {
-    ghost use Rattle.mars_core.specs.Arena.{IsBlank};
+    ghost use Rattle.mars_core.specs.Arena.{IsBlank, fights_after};
     ghost use Rattle.mars_core.specs.Fight.{outcome_of, points_in};
 
     /// Loads the candidate from address 0 and the opponent from address `at`, and gives each one
@@ -64,6 +68,7 @@ impl<C: Cells> Arena<C> {
         requires at { (self.old.rules.distance ≤ at) × (at + self.old.rules.distance ≤ self.old.rules.core) }
         ensures state { self.new.state ≡ start_of self.old.rules.core candidate.now opponent.now at }
         ensures turns { self.new.turns ≡ 0 }
+        ensures fights { self.new.fights ≡ self.old.fights }
         ensures rules { self.new.rules ≡ self.old.rules }
         ensures marks { self.new.marks ≤ self.old.marks + length candidate.now.code + length opponent.now.code }
     {
@@ -84,6 +89,7 @@ impl<C: Cells> Arena<C> {
         requires { self.old.turns < 2 * self.old.rules.cycles }
         ensures state { self.new.state ≡ turn_of self.old.rules.tasks self.old.state side }
         ensures turns { self.new.turns ≡ self.old.turns + 1 }
+        ensures fights { self.new.fights ≡ self.old.fights }
         ensures rules { self.new.rules ≡ self.old.rules }
         ensures marks { self.new.marks ≤ self.old.marks + 3 }
     {
@@ -95,14 +101,15 @@ impl<C: Cells> Arena<C> {
         self.turns += 1;
     }
 
-    // Records the turns and returns the outcome, read off the remaining tasks.
+    // Records the turns, counts the fight, and returns the outcome, read off the remaining tasks.
     fn finish(&mut self, turns: u32) -> Outcome
         requires { turns ≤ 2 * self.old.rules.cycles }
         ensures points { result.points ≡ points_in self.old.state }
         ensures result { result.turns ≡ turns }
-        ensures arena { self.new ≡ record self.old { turns = turns } }
+        ensures arena { self.new ≡ record self.old { turns = turns; fights = fights_after self.old.fights 1 } }
     {
         self.turns = turns;
+        self.fights = self.fights.wrapping_add(1);
         let points = if self.opponent.is_empty() {
             3
         } else if self.candidate.is_empty() {
@@ -120,13 +127,14 @@ impl<C: Cells> Arena<C> {
     /// Requires that no turn was made since the load. On a blank arena no side has a task: returns
     /// 3 points after 0 turns. The candidate gets 3 points if the opponent has no task
     /// left, 0 if it has none itself, and 1 if both still have tasks (pMARS, for two warriors). The
-    /// marks grow by at most 3 a turn.
+    /// marks grow by at most 3 a turn, and the fights by 1.
     pub fn run(&mut self, first: Side) -> Outcome
         requires { self.old.turns ≡ 0 }
         ensures outcome { result ≡ outcome_of self.old.rules.tasks self.old.state first self.old.rules.cycles }
         ensures within { result.turns ≤ 2 * self.old.rules.cycles }
         ensures state { self.new.state ≡ play_of self.old.rules.tasks self.old.state first result.turns }
         ensures turns { self.new.turns ≡ result.turns }
+        ensures fights { self.new.fights ≡ fights_after self.old.fights 1 }
         ensures rules { self.new.rules ≡ self.old.rules }
         ensures marks { self.new.marks ≤ self.old.marks + 3 * result.turns }
     {
@@ -135,21 +143,26 @@ impl<C: Cells> Arena<C> {
         match first {
             Side::Candidate => {
                 let (mine, theirs) = (&mut self.candidate, &mut self.opponent);
-                let turns = alternate(&mut self.cells, mine, theirs, size, cycles);
+                let kept = &mut self.snapshot;
+                let turns = decide(&mut self.cells, mine, theirs, kept, size, cycles);
                 self.finish(turns)
             }
             Side::Opponent => {
                 let (mine, theirs) = (&mut self.opponent, &mut self.candidate);
-                let turns = alternate(&mut self.cells, mine, theirs, size, cycles);
+                let kept = &mut self.snapshot;
+                let turns = decide(&mut self.cells, mine, theirs, kept, size, cycles);
                 self.finish(turns)
             }
         }
     }
 
-    /// Makes the arena blank again. Returns the number of cells that this set, which is the marks.
+    /// Makes the arena blank again. Returns the number of cells that this set, which is the marks,
+    /// and at least the number of cells that were not empty.
     pub fn reset(&mut self) -> u32
         ensures count { result ≡ self.old.marks }
+        ensures least { filled_in self.old.state.core ≤ result }
         ensures blank { IsBlank self.old.rules self.new }
+        ensures fights { self.new.fights ≡ self.old.fights }
         ensures marks { self.new.marks ≡ C.new_marks self.old.rules.core }
     {
         self.candidate.clear();
@@ -200,6 +213,13 @@ impl<C: Cells> Arena<C> {
     {
         self.turns
     }
+
+    /// Returns how many fights were run since the arena was made, modulo 2 to the 64.
+    pub fn fights(&self) -> u64
+        ensures { result ≡ self.now.fights }
+    {
+        self.fights
+    }
 }
 
 impl<C: Cells + Drop> Arena<C> {
@@ -207,19 +227,24 @@ impl<C: Cells + Drop> Arena<C> {
     ghost use Rattle.rc_instr.specs.Instruction.{empty_cell};
     ghost use Rattle.mars_core.specs.Arena.{IsBlank};
 
-    // Makes a blank arena over empty cells.
-    fn over(alloc: Global, cells: C, rules: &Rules) -> Result<Arena<C>, OutOfMemory>
-        requires { C.items cells ≡ replicate rules.now.core empty_cell }
+    // Makes a blank arena over empty cells. Its snapshot keeps the cells of a state in `kept`.
+    fn over(alloc: Global, cells: C, kept: C, rules: &Rules) -> Result<Arena<C>, OutOfMemory>
+        requires cells { C.items cells ≡ replicate rules.now.core empty_cell }
+        requires kept { C.items kept ≡ replicate rules.now.core empty_cell }
         ensures blank { IfOk result (IsBlank rules.now) }
+        ensures fights { IfOk result (λ a. a.fights ≡ 0) }
         ensures marks { IfOk result (λ a. a.marks ≡ C.marks cells) }
     {
         let candidate = Tasks::with_capacity(alloc, rules.tasks() as usize)?;
         let opponent = Tasks::with_capacity(alloc, rules.tasks() as usize)?;
+        let snapshot = Snapshot::over(alloc, kept)?;
         Ok(Arena {
             cells,
             candidate,
             opponent,
+            snapshot,
             turns: 0,
+            fights: 0,
             rules: *rules,
         })
     }
@@ -230,14 +255,17 @@ impl Arena<PlainCells> {
 
     /// Makes a blank arena over plain cells. Its marks are the core size.
     ///
-    /// Reserves all the memory that fights in it need: the cells, and for each side a queue of as
-    /// many tasks as the rules allow. Returns `OutOfMemory` if that fails.
+    /// Reserves all the memory that fights in it need: the cells, for each side a queue of as many
+    /// tasks as the rules allow, and a copy of the cells to see whether a state comes back. Returns
+    /// `OutOfMemory` if that fails.
     pub fn try_new(alloc: Global, rules: &Rules) -> Result<Arena<PlainCells>, OutOfMemory>
         ensures blank { IfOk result (IsBlank rules.now) }
+        ensures fights { IfOk result (λ a. a.fights ≡ 0) }
         ensures marks { IfOk result (λ a. a.marks ≡ rules.now.core) }
     {
         let cells = PlainCells::try_new(alloc, rules.core())?;
-        Arena::over(alloc, cells, rules)
+        let kept = PlainCells::try_new(alloc, rules.core())?;
+        Arena::over(alloc, cells, kept, rules)
     }
 }
 
@@ -246,13 +274,16 @@ impl Arena<PackedCells> {
 
     /// Makes a blank arena over packed cells. It has no marks.
     ///
-    /// Reserves all the memory that fights in it need: the cells, their journal, and for each side
-    /// a queue of as many tasks as the rules allow. Returns `OutOfMemory` if that fails.
+    /// Reserves all the memory that fights in it need: the cells, their journal, for each side a
+    /// queue of as many tasks as the rules allow, and a copy of the cells to see whether a state
+    /// comes back. Returns `OutOfMemory` if that fails.
     pub fn try_new(alloc: Global, rules: &Rules) -> Result<Arena<PackedCells>, OutOfMemory>
         ensures blank { IfOk result (IsBlank rules.now) }
+        ensures fights { IfOk result (λ a. a.fights ≡ 0) }
         ensures marks { IfOk result (λ a. a.marks ≡ 0) }
     {
         let cells = PackedCells::try_new(alloc, rules.core())?;
-        Arena::over(alloc, cells, rules)
+        let kept = PackedCells::try_new(alloc, rules.core())?;
+        Arena::over(alloc, cells, kept, rules)
     }
 }

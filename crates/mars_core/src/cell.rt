@@ -1,5 +1,5 @@
 //! One cell as a turn works on it, in the form in which its store keeps it.
-ghost use Rattle.std.specs.Prelude.{◌≡◌, ◌<◌, ◌⊎◌, ◌↔◌, IsTrue};
+ghost use Rattle.std.specs.Prelude.{◌≡◌, ◌<◌, ◌⊎◌, ◌↔◌, IsTrue, true};
 ghost use Rattle.rc_instr.specs.declared.instruction.Opcode.{Opcode};
 ghost use Rattle.rc_instr.specs.declared.instruction.Modifier.{Modifier};
 ghost use Rattle.rc_instr.specs.Instruction.{same_instruction};
@@ -71,6 +71,10 @@ pub trait Cell: Copy {
     /// Checks whether both cells hold the same instruction.
     fn is_same(self, other: Self) -> bool
         ensures { result ≡ same_instruction (held self) (held other) };
+
+    /// Checks whether both cells are kept in the same form, so that they hold the same instruction.
+    fn is_identical(self, other: Self) -> bool
+        ensures { result ≡ true → held self ≡ held other };
 }
 
 impl Cell for Instruction {
@@ -158,6 +162,11 @@ impl Cell for Instruction {
 
     #[inline]
     fn is_same(self, other: Instruction) -> bool {
+        Instruction::is_same(&self, &other)
+    }
+
+    #[inline]
+    fn is_identical(self, other: Instruction) -> bool {
         Instruction::is_same(&self, &other)
     }
 }

@@ -1,41 +1,51 @@
 //! The cells of a core: how they are kept, read, written, and emptied again.
-ghost use Rattle.std.specs.Prelude.{◌≡◌, ℕ, ◌+◌, ◌<◌, ◌≤◌, List, length, replicate, slice_set, All, IfOk};
+ghost use Rattle.std.specs.Prelude.{◌≡◌, ℕ, ◌+◌, ◌<◌, ◌≤◌, Bool, true, false, Some, List, length, replicate, slice_get, slice_set, All, IfOk};
 ghost use Rattle.rc_instr.specs.Instruction.{empty_cell};
 ghost use Rattle.rc_instr.specs.declared.instruction.Instruction.{Instruction};
 ghost use Rattle.rc_instr.specs.Warrior.{IsBelow};
-ghost use Rattle.mars_core.specs.Core.{cell_at, loaded_at, IsCore};
+ghost use Rattle.mars_core.specs.Core.{cell_at, filled_in, loaded_at, IsCore};
 
 use crate::cell::Cell;
 use rc_instr::{Instruction, OutOfMemory};
 use std::alloc::Global;
 
-/// Keeps the cells of a core, and counts what it takes to empty them again.
+/// Keeps the cells of a core, marks those that it takes to empty it again, and counts these.
 ///
-/// Contracts see a list of instructions and a number, the marks. Addresses count from 0.
+/// Contracts see a list of instructions, a list that says of each cell whether it is marked, and a
+/// number, the marks. Addresses count from 0.
 pub trait Cells {
     /// A cell as the store keeps it.
     type Kept: Cell;
 
     /// The cells, in the order of their addresses.
     ghost items: { Self → List Instruction };
+    /// For each cell, whether `restore` would set it.
+    ghost marked: { Self → List Bool };
     /// The number of cells that `restore` would set.
     ghost marks: { Self → ℕ };
     /// The marks of a new store, by its number of cells.
     ghost new_marks: { ℕ → ℕ };
+    /// Whether the cells of a new store are marked.
+    ghost new_mark: { Bool };
 
     /// Returns the number of cells.
     fn size(&self) -> u32
-        ensures { result ≡ length (items self.now) };
+        ensures size { result ≡ length (items self.now) }
+        ensures each { length (marked self.now) ≡ length (items self.now) };
 
     /// Returns the cell at address `at`, which is below the size, as the store keeps it.
     fn cell(&self, at: u32) -> Self::Kept
         requires { at < length (items self.now) }
         ensures { Self.Kept.held result ≡ cell_at (items self.now) at };
 
-    /// Replaces the cell at address `at`, which is below the size. Adds at most 1 to the marks.
+    /// Replaces the cell at address `at`, which is below the size, and marks it. That adds 1 to the
+    /// marks if the cell was not marked, whatever it held and holds, and nothing if it was.
     fn put(&mut self, at: u32, cell: Self::Kept)
         requires { at < length (items self.old) }
         ensures items { items self.new ≡ slice_set (items self.old) at (Self.Kept.held cell) }
+        ensures marked { marked self.new ≡ slice_set (marked self.old) at true }
+        ensures first { slice_get (marked self.old) at ≡ Some false → marks self.new ≡ marks self.old + 1 }
+        ensures again { slice_get (marked self.old) at ≡ Some true → marks self.new ≡ marks self.old }
         ensures marks { marks self.new ≤ marks self.old + 1 };
 
     /// Returns the cell at address `at`, which is below the size.
@@ -46,20 +56,33 @@ pub trait Cells {
         self.cell(at).instruction()
     }
 
-    /// Replaces the cell at address `at`, which is below the size. Adds at most 1 to the marks.
+    /// Replaces the cell at address `at`, which is below the size, and marks it as `put` does.
     fn set(&mut self, at: u32, instruction: Instruction)
         requires { at < length (items self.old) }
         ensures items { items self.new ≡ slice_set (items self.old) at instruction }
+        ensures marked { marked self.new ≡ slice_set (marked self.old) at true }
+        ensures first { slice_get (marked self.old) at ≡ Some false → marks self.new ≡ marks self.old + 1 }
+        ensures again { slice_get (marked self.old) at ≡ Some true → marks self.new ≡ marks self.old }
         ensures marks { marks self.new ≤ marks self.old + 1 }
     {
         self.put(at, Self::Kept::of(instruction));
     }
 
-    /// Empties every cell and returns the number of cells that this set, which is the marks.
+    /// Copies all cells of `other`, which has as many, with their marks.
+    fn copy_from(&mut self, other: &Self)
+        requires { length (items self.old) ≡ length (items other.now) }
+        ensures items { items self.new ≡ items other.now }
+        ensures marked { marked self.new ≡ marked other.now }
+        ensures marks { marks self.new ≡ marks other.now };
+
+    /// Empties every cell and returns the number of cells that this set, which is the marks. These
+    /// are at least as many as the cells that were not empty.
     ///
     /// Afterwards the marks are as in a new store.
     fn restore(&mut self) -> u32
         ensures count { result ≡ marks self.old }
+        ensures least { filled_in (items self.old) ≤ result }
+        ensures marked { marked self.new ≡ replicate (length (items self.old)) new_mark }
         ensures items { items self.new ≡ replicate (length (items self.old)) empty_cell }
         ensures marks { marks self.new ≡ new_marks (length (items self.old)) };
 }
@@ -87,11 +110,16 @@ impl Cells for PlainCells {
 
     ghost items = { λ s. s.cells.items };
 
+    ghost marked = { λ s. replicate (length s.cells.items) true };
+
     ghost marks = { λ s. length s.cells.items };
 
     ghost new_marks = { λ m. m };
 
+    ghost new_mark = { true };
+
     #[inline]
+    #[tactic(auto, using(crate::proofs::Marks::as_many))]
     fn size(&self) -> u32 {
         self.cells.len() as u32
     }
@@ -103,10 +131,16 @@ impl Cells for PlainCells {
     }
 
     #[inline]
+    #[tactic(auto, using(crate::proofs::Marks::all_stay, crate::proofs::Marks::none_first))]
     fn put(&mut self, at: u32, cell: Instruction) {
         self.cells[at as usize] = cell;
     }
 
+    fn copy_from(&mut self, other: &PlainCells) {
+        self.cells.copy_from_slice(&other.cells);
+    }
+
+    #[tactic(auto, using(crate::proofs::Marks::at_most_all, crate::proofs::Marks::still_all))]
     fn restore(&mut self) -> u32 {
         self.cells.fill(Instruction::empty());
         self.size()

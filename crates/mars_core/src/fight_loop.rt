@@ -1,17 +1,23 @@
 //! The loop of a fight: the sides take turns until one of them has no task.
-ghost use Rattle.std.specs.Prelude.{◌≡◌, ◌+◌, ◌*◌, ◌≤◌};
+ghost use Rattle.std.specs.Prelude.{◌≡◌, ◌+◌, ◌*◌, ◌≤◌, length};
 ghost use Rattle.mars_core.specs.Core.{IsCore, AreTasks};
 ghost use Rattle.mars_core.specs.State.{seen_from, play_of};
 ghost use Rattle.mars_core.specs.Fight.{turns_of};
 ghost use Rattle.mars_core.specs.declared.side.Side.{Side};
 
 use crate::cells::Cells;
+use crate::snapshot::Snapshot;
 use crate::tasks::Tasks;
 use crate::turn::next_turn;
 
+// After each stretch of so many cycles the fight looks whether its state has come back. Fights of
+// fewer cycles never look.
+const STRETCH: u32 = 2000;
+
 // Alternates turns, `mine` first, until a queue is empty or `cycles` are over.
 // Returns the number of turns.
-pub(crate) fn alternate<C: Cells>(
+#[inline(never)]
+fn alternate<C: Cells>(
     cells: &mut C,
     mine: &mut Tasks,
     theirs: &mut Tasks,
@@ -47,4 +53,51 @@ pub(crate) fn alternate<C: Cells>(
         }
     }
     2 * cycles
+}
+
+// Leaves the state that `alternate` leaves, and returns the number of its turns. A state that comes
+// back does so for ever, so the fight is a tie: of the cycles that are left then, whole periods are
+// not played.
+pub(crate) fn decide<C: Cells>(
+    cells: &mut C,
+    mine: &mut Tasks,
+    theirs: &mut Tasks,
+    kept: &mut Snapshot<C>,
+    size: u32,
+    cycles: u32,
+) -> u32
+    requires core { IsCore size (C.items cells.old) }
+    requires mine { AreTasks size mine.old.items }
+    requires theirs { AreTasks size theirs.old.items }
+    requires room { theirs.old.capacity ≡ mine.old.capacity }
+    requires kept { length kept.old.core ≡ size }
+    requires cycles { cycles ≤ 1000000 }
+
+    // `mine` may be either side, so both clauses hold for every side that moves first.
+    ensures turns { (first : Side) → result ≡ turns_of mine.old.capacity (seen_from first (C.items cells.old) mine.old.items theirs.old.items) first cycles }
+    ensures state { (first : Side) → seen_from first (C.items cells.new) mine.new.items theirs.new.items
+        ≡ play_of mine.old.capacity (seen_from first (C.items cells.old) mine.old.items theirs.old.items) first result }
+
+    ensures core { IsCore size (C.items cells.new) }
+    ensures mine { AreTasks size mine.new.items × (mine.new.capacity ≡ mine.old.capacity) }
+    ensures theirs { AreTasks size theirs.new.items × (theirs.new.capacity ≡ theirs.old.capacity) }
+    ensures kept { length kept.new.core ≡ size }
+    ensures within { result ≤ 2 * cycles }
+    ensures marks { C.marks cells.new ≤ C.marks cells.old + 3 * result }
+{
+    kept.forget();
+    let mut done = 0;
+    while done + STRETCH < cycles {
+        let turns = alternate(cells, mine, theirs, size, STRETCH);
+        if turns < 2 * STRETCH {
+            return 2 * done + turns;
+        }
+        done += STRETCH;
+        if let Some(period) = kept.period(cells, mine, theirs, done) {
+            alternate(cells, mine, theirs, size, (cycles - done) % period);
+            return 2 * cycles;
+        }
+        kept.renew(cells, mine, theirs, done);
+    }
+    2 * done + alternate(cells, mine, theirs, size, cycles - done)
 }

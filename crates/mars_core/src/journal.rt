@@ -1,5 +1,5 @@
 //! Cells in words, with a journal of those that were written.
-ghost use Rattle.std.specs.Prelude.{◌≡◌, ◌<◌, ◌≤◌, ◌+◌, slice_set, replicate, length, true, IfOk};
+ghost use Rattle.std.specs.Prelude.{◌≡◌, ◌<◌, ◌≤◌, ◌+◌, slice_index, slice_set, replicate, length, true, false, IfOk};
 ghost use Rattle.rc_instr.specs.Instruction.{empty_cell};
 ghost use Rattle.mars_core.specs.Packed.{unpacked, is_marked, empty_word, IsClassed};
 ghost use Rattle.mars_core.specs.Store.{IsStore, ListsWritten};
@@ -41,6 +41,8 @@ fn put(words: &mut Vec<u64>, journal: &mut Vec<u16>, count: &mut usize, at: u32,
     requires classed { IsClassed word }
     ensures words { words.new.items ≡ slice_set words.old.items at word }
     ensures store { IsStore words.new.items journal.new.items count.new }
+    ensures first { is_marked (slice_index words.old.items at) ≡ false → count.new ≡ count.old + 1 }
+    ensures again { is_marked (slice_index words.old.items at) ≡ true → count.new ≡ count.old }
     ensures marks { count.new ≤ count.old + 1 }
 {
     let old = PackedCell {
@@ -88,11 +90,16 @@ impl Cells for PackedCells {
 
     ghost items = { λ s. s.items };
 
+    ghost marked = { λ s. s.marked };
+
     ghost marks = { λ s. s.marks };
 
     ghost new_marks = { λ m. 0 };
 
+    ghost new_mark = { false };
+
     #[inline]
+    #[tactic(auto, using(crate::proofs::Marks::one_each))]
     fn size(&self) -> u32 {
         self.words.len() as u32
     }
@@ -105,7 +112,7 @@ impl Cells for PackedCells {
         }
     }
 
-    #[tactic(auto, using(crate::proofs::Stores::item_set, crate::proofs::Stores::marked_is, crate::proofs::Stores::marked_holds))]
+    #[tactic(auto, using(crate::proofs::Stores::item_set, crate::proofs::Stores::marked_is, crate::proofs::Stores::marked_holds, crate::proofs::Marks::mark_set, crate::proofs::Marks::mark_at))]
     #[inline]
     fn put(&mut self, at: u32, cell: PackedCell) {
         let word = cell.marked().word;
@@ -118,7 +125,13 @@ impl Cells for PackedCells {
         );
     }
 
-    #[tactic(auto, using(crate::proofs::Stores::stores, crate::proofs::Stores::blanks_of, crate::proofs::Stores::written_listed))]
+    fn copy_from(&mut self, other: &PackedCells) {
+        self.words.copy_from_slice(&other.words);
+        self.journal.copy_from_slice(&other.journal);
+        self.count = other.count;
+    }
+
+    #[tactic(auto, using(crate::proofs::Stores::stores, crate::proofs::Stores::blanks_of, crate::proofs::Stores::written_listed, crate::proofs::Marks::unmarked_of))]
     fn restore(&mut self) -> u32 {
         clear(&mut self.words, &self.journal[..self.count]);
         let count = self.count as u32;

@@ -16,6 +16,7 @@ mod operand;
 mod packed;
 mod pairs;
 mod side;
+mod snapshot;
 mod tasks;
 mod turn;
 

@@ -308,6 +308,12 @@ impl Cell for PackedCell {
     fn is_same(self, other: PackedCell) -> bool {
         are_same(self.word, other.word)
     }
+
+    // Compares the marks and the classes too: one word with another.
+    #[inline]
+    fn is_identical(self, other: PackedCell) -> bool {
+        self.word == other.word
+    }
 }
 
 // Checks whether two words hold the same instruction, part by part.

@@ -1,5 +1,5 @@
 //! The queue of a warrior's tasks: their addresses, the next to execute first.
-ghost use Rattle.std.specs.Prelude.{◌≡◌, ◌<◌, ◌≤◌, ◌==◌, ◌∷◌, [], ◌++◌, Some, false, length, drop, slice_get, if◌then◌else◌, nat_lt, IfOk};
+ghost use Rattle.std.specs.Prelude.{◌≡◌, ◌<◌, ◌≤◌, ◌==◌, ◌∷◌, [], ◌++◌, Some, true, false, length, drop, slice_get, slice_index_or, if◌then◌else◌, nat_lt, IfOk};
 ghost use Rattle.circular_buffer.specs.Buffer.{buffer};
 
 use circular_buffer::HeapCircularBuffer;
@@ -74,6 +74,41 @@ impl Tasks {
             return Some(self.first);
         }
         self.waiting.get(index - 1).copied()
+    }
+
+    // Returns the task at `index`, 0 if there is none.
+    fn at(&self, index: usize) -> u16
+        ensures { result ≡ slice_index_or self.now.items index 0 }
+    {
+        self.get(index).unwrap_or(0)
+    }
+
+    // Checks whether two queues have the same tasks.
+    pub(crate) fn is_same(&self, other: &Tasks) -> bool
+        ensures { result ≡ true → self.now.items ≡ other.now.items }
+    {
+        if self.len() != other.len() {
+            return false;
+        }
+        for index in 0..self.len() {
+            if self.at(index) != other.at(index) {
+                return false;
+            }
+        }
+        true
+    }
+
+    // Copies the tasks of another queue, for which there is room.
+    pub(crate) fn copy_from(&mut self, other: &Tasks)
+        requires { length other.now.items ≤ self.old.capacity }
+        ensures { self.new ≡ buffer other.now.items self.old.capacity }
+    {
+        let (front, back) = other.waiting.as_slices();
+        self.waiting.clear();
+        self.waiting.fill_from_slice(front);
+        self.waiting.fill_from_slice(back);
+        self.first = other.first;
+        self.alive = other.alive;
     }
 
     // Takes all tasks out.

@@ -1,7 +1,7 @@
 //! One fight of a schedule.
 ghost use Rattle.std.specs.Prelude.{◌≡◌, ◌↔◌, IsTrue};
 ghost use Rattle.rc_instr.specs.Warrior.{Fits};
-ghost use Rattle.mars_core.specs.Arena.{IsBlank};
+ghost use Rattle.mars_core.specs.Arena.{IsBlank, fights_after};
 ghost use Rattle.mars_fight.specs.Listed.{IsPosition, IsWeight, IsFight};
 ghost use Rattle.mars_fight.specs.Play.{points_of, ArePoints};
 
@@ -39,7 +39,8 @@ impl Fight {
 /// (pMARS). The weight does not change them.
 ///
 /// The arena must be blank, and is blank again afterwards. Both warriors must fit its rules, and
-/// the position must keep the distance, both ways round the core. Nothing is allocated.
+/// the position must keep the distance, both ways round the core. Nothing is allocated. The arena
+/// counts the fight.
 #[tactic(auto, unfolding(crate::specs::Play::points_of))]
 pub fn play<C: Cells>(
     arena: &mut Arena<C>,
@@ -54,6 +55,7 @@ pub fn play<C: Cells>(
     ensures result { result ≡ points_of arena.old.rules candidate.now opponent.now fight.now }
     ensures points { ArePoints result }
     ensures blank { IsBlank arena.old.rules arena.new }
+    ensures fights { arena.new.fights ≡ fights_after arena.old.fights 1 }
     ensures marks { arena.new.marks ≡ C.new_marks arena.old.rules.core }
 {
     arena.load(candidate, opponent, fight.position);

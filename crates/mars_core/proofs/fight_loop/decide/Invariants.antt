@@ -1,0 +1,29 @@
+use Rattle.std.proofs.Common.{◌≡◌, ◌+◌, ◌-◌, ◌*◌, ◌≤◌, length}
+use Rattle.mars_core.specs.Core.{IsCore, AreTasks}
+use Rattle.mars_core.specs.State.{seen_from}
+use Rattle.mars_core.specs.declared.side.Side.{Side}
+use Rattle.mars_core.proofs.Going.{IsGoing}
+use Rattle.mars_core.proofs.Snapshots.{IsEarlier}
+use Rattle.mars_core.proofs.fight_loop.decide.Given as goal
+
+-- whole cycles were made, and the snapshot is of an earlier state
+abbrev pub invariant-loop-done : goal.invariant-loop-done
+invariant-loop-done g l =
+    let items = g.C.Cells.items in
+    record {
+      going : (first : Side) → IsGoing l.fn.mine.capacity (seen_from first (items l.fn.cells) l.fn.mine.items l.fn.theirs.items) first
+          (2 * l.done) (items l.cells) l.mine.items l.theirs.items;
+      earlier : (first : Side) → IsEarlier l.fn.mine.capacity (seen_from first (items l.fn.cells) l.fn.mine.items l.fn.theirs.items) first l.kept;
+      before : l.kept.cycles ≤ l.done;
+      kept_size : length l.kept.core ≡ l.size;
+      within : l.done ≤ l.cycles;
+      core : IsCore l.size (items l.cells);
+      mine_below : AreTasks l.size l.mine.items;
+      theirs_below : AreTasks l.size l.theirs.items;
+      mine_room : l.mine.capacity ≡ l.fn.mine.capacity;
+      theirs_room : l.theirs.capacity ≡ l.fn.mine.capacity;
+      marks : g.C.Cells.marks l.cells ≤ g.C.Cells.marks l.fn.cells + 6 * l.done;
+    }
+
+abbrev pub decreases-loop-done : goal.decreases-loop-done
+decreases-loop-done g l = l.cycles - l.done

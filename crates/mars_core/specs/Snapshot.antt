@@ -1,0 +1,26 @@
+-- A state of a fight that was kept, to see whether it comes back.
+use Rattle.std.specs.Prelude.{◌≡◌, ℕ, ◌+◌, ◌<◌, List}
+use Rattle.circular_buffer.specs.Buffer.{Buffer}
+use Rattle.rc_instr.specs.declared.instruction.Instruction.{Instruction}
+
+-- The cells, the tasks of the side that moves first, and those of the other side.
+pub record SnapshotView : Type 0 where
+  pub core : List Instruction
+  pub mine : List ℕ
+  pub theirs : List ℕ
+  -- after how many cycles it was taken, 0 if none was taken in this fight
+  pub cycles : ℕ
+
+abbrev pub snapshot_view : List Instruction → List ℕ → List ℕ → ℕ → SnapshotView
+snapshot_view core mine theirs cycles = record { core = core; mine = mine; theirs = theirs; cycles = cycles }
+
+-- A snapshot has room for 8 tasks of each side.
+pub record HasRoom (mine theirs : Buffer ℕ) : Type 0 where
+  pub mine_room : mine.capacity ≡ 8
+  pub theirs_room : theirs.capacity ≡ 8
+
+-- The state after these cycles is the one that was kept, a period ago.
+pub record IsBack (kept : SnapshotView) (core : List Instruction) (mine theirs : List ℕ) (cycles period : ℕ) : Type 0 where
+  pub taken : 0 < kept.cycles
+  pub state : kept ≡ snapshot_view core mine theirs kept.cycles
+  pub period_is : kept.cycles + period ≡ cycles

@@ -1,0 +1,127 @@
+//! A state of a fight that is kept, to see whether it comes back.
+ghost use Rattle.std.specs.Prelude.{◌≡◌, ◌<◌, ◌≤◌, ◌⊎◌, length, IfOk, IfSome};
+ghost use Rattle.mars_core.specs.Snapshot.{snapshot_view, IsBack};
+
+use crate::cell::Cell;
+use crate::cells::Cells;
+use crate::tasks::Tasks;
+use rc_instr::OutOfMemory;
+use std::alloc::Global;
+use std::marker::Model;
+
+// The most tasks of a side in a state that is kept. A warrior with more seldom comes back, and its
+// queue takes long to compare.
+const FEW: usize = 8;
+
+// The state of a fight after some of its cycles.
+#[derive(Drop)]
+pub(crate) struct Snapshot<C: Cells> {
+    cells: C,
+    // The tasks of the side that moves first, and of the other side.
+    mine: Tasks,
+    theirs: Tasks,
+    // After how many cycles it was taken, 0 if none was taken in this fight.
+    cycles: u32,
+    // After how many cycles the next one is to be taken.
+    due: u32,
+    // The address at which the cells were others when they were compared last.
+    differs: u32,
+}
+
+impl<C: Cells> Model for Snapshot<C> {
+    ghost use Rattle.mars_core.specs.Snapshot.{SnapshotView, snapshot_view, HasRoom};
+
+    ghost Value = { SnapshotView };
+
+    ghost view = { λ s. snapshot_view (C.items s.cells) s.mine.items s.theirs.items s.cycles };
+
+    ghost invariant = { λ s. HasRoom s.mine s.theirs };
+}
+
+impl<C: Cells + Drop> Snapshot<C> {
+    // Makes a snapshot that keeps its cells in `cells`.
+    pub(crate) fn over(alloc: Global, cells: C) -> Result<Snapshot<C>, OutOfMemory>
+        ensures { IfOk result (λ s. s.core ≡ C.items cells) }
+    {
+        let mine = Tasks::with_capacity(alloc, FEW)?;
+        let theirs = Tasks::with_capacity(alloc, FEW)?;
+        Ok(Snapshot {
+            cells,
+            mine,
+            theirs,
+            cycles: 0,
+            due: 0,
+            differs: 0,
+        })
+    }
+}
+
+impl<C: Cells> Snapshot<C> {
+    // Begins a fight, of which no state was taken.
+    pub(crate) fn forget(&mut self)
+        ensures { self.new ≡ record self.old { cycles = 0 } }
+    {
+        self.cycles = 0;
+        self.due = 0;
+    }
+
+    // Returns how many cycles ago the state was the same, if it is the one that was taken. Each cell
+    // has to be kept as it was, so a mark that is new hides a return for one period.
+    pub(crate) fn period(
+        &mut self,
+        cells: &C,
+        mine: &Tasks,
+        theirs: &Tasks,
+        cycles: u32,
+    ) -> Option<u32>
+        requires size { length (C.items cells.now) ≡ length self.old.core }
+        requires cycles { self.old.cycles < cycles }
+        ensures back { IfSome result (IsBack self.old (C.items cells.now) mine.now.items theirs.now.items cycles) }
+        ensures kept { self.new ≡ self.old }
+    {
+        if self.cycles == 0 || !self.mine.is_same(mine) || !self.theirs.is_same(theirs) {
+            return None;
+        }
+        self.differs = difference(&self.cells, cells, self.differs);
+        if self.differs != cells.size() {
+            return None;
+        }
+        Some(cycles - self.cycles)
+    }
+
+    // Takes the state after `cycles` cycles, in place of the one taken before, if that is due and
+    // both sides have few tasks. Each is kept until four times its cycles were made, so a period of
+    // any length is found (after Brent, who doubles them: with four there are fewer to copy).
+    pub(crate) fn renew(&mut self, cells: &C, mine: &Tasks, theirs: &Tasks, cycles: u32)
+        requires size { length (C.items cells.now) ≡ length self.old.core }
+        requires cycles { cycles ≤ 1000000 }
+        ensures { (self.new ≡ self.old) ⊎ (self.new ≡ snapshot_view (C.items cells.now) mine.now.items theirs.now.items cycles) }
+    {
+        if cycles < self.due || mine.len() > FEW || theirs.len() > FEW {
+            return;
+        }
+        self.cells.copy_from(cells);
+        self.mine.copy_from(mine);
+        self.theirs.copy_from(theirs);
+        self.cycles = cycles;
+        self.due = 4 * cycles;
+    }
+}
+
+// Returns an address at which two stores of one size keep different cells: `likely` if it is one,
+// else the first. Returns the size if there is none.
+fn difference<C: Cells>(x: &C, y: &C, likely: u32) -> u32
+    requires size { length (C.items x.now) ≡ length (C.items y.now) }
+    ensures { result ≡ length (C.items y.now) → C.items x.now ≡ C.items y.now }
+{
+    let size = y.size();
+    if likely < size && !x.cell(likely).is_identical(y.cell(likely)) {
+        return likely;
+    }
+    for at in 0..size {
+        if !x.cell(at).is_identical(y.cell(at)) {
+            return at;
+        }
+    }
+    size
+}
