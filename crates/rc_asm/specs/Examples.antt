@@ -14,10 +14,12 @@ use Rattle.rc_instr.specs.declared.instruction.Mode.TheVariants as mode
 use Rattle.rc_text.specs.declared.fault.EvalFault.TheVariants.{UnknownName}
 use Rattle.rc_expand.specs.declared.line.Line.{Line}
 use Rattle.rc_text.specs.NameClasses.{is_opcode_word}
-use Rattle.rc_expand.specs.Names.{given_names}
+use Rattle.rc_expand.specs.Names.{given_names, is_taken}
 use Rattle.rc_expand.specs.Heads.Lines.{is_free, is_opcode, word_of_name, head_of, lines_read}
 use Rattle.rc_expand.specs.Replace.{replaced_tokens}
-use Rattle.rc_expand.specs.Unroll.{copied_line, is_taken, count_of, opening, unrolled}
+use Rattle.rc_expand.specs.Unroll.{unrolled}
+use Rattle.rc_expand.specs.Unroll.Copies.{copied_line}
+use Rattle.rc_expand.specs.Unroll.Openings.{count_of, opening}
 use Rattle.rc_expand.specs.Heads.{equs_of, heads_of}
 use Rattle.rc_expand.specs.Replace.Lines.{line_of, replaced}
 use Rattle.rc_expand.specs.Expansion.{expansion_of}

@@ -1,7 +1,7 @@
 -- Lists that are made item by item.
 use Rattle.std.proofs.Common.{◌≡◌, ℕ, ◌+◌, ◌<◌, List, [], ◌∷◌, ◌++◌, get_or, drop, drop-cons, length, refl, sym, ◌∙◌, ap, append_assoc, add-one, Option, Some, None}
 use Rattle.std.specs.Prelude.{option_map, option_and_then}
-use Rattle.rc_expand.specs.Unroll.{all_of}
+use Rattle.rc_expand.specs.Unroll.Copies.{all_of}
 
 -- an item and what follows it
 pub split_at : {A : Type 0} (xs : List A) (i : ℕ) (x : A) → i < length xs → x ≡ get_or xs i x → drop i xs ≡ x ∷ drop (i + 1) xs

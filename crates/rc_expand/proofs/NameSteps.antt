@@ -1,33 +1,51 @@
 -- Names, byte by byte.
-use Rattle.std.proofs.Common.{◌≡◌, ◌≢◌, ℕ, ◌+◌, ◌<◌, ◌/◌, ◌%◌, Bool, true, false, List, [], ◌∷◌, ◌++◌, get_or, drop, drop-cons, length, map, refl, arith, sym, ◌∙◌, ap, append_assoc, add-one, Option, Some, None, MatchOption, Bor}
+use Rattle.std.proofs.Common.{◌≡◌, ◌≢◌, ℕ, ◌+◌, ◌<◌, ◌≤◌, ◌-◌, ◌/◌, ◌%◌, ◌^◌, Bool, true, false, List, [], ◌∷◌, ◌++◌, get_or, take, drop, drop-cons, length, map, refl, arith, sym, ◌∙◌, ap, add-one}
 use Rattle.std.specs.Prelude.{flat_map}
 use Rattle.std.specs.Str.{bytes_eq}
 use Rattle.std.specs.Int.Digits.{digits_of}
-use Rattle.std.proofs.lemmas.List.{map-append, append_cancel_left}
-use Rattle.std.proofs.lemmas.Bool.{eq-eqb}
+use Rattle.std.specs.Fmt.{decimal}
+use Rattle.std.proofs.lemmas.List.{map-append}
+use Rattle.std.proofs.lemmas.Fmt.{decimal_digit, decimal_step, decimal_by_steps}
+use Rattle.std.proofs.lemmas.Bool.{eq-eqb, le-ltb, lt-ltb}
 use Rattle.std.proofs.lemmas.Slice.Eq.{bytes_eq-Decides}
 use Rattle.std.proofs.lemmas.Int.Digits.{digits_of_step}
 use Rattle.rc_text.specs.Symbols.{counter_text}
 
-abbrev pub number_text : ℕ → List ℕ
+abbrev number_text : ℕ → List ℕ
 number_text v = map (λ d. 48 + d) (digits_of 10 v)
 
-pub number_text_step : (v : ℕ) → 0 < v → number_text v ≡ number_text (v / 10) ++ ((48 + v % 10) ∷ [])
+number_text_step : (v : ℕ) → 0 < v → number_text v ≡ number_text (v / 10) ++ ((48 + v % 10) ∷ [])
 number_text_step v h = ap (map (λ d. 48 + d)) (digits_of_step 10 v (omega arith) h) ∙ map-append (λ d. 48 + d) (digits_of 10 (v / 10)) ((v % 10) ∷ [])
 
-text_step : (v : ℕ) (rest : List ℕ) → 0 < v → number_text v ++ rest ≡ number_text (v / 10) ++ ((48 + v % 10) ∷ rest)
-text_step v rest h = ap (λ t. t ++ rest) (number_text_step v h) ∙ append_assoc (number_text (v / 10)) ((48 + v % 10) ∷ []) rest
+-- a number of one digit
+one_digit : (n : ℕ) → 0 < n → n < 10 → (48 + n) ∷ [] ≡ number_text n
+one_digit n p h =
+    let tens : n / 10 ≡ 0 = omega arith in
+    let ones : n % 10 ≡ n = omega arith in
+    sym (number_text_step n p ∙ (λ x. number_text (tens x) ++ ((48 + ones x) ∷ [])))
 
--- bytes that do not begin with the first digits of a number do not begin with the number
-pub no_digits : (v : ℕ) (bs : List ℕ) → 0 < v → ((rest : List ℕ) → bs ≢ number_text (v / 10) ++ rest) → (rest : List ℕ) → bs ≢ number_text v ++ rest
-no_digits v bs p h rest e = h ((48 + v % 10) ∷ rest) (e ∙ text_step v rest p)
+-- and so a number is as it is printed
+printed : (n : ℕ) → n < 2 ^ 64 → 0 < n → decimal n ≡ number_text n
+printed = decimal_by_steps (λ m ds. 0 < m → ds ≡ number_text m) (λ m h p. one_digit m p h)
+    (λ m ds h e p. ap (λ x. x ++ ((48 + m % 10) ∷ [])) (e (omega arith)) ∙ sym (number_text_step m p))
 
--- the last digit decides
-pub one_more_digit : (v : ℕ) (bs mid : List ℕ) (r : Option (Bor (List ℕ))) → 0 < v → bs ≡ number_text (v / 10) ++ mid
-    → MatchOption r ((rest : List ℕ) → mid ≢ (48 + v % 10) ∷ rest) (λ x. mid ≡ (48 + v % 10) ∷ x.now)
-    → MatchOption r ((rest : List ℕ) → bs ≢ number_text v ++ rest) (λ x. bs ≡ number_text v ++ x.now)
-one_more_digit v bs mid None p e h = λ rest f. h rest (append_cancel_left (number_text (v / 10)) mid ((48 + v % 10) ∷ rest) (sym e ∙ (f ∙ text_step v rest p)))
-one_more_digit v bs mid (Some x) p e h = e ∙ (ap (λ t. number_text (v / 10) ++ t) h ∙ sym (text_step v x.now p))
+-- a counter of more than one digit
+pub long_text : (n : ℕ) (bytes : List ℕ) → 10 ≤ n → n < 2 ^ 64 → bytes ≡ decimal n → bytes ≡ counter_text n
+long_text n bytes h k e = rw (le-ltb n 10 h) (e ∙ printed n k (omega arith))
+
+-- a counter of one digit has a 0 before it, as 100 and the digit have after the 1
+one_more : (n : ℕ) → n < 10 → decimal (n + 100) ≡ 49 ∷ 48 ∷ (48 + n) ∷ []
+one_more n h =
+    let tens : (n + 100) / 10 ≡ 10 = omega arith in
+    let ones : (n + 100) % 10 ≡ n = omega arith in
+    let ten : decimal 10 ≡ 49 ∷ 48 ∷ [] = decimal_step 10 (omega arith) (omega arith) ∙ ap (λ t. t ++ (48 ∷ [])) (decimal_digit 1 (omega arith)) in
+    decimal_step (n + 100) (omega arith) (omega arith) ∙ ((λ x. decimal (tens x) ++ ((48 + ones x) ∷ [])) ∙ ap (λ t. t ++ ((48 + n) ∷ [])) ten)
+
+pub short_length : (n : ℕ) (bytes : List ℕ) → n < 10 → bytes ≡ decimal (n + 100) → 1 ≤ length bytes
+short_length n bytes h e = omega (arith, ap length (e ∙ one_more n h))
+
+pub short_text : (n : ℕ) (bytes : List ℕ) → n < 10 → bytes ≡ decimal (n + 100) → take (length bytes - 1) (drop 1 bytes) ≡ counter_text n
+short_text n bytes h e = rw (lt-ltb n 10 h) (ap (λ b. take (length b - 1) (drop 1 b)) (e ∙ one_more n h))
 
 same_front : (a r x : List ℕ) → bytes_eq (a ++ r) (a ++ x) ≡ bytes_eq r x
 same_front [] r x = refl
@@ -56,7 +74,3 @@ counter_peeled ks bs x i h e = ap (λ t. bytes_eq t bs) (counters_step ks i h) �
 -- a counter makes a difference
 pub counter_differs : (ks bs : List ℕ) (i : ℕ) → i < length ks → ((rest : List ℕ) → bs ≢ counter_text (get_or ks i 0) ++ rest) → bytes_eq (flat_map counter_text (drop i ks)) bs ≡ false
 counter_differs ks bs i h d = ap (λ t. bytes_eq t bs) (counters_step ks i h) ∙ differs (counter_text (get_or ks i 0)) (flat_map counter_text (drop (i + 1) ks)) bs d
-
--- the last digit comes after the others, and a text before them
-pub digits_after : (text : List ℕ) (n : ℕ) → 0 < n → text ++ map (λ d. 48 + d) (digits_of 10 n) ≡ (text ++ map (λ d. 48 + d) (digits_of 10 (n / 10))) ++ ((48 + n % 10) ∷ [])
-digits_after text n h = ap (λ x. text ++ x) (number_text_step n h) ∙ sym (append_assoc text (number_text (n / 10)) ((48 + n % 10) ∷ []))

@@ -1,7 +1,7 @@
 -- Texts of plain lines: each begins with an opcode word or with ORG. Their heads, from their
 -- tokens.
 use Rattle.std.proofs.Common.{◌≡◌, ℕ, suc, ◌<◌, true, false, List, [], ◌∷◌, ◌++◌, length, Some, None, refl, sym, ◌∙◌, ap, append_assoc}
-use Rattle.std.specs.Prelude.{◌&&◌, not, Option, option_map, if◌then◌else◌, codes, Ok}
+use Rattle.std.specs.Prelude.{◌&&◌, not, Option, option_map, codes, Ok}
 use Rattle.std.proofs.lemmas.List.{append-nil}
 use Rattle.rc_text.specs.declared.token.Kind.TheVariants.{Name}
 use Rattle.rc_text.specs.declared.token.Token.{Token}

@@ -11,6 +11,7 @@ use Rattle.rc_expand.specs.Results.{mapped, and_then}
 use Rattle.rc_expand.specs.declared.heads.head.Head.{Head}
 use Rattle.rc_expand.specs.declared.heads.head.HeadWord.{HeadWord}
 use Rattle.rc_expand.specs.declared.heads.head.HeadWord.TheVariants as word
+use Rattle.rc_expand.specs.Shared.{Shared}
 use Rattle.rc_expand.specs.Heads.Lines.{is_name_token}
 use Rattle.rc_expand.specs.Replace.{EquText, Replaced, Inner, one, spread, inner_at, replaced_tokens, exempt_len, line_tokens}
 use Rattle.rc_expand.specs.Unroll.{Unrolled, nothing, with_line as with_head, Deeper, outside, deeper_at, unrolled}
@@ -59,34 +60,38 @@ module _ (source : List ℕ) where
       ap (mapped (finished source g word.Org)) (same_line g.number word.Org ts (omega (arith, h)))
 
   module _ (rules : RulesView) where
+    -- without constants and EQU names
+    abbrev plain : Shared
+    plain = record { source = source; constants = []; rules = rules; equs = [] }
+
     -- a line defines no name and is added
     line_next : (p : PlainLine) (r : Replacement) → length p.others < MOST_TOKENS
-        → line_replaced [] rules source [] (head_by p.word p.first p.others) r ≡ Ok (record { names = r.names; lines = r.lines ++ (plain_line p ∷ []) })
+        → line_replaced plain (head_by p.word p.first p.others) r ≡ Ok (record { names = r.names; lines = r.lines ++ (plain_line p ∷ []) })
     line_next p r h = by_word p.word (line_there p.word p.first p.others h) where
       by_word : (w : PlainWord) → line_of source [] (head_by w p.first p.others) ≡ Ok (plain_line_by w p.first p.others)
-          → line_replaced [] rules source [] (head_by w p.first p.others) r ≡ Ok (record { names = r.names; lines = r.lines ++ (plain_line_by w p.first p.others ∷ []) })
-      by_word (AnOpcode o) k = ap (mapped (with_line [] rules source [] r.lines r.names)) k
-      by_word AStart k = ap (mapped (with_line [] rules source [] r.lines r.names)) k
+          → line_replaced plain (head_by w p.first p.others) r ≡ Ok (record { names = r.names; lines = r.lines ++ (plain_line_by w p.first p.others ∷ []) })
+      by_word (AnOpcode o) k = ap (mapped (with_line r.lines r.names)) k
+      by_word AStart k = ap (mapped (with_line r.lines r.names)) k
 
-    all_there : (ps : List PlainLine) (r : Replacement) → ArePlain source ps → lines_replaced [] rules source [] (plain_heads ps) r ≡ Ok (record { names = r.names; lines = r.lines ++ plain_lines ps })
+    all_there : (ps : List PlainLine) (r : Replacement) → ArePlain source ps → lines_replaced plain (plain_heads ps) r ≡ Ok (record { names = r.names; lines = r.lines ++ plain_lines ps })
     all_there [] r a = let e : r.lines ≡ r.lines ++ [] = sym (append-nil r.lines) in (λ x. Ok (record { names = r.names; lines = e x }))
     all_there (p ∷ ps) r a =
         let more : Replacement = record { names = r.names; lines = r.lines ++ (plain_line p ∷ []) } in
         let all : (r.lines ++ (plain_line p ∷ [])) ++ plain_lines ps ≡ r.lines ++ (plain_line p ∷ plain_lines ps) = append_assoc r.lines (plain_line p ∷ []) (plain_lines ps) in
-        ap (and_then (lines_replaced [] rules source [] (plain_heads ps))) (line_next p r a.0.short)
+        ap (and_then (lines_replaced plain (plain_heads ps))) (line_next p r a.0.short)
         ∙ all_there ps more a.1
         ∙ (λ x. Ok (record { names = r.names; lines = all x }))
 
     -- the third part of the expansion
-    heads_replaced : (ps : List PlainLine) → ArePlain source ps → replaced [] rules source [] (plain_heads ps) ≡ Ok (plain_lines ps)
+    heads_replaced : (ps : List PlainLine) → ArePlain source ps → replaced plain (plain_heads ps) ≡ Ok (plain_lines ps)
     unfolding replaced
-    heads_replaced ps a = ap (mapped (λ (r : Replacement). r.lines)) (all_there ps (no_lines [] rules source []) a)
+    heads_replaced ps a = ap (mapped (λ (r : Replacement). r.lines)) (all_there ps (no_lines) a)
 
     -- ---- without FOR nothing is unrolled
 
     -- each line stays
-    all_outside : (deeper : Deeper source [] rules []) (ps : List PlainLine) (u : Unrolled) → length u.lines + u.copies + length ps ≤ MOST_LINES
-        → outside source [] rules [] false deeper (plain_heads ps) u ≡ Ok (record u { lines = u.lines ++ plain_heads ps })
+    all_outside : (deeper : Deeper) (ps : List PlainLine) (u : Unrolled) → length u.lines + u.copies + length ps ≤ MOST_LINES
+        → outside plain false deeper (plain_heads ps) u ≡ Ok (record u { lines = u.lines ++ plain_heads ps })
     all_outside deeper [] u l = let e : u.lines ≡ u.lines ++ [] = sym (append-nil u.lines) in (λ x. Ok (record { lines = e x; copies = u.copies }))
     all_outside deeper (p ∷ ps) u l =
         let h : Head = plain_head p in
@@ -95,22 +100,22 @@ module _ (source : List ℕ) where
         let pushed : with_head h u ≡ Ok more = rw few refl in
         let all : (u.lines ++ (h ∷ [])) ++ plain_heads ps ≡ u.lines ++ (h ∷ plain_heads ps) = append_assoc u.lines (h ∷ []) (plain_heads ps) in
         by_word p.word
-        ∙ (ap (and_then (outside source [] rules [] false deeper (plain_heads ps))) pushed
+        ∙ (ap (and_then (outside plain false deeper (plain_heads ps))) pushed
         ∙ (all_outside deeper ps more (omega (arith, l, length-append u.lines (h ∷ []))) ∙ (λ x. Ok (record { lines = all x; copies = u.copies }))))
       where
-        by_word : (w : PlainWord) → outside source [] rules [] false deeper (head_by w p.first p.others ∷ plain_heads ps) u ≡ and_then (outside source [] rules [] false deeper (plain_heads ps)) (with_head (head_by w p.first p.others) u)
+        by_word : (w : PlainWord) → outside plain false deeper (head_by w p.first p.others ∷ plain_heads ps) u ≡ and_then (outside plain false deeper (plain_heads ps)) (with_head (head_by w p.first p.others) u)
         by_word (AnOpcode o) = refl
         by_word AStart = refl
 
     -- the second part of the expansion
-    heads_unrolled : (ps : List PlainLine) → length ps ≤ MOST_LINES → unrolled source [] rules [] (plain_heads ps) ≡ Ok (plain_heads ps)
+    heads_unrolled : (ps : List PlainLine) → length ps ≤ MOST_LINES → unrolled plain (plain_heads ps) ≡ Ok (plain_heads ps)
     unfolding unrolled
-    heads_unrolled ps l = ap (mapped (λ (u : Unrolled). u.lines)) (all_outside (deeper_at source [] rules [] DEEPEST_BLOCK) ps nothing (omega (arith, l)))
+    heads_unrolled ps l = ap (mapped (λ (u : Unrolled). u.lines)) (all_outside (deeper_at plain DEEPEST_BLOCK) ps nothing (omega (arith, l)))
 
     -- the three in turn
     pub plain_expands : (ps : List PlainLine) → ArePlain source ps → length ps ≤ MOST_LINES → tokens_of source ≡ record { tokens = plain_tokens ps; ending = None } → IsExpansion source [] rules (plain_lines ps)
     unfolding expansion_of
     plain_expands ps a l e =
         ap (and_then (expansion_by source [] rules)) (heads_there source rules ps a e)
-        ∙ ap (and_then (replaced [] rules source [])) (heads_unrolled ps l)
+        ∙ ap (and_then (replaced plain)) (heads_unrolled ps l)
         ∙ heads_replaced ps a

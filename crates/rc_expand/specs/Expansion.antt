@@ -1,4 +1,4 @@
--- The expansion as a whole: its three parts, one after the other.
+-- The expansion as a whole: its passes, one after the other.
 use Rattle.std.specs.Prelude.{◌≡◌, ℕ, List, Result, Ok, All}
 use Rattle.rc_text.specs.Symbols.{LiesIn}
 use Rattle.rc_instr.specs.Rules.{RulesView}
@@ -6,6 +6,7 @@ use Rattle.rc_expand.specs.declared.fault.ExpandFault.{ExpandFault}
 use Rattle.rc_expand.specs.declared.line.Line.{Line}
 use Rattle.rc_expand.specs.Results.{and_then}
 use Rattle.rc_expand.specs.Names.{Table}
+use Rattle.rc_expand.specs.Shared.{Shared}
 use Rattle.rc_expand.specs.Unroll.{unrolled}
 use Rattle.rc_expand.specs.Heads.{Heads, heads_of}
 use Rattle.rc_expand.specs.Replace.Lines.{replaced}
@@ -16,11 +17,13 @@ pub record LineLies (source : List ℕ) (l : Line) : Type 0 where
   pub tokens : All (LiesIn source) l.tokens
 
 module _ (source : List ℕ) (constants : Table) (rules : RulesView) where
-  abbrev pub expansion_by : Heads → Result (List Line) ExpandFault
-  expansion_by r = and_then (replaced constants rules source r.equs) (unrolled source constants rules r.equs r.lines)
+  abbrev pub shared_by : Heads → Shared
+  shared_by r = record { source = source; constants = constants; rules = rules; equs = r.equs }
 
-  -- the three parts, one after the other: the lines of the expansion, or the first fault with its
-  -- line
+  abbrev pub expansion_by : Heads → Result (List Line) ExpandFault
+  expansion_by r = and_then (replaced (shared_by r)) (unrolled (shared_by r) r.lines)
+
+  -- the lines of the expansion; or the fault that the passes meet first, at its line
   unfoldable pub expansion_of : Result (List Line) ExpandFault
   expansion_of = and_then expansion_by (heads_of source constants rules)
 

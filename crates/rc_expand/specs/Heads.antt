@@ -1,10 +1,9 @@
--- The first part of the expansion: the lines of a text, and its EQU names (pMARS).
-pub mod Kept
+-- The first passes: the lines of a text, the check that its blocks nest, and its EQU names (pMARS).
 pub mod Lines
 pub mod Nesting
 pub mod Faults
 pub mod NameTables
-use Rattle.std.specs.Prelude.{ℕ, zero, suc, pred, List, [], ◌∷◌, ◌++◌, Option, Some, None, if◌then◌else◌, Result, Ok, Err}
+use Rattle.std.specs.Prelude.{ℕ, zero, suc, pred, ◌||◌, List, [], ◌∷◌, ◌++◌, Option, Some, None, if◌then◌else◌, is_some, Result, Ok, Err}
 use Rattle.rc_text.specs.declared.token.Token.{Token}
 use Rattle.rc_text.specs.Symbols.{name_of}
 use Rattle.rc_text.specs.Tokens.{tokens_of}
@@ -15,12 +14,11 @@ use Rattle.rc_expand.specs.declared.heads.head.HeadWord.TheVariants as word
 use Rattle.rc_expand.specs.declared.fault.ExpandFault.{ExpandFault}
 use Rattle.rc_expand.specs.declared.fault.ExpandKind.TheVariants.{DuplicateName, BadDirective}
 use Rattle.rc_expand.specs.Results.{at_line, mapped, and_then}
-use Rattle.rc_expand.specs.Names.{Table}
-use Rattle.rc_expand.specs.Heads.Lines.{lines_read}
+use Rattle.rc_expand.specs.Names.{Table, entry_of, is_taken}
+use Rattle.rc_expand.specs.Heads.Lines.{lines_read, plain_token}
 use Rattle.rc_expand.specs.Heads.Faults.{text_fault}
 use Rattle.rc_expand.specs.Replace.{Equs}
 use Rattle.rc_expand.specs.Heads.Nesting.{nesting_fault}
-use Rattle.rc_expand.specs.Unroll.{plain_token, is_known}
 
 abbrev pub equ_lines_by : HeadWord → ℕ → Head → (ℕ → List Head) → List Head
 equ_lines_by word.For n h next = next (suc n)
@@ -28,7 +26,7 @@ equ_lines_by word.Rof n h next = next (pred n)
 equ_lines_by word.Equ zero h next = h ∷ next zero
 equ_lines_by _ n h next = next n
 
--- the EQU lines outside blocks; `n` blocks are open at first
+-- the EQU lines outside blocks; `n` blocks are open before the first line
 abbrev pub equ_lines : ℕ → List Head → List Head
 equ_lines n [] = []
 equ_lines n (h ∷ hs) = equ_lines_by h.word n h (λ m. equ_lines m hs)
@@ -44,7 +42,7 @@ lines_or fault (Some hs) = Ok hs
 lines_or (Some f) None = Err f
 lines_or None None = Ok []
 
--- blocks nest, or there is a fault
+-- the lines, unless their blocks have a fault
 abbrev pub nested : List Head → Option ExpandFault → Result (List Head) ExpandFault
 nested hs None = Ok hs
 nested hs (Some f) = Err f
@@ -67,7 +65,9 @@ module _ (source : List ℕ) where
     -- of a line before it
     abbrev pub with_equ : Head → Equs → Option Token → Result Equs ExpandFault
     with_equ h equs None = Err (at_line h.number BadDirective)
-    with_equ h equs (Some t) = if is_known constants rules equs (name_of source t) then Err (at_line h.number DuplicateName) else Ok (equs ++ ((name_of source t, record { tokens = h.rest; line = h.number }) ∷ []))
+    with_equ h equs (Some t) =
+        if is_taken constants rules (name_of source t) || is_some (entry_of equs (name_of source t)) then Err (at_line h.number DuplicateName) else
+        Ok (equs ++ ((name_of source t, record { tokens = h.rest; line = h.number }) ∷ []))
 
     abbrev pub equs_from : List Head → Equs → Result Equs ExpandFault
     equs_from [] equs = Ok equs

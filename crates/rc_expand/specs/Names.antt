@@ -1,5 +1,5 @@
 -- Names that are given from outside of a text, and their values.
-use Rattle.std.specs.Prelude.{ℕ, Bool, List, [], ◌∷◌, Option, Some, None, if◌then◌else◌, codes, ℤ, pos}
+use Rattle.std.specs.Prelude.{ℕ, Bool, ◌||◌, List, [], ◌∷◌, Option, Some, None, if◌then◌else◌, is_some, codes, ℤ, pos}
 use Rattle.std.specs.Global.{Vec}
 use Rattle.std.specs.List.{list_any}
 use Rattle.std.specs.Str.{bytes_eq}
@@ -36,3 +36,7 @@ or_else None o = o
 -- the value of a name in a count: a constant or a predefined name
 unfoldable pub given_names : Table → RulesView → List ℕ → Option ℤ
 given_names constants rules name = or_else (entry_of constants name) (entry_of (predefined rules) name)
+
+-- a constant or a predefined name, CURLINE included
+unfoldable pub is_taken : Table → RulesView → List ℕ → Bool
+is_taken constants rules name = is_some (given_names constants rules name) || bytes_eq name CURLINE

@@ -1,11 +1,11 @@
--- EQU names are replaced by their tokens (EQU is from pMARS).
+-- The tokens of a line with EQU names replaced by their own (EQU is from pMARS).
 pub mod Lines
-pub mod SoFar
 use Rattle.std.specs.Prelude.{Result, Ok, Err, All, ℕ, zero, suc, ◌+◌, nat_lt, List, [], ◌∷◌, ◌++◌, length, take, drop, Option, Some, None, option_map, if◌then◌else◌}
 use Rattle.rc_text.specs.declared.token.Token.{Token}
 use Rattle.rc_text.specs.Symbols.{name_of, LiesIn}
 use Rattle.rc_expand.specs.declared.fault.ExpandFault.{ExpandFault}
 use Rattle.rc_expand.specs.declared.fault.ExpandKind.TheVariants.{EquTooDeep, TooManyTokens}
+use Rattle.rc_expand.specs.declared.replace.Replacing.{Replacing}
 use Rattle.rc_expand.specs.declared.heads.head.HeadWord.{HeadWord}
 use Rattle.rc_expand.specs.declared.heads.head.HeadWord.TheVariants as word
 use Rattle.rc_expand.specs.Limits.{MOST_TOKENS, MOST_REPLACEMENTS, DEEPEST_EQU}
@@ -32,6 +32,10 @@ pub record Replaced : Type 0 where
   pub tokens : List Token
   pub replacements : ℕ
 
+-- what the code keeps of it
+abbrev pub replaced_so_far : Replacing → Replaced
+replaced_so_far r = record { line = r.line; tokens = r.tokens.items; replacements = r.replacements }
+
 -- one more token, within the limit
 abbrev pub with_token : Token → Replaced → Result Replaced ExpandFault
 with_token t r = if nat_lt (length r.tokens) MOST_TOKENS then Ok (record r { tokens = r.tokens ++ (t ∷ []) }) else Err (at_line r.line TooManyTokens)
@@ -40,11 +44,11 @@ with_token t r = if nat_lt (length r.tokens) MOST_TOKENS then Ok (record r { tok
 abbrev pub with_replacement : Replaced → Result Replaced ExpandFault
 with_replacement r = if nat_lt r.replacements MOST_REPLACEMENTS then Ok (record r { replacements = r.replacements + 1 }) else Err (at_line r.line TooManyTokens)
 
--- how the tokens of an EQU name are put in
+-- what a line becomes with the tokens of an EQU name after those so far
 abbrev pub Inner : Type 0
 Inner = List Token → Replaced → Result Replaced ExpandFault
 
--- an EQU name is replaced by its tokens, with EQU names replaced in turn; any other token stays
+-- one token; if it is an EQU name with these tokens, `inner` adds them in its place
 abbrev pub one : Inner → Token → Option (List Token) → Replaced → Result Replaced ExpandFault
 one inner t None r = with_token t r
 one inner t (Some body) r = inner body r
@@ -69,24 +73,25 @@ module _ (source : List ℕ) (equs : Equs) where
   abbrev pub equ_at : Token → Option (List Token)
   equ_at t = option_map (λ e. e.tokens) (equ_in t)
 
-  -- each token in turn
+  -- tokens in turn
   abbrev pub spread : Inner → List Token → Replaced → Result Replaced ExpandFault
   spread inner [] r = Ok r
   spread inner (t ∷ ts) r = and_then (spread inner ts) (one inner t (equ_at t) r)
 
-  -- the tokens of an EQU name, in which names may nest `levels` deep
+  -- the tokens of an EQU name, in which this name and those inside it may nest `levels` deep
   abbrev pub inner_at : ℕ → Inner
   inner_at zero = λ body r. Err (at_line r.line EquTooDeep)
   inner_at (suc levels) = λ body r. and_then (spread (inner_at levels) body) (with_replacement r)
 
-  -- replacement at most `levels` deep
+  -- tokens in turn, in which EQU names may nest `levels` deep
   abbrev pub replaced_within : ℕ → List Token → Replaced → Result Replaced ExpandFault
   replaced_within levels = spread (inner_at levels)
 
-  -- the tokens of a line after replacement; those in `front` are left alone
+  -- `front` as it is, and then tokens with their EQU names replaced
   unfoldable pub replaced_tokens : (line : ℕ) (front : List Token) → List Token → Result (List Token) ExpandFault
-  replaced_tokens line front ts = mapped (λ r. r.tokens) (replaced_within DEEPEST_EQU ts (record { line = line; tokens = front; replacements = 0 }))
+  replaced_tokens line front ts =
+      mapped (λ r. r.tokens) (replaced_within DEEPEST_EQU ts (record { line = line; tokens = front; replacements = 0 }))
 
-  -- the tokens of a line
+  -- the tokens of a line by its word: those at its front that are exempt stay as they are
   abbrev pub line_tokens : ℕ → HeadWord → List Token → Result (List Token) ExpandFault
   line_tokens line w ts = replaced_tokens line (take (exempt_len source w ts) ts) (drop (exempt_len source w ts) ts)

@@ -1,4 +1,5 @@
--- Faults at a line, and functions on results. A fault stays as it is.
+-- A fault at its line; and how definitions go on from one result to the next. Each goes on with a
+-- value, and gives a fault back as it is.
 use Rattle.std.specs.Prelude.{◌≡◌, ◌≢◌, ℕ, Result, Ok, Err}
 use Rattle.rc_expand.specs.declared.fault.ExpandFault.{ExpandFault}
 use Rattle.rc_expand.specs.declared.fault.ExpandKind.{ExpandKind}

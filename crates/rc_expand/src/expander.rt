@@ -76,8 +76,7 @@ fn expand_text(
     let context = Context {
         alloc,
         source,
-        constants,
-        rules,
+        names: &names,
         equs: &equs,
         links: &links,
     };

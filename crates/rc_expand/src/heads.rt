@@ -3,7 +3,7 @@
 //! and its tokens. Nothing is copied or replaced yet.
 ghost use Rattle.std.specs.Prelude.{◌≡◌, ◌≢◌, All, IfOk, Ok, Err};
 ghost use Rattle.rc_expand.specs.Results.{Returns};
-ghost use Rattle.rc_expand.specs.Names.{table_of};
+ghost use Rattle.rc_expand.specs.Shared.{constants_of};
 ghost use Rattle.rc_expand.specs.Heads.{heads_of};
 ghost use Rattle.rc_expand.specs.Heads.Lines.{HeadLies};
 ghost use Rattle.rc_expand.specs.Replace.{EqusLie};
@@ -32,7 +32,7 @@ pub(crate) fn read_heads(
     source: &[u8],
     names: &GivenNames,
 ) -> Result<(Vec<Head>, NameTable<'static, Equ>), ExpandFault>
-    ensures heads { Returns (λ p. record { lines = p.0.items; equs = p.1 }) result (heads_of source.now (table_of names.now.constants.now.names.now names.now.constants.now.values.now) names.now.rules.now) }
+    ensures heads { Returns (λ p. record { lines = p.0.items; equs = p.1 }) result (heads_of source.now (constants_of names.now) names.now.rules.now) }
     ensures lines { IfOk result (λ p. All (HeadLies source.now) p.0.items) }
     ensures equs { IfOk result (λ p. EqusLie source.now p.1) }
 {

@@ -11,7 +11,7 @@ ghost use Rattle.rc_expand.specs.Expansion.{IsExpansion};
 ghost use Rattle.rc_expand.specs.declared.heads.head.HeadWord.TheVariants as word;
 ghost use Rattle.rc_expand.specs.Heads.Lines.{labelled};
 ghost use Rattle.rc_expand.specs.Heads.Nesting.{nesting_fault, AreNested, Closed, closed_lines, opens_or_closes, IsClosed};
-ghost use Rattle.rc_expand.specs.Replace.{Equs};
+ghost use Rattle.rc_expand.specs.Shared.{Shared};
 ghost use Rattle.rc_expand.specs.Unroll.{Unrolled, Deeper, one_line, block_of, outside};
 
 /// A text has at most one expansion.
@@ -40,13 +40,13 @@ pub fn labels_come_before_the_rest()
 /// `deeper` unrolls the lines of a block.
 #[tactic(auto, using(crate::proofs::Unrolling::Equation::out_line, crate::proofs::Unrolling::Equation::out_block, crate::proofs::Unrolling::Equation::out_then))]
 pub fn blocks_unroll_in_place()
-    ensures line { (source : List ℕ) (constants : Table) (rules : RulesView) (equs : Equs) (b : Bool) (deeper : Deeper source constants rules equs) (h : Head) (after : List Head) (u : Unrolled)
+    ensures line { (s : Shared) (b : Bool) (deeper : Deeper) (h : Head) (after : List Head) (u : Unrolled)
         → opens_or_closes h.word ≡ false
-        → outside source constants rules equs b deeper (h ∷ after) u ≡ and_then (outside source constants rules equs b deeper after) (one_line source constants rules equs b h u) }
-    ensures block { (source : List ℕ) (constants : Table) (rules : RulesView) (equs : Equs) (b : Bool) (deeper : Deeper source constants rules equs) (n : ℕ) (c : Closed) (f r : Head) (after : List Head) (u : Unrolled)
+        → outside s b deeper (h ∷ after) u ≡ and_then (outside s b deeper after) (one_line b h u) }
+    ensures block { (s : Shared) (b : Bool) (deeper : Deeper) (n : ℕ) (c : Closed) (f r : Head) (after : List Head) (u : Unrolled)
         → IsClosed n c → f.word ≡ word.For → r.word ≡ word.Rof
-        → outside source constants rules equs b deeper (f ∷ (closed_lines c ++ (r ∷ after))) u ≡ and_then (outside source constants rules equs b deeper after) (block_of source constants rules equs deeper f (closed_lines c) r u) }
-    ensures parts { (source : List ℕ) (constants : Table) (rules : RulesView) (equs : Equs) (b : Bool) (deeper : Deeper source constants rules equs) (n : ℕ) (c : Closed) (after : List Head) (u : Unrolled)
+        → outside s b deeper (f ∷ (closed_lines c ++ (r ∷ after))) u ≡ and_then (outside s b deeper after) (block_of s deeper f (closed_lines c) r u) }
+    ensures parts { (s : Shared) (b : Bool) (deeper : Deeper) (n : ℕ) (c : Closed) (after : List Head) (u : Unrolled)
         → IsClosed n c
-        → outside source constants rules equs b deeper (closed_lines c ++ after) u ≡ and_then (outside source constants rules equs b deeper after) (outside source constants rules equs b deeper (closed_lines c) u) }
+        → outside s b deeper (closed_lines c ++ after) u ≡ and_then (outside s b deeper after) (outside s b deeper (closed_lines c) u) }
 {}

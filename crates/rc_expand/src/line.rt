@@ -1,84 +1,42 @@
 //! The lines of an expansion.
-ghost use Rattle.std.specs.Prelude.{◌≡◌, ◌∷◌, ◌++◌, [], IfOk};
+ghost use Rattle.std.specs.Prelude.{◌≡◌};
 
 use rc_text::Token;
-use std::alloc::{AllocError, Global};
 use std::marker::Model;
-use std::slice;
-
-// One token in place, or any number of them on the heap: most labels are one name.
-#[derive(Debug, Drop)]
-enum KeptTokens {
-    One(Token),
-    Many(Vec<Token>),
-}
 
 /// Tokens in order.
 #[derive(Debug, Drop)]
 pub struct Tokens {
-    kept: KeptTokens,
+    tokens: Vec<Token>,
 }
 
 impl Model for Tokens {
     ghost use Rattle.std.specs.Prelude.{List};
     ghost use Rattle.rc_text.specs.declared.token.Token.{Token};
-    ghost use Rattle.rc_expand.specs.Kept.{kept_tokens};
 
     ghost Value = { List Token };
 
-    ghost view = { λ t. kept_tokens t.kept };
+    ghost view = { λ t. t.tokens.items };
 }
 
 impl Tokens {
-    pub(crate) fn one(token: Token) -> Self
-        ensures { result ≡ token ∷ [] }
+    pub(crate) fn from_vec(tokens: Vec<Token>) -> Self
+        ensures { result ≡ tokens.items }
     {
-        Tokens {
-            kept: KeptTokens::One(token),
-        }
+        Tokens { tokens }
     }
 
-    pub(crate) fn from_vec(items: Vec<Token>) -> Self
-        ensures { result ≡ items.items }
+    pub(crate) fn into_vec(self) -> Vec<Token>
+        ensures { result.items ≡ self }
     {
-        Tokens {
-            kept: KeptTokens::Many(items),
-        }
-    }
-
-    pub(crate) fn into_vec(self, alloc: Global) -> Result<Vec<Token>, AllocError>
-        ensures { IfOk result (λ v. v.items ≡ self) }
-    {
-        match self.kept {
-            KeptTokens::One(token) => {
-                let mut items = Vec::with_capacity(alloc, 2)?;
-                items.push(token)?;
-                Ok(items)
-            }
-            KeptTokens::Many(items) => Ok(items),
-        }
-    }
-
-    // Appends a token. The first one is kept in place.
-    pub(crate) fn with(self, alloc: Global, token: Token) -> Result<Self, AllocError>
-        ensures { IfOk result (λ t. t ≡ self ++ token ∷ []) }
-    {
-        let mut items = self.into_vec(alloc)?;
-        if items.is_empty() {
-            return Ok(Tokens::one(token));
-        }
-        items.push(token)?;
-        Ok(Tokens::from_vec(items))
+        self.tokens
     }
 
     /// Returns the tokens.
     pub fn as_slice(&self) -> &[Token]
         ensures { result.now ≡ self.now }
     {
-        match &self.kept {
-            KeptTokens::One(token) => slice::from_ref(token),
-            KeptTokens::Many(items) => items.as_slice(),
-        }
+        self.tokens.as_slice()
     }
 }
 

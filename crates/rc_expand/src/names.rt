@@ -1,13 +1,13 @@
 //! The names of a text, with joined counters, and the values given from outside of it.
-ghost use Rattle.std.specs.Prelude.{◌≡◌, ◌≢◌, List, ℕ, ◌++◌, ◌∷◌, [], map, ◌+◌, MatchOption, OnOk, IfOk};
+ghost use Rattle.std.specs.Prelude.{◌≡◌, ◌≢◌, List, ℕ, ◌++◌, MatchOption, IfOk};
 ghost use Rattle.std.specs.Str.{bytes_eq};
-ghost use Rattle.std.specs.Int.Digits.{digits_of};
-ghost use Rattle.rc_expand.specs.Names.{entry_of, predefined, table_of};
-ghost use Rattle.rc_expand.specs.Unroll.{is_taken};
+ghost use Rattle.rc_expand.specs.Names.{entry_of, predefined, table_of, is_taken};
+ghost use Rattle.rc_expand.specs.Shared.{constants_of};
 ghost use Rattle.rc_text.specs.Symbols.{LiesIn, name_of, counter_text};
 ghost use Rattle.rc_expand.specs.Heads.NameTables.{joined_name};
 
 use crate::constants::Constants;
+use itoa::Buffer;
 use rc_instr::Rules;
 use rc_text::{Names, Token};
 use std::alloc::{AllocError, Global};
@@ -27,7 +27,6 @@ impl<'a> Names for GivenNames<'a> {
 
     ghost meaning = { λ s. given_names (table_of s.constants.now.names.now s.constants.now.values.now) s.rules.now };
 
-    #[inline(always)]
     #[tactic(auto, unfolding(crate::specs::Names::given_names))]
     fn value(&self, source: &[u8], name: &Token) -> Option<i64> {
         match constant_value(self.constants, source, name) {
@@ -46,21 +45,16 @@ pub fn spells(source: &[u8], token: &Token, name: &[u8]) -> bool
     is_joined_name(&source[token.lo..token.hi], token.joined.as_slice(), name)
 }
 
-// Bytes to reserve for each joined counter, which has at least two digits.
-const COUNTER_ROOM: usize = 2;
-
 /// Returns the bytes of a token's name, joined counters included. The token's span must lie in
 /// `source`. Fails only if out of memory.
 pub fn name_of(alloc: Global, source: &[u8], token: &Token) -> Result<Vec<u8>, AllocError>
     requires { LiesIn source.now token.now }
     ensures { IfOk result (λ name. name.items ≡ name_of source.now token.now) }
 {
-    let written = &source[token.lo..token.hi];
-    let room = written.len() + COUNTER_ROOM * token.joined.len();
-    let mut name = Vec::with_capacity(alloc, room)?;
-    name.extend_from_slice(written)?;
+    let mut name = Vec::from_slice(alloc, &source[token.lo..token.hi])?;
+    let mut buffer = Buffer::new();
     for counter in token.joined.as_slice() {
-        push_counter(&mut name, *counter)?;
+        name.extend_from_slice(counter_text(&mut buffer, *counter))?;
     }
     Ok(name)
 }
@@ -83,44 +77,31 @@ pub(crate) fn is_joined_name(bytes: &[u8], counters: &[u16], name: &[u8]) -> boo
 }
 
 // Checks for a constant or a predefined name, CURLINE included.
-#[tactic(auto, unfolding(crate::specs::Unroll::is_taken))]
+#[tactic(auto, unfolding(crate::specs::Names::is_taken))]
 pub(crate) fn is_taken(names: &GivenNames, source: &[u8], token: &Token) -> bool
     requires { LiesIn source.now token.now }
-    ensures { result ≡ is_taken (table_of names.now.constants.now.names.now names.now.constants.now.values.now) names.now.rules.now (name_of source.now token.now) }
+    ensures { result ≡ is_taken (constants_of names.now) names.now.rules.now (name_of source.now token.now) }
 {
     names.value(source, token).is_some() || spells(source, token, b"CURLINE")
 }
 
-// Strips a leading `byte`.
-fn after_byte<'a>(byte: u8, bytes: &'a [u8]) -> Option<&'a [u8]>
-    ensures { MatchOption result ((rest : List ℕ) → bytes.now ≢ byte ∷ rest) (λ x. bytes.now ≡ byte ∷ x.now) }
+// Writes a counter as it is joined to a name: in decimal, with at least two digits.
+pub(crate) fn counter_text<'b>(buffer: &'b mut Buffer, counter: u16) -> &'b [u8]
+    ensures { result.now ≡ counter_text counter }
 {
-    match bytes {
-        [first, rest @ ..] => if *first == byte { Some(rest) } else { None },
-        [] => None,
+    if counter < 10 {
+        // 100 and a digit end with 0 and the digit.
+        return &buffer.format(counter + 100).as_bytes()[1..];
     }
-}
-
-// Strips the leading decimal digits of `value`. 0 has no digits here.
-fn after_digits<'a>(value: u16, bytes: &'a [u8]) -> Option<&'a [u8]>
-    ensures { MatchOption result ((rest : List ℕ) → bytes.now ≢ map (λ d. 48 + d) (digits_of 10 value) ++ rest) (λ x. bytes.now ≡ map (λ d. 48 + d) (digits_of 10 value) ++ x.now) }
-{
-    if value == 0 {
-        return Some(bytes);
-    }
-    let rest = after_digits(value / 10, bytes)?;
-    after_byte(b'0' + (value % 10) as u8, rest)
+    buffer.format(counter).as_bytes()
 }
 
 // Strips a leading counter, as it is joined to a name.
 fn after_counter<'a>(counter: u16, bytes: &'a [u8]) -> Option<&'a [u8]>
     ensures { MatchOption result ((rest : List ℕ) → bytes.now ≢ counter_text counter ++ rest) (λ x. bytes.now ≡ counter_text counter ++ x.now) }
 {
-    if counter < 10 {
-        let rest = after_byte(b'0', bytes)?;
-        return after_byte(b'0' + counter as u8, rest);
-    }
-    after_digits(counter, bytes)
+    let mut buffer = Buffer::new();
+    after_bytes(counter_text(&mut buffer, counter), bytes)
 }
 
 // Strips a prefix.
@@ -175,29 +156,4 @@ fn predefined_value(rules: &Rules, source: &[u8], token: &Token) -> Option<i64>
         return Some(92);
     }
     None
-}
-
-// Appends the decimal digits of `number`. 0 has no digits here.
-#[tactic(auto, using(crate::proofs::NameSteps::digits_after))]
-fn push_digits(text: &mut Vec<u8>, number: u16) -> Result<(), AllocError>
-    ensures { OnOk result (text.new.items ≡ text.old.items ++ map (λ d. 48 + d) (digits_of 10 number)) }
-{
-    if number == 0 {
-        return Ok(());
-    }
-    push_digits(text, number / 10)?;
-    text.push(b'0' + (number % 10) as u8)?;
-    Ok(())
-}
-
-// Appends a counter, as it is joined to a name: in decimal, with at least two digits.
-fn push_counter(text: &mut Vec<u8>, counter: u16) -> Result<(), AllocError>
-    ensures { OnOk result (text.new.items ≡ text.old.items ++ counter_text counter) }
-{
-    if counter < 10 {
-        text.push(b'0')?;
-        text.push(b'0' + counter as u8)?;
-        return Ok(());
-    }
-    push_digits(text, counter)
 }

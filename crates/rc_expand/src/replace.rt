@@ -5,8 +5,7 @@ ghost use Rattle.std.specs.Prelude.{◌≡◌, ◌≢◌, ℕ, List, [], ◌∷�
 ghost use Rattle.rc_text.specs.Symbols.{LiesIn};
 ghost use Rattle.rc_expand.specs.Results.{Returns};
 ghost use Rattle.rc_expand.specs.Heads.NameTables.{at_place, ArePlaces};
-ghost use Rattle.rc_expand.specs.Replace.{EqusLie, one, equ_in, equ_at, inner_at, replaced_within, replaced_tokens, with_token};
-ghost use Rattle.rc_expand.specs.Replace.SoFar.{replaced_so_far};
+ghost use Rattle.rc_expand.specs.Replace.{replaced_so_far, with_token, one, equ_in, equ_at, inner_at, replaced_within, replaced_tokens};
 
 pub(crate) mod finish;
 pub(crate) mod labelling;
@@ -61,13 +60,9 @@ fn body_at<'a>(
     ensures places { IfSome result (λ p. ArePlaces context.now.source.now context.now.equs.now p.0.now p.1.now) }
     ensures inside { IfSome result (λ p. All (LiesIn context.now.source.now) p.0.now) }
 {
-    match place {
-        Some(i) => match context.equs.at(i) {
-            Some(equ) => Some((equ.tokens(), context.links[i].as_slice())),
-            None => None,
-        },
-        None => None,
-    }
+    let i = place?;
+    let equ = context.equs.at(i)?;
+    Some((equ.tokens(), context.links[i].as_slice()))
 }
 
 // Appends a token that is not an EQU name.

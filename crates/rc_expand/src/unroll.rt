@@ -1,13 +1,14 @@
 //! The second pass: each FOR block is replaced by copies of its lines, outer blocks first. In a
 //! copy the name of the counter becomes its number, or is joined to another name by `&`. No copy is
 //! kept: a line that is reached keeps where it is from, and is made when it is looked at.
-ghost use Rattle.std.specs.Prelude.{◌≡◌, ◌≢◌, List, ℕ, ◌+◌, ◌<◌, ◌≤◌, length, All, IfOk, IfSome, OnOk, MatchOption, option_map, Some, None, Ok, Err};
+ghost use Rattle.std.specs.Prelude.{◌≡◌, ◌≢◌, ◌+◌, ◌<◌, ◌≤◌, length, All, IfOk, IfSome, OnOk, MatchOption, option_map, Some, None, Ok, Err};
 ghost use Rattle.rc_expand.specs.Results.{Returns};
+ghost use Rattle.rc_expand.specs.Shared.{shared};
 ghost use Rattle.rc_expand.specs.Heads.Lines.{HeadLies};
-ghost use Rattle.rc_expand.specs.Unroll.{Cut, cut, with_line, with_earlier, line_checked, checked_line, one_line, earlier_of, unrolled};
-ghost use Rattle.rc_expand.specs.Unroll.Reached.{line_in, lines_in, reached_part, reached_lines, ReachedLies};
-ghost use Rattle.rc_expand.specs.Unroll.SoFar.{unrolled_so_far};
-ghost use Rattle.rc_expand.specs.Context.{table, unrolled_by, block_by, copy_by, copies_by_from};
+ghost use Rattle.rc_expand.specs.Unroll.{with_line, with_earlier, line_checked, checked_line, one_line, copies_from, copy_of, block_of, deeper_at, unrolled_by, unrolled};
+ghost use Rattle.rc_expand.specs.Unroll.Openings.{earlier_of};
+ghost use Rattle.rc_expand.specs.Unroll.Cuts.{Cut, cut};
+ghost use Rattle.rc_expand.specs.Unroll.Reached.{line_in, lines_in, reached_part, reached_lines, unrolled_so_far, ReachedLies};
 
 pub(crate) mod copy;
 pub(crate) mod opening;
@@ -16,46 +17,11 @@ pub(crate) mod unrolling;
 
 use crate::context::Context;
 use crate::fault::{ExpandFault, ExpandKind, fault};
-use crate::heads::head::{Head, HeadWord, Labels};
+use crate::heads::head::{Head, HeadWord};
 use crate::limits::{DEEPEST_BLOCK, MOST_LINES};
 use crate::unroll::opening::{begin_block, check_rof};
 use crate::unroll::reached::{Copying, Reached, clone_copies, is_short_line, make_line, with_copy};
-use crate::unroll::unrolling::Unrolling;
-
-// Appends lines as they stand in `copies`, with their blocks unrolled. Blocks may nest `levels`
-// deep.
-#[cycle(unroll)]
-pub(crate) fn append_lines<'a>(
-    out: &mut Unrolling<'a>,
-    context: &Context<'a>,
-    copies: &[Copying<'a>],
-    heads: &'a [Head],
-    in_block: bool,
-    levels: u8,
-) -> Result<(), ExpandFault>
-    requires lies { All (HeadLies context.now.source.now) heads.now }
-    requires before { All (ReachedLies context.now.source.now) out.old.lines.items }
-    ensures adds { Returns (λ u. unrolled_so_far context.now.source.now out.new) result (unrolled_by context.now in_block levels (lines_in context.now.source.now copies.now heads.now) (unrolled_so_far context.now.source.now out.old)) }
-    ensures after { OnOk result (All (ReachedLies context.now.source.now) out.new.lines.items) }
-{
-    let mut rest = heads;
-    while let Some((head, after)) = rest.split_first() {
-        match head.word {
-            HeadWord::For => match cut_block(context.source, after) {
-                None => return Err(fault(head.number, ExpandKind::ForWithoutRof)),
-                Some((block, rof, following)) => {
-                    append_block(out, context, copies, head, block, rof, levels)?;
-                    rest = following;
-                }
-            },
-            _ => {
-                append_line(out, context, copies, head, in_block)?;
-                rest = after;
-            }
-        }
-    }
-    Ok(())
-}
+use crate::unroll::unrolling::{Block, CutBlock, Scope, Unrolling};
 
 // Unrolls the blocks of lines.
 #[tactic(auto, unfolding(crate::specs::Unroll::unrolled))]
@@ -64,26 +30,65 @@ pub(crate) fn unroll<'a>(
     heads: &'a [Head],
 ) -> Result<Vec<Reached<'a>>, ExpandFault>
     requires lies { All (HeadLies context.now.source.now) heads.now }
-    ensures lines { Returns (λ v. reached_lines context.now.source.now v.items) result (unrolled context.now.source.now (table context.now) context.now.rules.now context.now.equs.now heads.now) }
+    ensures lines { Returns (λ v. reached_lines context.now.source.now v.items) result (unrolled (shared context.now) heads.now) }
     ensures inside { IfOk result (λ v. All (ReachedLies context.now.source.now) v.items) }
 {
     let mut out = Unrolling {
         lines: Vec::new(context.alloc),
         copies: 0,
     };
-    append_lines(&mut out, context, &[], heads, false, DEEPEST_BLOCK)?;
+    let scope = Scope {
+        copies: &[],
+        in_block: false,
+        levels: DEEPEST_BLOCK,
+    };
+    append_lines(&mut out, context, &scope, heads)?;
     Ok(out.lines)
 }
 
-// Splits the lines after a FOR into its block, its ROF and the lines after that, or returns `None`
-// without a ROF.
-fn cut_block<'a>(source: &[u8], lines: &'a [Head]) -> Option<(&'a [Head], &'a Head, &'a [Head])>
+// Appends lines with their blocks unrolled.
+#[cycle(unroll)]
+fn append_lines<'s, 'a>(
+    out: &mut Unrolling<'a>,
+    context: &Context<'a>,
+    scope: &Scope<'s, 'a>,
+    heads: &'a [Head],
+) -> Result<(), ExpandFault>
+    requires lies { All (HeadLies context.now.source.now) heads.now }
+    requires before { All (ReachedLies context.now.source.now) out.old.lines.items }
+    ensures adds { Returns (λ u. unrolled_so_far context.now.source.now out.new) result
+        (unrolled_by (shared context.now) scope.now.in_block scope.now.levels (lines_in context.now.source.now scope.now.copies.now heads.now)
+        (unrolled_so_far context.now.source.now out.old)) }
+    ensures after { OnOk result (All (ReachedLies context.now.source.now) out.new.lines.items) }
+{
+    let mut rest = heads;
+    while let Some((head, after)) = rest.split_first() {
+        match head.word {
+            HeadWord::For => match cut_block(context.source, after) {
+                None => return Err(fault(head.number, ExpandKind::ForWithoutRof)),
+                Some(block) => {
+                    append_block(out, context, scope, head, &block)?;
+                    rest = block.after;
+                }
+            },
+            _ => {
+                append_line(out, context, scope, head)?;
+                rest = after;
+            }
+        }
+    }
+    Ok(())
+}
+
+// Cuts the lines after a FOR at its ROF, or returns `None` without one.
+fn cut_block<'a>(source: &[u8], lines: &'a [Head]) -> Option<CutBlock<'a>>
     requires { All (HeadLies source.now) lines.now }
-    ensures block { IfSome result (λ p. All (HeadLies source.now) p.0.now) }
-    ensures rof { IfSome result (λ p. HeadLies source.now p.1.now) }
-    ensures after { IfSome result (λ p. All (HeadLies source.now) p.2.now) }
-    ensures cut { MatchOption result (cut 0 lines.now ≡ None) (λ p. cut 0 lines.now ≡ Some (record { block = p.0.now; rof = p.1.now; after = p.2.now })) }
-    ensures shorter { IfSome result (λ p. length p.2.now < length lines.now) }
+    ensures lines { IfSome result (λ p. All (HeadLies source.now) p.lines.now) }
+    ensures rof { IfSome result (λ p. HeadLies source.now p.rof.now) }
+    ensures after { IfSome result (λ p. All (HeadLies source.now) p.after.now) }
+    ensures cut { MatchOption result (cut 0 lines.now ≡ None)
+        (λ p. cut 0 lines.now ≡ Some (record { block = p.lines.now; rof = p.rof.now; after = p.after.now })) }
+    ensures shorter { IfSome result (λ p. length p.after.now < length lines.now) }
 {
     let mut opened: usize = 0;
     for i in 0..lines.len() {
@@ -91,7 +96,11 @@ fn cut_block<'a>(source: &[u8], lines: &'a [Head]) -> Option<(&'a [Head], &'a He
             HeadWord::For => opened += 1,
             HeadWord::Rof => {
                 if opened == 0 {
-                    return Some((&lines[..i], &lines[i], &lines[i + 1..]));
+                    return Some(CutBlock {
+                        lines: &lines[..i],
+                        rof: &lines[i],
+                        after: &lines[i + 1..],
+                    });
                 }
                 opened -= 1;
             }
@@ -111,7 +120,8 @@ fn append<'a>(
 ) -> Result<(), ExpandFault>
     requires head { HeadLies context.now.source.now head.now }
     requires before { All (ReachedLies context.now.source.now) out.old.lines.items }
-    ensures adds { Returns (λ u. unrolled_so_far context.now.source.now out.new) result (with_line (reached_part context.now.source.now is_earlier (line_in context.now.source.now copies.now head.now)) (unrolled_so_far context.now.source.now out.old)) }
+    ensures adds { Returns (λ u. unrolled_so_far context.now.source.now out.new) result
+        (with_line (reached_part context.now.source.now is_earlier (line_in context.now.source.now copies.now head.now)) (unrolled_so_far context.now.source.now out.old)) }
     ensures after { OnOk result (All (ReachedLies context.now.source.now) out.new.lines.items) }
 {
     if out.lines.len() + out.copies >= MOST_LINES {
@@ -144,8 +154,8 @@ fn check_line(head: &Head, in_block: bool) -> Result<(), ExpandFault>
     Ok(())
 }
 
-// Checks a line as it stands in `copies`. A line in many copies is made only if a ninth counter may
-// be joined to it.
+// Checks a line as it is in `copies`. A line in many copies is made only if a ninth counter may be
+// joined to it.
 fn check_copied_line(
     context: &Context,
     copies: &[Copying],
@@ -162,95 +172,95 @@ fn check_copied_line(
     check_line(&made, in_block)
 }
 
-// Appends a line other than FOR, as it stands in `copies`.
-fn append_line<'a>(
+// Appends a line other than FOR.
+fn append_line<'s, 'a>(
     out: &mut Unrolling<'a>,
     context: &Context<'a>,
-    copies: &[Copying<'a>],
+    scope: &Scope<'s, 'a>,
     head: &'a Head,
-    in_block: bool,
 ) -> Result<(), ExpandFault>
     requires head { HeadLies context.now.source.now head.now }
     requires before { All (ReachedLies context.now.source.now) out.old.lines.items }
-    ensures adds { Returns (λ u. unrolled_so_far context.now.source.now out.new) result (one_line context.now.source.now (table context.now) context.now.rules.now context.now.equs.now in_block (line_in context.now.source.now copies.now head.now) (unrolled_so_far context.now.source.now out.old)) }
+    ensures adds { Returns (λ u. unrolled_so_far context.now.source.now out.new) result
+        (one_line scope.now.in_block (line_in context.now.source.now scope.now.copies.now head.now) (unrolled_so_far context.now.source.now out.old)) }
     ensures after { OnOk result (All (ReachedLies context.now.source.now) out.new.lines.items) }
 {
-    check_copied_line(context, copies, head, in_block)?;
-    append(out, context, copies, head, false)
+    check_copied_line(context, scope.copies, head, scope.in_block)?;
+    append(out, context, scope.copies, head, false)
 }
 
-// Appends the labels before a counter as a line of their own, if there are any.
+// Appends the labels before a counter as a line of their own, if there are any. `opened` is the line
+// of the FOR as it is in `copies`.
+#[tactic(auto, using(crate::proofs::Unrolling::Reaching::no_earlier))]
 fn append_earlier<'a>(
     out: &mut Unrolling<'a>,
     context: &Context<'a>,
     copies: &[Copying<'a>],
     first: &'a Head,
-    labels: &Labels,
+    opened: &Head,
 ) -> Result<(), ExpandFault>
     requires first { HeadLies context.now.source.now first.now }
-    requires labels { labels.now ≡ earlier_of (line_in context.now.source.now copies.now first.now).labels }
+    requires opened { opened.now ≡ line_in context.now.source.now copies.now first.now }
     requires before { All (ReachedLies context.now.source.now) out.old.lines.items }
-    ensures adds { Returns (λ u. unrolled_so_far context.now.source.now out.new) result (with_earlier first.now.number labels.now (unrolled_so_far context.now.source.now out.old)) }
+    ensures adds { Returns (λ u. unrolled_so_far context.now.source.now out.new) result
+        (with_earlier first.now.number (earlier_of opened.now.labels) (unrolled_so_far context.now.source.now out.old)) }
     ensures after { OnOk result (All (ReachedLies context.now.source.now) out.new.lines.items) }
 {
-    if labels.as_slice().is_empty() {
+    if opened.labels.as_slice().len() < 2 {
         return Ok(());
     }
     append(out, context, copies, first, true)
 }
 
-// Appends the copy of a block for one `number` of its counter. `line` is the line of its FOR.
+// Appends the copy of a block for one `number` of its counter.
 #[cycle(unroll)]
-fn append_copy<'a>(
+fn append_copy<'s, 'a>(
     out: &mut Unrolling<'a>,
     context: &Context<'a>,
-    copies: &[Copying<'a>],
-    counter: Option<&'a [u8]>,
+    scope: &Scope<'s, 'a>,
+    block: &Block<'a>,
     number: u16,
-    line: u64,
-    block: &'a [Head],
-    levels: u8,
 ) -> Result<(), ExpandFault>
-    requires block { All (HeadLies context.now.source.now) block.now }
+    requires block { All (HeadLies context.now.source.now) block.now.lines.now }
     requires before { All (ReachedLies context.now.source.now) out.old.lines.items }
-    ensures adds { Returns (λ u. unrolled_so_far context.now.source.now out.new) result (copy_by context.now levels line (option_map (λ b. b.now) counter.entry) (lines_in context.now.source.now copies.now block.now) number (unrolled_so_far context.now.source.now out.old)) }
+    ensures adds { Returns (λ u. unrolled_so_far context.now.source.now out.new) result
+        (copy_of (shared context.now) (deeper_at (shared context.now) scope.now.levels) block.now.line (option_map (λ b. b.now) block.now.counter)
+        (lines_in context.now.source.now scope.now.copies.now block.now.lines.now) number (unrolled_so_far context.now.source.now out.old)) }
     ensures after { OnOk result (All (ReachedLies context.now.source.now) out.new.lines.items) }
 {
     if out.lines.len() + out.copies >= MOST_LINES {
-        return Err(fault(line, ExpandKind::TooManyLines));
+        return Err(fault(block.line, ExpandKind::TooManyLines));
     }
     out.copies += 1;
-    if levels == 0 {
-        return Err(fault(line, ExpandKind::ForTooDeep));
+    if scope.levels == 0 {
+        return Err(fault(block.line, ExpandKind::ForTooDeep));
     }
-    match counter {
-        None => append_lines(out, context, copies, block, true, levels - 1),
-        Some(name) => {
-            let copies = with_copy(context.alloc, copies, name, number)?;
-            append_lines(out, context, &copies, block, true, levels - 1)
-        }
-    }
+    let copies = with_copy(context.alloc, scope.copies, block.counter, number)?;
+    let inner = Scope {
+        copies: &copies,
+        in_block: true,
+        levels: scope.levels - 1,
+    };
+    append_lines(out, context, &inner, block.lines)
 }
 
-// Appends `count` copies of a block.
+// Appends the copies of a block.
 #[cycle(unroll)]
-fn append_copies<'a>(
+fn append_copies<'s, 'a>(
     out: &mut Unrolling<'a>,
     context: &Context<'a>,
-    copies: &[Copying<'a>],
-    counter: Option<&'a [u8]>,
-    count: u16,
-    line: u64,
-    block: &'a [Head],
-    levels: u8,
+    scope: &Scope<'s, 'a>,
+    block: &Block<'a>,
 ) -> Result<(), ExpandFault>
-    requires block { All (HeadLies context.now.source.now) block.now }
+    requires block { All (HeadLies context.now.source.now) block.now.lines.now }
     requires before { All (ReachedLies context.now.source.now) out.old.lines.items }
-    ensures adds { Returns (λ u. unrolled_so_far context.now.source.now out.new) result (copies_by_from context.now levels line (option_map (λ b. b.now) counter.entry) (lines_in context.now.source.now copies.now block.now) count 1 (unrolled_so_far context.now.source.now out.old)) }
+    ensures adds { Returns (λ u. unrolled_so_far context.now.source.now out.new) result
+        (copies_from (copy_of (shared context.now) (deeper_at (shared context.now) scope.now.levels) block.now.line (option_map (λ b. b.now) block.now.counter)
+        (lines_in context.now.source.now scope.now.copies.now block.now.lines.now)) block.now.count 1 (unrolled_so_far context.now.source.now out.old)) }
     ensures after { OnOk result (All (ReachedLies context.now.source.now) out.new.lines.items) }
 {
-    for done in 0..count {
-        append_copy(out, context, copies, counter, done + 1, line, block, levels)?;
+    for done in 0..block.count {
+        append_copy(out, context, scope, block, done + 1)?;
     }
     Ok(())
 }
@@ -258,35 +268,33 @@ fn append_copies<'a>(
 // Appends a block unrolled: the labels before its counter, then its copies. Its ROF is looked at
 // when it is reached, after the lines of the block.
 #[cycle(unroll)]
-fn append_block<'a>(
+fn append_block<'s, 'a>(
     out: &mut Unrolling<'a>,
     context: &Context<'a>,
-    copies: &[Copying<'a>],
+    scope: &Scope<'s, 'a>,
     first: &'a Head,
-    block: &'a [Head],
-    rof: &Head,
-    levels: u8,
+    inside: &CutBlock<'a>,
 ) -> Result<(), ExpandFault>
     requires first { HeadLies context.now.source.now first.now }
-    requires block { All (HeadLies context.now.source.now) block.now }
-    requires rof { HeadLies context.now.source.now rof.now }
+    requires lines { All (HeadLies context.now.source.now) inside.now.lines.now }
+    requires rof { HeadLies context.now.source.now inside.now.rof.now }
     requires before { All (ReachedLies context.now.source.now) out.old.lines.items }
-    ensures adds { Returns (λ u. unrolled_so_far context.now.source.now out.new) result (block_by context.now levels (line_in context.now.source.now copies.now first.now) (lines_in context.now.source.now copies.now block.now) (line_in context.now.source.now copies.now rof.now) (unrolled_so_far context.now.source.now out.old)) }
+    ensures adds { Returns (λ u. unrolled_so_far context.now.source.now out.new) result
+        (block_of (shared context.now) (deeper_at (shared context.now) scope.now.levels) (line_in context.now.source.now scope.now.copies.now first.now)
+        (lines_in context.now.source.now scope.now.copies.now inside.now.lines.now) (line_in context.now.source.now scope.now.copies.now inside.now.rof.now)
+        (unrolled_so_far context.now.source.now out.old)) }
     ensures after { OnOk result (All (ReachedLies context.now.source.now) out.new.lines.items) }
 {
-    let opened = make_line(context.alloc, context.source, copies, first)?;
-    let closed = make_line(context.alloc, context.source, copies, rof)?;
+    let opened = make_line(context.alloc, context.source, scope.copies, first)?;
+    let closed = make_line(context.alloc, context.source, scope.copies, inside.rof)?;
     let opening = begin_block(context, &opened)?;
-    append_earlier(out, context, copies, first, &opening.earlier)?;
-    append_copies(
-        out,
-        context,
-        copies,
-        opening.counter,
-        opening.count,
-        first.number,
-        block,
-        levels,
-    )?;
+    append_earlier(out, context, scope.copies, first, &opened)?;
+    let block = Block {
+        counter: opening.counter,
+        count: opening.count,
+        line: first.number,
+        lines: inside.lines,
+    };
+    append_copies(out, context, scope, &block)?;
     check_rof(&closed)
 }

@@ -1,27 +1,17 @@
--- What a table of names finds, and what is fed for a name.
-use Rattle.std.proofs.Common.{◌≡◌, ℕ, ◌+◌, ◌<◌, ◌/◌, ◌%◌, Bool, true, false, cond, ◌&&◌, ◌||◌, not, List, [], ◌∷◌, ◌++◌, Option, None, Some, length, refl, sym, ◌∙◌, ap, arith}
-use Rattle.std.specs.Prelude.{is_some, if◌then◌else◌, flat_map, fold, nat_lt, unwrap_or}
-use Rattle.std.specs.Hash as fed
-use Rattle.std.specs.Hash.{fed_then}
+-- What a table of names finds.
+use Rattle.std.proofs.Common.{◌≡◌, ℕ, ◌+◌, Bool, true, false, cond, ◌||◌, not, List, [], ◌∷◌, ◌++◌, Option, None, Some, refl, ◌∙◌, ap, arith}
+use Rattle.std.specs.Prelude.{is_some, if◌then◌else◌, nat_lt, unwrap_or}
 use Rattle.std.specs.Str.{bytes_eq}
 use Rattle.std.specs.Cmp.Lexicographic.{nat_list_eq_equiv}
 use Rattle.std.specs.Map.{lookup}
 use Rattle.std.proofs.lemmas.Bool.{le-ltb, lt-ltb}
-use Rattle.std.proofs.lemmas.List.Concat.{flat_map-append}
 use Rattle.indexmap.specs.IndexMap.{insert_entry}
 use Rattle.rc_expand.specs.Names.{entry_of, is_among}
-use Rattle.rc_expand.specs.Steps.{names_in}
-use Rattle.rc_expand.specs.Heads.NameTables.{with_name}
-use Rattle.rc_expand.proofs.NameSteps.{number_text, number_text_step}
+use Rattle.rc_expand.specs.Heads.NameTables.{with_name, names_in}
 
 none_there : {A : Type 0} (o : Option A) → is_some o ≡ false → o ≡ None
 none_there None h = refl
 none_there (Some x) h = cc
-
--- an empty table has no name
-pub finds_none : {A : Type 0} (name : List ℕ) (table seen : List (List ℕ × A)) → table ≡ seen → length table ≡ 0 → None ≡ entry_of seen name
-finds_none name [] seen e h = ap (λ t. entry_of t name) e
-finds_none name (x ∷ xs) seen e h = absurd (omega arith)
 
 module _ {A : Type 0} (name : List ℕ) where
   -- the first entry with the name
@@ -93,13 +83,3 @@ module _ {A : Type 0} (name : List ℕ) where
     by_name true false s h = cc
     by_name false true s h = cc
     by_name false false s h = h
-
-module _ {S : Type 0} (write : S → List ℕ → S) where
-  -- one list of bytes after another
-  pub fed_more : (s t u : S) (a b : List ℕ) → t ≡ fold write s (flat_map fed.u8 a) → u ≡ fold write t (flat_map fed.u8 b) → u ≡ fold write s (flat_map fed.u8 (a ++ b))
-  fed_more s t u a b p q = fed_then write s t u (flat_map fed.u8 a) (flat_map fed.u8 b) p q ∙ ap (fold write s) (sym (flat_map-append fed.u8 a b))
-
-  -- the last digit after the others
-  pub fed_digit : (s t u : S) (n : ℕ) → 0 < n → t ≡ fold write s (flat_map fed.u8 (number_text (n / 10))) → u ≡ fold write t (fed.u8 (48 + n % 10))
-      → u ≡ fold write s (flat_map fed.u8 (number_text n))
-  fed_digit s t u n h p q = fed_more s t u (number_text (n / 10)) ((48 + n % 10) ∷ []) p q ∙ ap (λ x. fold write s (flat_map fed.u8 x)) (sym (number_text_step n h))

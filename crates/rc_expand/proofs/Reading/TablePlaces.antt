@@ -1,6 +1,7 @@
 -- Places in a table of names.
 use Rattle.std.proofs.Common.{◌≡◌, ℕ, zero, suc, ◌+◌, ◌<◌, false, List, [], ◌∷◌, ◌++◌, map, Option, None, Some, drop, get_or, length, refl, sym, ◌∙◌, ap, append_assoc, add-one, arith}
 use Rattle.std.specs.Prelude.{is_some, slice_get, IfSome, All}
+use Rattle.std.specs.Global.{Vec}
 use Rattle.std.proofs.lemmas.List.{append-nil, map-append}
 use Rattle.std.proofs.lemmas.List.Elements.{All-same}
 use Rattle.rc_text.specs.declared.token.Token.{Token}
@@ -96,12 +97,12 @@ module _ (source : List ℕ) (equs : Equs) where
   value_is (e ∷ es) (suc i) body d h = value_is es i body d h
 
   -- the tokens of an EQU name are linked
-  pub body_linked : (links : List (List (Option ℕ))) (i : ℕ) (body : EquText) (tokens : List Token) (l places : List (Option ℕ)) → AreLinks source equs links → Some body ≡ at_place equs (Some i)
-      → tokens ≡ body.tokens → l ≡ get_or links i l → places ≡ l → ArePlaces source equs tokens places
+  pub body_linked : (links : List (Vec (Option ℕ))) (i : ℕ) (body : EquText) (tokens : List Token) (l : Vec (Option ℕ)) (places : List (Option ℕ)) → AreLinks source equs links → Some body ≡ at_place equs (Some i)
+      → tokens ≡ body.tokens → l ≡ get_or links i l → places ≡ l.items → ArePlaces source equs tokens places
   body_linked links i body tokens l places a h t e p =
       let d : List ℕ × EquText = ([], body) in
-      ap (map (at_place equs)) (p ∙ e)
-      ∙ (same_at (map (at_place equs)) (λ x. map (equ_in source equs) x.1.tokens) links equs i l d a (place_inside equs i body h)
+      ap (map (at_place equs)) (p ∙ ap (λ (v : Vec (Option ℕ)). v.items) e)
+      ∙ (same_at (λ (v : Vec (Option ℕ)). map (at_place equs) v.items) (λ x. map (equ_in source equs) x.1.tokens) links equs i l d a (place_inside equs i body h)
       ∙ ap (map (equ_in source equs)) (ap (λ (e : EquText). e.tokens) (value_is equs i body d h) ∙ sym t))
 
   -- and lie in the source

@@ -1,10 +1,9 @@
 -- The lines of the expansion, line by line, and their labels.
-use Rattle.std.proofs.Common.{◌≡◌, Bool, true, false, List, [], ◌∷◌, ◌++◌, Option, Some, None, ℕ, ◌+◌, ◌<◌, ◌≤◌, length, map, drop, get_or, refl, sym, ◌∙◌, ap, append_assoc}
+use Rattle.std.proofs.Common.{◌≡◌, Bool, true, false, List, [], ◌∷◌, ◌++◌, Some, ℕ, ◌+◌, ◌<◌, ◌≤◌, length, map, drop, get_or, refl, sym, ◌∙◌, ap, append_assoc}
 use Rattle.std.specs.Prelude.{◌≢◌, ◌||◌, not, Result, Ok, Err, if◌then◌else◌, is_some}
 use Rattle.std.proofs.lemmas.List.{drop_all, map-append}
 use Rattle.rc_text.specs.declared.token.Token.{Token}
 use Rattle.rc_text.specs.Symbols.{name_of}
-use Rattle.rc_instr.specs.Rules.{RulesView}
 use Rattle.rc_expand.specs.declared.fault.ExpandFault.{ExpandFault}
 use Rattle.rc_expand.specs.declared.fault.ExpandKind.TheVariants.{DuplicateName}
 use Rattle.rc_expand.specs.declared.heads.head.Head.{Head}
@@ -13,11 +12,10 @@ use Rattle.rc_expand.specs.declared.heads.head.HeadWord.TheVariants as word
 use Rattle.rc_expand.specs.declared.line.Line.{Line}
 use Rattle.rc_expand.specs.declared.unroll.reached.Reached.{Reached}
 use Rattle.rc_expand.specs.Results.{at_line, mapped, and_then}
-use Rattle.rc_expand.specs.Names.{Table, entry_of, is_among}
-use Rattle.rc_expand.specs.Heads.NameTables.{with_name}
-use Rattle.rc_expand.specs.Steps.{names_in}
-use Rattle.rc_expand.specs.Replace.{Equs}
-use Rattle.rc_expand.specs.Unroll.{label_token, is_taken}
+use Rattle.rc_expand.specs.Shared.{Shared}
+use Rattle.rc_expand.specs.Names.{entry_of, is_among, is_taken}
+use Rattle.rc_expand.specs.Heads.NameTables.{with_name, names_in}
+use Rattle.rc_expand.specs.Heads.Lines.{label_token}
 use Rattle.rc_expand.specs.Unroll.Reached.{reached_line, reached_lines}
 use Rattle.rc_expand.specs.Replace.Lines.{own_labels, own_step, other_labels, other_step, line_of, names_of, defined, Replacement, with_line, line_added, line_replaced, lines_replaced, no_lines, replaced}
 use Rattle.rc_expand.proofs.Each.{split_at}
@@ -35,21 +33,21 @@ module _ (source : List ℕ) where
       → other_labels source labels ≡ other_labels source after
   other_more labels l after t e s = ap (other_labels source) e ∙ ap (λ o. other_step source o (l ∷ after) (other_labels source after)) (sym s)
 
-module _ (constants : Table) (rules : RulesView) (source : List ℕ) (number : ℕ) (rest : List Token) (t : Token) (after : List Token) (e : rest ≡ t ∷ after) (before : List (List ℕ)) where
+module _ (s : Shared) (number : ℕ) (rest : List Token) (t : Token) (after : List Token) (e : rest ≡ t ∷ after) (before : List (List ℕ)) where
   -- one name, and the names after it
-  names_step : defined constants rules number (map (name_of source) rest) before ≡ and_then (defined constants rules number (map (name_of source) after)) (defined constants rules number (name_of source t ∷ []) before)
-  names_step = ap (λ ts. defined constants rules number (map (name_of source) ts) before) e ∙ by_test (is_taken constants rules (name_of source t) || is_among before (name_of source t)) where
-    by_test : (b : Bool) → (if b then Err (at_line number DuplicateName) else defined constants rules number (map (name_of source) after) (before ++ (name_of source t ∷ [])))
-        ≡ and_then (defined constants rules number (map (name_of source) after)) (if b then Err (at_line number DuplicateName) else Ok (before ++ (name_of source t ∷ [])))
+  names_step : defined s number (map (name_of s.source) rest) before ≡ and_then (defined s number (map (name_of s.source) after)) (defined s number (name_of s.source t ∷ []) before)
+  names_step = ap (λ ts. defined s number (map (name_of s.source) ts) before) e ∙ by_test (is_taken s.constants s.rules (name_of s.source t) || is_among before (name_of s.source t)) where
+    by_test : (b : Bool) → (if b then Err (at_line number DuplicateName) else defined s number (map (name_of s.source) after) (before ++ (name_of s.source t ∷ [])))
+        ≡ and_then (defined s number (map (name_of s.source) after)) (if b then Err (at_line number DuplicateName) else Ok (before ++ (name_of s.source t ∷ [])))
     by_test true = refl
     by_test false = refl
 
-  pub name_next : (now : List (List ℕ)) → defined constants rules number (name_of source t ∷ []) before ≡ Ok now
-      → defined constants rules number (map (name_of source) rest) before ≡ defined constants rules number (map (name_of source) after) now
-  name_next now h = names_step ∙ ap (and_then (defined constants rules number (map (name_of source) after))) h
+  pub name_next : (now : List (List ℕ)) → defined s number (name_of s.source t ∷ []) before ≡ Ok now
+      → defined s number (map (name_of s.source) rest) before ≡ defined s number (map (name_of s.source) after) now
+  name_next now h = names_step ∙ ap (and_then (defined s number (map (name_of s.source) after))) h
 
-  pub name_fails : (f : ExpandFault) → defined constants rules number (name_of source t ∷ []) before ≡ Err f → defined constants rules number (map (name_of source) rest) before ≡ Err f
-  name_fails f h = names_step ∙ ap (and_then (defined constants rules number (map (name_of source) after))) h
+  pub name_fails : (f : ExpandFault) → defined s number (name_of s.source t ∷ []) before ≡ Err f → defined s number (map (name_of s.source) rest) before ≡ Err f
+  name_fails f h = names_step ∙ ap (and_then (defined s number (map (name_of s.source) after))) h
 
 not_true : (b : Bool) → not b ≡ true → b ≡ false
 not_true false h = refl
@@ -60,57 +58,56 @@ not_false true h = refl
 not_false false h = cc
 
 -- one name, by whether it is taken or defined already
-module _ {A : Type 0} (constants : Table) (rules : RulesView) (number : ℕ) (name : List ℕ) (table : List (List ℕ × A)) where
-  pub name_taken : is_taken constants rules name ≡ true → defined constants rules number (name ∷ []) (names_in table) ≡ Err (at_line number DuplicateName)
+module _ {A : Type 0} (s : Shared) (number : ℕ) (name : List ℕ) (table : List (List ℕ × A)) where
+  pub name_taken : is_taken s.constants s.rules name ≡ true → defined s number (name ∷ []) (names_in table) ≡ Err (at_line number DuplicateName)
   name_taken h = rw h
 
-  pub name_there : (added : Bool) → is_taken constants rules name ≡ false → added ≡ false → added ≡ not (is_some (entry_of table name)) → defined constants rules number (name ∷ []) (names_in table) ≡ Err (at_line number DuplicateName)
-  name_there added h k e = let s : is_among (names_in table) name ≡ true = sym (seen_found name table) ∙ not_false (is_some (entry_of table name)) (sym e ∙ k) in rw (h, s)
+  pub name_there : (added : Bool) → is_taken s.constants s.rules name ≡ false → added ≡ false → added ≡ not (is_some (entry_of table name)) → defined s number (name ∷ []) (names_in table) ≡ Err (at_line number DuplicateName)
+  name_there added h k e = let m : is_among (names_in table) name ≡ true = sym (seen_found name table) ∙ not_false (is_some (entry_of table name)) (sym e ∙ k) in rw (h, m)
 
-  pub name_new : (added : Bool) (value : A) (new : List (List ℕ × A)) → is_taken constants rules name ≡ false → added ≡ true → added ≡ not (is_some (entry_of table name)) → new ≡ with_name table name value
-      → defined constants rules number (name ∷ []) (names_in table) ≡ Ok (names_in new)
+  pub name_new : (added : Bool) (value : A) (new : List (List ℕ × A)) → is_taken s.constants s.rules name ≡ false → added ≡ true → added ≡ not (is_some (entry_of table name)) → new ≡ with_name table name value
+      → defined s number (name ∷ []) (names_in table) ≡ Ok (names_in new)
   name_new added value new h k e w =
       let f : is_some (entry_of table name) ≡ false = not_true (is_some (entry_of table name)) (sym e ∙ k) in
-      let s : is_among (names_in table) name ≡ false = sym (seen_found name table) ∙ f in
+      let m : is_among (names_in table) name ≡ false = sym (seen_found name table) ∙ f in
       let n : names_in new ≡ names_in table ++ (name ∷ []) = ap names_in (w ∙ is_pushed name table value f) ∙ map-append (λ x. x.0) table ((name, value) ∷ []) in
-      rw (h, s) (ap Ok (sym n))
+      rw (h, m) (ap Ok (sym n))
 
-module _ (constants : Table) (rules : RulesView) (source : List ℕ) (equs : Equs) where
+module _ (s : Shared) where
   -- the names of a line are new, and the line is made
-  pub line_made : (h : Head) (r : Replacement) (names : List (List ℕ)) (l : Line) (lines : List Line) → defined constants rules h.number (names_of source h) r.names ≡ Ok names → h.word ≢ word.Equ → line_of source equs h ≡ Ok l
-      → lines ≡ r.lines ++ (l ∷ []) → line_replaced constants rules source equs h r ≡ Ok (record { names = names; lines = lines })
+  pub line_made : (h : Head) (r : Replacement) (names : List (List ℕ)) (l : Line) (lines : List Line) → defined s h.number (names_of s.source h) r.names ≡ Ok names → h.word ≢ word.Equ → line_of s.source s.equs h ≡ Ok l
+      → lines ≡ r.lines ++ (l ∷ []) → line_replaced s h r ≡ Ok (record { names = names; lines = lines })
   line_made h r names l lines d w e p =
-      ap (and_then (line_added constants rules source equs h.word h r.lines)) d
+      ap (and_then (line_added s h.word h r.lines)) d
       ∙ by_word h.word w
-      ∙ ap (mapped (with_line constants rules source equs r.lines names)) e
+      ∙ ap (mapped (with_line r.lines names)) e
       ∙ (λ x. Ok (record { names = names; lines = sym p x }))
     where
-      by_word : (v : HeadWord) → v ≢ word.Equ → line_added constants rules source equs v h r.lines names ≡ mapped (with_line constants rules source equs r.lines names) (line_of source equs h)
+      by_word : (v : HeadWord) → v ≢ word.Equ → line_added s v h r.lines names ≡ mapped (with_line r.lines names) (line_of s.source s.equs h)
       by_word word.Equ w = absurd (w refl)
       by_word _ w = refl
 
   module _ (reached : List Reached) (i : ℕ) (r : Replacement) where
-    module _ (one : Reached) (head : Head) (some : i < length reached) (is : one ≡ get_or reached i one) (made : head ≡ reached_line source one) where
+    module _ (one : Reached) (head : Head) (some : i < length reached) (is : one ≡ get_or reached i one) (made : head ≡ reached_line s.source one) where
       -- one line, and the lines after it
-      line_step : lines_replaced constants rules source equs (reached_lines source (drop i reached)) r
-          ≡ and_then (lines_replaced constants rules source equs (reached_lines source (drop (i + 1) reached))) (line_replaced constants rules source equs head r)
+      line_step : lines_replaced s (reached_lines s.source (drop i reached)) r
+          ≡ and_then (lines_replaced s (reached_lines s.source (drop (i + 1) reached))) (line_replaced s head r)
       line_step =
-          ap (λ rs. lines_replaced constants rules source equs (reached_lines source rs) r) (split_at reached i one some is)
-          ∙ ap (λ h. and_then (lines_replaced constants rules source equs (reached_lines source (drop (i + 1) reached))) (line_replaced constants rules source equs h r)) (sym made)
+          ap (λ rs. lines_replaced s (reached_lines s.source rs) r) (split_at reached i one some is)
+          ∙ ap (λ h. and_then (lines_replaced s (reached_lines s.source (drop (i + 1) reached))) (line_replaced s h r)) (sym made)
 
-      pub line_next : (s : Replacement) → line_replaced constants rules source equs head r ≡ Ok s
-          → lines_replaced constants rules source equs (reached_lines source (drop i reached)) r ≡ lines_replaced constants rules source equs (reached_lines source (drop (i + 1) reached)) s
-      line_next s h = line_step ∙ ap (and_then (lines_replaced constants rules source equs (reached_lines source (drop (i + 1) reached)))) h
+      pub line_next : (new : Replacement) → line_replaced s head r ≡ Ok new
+          → lines_replaced s (reached_lines s.source (drop i reached)) r ≡ lines_replaced s (reached_lines s.source (drop (i + 1) reached)) new
+      line_next new h = line_step ∙ ap (and_then (lines_replaced s (reached_lines s.source (drop (i + 1) reached)))) h
 
-      pub line_fails : (f : ExpandFault) → line_replaced constants rules source equs head r ≡ Err f → lines_replaced constants rules source equs (reached_lines source (drop i reached)) r ≡ Err f
-      line_fails f h = line_step ∙ ap (and_then (lines_replaced constants rules source equs (reached_lines source (drop (i + 1) reached)))) h
+      pub line_fails : (f : ExpandFault) → line_replaced s head r ≡ Err f → lines_replaced s (reached_lines s.source (drop i reached)) r ≡ Err f
+      line_fails f h = line_step ∙ ap (and_then (lines_replaced s (reached_lines s.source (drop (i + 1) reached)))) h
 
     -- no line is left
-    pub lines_end : length reached ≤ i → lines_replaced constants rules source equs (reached_lines source (drop i reached)) r ≡ Ok r
-    lines_end h = ap (λ rs. lines_replaced constants rules source equs (reached_lines source rs) r) (drop_all i reached h)
+    pub lines_end : length reached ≤ i → lines_replaced s (reached_lines s.source (drop i reached)) r ≡ Ok r
+    lines_end h = ap (λ rs. lines_replaced s (reached_lines s.source rs) r) (drop_all i reached h)
 
   -- the lines of the definition
-  pub all_replaced : (hs : List Head) (r : Result Replacement ExpandFault) (s : Result (List Line) ExpandFault) → lines_replaced constants rules source equs hs (no_lines constants rules source equs) ≡ r
-      → mapped (λ x. x.lines) r ≡ s → replaced constants rules source equs hs ≡ s
+  pub all_replaced : (hs : List Head) (r : Result Replacement ExpandFault) (o : Result (List Line) ExpandFault) → lines_replaced s hs no_lines ≡ r → mapped (λ x. x.lines) r ≡ o → replaced s hs ≡ o
   unfolding replaced
-  all_replaced hs r s h k = ap (mapped (λ x. x.lines)) h ∙ k
+  all_replaced hs r o h k = ap (mapped (λ x. x.lines)) h ∙ k

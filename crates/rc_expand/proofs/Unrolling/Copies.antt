@@ -7,7 +7,7 @@ use Rattle.rc_text.specs.declared.token.Token.{Token}
 use Rattle.rc_text.specs.Symbols.{LiesIn}
 use Rattle.rc_expand.specs.Limits.{MOST_JOINED}
 use Rattle.rc_expand.specs.Heads.Lines.{is_name_token, is_ampersand, has_modifier}
-use Rattle.rc_expand.specs.Unroll.{is_use, numbered, joins, joined, copied_from, copied_tokens, copied_code}
+use Rattle.rc_expand.specs.Unroll.Copies.{is_use, numbered, joins, joined, copied_from, copied_tokens, copied_code}
 
 -- an item and what follows it
 pub split_at : {A : Type 0} (xs : List A) (i : ℕ) (x : A) → i < length xs → x ≡ get_or xs i x → drop i xs ≡ x ∷ drop (i + 1) xs

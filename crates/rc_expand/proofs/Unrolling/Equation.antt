@@ -2,14 +2,12 @@
 use Rattle.std.proofs.Common.{◌≡◌, ℕ, zero, suc, Bool, false, List, [], ◌∷◌, ◌++◌, refl, sym, ◌∙◌, ap, append_assoc}
 use Rattle.std.specs.Prelude.{Result, Ok, Err}
 use Rattle.std.proofs.lemmas.List.{append-nil}
-use Rattle.rc_instr.specs.Rules.{RulesView}
 use Rattle.rc_expand.specs.declared.heads.head.Head.{Head}
 use Rattle.rc_expand.specs.declared.heads.head.HeadWord.{HeadWord}
 use Rattle.rc_expand.specs.declared.heads.head.HeadWord.TheVariants as word
 use Rattle.rc_expand.specs.declared.fault.ExpandFault.{ExpandFault}
 use Rattle.rc_expand.specs.Results.{and_then}
-use Rattle.rc_expand.specs.Names.{Table}
-use Rattle.rc_expand.specs.Replace.{Equs}
+use Rattle.rc_expand.specs.Shared.{Shared}
 use Rattle.rc_expand.specs.Heads.Nesting.{Closed, NoLine, OneMore, Block, closed_lines, opens_or_closes, IsClosed}
 use Rattle.rc_expand.specs.Unroll.{Unrolled, Step, Deeper, one_line, block_of, line_outside, line_inside, outside, inside}
 
@@ -23,21 +21,21 @@ after : (whole part next : Step) → ((u : Unrolled) → whole u ≡ and_then ne
 after whole part next h (Ok u) = h u
 after whole part next h (Err f) = refl
 
-module _ (source : List ℕ) (constants : Table) (rules : RulesView) (equs : Equs) (b : Bool) (deeper : Deeper source constants rules equs) where
+module _ (s : Shared) (b : Bool) (deeper : Deeper) where
   abbrev out : List Head → Step
-  out hs = outside source constants rules equs b deeper hs
+  out hs = outside s b deeper hs
 
   abbrev one : Head → Step
-  one h = one_line source constants rules equs b h
+  one h = one_line b h
 
   abbrev within : Head → ℕ → List Head → List Head → Step
-  within f m block hs = inside source constants rules equs b deeper f m block hs
+  within f m block hs = inside s b deeper f m block hs
 
   -- a line that is neither FOR nor ROF
   pub out_line : (h : Head) (hs : List Head) (u : Unrolled) → opens_or_closes h.word ≡ false → out (h ∷ hs) u ≡ and_then (out hs) (one h u)
   out_line h hs u = by_word h.word where
     by_word : (w : HeadWord) → opens_or_closes w ≡ false
-        → line_outside source constants rules equs w (λ i. within h 0 [] hs u) (λ i. and_then (out hs) (one h u)) ≡ and_then (out hs) (one h u)
+        → line_outside w (λ i. within h 0 [] hs u) (λ i. and_then (out hs) (one h u)) ≡ and_then (out hs) (one h u)
     by_word word.Bare e = refl
     by_word word.Code e = refl
     by_word word.Org e = refl
@@ -51,7 +49,7 @@ module _ (source : List ℕ) (constants : Table) (rules : RulesView) (equs : Equ
   within_line : (f : Head) (m : ℕ) (block : List Head) (h : Head) (hs : List Head) (u : Unrolled) → opens_or_closes h.word ≡ false → within f m block (h ∷ hs) u ≡ within f m (block ++ (h ∷ [])) hs u
   within_line f m block h hs u = by_word h.word where
     by_word : (w : HeadWord) → opens_or_closes w ≡ false
-        → line_inside source constants rules equs w m (λ n. within f n (block ++ (h ∷ [])) hs u) (λ i. and_then (out hs) (block_of source constants rules equs deeper f block h u)) ≡ within f m (block ++ (h ∷ [])) hs u
+        → line_inside w m (λ n. within f n (block ++ (h ∷ [])) hs u) (λ i. and_then (out hs) (block_of s deeper f block h u)) ≡ within f m (block ++ (h ∷ [])) hs u
     by_word word.Bare e = refl
     by_word word.Code e = refl
     by_word word.Org e = refl
@@ -87,10 +85,10 @@ module _ (source : List ℕ) (constants : Table) (rules : RulesView) (equs : Equ
 
   -- a block, up to its ROF
   pub out_block : (n : ℕ) (c : Closed) → IsClosed n c → (f r : Head) (rest : List Head) (u : Unrolled) → f.word ≡ word.For → r.word ≡ word.Rof
-      → out (f ∷ (closed_lines c ++ (r ∷ rest))) u ≡ and_then (out rest) (block_of source constants rules equs deeper f (closed_lines c) r u)
+      → out (f ∷ (closed_lines c ++ (r ∷ rest))) u ≡ and_then (out rest) (block_of s deeper f (closed_lines c) r u)
   out_block n c i f r rest u ef er =
       let opens : out (f ∷ (closed_lines c ++ (r ∷ rest))) u ≡ within f 0 [] (closed_lines c ++ (r ∷ rest)) u = rw ef refl in
-      let closes : within f 0 (closed_lines c) (r ∷ rest) u ≡ and_then (out rest) (block_of source constants rules equs deeper f (closed_lines c) r u) = rw er refl in
+      let closes : within f 0 (closed_lines c) (r ∷ rest) u ≡ and_then (out rest) (block_of s deeper f (closed_lines c) r u) = rw er refl in
       opens ∙ (within_closed n c i f 0 [] (r ∷ rest) u ∙ closes)
 
   -- closed lines and the lines after them
@@ -104,7 +102,7 @@ module _ (source : List ℕ) (constants : Table) (rules : RulesView) (equs : Equ
       ∙ ap (and_then (out rest)) (sym (out_then n c i.0 (h ∷ []) u))))
   out_then zero (Block c f x r) i rest u = absurd i
   out_then (suc n) (Block c f x r) i rest u =
-      let block : Step = block_of source constants rules equs deeper f (closed_lines x) r in
+      let block : Step = block_of s deeper f (closed_lines x) r in
       let alone : List Head = f ∷ (closed_lines x ++ (r ∷ [])) in
       let parts : (v : Unrolled) → out (f ∷ (closed_lines x ++ (r ∷ rest))) v ≡ and_then (out rest) (out alone v) =
       λ v. out_block n x i.2 f r rest v i.1 i.3 ∙ ap (and_then (out rest)) (sym (out_block n x i.2 f r [] v i.1 i.3 ∙ ends (block v))) in

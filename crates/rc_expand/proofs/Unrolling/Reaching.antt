@@ -1,6 +1,6 @@
 -- Lines in copies: a copy changes no word, so blocks end where they did.
-use Rattle.std.proofs.Common.{◌≡◌, ℕ, zero, suc, ◌+◌, ◌≤◌, Bool, true, false, List, [], ◌∷◌, ◌++◌, length, map, Option, Some, None, refl, sym, ◌∙◌, ap, arith}
-use Rattle.std.specs.Prelude.{option_map, Result, Ok, Err, OnOk, nat_lt, ◌==◌}
+use Rattle.std.proofs.Common.{◌≡◌, ℕ, zero, suc, ◌+◌, ◌≤◌, Bool, true, false, List, [], ◌∷◌, ◌++◌, length, map, Option, Some, None, refl, sym, ◌∙◌, ap, arith, ◌<◌}
+use Rattle.std.specs.Prelude.{option_map, Result, Ok, Err, OnOk, nat_lt}
 use Rattle.std.proofs.lemmas.Bool.{le-ltb}
 use Rattle.rc_expand.specs.Limits.{MOST_LINES}
 use Rattle.rc_expand.specs.Results.{at_line}
@@ -12,8 +12,11 @@ use Rattle.rc_expand.specs.declared.heads.head.HeadWord.{HeadWord}
 use Rattle.rc_expand.specs.declared.heads.head.HeadWord.TheVariants as word
 use Rattle.rc_expand.specs.declared.unroll.reached.Copying.{Copying}
 use Rattle.rc_expand.specs.declared.unroll.reached.Reached.{Reached}
-use Rattle.rc_expand.specs.Unroll.{Cut, longer, cut_by, cut, or_spoiled, copied_line, all_of, copied_tokens, copied_rest, line_checked, checked_line, Unrolled, with_line, with_earlier}
+use Rattle.rc_expand.specs.Unroll.{line_checked, checked_line, Unrolled, with_line, with_earlier}
 use Rattle.rc_expand.specs.Unroll.Reached.{line_in, lines_in, reached_part, reached_lines}
+use Rattle.rc_expand.specs.Unroll.Copies.{or_spoiled, copied_line, all_of, copied_tokens, copied_rest}
+use Rattle.rc_expand.specs.Unroll.Openings.{earlier_of}
+use Rattle.rc_expand.specs.Unroll.Cuts.{Cut, longer, cut_by, cut}
 
 module _ (source : List ℕ) where
   spoiled_word : (h : Head) (a : Option (List (List Token))) (b : Option (List Token)) → (or_spoiled source h a b).word ≡ h.word
@@ -103,10 +106,17 @@ module _ (source : List ℕ) where
       let f : nat_lt (length (reached_lines source rs) + copies) MOST_LINES ≡ false = le-ltb (length (reached_lines source rs) + copies) MOST_LINES (omega (arith, full, reached_length rs)) in
       rw f (ap (λ n. Err (at_line n TooManyLines)) (part_number cs b h))
 
--- labels before a counter are a line
-pub some_earlier : (number : ℕ) (ls : List (List Token)) (u : Unrolled) → false ≡ (length ls == 0) → with_earlier number ls u ≡ with_line (bare_line number ls) u
-some_earlier number [] u h = absurd (cc)
-some_earlier number (l ∷ ls) u h = refl
+-- the labels before a counter are a line
+pub some_earlier : (number : ℕ) (ls : List (List Token)) (u : Unrolled) → 2 ≤ length ls → with_earlier number (earlier_of ls) u ≡ with_line (bare_line number (earlier_of ls)) u
+some_earlier number [] u h = absurd (omega arith)
+some_earlier number (l ∷ []) u h = absurd (omega arith)
+some_earlier number (l ∷ m ∷ ls) u h = refl
+
+-- unless there are none
+pub no_earlier : (number : ℕ) (ls : List (List Token)) (u : Unrolled) → length ls < 2 → with_earlier number (earlier_of ls) u ≡ Ok u
+no_earlier number [] u h = refl
+no_earlier number (l ∷ []) u h = refl
+no_earlier number (l ∷ m ∷ ls) u h = absurd (omega arith)
 
 -- what holds anyway
 pub anyway : {A E : Type 0} (P : Type 0) (r : Result A E) → P → OnOk r P

@@ -11,18 +11,17 @@ use Rattle.rc_expand.specs.declared.heads.head.HeadWord.{HeadWord}
 use Rattle.rc_expand.specs.declared.heads.head.HeadWord.TheVariants as word
 use Rattle.rc_expand.specs.declared.unroll.reached.Copying.{Copying}
 use Rattle.rc_expand.specs.Heads.Lines.{has_modifier}
-use Rattle.rc_expand.specs.Unroll.{is_use, numbered, joins, joined, copied_from, copied_tokens, copied_code, copied_rest, copied_line, or_spoiled, all_of}
-use Rattle.rc_expand.specs.Steps.{has_room, is_short, is_short_line}
+use Rattle.rc_expand.specs.Unroll.Copies.{is_use, numbered, joins, joined, copied_from, copied_tokens, copied_code, copied_rest, copied_line, or_spoiled, all_of, stays_joinable, is_short, is_short_line}
 use Rattle.rc_expand.specs.Unroll.Reached.{line_in}
 use Rattle.rc_expand.proofs.Unrolling.Copies.{from_list, passed_list}
 
 abbrev all_have_room : ℕ → List Token → Bool
-all_have_room n ts = list_all (has_room n) ts
+all_have_room n ts = list_all (stays_joinable n) ts
 
-room_of : (n : ℕ) (t : Token) → has_room n t ≡ true → 2 * length t.joined + n ≤ 18
+room_of : (n : ℕ) (t : Token) → stays_joinable n t ≡ true → 2 * length t.joined + n ≤ 18
 room_of n t h = leb-true (2 * length t.joined + n) 18 h
 
-room_is : (n : ℕ) (t : Token) → 2 * length t.joined + n ≤ 18 → has_room n t ≡ true
+room_is : (n : ℕ) (t : Token) → 2 * length t.joined + n ≤ 18 → stays_joinable n t ≡ true
 room_is n t h = le-leb (2 * length t.joined + n) 18 h
 
 -- a token beside others
@@ -33,7 +32,7 @@ both_have n t ts h k = rw (room_is n t h, k)
 more_room : (n m : ℕ) (ts : List Token) → m ≤ n → all_have_room n ts ≡ true → all_have_room m ts ≡ true
 more_room n m [] l h = refl
 more_room n m (t ∷ ts) l h =
-    let p = and_parts (has_room n t) (all_have_room n ts) h in
+    let p = and_parts (stays_joinable n t) (all_have_room n ts) h in
     both_have m t ts (omega (arith, room_of n t p.0, l)) (more_room n m ts l p.1)
 
 if_joined : (b : Bool) (k : ℕ) (t : Token) → (if b then record t { kind = Number k } else t).joined ≡ t.joined
@@ -71,9 +70,9 @@ module _ (source counter : List ℕ) (k : ℕ) where
   at_join n t [] ih e h = cc
   at_join n t (x ∷ []) ih e h = cc
   at_join n t (x ∷ y ∷ vs) ih e h =
-      let p = and_parts (has_room (n + suc (suc (suc (length vs)))) t) (all_have_room (n + suc (suc (suc (length vs)))) (x ∷ y ∷ vs)) h in
-      let q = and_parts (has_room (n + suc (suc (suc (length vs)))) x) (all_have_room (n + suc (suc (suc (length vs)))) (y ∷ vs)) p.1 in
-      let r = and_parts (has_room (n + suc (suc (suc (length vs)))) y) (all_have_room (n + suc (suc (suc (length vs)))) vs) q.1 in
+      let p = and_parts (stays_joinable (n + suc (suc (suc (length vs)))) t) (all_have_room (n + suc (suc (suc (length vs)))) (x ∷ y ∷ vs)) h in
+      let q = and_parts (stays_joinable (n + suc (suc (suc (length vs)))) x) (all_have_room (n + suc (suc (suc (length vs)))) (y ∷ vs)) p.1 in
+      let r = and_parts (stays_joinable (n + suc (suc (suc (length vs)))) y) (all_have_room (n + suc (suc (suc (length vs)))) vs) q.1 in
       let b = room_of (n + suc (suc (suc (length vs)))) t p.0 in
       let j : Token = record t { joined = t.joined ++ (k ∷ []) } in
       let l : length j.joined ≡ length t.joined + 1 = length-append t.joined (k ∷ []) in
@@ -90,7 +89,7 @@ module _ (source counter : List ℕ) (k : ℕ) where
   -- a copy has room for all its counters
   fits_from : (fuel n : ℕ) (m : Bool) (t : Token) (ts : List Token) → length ts ≤ fuel → all_have_room (n + suc (length ts)) (t ∷ ts) ≡ true → Copied n (suc (length ts)) (copied_from source counter k m t ts)
   fits_from fuel n m t [] f h =
-      let p = and_parts (has_room (n + 1) t) true h in
+      let p = and_parts (stays_joinable (n + 1) t) true h in
       let j : length (numbered source counter k m t).joined ≡ length t.joined = ap length (same_joined m t) in
       record {
         tokens = numbered source counter k m t ∷ [];
@@ -109,7 +108,7 @@ module _ (source counter : List ℕ) (k : ℕ) where
           → Copied n (suc (suc (length ts))) (copied_from source counter k m t (u ∷ ts))
       by_join true e ih later = subst (Copied n (suc (suc (length ts)))) (sym (from_list source counter k m t (u ∷ ts) e)) (at_join n t (u ∷ ts) ih e h)
       by_join false e ih later =
-          let p = and_parts (has_room (n + suc (suc (length ts))) t) (all_have_room (n + suc (suc (length ts))) (u ∷ ts)) h in
+          let p = and_parts (stays_joinable (n + suc (suc (length ts))) t) (all_have_room (n + suc (suc (length ts))) (u ∷ ts)) h in
           let w : suc n + suc (length ts) ≡ n + suc (suc (length ts)) = omega arith in
           subst (Copied n (suc (suc (length ts)))) (sym (passed_list source counter k m t u ts e))
           (passed n (suc (length ts)) m t (copied_from source counter k false u ts) (omega (arith, room_of (n + suc (suc (length ts))) t p.0)) (later (ap (λ x. all_have_room x (u ∷ ts)) w ∙ p.1)))
@@ -140,9 +139,9 @@ module _ (source counter : List ℕ) (k : ℕ) where
     by_modifier false e = subst Shortened (sym (rw e refl)) (short_tokens (t ∷ u ∷ v ∷ ts) h)
     by_modifier true e =
         let n = suc (suc (suc (length ts))) in
-        let p = and_parts (has_room n t) (all_have_room n (u ∷ v ∷ ts)) h in
-        let q = and_parts (has_room n u) (all_have_room n (v ∷ ts)) p.1 in
-        let r = and_parts (has_room n v) (all_have_room n ts) q.1 in
+        let p = and_parts (stays_joinable n t) (all_have_room n (u ∷ v ∷ ts)) h in
+        let q = and_parts (stays_joinable n u) (all_have_room n (v ∷ ts)) p.1 in
+        let r = and_parts (stays_joinable n v) (all_have_room n ts) q.1 in
         let w : 3 + length ts ≡ n = omega arith in
         let c = fits 3 ts (ap (λ x. all_have_room x ts) w ∙ r.1) in
         let m = suc (suc (suc (length c.tokens))) in

@@ -13,12 +13,6 @@ abbrev pub ending_line : ℕ → List Token → ℕ
 ending_line line [] = line
 ending_line line (t ∷ ts) = ending_line (line_after t.kind t.line) ts
 
--- a fault of the text itself: what ends its tokens, at the line where they end
-pub record IsTextFault (source : List ℕ) (f : ExpandFault) : Type 0 where
-  pub fault : LexFault
-  pub ending : (tokens_of source).ending ≡ Some fault
-  pub place : f ≡ at_line (ending_line (1 + (header_of source).lines) (tokens_of source).tokens) (Text fault)
-
 -- what ends the tokens of a text, at the line where they end
 abbrev pub text_fault : List ℕ → Option ExpandFault
 text_fault source = option_map (λ fault. at_line (ending_line (1 + (header_of source).lines) (tokens_of source).tokens) (Text fault)) (tokens_of source).ending

@@ -1,6 +1,6 @@
 -- Lines: labels, a word, and what comes after it (labels are from the 1994 draft, colons and names
 -- joined by `&` from pMARS).
-use Rattle.std.specs.Prelude.{ℕ, suc, Bool, true, false, ◌&&◌, ◌||◌, not, List, [], ◌∷◌, ◌++◌, Option, Some, None, if◌then◌else◌, option_map, IfSome, All, codes, slice_range}
+use Rattle.std.specs.Prelude.{ℕ, suc, Bool, true, false, ◌&&◌, ◌||◌, not, List, [], ◌∷◌, ◌++◌, Option, Some, None, if◌then◌else◌, option_and_then, option_map, IfSome, All, codes, slice_range}
 use Rattle.rc_text.specs.declared.token.Sign.TheVariants.{Ampersand, Colon, Dot}
 use Rattle.rc_text.specs.declared.token.Kind.{Kind}
 use Rattle.rc_text.specs.declared.token.Kind.TheVariants.{Name, Sign as SignOf, Assert, LineEnd}
@@ -167,6 +167,19 @@ module _ (source : List ℕ) where
   abbrev pub goes_on : List Token → Bool
   goes_on (u ∷ v ∷ ts) = is_ampersand u && is_free v
   goes_on _ = false
+
+  -- the name of a label that is a single name, with or without its colon
+  abbrev pub label_token : List Token → Option Token
+  label_token (t ∷ []) = if is_free t then Some t else None
+  label_token (t ∷ u ∷ []) = if is_free t && is_colon u then Some t else None
+  label_token _ = None
+
+  abbrev pub if_unjoined : Token → Option Token
+  if_unjoined t = if is_unjoined t.joined then Some t else None
+
+  -- the same, if the name is written without `&`
+  abbrev pub plain_token : List Token → Option Token
+  plain_token l = option_and_then if_unjoined (label_token l)
 
   -- the word of a line whose first token after the labels is `t`
   abbrev pub word_of : Token → HeadWord

@@ -1,5 +1,6 @@
 -- Tables of names: each name occurs once, and the first entry with a name counts.
 use Rattle.std.specs.Prelude.{◌≡◌, ℕ, List, [], ◌∷◌, ◌++◌, map, Option, Some, None, if◌then◌else◌, is_some, option_map, flat_map, slice_get}
+use Rattle.std.specs.Global.{Vec}
 use Rattle.rc_text.specs.declared.token.Token.{Token}
 use Rattle.rc_text.specs.Symbols.{counter_text}
 use Rattle.rc_expand.specs.declared.heads.table.Spelling.{Spelling}
@@ -20,6 +21,10 @@ spelled_bytes (Copied bytes) = bytes.items
 abbrev pub with_name : {A : Type 0} → List (List ℕ × A) → List ℕ → A → List (List ℕ × A)
 with_name table name value = if is_some (entry_of table name) then table else table ++ ((name, value) ∷ [])
 
+-- the names of a table
+abbrev pub names_in : {A : Type 0} → List (List ℕ × A) → List (List ℕ)
+names_in table = map (λ e. e.0) table
+
 -- the value at an index of the table
 abbrev pub at_place : {A : Type 0} → List (List ℕ × A) → Option ℕ → Option A
 at_place table None = None
@@ -30,5 +35,5 @@ abbrev pub ArePlaces : List ℕ → Equs → List Token → List (Option ℕ) �
 ArePlaces source equs tokens places = map (at_place equs) places ≡ map (equ_in source equs) tokens
 
 -- `links` has this for the tokens of every EQU name
-abbrev pub AreLinks : List ℕ → Equs → List (List (Option ℕ)) → Type 0
-AreLinks source equs links = map (λ l. map (at_place equs) l) links ≡ map (λ e. map (equ_in source equs) e.1.tokens) equs
+abbrev pub AreLinks : List ℕ → Equs → List (Vec (Option ℕ)) → Type 0
+AreLinks source equs links = map (λ l. map (at_place equs) l.items) links ≡ map (λ e. map (equ_in source equs) e.1.tokens) equs

@@ -1,9 +1,8 @@
--- The third part of the expansion: line by line, the names that a line defines must be new, its EQU
--- names give way to their tokens, and EQU lines are dropped.
-use Rattle.std.specs.Prelude.{ℕ, ◌||◌, List, [], ◌∷◌, ◌++◌, map, Option, Some, None, if◌then◌else◌, flat_map, Result, Ok, Err}
+-- The third pass, line by line: the names that a line defines must be new, its EQU names give way to
+-- their tokens, and EQU lines are dropped.
+use Rattle.std.specs.Prelude.{ℕ, ◌||◌, List, [], ◌∷◌, ◌++◌, map, Option, Some, None, if◌then◌else◌, option_to_list, flat_map, Result, Ok, Err}
 use Rattle.rc_text.specs.declared.token.Token.{Token}
 use Rattle.rc_text.specs.Symbols.{name_of}
-use Rattle.rc_instr.specs.Rules.{RulesView}
 use Rattle.rc_expand.specs.declared.heads.head.Head.{Head}
 use Rattle.rc_expand.specs.declared.heads.head.HeadWord.{HeadWord}
 use Rattle.rc_expand.specs.declared.heads.head.HeadWord.TheVariants as word
@@ -12,14 +11,13 @@ use Rattle.rc_expand.specs.declared.line.LineWord.{LineWord}
 use Rattle.rc_expand.specs.declared.line.LineWord.TheVariants as line
 use Rattle.rc_expand.specs.declared.fault.ExpandFault.{ExpandFault}
 use Rattle.rc_expand.specs.declared.fault.ExpandKind.TheVariants.{DuplicateName}
+use Rattle.rc_expand.specs.declared.replace.labelling.Replacements.{Replacements}
 use Rattle.rc_expand.specs.Results.{mapped, and_then, at_line}
-use Rattle.rc_expand.specs.Names.{Table, is_among}
+use Rattle.rc_expand.specs.Shared.{Shared}
+use Rattle.rc_expand.specs.Names.{is_among, is_taken}
+use Rattle.rc_expand.specs.Heads.Lines.{label_token}
+use Rattle.rc_expand.specs.Heads.NameTables.{names_in}
 use Rattle.rc_expand.specs.Replace.{Equs, line_tokens}
-use Rattle.rc_expand.specs.Unroll.{label_token, is_taken}
-
-abbrev pub as_list : {A : Type 0} → Option A → List A
-as_list None = []
-as_list (Some x) = x ∷ []
 
 abbrev pub line_word : HeadWord → LineWord
 line_word word.Bare = line.Bare
@@ -56,7 +54,7 @@ module _ (source : List ℕ) where
   -- a would-be label that is not a single name makes its line code and begins its tokens
   abbrev pub line_with_labels : Equs → Head → List (List Token) → Result Line ExpandFault
   line_with_labels equs h [] = made_line equs h h.word h.rest
-  line_with_labels equs h (l ∷ ls) = made_line equs h word.Code (flat_map (λ x. x) (l ∷ ls) ++ (as_list h.directive ++ h.rest))
+  line_with_labels equs h (l ∷ ls) = made_line equs h word.Code (flat_map (λ x. x) (l ∷ ls) ++ (option_to_list h.directive ++ h.rest))
 
   -- a line with its EQU names replaced
   unfoldable pub line_of : Equs → Head → Result Line ExpandFault
@@ -71,33 +69,37 @@ pub record Replacement : Type 0 where
   pub names : List (List ℕ)
   pub lines : List Line
 
-module _ (constants : Table) (rules : RulesView) where
+abbrev pub no_lines : Replacement
+no_lines = record { names = []; lines = [] }
+
+-- what the code keeps of it
+abbrev pub lines_so_far : Replacements → Replacement
+lines_so_far r = record { names = names_in r.names; lines = r.lines.items }
+
+abbrev pub with_line : List Line → List (List ℕ) → Line → Replacement
+with_line lines names l = record { names = names; lines = lines ++ (l ∷ []) }
+
+module _ (s : Shared) where
   -- names are defined one after the other. None may be a constant, a predefined name or defined
   -- before.
   abbrev pub defined : (number : ℕ) → List (List ℕ) → (before : List (List ℕ)) → Result (List (List ℕ)) ExpandFault
   defined number [] before = Ok before
-  defined number (n ∷ ns) before = if is_taken constants rules n || is_among before n then Err (at_line number DuplicateName) else defined number ns (before ++ (n ∷ []))
+  defined number (n ∷ ns) before =
+      if is_taken s.constants s.rules n || is_among before n then Err (at_line number DuplicateName) else defined number ns (before ++ (n ∷ []))
 
-  module _ (source : List ℕ) (equs : Equs) where
-    abbrev pub with_line : List Line → List (List ℕ) → Line → Replacement
-    with_line lines names l = record { names = names; lines = lines ++ (l ∷ []) }
+  -- an EQU line is dropped, and any other is added
+  abbrev pub line_added : HeadWord → Head → List Line → List (List ℕ) → Result Replacement ExpandFault
+  line_added word.Equ h lines names = Ok (record { names = names; lines = lines })
+  line_added _ h lines names = mapped (with_line lines names) (line_of s.source s.equs h)
 
-    -- an EQU line is dropped, and any other is added
-    abbrev pub line_added : HeadWord → Head → List Line → List (List ℕ) → Result Replacement ExpandFault
-    line_added word.Equ h lines names = Ok (record { names = names; lines = lines })
-    line_added _ h lines names = mapped (with_line lines names) (line_of source equs h)
+  -- one more line: its names, then its tokens
+  abbrev pub line_replaced : Head → Replacement → Result Replacement ExpandFault
+  line_replaced h r = and_then (line_added h.word h r.lines) (defined h.number (names_of s.source h) r.names)
 
-    -- one more line: its names, then its tokens
-    abbrev pub line_replaced : Head → Replacement → Result Replacement ExpandFault
-    line_replaced h r = and_then (line_added h.word h r.lines) (defined h.number (names_of source h) r.names)
+  abbrev pub lines_replaced : List Head → Replacement → Result Replacement ExpandFault
+  lines_replaced [] r = Ok r
+  lines_replaced (h ∷ hs) r = and_then (lines_replaced hs) (line_replaced h r)
 
-    abbrev pub lines_replaced : List Head → Replacement → Result Replacement ExpandFault
-    lines_replaced [] r = Ok r
-    lines_replaced (h ∷ hs) r = and_then (lines_replaced hs) (line_replaced h r)
-
-    abbrev pub no_lines : Replacement
-    no_lines = record { names = []; lines = [] }
-
-    -- the third part: each line in turn
-    unfoldable pub replaced : List Head → Result (List Line) ExpandFault
-    replaced hs = mapped (λ r. r.lines) (lines_replaced hs no_lines)
+  -- the third pass
+  unfoldable pub replaced : List Head → Result (List Line) ExpandFault
+  replaced hs = mapped (λ r. r.lines) (lines_replaced hs no_lines)

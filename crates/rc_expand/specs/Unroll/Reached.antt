@@ -1,31 +1,40 @@
--- Lines that the unrolling has reached: a line of the text, and the copies of blocks that it stands
--- in.
+-- What the code keeps of an unrolled line: the line of the text, and the copies that it is in.
 use Rattle.std.specs.Prelude.{ℕ, Bool, true, false, List, [], ◌∷◌, map}
 use Rattle.rc_expand.specs.declared.heads.head.Head.{Head}
 use Rattle.rc_expand.specs.declared.unroll.reached.Copying.{Copying}
 use Rattle.rc_expand.specs.declared.unroll.reached.Reached.{Reached}
+use Rattle.rc_expand.specs.declared.unroll.unrolling.Unrolling.{Unrolling}
 use Rattle.rc_expand.specs.Heads.Lines.{bare_line, HeadLies}
-use Rattle.rc_expand.specs.Unroll.{copied_line, earlier_of}
+use Rattle.rc_expand.specs.Unroll.{Unrolled}
+use Rattle.rc_expand.specs.Unroll.Copies.{copied_line}
+use Rattle.rc_expand.specs.Unroll.Openings.{earlier_of}
 
 module _ (source : List ℕ) where
-  -- a line as it stands in copies, the outermost first
+  -- a line in copies, the outermost first
   abbrev pub line_in : List Copying → Head → Head
   line_in [] h = h
   line_in (c ∷ cs) h = line_in cs (copied_line source c.counter.now c.number h)
 
+  -- lines in copies
   abbrev pub lines_in : List Copying → List Head → List Head
   lines_in cs hs = map (line_in cs) hs
 
-  -- the labels before a counter are a line of their own
+  -- the line itself, or the line of the labels before its counter
   abbrev pub reached_part : (is_earlier : Bool) → Head → Head
   reached_part true h = bare_line h.number (earlier_of h.labels)
   reached_part false h = h
 
+  -- what is unrolled there
   abbrev pub reached_line : Reached → Head
   reached_line r = reached_part r.is_earlier (line_in r.copies.items r.head.now)
 
+  -- and in several places
   abbrev pub reached_lines : List Reached → List Head
   reached_lines rs = map reached_line rs
+
+  -- what the lines that were reached stand for
+  abbrev pub unrolled_so_far : Unrolling → Unrolled
+  unrolled_so_far u = record { lines = reached_lines u.lines.items; copies = u.copies }
 
   -- the spans of the tokens of its line in the text lie in the source
   abbrev pub ReachedLies : Reached → Type 0

@@ -5,7 +5,8 @@ ghost use Rattle.rc_text.specs.Symbols.{LiesIn, name_of};
 ghost use Rattle.rc_expand.specs.Results.{Returns, at_line};
 ghost use Rattle.rc_expand.specs.Heads.Lines.{HeadLies};
 ghost use Rattle.rc_expand.specs.Heads.{equ_token, equs_of, with_equ};
-ghost use Rattle.rc_expand.specs.Names.{table_of, entry_of};
+ghost use Rattle.rc_expand.specs.Shared.{constants_of};
+ghost use Rattle.rc_expand.specs.Names.{entry_of};
 ghost use Rattle.rc_expand.specs.Replace.{EqusLie};
 
 use crate::fault::{ExpandFault, ExpandKind, fault};
@@ -35,12 +36,6 @@ impl Model for Equ {
 }
 
 impl Equ {
-    pub(crate) fn new(tokens: Tokens, line: u64) -> Self
-        ensures { result ≡ record { tokens = tokens; line = line } }
-    {
-        Equ { tokens, line }
-    }
-
     pub(crate) fn tokens(&self) -> &[Token]
         ensures { result.now ≡ self.now.tokens }
     {
@@ -59,7 +54,7 @@ pub(crate) fn collect_equs(
     heads: &[Head],
 ) -> Result<NameTable<'static, Equ>, ExpandFault>
     requires { All (HeadLies source.now) heads.now }
-    ensures equs { Returns (λ t. t) result (equs_of source.now (table_of names.now.constants.now.names.now names.now.constants.now.values.now) names.now.rules.now heads.now) }
+    ensures equs { Returns (λ t. t) result (equs_of source.now (constants_of names.now) names.now.rules.now heads.now) }
     ensures inside { IfOk result (EqusLie source.now) }
 {
     let mut opened: usize = 0;
@@ -106,7 +101,7 @@ fn read_equ(
     head: &Head,
 ) -> Result<(KeptName<'static>, Equ), ExpandFault>
     requires head { HeadLies source.now head.now }
-    ensures equ { Returns (λ e. equs.now ++ (e ∷ [])) result (with_equ source.now (table_of names.now.constants.now.names.now names.now.constants.now.values.now) names.now.rules.now head.now equs.now (equ_token source.now head.now.labels)) }
+    ensures equ { Returns (λ e. equs.now ++ (e ∷ [])) result (with_equ source.now (constants_of names.now) names.now.rules.now head.now equs.now (equ_token source.now head.now.labels)) }
     ensures new { IfOk result (λ e. is_some (entry_of equs.now e.0) ≡ false) }
     ensures inside { IfOk result (λ e. All (LiesIn source.now) e.1.tokens) }
 {
@@ -116,7 +111,8 @@ fn read_equ(
     }
     let name = copied_name(alloc, source, token)?;
     let tokens = clone_tokens(alloc, head.rest.as_slice())?;
-    Ok((name, Equ::new(tokens, head.number)))
+    let line = head.number;
+    Ok((name, Equ { tokens, line }))
 }
 
 // Returns the line that defines the EQU name that a token is.
@@ -124,8 +120,6 @@ pub(crate) fn equ_line(equs: &NameTable<Equ>, source: &[u8], token: &Token) -> O
     requires { LiesIn source.now token.now }
     ensures { result ≡ option_map (λ e. e.line) (entry_of equs.now (name_of source.now token.now)) }
 {
-    match equs.get(source, token) {
-        Some(equ) => Some(equ.line),
-        None => None,
-    }
+    let equ = equs.get(source, token)?;
+    Some(equ.line)
 }

@@ -1,33 +1,24 @@
 //! Lines as they are read and copied, before EQU names are replaced.
-ghost use Rattle.std.specs.Prelude.{◌≡◌, ◌∷◌, ◌++◌, [], IfOk};
+ghost use Rattle.std.specs.Prelude.{◌≡◌, ◌∷◌, ◌++◌, [], OnOk};
 
 use crate::line::Tokens;
 use rc_text::Token;
 use std::alloc::{AllocError, Global};
 use std::marker::Model;
-use std::slice;
-
-// One label in place, or any number of them on the heap: few lines have more than one.
-#[derive(Debug, Drop)]
-enum KeptLabels {
-    One(Tokens),
-    Many(Vec<Tokens>),
-}
 
 // Labels in order, each by its tokens: names joined by `&`, perhaps with a colon.
 #[derive(Debug, Drop)]
 pub(crate) struct Labels {
-    kept: KeptLabels,
+    labels: Vec<Tokens>,
 }
 
 impl Model for Labels {
     ghost use Rattle.std.specs.Prelude.{List};
     ghost use Rattle.rc_text.specs.declared.token.Token.{Token};
-    ghost use Rattle.rc_expand.specs.Heads.Kept.{kept_labels};
 
     ghost Value = { List (List Token) };
 
-    ghost view = { λ l. kept_labels l.kept };
+    ghost view = { λ l. l.labels.items };
 }
 
 impl Labels {
@@ -36,54 +27,22 @@ impl Labels {
         ensures { result ≡ [] }
     {
         Labels {
-            kept: KeptLabels::Many(Vec::new(alloc)),
+            labels: Vec::new(alloc),
         }
     }
 
-    pub(crate) fn one(label: Tokens) -> Self
-        ensures { result ≡ label ∷ [] }
+    pub(crate) fn push(&mut self, label: Tokens) -> Result<(), AllocError>
+        ensures { OnOk result (self.new ≡ self.old ++ label ∷ []) }
     {
-        Labels {
-            kept: KeptLabels::One(label),
-        }
-    }
-
-    // Appends a label. The first one is kept in place.
-    pub(crate) fn with(self, alloc: Global, label: Tokens) -> Result<Self, AllocError>
-        ensures { IfOk result (λ l. l ≡ self ++ label ∷ []) }
-    {
-        let mut items = match self.kept {
-            KeptLabels::One(first) => vec_of(alloc, first)?,
-            KeptLabels::Many(items) => items,
-        };
-        if items.is_empty() {
-            return Ok(Labels {
-                kept: KeptLabels::One(label),
-            });
-        }
-        items.push(label)?;
-        Ok(Labels {
-            kept: KeptLabels::Many(items),
-        })
+        self.labels.push(label)?;
+        Ok(())
     }
 
     pub(crate) fn as_slice(&self) -> &[Tokens]
         ensures { result.now ≡ self.now }
     {
-        match &self.kept {
-            KeptLabels::One(label) => slice::from_ref(label),
-            KeptLabels::Many(items) => items.as_slice(),
-        }
+        self.labels.as_slice()
     }
-}
-
-// Makes a list of one label, with room for another.
-fn vec_of(alloc: Global, label: Tokens) -> Result<Vec<Tokens>, AllocError>
-    ensures { IfOk result (λ v. v.items ≡ label ∷ []) }
-{
-    let mut items = Vec::with_capacity(alloc, 2)?;
-    items.push(label)?;
-    Ok(items)
 }
 
 // The word of a line: nothing (`Bare`), a directive, or anything else (`Code`).

@@ -1,13 +1,12 @@
 //! Labels that are a single name.
 ghost use Rattle.std.specs.Prelude.{◌≡◌, [], All, IfSome, option_map};
 ghost use Rattle.rc_text.specs.Symbols.{LiesIn};
-ghost use Rattle.rc_expand.specs.Unroll.{label_token, plain_token};
+ghost use Rattle.rc_expand.specs.Heads.Lines.{label_token, plain_token};
 
 use crate::heads::words::{is_colon, is_free, is_unjoined};
 use rc_text::Token;
 
 // Returns the name of a label that is a single name, with or without its colon.
-#[inline(always)]
 pub(crate) fn label_token<'a>(source: &[u8], label: &'a [Token]) -> Option<&'a Token>
     requires { All (LiesIn source.now) label.now }
     ensures token { option_map (λ t. t.now) result ≡ label_token source.now label.now }
@@ -35,12 +34,6 @@ pub(crate) fn plain_token<'a>(source: &[u8], label: &'a [Token]) -> Option<&'a T
     ensures inside { IfSome result (λ t. LiesIn source.now t.now) }
     ensures written { IfSome result (λ t. t.now.joined ≡ []) }
 {
-    match label_token(source, label) {
-        Some(token) => if is_unjoined(token) {
-            Some(token)
-        } else {
-            None
-        },
-        None => None,
-    }
+    let name = label_token(source, label)?;
+    if is_unjoined(name) { Some(name) } else { None }
 }

@@ -14,9 +14,6 @@ use crate::line::Tokens;
 use rc_text::{Kind, Lexer, Token};
 use std::alloc::{AllocError, Global};
 
-// About as many bytes as a line has: so much room is made for lines at once.
-const BYTES_OF_A_LINE: usize = 24;
-
 // Reads the lines of a text, up to the first with END.
 #[tactic(auto, unfolding(crate::specs::Heads::Lines::lines_read))]
 pub(crate) fn read_lines(alloc: Global, source: &[u8]) -> Result<Vec<Head>, ExpandFault>
@@ -24,7 +21,7 @@ pub(crate) fn read_lines(alloc: Global, source: &[u8]) -> Result<Vec<Head>, Expa
     ensures inside { IfOk result (λ v. All (HeadLies source.now) v.items) }
 {
     let mut lexer = Lexer::new(source);
-    let mut heads = Vec::with_capacity(alloc, source.len() / BYTES_OF_A_LINE)?;
+    let mut heads = Vec::new(alloc);
     let mut line = Vec::new(alloc);
     while let Some(token) = next_token(&mut lexer)? {
         if is_line_end(&token) {
@@ -64,7 +61,6 @@ fn goes_on(source: &[u8], tokens: &[Token], at: usize) -> bool
 }
 
 // Returns the index after a label. Its first name is the token before `from`.
-#[inline(always)]
 #[tactic(auto, using(crate::proofs::Reading::HeadSteps::tail_more, crate::proofs::Reading::HeadSteps::tail_colon, crate::proofs::Reading::HeadSteps::tail_none, crate::proofs::Reading::HeadSteps::tail_end))]
 fn label_end(source: &[u8], tokens: &[Token], from: usize) -> usize
     requires inside { All (LiesIn source.now) tokens.now }
@@ -114,7 +110,7 @@ fn read_labels(
     'line: while begins_label(source, tokens, at) {
         let end = label_end(source, tokens, at + 1);
         let label = clone_tokens(alloc, &tokens[at..end])?;
-        labels = labels.with(alloc, label)?;
+        labels.push(label)?;
         at = end;
     }
     Ok((labels, at))
@@ -206,8 +202,5 @@ fn next_token(lexer: &mut Lexer) -> Result<Option<Token>, ExpandFault>
 fn is_line_end(token: &Token) -> bool
     ensures { result ≡ is_line_end_kind token.now.kind }
 {
-    match token.kind {
-        Kind::LineEnd => true,
-        _ => false,
-    }
+    matches!(token.kind, Kind::LineEnd)
 }

@@ -1,14 +1,14 @@
 //! Tables of names, looked up by tokens.
-ghost use Rattle.std.specs.Prelude.{◌≡◌, List, ℕ, true, [], Some, None, not, is_some, option_map, fold, flat_map, map, ◌+◌, IfOk, OnOk, OnErr};
+ghost use Rattle.std.specs.Prelude.{◌≡◌, List, ℕ, true, [], Some, None, not, is_some, option_map, fold, flat_map, IfOk, OnOk, OnErr};
 ghost use Rattle.std.specs.Hash as fed;
 ghost use Rattle.std.specs.Str.{bytes_eq};
-ghost use Rattle.std.specs.Int.Digits.{digits_of};
 ghost use Rattle.rc_text.specs.Symbols.{LiesIn, name_of, counter_text};
 ghost use Rattle.rc_expand.specs.Names.{entry_of};
 ghost use Rattle.rc_expand.specs.Heads.NameTables.{joined_name, with_name, at_place};
 
-use crate::names::{is_joined_name, name_of};
+use crate::names::{counter_text, is_joined_name, name_of};
 use indexmap::{Equivalent, IndexMap};
+use itoa::Buffer;
 use rc_text::Token;
 use std::alloc::{AllocError, Global};
 use std::hash::{Hash, Hasher};
@@ -198,9 +198,6 @@ impl<'a, V: Drop> NameTable<'a, V> {
         requires { LiesIn source.now token.now }
         ensures { option_map (λ v. v.now) result ≡ entry_of self.now (name_of source.now token.now) }
     {
-        if self.entries.len() == 0 {
-            return None;
-        }
         self.entries.get(spelled(source, token))
     }
 
@@ -209,9 +206,6 @@ impl<'a, V: Drop> NameTable<'a, V> {
         requires { LiesIn source.now token.now }
         ensures { at_place self.now result ≡ entry_of self.now (name_of source.now token.now) }
     {
-        if self.entries.len() == 0 {
-            return None;
-        }
         self.entries.get_index_of(spelled(source, token))
     }
 
@@ -219,10 +213,8 @@ impl<'a, V: Drop> NameTable<'a, V> {
     pub(crate) fn at(&self, place: usize) -> Option<&V>
         ensures { option_map (λ v. v.now) result ≡ at_place self.now (Some place) }
     {
-        match self.entries.get_index(place) {
-            Some((_, value)) => Some(value),
-            None => None,
-        }
+        let (_, value) = self.entries.get_index(place)?;
+        Some(value)
     }
 }
 
@@ -232,27 +224,12 @@ fn feed_bytes<H: Hasher>(bytes: &[u8], state: &mut H)
     Hash::hash_slice(bytes, state);
 }
 
-// Feeds the decimal digits of `number`. 0 has no digits here.
-fn feed_digits<H: Hasher>(number: u16, state: &mut H)
-    ensures { state.new ≡ fold H.write state.old (flat_map fed.u8 (map (λ d. 48 + d) (digits_of 10 number))) }
-{
-    if number == 0 {
-        return;
-    }
-    feed_digits(number / 10, state);
-    state.write_u8(b'0' + (number % 10) as u8);
-}
-
 // Feeds a counter, as it is joined to a name.
 fn feed_counter<H: Hasher>(counter: u16, state: &mut H)
     ensures { state.new ≡ fold H.write state.old (flat_map fed.u8 (counter_text counter)) }
 {
-    if counter < 10 {
-        state.write_u8(b'0');
-        state.write_u8(b'0' + counter as u8);
-        return;
-    }
-    feed_digits(counter, state);
+    let mut buffer = Buffer::new();
+    feed_bytes(counter_text(&mut buffer, counter), state);
 }
 
 // Copies the name that a token spells.

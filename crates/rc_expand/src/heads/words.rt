@@ -17,13 +17,9 @@ pub(crate) fn clone_token(token: &Token) -> Result<Token, AllocError>
     token.clone()
 }
 
-// Copies tokens. A single one is kept in place.
 pub(crate) fn clone_tokens(alloc: Global, tokens: &[Token]) -> Result<Tokens, AllocError>
     ensures { IfOk result (λ all. all ≡ tokens.now) }
 {
-    if let [token] = tokens {
-        return Ok(Tokens::one(clone_token(token)?));
-    }
     let mut all = Vec::with_capacity(alloc, tokens.len())?;
     for token in tokens {
         all.push(clone_token(token)?)?;
@@ -39,7 +35,7 @@ pub(crate) fn with_front(
 ) -> Result<Tokens, AllocError>
     ensures { IfOk result (λ all. all ≡ front.now ++ tokens) }
 {
-    let mut tokens = tokens.into_vec(alloc)?;
+    let mut tokens = tokens.into_vec();
     let mut all = Vec::with_capacity(alloc, front.len() + tokens.len())?;
     for token in front {
         all.push(clone_token(token)?)?;
@@ -51,46 +47,25 @@ pub(crate) fn with_front(
 pub(crate) fn is_name_token(token: &Token) -> bool
     ensures { result ≡ is_name_token token.now }
 {
-    match token.kind {
-        Kind::Name => true,
-        _ => false,
-    }
+    matches!(token.kind, Kind::Name)
 }
 
 pub(crate) fn is_ampersand(token: &Token) -> bool
     ensures { result ≡ is_ampersand token.now }
 {
-    match token.kind {
-        Kind::Sign(sign) => match sign {
-            Sign::Ampersand => true,
-            _ => false,
-        },
-        _ => false,
-    }
+    matches!(token.kind, Kind::Sign(Sign::Ampersand))
 }
 
 pub(crate) fn is_colon(token: &Token) -> bool
     ensures { result ≡ is_colon token.now }
 {
-    match token.kind {
-        Kind::Sign(sign) => match sign {
-            Sign::Colon => true,
-            _ => false,
-        },
-        _ => false,
-    }
+    matches!(token.kind, Kind::Sign(Sign::Colon))
 }
 
 pub(crate) fn is_dot(token: &Token) -> bool
     ensures { result ≡ is_dot token.now }
 {
-    match token.kind {
-        Kind::Sign(sign) => match sign {
-            Sign::Dot => true,
-            _ => false,
-        },
-        _ => false,
-    }
+    matches!(token.kind, Kind::Sign(Sign::Dot))
 }
 
 // Checks that no counter is joined to a token.
@@ -119,7 +94,6 @@ pub(crate) fn is_opcode(source: &[u8], token: &Token) -> bool
 }
 
 // Checks for an opcode, a dot and a modifier.
-#[inline(always)]
 pub(crate) fn has_modifier(source: &[u8], opcode: &Token, dot: &Token, modifier: &Token) -> bool
     requires { LiesIn source.now opcode.now }
     ensures { result ≡ has_modifier source.now opcode.now dot.now modifier.now }

@@ -1,10 +1,10 @@
 //! From an unrolled line to a line of the expansion.
-ghost use Rattle.std.specs.Prelude.{◌≡◌, ◌≢◌, ◌++◌, ◌≤◌, length, flat_map, All, IfOk, IfSome, OnOk, Ok, Err};
+ghost use Rattle.std.specs.Prelude.{◌≡◌, ◌≢◌, ◌++◌, ◌≤◌, length, option_to_list, flat_map, All, IfOk, IfSome, OnOk, Ok, Err};
 ghost use Rattle.rc_text.specs.Symbols.{LiesIn};
 ghost use Rattle.rc_expand.specs.Results.{Returns};
 ghost use Rattle.rc_expand.specs.Heads.Lines.{HeadLies};
 ghost use Rattle.rc_expand.specs.Replace.{exempt_len_of_code, exempt_len, line_tokens};
-ghost use Rattle.rc_expand.specs.Replace.Lines.{as_list, line_word, own_labels, other_labels, made_line, line_of};
+ghost use Rattle.rc_expand.specs.Replace.Lines.{line_word, own_labels, other_labels, made_line, line_of};
 ghost use Rattle.rc_expand.specs.Expansion.{LineLies};
 
 use crate::context::Context;
@@ -30,16 +30,16 @@ pub(crate) fn split_labels<'a>(
     ensures own_inside { IfOk result (λ p. All (LiesIn source.now) p.0) }
     ensures others_inside { IfOk result (λ p. All (All (LiesIn source.now)) p.1.now) }
 {
-    let mut own = Tokens::from_vec(Vec::new(alloc));
+    let mut own = Vec::new(alloc);
     let mut rest = labels;
     while let Some((label, after)) = rest.split_first() {
         match label_token(source, label.as_slice()) {
-            None => return Ok((own, rest)),
-            Some(token) => own = own.with(alloc, clone_token(token)?)?,
+            None => return Ok((Tokens::from_vec(own), rest)),
+            Some(token) => own.push(clone_token(token)?)?,
         }
         rest = after;
     }
-    Ok((own, rest))
+    Ok((Tokens::from_vec(own), rest))
 }
 
 // Makes the line of the expansion for an unrolled line, whose labels are split.
@@ -90,12 +90,11 @@ fn push_directive(
 ) -> Result<(), AllocError>
     requires before { All (LiesIn source.now) all.old.items }
     requires inside { IfSome directive.now (LiesIn source.now) }
-    ensures tokens { OnOk result (all.new.items ≡ all.old.items ++ as_list directive.now) }
+    ensures tokens { OnOk result (all.new.items ≡ all.old.items ++ option_to_list directive.now) }
     ensures after { OnOk result (All (LiesIn source.now) all.new.items) }
 {
-    match directive {
-        Some(token) => all.push(clone_token(token)?)?,
-        None => {}
+    if let Some(token) = directive {
+        all.push(clone_token(token)?)?;
     }
     Ok(())
 }
@@ -112,7 +111,7 @@ fn as_code_tokens(
     requires directive { IfSome directive.now (LiesIn source.now) }
     requires rest { All (LiesIn source.now) rest.now }
     ensures inside { IfOk result (λ v. All (LiesIn source.now) v.items) }
-    ensures tokens { IfOk result (λ v. v.items ≡ flat_map (λ x. x) others.now ++ (as_list directive.now ++ rest.now)) }
+    ensures tokens { IfOk result (λ v. v.items ≡ flat_map (λ x. x) others.now ++ (option_to_list directive.now ++ rest.now)) }
 {
     let mut all = Vec::new(alloc);
     for label in others {

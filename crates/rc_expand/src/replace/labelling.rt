@@ -3,11 +3,10 @@ ghost use Rattle.std.specs.Prelude.{◌≡◌, ◌≢◌, ◌++◌, ◌∷◌, [
 ghost use Rattle.rc_text.specs.Symbols.{LiesIn, name_of};
 ghost use Rattle.rc_expand.specs.Results.{Returns};
 ghost use Rattle.rc_expand.specs.Heads.Lines.{HeadLies};
-ghost use Rattle.rc_expand.specs.Unroll.Reached.{reached_line, reached_lines, ReachedLies};
-ghost use Rattle.rc_expand.specs.Steps.{names_in};
-ghost use Rattle.rc_expand.specs.Context.{table};
-ghost use Rattle.rc_expand.specs.Replace.Lines.{defined, line_replaced, lines_replaced, replaced};
-ghost use Rattle.rc_expand.specs.Replace.SoFar.{lines_so_far};
+ghost use Rattle.rc_expand.specs.Shared.{shared};
+ghost use Rattle.rc_expand.specs.Heads.NameTables.{names_in};
+ghost use Rattle.rc_expand.specs.Unroll.Reached.{reached_lines, ReachedLies};
+ghost use Rattle.rc_expand.specs.Replace.Lines.{lines_so_far, defined, line_replaced, replaced};
 ghost use Rattle.rc_expand.specs.Expansion.{LineLies};
 
 use crate::context::Context;
@@ -15,7 +14,7 @@ use crate::fault::{ExpandFault, ExpandKind, fault};
 use crate::heads::head::{Head, HeadWord};
 use crate::heads::table::NameTable;
 use crate::line::Line;
-use crate::names::{GivenNames, is_taken};
+use crate::names::is_taken;
 use crate::replace::finish::{line_of, split_labels};
 use crate::unroll::reached::Reached;
 use rc_text::Token;
@@ -34,7 +33,7 @@ pub(crate) fn replace_lines(
     reached: &[Reached],
 ) -> Result<Vec<Line>, ExpandFault>
     requires lies { All (ReachedLies context.now.source.now) reached.now }
-    ensures lines { Returns (λ v. v.items) result (replaced (table context.now) context.now.rules.now context.now.source.now context.now.equs.now (reached_lines context.now.source.now reached.now)) }
+    ensures lines { Returns (λ v. v.items) result (replaced (shared context.now) (reached_lines context.now.source.now reached.now)) }
     ensures inside { IfOk result (λ v. All (LineLies context.now.source.now) v.items) }
 {
     let mut out = Replacements {
@@ -57,7 +56,7 @@ fn replace_line<'a>(
 ) -> Result<(), ExpandFault>
     requires head { HeadLies context.now.source.now head.now }
     requires before { All (LineLies context.now.source.now) out.old.lines.items }
-    ensures line { Returns (λ u. lines_so_far out.new) result (line_replaced (table context.now) context.now.rules.now context.now.source.now context.now.equs.now head.now (lines_so_far out.old)) }
+    ensures line { Returns (λ u. lines_so_far out.new) result (line_replaced (shared context.now) head.now (lines_so_far out.old)) }
     ensures after { OnOk result (All (LineLies context.now.source.now) out.new.lines.items) }
 {
     let (labels, others) = split_labels(context.alloc, context.source, head.labels.as_slice())?;
@@ -80,7 +79,7 @@ fn define_names<'a>(
     line: u64,
 ) -> Result<(), ExpandFault>
     requires { All (LiesIn context.now.source.now) labels.now }
-    ensures { Returns (λ u. names_in names.new) result (defined (table context.now) context.now.rules.now line (map (name_of context.now.source.now) labels.now) (names_in names.old)) }
+    ensures { Returns (λ u. names_in names.new) result (defined (shared context.now) line (map (name_of context.now.source.now) labels.now) (names_in names.old)) }
 {
     let mut rest = labels;
     while let Some((label, after)) = rest.split_first() {
@@ -99,13 +98,9 @@ fn define_name<'a>(
     line: u64,
 ) -> Result<(), ExpandFault>
     requires { LiesIn context.now.source.now label.now }
-    ensures { Returns (λ u. names_in names.new) result (defined (table context.now) context.now.rules.now line (name_of context.now.source.now label.now ∷ []) (names_in names.old)) }
+    ensures { Returns (λ u. names_in names.new) result (defined (shared context.now) line (name_of context.now.source.now label.now ∷ []) (names_in names.old)) }
 {
-    let given = GivenNames {
-        constants: context.constants,
-        rules: context.rules,
-    };
-    if is_taken(&given, context.source, label) {
+    if is_taken(context.names, context.source, label) {
         return Err(fault(line, ExpandKind::DuplicateName));
     }
     if names.add(context.alloc, context.source, label, ())? {

@@ -10,45 +10,22 @@ use crate::heads::table::NameTable;
 use crate::heads::words::is_name_token;
 use rc_text::Token;
 use std::alloc::{AllocError, Global};
-use std::marker::Model;
 
-// For each token of a list its index in the table of EQU names, or `None`.
-#[derive(Drop)]
-pub(crate) struct Links {
-    places: Vec<Option<usize>>,
-}
-
-impl Model for Links {
-    ghost use Rattle.std.specs.Prelude.{List, Option, ℕ};
-
-    ghost Value = { List (Option ℕ) };
-
-    ghost view = { λ l. l.places.items };
-}
-
-impl Links {
-    pub(crate) fn as_slice(&self) -> &[Option<usize>]
-        ensures { result.now ≡ self.now }
-    {
-        self.places.as_slice()
-    }
-}
-
-// Looks up each of `tokens` in the table of EQU names.
+// Looks up each of `tokens` in the table of EQU names: its index there, or `None`.
 pub(crate) fn link_tokens(
     alloc: Global,
     source: &[u8],
     tokens: &[Token],
     equs: &NameTable<Equ>,
-) -> Result<Links, AllocError>
+) -> Result<Vec<Option<usize>>, AllocError>
     requires { All (LiesIn source.now) tokens.now }
-    ensures { IfOk result (ArePlaces source.now equs.now tokens.now) }
+    ensures { IfOk result (λ v. ArePlaces source.now equs.now tokens.now v.items) }
 {
     let mut places = Vec::with_capacity(alloc, tokens.len())?;
     for token in tokens {
         places.push(equ_place(source, token, equs))?;
     }
-    Ok(Links { places })
+    Ok(places)
 }
 
 // Looks up the tokens of every EQU body.
@@ -56,7 +33,7 @@ pub(crate) fn link_equs(
     alloc: Global,
     source: &[u8],
     equs: &NameTable<Equ>,
-) -> Result<Vec<Links>, AllocError>
+) -> Result<Vec<Vec<Option<usize>>>, AllocError>
     requires { EqusLie source.now equs.now }
     ensures { IfOk result (λ v. AreLinks source.now equs.now v.items) }
 {

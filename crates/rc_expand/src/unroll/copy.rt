@@ -2,7 +2,7 @@
 ghost use Rattle.std.specs.Prelude.{◌≡◌, List, ℕ, ◌++◌, ◌∷◌, ◌+◌, ◌<◌, ◌≤◌, ◌^◌, ◌&&◌, length, drop, map, option_map, option_and_then, IsTrue, All, IfOk, IfSome};
 ghost use Rattle.rc_text.specs.Symbols.{LiesIn};
 ghost use Rattle.rc_expand.specs.Heads.Lines.{HeadLies, is_name_token, is_ampersand};
-ghost use Rattle.rc_expand.specs.Unroll.{is_use, numbered, joins, copied_tokens, copied_code, copied_rest, copied_line, all_of};
+ghost use Rattle.rc_expand.specs.Unroll.Copies.{is_use, numbered, joins, copied_tokens, copied_code, copied_rest, copied_line, all_of};
 
 use crate::heads::head::{Head, HeadWord, Labels};
 use crate::heads::words::{
@@ -59,7 +59,8 @@ fn copy_name(
 ) -> Result<Option<(Token, usize)>, AllocError>
     requires inside { All (LiesIn source.now) tokens.now }
     requires place { at < length tokens.now }
-    ensures copied { IfOk result (λ o. copied_tokens source.now counter.now number (drop at tokens.now) ≡ option_and_then (λ p. option_map (λ r. p.0 ∷ r) (copied_tokens source.now counter.now number (drop p.1 tokens.now))) o) }
+    ensures copied { IfOk result (λ o. copied_tokens source.now counter.now number (drop at tokens.now)
+        ≡ option_and_then (λ p. option_map (λ r. p.0 ∷ r) (copied_tokens source.now counter.now number (drop p.1 tokens.now))) o) }
     ensures inside { IfOk result (λ o. IfSome o (λ p. LiesIn source.now p.0)) }
     ensures after { IfOk result (λ o. IfSome o (λ p. (at < p.1) × (p.1 ≤ length tokens.now))) }
 {
@@ -81,7 +82,7 @@ fn copy_name(
 // Copies a line for one `number` of the counter. If a ninth counter would be joined to a name, the
 // copy is spoiled: it is refused only if it is unrolled, since a block around it may still be
 // dropped.
-#[tactic(auto, unfolding(crate::specs::Unroll::copied_line))]
+#[tactic(auto, unfolding(crate::specs::Unroll::Copies::copied_line))]
 pub(crate) fn copy_line(
     alloc: Global,
     source: &[u8],
@@ -121,7 +122,7 @@ pub(crate) fn clone_labels(alloc: Global, labels: &[Tokens]) -> Result<Labels, A
 {
     let mut cloned = Labels::none(alloc);
     for label in labels {
-        cloned = cloned.with(alloc, clone_tokens(alloc, label.as_slice())?)?;
+        cloned.push(clone_tokens(alloc, label.as_slice())?)?;
     }
     Ok(cloned)
 }
@@ -143,7 +144,6 @@ pub(crate) fn clone_head(alloc: Global, head: &Head) -> Result<Head, AllocError>
 }
 
 // Checks whether a token is the name of the counter.
-#[inline(always)]
 fn is_use(source: &[u8], counter: &[u8], token: &Token) -> bool
     requires { LiesIn source.now token.now }
     ensures { result ≡ is_use source.now counter.now token.now }
@@ -153,7 +153,6 @@ fn is_use(source: &[u8], counter: &[u8], token: &Token) -> bool
 
 // Puts `number` in place of the counter's name, unless this copy `made` that name by joining. Any
 // other token stays as it is.
-#[inline(always)]
 fn put_number(source: &[u8], counter: &[u8], number: u16, made: bool, token: &mut Token)
     requires { LiesIn source.now token.old }
     ensures { token.new ≡ numbered source.now counter.now number made token.old }
@@ -243,7 +242,7 @@ fn copy_labels(
     for label in labels.as_slice() {
         match copy_tokens(alloc, source, counter, number, label.as_slice())? {
             None => return Ok(None),
-            Some(tokens) => copied = copied.with(alloc, tokens)?,
+            Some(tokens) => copied.push(tokens)?,
         }
     }
     Ok(Some(copied))

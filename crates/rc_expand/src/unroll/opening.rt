@@ -2,10 +2,10 @@
 ghost use Rattle.std.specs.Prelude.{◌≡◌, ◌≢◌, [], true, false, Some, None, Ok, Err, All, IfOk, IfSome, option_map};
 ghost use Rattle.rc_text.specs.Symbols.{LiesIn, name_of};
 ghost use Rattle.rc_expand.specs.Results.{Returns, at_line};
+ghost use Rattle.rc_expand.specs.Shared.{shared};
 ghost use Rattle.rc_expand.specs.Heads.Lines.{HeadLies};
-ghost use Rattle.rc_expand.specs.Unroll.{Unrolled, is_plain_number, is_enclosing, counter_kind, counter_of, small_count, later_line, earlier_of, is_bare_rof, at_rof};
-ghost use Rattle.rc_expand.specs.Unroll.SoFar.{seen_start};
-ghost use Rattle.rc_expand.specs.Context.{opening_by, count_by, counter_name_by};
+ghost use Rattle.rc_expand.specs.Unroll.{Unrolled, is_bare_rof, at_rof};
+ghost use Rattle.rc_expand.specs.Unroll.Openings.{is_plain_number, is_enclosing, counter_kind, counter_of, small_count, later_line, earlier_of, seen_start, opening, count_of, counter_name};
 
 use crate::context::Context;
 use crate::fault::{ExpandFault, ExpandKind, fault};
@@ -15,30 +15,27 @@ use crate::heads::labels::plain_token;
 use crate::heads::words::{is_colon, is_unjoined};
 use crate::limits::MOST_COPIES;
 use crate::line::Tokens;
-use crate::names::{GivenNames, is_taken};
+use crate::names::is_taken;
 use crate::replace::replace_tokens;
 use crate::unroll::copy::clone_labels;
 use rc_text::{Kind, Token, eval};
 use std::alloc::{AllocError, Global};
 
-// What the FOR of a block says: its counter, as the text spells it, the labels before the counter,
-// and the number of copies.
+// What the FOR of a block says: its counter, as the text spells it, and the number of copies.
 #[derive(Debug, Drop)]
 pub(crate) struct BlockStart<'a> {
     pub counter: Option<&'a [u8]>,
-    pub earlier: Labels,
     pub count: u16,
 }
 
 // Reads the FOR of a block: whether it is spoiled, then its counter, then its count.
-#[tactic(auto, unfolding(crate::specs::Unroll::opening))]
+#[tactic(auto, unfolding(crate::specs::Unroll::Openings::opening))]
 pub(crate) fn begin_block<'a>(
     context: &Context<'a>,
     first: &Head,
 ) -> Result<BlockStart<'a>, ExpandFault>
     requires first { HeadLies context.now.source.now first.now }
-    ensures opening { Returns seen_start result (opening_by context.now first.now) }
-    ensures earlier { IfOk result (λ o. o.earlier ≡ earlier_of first.now.labels) }
+    ensures { Returns (seen_start first.now) result (opening (shared context.now) first.now) }
 {
     if first.spoiled {
         return Err(fault(first.number, ExpandKind::BadDirective));
@@ -46,12 +43,7 @@ pub(crate) fn begin_block<'a>(
     let token = counter_token(context.source, first)?;
     let counter = counter_name(context, token, first.number)?;
     let count = count_of(context, first)?;
-    let earlier = earlier_labels(context.alloc, context.source, first.labels.as_slice())?;
-    Ok(BlockStart {
-        counter,
-        earlier,
-        count,
-    })
+    Ok(BlockStart { counter, count })
 }
 
 // Checks for a label that is the counter of an enclosing block and nothing else. Copying made it a
@@ -121,18 +113,14 @@ fn small_count(value: i64) -> Option<u16>
 }
 
 // Evaluates the count of a block, after replacing its EQU names.
-#[tactic(auto, unfolding(crate::specs::Unroll::count_of))]
+#[tactic(auto, unfolding(crate::specs::Unroll::Openings::count_of))]
 fn count_of(context: &Context, first: &Head) -> Result<u16, ExpandFault>
     requires first { HeadLies context.now.source.now first.now }
-    ensures { Returns (λ n. n) result (count_by context.now first.now.number first.now.rest) }
+    ensures { Returns (λ n. n) result (count_of (shared context.now) first.now.number first.now.rest) }
 {
     let front = Vec::new(context.alloc);
     let tokens = replace_tokens(context, first.number, front, first.rest.as_slice())?;
-    let names = GivenNames {
-        constants: context.constants,
-        rules: context.rules,
-    };
-    match eval(context.source, tokens.as_slice(), &names) {
+    match eval(context.source, tokens.as_slice(), context.names) {
         Ok(value) => match small_count(value) {
             Some(count) => Ok(count),
             None => Err(fault(first.number, ExpandKind::CountRefused)),
@@ -152,20 +140,10 @@ pub(crate) fn check_rof(rof: &Head) -> Result<(), ExpandFault>
     }
 }
 
-// Checks that ROF has nothing before or after it on its line.
 fn is_bare_rof(rof: &Head) -> bool
     ensures { result ≡ is_bare_rof rof.now }
 {
-    if rof.spoiled {
-        return false;
-    }
-    match rof.labels.as_slice() {
-        [] => match rof.rest.as_slice() {
-            [] => true,
-            _ => false,
-        },
-        _ => false,
-    }
+    !rof.spoiled && rof.labels.as_slice().is_empty() && rof.rest.as_slice().is_empty()
 }
 
 // Returns the name of a counter. `DuplicateName` if it is a constant or a predefined name, at the
@@ -177,7 +155,7 @@ fn counter_name<'a>(
 ) -> Result<Option<&'a [u8]>, ExpandFault>
     requires inside { IfSome counter (λ t. LiesIn context.now.source.now t.now) }
     requires written { IfSome counter (λ t. t.now.joined ≡ []) }
-    ensures { Returns (λ o. option_map (λ b. b.now) o) result (counter_name_by context.now line (option_map (λ t. t.now) counter.entry)) }
+    ensures { Returns (λ o. option_map (λ b. b.now) o) result (counter_name (shared context.now) line (option_map (λ t. t.now) counter.entry)) }
 {
     match counter {
         None => Ok(None),
@@ -191,13 +169,9 @@ fn counter_name<'a>(
 // Refuses a counter that is a constant, a predefined name or an EQU name.
 fn check_counter(context: &Context, token: &Token, line: u64) -> Result<(), ExpandFault>
     requires { LiesIn context.now.source.now token.now }
-    ensures { Returns (λ u. Some (name_of context.now.source.now token.now)) result (counter_name_by context.now line (Some token.now)) }
+    ensures { Returns (λ u. Some (name_of context.now.source.now token.now)) result (counter_name (shared context.now) line (Some token.now)) }
 {
-    let names = GivenNames {
-        constants: context.constants,
-        rules: context.rules,
-    };
-    if is_taken(&names, context.source, token) {
+    if is_taken(context.names, context.source, token) {
         return Err(fault(line, ExpandKind::DuplicateName));
     }
     match equ_line(context.equs, context.source, token) {

@@ -1,11 +1,11 @@
 //! Lines that the unrolling has reached. Each is made when it is needed, and none before.
-ghost use Rattle.std.specs.Prelude.{◌≡◌, List, ℕ, map, true, [], IfOk};
+ghost use Rattle.std.specs.Prelude.{◌≡◌, List, ℕ, option_map, true, [], IfOk};
 ghost use Rattle.rc_expand.specs.Heads.Lines.{HeadLies, bare_line};
 ghost use Rattle.rc_expand.specs.declared.heads.head.Head.{Head};
-ghost use Rattle.rc_expand.specs.Unroll.{earlier_of, copied_line};
-ghost use Rattle.std.specs.List.{list_all};
-ghost use Rattle.rc_expand.specs.Steps.{has_room, is_short, is_short_line};
+ghost use Rattle.rc_expand.specs.Unroll.Copies.{copied_block, stays_joinable, is_short, is_short_line};
+ghost use Rattle.rc_expand.specs.Unroll.Openings.{earlier_of};
 ghost use Rattle.rc_expand.specs.Unroll.Reached.{line_in, lines_in, reached_line};
+ghost use Rattle.std.specs.List.{list_all};
 
 use crate::heads::head::{Head, HeadWord};
 use crate::limits::MOST_JOINED;
@@ -22,8 +22,8 @@ pub(crate) struct Copying<'a> {
     pub number: u16,
 }
 
-// A line of the text in the copies that it stands in, the outermost first. `is_earlier` is set for
-// the labels that a FOR has before its counter, which are a line of their own.
+// A line of the text, and the copies that it is in, the outermost first. `is_earlier` is set for the
+// labels that a FOR has before its counter, which are a line of their own.
 #[derive(Drop)]
 pub(crate) struct Reached<'a> {
     pub head: &'a Head,
@@ -31,8 +31,7 @@ pub(crate) struct Reached<'a> {
     pub is_earlier: bool,
 }
 
-// Makes a line as it is in `copies`, the outermost first. Each copy is made of the one before, and
-// the first of `head` itself.
+// Makes a line as it is in `copies`, the outermost first. Each is made of the one before.
 pub(crate) fn make_line(
     alloc: Global,
     source: &[u8],
@@ -43,11 +42,8 @@ pub(crate) fn make_line(
     ensures made { IfOk result (λ h. h ≡ line_in source.now copies.now head.now) }
     ensures inside { IfOk result (HeadLies source.now) }
 {
-    if copies.is_empty() {
-        return clone_head(alloc, head);
-    }
-    let mut made = copy_line(alloc, source, copies[0].counter, copies[0].number, head)?;
-    for i in 1..copies.len() {
+    let mut made = clone_head(alloc, head)?;
+    for i in 0..copies.len() {
         made = copy_line(alloc, source, copies[i].counter, copies[i].number, &made)?;
     }
     Ok(made)
@@ -66,21 +62,27 @@ pub(crate) fn clone_copies<'a>(
     Ok(cloned)
 }
 
-// Adds a copy inside others.
+// Adds the copy of a block inside others. Without a counter it is as the block.
 pub(crate) fn with_copy<'a>(
     alloc: Global,
     copies: &[Copying<'a>],
-    counter: &'a [u8],
+    counter: Option<&'a [u8]>,
     number: u16,
 ) -> Result<Vec<Copying<'a>>, AllocError>
-    ensures { IfOk result (λ v. (source : List ℕ) (hs : List Head) → map (copied_line source counter.now number) (lines_in source copies.now hs) ≡ lines_in source v.items hs) }
+    ensures { IfOk result (λ v. (source : List ℕ) (hs : List Head) →
+        copied_block source (option_map (λ b. b.now) counter.entry) number (lines_in source copies.now hs) ≡ lines_in source v.items hs) }
 {
     let mut all = clone_copies(alloc, copies)?;
-    all.push(Copying { counter, number })?;
-    Ok(all)
+    match counter {
+        None => Ok(all),
+        Some(counter) => {
+            all.push(Copying { counter, number })?;
+            Ok(all)
+        }
+    }
 }
 
-// Checks for a line to which no ninth counter can be joined, in however many copies it stands.
+// Checks for a line to which no ninth counter is ever joined, in however many copies.
 pub(crate) fn is_short_line(head: &Head) -> bool
     ensures { result ≡ is_short_line head.now }
 {
@@ -96,15 +98,16 @@ fn are_short(labels: &[Tokens]) -> bool
 fn is_short(tokens: &[Token]) -> bool
     ensures { result ≡ is_short tokens.now }
 {
-    tokens.iter().all(|token| has_room(token, tokens.len()))
+    tokens.iter().all(|t| stays_joinable(t, tokens.len()))
 }
 
-// The most tokens of a line to which no ninth counter can be joined.
+// The most tokens of a line to which no ninth counter is ever joined.
 const MOST_SHORT: usize = 2 * (MOST_JOINED + 1);
 
-// Checks whether counters may be joined to one of `len` tokens: joining one takes two tokens away.
-fn has_room(token: &Token, len: usize) -> bool
-    ensures { result ≡ has_room len token.now }
+// Checks that among `len` tokens no ninth counter is ever joined to this one: to join one takes two
+// tokens away.
+fn stays_joinable(token: &Token, len: usize) -> bool
+    ensures { result ≡ stays_joinable len token.now }
 {
     len <= MOST_SHORT && 2 * token.joined.len() + len <= MOST_SHORT
 }

@@ -1,8 +1,7 @@
 use Rattle.std.proofs.Common.{◌≡◌, ◌+◌, ◌*◌, drop}
 use Rattle.std.specs.Prelude.{All}
 use Rattle.rc_text.specs.Symbols.{LiesIn}
-use Rattle.rc_expand.specs.Replace.{replaced_within}
-use Rattle.rc_expand.specs.Replace.SoFar.{replaced_so_far}
+use Rattle.rc_expand.specs.Replace.{replaced_within, replaced_so_far}
 use Rattle.rc_expand.proofs.replace.+replace.Given as goal
 
 abbrev pub decreases-append_replaced : goal.decreases-append_replaced

@@ -1,11 +1,12 @@
-use Rattle.std.proofs.Common.{sym, ◌∙◌}
+use Rattle.std.proofs.Common.{sym, ◌∙◌, ap, ℕ, Option}
+use Rattle.std.specs.Global.{Vec}
 use Rattle.rc_expand.proofs.Reading.TablePlaces.{body_linked, body_lies}
 use Rattle.rc_expand.proofs.replace.body_at.Goals as goal
 
-pub returns-in-Some-at-clause-places : goal.returns-in-Some-at-clause-places
-returns-in-Some-at-clause-places c =
-    body_linked c.args.context.now.source.now c.args.context.now.equs.now c.args.context.now.links.now c.in-Some.i c.in-Some-at.equ.now c.tokens.result.now c.index-context-i.result c.as_slice.result.now c.args.context.now.linked c.in-Some-at.ensures c.tokens.ensures c.index-context-i.is (c.as_slice.ensures ∙ sym c.index-context-i.is)
+pub returns-clause-places : goal.returns-clause-places
+returns-clause-places c =
+    body_linked c.args.context.now.source.now c.args.context.now.equs.now c.args.context.now.links.now c.in_ok-i.i c.in_ok-equ.equ.now c.tokens.result.now c.index-context-i.result c.as_slice.result.now c.args.context.now.linked c.in_ok-equ.ensures c.tokens.ensures c.index-context-i.is (c.as_slice.ensures.value ∙ ap (λ (v : Vec (Option ℕ)). v.items) (sym c.index-context-i.is))
 
-pub returns-in-Some-at-clause-inside : goal.returns-in-Some-at-clause-inside
-returns-in-Some-at-clause-inside c =
-    body_lies c.args.context.now.source.now c.args.context.now.equs.now c.in-Some.i c.in-Some-at.equ.now c.tokens.result.now c.args.context.now.lies c.in-Some-at.ensures c.tokens.ensures
+pub returns-clause-inside : goal.returns-clause-inside
+returns-clause-inside c =
+    body_lies c.args.context.now.source.now c.args.context.now.equs.now c.in_ok-i.i c.in_ok-equ.equ.now c.tokens.result.now c.args.context.now.lies c.in_ok-equ.ensures c.tokens.ensures

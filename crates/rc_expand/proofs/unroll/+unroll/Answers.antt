@@ -1,74 +1,75 @@
-use Rattle.std.proofs.Common.{◌≡◌, ◌<◌, ◌+◌, refl, sym, ◌∙◌, ap, arith, subst, length}
+use Rattle.std.proofs.Common.{◌≡◌, ◌<◌, ◌+◌, sym, ◌∙◌, ap, arith, subst, length}
 use Rattle.std.specs.Prelude.{Err, option_map}
 use Rattle.std.proofs.lemmas.Result.{err_from_is_err_and}
 use Rattle.std.proofs.lemmas.List.Elements.{All-rest}
 use Rattle.rc_expand.specs.Limits.{MOST_LINES}
 use Rattle.rc_expand.specs.Results.{Returns, and_then}
+use Rattle.rc_expand.specs.Shared.{shared}
 use Rattle.rc_expand.specs.Heads.Lines.{HeadLies}
-use Rattle.rc_expand.specs.Unroll.{at_rof, copied_block}
-use Rattle.rc_expand.specs.Context.{unrolled_by, opening_by, copies_by_from}
-use Rattle.rc_expand.specs.Unroll.Reached.{line_in, lines_in, reached_lines}
-use Rattle.rc_expand.specs.Unroll.SoFar.{unrolled_so_far, seen_start}
+use Rattle.rc_expand.specs.Unroll.{at_rof}
+use Rattle.rc_expand.specs.Unroll.Reached.{line_in, lines_in, reached_lines, unrolled_so_far}
+use Rattle.rc_expand.specs.Unroll.Copies.{copied_block}
+use Rattle.rc_expand.specs.Unroll.Openings.{opening, seen_start}
 use Rattle.rc_expand.proofs.Unrolling.Reaching.{number_in, reached_length, anyway}
 use Rattle.rc_expand.proofs.Unrolling.ContextSteps.{block_refused, earlier_fails, copies_fail, block_ends, block_first, for_alone, line_first, no_lines, copy_first, no_copies, copy_is}
 use Rattle.rc_expand.proofs.unroll.+unroll.Goals as goal
 
 pub append_block-returns-in_err-opening-clause-adds : goal.append_block-returns-in_err-opening-clause-adds
 append_block-returns-in_err-opening-clause-adds t c =
-    let k = c.args.context.now in
-    let s = k.source.now in
-    let cs = c.args.copies.now in
+    let k = shared c.args.context.now in
+    let s = k.source in
+    let cs = c.args.scope.now.copies.now in
     let f = line_in s cs c.args.first.now in
-    let block = lines_in s cs c.args.block.now in
-    let rof = line_in s cs c.args.rof.now in
+    let block = lines_in s cs c.args.inside.now.lines.now in
+    let rof = line_in s cs c.args.inside.now.rof.now in
     let old = unrolled_so_far s c.args.out.now in
     let p = err_from_is_err_and c.from_residual-in_err-opening.result c.from_residual-in_err-opening.ensures.1 in
-    rw (p.1, p.2) (λ h. block_refused k c.args.levels f block rof old c.in_err-opening.field-0.0 (ap (opening_by k) (sym c.in_ok-opened.ensures.made) ∙ c.in_err-opening.ensures.opening h))
+    rw (p.1, p.2) (λ h. block_refused k c.args.scope.now.levels f block rof old c.in_err-opening.field-0.0 (ap (opening k) (sym c.in_ok-opened.ensures.made) ∙ c.in_err-opening.ensures h))
 
 pub append_block-returns-in_err-append_earlier-clause-adds : goal.append_block-returns-in_err-append_earlier-clause-adds
 append_block-returns-in_err-append_earlier-clause-adds t c =
-    let k = c.args.context.now in
-    let s = k.source.now in
-    let cs = c.args.copies.now in
+    let k = shared c.args.context.now in
+    let s = k.source in
+    let cs = c.args.scope.now.copies.now in
     let f = line_in s cs c.args.first.now in
-    let block = lines_in s cs c.args.block.now in
-    let rof = line_in s cs c.args.rof.now in
+    let block = lines_in s cs c.args.inside.now.lines.now in
+    let rof = line_in s cs c.args.inside.now.rof.now in
     let old = unrolled_so_far s c.args.out.now in
-    let o = seen_start c.in_ok-opening.opening in
-    let is = ap (opening_by k) (sym c.in_ok-opened.ensures.made) ∙ c.in_ok-opening.ensures.opening in
+    let o = seen_start c.in_ok-opened.opened c.in_ok-opening.opening in
+    let is = ap (opening k) (sym c.in_ok-opened.ensures.made) ∙ c.in_ok-opening.ensures in
     let same = number_in s cs c.args.first.now in
     let p = err_from_is_err_and c.from_residual-in_err-append_earlier.result c.from_residual-in_err-append_earlier.ensures.1 in
-    rw (p.1, p.2) (λ h. earlier_fails k c.args.levels f block rof old o is c.args.first.now.number same c.in_err-append_earlier.field-0.0 (c.in_err-append_earlier.ensures.adds h))
+    rw (p.1, p.2) (λ h. earlier_fails k c.args.scope.now.levels f block rof old o is c.args.first.now.number same c.in_err-append_earlier.field-0.0 (c.in_err-append_earlier.ensures.adds h))
 
 pub append_block-returns-in_err-append_copies-clause-adds : goal.append_block-returns-in_err-append_copies-clause-adds
 append_block-returns-in_err-append_copies-clause-adds t c =
-    let k = c.args.context.now in
-    let s = k.source.now in
-    let cs = c.args.copies.now in
+    let k = shared c.args.context.now in
+    let s = k.source in
+    let cs = c.args.scope.now.copies.now in
     let f = line_in s cs c.args.first.now in
-    let block = lines_in s cs c.args.block.now in
-    let rof = line_in s cs c.args.rof.now in
+    let block = lines_in s cs c.args.inside.now.lines.now in
+    let rof = line_in s cs c.args.inside.now.rof.now in
     let old = unrolled_so_far s c.args.out.now in
-    let o = seen_start c.in_ok-opening.opening in
-    let is = ap (opening_by k) (sym c.in_ok-opened.ensures.made) ∙ c.in_ok-opening.ensures.opening in
+    let o = seen_start c.in_ok-opened.opened c.in_ok-opening.opening in
+    let is = ap (opening k) (sym c.in_ok-opened.ensures.made) ∙ c.in_ok-opening.ensures in
     let same = number_in s cs c.args.first.now in
     let p = err_from_is_err_and c.from_residual-in_err-append_copies.result c.from_residual-in_err-append_copies.ensures.1 in
-    rw (p.1, p.2) (λ h. copies_fail k c.args.levels f block rof old o is c.args.first.now.number same (unrolled_so_far s c.append_earlier.new.out) c.in_ok-append_earlier.ensures.adds c.in_err-append_copies.field-0.0 (c.in_err-append_copies.ensures.adds h))
+    rw (p.1, p.2) (λ h. copies_fail k c.args.scope.now.levels f block rof old o is c.args.first.now.number same (unrolled_so_far s c.append_earlier.new.out) c.in_ok-append_earlier.ensures.adds c.in_err-append_copies.field-0.0 (c.in_err-append_copies.ensures.adds h))
 
 pub append_block-returns-clause-adds : goal.append_block-returns-clause-adds
 append_block-returns-clause-adds t c =
-    let k = c.args.context.now in
-    let s = k.source.now in
-    let cs = c.args.copies.now in
+    let k = shared c.args.context.now in
+    let s = k.source in
+    let cs = c.args.scope.now.copies.now in
     let f = line_in s cs c.args.first.now in
-    let block = lines_in s cs c.args.block.now in
-    let rof = line_in s cs c.args.rof.now in
+    let block = lines_in s cs c.args.inside.now.lines.now in
+    let rof = line_in s cs c.args.inside.now.rof.now in
     let old = unrolled_so_far s c.args.out.now in
-    let o = seen_start c.in_ok-opening.opening in
-    let is = ap (opening_by k) (sym c.in_ok-opened.ensures.made) ∙ c.in_ok-opening.ensures.opening in
+    let o = seen_start c.in_ok-opened.opened c.in_ok-opening.opening in
+    let is = ap (opening k) (sym c.in_ok-opened.ensures.made) ∙ c.in_ok-opening.ensures in
     let same = number_in s cs c.args.first.now in
     let new = unrolled_so_far s c.append_copies.new.out in
-    let ends = block_ends k c.args.levels f block rof old o is c.args.first.now.number same (unrolled_so_far s c.append_earlier.new.out) c.in_ok-append_earlier.ensures.adds new c.in_ok-append_copies.ensures.adds in
+    let ends = block_ends k c.args.scope.now.levels f block rof old o is c.args.first.now.number same (unrolled_so_far s c.append_earlier.new.out) c.in_ok-append_earlier.ensures.adds new c.in_ok-append_copies.ensures.adds in
     subst (λ r. Returns (λ u. new) c.check_rof.result r) (ap (λ h. at_rof h new) c.in_ok-closed.ensures.made ∙ sym ends) (c.check_rof.ensures new)
 
 pub append_block-returns-clause-after : goal.append_block-returns-clause-after
@@ -76,103 +77,90 @@ append_block-returns-clause-after t c = anyway _ c.check_rof.result c.in_ok-appe
 
 pub append_copies-returns-in_err-append_copy-clause-adds : goal.append_copies-returns-in_err-append_copy-clause-adds
 append_copies-returns-in_err-append_copy-clause-adds t c =
-    let k = c.args.context.now in
-    let s = k.source.now in
-    let cs = c.args.copies.now in
+    let k = shared c.args.context.now in
+    let s = k.source in
+    let cs = c.args.scope.now.copies.now in
     let p = err_from_is_err_and c.from_residual.result c.from_residual.ensures.1 in
-    rw (p.1, p.2) (λ h. c.loop-done.invariant.0 ∙ (copy_first k c.args.levels c.args.line (option_map (λ b. b.now) c.args.counter) (lines_in s cs c.args.block.now) c.args.count c.loop-done.done (unrolled_so_far s c.loop-done.out) c.loop-done-test.true ∙ ap (and_then _) (c.in_err-append_copy.ensures.adds h)))
+    rw (p.1, p.2) (λ h. c.loop-done.invariant.0 ∙ (copy_first k c.args.scope.now.levels c.args.block.now.line (option_map (λ b. b.now) c.args.block.now.counter) (lines_in s cs c.args.block.now.lines.now) c.args.block.now.count c.loop-done.done (unrolled_so_far s c.loop-done.out) c.loop-done-test.true ∙ ap (and_then _) (c.in_err-append_copy.ensures.adds h)))
 
 pub append_copies-loop-done-preserved : goal.append_copies-loop-done-preserved
 append_copies-loop-done-preserved t c =
-    let k = c.args.context.now in
-    let s = k.source.now in
-    let cs = c.args.copies.now in (
-      c.loop-done.invariant.0 ∙ (copy_first k c.args.levels c.args.line (option_map (λ b. b.now) c.args.counter) (lines_in s cs c.args.block.now) c.args.count c.loop-done.done (unrolled_so_far s c.loop-done.out) c.loop-done-test.true ∙ ap (and_then _) c.in_ok-append_copy.ensures.adds),
+    let k = shared c.args.context.now in
+    let s = k.source in
+    let cs = c.args.scope.now.copies.now in (
+      c.loop-done.invariant.0 ∙ (copy_first k c.args.scope.now.levels c.args.block.now.line (option_map (λ b. b.now) c.args.block.now.counter) (lines_in s cs c.args.block.now.lines.now) c.args.block.now.count c.loop-done.done (unrolled_so_far s c.loop-done.out) c.loop-done-test.true ∙ ap (and_then _) c.in_ok-append_copy.ensures.adds),
       c.in_ok-append_copy.ensures.after,
     )
 
 pub append_copies-returns-clause-adds : goal.append_copies-returns-clause-adds
 append_copies-returns-clause-adds t c =
-    let k = c.args.context.now in
-    let s = k.source.now in
-    let cs = c.args.copies.now in
-    c.loop-done.invariant.0 ∙ no_copies k c.args.levels c.args.line (option_map (λ b. b.now) c.args.counter) (lines_in s cs c.args.block.now) c.args.count c.loop-done.done (unrolled_so_far s c.loop-done.out) c.loop-done-test.false
+    let k = shared c.args.context.now in
+    let s = k.source in
+    let cs = c.args.scope.now.copies.now in
+    c.loop-done.invariant.0 ∙ no_copies k c.args.scope.now.levels c.args.block.now.line (option_map (λ b. b.now) c.args.block.now.counter) (lines_in s cs c.args.block.now.lines.now) c.args.block.now.count c.loop-done.done (unrolled_so_far s c.loop-done.out) c.loop-done-test.false
 
-pub append_copy-returns-in_ok-copies-in-Some-clause-adds : goal.append_copy-returns-in_ok-copies-in-Some-clause-adds
-append_copy-returns-in_ok-copies-in-Some-clause-adds t c =
-    let k = c.args.context.now in
-    let s = k.source.now in
-    let cs = c.args.copies.now in
-    let h : 0 < c.args.levels = omega arith in
+pub append_copy-returns-clause-adds : goal.append_copy-returns-clause-adds
+append_copy-returns-clause-adds t c =
+    let k = shared c.args.context.now in
+    let s = k.source in
+    let cs = c.args.scope.now.copies.now in
+    let h : 0 < c.args.scope.now.levels = omega arith in
     let room : length (reached_lines s c.args.out.now.lines.items) + c.args.out.now.copies < MOST_LINES = omega (arith, reached_length s c.args.out.now.lines.items) in
-    let counter = option_map (λ b. b.now) c.args.counter in
-    let block = lines_in s cs c.args.block.now in
-    let made : copied_block s counter c.args.number block ≡ lines_in s c.deref.result.now c.args.block.now =
-    ap (λ o. copied_block s (option_map (λ b. b.now) o) c.args.number block) c.in-Some.is ∙ (c.in_ok-copies-in-Some.ensures s c.args.block.now ∙ ap (λ cs. lines_in s cs c.args.block.now) (sym c.deref.ensures.value)) in
-    let e = copy_is k c.args.levels c.args.line counter block c.args.number (lines_in s c.deref.result.now c.args.block.now) (unrolled_so_far s c.args.out.now) h room made in
-    subst (λ r. Returns (λ u. unrolled_so_far s c.append_lines-in-Some.new.out) c.append_lines-in-Some.result r) (sym e) c.append_lines-in-Some.ensures.adds
-
-pub append_copy-returns-in-None-clause-adds : goal.append_copy-returns-in-None-clause-adds
-append_copy-returns-in-None-clause-adds t c =
-    let k = c.args.context.now in
-    let s = k.source.now in
-    let cs = c.args.copies.now in
-    let h : 0 < c.args.levels = omega arith in
-    let room : length (reached_lines s c.args.out.now.lines.items) + c.args.out.now.copies < MOST_LINES = omega (arith, reached_length s c.args.out.now.lines.items) in
-    let counter = option_map (λ b. b.now) c.args.counter in
-    let block = lines_in s cs c.args.block.now in
-    let made : copied_block s counter c.args.number block ≡ block = ap (λ o. copied_block s (option_map (λ b. b.now) o) c.args.number block) c.in-None.is in
-    let e = copy_is k c.args.levels c.args.line counter block c.args.number block (unrolled_so_far s c.args.out.now) h room made in
+    let counter = option_map (λ b. b.now) c.args.block.now.counter in
+    let block = lines_in s cs c.args.block.now.lines.now in
+    let made : copied_block s counter c.args.number block ≡ lines_in s c.deref.result.now c.args.block.now.lines.now =
+    c.in_ok-copies.ensures s c.args.block.now.lines.now ∙ ap (λ cs. lines_in s cs c.args.block.now.lines.now) (sym c.deref.ensures.value) in
+    let e = copy_is k c.args.scope.now.levels c.args.block.now.line counter block c.args.number (lines_in s c.deref.result.now c.args.block.now.lines.now) (unrolled_so_far s c.args.out.now) h room made in
     subst (λ r. Returns (λ u. unrolled_so_far s c.append_lines.new.out) c.append_lines.result r) (sym e) c.append_lines.ensures.adds
 
 pub append_lines-returns-in-None-clause-adds : goal.append_lines-returns-in-None-clause-adds
 append_lines-returns-in-None-clause-adds t c =
-    let k = c.args.context.now in
-    let s = k.source.now in
-    let cs = c.args.copies.now in
+    let k = shared c.args.context.now in
+    let s = k.source in
+    let cs = c.args.scope.now.copies.now in
     λ h. c.loop-head.invariant.0
-    ∙ for_alone k c.args.levels cs c.args.in_block c.loop-head.rest.now (unrolled_so_far s c.loop-head.out) c.in-Some.head.now c.in-Some.after.now c.in-Some.ensures.cases.0 c.in-For.is c.in-None.ensures.cut
+    ∙ for_alone k c.args.scope.now.levels cs c.args.scope.now.in_block c.loop-head.rest.now (unrolled_so_far s c.loop-head.out) c.in-Some.head.now c.in-Some.after.now c.in-Some.ensures.cases.0 c.in-For.is c.in-None.ensures.cut
     ∙ ap Err (sym c.fault.ensures)
 
 pub append_lines-returns-in_err-append_block-in-Some-cut_block-clause-adds : goal.append_lines-returns-in_err-append_block-in-Some-cut_block-clause-adds
 append_lines-returns-in_err-append_block-in-Some-cut_block-clause-adds t c =
-    let k = c.args.context.now in
-    let s = k.source.now in
-    let cs = c.args.copies.now in
+    let k = shared c.args.context.now in
+    let s = k.source in
+    let cs = c.args.scope.now.copies.now in
     let p = err_from_is_err_and c.from_residual.result c.from_residual.ensures.1 in
-    rw (p.1, p.2) (λ h. c.loop-head.invariant.0 ∙ (block_first k c.args.levels cs c.args.in_block c.loop-head.rest.now (unrolled_so_far s c.loop-head.out) c.in-Some.head.now c.in-Some.after.now c.in-Some.ensures.cases.0 _ c.in-For.is c.in-Some-cut_block.ensures.cut ∙ ap (and_then _) (c.in_err-append_block-in-Some-cut_block.ensures.adds h)))
+    rw (p.1, p.2) (λ h. c.loop-head.invariant.0 ∙ (block_first k c.args.scope.now.levels cs c.args.scope.now.in_block c.loop-head.rest.now (unrolled_so_far s c.loop-head.out) c.in-Some.head.now c.in-Some.after.now c.in-Some.ensures.cases.0 _ c.in-For.is c.in-Some-cut_block.ensures.cut ∙ ap (and_then _) (c.in_err-append_block-in-Some-cut_block.ensures.adds h)))
 
 pub append_lines-loop-head-preserved-in-Some-cut_block : goal.append_lines-loop-head-preserved-in-Some-cut_block
 append_lines-loop-head-preserved-in-Some-cut_block t c =
-    let k = c.args.context.now in
-    let s = k.source.now in
-    let cs = c.args.copies.now in (
-      c.loop-head.invariant.0 ∙ (block_first k c.args.levels cs c.args.in_block c.loop-head.rest.now (unrolled_so_far s c.loop-head.out) c.in-Some.head.now c.in-Some.after.now c.in-Some.ensures.cases.0 _ c.in-For.is c.in-Some-cut_block.ensures.cut ∙ ap (and_then _) c.in_ok-append_block-in-Some-cut_block.ensures.adds),
+    let k = shared c.args.context.now in
+    let s = k.source in
+    let cs = c.args.scope.now.copies.now in (
+      c.loop-head.invariant.0 ∙ (block_first k c.args.scope.now.levels cs c.args.scope.now.in_block c.loop-head.rest.now (unrolled_so_far s c.loop-head.out) c.in-Some.head.now c.in-Some.after.now c.in-Some.ensures.cases.0 _ c.in-For.is c.in-Some-cut_block.ensures.cut ∙ ap (and_then _) c.in_ok-append_block-in-Some-cut_block.ensures.adds),
       c.in-Some-cut_block.ensures.after,
       c.in_ok-append_block-in-Some-cut_block.ensures.after,
     )
 
 pub append_lines-returns-in_err-append_line-in_default-word-clause-adds : goal.append_lines-returns-in_err-append_line-in_default-word-clause-adds
 append_lines-returns-in_err-append_line-in_default-word-clause-adds t c =
-    let k = c.args.context.now in
-    let s = k.source.now in
-    let cs = c.args.copies.now in
+    let k = shared c.args.context.now in
+    let s = k.source in
+    let cs = c.args.scope.now.copies.now in
     let p = err_from_is_err_and c.from_residual-in_err-append_line-in_default-word.result c.from_residual-in_err-append_line-in_default-word.ensures.1 in
-    rw (p.1, p.2) (λ h. c.loop-head.invariant.0 ∙ (line_first k c.args.levels cs c.args.in_block c.loop-head.rest.now (unrolled_so_far s c.loop-head.out) c.in-Some.head.now c.in-Some.after.now c.in-Some.ensures.cases.0 c.in_default-word.not-For ∙ ap (and_then _) (c.in_err-append_line-in_default-word.ensures.adds h)))
+    rw (p.1, p.2) (λ h. c.loop-head.invariant.0 ∙ (line_first k c.args.scope.now.levels cs c.args.scope.now.in_block c.loop-head.rest.now (unrolled_so_far s c.loop-head.out) c.in-Some.head.now c.in-Some.after.now c.in-Some.ensures.cases.0 c.in_default-word.not-For ∙ ap (and_then _) (c.in_err-append_line-in_default-word.ensures.adds h)))
 
 pub append_lines-loop-head-preserved : goal.append_lines-loop-head-preserved
 append_lines-loop-head-preserved t c =
-    let k = c.args.context.now in
-    let s = k.source.now in
-    let cs = c.args.copies.now in (
-      c.loop-head.invariant.0 ∙ (line_first k c.args.levels cs c.args.in_block c.loop-head.rest.now (unrolled_so_far s c.loop-head.out) c.in-Some.head.now c.in-Some.after.now c.in-Some.ensures.cases.0 c.in_default-word.not-For ∙ ap (and_then _) c.in_ok-append_line-in_default-word.ensures.adds),
+    let k = shared c.args.context.now in
+    let s = k.source in
+    let cs = c.args.scope.now.copies.now in (
+      c.loop-head.invariant.0 ∙ (line_first k c.args.scope.now.levels cs c.args.scope.now.in_block c.loop-head.rest.now (unrolled_so_far s c.loop-head.out) c.in-Some.head.now c.in-Some.after.now c.in-Some.ensures.cases.0 c.in_default-word.not-For ∙ ap (and_then _) c.in_ok-append_line-in_default-word.ensures.adds),
       All-rest (HeadLies s) c.in-Some.head.now c.in-Some.after.now c.loop-head.rest.now c.in-Some.ensures.cases.0 c.loop-head.invariant.1,
       c.in_ok-append_line-in_default-word.ensures.after,
     )
 
 pub append_lines-returns-clause-adds : goal.append_lines-returns-clause-adds
 append_lines-returns-clause-adds t c =
-    let k = c.args.context.now in
-    let s = k.source.now in
-    let cs = c.args.copies.now in
-    c.loop-head.invariant.0 ∙ no_lines k c.args.levels cs c.args.in_block c.loop-head.rest.now (unrolled_so_far s c.loop-head.out) c.in_default.ensures.cases
+    let k = shared c.args.context.now in
+    let s = k.source in
+    let cs = c.args.scope.now.copies.now in
+    c.loop-head.invariant.0 ∙ no_lines k c.args.scope.now.levels cs c.args.scope.now.in_block c.loop-head.rest.now (unrolled_so_far s c.loop-head.out) c.in_default.ensures.cases

@@ -1,4 +1,4 @@
-use Rattle.std.proofs.Common.{◌≡◌, sym, ap, length, subst}
+use Rattle.std.proofs.Common.{◌≡◌, sym, length, subst}
 use Rattle.std.proofs.lemmas.Bool.{eqb-true}
 use Rattle.rc_expand.specs.Results.{Returns}
 use Rattle.rc_expand.specs.Unroll.{checked_line}

@@ -10,13 +10,13 @@ pub line-preserved : goal.line-preserved
 line-preserved c =
     let source = c.args.source.now in
     let tokens = c.args.tokens.now in
-    let first : labelled source tokens ≡ behind source c.in_ok-labels.labels (labelled source (drop c.label_end-end.result tokens)) =
-    rw c.in_ok-labels.ensures (label_more source tokens c.line.labels c.line.at c.label_end-end.result c.in_ok-label.label c.line-test.ensures.result c.label_end-end.ensures.end c.in_ok-label.ensures c.line.invariant.0) in
+    let first : labelled source tokens ≡ behind source c.push.new.self (labelled source (drop c.label_end-end.result tokens)) =
+    rw c.in_ok-push.ensures (label_more source tokens c.line.labels c.line.at c.label_end-end.result c.in_ok-label.label c.line-test.ensures.result c.label_end-end.ensures.end c.in_ok-label.ensures c.line.invariant.0) in
     let lies : All (LiesIn source) c.in_ok-label.label =
     All-same (LiesIn source) c.in_ok-label.label _ c.in_ok-label.ensures (All-take (LiesIn source) (c.label_end-end.result - c.line.at) (drop c.line.at tokens) (All-drop (LiesIn source) c.line.at tokens c.requires)) in (
       first,
       c.label_end-end.ensures.high,
-      All-same (All (LiesIn source)) c.in_ok-labels.labels _ c.in_ok-labels.ensures (All-push (All (LiesIn source)) c.line.labels c.in_ok-label.label c.line.invariant.2 lies),
+      All-same (All (LiesIn source)) c.push.new.self _ c.in_ok-push.ensures (All-push (All (LiesIn source)) c.line.labels c.in_ok-label.label c.line.invariant.2 lies),
     )
 
 pub returns-clause-labels : goal.returns-clause-labels

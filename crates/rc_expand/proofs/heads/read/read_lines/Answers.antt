@@ -11,12 +11,12 @@ use Rattle.rc_expand.proofs.heads.read.read_lines.Goals as goal
 pub loop-line-init : goal.loop-line-init
 loop-line-init c =
     let P : Ahead → Type 0 = λ a. SoFar c.args.source.now [] a.ending [] a.tokens in
-    let first : SoFar c.args.source.now c.in_ok-heads.heads.items c.new-lexer.result.ending c.new-line.result.items c.new-lexer.result.tokens =
-    rw (c.in_ok-heads.ensures.items, c.new-line.ensures.items) (subst P (sym c.new-lexer.ensures.tokens) (at_first c.args.source.now)) in (
+    let first : SoFar c.args.source.now c.new-heads.result.items c.new-lexer.result.ending c.new-line.result.items c.new-lexer.result.tokens =
+    rw (c.new-heads.ensures.items, c.new-line.ensures.items) (subst P (sym c.new-lexer.ensures.tokens) (at_first c.args.source.now)) in (
       first,
       all_inside c.args.source.now 0 c.new-lexer.result.tokens c.new-lexer.ensures.spans,
       All-same (LiesIn c.args.source.now) c.new-line.result.items [] c.new-line.ensures.items (All-nil (LiesIn c.args.source.now)),
-      All-same (HeadLies c.args.source.now) c.in_ok-heads.heads.items [] c.in_ok-heads.ensures.items (All-nil (HeadLies c.args.source.now)),
+      All-same (HeadLies c.args.source.now) c.new-heads.result.items [] c.new-heads.ensures.items (All-nil (HeadLies c.args.source.now)),
       at_beginning c.args.source.now c.new-lexer.result c.new-lexer.ensures.tokens,
     )
 

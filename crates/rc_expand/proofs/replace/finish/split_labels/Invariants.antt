@@ -10,5 +10,5 @@ decreases-loop-label l = length l.rest
 -- the labels so far, and those still to come
 abbrev pub invariant-loop-label : goal.invariant-loop-label
 invariant-loop-label l =
-    (own_labels l.source l.labels ≡ l.own ++ own_labels l.source l.rest) × (other_labels l.source l.labels ≡ other_labels l.source l.rest)
-    × All (LiesIn l.source) l.own × All (All (LiesIn l.source)) l.rest
+    (own_labels l.source l.labels ≡ l.own.items ++ own_labels l.source l.rest) × (other_labels l.source l.labels ≡ other_labels l.source l.rest)
+    × All (LiesIn l.source) l.own.items × All (All (LiesIn l.source)) l.rest

@@ -1,8 +1,8 @@
 use Rattle.std.proofs.Common.{◌≡◌, length, map}
 use Rattle.std.specs.Prelude.{All}
 use Rattle.rc_text.specs.Symbols.{LiesIn, name_of}
-use Rattle.rc_expand.specs.Steps.{names_in}
-use Rattle.rc_expand.specs.Context.{table}
+use Rattle.rc_expand.specs.Shared.{shared}
+use Rattle.rc_expand.specs.Heads.NameTables.{names_in}
 use Rattle.rc_expand.specs.Replace.Lines.{defined}
 use Rattle.rc_expand.proofs.replace.labelling.define_names.Given as goal
 
@@ -12,6 +12,6 @@ decreases-loop-label l = length l.rest
 -- the names that are left make the whole
 abbrev pub invariant-loop-label : goal.invariant-loop-label
 invariant-loop-label l =
-    (defined (table l.context) l.context.rules.now l.line (map (name_of l.context.source.now) l.labels) (names_in l.fn.names)
-    ≡ defined (table l.context) l.context.rules.now l.line (map (name_of l.context.source.now) l.rest) (names_in l.names))
+    (defined (shared l.context) l.line (map (name_of l.context.source.now) l.labels) (names_in l.fn.names)
+    ≡ defined (shared l.context) l.line (map (name_of l.context.source.now) l.rest) (names_in l.names))
     × All (LiesIn l.context.source.now) l.rest

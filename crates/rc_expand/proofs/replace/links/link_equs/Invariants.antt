@@ -9,5 +9,5 @@ decreases-loop-equ l = length l.equs - l.place
 -- the EQU names that are left make the whole
 abbrev pub invariant-loop-equ : goal.invariant-loop-equ
 invariant-loop-equ l =
-    map (λ x. map (at_place l.equs) x) l.links.items ++ map (λ e. map (equ_in l.source l.equs) e.1.tokens) (drop l.place l.equs)
+    map (λ x. map (at_place l.equs) x.items) l.links.items ++ map (λ e. map (equ_in l.source l.equs) e.1.tokens) (drop l.place l.equs)
     ≡ map (λ e. map (equ_in l.source l.equs) e.1.tokens) l.equs

@@ -1,6 +1,6 @@
 use Rattle.std.specs.Prelude.{All}
 use Rattle.rc_text.specs.Symbols.{LiesIn}
-use Rattle.rc_expand.specs.Unroll.{copied_tokens}
+use Rattle.rc_expand.specs.Unroll.Copies.{copied_tokens}
 use Rattle.rc_expand.proofs.Each.{SoFar}
 use Rattle.rc_expand.proofs.unroll.copy.copy_labels.Given as goal
 

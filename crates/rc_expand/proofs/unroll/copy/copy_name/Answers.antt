@@ -1,7 +1,7 @@
 use Rattle.std.proofs.Common.{◌≡◌, sym, ◌∙◌, ap, arith, ◌∷◌, drop, false}
 use Rattle.std.specs.Prelude.{option_map}
 use Rattle.rc_text.specs.declared.token.Token.{Token}
-use Rattle.rc_expand.specs.Unroll.{joins, copied_tokens}
+use Rattle.rc_expand.specs.Unroll.Copies.{joins, copied_tokens}
 use Rattle.rc_expand.proofs.Unrolling.Copies.{name_joined, joined_lies, no_more_joined, joins_short}
 use Rattle.rc_expand.proofs.unroll.copy.copy_name.Goals.{then-loop-after-test+else-is_joined, else-loop-after-test}
 use Rattle.rc_expand.proofs.unroll.copy.copy_name.Goals as goal

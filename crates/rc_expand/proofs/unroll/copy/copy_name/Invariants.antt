@@ -1,6 +1,6 @@
 use Rattle.std.proofs.Common.{◌≡◌, ◌-◌, ◌<◌, ◌≤◌, length, drop}
 use Rattle.rc_text.specs.Symbols.{LiesIn}
-use Rattle.rc_expand.specs.Unroll.{copied_tokens, copied_from}
+use Rattle.rc_expand.specs.Unroll.Copies.{copied_tokens, copied_from}
 use Rattle.rc_expand.proofs.unroll.copy.copy_name.Given as goal
 
 -- copying from `at` is copying from `after`, with the name and what is joined to it so far

@@ -4,7 +4,7 @@ use Rattle.std.proofs.lemmas.List.Elements.{All-push}
 use Rattle.rc_text.specs.declared.token.Token.{Token}
 use Rattle.rc_text.specs.Symbols.{LiesIn}
 use Rattle.rc_expand.specs.Heads.Lines.{is_name_token}
-use Rattle.rc_expand.specs.Unroll.{copied_tokens}
+use Rattle.rc_expand.specs.Unroll.Copies.{copied_tokens}
 use Rattle.rc_expand.proofs.Each.{more}
 use Rattle.rc_expand.proofs.Unrolling.Copies.{kept_at, same_read, item_lies}
 use Rattle.rc_expand.proofs.unroll.copy.copy_tokens.Goals as goal

@@ -1,7 +1,7 @@
 use Rattle.std.proofs.Common.{◌-◌, length, drop}
 use Rattle.std.specs.Prelude.{All}
 use Rattle.rc_text.specs.Symbols.{LiesIn}
-use Rattle.rc_expand.specs.Unroll.{copied_tokens}
+use Rattle.rc_expand.specs.Unroll.Copies.{copied_tokens}
 use Rattle.rc_expand.proofs.Unrolling.Copies.{Rest}
 use Rattle.rc_expand.proofs.unroll.copy.copy_tokens.Given as goal
 

@@ -1,53 +1,51 @@
 use Rattle.std.proofs.Common.{◌∙◌, ap, sym}
-use Rattle.std.specs.Prelude.{Ok, Err, option_map}
+use Rattle.std.specs.Prelude.{Err, option_map}
 use Rattle.std.proofs.lemmas.Result.{err_from_is_err_and}
 use Rattle.rc_expand.specs.Results.{and_then, mapped}
-use Rattle.rc_expand.specs.Unroll.{Opening, earlier_of, counted_by}
-use Rattle.rc_expand.specs.Context.{table, counter_name_by}
+use Rattle.rc_expand.specs.Shared.{shared}
+use Rattle.rc_expand.specs.Unroll.Openings.{earlier_of, counted_by, counter_name}
 use Rattle.rc_expand.proofs.Unrolling.CountSteps.{opening_spoiled, opening_tested}
 use Rattle.rc_expand.proofs.unroll.opening.begin_block.Goals as goal
 
-pub returns-then-first-clause-opening : goal.returns-then-first-clause-opening
-returns-then-first-clause-opening c = λ h. opening_spoiled c.args.context.now c.args.first.now c.if-first.true ∙ ap Err (sym c.fault.ensures)
+pub returns-then-first : goal.returns-then-first
+returns-then-first c = λ h. opening_spoiled (shared c.args.context.now) c.args.first.now c.if-first.true ∙ ap Err (sym c.fault.ensures)
 
-pub returns-in_err-token-clause-opening : goal.returns-in_err-token-clause-opening
-returns-in_err-token-clause-opening c =
-    let k = c.args.context.now in
+pub returns-in_err-token : goal.returns-in_err-token
+returns-in_err-token c =
+    let k = shared c.args.context.now in
     let f = c.args.first.now in
     let tested = opening_tested k f c.if-first.false in
     let p = err_from_is_err_and c.from_residual.result c.from_residual.ensures.1 in
-    rw (p.1, p.2) (λ h. tested ∙ ap (λ r. and_then (counted_by k.source.now (table k) k.rules.now k.equs.now f) (and_then (counter_name_by k f.number) r)) (c.in_err-token.ensures.token h))
+    rw (p.1, p.2) (λ h. tested ∙ ap (λ r. and_then (counted_by k f) (and_then (counter_name k f.number) r)) (c.in_err-token.ensures.token h))
 
-pub returns-in_err-counter-clause-opening : goal.returns-in_err-counter-clause-opening
-returns-in_err-counter-clause-opening c =
-    let k = c.args.context.now in
+pub returns-in_err-counter : goal.returns-in_err-counter
+returns-in_err-counter c =
+    let k = shared c.args.context.now in
     let f = c.args.first.now in
     let tested = opening_tested k f c.if-first.false in
     let p = err_from_is_err_and c.from_residual-in_err-counter.result c.from_residual-in_err-counter.ensures.1 in
     rw (p.1, p.2) (λ h. tested
-    ∙ (ap (λ r. and_then (counted_by k.source.now (table k) k.rules.now k.equs.now f) (and_then (counter_name_by k f.number) r)) c.in_ok-token.ensures.token
-    ∙ ap (and_then (counted_by k.source.now (table k) k.rules.now k.equs.now f)) (c.in_err-counter.ensures h)))
+    ∙ (ap (λ r. and_then (counted_by k f) (and_then (counter_name k f.number) r)) c.in_ok-token.ensures.token
+    ∙ ap (and_then (counted_by k f)) (c.in_err-counter.ensures h)))
 
-pub returns-in_err-count-clause-opening : goal.returns-in_err-count-clause-opening
-returns-in_err-count-clause-opening c =
-    let k = c.args.context.now in
+pub returns-in_err-count : goal.returns-in_err-count
+returns-in_err-count c =
+    let k = shared c.args.context.now in
     let f = c.args.first.now in
     let tested = opening_tested k f c.if-first.false in
     let p = err_from_is_err_and c.from_residual-in_err-count.result c.from_residual-in_err-count.ensures.1 in
     rw (p.1, p.2) (λ h. tested
-    ∙ (ap (λ r. and_then (counted_by k.source.now (table k) k.rules.now k.equs.now f) (and_then (counter_name_by k f.number) r)) c.in_ok-token.ensures.token
-    ∙ (ap (and_then (counted_by k.source.now (table k) k.rules.now k.equs.now f)) c.in_ok-counter.ensures
+    ∙ (ap (λ r. and_then (counted_by k f) (and_then (counter_name k f.number) r)) c.in_ok-token.ensures.token
+    ∙ (ap (and_then (counted_by k f)) c.in_ok-counter.ensures
     ∙ ap (mapped _) (c.in_err-count.ensures h))))
 
-pub returns-clause-opening : goal.returns-clause-opening
-returns-clause-opening c =
-    let k = c.args.context.now in
+pub returns : goal.returns
+returns c =
+    let k = shared c.args.context.now in
     let f = c.args.first.now in
     let tested = opening_tested k f c.if-first.false in
     let name = option_map (λ b. b.now) c.in_ok-counter.counter in
-    let o : _ → Opening = λ e. record { counter = name; earlier = e; count = c.in_ok-count.count } in
     tested
-    ∙ (ap (λ r. and_then (counted_by k.source.now (table k) k.rules.now k.equs.now f) (and_then (counter_name_by k f.number) r)) c.in_ok-token.ensures.token
-    ∙ (ap (and_then (counted_by k.source.now (table k) k.rules.now k.equs.now f)) c.in_ok-counter.ensures
-    ∙ (ap (mapped (λ n. record { counter = name; earlier = earlier_of f.labels; count = n })) c.in_ok-count.ensures
-    ∙ ap (λ e. Ok (o e)) (sym (c.in_ok-earlier.ensures.earlier ∙ ap earlier_of c.as_slice.ensures)))))
+    ∙ (ap (λ r. and_then (counted_by k f) (and_then (counter_name k f.number) r)) c.in_ok-token.ensures.token
+    ∙ (ap (and_then (counted_by k f)) c.in_ok-counter.ensures
+    ∙ ap (mapped (λ n. record { counter = name; earlier = earlier_of f.labels; count = n })) c.in_ok-count.ensures))

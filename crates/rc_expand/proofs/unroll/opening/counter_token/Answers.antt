@@ -1,7 +1,8 @@
 use Rattle.std.proofs.Common.{◌≡◌, sym, ◌∙◌, ap, arith, length, suc, ◌-◌}
 use Rattle.std.specs.Prelude.{Err}
 use Rattle.rc_expand.specs.Results.{at_line}
-use Rattle.rc_expand.specs.Unroll.{plain_token, plain_or, counter_kind, counter_of}
+use Rattle.rc_expand.specs.Heads.Lines.{plain_token}
+use Rattle.rc_expand.specs.Unroll.Openings.{plain_or, counter_kind, counter_of}
 use Rattle.rc_expand.proofs.Unrolling.CountSteps.{counter_at}
 use Rattle.rc_expand.proofs.unroll.opening.counter_token.Goals as goal
 

@@ -1,6 +1,6 @@
 use Rattle.std.proofs.Common.{sym, ◌∙◌, ap, take, get_or}
 use Rattle.std.proofs.lemmas.List.{take_more}
-use Rattle.rc_expand.specs.Unroll.{copied_line}
+use Rattle.rc_expand.specs.Unroll.Copies.{copied_line}
 use Rattle.rc_expand.specs.Unroll.Reached.{line_in}
 use Rattle.rc_expand.proofs.Unrolling.Reaching.{line_more}
 use Rattle.rc_expand.proofs.unroll.reached.make_line.Goals as goal
