@@ -1,6 +1,6 @@
 -- Words that only the contracts of private functions use: parts of certificates, checks under way,
 -- and a certificate that is being written.
-use Rattle.std.specs.Prelude.{◌≡◌, ℕ, suc, ◌+◌, ◌-◌, ◌*◌, ◌<◌, ◌≤◌, ◌^◌, List, length, slice_get, Option, Some, All, flat_map, [], ◌∷◌, ◌++◌, false}
+use Rattle.std.specs.Prelude.{◌≡◌, ℕ, suc, ◌+◌, ◌-◌, ◌*◌, ◌<◌, ◌≤◌, ◌^◌, List, length, slice_get, Option, Some, All, flat_map, [], ◌∷◌, ◌++◌, Bool, true, false}
 use Rattle.mars_fight.specs.Records.{Fields}
 use Rattle.tune_cert.specs.CertText.{spaced_text, list_text, rows_fields, count_fields, best_fields}
 use Rattle.tune_cert.specs.Spelling.{IsNumber, IsVersion, IsItem, IsRow, HasForm}
@@ -22,6 +22,12 @@ use Rattle.std.specs.declared.alloc.Global.{Global}
 use Rattle.std.specs.declared.vec.Vec.{Vec}
 use Rattle.csv.specs.Writing.{default_writer, writer_setup, fields_written, has_written, writer_under, writer_pending}
 use Rattle.csv.specs.declared.writer.Writer.{Writer}
+
+-- A row refers to another setting.
+abbrev pub refers : Row → Bool
+refers (Same u) = true
+refers Refused = false
+refers (Cap row) = false
 
 -- The bytes spell these fights, each after a space.
 pub record AreSpaced (bytes : List ℕ) (items : List (ℕ × ℕ)) : Type 0 where

@@ -9,12 +9,12 @@ ghost use Rattle.tune_cert.specs.Steps.{AreRightSame, IsCertVerdict, IsFirstVerd
 use crate::fault::{CheckFault, ReadFault};
 use crate::read::read_cert;
 use crate::row_checks::{check_alone, check_same, is_best_row};
-use crate::telling::{before_rows, tell_row};
+use crate::telling::{before_rows, refers, tell_row};
 use crate::verdict::{Reason, Verdict};
 use crate::warriors::no_warriors;
 use mars_core::{Arena, PackedCells};
 use std::alloc::Global;
-use tune_problem::{Cert, Row, Silent, Standing, Watcher, cert_version};
+use tune_problem::{Cert, Silent, Standing, Watcher, cert_version};
 use tune_template::Inputs;
 
 // A record by its index, and what is wrong with it.
@@ -142,14 +142,6 @@ fn check_rows_same<T: Watcher>(
         }
     }
     Ok(None)
-}
-
-// Returns whether a row refers to another setting.
-fn refers(row: &Row) -> bool {
-    match row {
-        Row::Same(_) => true,
-        _ => false,
-    }
 }
 
 fn rejected(index: u64, reason: Reason) -> Verdict

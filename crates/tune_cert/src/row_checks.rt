@@ -1,5 +1,5 @@
 //! Checks single rows of a certificate.
-ghost use Rattle.std.specs.Prelude.{◌≡◌, ◌↔◌, ◌<◌, None, Some, IsTrue, IfOk, IfSome, IfNone, length, ◌*◌, ◌≤◌, ℕ, List, true, slice_get};
+ghost use Rattle.std.specs.Prelude.{◌≡◌, ◌↔◌, ◌<◌, None, Some, IsTrue, IfOk, IfSome, IfNone, length, ◌+◌, ◌*◌, ◌≤◌, ◌^◌, ℕ, List, true, slice_get};
 ghost use Rattle.rc_instr.specs.Warrior.{Fits};
 ghost use Rattle.mars_core.specs.Arena.{IsBlank};
 ghost use Rattle.mars_fight.specs.Limits.{MOST_FIGHTS, MOST_WEIGHT};
@@ -112,6 +112,10 @@ fn have_points(
     requires fits { Fits inputs.now.rules warrior.now }
     ensures points { IsTrue result ↔ HavePoints (problem_of inputs.now) warrior.now listed.now }
     ensures blank { IsBlank inputs.now.rules arena.new }
+
+    // Each listed fight is played once, if all have the listed points, and no other is.
+    ensures all { IsTrue result → arena.old.fights + length listed.now < 2 ^ 64 → arena.new.fights ≡ arena.old.fights + length listed.now }
+    ensures most { arena.old.fights + length listed.now < 2 ^ 64 → arena.new.fights ≤ arena.old.fights + length listed.now }
 {
     let fights = fight_count(inputs);
     for (number, points) in listed {

@@ -1,9 +1,14 @@
 //! What the checker tells a watcher.
+ghost use Rattle.std.specs.Prelude.{◌≡◌, ◌+◌, ◌%◌, ◌^◌, Some};
+ghost use Rattle.tune_problem.specs.Valid.{listed_in};
+ghost use Rattle.tune_cert.specs.Steps.{refers};
 
 use tune_problem::{Best, Cert, Row, Standing, Watcher};
 
 // Returns how far the check of a certificate is before the first row.
-pub(crate) fn before_rows(cert: &Cert, count: u32) -> Standing {
+pub(crate) fn before_rows(cert: &Cert, count: u32) -> Standing
+    ensures { result ≡ record { settings = 0; count = count; fights = 0; best = Some (record { vector = cert.now.best; total = cert.now.total }) } }
+{
     Standing {
         settings: 0,
         count,
@@ -15,13 +20,33 @@ pub(crate) fn before_rows(cert: &Cert, count: u32) -> Standing {
     }
 }
 
-// Counts a checked row, and tells the watcher.
-pub(crate) fn tell_row<T: Watcher>(row: &Row, standing: &mut Standing, watcher: &mut T) {
-    standing.settings = standing.settings.saturating_add(1);
-    if let Row::Cap(listing) = row {
-        standing.fights = standing
-            .fights
-            .saturating_add(listing.as_slice().len() as u64);
+// Returns whether a row refers to another setting. Such rows are checked, and told, last.
+pub(crate) fn refers(row: &Row) -> bool
+    ensures { result ≡ refers row.now }
+{
+    match row {
+        Row::Same(_) => true,
+        _ => false,
     }
+}
+
+fn listed_count(row: &Row) -> u64
+    ensures { result ≡ listed_in row.now }
+{
+    match row {
+        Row::Cap(listing) => listing.as_slice().len() as u64,
+        _ => 0,
+    }
+}
+
+// Counts a checked row and its fights, and tells the watcher.
+pub(crate) fn tell_row<T: Watcher>(row: &Row, standing: &mut Standing, watcher: &mut T)
+    ensures settings { standing.new.settings ≡ (standing.old.settings + 1) % 2 ^ 32 }
+    ensures fights { standing.new.fights ≡ (standing.old.fights + listed_in row.now) % 2 ^ 64 }
+    ensures count { standing.new.count ≡ standing.old.count }
+    ensures best { standing.new.best ≡ standing.old.best }
+{
+    standing.settings = standing.settings.wrapping_add(1);
+    standing.fights = standing.fights.wrapping_add(listed_count(row));
     watcher.see(*standing);
 }

@@ -4,7 +4,7 @@ ghost use Rattle.rc_instr.specs.Warrior.{IsWarrior, Fits};
 ghost use Rattle.tune_problem.specs.Problem.{problem_of};
 ghost use Rattle.tune_problem.specs.Optimum.{greatest_of};
 ghost use Rattle.tune_problem.specs.Valid.{IsOwnVersion};
-ghost use Rattle.mars_core.specs.Arena.{IsBlank};
+ghost use Rattle.mars_core.specs.Arena.{IsBlank, fights_after};
 ghost use Rattle.mars_fight.specs.Limits.{MOST_FIGHTS, MOST_TOTAL, MOST_WEIGHT};
 ghost use Rattle.mars_fight.specs.Play.{ArePoints};
 
@@ -45,7 +45,7 @@ pub fn setting_warrior(
 /// 0 for a loss (pMARS).
 ///
 /// The warrior must keep the rules of the inputs, and the arena must be blank under them. It is
-/// blank afterwards.
+/// blank afterwards, and has counted the fight.
 #[tactic(auto, unfolding(crate::specs::Problem::fight_points))]
 pub fn fight_points<C: Cells>(
     arena: &mut Arena<C>,
@@ -59,6 +59,7 @@ pub fn fight_points<C: Cells>(
     ensures points { result ≡ (problem_of inputs.now).points warrior.now index }
     ensures scores { ArePoints result }
     ensures blank { IsBlank inputs.now.rules arena.new }
+    ensures fights { arena.new.fights ≡ fights_after arena.old.fights 1 }
     ensures marks { arena.new.marks ≡ C.new_marks inputs.now.rules.core }
 {
     let fight = &inputs.schedule().fights()[index as usize];

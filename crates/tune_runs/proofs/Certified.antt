@@ -77,16 +77,16 @@ line_names t bytes i f out out_after m s (j, v, means, right, accepted_is, wrote
 pub certified : (t : Texts) (capacity : ℕ) (bytes : List ℕ) (report report_after cert cert_after out out_after : Option (List ℕ)) →
     WritesTuning t capacity report report_after cert cert_after → WritesVerdict t bytes true out out_after →
     (i : InputsView) × (f : Found) × (values : List ℤ) × IsTuning t capacity i f values
-    × Appends report report_after (report_text (report_for i f values)) × Appends out out_after (check_line (Accepted f.best f.total))
+    × Appends cert cert_after (cert_text (cert_of f)) × Appends report report_after (report_text (report_for i f values)) × Appends out out_after (check_line (Accepted f.best f.total))
 certified t capacity bytes report report_after cert cert_after out out_after (i, f, values, tuning, wrote_cert, wrote_report) checked =
-    (i, f, values, tuning, wrote_report, line_names t bytes i f out out_after tuning.0 (found_of (problem_of i) capacity f tuning.1) checked)
+    (i, f, values, tuning, wrote_cert, wrote_report, line_names t bytes i f out out_after tuning.0 (found_of (problem_of i) capacity f tuning.1) checked)
 
 pub plain_certified : (t : Texts) (bytes : List ℕ) (report report_after cert cert_after out out_after : Option (List ℕ)) →
     WritesPlainTuning t report report_after cert cert_after → WritesVerdict t bytes true out out_after →
     (i : InputsView) × (f : Found) × (values : List ℤ) × IsPlainTuning t i f values
-    × Appends report report_after (report_text (report_for i f values)) × Appends out out_after (check_line (Accepted f.best f.total))
+    × Appends cert cert_after (cert_text (cert_of f)) × Appends report report_after (report_text (report_for i f values)) × Appends out out_after (check_line (Accepted f.best f.total))
 plain_certified t bytes report report_after cert cert_after out out_after (i, f, values, tuning, wrote_cert, wrote_report) checked =
-    (i, f, values, tuning, wrote_report, line_names t bytes i f out out_after tuning.0 tuning.1.found checked)
+    (i, f, values, tuning, wrote_cert, wrote_report, line_names t bytes i f out out_after tuning.0 tuning.1.found checked)
 
 -- both searches find the optimum, and there is one
 pub one_optimum : (p : Problem) (capacity : ℕ) (f g : Found) → IsSearch p capacity f → IsPlainSearch p g

@@ -1,12 +1,14 @@
 -- Tunings that are refused.
-use Rattle.std.proofs.Common.{◌≡◌, ◌⊎◌, ℕ, zero, suc, ◌<◌, ◌≤◌, List, [], ◌∷◌, Some, None, length, slice_get, inr, refl, sym, Result, Err, IfErr, ◌∙◌, ap, subst, arith}
+use Rattle.std.proofs.Common.{◌≡◌, ◌≢◌, ◌⊎◌, ℕ, zero, suc, ◌<◌, ◌≤◌, List, [], ◌∷◌, Some, None, length, slice_get, inr, refl, sym, Result, Ok, Err, IfErr, ◌∙◌, ap, subst, arith}
 use Rattle.rc_instr.specs.Rules.{RulesView}
 use Rattle.rc_instr.specs.Warrior.{WarriorView}
 use Rattle.rc_asm.specs.Assembly.{Assembles}
 use Rattle.mars_fight.specs.Schedule.{fights_of}
 use Rattle.mars_fight.specs.declared.fight.Fight.{Fight}
 use Rattle.tune_template.specs.Limits.{MOST_OPPONENTS}
-use Rattle.tune_template.specs.Parts.{IsPart}
+use Rattle.tune_template.specs.declared.part.Part.{Part}
+use Rattle.tune_template.specs.Parts.{whole, IsPart}
+use Rattle.tune_template.proofs.RangeLaws.{some_setting}
 use Rattle.tune_template.specs.Instances.{TemplateView, InputsView}
 use Rattle.tune_problem.specs.Optimum.{IsCandidate}
 use Rattle.tune_problem.specs.Problem.{Problem, problem_of}
@@ -136,3 +138,16 @@ refused_inputs NoCandidate t i r some m = absurd (some refl)
 refused_inputs Write t i r some m = absurd r
 refused_inputs OutOfMemory t i r some m = inr refl
 refused_inputs BadPart t i (view, opponents, schedule, few, is, are, read, bad) some m = absurd (not_parted t i view m is bad)
+
+-- every template has a part 1 of 1
+whole_parted : (t : Texts) → t.part ≡ whole → IsTuneRefusal BadPart t → ⊥
+whole_parted t is (view, opponents, schedule, few, tem, are, read, bad) =
+    let some : 0 < setting_count view = some_setting t.template view.ranges tem.1 in
+    bad (subst (λ (p : Part). IsPart p (setting_count view)) (sym is) (record { some = omega arith; within = omega arith; few = omega arith }))
+
+pub never_unparted : {X : Type 0} (Says : RunFault → Type 0) (r : Result X RunFault) (t : Texts) → t.part ≡ whole → ((e : RunFault) → Says e → IsTuneRefusal e t)
+    → IfErr r (λ e. e ≢ Write → Says e) → IfErr r (λ e. e ≢ BadPart)
+never_unparted Says (Ok x) t is says h = tt
+never_unparted Says (Err e) t is says h = λ same.
+    let other : e ≢ Write = (λ w. let q : BadPart ≡ Write = sym same ∙ w in cc) in
+    whole_parted t is (subst (λ (x : RunFault). IsTuneRefusal x t) same (says e (h other)))

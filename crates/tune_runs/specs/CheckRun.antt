@@ -1,5 +1,5 @@
 -- What the run of a check writes.
-use Rattle.std.specs.Prelude.{◌≡◌, ℕ, Bool, true, false, List, ◌∷◌, [], ◌++◌, codes, Option}
+use Rattle.std.specs.Prelude.{◌≡◌, ℕ, Bool, true, false, List, ◌∷◌, [], ◌++◌, codes, Option, Some, None}
 use Rattle.std.specs.Fmt.{decimal}
 use Rattle.std.specs.Io.KnownBytes.{Appends}
 use Rattle.mars_fight.specs.Records.{records_of}
@@ -10,7 +10,8 @@ use Rattle.tune_cert.specs.declared.verdict.Reason.{Reason}
 use Rattle.tune_cert.specs.declared.verdict.Reason.TheVariants.{Malformed, RowCount, BestRow, WrongPoints, RepeatedFight, CapTooHigh, NotSame, NotRefused, Version}
 use Rattle.tune_cert.specs.declared.verdict.Verdict.{Verdict}
 use Rattle.tune_cert.specs.declared.verdict.Verdict.TheVariants.{Accepted, Rejected}
-use Rattle.tune_runs.specs.TuneRun.{Texts, Means}
+use Rattle.tune_runs.specs.TuneRun.{Texts, Means, IsTuneRefusal}
+use Rattle.tune_runs.specs.declared.fault.RunFault.TheVariants.{NoCandidate}
 
 abbrev pub reason_text : Reason → List ℕ
 reason_text Malformed = codes "Malformed"
@@ -41,3 +42,9 @@ WritesVerdict t cert accepted old new =
 -- The right verdict on the bytes accepts them, with this best setting and total.
 abbrev pub Accepts : Texts → List ℕ → ℕ → ℕ → Type 0
 Accepts t cert best total = (i : InputsView) × Means t i × IsRightVerdict (problem_of i) (records_of cert) (Accepted best total)
+
+-- What is known of a tuning, by its outcome: these bytes are accepted with its best setting and
+-- total, or no setting assembles.
+abbrev pub IsShown : Texts → List ℕ → Option (ℕ × ℕ) → Type 0
+IsShown t cert (Some best) = Accepts t cert best.0 best.1
+IsShown t cert None = IsTuneRefusal NoCandidate t

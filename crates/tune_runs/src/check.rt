@@ -53,6 +53,9 @@ pub fn check_run<W: Write>(
     // Texts that have a meaning are not refused.
     ensures meaning { (i : InputsView) → Means (texts template.now (map (λ o. o.items) opponents.now) schedule.now rules.now) i
         → IfErr result (λ e. (e ≡ RunFault.Write) ⊎ (e ≡ RunFault.OutOfMemory)) }
+
+    // Every template has a part 1 of 1.
+    ensures whole { IfErr result (λ e. e ≢ RunFault.Part) }
 {
     check_part_run(
         alloc,

@@ -11,10 +11,11 @@ ghost use Rattle.tune_cert.specs.Spelling.{Spells};
 ghost use Rattle.tune_search.specs.Found.{IsSearch};
 ghost use Rattle.tune_runs.specs.Report.{report_text, report_for};
 ghost use Rattle.tune_problem.specs.Parts.{first_setting, IsOutcome, IsBestPart};
-ghost use Rattle.tune_runs.specs.TuneRun.{Texts, of_part, Means, IsTuning, WritesTuning};
+ghost use Rattle.tune_runs.specs.TuneRun.{Texts, of_part, Means, IsTuning, IsTuneRefusal, WritesTuning};
 ghost use Rattle.tune_cert.specs.Verdict.{IsRightVerdict};
-ghost use Rattle.tune_runs.specs.CheckRun.{WritesVerdict, Accepts, check_line};
+ghost use Rattle.tune_runs.specs.CheckRun.{WritesVerdict, Accepts, IsShown, check_line};
 
+use crate::fault::RunFault;
 use tune_cert::{Found, Verdict};
 
 /// States that the texts of a tuning have at most one meaning.
@@ -33,24 +34,30 @@ pub fn a_written_certificate_is_accepted()
 
 /// States the certified optimum: if a tuning wrote its certificate and its report, and a check of
 /// any bytes for the same texts accepts them, then the check's line names the best setting and the
-/// total of that report.
+/// total of that report. The bytes of the certificate that was written are those of what the
+/// report tells.
 pub fn an_accepted_certificate_names_the_optimum()
     ensures { (t : Texts) (capacity : ℕ) (bytes : List ℕ) (report report_after cert cert_after out out_after : Option (List ℕ))
         → WritesTuning t capacity report report_after cert cert_after → WritesVerdict t bytes true out out_after
         → (i : InputsView) × (f : Found) × (values : List ℤ) × IsTuning t capacity i f values
+        × Appends cert cert_after (cert_text (cert_of f))
         × Appends report report_after (report_text (report_for i f values)) × Appends out out_after (check_line (Verdict.Accepted f.best f.total)) }
 {}
 
-/// States that accepted certificates of all parts name the optimum of the whole: whoever has a line
-/// of acceptance for each part knows that, of the parts with the greatest total, the first one's
-/// best setting is the optimum of all settings, with this total. Its index in the whole is counted
-/// on from where its part begins.
+/// States that accepted certificates of parts name the optimum of the whole: whoever has a line of
+/// acceptance for each part, or knows that none of its settings assembles, knows that of the parts
+/// with the greatest total, the first one's best setting is the optimum of all settings, with this
+/// total. Its index in the whole is counted on from where its part begins. If no part has a
+/// candidate, the whole has none.
 pub fn accepted_parts_name_the_optimum()
     // A line of acceptance names what its certificate is accepted with.
     ensures line { (t : Texts) (bytes : List ℕ) (out out_after : Option (List ℕ)) → WritesVerdict t bytes true out out_after
         → (best total : ℕ) × Accepts t bytes best total × Appends out out_after (check_line (Verdict.Accepted best total)) }
-    ensures optimum { (t : Texts) (parts : ℕ) (cert : ℕ → List ℕ) (best total : ℕ → ℕ) (number : ℕ)
-        → ((n : ℕ) → 1 ≤ n → n ≤ parts → Accepts (of_part t n parts) (cert n) (best n) (total n))
-        → IsBestPart parts (λ n. Some (best n, total n)) number (best number) (total number)
-        → (i : InputsView) × Means (of_part t 1 1) i × IsOutcome (problem_of i) (Some (first_setting i number parts + best number, total number)) }
+    ensures optimum { (t : Texts) (parts : ℕ) (cert : ℕ → List ℕ) (outcome : ℕ → Option (ℕ × ℕ)) (number best total : ℕ)
+        → ((n : ℕ) → 1 ≤ n → n ≤ parts → IsShown (of_part t n parts) (cert n) (outcome n))
+        → IsBestPart parts outcome number best total
+        → (i : InputsView) × Means (of_part t 1 1) i × IsOutcome (problem_of i) (Some (first_setting i number parts + best, total)) }
+    ensures none { (t : Texts) (parts : ℕ) → 1 ≤ parts
+        → ((n : ℕ) → 1 ≤ n → n ≤ parts → IsTuneRefusal RunFault.NoCandidate (of_part t n parts))
+        → IsTuneRefusal RunFault.NoCandidate (of_part t 1 1) }
 {}

@@ -34,10 +34,12 @@ pub fn a_plain_certificate_is_accepted()
 
 /// States the certified optimum of a plain tuning: if it wrote its certificate and its report, and
 /// a check of any bytes for the same texts accepts them, then the check's line names the best
-/// setting and the total of that report.
+/// setting and the total of that report. The bytes of the certificate that was written are those of
+/// what the report tells.
 pub fn an_accepted_certificate_names_the_plain_optimum()
     ensures { (t : Texts) (bytes : List ℕ) (report report_after cert cert_after out out_after : Option (List ℕ))
         → WritesPlainTuning t report report_after cert cert_after → WritesVerdict t bytes true out out_after
         → (i : InputsView) × (f : Found) × (values : List ℤ) × IsPlainTuning t i f values
+        × Appends cert cert_after (cert_text (cert_of f))
         × Appends report report_after (report_text (report_for i f values)) × Appends out out_after (check_line (Verdict.Accepted f.best f.total)) }
 {}

@@ -70,6 +70,9 @@ pub fn tune_run<W: Write, V: Write>(
     ensures meaning { (i : InputsView) (v : ℕ) → Means (texts template.now (map (λ o. o.items) opponents.now) schedule.now rules.now) i
         → v < (problem_of i).count → IsCandidate (problem_of i) v
         → IfErr result (λ e. (e ≡ RunFault.Write) ⊎ (e ≡ RunFault.OutOfMemory)) }
+
+    // Every template has a part 1 of 1.
+    ensures whole { IfErr result (λ e. e ≢ RunFault.Part) }
 {
     tune_part_run(
         alloc,

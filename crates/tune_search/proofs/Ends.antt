@@ -8,7 +8,7 @@ use Rattle.tune_problem.specs.declared.cert.Row.{Row}
 use Rattle.tune_search.specs.Plays.{row_of, rows_of}
 use Rattle.tune_search.specs.PlainFound.{IsPlainSearch}
 use Rattle.tune_search.specs.Progress.{IsBest, IsLead, IsProgress}
-use Rattle.tune_search.specs.declared.lead.Lead.{Lead}
+use Rattle.tune_problem.specs.declared.watcher.Best.{Best}
 use Rattle.tune_problem.specs.Valid.{listed_fights, IsOwnVersion, IsValid}
 use Rattle.tune_search.proofs.Listed.{listed_rows}
 use Rattle.tune_search.proofs.Rightness.{own_version, rows_valid}
@@ -24,21 +24,21 @@ best_optimum p v t h =
       first = λ u x l is same. h.first u x l is (same ∙ made);
     }
 
-module _ (p : Problem) (k : ℕ) (rows : List Row) (lead : Option Lead) (candidates fights : ℕ) (h : IsProgress p k rows lead candidates fights) (e : k ≡ p.count) where
+module _ (p : Problem) (k : ℕ) (rows : List Row) (lead : Option Best) (candidates fights : ℕ) (h : IsProgress p k rows lead candidates fights) (e : k ≡ p.count) where
   pub ends_lead : IsLead p p.count lead
   ends_lead = subst (λ (n : ℕ). IsLead p n lead) e h.lead_is
 
-  pub ends_best : (best : Lead) → lead ≡ Some best → IsBest p p.count best.vector best.total
-  ends_best best is = subst (λ (l : Option Lead). IsLead p p.count l) is ends_lead
+  pub ends_best : (best : Best) → lead ≡ Some best → IsBest p p.count best.vector best.total
+  ends_best best is = subst (λ (l : Option Best). IsLead p p.count l) is ends_lead
 
-  pub ends_optimum : (best : Lead) → lead ≡ Some best → IsOptimum p best.vector
+  pub ends_optimum : (best : Best) → lead ≡ Some best → IsOptimum p best.vector
   ends_optimum best is = best_optimum p best.vector best.total (ends_best best is)
 
-  pub ends_total : (best : Lead) → lead ≡ Some best → HasTotal p best.vector best.total
+  pub ends_total : (best : Best) → lead ≡ Some best → HasTotal p best.vector best.total
   ends_total best is = let b = ends_best best is in (b.warrior, b.candidate, b.scores)
 
   pub ends_none : lead ≡ None → (v : ℕ) → v < p.count → p.warrior v ≡ None
-  ends_none is = subst (λ (l : Option Lead). IsLead p p.count l) is ends_lead
+  ends_none is = subst (λ (l : Option Best). IsLead p p.count l) is ends_lead
 
   pub ends_rows : rows ≡ rows_of p
   ends_rows = h.rows_are ∙ ap (λ n. map (row_of p) (range_with_len 0 n)) e
@@ -50,11 +50,11 @@ module _ (p : Problem) (k : ℕ) (rows : List Row) (lead : Option Lead) (candida
   pub ends_listed : fights ≡ listed_fights rows
   ends_listed = h.work ∙ ap (λ n. n * p.fights) ends_candidates ∙ sym (listed_rows p) ∙ ap listed_fights (sym ends_rows)
 
-  pub ends_valid : (version : ℕ) → IsOwnVersion p version → (best : Lead) → lead ≡ Some best → IsValid p (record { version = version; count = length rows; best = best.vector; total = best.total; rows = rows })
+  pub ends_valid : (version : ℕ) → IsOwnVersion p version → (best : Best) → lead ≡ Some best → IsValid p (record { version = version; count = length rows; best = best.vector; total = best.total; rows = rows })
   ends_valid version own best is = rows_valid p rows ends_rows version best.vector best.total (own_version p version own) (ends_best best is)
 
   -- all that a plain search promises
-  pub ends_found : (version : ℕ) → IsOwnVersion p version → (best : Lead) → lead ≡ Some best → p.count ≤ MOST_SETTINGS →
+  pub ends_found : (version : ℕ) → IsOwnVersion p version → (best : Best) → lead ≡ Some best → p.count ≤ MOST_SETTINGS →
       IsPlainSearch p (record { version = version; best = best.vector; total = best.total; rows = rows; fights = fights; candidates = candidates; copied = None })
   ends_found version own best is few =
       let valid = ends_valid version own best is in

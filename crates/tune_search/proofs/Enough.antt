@@ -4,14 +4,14 @@ use Rattle.rc_instr.specs.Warrior.{WarriorView}
 use Rattle.tune_problem.specs.Problem.{Problem}
 use Rattle.tune_problem.specs.Optimum.{cap_of}
 use Rattle.tune_search.specs.Order.{beats_lead, enough}
-use Rattle.tune_search.specs.declared.lead.Lead.{Lead}
+use Rattle.tune_problem.specs.declared.watcher.Best.{Best}
 use Rattle.mars_core.proofs.Least.{least_is, least_is_least}
 use Rattle.mars_core.specs.Fight.{least}
 use Rattle.std.proofs.lemmas.Bool.Decides.{leb_tells}
 
 -- k fights are enough if each cap before beats the lead, and the cap then does not, or all are
 -- played
-pub enough_is : (p : Problem) (w : WarriorView) (order : List ℕ) (v : ℕ) (lead : Option Lead) (k : ℕ) → k ≤ p.fights →
+pub enough_is : (p : Problem) (w : WarriorView) (order : List ℕ) (v : ℕ) (lead : Option Best) (k : ℕ) → k ≤ p.fights →
     ((j : ℕ) → j < k → beats_lead (cap_of p w (take j order)) v lead ≡ true) → (k < p.fights → beats_lead (cap_of p w (take k order)) v lead ≡ false) →
     enough p w order v lead ≡ k
 unfolding enough

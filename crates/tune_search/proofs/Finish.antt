@@ -22,7 +22,7 @@ use Rattle.tune_search.specs.Visits.{IsBestAfter, IsFought, IsLeadAfter, place}
 use Rattle.tune_search.specs.Sharing.{HasRowOf, IsExplained, IsVisited}
 use Rattle.tune_search.specs.Found.{IsSearch, is_cap, is_copied}
 use Rattle.tune_search.specs.State.{IsCopied, IsUnderWay, IsWhole, is_filled}
-use Rattle.tune_search.specs.declared.lead.Lead.{Lead}
+use Rattle.tune_problem.specs.declared.watcher.Best.{Best}
 use Rattle.tune_search.proofs.Rightness.{own_version}
 use Rattle.tune_search.proofs.Totals.{cap_all}
 use Rattle.tune_search.proofs.Orders.{order_permutes}
@@ -35,7 +35,7 @@ chained c u t z d v a b =
     let a1 : c ≤ t = a.no_more in let a2 : c ≡ t → z ≤ u = a.later in let b1 : t ≤ d = b.no_more in let b2 : t ≡ d → v ≤ z = b.later in
     record { no_more = omega arith; later = λ e. let x : z ≤ u = a2 (omega arith) in let y : v ≤ z = b2 (omega arith) in omega arith }
 
-module _ (p : Problem) (laws : IsProblem p) (start : p.start < p.count) (version : ℕ) (own : IsVersionOf p version) (rows : List Row) (lead : Lead) (best : IsBestAfter p p.count lead) where
+module _ (p : Problem) (laws : IsProblem p) (start : p.start < p.count) (version : ℕ) (own : IsVersionOf p version) (rows : List Row) (lead : Best) (best : IsBestAfter p p.count lead) where
   -- a candidate trails the best
   behind : (v : ℕ) (x : WarriorView) → v < p.count → p.warrior v ≡ Some x → Trails (total_of p x) v lead.total lead.vector
   behind v x l is = trails _ _ _ _ (best.best v x l (place_below p.start p.count v start l) is)
@@ -58,7 +58,7 @@ module _ (p : Problem) (laws : IsProblem p) (start : p.start < p.count) (version
   abbrev cert : Cert
   cert = record { version = version; count = length rows; best = lead.vector; total = lead.total; rows = rows }
 
-  lead_behind : (k : ℕ) (l : Lead) → IsBestAfter p k l → Trails l.total l.vector lead.total lead.vector
+  lead_behind : (k : ℕ) (l : Best) → IsBestAfter p k l → Trails l.total l.vector lead.total lead.vector
   lead_behind k l h = subst (λ (n : ℕ). Trails n l.vector lead.total lead.vector) h.scores (behind l.vector h.warrior h.inside h.candidate)
 
   module _ (u : ℕ) (x : WarriorView) (inside : u < p.count) (is : p.warrior u ≡ Some x) (h : IsFought p rows u x) where
@@ -80,7 +80,7 @@ module _ (p : Problem) (laws : IsProblem p) (start : p.start < p.count) (version
     all_cap : enough p x order u h.lead ≡ p.fights → cap_of p x (numbers h.row) ≡ total_of p x
     all_cap e = row_cap_is ∙ ap (λ j. cap_of p x (take j order)) e ∙ cap_all p x order permutes
 
-    short_behind : (l : Option Lead) → IsLeadAfter p (place p.start u) l → beats_lead (cap_of p x (numbers h.row)) u l ≡ false → Trails (cap_of p x (numbers h.row)) u lead.total lead.vector
+    short_behind : (l : Option Best) → IsLeadAfter p (place p.start u) l → beats_lead (cap_of p x (numbers h.row)) u l ≡ false → Trails (cap_of p x (numbers h.row)) u lead.total lead.vector
     short_behind None is_l e = absurd (cc)
     short_behind (Some l) is_l e = chained _ _ _ _ _ _ (trails _ _ _ _ e) (lead_behind _ l is_l)
 
@@ -91,7 +91,7 @@ module _ (p : Problem) (laws : IsProblem p) (start : p.start < p.count) (version
       | inr n ↦ short_behind h.lead h.is_lead (ap (λ m. beats_lead m u h.lead) row_cap_is ∙ n)
     ]
 
-    no_lead_first : (l : Option Lead) → u ≡ p.start → IsLeadAfter p (place p.start u) l → l ≡ None
+    no_lead_first : (l : Option Best) → u ≡ p.start → IsLeadAfter p (place p.start u) l → l ≡ None
     no_lead_first None e g = refl
     no_lead_first (Some l) e g =
         let none : place p.start u ≡ 0 = ap (place p.start) e ∙ start_place p.start in
@@ -247,7 +247,7 @@ own_row (Some u) v b h e = let same : u ≡ v = cc in grind (arith, nat_tests, h
 
 -- after the last
 module _ (p : Problem) (laws : IsProblem p) (start : p.start < p.count) (rules : RulesView) (c : ℕ)
-    (rows : List Row) (lead : Option Lead) (order : List ℕ) (f n : ℕ) (copied : Option ℕ) (known : List (List ℕ × ℕ))
+    (rows : List Row) (lead : Option Best) (order : List ℕ) (f n : ℕ) (copied : Option ℕ) (known : List (List ℕ × ℕ))
     (s : IsUnderWay p rules c p.count rows lead order f n copied known) where
   all_told : (v : ℕ) → v < p.count → IsExplained p c rows copied v (p.warrior v)
   all_told v l = s.told v l (place_below p.start p.count v start l)
@@ -279,20 +279,20 @@ module _ (p : Problem) (laws : IsProblem p) (start : p.start < p.count) (rules :
 
   pub finds_none : lead ≡ None → (v : ℕ) → v < p.count → p.warrior v ≡ None
   finds_none e v l =
-      let h : IsLeadAfter p p.count None = subst (λ (o : Option Lead). IsLeadAfter p p.count o) e s.lead_is in
+      let h : IsLeadAfter p p.count None = subst (λ (o : Option Best). IsLeadAfter p p.count o) e s.lead_is in
       h v l (place_below p.start p.count v start l)
 
   -- what was found is what a search promises
-  pub finds : (version : ℕ) → IsOwnVersion p version → (l : Lead) → lead ≡ Some l → p.count ≤ MOST_SETTINGS →
+  pub finds : (version : ℕ) → IsOwnVersion p version → (l : Best) → lead ≡ Some l → p.count ≤ MOST_SETTINGS →
       IsSearch p c (record { version = version; best = l.vector; total = l.total; rows = rows; fights = f; candidates = n; copied = copied })
   finds version own l e few =
       let right_version = own_version p version own in
-      let best : IsLeadAfter p p.count (Some l) = subst (λ (o : Option Lead). IsLeadAfter p p.count o) e s.lead_is in
+      let best : IsLeadAfter p p.count (Some l) = subst (λ (o : Option Best). IsLeadAfter p p.count o) e s.lead_is in
       let all : length rows ≡ p.count = s.rows_are in
       record {
         optimum = best_is_optimum p laws start version right_version rows l best;
         total_is = best_total p laws start version right_version rows l best;
-        valid = is_valid p laws start version right_version rows l best c copied s.rows_are all_told (subst (λ (o : Option Lead). IsWhole p rows o) e s.whole);
+        valid = is_valid p laws start version right_version rows l best c copied s.rows_are all_told (subst (λ (o : Option Best). IsWhole p rows o) e s.whole);
         version = own;
         count = s.count ∙ filled_candidates p c rows copied s.rows_are all_told;
         few = omega (arith, all, few);

@@ -8,7 +8,7 @@ use Rattle.tune_problem.proofs.Certificates.{Trails, not_beats, same_number, som
 use Rattle.tune_search.specs.Order.{beats_lead, enough}
 use Rattle.tune_search.specs.Visits.{IsLeadAfter, place, visit}
 use Rattle.tune_search.specs.Sharing.{copies}
-use Rattle.tune_search.specs.declared.lead.Lead.{Lead}
+use Rattle.tune_problem.specs.declared.watcher.Best.{Best}
 use Rattle.tune_search.proofs.Enough.{least_cases}
 use Rattle.tune_search.proofs.Places.{is_visit, lesser, place_visit}
 
@@ -24,7 +24,7 @@ not_copied : (s u v z : ℕ) → (u == s) && (z == u) && nat_lt v u ≡ false �
 not_copied s u v z h a b = grind (arith, nat_tests)
 
 -- so many fights were enough: all, or the cap then does not beat the lead
-pub enough_cases : (p : Problem) (w : WarriorView) (order : List ℕ) (v : ℕ) (lead : Option Lead) →
+pub enough_cases : (p : Problem) (w : WarriorView) (order : List ℕ) (v : ℕ) (lead : Option Best) →
     (enough p w order v lead ≡ p.fights) ⊎ (beats_lead (cap_of p w (take (enough p w order v lead) order)) v lead ≡ false)
 unfolding enough
 enough_cases p w order v lead =
@@ -34,7 +34,7 @@ enough_cases p w order v lead =
     ]
 
 -- where the cap at the end beats the lead, all were fought
-pub all_fought : (p : Problem) (w : WarriorView) (order : List ℕ) (v : ℕ) (lead : Option Lead) →
+pub all_fought : (p : Problem) (w : WarriorView) (order : List ℕ) (v : ℕ) (lead : Option Best) →
     beats_lead (cap_of p w (take (enough p w order v lead) order)) v lead ≡ true → enough p w order v lead ≡ p.fights
 all_fought p w order v lead h = elim (enough_cases p w order v lead) [ inl e ↦ e | inr n ↦ absurd (cc) ]
 
@@ -50,7 +50,7 @@ module _ (p : Problem) (k v : ℕ) (at : v ≡ visit p.start k) where
   ]
 
   -- v is no candidate
-  pub lead_refused : (lead : Option Lead) → p.warrior v ≡ None → IsLeadAfter p k lead → IsLeadAfter p (suc k) lead
+  pub lead_refused : (lead : Option Best) → p.warrior v ≡ None → IsLeadAfter p k lead → IsLeadAfter p (suc k) lead
   lead_refused None none h = λ u l b. elim (by_then u b) [ inl c ↦ h u l c | inr e ↦ ap p.warrior e ∙ none ]
   lead_refused (Some lead) none h = record {
     warrior = h.warrior;
@@ -63,7 +63,7 @@ module _ (p : Problem) (k v : ℕ) (at : v ≡ visit p.start k) where
 
   module _ (w : WarriorView) (inside : v < p.count) (is : p.warrior v ≡ Some w) where
     -- v's total does not beat the lead
-    pub lead_stays : (lead : Option Lead) → beats_lead (total_of p w) v lead ≡ false → IsLeadAfter p k lead → IsLeadAfter p (suc k) lead
+    pub lead_stays : (lead : Option Best) → beats_lead (total_of p w) v lead ≡ false → IsLeadAfter p k lead → IsLeadAfter p (suc k) lead
     lead_stays None behind h = absurd (cc)
     lead_stays (Some lead) behind h = record {
       warrior = h.warrior;
@@ -80,7 +80,7 @@ module _ (p : Problem) (k v : ℕ) (at : v ≡ visit p.start k) where
     }
 
     -- v beats the lead, or there is none
-    pub lead_new : (lead : Option Lead) (t : ℕ) → total_of p w ≡ t → beats_lead t v lead ≡ true → IsLeadAfter p k lead → IsLeadAfter p (suc k) (Some (record { total = t; vector = v }))
+    pub lead_new : (lead : Option Best) (t : ℕ) → total_of p w ≡ t → beats_lead t v lead ≡ true → IsLeadAfter p k lead → IsLeadAfter p (suc k) (Some (record { total = t; vector = v }))
     lead_new lead t score beat h = record {
       warrior = w;
       inside = inside;
@@ -96,12 +96,12 @@ module _ (p : Problem) (k v : ℕ) (at : v ≡ visit p.start k) where
       ];
     }
       where
-        older : (lead : Option Lead) → beats_lead t v lead ≡ true → IsLeadAfter p k lead → (u : ℕ) (x : WarriorView) → u < p.count → place p.start u < k → p.warrior u ≡ Some x → beats (total_of p x) u t v ≡ false
+        older : (lead : Option Best) → beats_lead t v lead ≡ true → IsLeadAfter p k lead → (u : ℕ) (x : WarriorView) → u < p.count → place p.start u < k → p.warrior u ≡ Some x → beats (total_of p x) u t v ≡ false
         older None y h u x l c at_u = let none : p.warrior u ≡ None = h u l c in absurd (cc)
         older (Some lead) y h u x l c at_u = overtaken (total_of p x) u lead.total lead.vector t v (h.best u x l c at_u) y
 
     -- v has the warrior of u, which was visited, and does not copy
-    pub lead_shares : (lead : Option Lead) (u : ℕ) → u < p.count → place p.start u < k → p.warrior u ≡ Some w → copies p.start u v lead ≡ false → IsLeadAfter p k lead → beats_lead (total_of p w) v lead ≡ false
+    pub lead_shares : (lead : Option Best) (u : ℕ) → u < p.count → place p.start u < k → p.warrior u ≡ Some w → copies p.start u v lead ≡ false → IsLeadAfter p k lead → beats_lead (total_of p w) v lead ≡ false
     lead_shares None u l before is_u apart h = let none : p.warrior u ≡ None = h u l before in absurd (cc)
     lead_shares (Some lead) u l before is_u apart h =
         let behind : Trails (total_of p w) u lead.total lead.vector = trails _ _ _ _ (h.best u w l before is_u) in

@@ -18,3 +18,5 @@ pub mod Visiting
 pub mod Unique
 pub mod Finish
 pub mod Apart
+pub mod OneAnswer
+pub mod Counted

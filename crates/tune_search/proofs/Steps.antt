@@ -13,7 +13,7 @@ use Rattle.tune_search.specs.Visits.{IsFought, place, visit}
 use Rattle.tune_search.specs.Sharing.{HasRowOf, IsExplained}
 use Rattle.tune_search.specs.Found.{copied_fights, listed_at}
 use Rattle.tune_search.specs.State.{IsKnown, IsWhole, is_filled}
-use Rattle.tune_search.specs.declared.lead.Lead.{Lead}
+use Rattle.tune_problem.specs.declared.watcher.Best.{Best}
 use Rattle.tune_search.proofs.Slots.{slot_other, slot_same}
 use Rattle.tune_search.proofs.Leads.{by_then}
 use Rattle.tune_search.proofs.Places.{place_visit}
@@ -107,7 +107,7 @@ module _ (p : Problem) (rules : RulesView) (c k v : ℕ) (at : v ≡ visit p.sta
   known_more [] h = tt
   known_more (e ∷ es) h = (known_one e h.0, known_more es h.1)
 
-  pub whole_stays : (lead : Option Lead) → IsWhole p rows lead → IsWhole p after lead
+  pub whole_stays : (lead : Option Best) → IsWhole p rows lead → IsWhole p after lead
   whole_stays None h = tt
   whole_stays (Some lead) h = (h.0, slot_other rows v lead.vector row (other_than lead.vector h.0 h.1) ∙ h.1, h.2)
 

@@ -5,14 +5,14 @@ use Rattle.tune_problem.specs.Problem.{Problem}
 use Rattle.tune_problem.proofs.Certificates.{Trails, trails}
 use Rattle.tune_search.specs.Visits.{IsBestAfter, IsLeadAfter, visit}
 use Rattle.tune_search.specs.Recent.{IsRecalled, IsRecent, NoneHas}
-use Rattle.tune_search.specs.declared.lead.Lead.{Lead}
+use Rattle.tune_problem.specs.declared.watcher.Best.{Best}
 
 module _ (p : Problem) where
-  ahead : (k : ℕ) (a b : Lead) → IsBestAfter p k a → IsBestAfter p k b → Trails b.total b.vector a.total a.vector
+  ahead : (k : ℕ) (a b : Best) → IsBestAfter p k a → IsBestAfter p k b → Trails b.total b.vector a.total a.vector
   ahead k a b x y =
       subst (λ (n : ℕ). Trails n b.vector a.total a.vector) y.scores (trails _ _ _ _ (x.best b.vector y.warrior y.inside y.visited y.candidate))
 
-  pub lead_one : (k : ℕ) (a b : Option Lead) → IsLeadAfter p k a → IsLeadAfter p k b → a ≡ b
+  pub lead_one : (k : ℕ) (a b : Option Best) → IsLeadAfter p k a → IsLeadAfter p k b → a ≡ b
   lead_one k None None x y = refl
   lead_one k None (Some b) x y = let none : p.warrior b.vector ≡ None = x b.vector y.inside y.visited in let some = y.candidate in absurd (cc)
   lead_one k (Some a) None x y = let none : p.warrior a.vector ≡ None = y a.vector x.inside x.visited in let some = x.candidate in absurd (cc)
@@ -28,7 +28,7 @@ module _ (p : Problem) where
       λ i. Some (record { total = even i; vector = same i })
 
   -- no two have one warrior
-  abbrev Apart : List ℕ → Type 0
+  abbrev pub Apart : List ℕ → Type 0
   Apart [] = Unit {0}
   Apart (u ∷ us) = ((w : WarriorView) → p.warrior u ≡ Some w → NoneHas p w us) × Apart us
 
@@ -36,7 +36,7 @@ module _ (p : Problem) where
   without w u [] b h = h.1
   without w u (x ∷ f) b h = (h.0, without w u f b h.1)
 
-  none_of : (w : WarriorView) (u : ℕ) (f b : List ℕ) → NoneHas p w (f ++ u ∷ b) → p.warrior u ≢ Some w
+  pub none_of : (w : WarriorView) (u : ℕ) (f b : List ℕ) → NoneHas p w (f ++ u ∷ b) → p.warrior u ≢ Some w
   none_of w u [] b h = h.0
   none_of w u (x ∷ f) b h = none_of w u f b h.1
 
@@ -70,11 +70,11 @@ module _ (p : Problem) where
         subst Apart (sym n.1) (apart_take c (v ∷ old) (λ y e. subst (λ (x : WarriorView). NoneHas p x old) (one_warrior v w y is e) n.0, h))
   ]
 
-  apart_recent : (c k : ℕ) (us : List ℕ) → IsRecent p c k us → Apart us
+  pub apart_recent : (c k : ℕ) (us : List ℕ) → IsRecent p c k us → Apart us
   apart_recent c zero us h = subst Apart (sym h) tt
   apart_recent c (suc k) us h = apart_touched c (visit p.start k) (p.warrior (visit p.start k)) h.0 us refl (apart_recent c k h.0 h.1) h.2
 
-  split_one : (w : WarriorView) (u v : ℕ) (b d : List ℕ) (f g : List ℕ) → p.warrior u ≡ Some w → p.warrior v ≡ Some w → Apart (f ++ u ∷ b) → f ++ u ∷ b ≡ g ++ v ∷ d →
+  pub split_one : (w : WarriorView) (u v : ℕ) (b d : List ℕ) (f g : List ℕ) → p.warrior u ≡ Some w → p.warrior v ≡ Some w → Apart (f ++ u ∷ b) → f ++ u ∷ b ≡ g ++ v ∷ d →
       (u ≡ v) × (f ++ b ≡ g ++ d)
   split_one w u v b d [] [] iu iv h e = let same : u ≡ v = cc in let rest : b ≡ d = cc in (same, rest)
   split_one w u v b d [] (y ∷ g) iu iv h e =

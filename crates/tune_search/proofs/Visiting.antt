@@ -25,7 +25,7 @@ use Rattle.tune_search.specs.Sharing.{HasRowOf, IsExplained, IsVisited, Shares, 
 use Rattle.tune_search.specs.Found.{copied_fights}
 use Rattle.tune_search.specs.Cache.{same_text}
 use Rattle.tune_search.specs.State.{IsCopied, IsKnown, IsUnderWay, IsWhole, by_index, is_filled, lead_by, lead_taken, next_lead}
-use Rattle.tune_search.specs.declared.lead.Lead.{Lead}
+use Rattle.tune_problem.specs.declared.watcher.Best.{Best}
 use Rattle.tune_search.proofs.Slots.{slot_other, slot_same}
 use Rattle.tune_search.proofs.Totals.{cap_all, order_length, total_le_cap}
 use Rattle.tune_search.proofs.Orders.{order_permutes}
@@ -42,29 +42,29 @@ not_zero : (k : ℕ) → (suc k == 0) ≡ false
 not_zero k = grind (arith, nat_tests)
 
 -- what it says that a row is copied
-by_start : (s u v : ℕ) (l : Option Lead) → copies s u v l ≡ true → u ≡ s
+by_start : (s u v : ℕ) (l : Option Best) → copies s u v l ≡ true → u ≡ s
 by_start s u v None h = absurd (grind (arith, nat_tests))
 by_start s u v (Some l) h = grind (arith, nat_tests)
 
 by_none : (s u v : ℕ) → copies s u v None ≡ true → ⊥
 by_none s u v h = grind (arith, nat_tests)
 
-by_lead : (s u v : ℕ) (l : Option Lead) → copies s u v l ≡ true → leads u l ≡ true
+by_lead : (s u v : ℕ) (l : Option Best) → copies s u v l ≡ true → leads u l ≡ true
 by_lead s u v None h = absurd (grind (arith, nat_tests))
 by_lead s u v (Some l) h = grind (arith, nat_tests)
 
-by_vector : (s u v : ℕ) (l : Lead) → copies s u v (Some l) ≡ true → l.vector ≡ u
+by_vector : (s u v : ℕ) (l : Best) → copies s u v (Some l) ≡ true → l.vector ≡ u
 by_vector s u v l h = grind (arith, nat_tests)
 
-by_before : (s u v : ℕ) (l : Lead) → copies s u v (Some l) ≡ true → beats_lead l.total v (Some l) ≡ true
+by_before : (s u v : ℕ) (l : Best) → copies s u v (Some l) ≡ true → beats_lead l.total v (Some l) ≡ true
 by_before s u v l h = grind (arith, nat_tests)
 
-by_other : (s u v : ℕ) (l : Option Lead) → copies s u v l ≡ true → (v == s) ≡ false
+by_other : (s u v : ℕ) (l : Option Best) → copies s u v l ≡ true → (v == s) ≡ false
 by_other s u v None h = absurd (by_none s u v h)
 by_other s u v (Some l) h = grind (arith, nat_tests)
 
 -- a smaller cap does not beat what a larger one does not
-smaller : (c d v : ℕ) (lead : Option Lead) → c ≤ d → beats_lead d v lead ≡ false → beats_lead c v lead ≡ false
+smaller : (c d v : ℕ) (lead : Option Best) → c ≤ d → beats_lead d v lead ≡ false → beats_lead c v lead ≡ false
 smaller c d v None le h = h
 smaller c d v (Some lead) le h = grind (arith, nat_tests)
 
@@ -74,11 +74,11 @@ take_rec P (suc n) [] h = tt
 take_rec P (suc n) (x ∷ xs) h = (h.0, take_rec P n xs h.1)
 
 -- before the first visit there is no lead
-no_lead : (p : Problem) (lead : Option Lead) → IsLeadAfter p 0 lead → lead ≡ None
+no_lead : (p : Problem) (lead : Option Best) → IsLeadAfter p 0 lead → lead ≡ None
 no_lead p None h = refl
 no_lead p (Some lead) h = absurd (let v : place p.start lead.vector < 0 = h.visited in omega arith)
 
-not_yet : (p : Problem) (k v : ℕ) (lead : Option Lead) (copied : Option ℕ) → place p.start v ≡ k → IsCopied p k lead copied → copied ≢ Some v
+not_yet : (p : Problem) (k v : ℕ) (lead : Option Best) (copied : Option ℕ) → place p.start v ≡ k → IsCopied p k lead copied → copied ≢ Some v
 not_yet p k v lead None at h e = cc
 not_yet p k v lead (Some u) at h e =
     let same : u ≡ v = cc in
@@ -87,14 +87,14 @@ not_yet p k v lead (Some u) at h e =
     omega arith
 
 -- the same at equal values
-pub under_way_along : (p : Problem) (rules : RulesView) (c k : ℕ) (rows rows' : List Row) (lead lead' : Option Lead) (order order' : List ℕ) (f f' n : ℕ) (copied : Option ℕ) (known known' : List (List ℕ × ℕ)) →
+pub under_way_along : (p : Problem) (rules : RulesView) (c k : ℕ) (rows rows' : List Row) (lead lead' : Option Best) (order order' : List ℕ) (f f' n : ℕ) (copied : Option ℕ) (known known' : List (List ℕ × ℕ)) →
     IsUnderWay p rules c k rows lead order f n copied known → rows ≡ rows' → lead ≡ lead' → order ≡ order' → f ≡ f' → known ≡ known' →
     IsUnderWay p rules c k rows' lead' order' f' n copied known'
 under_way_along p rules c k rows rows' lead lead' order order' f f' n copied known known' h er el eo ef ek =
     rw (← er, ← el, ← eo, ← ef, ← ek) h
 
 module _ (p : Problem) (laws : IsProblem p) (rules : RulesView) (c k v : ℕ) (at : v ≡ visit p.start k) (inside : v < p.count)
-    (rows : List Row) (lead : Option Lead) (order : List ℕ) (f n : ℕ) (copied : Option ℕ) (known : List (List ℕ × ℕ))
+    (rows : List Row) (lead : Option Best) (order : List ℕ) (f n : ℕ) (copied : Option ℕ) (known : List (List ℕ × ℕ))
     (s : IsUnderWay p rules c k rows lead order f n copied known) where
   its_place : place p.start v ≡ k
   its_place = ap (place p.start) at ∙ place_visit p.start k
@@ -275,21 +275,21 @@ module _ (p : Problem) (laws : IsProblem p) (rules : RulesView) (c k v : ℕ) (a
       was_none : copied ≡ None
       was_none = none_copied copied s.copied_is
 
-      taken_lead : (l : Option Lead) → copies p.start u v l ≡ true → IsLeadAfter p k l → IsLeadAfter p (suc k) (lead_taken v l)
+      taken_lead : (l : Option Best) → copies p.start u v l ≡ true → IsLeadAfter p k l → IsLeadAfter p (suc k) (lead_taken v l)
       taken_lead None e h = absurd (by_none p.start u v e)
       taken_lead (Some l) e h =
           let at_l : l.vector ≡ u = by_vector p.start u v l e in
           let same_w : h.warrior ≡ w = some_is _ _ (sym h.candidate ∙ ap p.warrior at_l ∙ u_is) in
           lead_new p k v at w inside is (Some l) l.total (ap (total_of p) (sym same_w) ∙ h.scores) (by_before p.start u v l e) h
 
-      whole_taken : (l : Option Lead) → copies p.start u v l ≡ true → IsWhole p rows l → IsWhole p copied' (lead_taken v l)
+      whole_taken : (l : Option Best) → copies p.start u v l ≡ true → IsWhole p rows l → IsWhole p copied' (lead_taken v l)
       whole_taken None e h = tt
       whole_taken (Some l) e h =
           let at_l : l.vector ≡ u = by_vector p.start u v l e in
           let same_row : Some (Cap h.0) ≡ Some row = sym h.1 ∙ ap (slice_get rows) at_l ∙ u_fought.at ∙ ap Some (sym row_is) in
           (h.0, row_at_v ∙ sym same_row, h.2)
 
-      copied_taken : (l : Option Lead) → copies p.start u v l ≡ true → IsCopied p (suc k) (lead_taken v l) (Some v)
+      copied_taken : (l : Option Best) → copies p.start u v l ≡ true → IsCopied p (suc k) (lead_taken v l) (Some v)
       copied_taken None e = absurd (by_none p.start u v e)
       copied_taken (Some l) e =
           let here : place p.start v ≡ k = its_place in

@@ -12,7 +12,7 @@ use Rattle.tune_problem.specs.declared.cert.Row.{Row}
 use Rattle.tune_problem.specs.declared.cert.Row.TheVariants.{Refused, Cap}
 use Rattle.tune_search.specs.Plays.{played, row_with, row_of}
 use Rattle.tune_search.specs.Progress.{IsBest, IsLead, lead_after, IsProgress}
-use Rattle.tune_search.specs.declared.lead.Lead.{Lead}
+use Rattle.tune_problem.specs.declared.watcher.Best.{Best}
 use Rattle.tune_search.proofs.Ranges.{sum_more, map_more}
 
 some_is : {X : Type 0} (x y : X) → Some x ≡ Some y → x ≡ y
@@ -27,7 +27,7 @@ module _ (p : Problem) (k : ℕ) where
   by_then u h = elim (leb_tells k u) [ inl q ↦ inr (omega arith) | inr q ↦ inl (omega arith) ]
 
   -- k is no candidate
-  lead_refused : (lead : Option Lead) → p.warrior k ≡ None → IsLead p k lead → IsLead p (k + 1) lead
+  lead_refused : (lead : Option Best) → p.warrior k ≡ None → IsLead p k lead → IsLead p (k + 1) lead
   lead_refused None none h = λ u b. elim (by_then u b) [ inl c ↦ h u c | inr e ↦ ap p.warrior e ∙ none ]
   lead_refused (Some lead) none h = record {
     warrior = h.warrior;
@@ -70,12 +70,12 @@ module _ (p : Problem) (k : ℕ) where
     lead_of v s true e h = lead_first (λ u x c at. let le : total_of p x ≤ s = h.greatest u x c at in let l : s < t = grind (arith, nat_tests, e) in omega arith)
     lead_of v s false e h = lead_stays v s (grind (arith, nat_tests, e)) h
 
-    lead_fought : (lead : Option Lead) → IsLead p k lead → IsLead p (k + 1) (lead_after k t lead)
+    lead_fought : (lead : Option Best) → IsLead p k lead → IsLead p (k + 1) (lead_after k t lead)
     lead_fought None h = lead_first (λ u x c at. let no : p.warrior u ≡ None = h u c in absurd (cc))
     lead_fought (Some lead) h = lead_of lead.vector lead.total (nat_lt lead.total t) refl h
 
     -- k was fought
-    pub fought_visit : (rows : List Row) (lead : Option Lead) (candidates fights : ℕ) → p.fights ≤ MOST_FIGHTS → IsProgress p k rows lead candidates fights →
+    pub fought_visit : (rows : List Row) (lead : Option Best) (candidates fights : ℕ) → p.fights ≤ MOST_FIGHTS → IsProgress p k rows lead candidates fights →
         IsProgress p (k + 1) (rows ++ Cap (played p w (all_fights p)) ∷ []) (lead_after k t lead) (candidates + 1) (fights + p.fights)
     fought_visit rows lead candidates fights less h =
         let one : bit (is_some (p.warrior k)) ≡ 1 = ap (λ o. bit (is_some o)) is in
@@ -93,7 +93,7 @@ module _ (p : Problem) (k : ℕ) where
         }
 
   -- k is no candidate
-  pub refused_visit : (rows : List Row) (lead : Option Lead) (candidates fights : ℕ) → p.warrior k ≡ None → IsProgress p k rows lead candidates fights →
+  pub refused_visit : (rows : List Row) (lead : Option Best) (candidates fights : ℕ) → p.warrior k ≡ None → IsProgress p k rows lead candidates fights →
       IsProgress p (k + 1) (rows ++ Refused ∷ []) lead candidates fights
   refused_visit rows lead candidates fights none h =
       let nought : bit (is_some (p.warrior k)) ≡ 0 = ap (λ o. bit (is_some o)) none in
@@ -110,6 +110,6 @@ module _ (p : Problem) (k : ℕ) where
       }
 
 -- the same of equal values
-pub progress_along : (p : Problem) (k : ℕ) (rows rows' : List Row) (lead lead' : Option Lead) (candidates candidates' fights fights' : ℕ) →
+pub progress_along : (p : Problem) (k : ℕ) (rows rows' : List Row) (lead lead' : Option Best) (candidates candidates' fights fights' : ℕ) →
     IsProgress p k rows lead candidates fights → rows ≡ rows' → lead ≡ lead' → candidates ≡ candidates' → fights ≡ fights' → IsProgress p k rows' lead' candidates' fights'
 progress_along p k rows rows' lead lead' candidates candidates' fights fights' h a b c d = rw (← a, ← b, ← c, ← d) h

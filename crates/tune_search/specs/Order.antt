@@ -6,7 +6,7 @@ use Rattle.mars_core.specs.Fight.{least}
 use Rattle.tune_problem.specs.Problem.{Problem}
 use Rattle.tune_problem.specs.Optimum.{all_fights, cap_of, beats}
 use Rattle.tune_search.specs.Plays.{played}
-use Rattle.tune_search.specs.declared.lead.Lead.{Lead}
+use Rattle.tune_problem.specs.declared.watcher.Best.{Best}
 
 -- The fights that gave these points, in their order.
 abbrev pub with_points : ℕ → List (ℕ × ℕ) → List ℕ
@@ -29,11 +29,11 @@ unfoldable pub fight_order : Problem → ℕ → List ℕ
 fight_order p v = order_after p (v == p.start) (p.warrior p.start)
 
 -- Cap c of setting v beats the lead. Every cap does if there is none.
-abbrev pub beats_lead : ℕ → ℕ → Option Lead → Bool
+abbrev pub beats_lead : ℕ → ℕ → Option Best → Bool
 beats_lead c v None = true
 beats_lead c v (Some lead) = beats c v lead.total lead.vector
 
 -- How many fights of an order are played: the least number after which the cap does not beat the
 -- lead, or all of them. It may be 0.
-unfoldable pub enough : Problem → WarriorView → List ℕ → ℕ → Option Lead → ℕ
+unfoldable pub enough : Problem → WarriorView → List ℕ → ℕ → Option Best → ℕ
 enough p w order v lead = least (λ k. not (beats_lead (cap_of p w (take k order)) v lead)) p.fights

@@ -6,16 +6,16 @@ use Rattle.tune_problem.specs.declared.cert.Row.{Row}
 use Rattle.tune_problem.specs.declared.cert.Row.TheVariants.{Refused, Same}
 use Rattle.tune_search.specs.Visits.{place, IsLeadAfter, IsFought}
 use Rattle.tune_search.specs.Recent.{NoneHas, Has, IsRecent}
-use Rattle.tune_search.specs.declared.lead.Lead.{Lead}
+use Rattle.tune_problem.specs.declared.watcher.Best.{Best}
 
 -- Setting v is the lead.
-abbrev pub leads : ℕ → Option Lead → Bool
+abbrev pub leads : ℕ → Option Best → Bool
 leads v None = false
 leads v (Some lead) = lead.vector == v
 
 -- Setting v copies the row of u if u is the start setting and the lead, and v comes before it: then
 -- v is the better one.
-abbrev pub copies : ℕ → ℕ → ℕ → Option Lead → Bool
+abbrev pub copies : ℕ → ℕ → ℕ → Option Best → Bool
 copies start u v lead = (u == start) && leads u lead && nat_lt v u
 
 -- If v copies the row of u, v is `copied` and has an equal row; otherwise it is not, and its row is
@@ -28,7 +28,7 @@ HasRowOf rows copied u v false = (copied ≢ Some v) × (slice_get rows v ≡ So
 pub record Shares (p : Problem) (rows : List Row) (copied : Option ℕ) (u v : ℕ) (w : WarriorView) : Type 0 where
   pub fought : IsFought p rows u w
   pub before : place p.start u < place p.start v
-  pub lead : Option Lead
+  pub lead : Option Best
   pub is_lead : IsLeadAfter p (place p.start v) lead
   pub row : HasRowOf rows copied u v (copies p.start u v lead)
 

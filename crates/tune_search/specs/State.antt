@@ -6,6 +6,7 @@ use Rattle.std.specs.declared.cmp.Ordering.{Ordering}
 use Rattle.rc_instr.specs.Rules.{RulesView, IsRules}
 use Rattle.rc_instr.specs.Warrior.{WarriorView, IsWarrior, Fits}
 use Rattle.rc_instr.specs.LoadText.{load_text}
+use Rattle.mars_core.specs.Arena.{IsBlank}
 use Rattle.mars_fight.specs.Limits.{MOST_FIGHTS}
 use Rattle.tune_template.specs.Instances.{InputsView}
 use Rattle.tune_problem.specs.Problem.{Problem, problem_of}
@@ -17,7 +18,7 @@ use Rattle.tune_search.specs.Visits.{place, IsLeadAfter, IsFought}
 use Rattle.tune_search.specs.Recent.{IsRecent}
 use Rattle.tune_search.specs.Sharing.{leads, IsExplained}
 use Rattle.tune_search.specs.Found.{copied_fights}
-use Rattle.tune_search.specs.declared.lead.Lead.{Lead}
+use Rattle.tune_problem.specs.declared.watcher.Best.{Best}
 use Rattle.tune_search.specs.declared.candidate.Candidate.{Candidate}
 use Rattle.tune_search.specs.declared.state.State.{State}
 
@@ -31,15 +32,15 @@ pub record IsCandidateAt (i : InputsView) (v : ℕ) (c : Candidate) : Type 0 whe
   pub text_is : c.text.items ≡ load_text i.rules.core c.warrior
 
 -- The lead after a visit that left setting v with cap c, given whether c beats the lead before.
-abbrev pub lead_by : ℕ → ℕ → Option Lead → Bool → Option Lead
+abbrev pub lead_by : ℕ → ℕ → Option Best → Bool → Option Best
 lead_by c v lead true = Some (record { total = c; vector = v })
 lead_by c v lead false = lead
 
-abbrev pub next_lead : ℕ → ℕ → Option Lead → Option Lead
+abbrev pub next_lead : ℕ → ℕ → Option Best → Option Best
 next_lead c v lead = lead_by c v lead (beats_lead c v lead)
 
 -- The lead with setting v in its place, which has the same total.
-abbrev pub lead_taken : ℕ → Option Lead → Option Lead
+abbrev pub lead_taken : ℕ → Option Best → Option Best
 lead_taken v None = None
 lead_taken v (Some lead) = Some (record { total = lead.total; vector = v })
 
@@ -48,12 +49,12 @@ abbrev pub by_index : ℕ × ℕ → ℕ × ℕ → Ordering
 by_index x y = ordering_then (nat_cmp x.0 y.0) (nat_cmp x.1 y.1)
 
 -- The lead's row lists every fight.
-abbrev pub IsWhole : Problem → List Row → Option Lead → Type 0
+abbrev pub IsWhole : Problem → List Row → Option Best → Type 0
 IsWhole p rows None = Unit {0}
 IsWhole p rows (Some lead) = (row : List (ℕ × ℕ)) × (slice_get rows lead.vector ≡ Some (Cap row)) × (length row ≡ p.fights)
 
 -- The setting with the copied row was visited, and the start setting leads no more.
-abbrev pub IsCopied : Problem → ℕ → Option Lead → Option ℕ → Type 0
+abbrev pub IsCopied : Problem → ℕ → Option Best → Option ℕ → Type 0
 IsCopied p k lead None = Unit {0}
 IsCopied p k lead (Some v) = (v < p.count) × (place p.start v < k) × (leads p.start lead ≡ false)
 
@@ -75,7 +76,7 @@ is_filled (Cap row) = true
 
 -- After k visits: the rows of the settings visited are explained, and the others are `Refused`. The
 -- order is that of the next visit.
-pub record IsUnderWay (p : Problem) (rules : RulesView) (capacity k : ℕ) (rows : List Row) (lead : Option Lead) (order : List ℕ) (fights candidates : ℕ) (copied : Option ℕ) (known : List (List ℕ × ℕ)) : Type 0 where
+pub record IsUnderWay (p : Problem) (rules : RulesView) (capacity k : ℕ) (rows : List Row) (lead : Option Best) (order : List ℕ) (fights candidates : ℕ) (copied : Option ℕ) (known : List (List ℕ × ℕ)) : Type 0 where
   pub rows_are : length rows ≡ p.count
   pub lead_is : IsLeadAfter p k lead
   pub whole : IsWhole p rows lead
@@ -93,4 +94,5 @@ pub record IsState (i : InputsView) (capacity k : ℕ) (s : State) : Type 0 wher
   pub start_is : s.start ≡ (problem_of i).start
   pub start_inside : (problem_of i).start < (problem_of i).count
   pub capacity_is : s.cache.capacity ≡ capacity
-  pub going : IsUnderWay (problem_of i) i.rules capacity k s.rows.items s.lead s.order.items s.fights s.candidates s.copied s.cache.known
+  pub blank : IsBlank i.rules s.arena
+  pub going : IsUnderWay (problem_of i) i.rules capacity k s.rows.items s.lead s.order.items s.arena.fights s.candidates s.copied s.cache.known

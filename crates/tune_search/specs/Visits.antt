@@ -8,7 +8,7 @@ use Rattle.tune_problem.specs.declared.cert.Row.{Row}
 use Rattle.tune_problem.specs.declared.cert.Row.TheVariants.{Cap}
 use Rattle.tune_search.specs.Plays.{played}
 use Rattle.tune_search.specs.Order.{fight_order, enough}
-use Rattle.tune_search.specs.declared.lead.Lead.{Lead}
+use Rattle.tune_problem.specs.declared.watcher.Best.{Best}
 
 -- The setting that is visited after k others: the start setting first, then the others in order.
 abbrev pub visit : ℕ → ℕ → ℕ
@@ -19,7 +19,7 @@ abbrev pub place : ℕ → ℕ → ℕ
 place start v = if v == start then 0 else if nat_lt v start then v + 1 else v
 
 -- The best of the first k settings visited: no other of them beats it.
-pub record IsBestAfter (p : Problem) (k : ℕ) (lead : Lead) : Type 0 where
+pub record IsBestAfter (p : Problem) (k : ℕ) (lead : Best) : Type 0 where
   pub warrior : WarriorView
   pub inside : lead.vector < p.count
   pub visited : place p.start lead.vector < k
@@ -28,7 +28,7 @@ pub record IsBestAfter (p : Problem) (k : ℕ) (lead : Lead) : Type 0 where
   pub best : (v : ℕ) (w : WarriorView) → v < p.count → place p.start v < k → p.warrior v ≡ Some w → beats (total_of p w) v lead.total lead.vector ≡ false
 
 -- The lead after k visits is the best setting visited, or nothing if none of them assembles.
-abbrev pub IsLeadAfter : Problem → ℕ → Option Lead → Type 0
+abbrev pub IsLeadAfter : Problem → ℕ → Option Best → Type 0
 IsLeadAfter p k None = (v : ℕ) → v < p.count → place p.start v < k → p.warrior v ≡ None
 IsLeadAfter p k (Some lead) = IsBestAfter p k lead
 
@@ -40,7 +40,7 @@ pub record IsListed (p : Problem) (w : WarriorView) (fights : List ℕ) (row : L
 -- The fights of setting v are the first ones of its order, exactly as many as are enough against
 -- the lead before it.
 pub record IsFought (p : Problem) (rows : List Row) (v : ℕ) (w : WarriorView) : Type 0 where
-  pub lead : Option Lead
+  pub lead : Option Best
   pub is_lead : IsLeadAfter p (place p.start v) lead
   pub row : List (ℕ × ℕ)
   pub at : slice_get rows v ≡ Some (Cap row)

@@ -1,5 +1,5 @@
 //! Plays the fights of one warrior.
-ghost use Rattle.std.specs.Prelude.{◌≡◌, ◌<◌, ◌≤◌, length, take, IfOk, All};
+ghost use Rattle.std.specs.Prelude.{◌≡◌, ◌<◌, ◌≤◌, ◌+◌, ◌^◌, length, take, IfOk, All};
 ghost use Rattle.rc_instr.specs.Warrior.{Fits};
 ghost use Rattle.mars_core.specs.Arena.{IsBlank};
 ghost use Rattle.mars_fight.specs.Limits.{MOST_FIGHTS};
@@ -9,12 +9,13 @@ ghost use Rattle.std.specs.List.Sorted.{IsPermutation};
 ghost use Rattle.tune_search.specs.Order.{enough};
 ghost use Rattle.tune_search.specs.Plays.{played};
 
-use crate::lead::{Lead, beats};
+use crate::candidate::Candidate;
+use crate::lead::beats;
 use mars_core::{Arena, PackedCells};
 use mars_fight::MOST_POINTS;
 use rc_instr::Warrior;
 use std::alloc::{AllocError, Global};
-use tune_problem::{fight_points, fight_weight, greatest_total};
+use tune_problem::{Best, fight_points, fight_weight, greatest_total};
 use tune_template::Inputs;
 
 // Fights of a warrior in the order in which they were played, each with its points, and the cap of
@@ -25,7 +26,7 @@ pub(crate) struct Bout {
     pub(crate) cap: u32,
 }
 
-// Plays all fights of the schedule, in order.
+// Plays all fights of the schedule, in order. The arena counts those that the listing has.
 #[tactic(auto, unfolding(tune_problem::specs::Optimum::total_of))]
 pub(crate) fn play_all(
     alloc: Global,
@@ -39,6 +40,7 @@ pub(crate) fn play_all(
     ensures few { IfOk result (λ b. length b.listing.items ≤ MOST_FIGHTS) }
     ensures total { IfOk result (λ b. b.cap ≡ total_of (problem_of inputs.now) warrior.now) }
     ensures blank { IsBlank inputs.now.rules arena.new }
+    ensures fights { IfOk result (λ b. arena.old.fights + length b.listing.items < 2 ^ 64 → arena.new.fights ≡ arena.old.fights + length b.listing.items) }
 {
     let count = inputs.schedule().fights().len();
     let mut listing = Vec::with_capacity(alloc, count)?;
@@ -54,35 +56,35 @@ pub(crate) fn play_all(
     })
 }
 
-// Plays the fights of `order` for setting `vector`, whose warrior is given, until its cap does not
-// beat the lead, or none is left.
+// Plays the fights of `order` for a candidate until its cap does not beat the lead, or none is left.
+// The arena counts those that the listing has.
 #[tactic(auto, using(crate::proofs::Enough::enough_is, crate::proofs::Caps::cap_more, crate::proofs::Caps::played_more, crate::proofs::Caps::cap_none))]
 pub(crate) fn play_enough(
     alloc: Global,
     arena: &mut Arena<PackedCells>,
     inputs: &Inputs,
-    warrior: &Warrior,
-    vector: u32,
+    entrant: &Candidate,
     order: &[u32],
-    lead: Option<Lead>,
+    lead: Option<Best>,
 ) -> Result<Bout, AllocError>
     requires blank { IsBlank inputs.now.rules arena.old }
-    requires fits { Fits inputs.now.rules warrior.now }
+    requires fits { Fits inputs.now.rules entrant.now.warrior }
     requires all { length order.now ≡ (problem_of inputs.now).fights }
     requires once { IsPermutation (all_fights (problem_of inputs.now)) order.now }
     requires below { All (λ k. k < (problem_of inputs.now).fights) order.now }
-    ensures listing { let p = problem_of inputs.now in IfOk result (λ b. b.listing.items ≡ played p warrior.now (take (enough p warrior.now order.now vector lead) order.now)) }
-    ensures cap { let p = problem_of inputs.now in IfOk result (λ b. b.cap ≡ cap_of p warrior.now (take (enough p warrior.now order.now vector lead) order.now)) }
+    ensures listing { let p = problem_of inputs.now in IfOk result (λ b. b.listing.items ≡ played p entrant.now.warrior (take (enough p entrant.now.warrior order.now entrant.now.vector lead) order.now)) }
+    ensures cap { let p = problem_of inputs.now in IfOk result (λ b. b.cap ≡ cap_of p entrant.now.warrior (take (enough p entrant.now.warrior order.now entrant.now.vector lead) order.now)) }
     ensures few { IfOk result (λ b. length b.listing.items ≤ MOST_FIGHTS) }
     ensures blank { IsBlank inputs.now.rules arena.new }
+    ensures fights { IfOk result (λ b. arena.old.fights + length b.listing.items < 2 ^ 64 → arena.new.fights ≡ arena.old.fights + length b.listing.items) }
 {
     let mut listing = Vec::new(alloc);
     let mut cap = greatest_total(inputs);
     for index in order {
-        if !beats(cap, vector, lead) {
+        if !beats(cap, entrant.vector, lead) {
             return Ok(Bout { listing, cap });
         }
-        let points = fight_points(arena, inputs, warrior, *index);
+        let points = fight_points(arena, inputs, &entrant.warrior, *index);
         listing.push((*index, points))?;
         cap -= (MOST_POINTS - u32::from(points)) * fight_weight(inputs, *index);
     }

@@ -6,13 +6,12 @@ ghost use Rattle.tune_search.specs.Visits.{IsLeadAfter};
 ghost use Rattle.tune_search.specs.Recent.{IsRecent};
 ghost use Rattle.tune_search.specs.Found.{IsSearch, was_fought, fought_count};
 
-use crate::lead::Lead;
-use tune_problem::Found;
+use tune_problem::{Best, Found};
 
 /// States that after any number of visits there is at most one value of the lead, `None` included,
 /// and at most one list of recent settings.
 pub fn visits_determine_the_rest()
-    ensures lead { (p : Problem) (k : ℕ) (a b : Option Lead) → IsLeadAfter p k a → IsLeadAfter p k b → a ≡ b }
+    ensures lead { (p : Problem) (k : ℕ) (a b : Option Best) → IsLeadAfter p k a → IsLeadAfter p k b → a ≡ b }
     ensures recent { (p : Problem) (capacity k : ℕ) (us vs : List ℕ) → IsRecent p capacity k us → IsRecent p capacity k vs → us ≡ vs }
 {}
 
@@ -21,4 +20,10 @@ pub fn visits_determine_the_rest()
 pub fn fought_settings_differ()
     ensures { (p : Problem) (capacity : ℕ) (f : Found) (v u : ℕ) (w : WarriorView) → IsSearch p capacity f → p.start < p.count → fought_count f ≤ capacity
         → v < p.count → u < p.count → p.warrior v ≡ Some w → p.warrior u ≡ Some w → was_fought f v ≡ true → was_fought f u ≡ true → v ≡ u }
+{}
+
+/// States that the inputs and the capacity determine what a search finds: its rows, and so which
+/// fights are played, as well as the optimum, its total and the counts.
+pub fn a_search_has_one_answer()
+    ensures { (p : Problem) (capacity : ℕ) (f g : Found) → IsSearch p capacity f → IsSearch p capacity g → f ≡ g }
 {}

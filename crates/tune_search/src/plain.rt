@@ -5,11 +5,10 @@ ghost use Rattle.tune_search.specs.PlainFound.{IsPlainSearch};
 
 use crate::counts::setting_count;
 use crate::fault::SearchFault;
-use crate::lead::best_of;
+use crate::lead::standing;
 use crate::progress::Progress;
-use mars_core::{Arena, PackedCells};
 use std::alloc::Global;
-use tune_problem::{Found, Rows, Silent, Standing, Watcher, cert_version};
+use tune_problem::{Found, Rows, Silent, Watcher, cert_version};
 use tune_template::Inputs;
 
 /// Finds the optimum: the first setting of the template with the greatest total in the fights of
@@ -47,22 +46,22 @@ pub fn watched_plain_search<T: Watcher>(
     ensures found { IfOk result (IsPlainSearch (problem_of inputs.now)) }
     ensures none { let p = problem_of inputs.now in IfErr result (λ e. e ≡ SearchFault.NoCandidate → (v : ℕ) → v < p.count → p.warrior v ≡ None) }
 {
-    let mut arena = Arena::<PackedCells>::try_new(alloc, inputs.rules())?;
     let mut progress = Progress::begin(alloc, inputs)?;
     for vector in 0..setting_count(inputs) {
-        progress.visit(alloc, &mut arena, inputs, vector)?;
-        watcher.see(Standing {
-            settings: vector + 1,
-            count: setting_count(inputs),
-            fights: progress.fights,
-            best: best_of(progress.lead),
-        });
+        progress.visit(alloc, inputs, vector)?;
+        watcher.see(standing(
+            vector + 1,
+            setting_count(inputs),
+            &progress.arena,
+            progress.lead,
+        ));
     }
+    let fights = progress.arena.fights();
     let Progress {
         rows,
         lead,
         candidates,
-        fights,
+        ..
     } = progress;
     match lead {
         None => Err(SearchFault::NoCandidate),

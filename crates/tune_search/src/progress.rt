@@ -1,39 +1,39 @@
 //! What a plain search has found so far.
 ghost use Rattle.std.specs.Prelude.{◌≡◌, ◌+◌, ◌<◌, ◌≤◌, ℕ, None, length, OnOk, IfOk, IfErr};
-ghost use Rattle.mars_core.specs.Arena.{IsBlank};
 ghost use Rattle.tune_template.specs.Limits.{MOST_SETTINGS};
 ghost use Rattle.tune_problem.specs.Problem.{problem_of};
 ghost use Rattle.tune_search.specs.Progress.{IsPlainState, lead_after};
 
 use crate::fault::SearchFault;
 use crate::fights::play_all;
-use crate::lead::Lead;
 use mars_core::{Arena, PackedCells};
 use std::alloc::Global;
-use tune_problem::{Listing, Row, setting_warrior};
+use tune_problem::{Best, Listing, Row, setting_warrior};
 use tune_template::Inputs;
 
-// The rows of the settings so far, the lead, and counts of candidates and of fights played.
+// The rows of the settings so far, the lead, and the count of candidates. `arena` is blank between
+// visits, and counts the fights played.
 #[derive(Drop)]
 pub(crate) struct Progress {
+    pub(crate) arena: Arena<PackedCells>,
     pub(crate) rows: Vec<Row>,
-    pub(crate) lead: Option<Lead>,
+    pub(crate) lead: Option<Best>,
     pub(crate) candidates: u32,
-    pub(crate) fights: u64,
 }
 
 impl Progress {
     // Starts before the first setting. Reserves the rows of all settings at once.
     pub(crate) fn begin(alloc: Global, inputs: &Inputs) -> Result<Progress, SearchFault>
-        ensures state { IfOk result (IsPlainState (problem_of inputs.now) 0) }
+        ensures state { IfOk result (IsPlainState inputs.now 0) }
         ensures err { IfErr result (λ e. e ≡ SearchFault.OutOfMemory) }
     {
+        let arena = Arena::<PackedCells>::try_new(alloc, inputs.rules())?;
         let rows = Vec::with_capacity(alloc, inputs.count() as usize)?;
         Ok(Progress {
+            arena,
             rows,
             lead: None,
             candidates: 0,
-            fights: 0,
         })
     }
 
@@ -41,24 +41,20 @@ impl Progress {
     pub(crate) fn visit(
         &mut self,
         alloc: Global,
-        arena: &mut Arena<PackedCells>,
         inputs: &Inputs,
         vector: u32,
     ) -> Result<(), SearchFault>
-        requires blank { IsBlank inputs.now.rules arena.old }
         requires inside { vector < (problem_of inputs.now).count }
         requires few { (problem_of inputs.now).count ≤ MOST_SETTINGS }
-        requires state { IsPlainState (problem_of inputs.now) vector self.old }
-        ensures state { OnOk result (IsPlainState (problem_of inputs.now) (vector + 1) self.new) }
-        ensures blank { IsBlank inputs.now.rules arena.new }
+        requires state { IsPlainState inputs.now vector self.old }
+        ensures state { OnOk result (IsPlainState inputs.now (vector + 1) self.new) }
         ensures err { IfErr result (λ e. e ≡ SearchFault.OutOfMemory) }
     {
         let Some(warrior) = setting_warrior(alloc, inputs, vector)? else {
             self.rows.push(Row::Refused)?;
             return Ok(());
         };
-        let bout = play_all(alloc, arena, inputs, &warrior)?;
-        self.fights += bout.listing.len() as u64;
+        let bout = play_all(alloc, &mut self.arena, inputs, &warrior)?;
         self.candidates += 1;
         self.lead = lead_after(vector, bout.cap, self.lead);
         self.rows.push(Row::Cap(Listing::from_vec(bout.listing)))?;
@@ -67,14 +63,14 @@ impl Progress {
 }
 
 // Returns the lead after setting `vector` made `total`. At equal totals the earlier setting stays.
-fn lead_after(vector: u32, total: u32, lead: Option<Lead>) -> Option<Lead>
+fn lead_after(vector: u32, total: u32, lead: Option<Best>) -> Option<Best>
     ensures { result ≡ lead_after vector total lead }
 {
     match lead {
-        None => Some(Lead { vector, total }),
+        None => Some(Best { vector, total }),
         Some(lead) => {
             if lead.total < total {
-                Some(Lead { vector, total })
+                Some(Best { vector, total })
             } else {
                 Some(lead)
             }

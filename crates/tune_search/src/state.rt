@@ -1,7 +1,6 @@
 //! A search under way: what it has found, and what it needs for the next visit.
 ghost use Rattle.std.specs.Prelude.{◌≡◌, ◌+◌, ◌<◌, ◌≤◌, None, replicate, OnOk, IfOk, IfErr};
 ghost use Rattle.std.specs.Map.{lookup};
-ghost use Rattle.mars_core.specs.Arena.{IsBlank};
 ghost use Rattle.tune_template.specs.Limits.{MOST_SETTINGS};
 ghost use Rattle.tune_problem.specs.Problem.{problem_of};
 ghost use Rattle.tune_search.specs.Cache.{same_text};
@@ -13,23 +12,24 @@ use crate::candidate::{Candidate, candidate_at};
 use crate::counts::{setting_count, start_setting};
 use crate::fault::SearchFault;
 use crate::fights::play_enough;
-use crate::lead::{Lead, copies, next_lead, take_lead};
+use crate::lead::{copies, next_lead, take_lead};
 use crate::order::{all_in_order, learn_order, sort_by_index, visited};
 use mars_core::{Arena, PackedCells};
 use std::alloc::{AllocError, Global};
-use tune_problem::{Listing, Row, fight_count};
+use tune_problem::{Best, Listing, Row, fight_count};
 use tune_template::Inputs;
 
-// `rows` has a row for each setting, `Refused` until it is visited. `order` is that of the next
-// setting's fights. `fights` and `candidates` are counts so far. `copied` is the setting that has a
-// copy of the start setting's row. `cache` has the recent settings.
+// `arena` is blank between visits, and counts the fights played. `rows` has a row for each setting,
+// `Refused` until it is visited. `order` is that of the next setting's fights. `candidates` is the
+// count so far. `copied` is the setting that has a copy of the start setting's row. `cache` has the
+// recent settings.
 #[derive(Drop)]
 pub(crate) struct State {
+    pub(crate) arena: Arena<PackedCells>,
     pub(crate) start: u32,
     pub(crate) rows: Vec<Row>,
-    pub(crate) lead: Option<Lead>,
+    pub(crate) lead: Option<Best>,
     pub(crate) order: Vec<u32>,
-    pub(crate) fights: u64,
     pub(crate) candidates: u32,
     pub(crate) copied: Option<u32>,
     pub(crate) cache: Cache,
@@ -42,15 +42,16 @@ impl State {
         ensures state { IfOk result (IsState inputs.now capacity 0) }
         ensures err { IfErr result (λ e. e ≡ SearchFault.OutOfMemory) }
     {
+        let arena = Arena::<PackedCells>::try_new(alloc, inputs.rules())?;
         let rows = blank_rows(alloc, setting_count(inputs))?;
         let order = all_in_order(alloc, fight_count(inputs))?;
         let cache = Cache::with_capacity(alloc, capacity)?;
         Ok(State {
+            arena,
             start: start_setting(inputs),
             rows,
             lead: None,
             order,
-            fights: 0,
             candidates: 0,
             copied: None,
             cache,
@@ -62,17 +63,14 @@ impl State {
     pub(crate) fn visit(
         &mut self,
         alloc: Global,
-        arena: &mut Arena<PackedCells>,
         inputs: &Inputs,
         capacity: u32,
         visits: u32,
     ) -> Result<(), SearchFault>
-        requires blank { IsBlank inputs.now.rules arena.old }
         requires visits { visits < (problem_of inputs.now).count }
         requires few { (problem_of inputs.now).count ≤ MOST_SETTINGS }
         requires state { IsState inputs.now capacity visits self.old }
         ensures state { OnOk result (IsState inputs.now capacity (visits + 1) self.new) }
-        ensures blank { IsBlank inputs.now.rules arena.new }
         ensures err { IfErr result (λ e. e ≡ SearchFault.OutOfMemory) }
     {
         let vector = visited(self.start, visits);
@@ -80,7 +78,7 @@ impl State {
             return Ok(());
         };
         let Some(other) = self.cache.recall(&entrant.text) else {
-            return self.fight(alloc, arena, inputs, capacity, visits, entrant);
+            return self.fight(alloc, inputs, capacity, visits, entrant);
         };
         self.candidates += 1;
         if copies(self.start, other, vector, self.lead) {
@@ -98,38 +96,29 @@ impl State {
     fn fight(
         &mut self,
         alloc: Global,
-        arena: &mut Arena<PackedCells>,
         inputs: &Inputs,
         capacity: u32,
         visits: u32,
         entrant: Candidate,
     ) -> Result<(), SearchFault>
-        requires blank { IsBlank inputs.now.rules arena.old }
         requires visits { visits < (problem_of inputs.now).count }
         requires few { (problem_of inputs.now).count ≤ MOST_SETTINGS }
         requires state { IsState inputs.now capacity visits self.old }
         requires candidate { IsCandidateAt inputs.now (visit (problem_of inputs.now).start visits) entrant }
         requires unknown { lookup (same_text entrant.text.items) self.old.cache.known ≡ None }
         ensures state { OnOk result (IsState inputs.now capacity (visits + 1) self.new) }
-        ensures blank { IsBlank inputs.now.rules arena.new }
         ensures err { IfErr result (λ e. e ≡ SearchFault.OutOfMemory) }
     {
-        let Candidate {
-            vector,
-            warrior,
-            text,
-        } = entrant;
         let bout = play_enough(
             alloc,
-            arena,
+            &mut self.arena,
             inputs,
-            &warrior,
-            vector,
+            &entrant,
             &self.order,
             self.lead,
         )?;
+        let Candidate { vector, text, .. } = entrant;
         learn_order(alloc, &mut self.order, visits == 0, &bout.listing)?;
-        self.fights += bout.listing.len() as u64;
         self.candidates += 1;
         self.lead = next_lead(bout.cap, vector, self.lead);
         self.rows[vector as usize] = Row::Cap(Listing::from_vec(sort_by_index(bout.listing)));

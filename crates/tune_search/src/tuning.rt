@@ -6,11 +6,10 @@ ghost use Rattle.tune_search.specs.Found.{IsSearch};
 
 use crate::counts::setting_count;
 use crate::fault::SearchFault;
-use crate::lead::best_of;
+use crate::lead::standing;
 use crate::state::State;
-use mars_core::{Arena, PackedCells};
 use std::alloc::Global;
-use tune_problem::{Found, Rows, Silent, Standing, Watcher, cert_version};
+use tune_problem::{Found, Rows, Silent, Watcher, cert_version};
 use tune_template::Inputs;
 
 /// Finds the optimum: the first setting of the template with the greatest total in the fights of
@@ -65,21 +64,15 @@ pub fn watched_search<T: Watcher>(
     ensures found { IfOk result (IsSearch (problem_of inputs.now) capacity) }
     ensures none { let p = problem_of inputs.now in IfErr result (λ e. e ≡ SearchFault.NoCandidate → (v : ℕ) → v < p.count → p.warrior v ≡ None) }
 {
-    let mut arena = Arena::<PackedCells>::try_new(alloc, inputs.rules())?;
     let mut state = State::begin(alloc, inputs, capacity)?;
     for visits in 0..setting_count(inputs) {
-        state.visit(alloc, &mut arena, inputs, capacity, visits)?;
-        watcher.see(Standing {
-            settings: visits + 1,
-            count: setting_count(inputs),
-            fights: state.fights,
-            best: best_of(state.lead),
-        });
+        state.visit(alloc, inputs, capacity, visits)?;
+        watcher.see(standing(visits + 1, setting_count(inputs), &state.arena, state.lead));
     }
+    let fights = state.arena.fights();
     let State {
         rows,
         lead,
-        fights,
         candidates,
         copied,
         ..

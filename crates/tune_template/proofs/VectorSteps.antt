@@ -74,13 +74,14 @@ vector_step s ss i j p h l e =
     get_piece (λ x. map (λ v. x ∷ v) (vectors_of ss)) (vector_count ss) (λ x. length-map (vectors_of ss) (λ v. x ∷ v) ∙ vectors_len ss) s 0 s.count i j p h l e
     ∙ (slice_get-map (λ v. span_value s (0 + i) ∷ v) (vectors_of ss) j ∙ ap (λ k. option_map (λ v. span_value s k ∷ v) (slice_get (vectors_of ss) j)) z)
 
+pub some_times : (a b : ℕ) → 0 < a → 0 < b → 0 < a * b
+some_times zero b x y = absurd (omega (arith, x))
+some_times (suc a) b x y = omega (arith, y)
+
 -- there is at least one
 pub some_vector : (ss : List Span) → All HasValues ss → 0 < vector_count ss
 some_vector [] h = omega arith
-some_vector (s ∷ ss) h = product s.count (vector_count ss) (h 0 s (omega arith)).some (some_vector ss (λ k d l. h (suc k) d (omega (arith, l)))) where
-  product : (a b : ℕ) → 0 < a → 0 < b → 0 < a * b
-  product zero b x y = absurd (omega (arith, x))
-  product (suc a) b x y = omega (arith, y)
+some_vector (s ∷ ss) h = some_times s.count (vector_count ss) (h 0 s (omega arith)).some (some_vector ss (λ k d l. h (suc k) d (omega (arith, l))))
 
 -- ---- one span after the other
 

@@ -1,4 +1,5 @@
-use Rattle.std.proofs.Common.{◌↔◌, drop}
+use Rattle.std.proofs.Common.{◌≡◌, ◌+◌, ◌<◌, ◌↔◌, drop}
+use Rattle.std.specs.Prelude.{◌^◌}
 use Rattle.mars_core.specs.Arena.{IsBlank}
 use Rattle.tune_problem.specs.Problem.{problem_of}
 use Rattle.tune_cert.specs.Verdict.{HavePoints}
@@ -9,4 +10,5 @@ abbrev pub invariant-loop-number : goal.invariant-loop-number
 invariant-loop-number l = record {
   points : HavePoints (problem_of l.inputs) l.warrior (drop l.number-index l.listed) ↔ HavePoints (problem_of l.inputs) l.warrior l.listed;
   blank : IsBlank l.inputs.rules l.arena;
+  counted : l.fn.arena.fights + l.number-index < 2 ^ 64 → l.arena.fights ≡ l.fn.arena.fights + l.number-index;
 }

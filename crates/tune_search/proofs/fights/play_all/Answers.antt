@@ -7,6 +7,7 @@ use Rattle.mars_fight.specs.Play.{ArePoints}
 use Rattle.tune_problem.specs.Optimum.{score_of}
 use Rattle.tune_search.proofs.Caps.{made_few}
 use Rattle.tune_search.proofs.Ranges.{sum_more, map_more}
+use Rattle.tune_search.proofs.Counted.{one_counted}
 use Rattle.tune_search.proofs.fights.play_all.Goals as goal
 
 pub loop-index-preserved : goal.loop-index-preserved
@@ -26,6 +27,7 @@ loop-index-preserved c =
       made = omega (arith, c.loop-index.invariant.made, score, more);
       few = omega (arith, c.loop-index.invariant.few, made_few c.from.result c.fight_weight.result scores c.fight_weight.ensures.small);
       blank = c.fight_points-points.ensures.blank;
+      counted = one_counted _ _ _ _ _ _ c.in_ok-push.ensures.items c.fight_points-points.ensures.fights c.loop-index.invariant.counted;
     }
 
 pub returns-clause-few : goal.returns-clause-few

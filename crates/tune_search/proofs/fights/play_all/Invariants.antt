@@ -1,4 +1,5 @@
-use Rattle.std.proofs.Common.{◌≡◌, ◌≤◌, ◌*◌}
+use Rattle.std.proofs.Common.{◌≡◌, ◌≤◌, ◌<◌, ◌+◌, ◌*◌, length}
+use Rattle.std.specs.Prelude.{◌^◌}
 use Rattle.std.specs.List.{sum_by, range_with_len}
 use Rattle.mars_core.specs.Arena.{IsBlank}
 use Rattle.mars_fight.specs.Limits.{MOST_WEIGHT}
@@ -14,4 +15,5 @@ invariant-loop-index l = record {
   made : l.total ≡ sum_by (score_of (problem_of l.fn.inputs) l.fn.warrior) (range_with_len 0 l.index);
   few : l.total ≤ 3 * MOST_WEIGHT * l.index;
   blank : IsBlank l.fn.inputs.rules l.arena;
+  counted : l.fn.arena.fights + length l.listing.items < 2 ^ 64 → l.arena.fights ≡ l.fn.arena.fights + length l.listing.items;
 }

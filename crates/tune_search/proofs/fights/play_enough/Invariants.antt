@@ -1,4 +1,5 @@
-use Rattle.std.proofs.Common.{◌≡◌, ℕ, ◌<◌, take, true}
+use Rattle.std.proofs.Common.{◌≡◌, ℕ, ◌<◌, ◌+◌, length, take, true}
+use Rattle.std.specs.Prelude.{◌^◌}
 use Rattle.mars_core.specs.Arena.{IsBlank}
 use Rattle.tune_problem.specs.Problem.{problem_of}
 use Rattle.tune_problem.specs.Optimum.{cap_of}
@@ -10,10 +11,11 @@ use Rattle.tune_search.proofs.fights.play_enough.Given as goal
 abbrev pub invariant-loop-index : goal.invariant-loop-index
 invariant-loop-index l =
     let p = problem_of l.fn.inputs in
-    let w = l.fn.warrior in
+    let w = l.fn.entrant.warrior in
     record {
       fought : l.listing.items ≡ played p w (take l.index-index l.order);
       holds : l.cap ≡ cap_of p w (take l.index-index l.order);
-      beat : (j : ℕ) → j < l.index-index → beats_lead (cap_of p w (take j l.order)) l.vector l.lead ≡ true;
+      beat : (j : ℕ) → j < l.index-index → beats_lead (cap_of p w (take j l.order)) l.entrant.vector l.lead ≡ true;
       blank : IsBlank l.fn.inputs.rules l.arena;
+      counted : l.fn.arena.fights + length l.listing.items < 2 ^ 64 → l.arena.fights ≡ l.fn.arena.fights + length l.listing.items;
     }

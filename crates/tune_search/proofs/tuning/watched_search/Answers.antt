@@ -15,7 +15,7 @@ returns-in-None-clause-none g c =
     let s = c.loop-visits.state in
     let e : c.loop-visits.visits ≡ p.count = omega (arith, c.loop-visits-test.false, c.loop-visits.auto.visits-end, c.setting_count-visits-end.ensures.count) in
     let state : IsState i c.args.capacity p.count s = subst (λ (k : ℕ). IsState i c.args.capacity k s) e c.loop-visits.invariant.state in
-    λ f. finds_none p (inputs_problem i) state.start_inside i.rules c.args.capacity s.rows.items s.lead s.order.items s.fights s.candidates s.copied s.cache.known state.going c.in-None.is
+    λ f. finds_none p (inputs_problem i) state.start_inside i.rules c.args.capacity s.rows.items s.lead s.order.items s.arena.fights s.candidates s.copied s.cache.known state.going c.in-None.is
 
 pub returns-clause-found : goal.returns-clause-found
 returns-clause-found g c =
@@ -26,5 +26,6 @@ returns-clause-found g c =
     let e : c.loop-visits.visits ≡ p.count = omega (arith, c.loop-visits-test.false, c.loop-visits.auto.visits-end, c.setting_count-visits-end.ensures.count) in
     let state : IsState i c.args.capacity p.count s = subst (λ (k : ℕ). IsState i c.args.capacity k s) e c.loop-visits.invariant.state in
     let few : p.count ≤ MOST_SETTINGS = omega (arith, c.setting_count-visits-end.ensures.count, c.setting_count-visits-end.ensures.few) in
-    subst (λ (rows : List Row). IsSearch p c.args.capacity (record { version = c.cert_version.result; best = l.vector; total = l.total; rows = rows; fights = s.fights; candidates = s.candidates; copied = s.copied })) (sym c.from_vec.ensures)
-    (finds p (inputs_problem i) state.start_inside i.rules c.args.capacity s.rows.items s.lead s.order.items s.fights s.candidates s.copied s.cache.known state.going c.cert_version.result c.cert_version.ensures l c.in-Some.is few)
+    subst (λ (rows : List Row). IsSearch p c.args.capacity (record { version = c.cert_version.result; best = l.vector; total = l.total; rows = rows; fights = c.fights-fights.result; candidates = s.candidates; copied = s.copied })) (sym c.from_vec.ensures)
+    (subst (λ (n : ℕ). IsSearch p c.args.capacity (record { version = c.cert_version.result; best = l.vector; total = l.total; rows = s.rows.items; fights = n; candidates = s.candidates; copied = s.copied })) (sym c.fights-fights.ensures)
+    (finds p (inputs_problem i) state.start_inside i.rules c.args.capacity s.rows.items s.lead s.order.items s.arena.fights s.candidates s.copied s.cache.known state.going c.cert_version.result c.cert_version.ensures l c.in-Some.is few))

@@ -1,4 +1,3 @@
-use Rattle.mars_core.specs.Arena.{IsBlank}
 use Rattle.tune_search.specs.State.{IsState}
 use Rattle.tune_search.proofs.tuning.watched_search.Given as goal
 
@@ -6,5 +5,4 @@ use Rattle.tune_search.proofs.tuning.watched_search.Given as goal
 abbrev pub invariant-loop-visits : goal.invariant-loop-visits
 invariant-loop-visits g l = record {
   state : IsState l.fn.inputs l.fn.capacity l.visits l.state;
-  blank : IsBlank l.fn.inputs.rules l.arena;
 }

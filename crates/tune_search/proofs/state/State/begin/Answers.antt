@@ -1,5 +1,7 @@
 use Rattle.std.proofs.Common.{◌<◌, ◌∙◌, ap, sym, refl, subst, replicate, ℕ}
 use Rattle.std.specs.List.{range_with_len}
+use Rattle.rc_instr.specs.Rules.{RulesView}
+use Rattle.mars_core.specs.Arena.{IsBlank}
 use Rattle.tune_problem.specs.Problem.{problem_of}
 use Rattle.tune_problem.specs.declared.cert.Row.TheVariants.{Refused}
 use Rattle.tune_search.specs.Cache.{CacheView}
@@ -15,8 +17,9 @@ returns-clause-state c =
       start_is = c.start_setting.ensures.start;
       start_inside = subst (λ (n : ℕ). n < p.count) c.start_setting.ensures.start c.start_setting.ensures.inside;
       capacity_is = ap (λ (m : CacheView). m.capacity) c.in_ok-cache.ensures;
+      blank = subst (λ (r : RulesView). IsBlank r c.in_ok-arena.arena) c.rules.ensures c.in_ok-arena.ensures.blank;
       going = under_way_along p i.rules c.args.capacity 0 _ _ _ _ _ _ _ _ _ _ _ _ (starts p i.rules c.args.capacity)
           (sym (c.in_ok-rows.ensures ∙ ap (λ n. replicate n Refused) c.setting_count.ensures.count)) refl
-          (sym (c.in_ok-order.ensures ∙ ap (range_with_len 0) c.fight_count.ensures.count)) refl
+          (sym (c.in_ok-order.ensures ∙ ap (range_with_len 0) c.fight_count.ensures.count)) (sym c.in_ok-arena.ensures.fights)
           (sym (ap (λ (m : CacheView). m.known) c.in_ok-cache.ensures));
     }

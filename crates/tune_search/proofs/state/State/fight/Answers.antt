@@ -13,6 +13,7 @@ use Rattle.tune_search.specs.Cache.{CacheView}
 use Rattle.tune_search.proofs.Places.{visit_below}
 use Rattle.tune_search.proofs.Totals.{order_length}
 use Rattle.tune_search.proofs.ListedFights.{order_below}
+use Rattle.tune_search.proofs.Counted.{small_count}
 use Rattle.tune_search.proofs.Visiting.{fought_visit, permutes, under_way_along}
 use Rattle.tune_search.proofs.state.State.fight.Goals as goal
 
@@ -26,7 +27,7 @@ play_enough-requires-clause-all c =
     let inside : v < p.count = visit_below p.start p.count k c.requires.state.start_inside c.requires.visits in
     ap length c.deref.ensures.value
     ∙ order_length p s.order.items (permutes p (inputs_problem i) i.rules c.args.capacity k v refl inside
-    s.rows.items s.lead s.order.items s.fights s.candidates s.copied s.cache.known c.requires.state.going)
+    s.rows.items s.lead s.order.items s.arena.fights s.candidates s.copied s.cache.known c.requires.state.going)
 
 pub play_enough-requires-clause-once : goal.play_enough-requires-clause-once
 play_enough-requires-clause-once c =
@@ -38,7 +39,7 @@ play_enough-requires-clause-once c =
     let inside : v < p.count = visit_below p.start p.count k c.requires.state.start_inside c.requires.visits in
     subst (λ (l : List ℕ). IsPermutation (all_fights p) l) (sym c.deref.ensures.value)
     (permutes p (inputs_problem i) i.rules c.args.capacity k v refl inside
-    s.rows.items s.lead s.order.items s.fights s.candidates s.copied s.cache.known c.requires.state.going)
+    s.rows.items s.lead s.order.items s.arena.fights s.candidates s.copied s.cache.known c.requires.state.going)
 
 pub play_enough-requires-clause-below : goal.play_enough-requires-clause-below
 play_enough-requires-clause-below c =
@@ -50,7 +51,7 @@ play_enough-requires-clause-below c =
     let inside : v < p.count = visit_below p.start p.count k c.requires.state.start_inside c.requires.visits in
     subst (λ (l : List ℕ). All (λ k. k < p.fights) l) (sym c.deref.ensures.value)
     (order_below p s.order.items (permutes p (inputs_problem i) i.rules c.args.capacity k v refl inside
-    s.rows.items s.lead s.order.items s.fights s.candidates s.copied s.cache.known c.requires.state.going))
+    s.rows.items s.lead s.order.items s.arena.fights s.candidates s.copied s.cache.known c.requires.state.going))
 
 pub returns-clause-state : goal.returns-clause-state
 returns-clause-state c =
@@ -70,9 +71,10 @@ returns-clause-state c =
       start_is = c.requires.state.start_is;
       start_inside = c.requires.state.start_inside;
       capacity_is = ap (λ (m : CacheView). m.capacity) c.in_ok-remember.ensures ∙ c.requires.state.capacity_is;
+      blank = c.in_ok-bout.ensures.blank;
       going = under_way_along p i.rules c.args.capacity (k + 1) _ _ _ _ _ _ _ _ _ _ _ _
           (fought_visit p (inputs_problem i) i.rules c.args.capacity k v refl inside
-          s.rows.items s.lead s.order.items s.fights s.candidates s.copied s.cache.known c.requires.state.going
+          s.rows.items s.lead s.order.items s.arena.fights s.candidates s.copied s.cache.known c.requires.state.going
           e.warrior is.warrior_is bout.listing.items bout.cap c.sort_by_index.result.items
           (c.in_ok-bout.ensures.listing ∙ ap (λ l. played p e.warrior (take (enough p e.warrior l e.vector s.lead) l)) in_order
           ∙ ap (λ n. played p e.warrior (take (enough p e.warrior s.order.items n s.lead) s.order.items)) own)
@@ -83,7 +85,7 @@ returns-clause-state c =
           (ap (λ n. slice_set s.rows.items n (Cap c.sort_by_index.result.items)) (sym own) ∙ ap (λ (l : List (ℕ × ℕ)). slice_set s.rows.items e.vector (Cap l)) (sym c.from_vec.ensures))
           (ap (λ n. next_lead bout.cap n s.lead) (sym own) ∙ sym c.next_lead-self.ensures)
           (sym (c.in_ok-learn_order.ensures ∙ ap (λ l. if k == 0 then by_points l else s.order.items) listed))
-          (ap (λ n. s.fights + n) (sym (c.len.ensures ∙ sym c.deref-2.ensures.len ∙ ap length listed)))
+          (sym (c.in_ok-bout.ensures.fights (small_count s.arena.fights k (length bout.listing.items) p.count c.requires.state.going.room c.requires.visits c.requires.few c.in_ok-bout.ensures.few)))
           (ap (λ n. take c.args.capacity ((e.text.items, n) ∷ s.cache.known)) (sym own)
           ∙ ap (λ n. take n ((e.text.items, e.vector) ∷ s.cache.known)) (sym c.requires.state.capacity_is)
           ∙ sym (ap (λ (m : CacheView). m.known) c.in_ok-remember.ensures));

@@ -28,8 +28,9 @@ returns-in_default-clause-state c =
       start_is = c.requires.state.start_is;
       start_inside = c.requires.state.start_inside;
       capacity_is = c.requires.state.capacity_is;
+      blank = c.requires.state.blank;
       going = refused_visit p (inputs_problem i) i.rules c.args.capacity k v at inside
-          s.rows.items s.lead s.order.items s.fights s.candidates s.copied s.cache.known c.requires.state.going
+          s.rows.items s.lead s.order.items s.arena.fights s.candidates s.copied s.cache.known c.requires.state.going
           (subst (λ (o : Option Candidate). IfNone o (p.warrior v ≡ None)) c.in_default.is c.in_ok-entrant.ensures.none);
     }
 
@@ -55,7 +56,8 @@ fight-requires-clause-state c =
       start_is = c.requires.state.start_is;
       start_inside = c.requires.state.start_inside;
       capacity_is = ap (λ (m : CacheView). m.capacity) same ∙ c.requires.state.capacity_is;
-      going = subst (λ (m : CacheView). IsUnderWay p i.rules c.args.capacity c.args.visits s.rows.items s.lead s.order.items s.fights s.candidates s.copied m.known) (sym same) c.requires.state.going;
+      blank = c.requires.state.blank;
+      going = subst (λ (m : CacheView). IsUnderWay p i.rules c.args.capacity c.args.visits s.rows.items s.lead s.order.items s.arena.fights s.candidates s.copied m.known) (sym same) c.requires.state.going;
     }
 
 pub returns-then-copies-clause-state : goal.returns-then-copies-clause-state
@@ -79,9 +81,10 @@ returns-then-copies-clause-state c =
       start_is = c.requires.state.start_is;
       start_inside = c.requires.state.start_inside;
       capacity_is = ap (λ (m : CacheView). m.capacity) c.in-Some-recall.ensures.known ∙ c.requires.state.capacity_is;
+      blank = c.requires.state.blank;
       going = under_way_along p i.rules c.args.capacity (k + 1) _ _ _ _ _ _ _ _ _ _ _ _
           (copied_visit p (inputs_problem i) i.rules c.args.capacity k v at inside
-          s.rows.items s.lead s.order.items s.fights s.candidates s.copied s.cache.known c.requires.state.going
+          s.rows.items s.lead s.order.items s.arena.fights s.candidates s.copied s.cache.known c.requires.state.going
           e.warrior is.warrior_is is.rules_hold is.is_warrior is.fits u look row row_of apart)
           refl
           (sym c.take_lead-self.ensures)
@@ -109,9 +112,10 @@ returns-clause-state c =
       start_is = c.requires.state.start_is;
       start_inside = c.requires.state.start_inside;
       capacity_is = ap (λ (m : CacheView). m.capacity) c.in-Some-recall.ensures.known ∙ c.requires.state.capacity_is;
+      blank = c.requires.state.blank;
       going = under_way_along p i.rules c.args.capacity (k + 1) _ _ _ _ _ _ _ _ _ _ _ _
           (shared_visit p (inputs_problem i) i.rules c.args.capacity k v at inside
-          s.rows.items s.lead s.order.items s.fights s.candidates s.copied s.cache.known c.requires.state.going
+          s.rows.items s.lead s.order.items s.arena.fights s.candidates s.copied s.cache.known c.requires.state.going
           e.warrior is.warrior_is is.rules_hold is.is_warrior is.fits u look apart)
           refl
           refl
