@@ -1,11 +1,25 @@
 //! `program`, with words that name no file.
 use crate::program::{end_without_words, program};
 use crate::tests::memory::IMPS;
-use crate::tests::stand_ins::Broken;
 use rc_instr::Outlet;
 use std::alloc::{AllocError, Global};
 use std::io;
+use std::io::Write;
 use std::test::Fail;
+
+// Fails at each write.
+#[derive(Drop)]
+struct Broken;
+
+impl Write for Broken {
+    fn write(&mut self, _buf: &[u8]) -> io::Result<usize> {
+        Err(io::Error::from(io::ErrorKind::BrokenPipe))
+    }
+
+    fn flush(&mut self) -> io::Result<()> {
+        Ok(())
+    }
+}
 
 // Copies `given` into the form that `program` takes.
 fn words_of(alloc: Global, given: &[&str]) -> Result<Vec<String>, AllocError> {

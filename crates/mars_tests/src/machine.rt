@@ -1,0 +1,322 @@
+//! Tests of `mars_core`: steps and fights worked out by hand from the 1994 draft, each on plain and
+//! on packed cells, and arenas that are reset.
+ghost use Rattle.std.specs.Prelude.{◌≡◌, ◌≤◌, ◌<◌, ◌+◌};
+ghost use Rattle.rc_instr.specs.Warrior.{Fits};
+ghost use Rattle.mars_core.specs.Arena.{IsBlank};
+
+use crate::warriors::{DAT, IMP};
+use mars_core::laws::a_reset_sets_few_cells;
+use mars_core::{Arena, Cells, Outcome, PackedCells, PlainCells, Side};
+use rc_instr::{Instruction, Rules, Warrior, read_loadfile};
+use std::test::Fail;
+
+// Reads the first instruction of a load file.
+fn instruction(rt: &HostRuntime, core: u32, text: &[u8]) -> Result<Instruction, Fail> {
+    let rules = Rules::try_new(core, 20, 4, 4, 4)?;
+    let warrior = read_loadfile(rt.alloc(), text, &rules)?;
+    Ok(warrior.code()[0])
+}
+
+// What a step leaves: a cell, the candidate's first task, and how many cells a reset sets.
+type Step = (Instruction, Option<u32>, u32);
+
+// Loads two warriors, makes one step of the candidate, and resets the arena. Returns what the step
+// left, with the cell at `at`.
+fn step<C: Cells>(arena: &mut Arena<C>, candidate: &Warrior, opponent: &Warrior, at: u32) -> Step
+    requires blank { IsBlank arena.old.rules arena.old }
+    requires cycles { 0 < arena.old.rules.cycles }
+    requires candidate { Fits arena.old.rules candidate.now }
+    requires opponent { Fits arena.old.rules opponent.now }
+    requires eight { (arena.old.rules.distance ≤ 8) × (8 + arena.old.rules.distance ≤ arena.old.rules.core) }
+    requires at { at < arena.old.rules.core }
+{
+    arena.load(candidate, opponent, 8);
+    arena.step(Side::Candidate);
+    let task = if arena.task_count(Side::Candidate) > 0 {
+        Some(arena.task(Side::Candidate, 0))
+    } else {
+        None
+    };
+    let cell = arena.cell(at);
+    (cell, task, arena.reset())
+}
+
+// Makes one step of the candidate on plain and on packed cells. The opponent is an empty cell at 8.
+fn steps(rt: &HostRuntime, core: u32, code: &[u8], at: u32) -> Result<(Step, Step), Fail>
+    requires core { 16 ≤ core }
+    requires at { at < core }
+{
+    let rules = Rules::try_new(core, 20, 4, 4, 4)?;
+    let candidate = read_loadfile(rt.alloc(), code, &rules)?;
+    let opponent = read_loadfile(rt.alloc(), DAT, &rules)?;
+    let mut plain = Arena::<PlainCells>::try_new(rt.alloc(), &rules)?;
+    let mut packed = Arena::<PackedCells>::try_new(rt.alloc(), &rules)?;
+    Ok((
+        step(&mut plain, &candidate, &opponent, at),
+        step(&mut packed, &candidate, &opponent, at),
+    ))
+}
+
+// Code, an address, the cell there after one step, and the first task then.
+const CHANGES: [(&[u8], u32, &[u8], Option<u32>); 14] = [
+    // the sum overwrites the postincrement
+    (
+        b"ORG 0\nADD.AB #5, >1\nDAT.F $0, $0\n",
+        1,
+        b"ORG 0\nDAT.F $0, $5\n",
+        Some(1),
+    ),
+    // the predecrement stays
+    (
+        b"ORG 0\nMOV.I $0, <1\nDAT.F $0, $4\n",
+        1,
+        b"ORG 0\nDAT.F $0, $3\n",
+        Some(1),
+    ),
+    // the lowered number points to the target
+    (
+        b"ORG 0\nMOV.I $0, <1\nDAT.F $0, $4\n",
+        4,
+        b"ORG 0\nMOV.I $0, <1\n",
+        Some(1),
+    ),
+    // an immediate B-operand is read after A's predecrement
+    (
+        b"ORG 0\nADD.A {0, #0\n",
+        0,
+        b"ORG 0\nADD.A {-1, #0\n",
+        Some(1),
+    ),
+    // DJN counts 0 down to -1 and jumps
+    (
+        b"ORG 0\nDJN.B $0, $1\nDAT.F $0, $0\n",
+        1,
+        b"ORG 0\nDAT.F $0, $-1\n",
+        Some(0),
+    ),
+    // DJN counts 1 down to 0 and does not jump
+    (
+        b"ORG 0\nDJN.B $0, $1\nDAT.F $0, $1\n",
+        1,
+        b"ORG 0\nDAT.F $0, $0\n",
+        Some(1),
+    ),
+    // a division by 0 ends the task, but the other number is divided
+    (
+        b"ORG 0\nDIV.F #0, $2\nDAT.F $0, $0\nDAT.F #6, #6\n",
+        2,
+        b"ORG 0\nDAT.F #6, #3\n",
+        None,
+    ),
+    // DJN lowers the number that the postincrement raised
+    (
+        b"ORG 0\nDJN.I $0, >0\n",
+        0,
+        b"ORG 0\nDJN.I $-1, >0\n",
+        Some(0),
+    ),
+    // BA counts down the A-number
+    (
+        b"ORG 0\nDJN.BA $0, $0\n",
+        0,
+        b"ORG 0\nDJN.BA $-1, $0\n",
+        Some(0),
+    ),
+    // X takes the B-number from the A-number
+    (
+        b"ORG 0\nSUB.X $0, $1\n",
+        1,
+        b"ORG 0\nDAT.F $-1, $0\n",
+        Some(1),
+    ),
+    // 0 - 1 is the greatest number
+    (
+        b"ORG 0\nSUB.B $0, $1\n",
+        1,
+        b"ORG 0\nDAT.F $0, $-1\n",
+        Some(1),
+    ),
+    // A's copy is taken before B's postincrement
+    (
+        b"ORG 0\nMOV.AB $0, }0\n",
+        0,
+        b"ORG 0\nMOV.AB $1, }0\n",
+        Some(1),
+    ),
+    // SPL queues the next address first
+    (
+        b"ORG 0\nSPL.B $2, $0\n",
+        0,
+        b"ORG 0\nSPL.B $2, $0\n",
+        Some(1),
+    ),
+    // NOP evaluates its operands
+    (
+        b"ORG 0\nNOP.F $0, >1\n",
+        1,
+        b"ORG 0\nDAT.F $0, $1\n",
+        Some(1),
+    ),
+];
+
+#[test]
+fn one_step_changes_a_cell(rt: HostRuntime) -> Result<(), Fail> {
+    for &(code, at, cell, task) in &CHANGES {
+        if at < 16 {
+            let (plain, packed) = steps(&rt, 16, code, at)?;
+            let cell = instruction(&rt, 16, cell)?;
+            assert_eq!(rt; plain, (cell, task, 16), "cell {at} after {code:?}");
+            assert_eq!(rt;
+                (packed.0, packed.1),
+                (cell, task),
+                "cell {at} after {code:?}"
+            );
+        }
+    }
+    // the greatest product: 65534 * 65534 is 1 modulo 65535
+    let code = b"ORG 0\nMUL.AB #-1, $1\nDAT.F $0, $-1\n";
+    let (plain, packed) = steps(&rt, 65535, code, 1)?;
+    let one = instruction(&rt, 65535, b"ORG 0\nDAT.F $0, $1\n")?;
+    assert_eq!(rt; (plain.0, packed.0), (one, one));
+    Ok(())
+}
+
+// Code, and the first task after one step.
+const TASKS: [(&[u8], u32); 11] = [
+    // DJN tests the copy (0), not the raised number (1)
+    (b"ORG 0\nDJN.AB $0, >0\n", 0),
+    // one of two numbers is not counted down to 0
+    (b"ORG 0\nDJN.F >0, $0\n", 0),
+    // one of two numbers is not 0
+    (b"ORG 0\nJMN.F $2, $0\n", 2),
+    (b"ORG 0\nJMZ.I $2, $0\n", 1),
+    // one of two numbers is not less
+    (b"ORG 0\nSLT.X $1, $0\n", 1),
+    // one of two numbers differs
+    (b"ORG 0\nSNE.F $1, $0\n", 2),
+    // the lowered number points to another instruction
+    (b"ORG 0\nSEQ.I $0, {0\n", 1),
+    // the postincrement of A comes after its copy and before B's
+    (b"ORG 0\nSNE.F }0, $0\n", 2),
+    // the lowered number points to the target
+    (b"ORG 0\nJMP.BA {0, $0\n", 15),
+    // two empty cells are equal
+    (b"ORG 0\nSEQ.I $1, $2\n", 2),
+    // AB compares 1 with 2
+    (b"ORG 0\nSLT.AB #1, $1\nDAT.F $0, $2\n", 2),
+];
+
+#[test]
+fn one_step_queues_an_address(rt: HostRuntime) -> Result<(), Fail> {
+    for &(code, task) in &TASKS {
+        let (plain, packed) = steps(&rt, 16, code, 0)?;
+        assert_eq!(rt; plain.1, Some(task), "task after {code:?}");
+        assert_eq!(rt; packed.1, Some(task), "task after {code:?}");
+    }
+    Ok(())
+}
+
+// Points, turns, and the number of cells that a reset sets.
+pub(crate) type Played = (u8, u32, u32);
+
+// Loads two warriors, plays, and resets the arena.
+fn play<C: Cells>(
+    arena: &mut Arena<C>,
+    candidate: &Warrior,
+    opponent: &Warrior,
+    first: Side,
+) -> Played
+    requires blank { IsBlank arena.old.rules arena.old }
+    requires candidate { Fits arena.old.rules candidate.now }
+    requires opponent { Fits arena.old.rules opponent.now }
+    requires eight { (arena.old.rules.distance ≤ 8) × (8 + arena.old.rules.distance ≤ arena.old.rules.core) }
+    ensures blank { IsBlank arena.old.rules arena.new }
+{
+    arena.load(candidate, opponent, 8);
+    let outcome = arena.run(first);
+    (outcome.points, outcome.turns, arena.reset())
+}
+
+// Plays a fight on plain and on packed cells, in a core of 16 cells.
+pub(crate) fn plays(
+    rt: &HostRuntime,
+    texts: (&[u8], &[u8]),
+    cycles: u32,
+    tasks: u32,
+    first: Side,
+) -> Result<(Played, Played), Fail> {
+    let rules = Rules::try_new(16, cycles, tasks, 4, 4)?;
+    let candidate = read_loadfile(rt.alloc(), texts.0, &rules)?;
+    let opponent = read_loadfile(rt.alloc(), texts.1, &rules)?;
+    let mut plain = Arena::<PlainCells>::try_new(rt.alloc(), &rules)?;
+    let mut packed = Arena::<PackedCells>::try_new(rt.alloc(), &rules)?;
+    Ok((
+        play(&mut plain, &candidate, &opponent, first),
+        play(&mut packed, &candidate, &opponent, first),
+    ))
+}
+
+const DIVIDES: &[u8] = b"ORG 0\nDIV.F #0, $2\nDAT.F $0, $0\nDAT.F #6, #6\n";
+
+const SPLITS: &[u8] = b"ORG 0\nSPL.B $0, $0\n";
+
+const WAITS: &[u8] = b"ORG 0\nJMP.B $0, $0\n";
+
+// Candidate and opponent, cycles, tasks and first mover; points, turns, and the number of cells
+// that were written.
+pub(crate) const FIGHTS: [((&[u8], &[u8]), u32, u32, Side, Played); 7] = [
+    ((IMP, IMP), 20, 4, Side::Candidate, (1, 40, 16)),
+    ((DAT, IMP), 20, 4, Side::Candidate, (0, 1, 2)),
+    ((IMP, DAT), 1, 4, Side::Candidate, (3, 2, 3)),
+    ((IMP, DAT), 1, 4, Side::Opponent, (3, 1, 2)),
+    ((IMP, WAITS), 20, 4, Side::Candidate, (1, 40, 16)),
+    ((DIVIDES, IMP), 20, 4, Side::Candidate, (0, 1, 4)),
+    ((SPLITS, IMP), 20, 1, Side::Candidate, (0, 3, 3)),
+];
+
+// Plays a fight and resets, makes a step and resets. Returns how many turns the step made, and how
+// many cells each reset set.
+fn resets<C: Cells>(arena: &mut Arena<C>, imp: &Warrior, copier: &Warrior) -> (u32, u32, u32)
+    requires blank { IsBlank arena.old.rules arena.old }
+    requires cycles { 0 < arena.old.rules.cycles }
+    requires imp { Fits arena.old.rules imp.now }
+    requires copier { Fits arena.old.rules copier.now }
+    requires eight { (arena.old.rules.distance ≤ 8) × (8 + arena.old.rules.distance ≤ arena.old.rules.core) }
+{
+    let (_, _, after_run) = play(arena, imp, imp, Side::Candidate);
+    arena.load(copier, imp, 8);
+    arena.step(Side::Candidate);
+    let turns = arena.turns();
+    (turns, after_run, arena.reset())
+}
+
+#[test]
+fn a_reset_of_packed_cells_sets_few(rt: HostRuntime) -> Result<(), Fail> {
+    let rules = Rules::try_new(16, 20, 4, 4, 4)?;
+    let imp = read_loadfile(rt.alloc(), IMP, &rules)?;
+    let copier = read_loadfile(rt.alloc(), b"ORG 0\nMOV.I $0, <1\nDAT.F $0, $4\n", &rules)?;
+    let mut plain = Arena::<PlainCells>::try_new(rt.alloc(), &rules)?;
+    let mut packed = Arena::<PackedCells>::try_new(rt.alloc(), &rules)?;
+    let tie = Outcome {
+        points: 1,
+        turns: 40,
+    };
+    let few = a_reset_sets_few_cells(&mut packed, &imp, &imp, 8, Side::Candidate);
+    assert_eq!(rt; few, (tie, 16));
+    assert_eq!(rt; resets(&mut plain, &imp, &copier), (1, 16, 16));
+    assert_eq!(rt; resets(&mut packed, &imp, &copier), (1, 16, 4));
+    Ok(())
+}
+
+// Nothing was loaded, so the opponent has no task.
+#[test]
+fn a_fight_without_tasks_is_over_at_once(rt: HostRuntime) -> Result<(), Fail> {
+    let rules = Rules::try_new(16, 20, 4, 4, 4)?;
+    let mut arena = Arena::<PackedCells>::try_new(rt.alloc(), &rules)?;
+    let over = Outcome {
+        points: 3,
+        turns: 0,
+    };
+    assert_eq!(rt; arena.run(Side::Candidate), over);
+    Ok(())
+}

@@ -1,0 +1,29 @@
+//! Tests of `tune_template` (`templates`, and `parts` of its settings), `tune_problem` and `tune_cert`
+//! (`certificates`), `tune_search` (`searches`) and `tune_runs` (`runs`). `watchers` shows what
+//! searches and checks tell; `memory` has the tests of calls that allocate, and `opponents` and
+//! `writers` what several modules share.
+//!
+//! They show that each public call can succeed, and what neither a clause says nor a run of the
+//! program shows, such as the texts of faults. What a run shows is a case in `cases/`. They are a
+//! crate of their own because a crate with tests is proved twice, once without its tests and once
+//! with them.
+#![tactic(auto)]
+
+#[cfg(test)]
+mod certificates;
+#[cfg(test)]
+mod memory;
+#[cfg(test)]
+mod opponents;
+#[cfg(test)]
+mod parts;
+#[cfg(test)]
+mod runs;
+#[cfg(test)]
+mod searches;
+#[cfg(test)]
+mod templates;
+#[cfg(test)]
+mod watchers;
+#[cfg(test)]
+mod writers;

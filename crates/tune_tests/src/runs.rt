@@ -1,0 +1,9 @@
+//! Tests of `tune_runs`, under rules of 16 cells, 20 cycles, 4 tasks, length 4 and distance 4.
+mod cut;
+mod duels;
+mod memory;
+mod parts;
+mod plain_tunings;
+mod settings;
+mod settings_text;
+mod tuning;

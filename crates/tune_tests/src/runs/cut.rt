@@ -1,0 +1,230 @@
+//! Each run on writers that take some pieces of its text and then fail, or then take no byte; and
+//! on writers that fail at once, if it refuses its input.
+use crate::runs::memory::IMPS;
+use crate::runs::tuning::{BOTH, ORDER, ORDER_CERT, ORDER_REPORT, both_opponents};
+use crate::writers::{Broken, Failing, PIECE};
+use mars_fight::{ScheduleFault, ScheduleFaultKind};
+use rc_asm::{AsmFault, AsmKind};
+use rc_instr::{Outlet, Rules};
+use std::alloc::Global;
+use std::test::Fail;
+use tune_runs::{RunFault, asm_run, check_run, fight_run, tune_run};
+use tune_template::{TemplateFault, TemplateKind};
+
+// Whether a run that writes `text` ended as it should on a writer that takes `writes` writes: with
+// `Write` and the first pieces of the text, or with the whole text.
+fn is_cut(ended: Result<(), RunFault>, taken: &[u8], writes: usize, text: &[u8]) -> bool {
+    let most = writes.saturating_mul(PIECE);
+    if most < text.len() {
+        ended == Err(RunFault::Write) && taken == &text[..most]
+    } else {
+        ended == Ok(()) && taken == text
+    }
+}
+
+#[test]
+fn an_assembly_is_cut(rt: HostRuntime) -> Result<(), Fail> {
+    let rules = Rules::try_new(16, 20, 4, 4, 4)?;
+    for writes in 0..4usize {
+        for fails in [true, false] {
+            let mut out = Outlet::new(Failing::after(rt.alloc(), writes, fails));
+            let result = asm_run(rt.alloc(), b"DAT #0, #8\n", &rules, &mut out);
+            let bytes = out.into_inner().taken;
+            let text = b"ORG 0\nDAT.F #0, #8\n";
+            assert!(rt; is_cut(result, bytes.as_slice(), writes, text), "{writes}");
+        }
+    }
+    Ok(())
+}
+
+#[test]
+fn a_fight_is_cut(rt: HostRuntime) {
+    for writes in 0..4usize {
+        for fails in [true, false] {
+            let mut out = Outlet::new(Failing::after(rt.alloc(), writes, fails));
+            let result = fight_run(rt.alloc(), IMPS, &mut out);
+            let bytes = out.into_inner().taken;
+            assert!(rt;
+                is_cut(result, bytes.as_slice(), writes, b"tie 1 turns 40\n"),
+                "{writes}"
+            );
+        }
+    }
+}
+
+// Checks the certificate of `ORDER` on a writer. Returns the result and what was written.
+fn checked(alloc: Global, writer: Failing) -> Result<(Result<(), RunFault>, Vec<u8>), Fail> {
+    let rules = Rules::try_new(16, 20, 4, 4, 4)?;
+    let opponents = both_opponents(alloc)?;
+    let mut out = Outlet::new(writer);
+    let texts = opponents.as_slice();
+    let result = check_run(alloc, ORDER, texts, BOTH, &rules, ORDER_CERT, &mut out);
+    let bytes = out.into_inner().taken;
+    match result {
+        Ok(_) => Ok((Ok(()), bytes)),
+        Err(fault) => Ok((Err(fault), bytes)),
+    }
+}
+
+#[test]
+fn a_check_is_cut(rt: HostRuntime) -> Result<(), Fail> {
+    for writes in 0..5usize {
+        for fails in [true, false] {
+            let (result, bytes) = checked(rt.alloc(), Failing::after(rt.alloc(), writes, fails))?;
+            let text = b"accepted best 0 total 4\n";
+            assert!(rt; is_cut(result, bytes.as_slice(), writes, text), "{writes}");
+        }
+    }
+    Ok(())
+}
+
+// What a tuning returned, and what it wrote as a report and as a certificate.
+type Tuned = (Result<(), RunFault>, Vec<u8>, Vec<u8>);
+
+// Tunes `ORDER` on two writers.
+fn tuned(alloc: Global, report: Failing, cert: Failing) -> Result<Tuned, Fail> {
+    let rules = Rules::try_new(16, 20, 4, 4, 4)?;
+    let opponents = both_opponents(alloc)?;
+    let mut report = Outlet::new(report);
+    let mut cert = Outlet::new(cert);
+    let texts = opponents.as_slice();
+    let result = tune_run(
+        alloc,
+        ORDER,
+        texts,
+        BOTH,
+        &rules,
+        4096,
+        &mut report,
+        &mut cert,
+    );
+    Ok((result, report.into_inner().taken, cert.into_inner().taken))
+}
+
+// A certificate of 62 bytes, cut after each piece: then the report is not begun.
+#[test]
+fn a_certificate_is_cut(rt: HostRuntime) -> Result<(), Fail> {
+    for writes in 0..10usize {
+        for fails in [true, false] {
+            let cert = Failing::after(rt.alloc(), writes, fails);
+            let report = Failing::after(rt.alloc(), 100, true);
+            let (result, report, cert) = tuned(rt.alloc(), report, cert)?;
+            assert!(rt;
+                is_cut(result, cert.as_slice(), writes, ORDER_CERT),
+                "{writes}"
+            );
+            assert_eq!(rt; report.is_empty(), writes < 9, "{writes}");
+        }
+    }
+    Ok(())
+}
+
+// A report of 71 bytes, cut after each piece: the certificate is written whole before.
+#[test]
+fn a_report_is_cut(rt: HostRuntime) -> Result<(), Fail> {
+    for writes in 0..12usize {
+        for fails in [true, false] {
+            let cert = Failing::after(rt.alloc(), 100, true);
+            let report = Failing::after(rt.alloc(), writes, fails);
+            let (result, report, cert) = tuned(rt.alloc(), report, cert)?;
+            assert!(rt;
+                is_cut(result, report.as_slice(), writes, ORDER_REPORT),
+                "{writes}"
+            );
+            assert_eq!(rt; cert.as_slice(), ORDER_CERT, "{writes}");
+        }
+    }
+    Ok(())
+}
+
+// Tunes on two writers that fail at once. Returns the fault, if neither was given anything.
+fn refusal(alloc: Global, template: &[u8], schedule: &[u8]) -> Result<Option<RunFault>, Fail> {
+    let rules = Rules::try_new(16, 20, 4, 4, 4)?;
+    let opponents = both_opponents(alloc)?;
+    let mut report = Outlet::new(Broken);
+    let mut cert = Outlet::new(Broken);
+    let texts = opponents.as_slice();
+    let result = tune_run(
+        alloc,
+        template,
+        texts,
+        schedule,
+        &rules,
+        4096,
+        &mut report,
+        &mut cert,
+    );
+    if report.failed() || cert.failed() {
+        return Ok(None);
+    }
+    Ok(result.err())
+}
+
+// Templates and schedules, and why a tuning of them is refused.
+const REFUSED: [(&[u8], &[u8], RunFault); 3] = [
+    (
+        b";@tune K 0 3 1 2\nMOV 0, 1\n;assert K > 9",
+        BOTH,
+        RunFault::NoCandidate,
+    ),
+    (
+        b";@tune K 3 2 1 3\nMOV 0, 1",
+        BOTH,
+        RunFault::Template(TemplateFault {
+            line: 1,
+            kind: TemplateKind::EmptyRange,
+        }),
+    ),
+    (
+        ORDER,
+        b"opponent,position,first\n0,3,c\n",
+        RunFault::Schedule(ScheduleFault {
+            row: 1,
+            kind: ScheduleFaultKind::BadPosition,
+        }),
+    ),
+];
+
+#[test]
+fn a_refused_tuning_writes_nothing(rt: HostRuntime) -> Result<(), Fail> {
+    for &(template, schedule, want) in &REFUSED {
+        assert_eq!(rt; refusal(rt.alloc(), template, schedule)?, Some(want));
+    }
+    Ok(())
+}
+
+#[test]
+fn a_refused_assembly_writes_nothing(rt: HostRuntime) {
+    let mut out = Outlet::new(Broken);
+    let fault = AsmFault {
+        line: 1,
+        kind: AsmKind::MissingOperand,
+    };
+    let result = asm_run(rt.alloc(), b"MOV 1", &Rules::standard(), &mut out);
+    assert_eq!(rt; result, Err(RunFault::Asm(fault)));
+    assert!(rt; !out.failed());
+}
+
+#[test]
+fn a_refused_fight_writes_nothing(rt: HostRuntime) {
+    let mut out = Outlet::new(Broken);
+    let result = fight_run(rt.alloc(), b"", &mut out);
+    assert_eq!(rt; result, Err(RunFault::FightText { line: 1 }));
+    assert!(rt; !out.failed());
+}
+
+#[test]
+fn a_refused_check_writes_nothing(rt: HostRuntime) -> Result<(), Fail> {
+    let opponents = both_opponents(rt.alloc())?;
+    let texts = opponents.as_slice();
+    let rules = Rules::standard();
+    let mut out = Outlet::new(Broken);
+    let fault = ScheduleFault {
+        row: 0,
+        kind: ScheduleFaultKind::Header,
+    };
+    let result = check_run(rt.alloc(), ORDER, texts, b"", &rules, ORDER_CERT, &mut out);
+    assert_eq!(rt; result, Err(RunFault::Schedule(fault)));
+    assert!(rt; !out.failed());
+    Ok(())
+}

@@ -1,0 +1,71 @@
+//! `tune_part_run` and `check_part_run`, under rules of 16 cells, 20 cycles, 4 tasks, length 4 and
+//! distance 4.
+use crate::runs::tuning::{BOTH, both_opponents};
+use rc_instr::{Outlet, Rules};
+use std::test::Fail;
+use tune_cert::Silent;
+use tune_runs::{TuneTexts, check_part_run, tune_part_run};
+use tune_template::Part;
+
+// Six settings that make two warriors in turn.
+const HALF: &[u8] = b";@tune K 0 5 1 0\nMOV 0, 1\nDAT K % 2";
+
+// The certificate of the second half of the settings.
+const CERT: &[u8] = b"cwcert,1,3\nbest,0,4\ncap,0,0:3 1:1\ncap,1,1:1\nsame,2,0\n";
+
+#[test]
+fn a_part_is_tuned(rt: HostRuntime) -> Result<(), Fail> {
+    let rules = Rules::try_new(16, 20, 4, 4, 4)?;
+    let opponents = both_opponents(rt.alloc())?;
+    let mut report = Outlet::new(Vec::new(rt.alloc()));
+    let mut cert = Outlet::new(Vec::new(rt.alloc()));
+    let tuned = tune_part_run(
+        rt.alloc(),
+        &TuneTexts {
+            template: HALF,
+            opponents: opponents.as_slice(),
+            schedule: BOTH,
+            rules: &rules,
+            part: Part {
+                number: 2,
+                parts: 2,
+            },
+        },
+        4096,
+        &mut Silent,
+        &mut report,
+        &mut cert,
+    );
+    assert_eq!(rt; tuned, Ok(()));
+    assert_eq!(rt;
+        report.into_inner().as_slice(),
+        b"vectors 3\ncandidates 3\nbest 0\nconstants K=3\ntotal 4 of 6\nfights 3 of 6\n".as_slice()
+    );
+    assert_eq!(rt; cert.into_inner().as_slice(), CERT);
+    Ok(())
+}
+
+#[test]
+fn a_part_is_checked(rt: HostRuntime) -> Result<(), Fail> {
+    let rules = Rules::try_new(16, 20, 4, 4, 4)?;
+    let opponents = both_opponents(rt.alloc())?;
+    let mut line = Outlet::new(Vec::new(rt.alloc()));
+    let checked = check_part_run(
+        rt.alloc(),
+        &TuneTexts {
+            template: HALF,
+            opponents: opponents.as_slice(),
+            schedule: BOTH,
+            rules: &rules,
+            part: Part {
+                number: 2,
+                parts: 2,
+            },
+        },
+        &mut Silent,
+        CERT,
+        &mut line,
+    );
+    assert_eq!(rt; checked, Ok(true));
+    Ok(())
+}
