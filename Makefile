@@ -13,11 +13,12 @@ test:
 	@python3 tools/gate.py
 
 # Proves and builds the program, assembles the texts that ask for much, and plays the cases of input
-# and output, the pipes and the cuts, without the rest of the gate.
+# and output, the pipes, the terminals and the cuts, without the rest of the gate.
 cases: build
 	@python3 tools/large_texts.py $(PROGRAM)
 	@python3 tools/run_cases.py $(PROGRAM)
 	@python3 tools/pipes.py $(PROGRAM)
+	@python3 tools/terminals.py $(PROGRAM)
 	@python3 tools/cuts.py $(PROGRAM)
 
 # Proves the crates one by one, with a line for each, if the program is not built yet; otherwise

@@ -44,7 +44,7 @@ def proved():
     lines = [f"Proved with {kit.strip()}", ""]
     for line in (ROOT / "crates.txt").read_text().splitlines():
         crate = line.partition(":")[0]
-        if line[0] == "#" or crate == "layer_tests":
+        if line[0] == "#" or crate.endswith("_tests"):
             continue
         done = subprocess.run(["rt", "check"], cwd=ROOT / "crates" / crate, capture_output=True,
                               text=True)

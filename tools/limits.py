@@ -5,7 +5,7 @@ The contracts allow any call to end out of memory, so that these runs succeed wi
 only be tested. Prints what failed, and as its last line `N passed, N failed`; the exit status is
 1 if a run failed.
 """
-import argparse, pathlib, subprocess, tempfile
+import argparse, pathlib, resource, subprocess, tempfile
 
 from endings import run_tool
 from trials import program_of, tally
@@ -70,16 +70,32 @@ RUNS = [
 ]
 
 
-def run(program, words, folder):
+# Certificates that claim more settings than memory has room for, or one row more than they have.
+# Checked with 256 MB, each is refused for its count, since nothing is reserved for what it claims.
+CLAIMS = [
+    ("no row for 4294967295 settings", "cwcert,1,4294967295\nbest,0,3\n"),
+    ("a row for 4294967295 settings", "cwcert,1,4294967295\nbest,0,3\ncap,0,0:3\n"),
+    ("50000 rows for 100000 settings", "cwcert,1,100000\nbest,0,3\n"
+     + "".join(f"cap,{setting},0:3\n" for setting in range(50000))),
+]
+MEMORY = 256 << 20
+
+
+def with_little_memory():
+    resource.setrlimit(resource.RLIMIT_AS, (MEMORY, MEMORY))
+
+
+def run(program, words, folder, prepare=None):
     """Returns the status and all that a run prints."""
     done = subprocess.run([program, *words.split()], cwd=folder, stdin=subprocess.DEVNULL,
-                          capture_output=True, encoding="ascii", timeout=SECONDS)
+                          capture_output=True, encoding="ascii", timeout=SECONDS,
+                          preexec_fn=prepare)
     return done.returncode, done.stdout, done.stderr
 
 
-def differences(expected, came):
+def differences(expected, came, status=0):
     """Returns how a run differs from what is expected, in a list."""
-    return [] if came == (0, expected, "") else [f"expected {expected!r}, came {came!r}"[:2000]]
+    return [] if came == (status, expected, "") else [f"expected {expected!r}, came {came!r}"[:2000]]
 
 
 def trials(program):
@@ -96,10 +112,22 @@ def trials(program):
                 yield f"{name}, checked", differences(checked, run(program, words, folder))
 
 
+def claims(program):
+    """Yields the names of the certificates that claim too much, and what was wrong."""
+    files = {"t": ";@tune A 0 1 1 0\n" + IMP, "s": schedule(1), "b": DIES}
+    for name, cert in CLAIMS:
+        with tempfile.TemporaryDirectory() as folder:
+            for file, text in {**files, "c": cert}.items():
+                pathlib.Path(folder, file).write_text(text, "ascii")
+            came = run(program, f"check {SHORT} t s c b", folder, with_little_memory)
+            yield name, differences("rejected row 0 RowCount\n", came, 1)
+
+
 def main():
     parser = argparse.ArgumentParser(description=__doc__.partition("\n")[0])
     parser.add_argument("program", nargs="*", metavar="PROGRAM", help="the program cwtune")
-    return tally(trials(program_of(parser.parse_args().program)))
+    program = program_of(parser.parse_args().program)
+    return tally([*trials(program), *claims(program)])
 
 
 if __name__ == "__main__":

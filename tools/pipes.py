@@ -1,10 +1,10 @@
 #!/usr/bin/env python3
-"""Runs the built program on pipes, terminals and closed streams: pipes.py [PROGRAM]
+"""Runs the built program on pipes, closed streams and links, and kills it: pipes.py [PROGRAM]
 
 A reader that goes away ends a run with status 3 and the line `failed: Write`. A standard input that
 cannot be read, that is a terminal or that has no end leads to a named error or a result, in bounded
-time. A standard error that is a terminal gets a progress line, and help after a refusal. A word
-that is not UTF-8 is a usage error.
+time. A word that is not UTF-8 is a usage error. A run that is killed, or that may not write as much,
+leaves an older certificate. CERT may be a link, and keeps its permissions.
 Expected values follow from `docs/FORMATS.md`. Prints what failed, and as its last line
 `N passed, N failed`. The exit status is 1 if a check failed.
 """
@@ -43,15 +43,6 @@ FILES = {
     "long.red": b";@tune K 0 7999 1 0\n;@tune L 0 99 1 0\nSPL 0\nMOV K, L\nJMP -1\n",
     "far.csv": b"opponent,position,first\n0,4000,c\n",
     "typo.csv": b"opponent,position,first\n0,8,x\n",
-    # for what a terminal shows
-    "two.red": b";@tune K 0 1 1 0\nMOV 0, 1\n",
-    "range.red": b";@tune K 2 1 1 1\nMOV 0, 1\n",
-    "zero.red": b"MOV 0, 1\n\tDAT 1/0\r\n",
-    "escape.red": b"DAT \x1b[2J\n",
-    "near.csv": b"opponent,position,first\n0,3,c\n",
-    "third.csv": b"opponent,position,first\n2,8,c\n",
-    "bare.csv": b"0,8,c\n",
-    "two.cert": b"cwcert,1,2\nbest,0,4\ncap,0,0:3 1:1\nsame,1,0\n",
     "good.cert": OLD_CERT,
 }
 TUNE = ["tune", *RULES, "one.red", "both.csv", "CERT", "dat.red", "imp.red"]
@@ -108,6 +99,17 @@ class Play:
         """Returns the text of CERT, or None if there is no such file."""
         path = self.folder / "CERT"
         return path.read_bytes() if path.exists() else None
+
+    def set_cert(self, text):
+        """Gives CERT a text, or removes it."""
+        path = self.folder / "CERT"
+        path.unlink(missing_ok=True)
+        if text is not None:
+            path.write_bytes(text)
+
+    def beside(self):
+        """Returns the names of the files beside CERT that a run has not removed."""
+        return [path.name for path in self.folder.glob("*unfinished*")]
 
 
 def broken_pipe():
@@ -244,129 +246,46 @@ def take_interrupts():
 
 
 def interrupted(play):
-    """Yields checks that a tuning that is ended in its search leaves an older certificate."""
+    """Yields checks that a tuning that is ended in its search leaves CERT, or none, as it was."""
     words = ["tune", "long.red", "far.csv", "CERT", "imp.red"]
     for sign in [signal.SIGTERM, signal.SIGINT, signal.SIGKILL]:
-        (play.folder / "CERT").write_bytes(OLD_CERT)
-        process = play.start(words, preexec_fn=take_interrupts)
-        time.sleep(1)
-        process.send_signal(sign)
-        out, err = process.communicate(timeout=SECONDS)
-        came = (process.returncode, out, err, play.cert())
-        yield f"a tuning ended by {sign.name}", (-sign, b"", b"", OLD_CERT), came
+        for old in [OLD_CERT, None]:
+            play.set_cert(old)
+            process = play.start(words, preexec_fn=take_interrupts)
+            time.sleep(1)
+            process.send_signal(sign)
+            out, err = process.communicate(timeout=SECONDS)
+            came = (process.returncode, out, err, play.cert(), play.beside())
+            yield f"a tuning ended by {sign.name}", (-sign, b"", b"", old, []), came
 
 
-def shown(play, words):
-    """Runs with a terminal as standard error. Returns status, standard output, what was shown."""
-    terminal, program_end = pty.openpty()
-    process = play.start(words, stderr=program_end)
-    os.close(program_end)
-    out, _ = process.communicate(timeout=SECONDS)
-    text = b""
-    try:
-        while piece := os.read(terminal, 4096):
-            text += piece
-    except OSError:
-        pass  # the terminal has ended
-    os.close(terminal)
-    return (process.returncode, out, text.replace(b"\r\n", b"\n"))
-
-
-def standing(settings, fights, best):
-    """Returns the progress line after `settings` of two settings."""
-    return b"\r%d of 2 settings, %d fights%s\x1b[K" % (settings, fights, best)
-
-
-CLEARED = b"\r\x1b[K"
-
-
-def progress(play):
-    """Yields checks of the progress line, with two settings that make one warrior.
-
-    Without `--all` the second shares the fights of the first.
-    """
-    best = b", best 0 total 4"
-    shared = standing(1, 2, best) + standing(2, 2, best) + CLEARED
-    both = standing(1, 2, best) + standing(2, 4, best) + CLEARED
-    report = b"vectors 2\ncandidates 2\nbest 0\nconstants K=0\ntotal 4 of 6\nfights %d of 4\n"
-    files = ["two.red", "both.csv", "two.cert", "dat.red", "imp.red"]
-    tune = ["tune", *RULES, "two.red", "both.csv", "NEW", "dat.red", "imp.red"]
-    yield "progress of a tuning", (0, report % 2, shared), shown(play, tune)
-    yield "progress with all fights", (0, report % 4, both), shown(play, [*tune, "--all"])
-    accepted = b"accepted best 0 total 4\n"
-    yield "progress of a check", (0, accepted, shared), shown(play, ["check", *RULES, *files])
-    yield "no progress on a pipe", (0, report % 2, b""), play.run(tune)
-    _, _, text = shown(play, ["tune", *RULES, "many.red", "both.csv", "NEW", "dat.red", "imp.red"])
-    firsts = [int(line.split()[0]) for line in text.split(b"\r")[1:-1]]
-    # the first setting, and then each hundredth of 20000
-    yield "a line for each hundredth", [1, *range(200, 20001, 200)], firsts
-
-
-def help_after_refusals(play):
-    """Yields checks of the lines that a terminal gets after that of a refusal."""
-    source = b"refused: Asm line 2 Value DivisionByZero\n  zero.red, line 2: \tDAT 1/0\n"
-    none = standing(1, 0, b"") + standing(2, 0, b"") + CLEARED + b"refused: NoCandidate\n"
-    start = b"  start setting: line 3 Value DivisionByZero\n  none.red, line 3: DAT 1/0\n"
-    (play.folder / "none.red").write_bytes(FILES["two.red"] + b"DAT 1/0\n")
-    for name, files, text in [
-        ("a template", "range.red both.csv", b"Template line 1 EmptyRange\n  range.red, line 1: "
-         b";@tune K 2 1 1 1\n"),
-        ("a position", "two.red near.csv", b"Schedule row 1 BadPosition\n  positions are 4 to 12\n"),
-        ("an opponent's index", "two.red third.csv", b"Schedule row 1 NoSuchOpponent\n"
-         b"  opponents are 0 to 1\n"),
-        ("a header", "two.red bare.csv", b"Schedule row 0 Header\n"
-         b"  the first line is `opponent,position,first`, or with `,weight`\n"),
-    ]:
-        words = ["tune", *RULES, *files.split(), "NEW", "dat.red", "imp.red"]
-        yield f"help for {name}", (1, b"", b"refused: " + text), shown(play, words)
-    words = ["tune", *RULES, "none.red", "both.csv", "NEW", "dat.red", "imp.red"]
-    yield "help for no candidate", (1, b"", none + start), shown(play, words)
-    words = ["tune", *RULES, "two.red", "both.csv", "NEW", "dat.red", "zero.red"]
-    came = shown(play, words)
-    text = source.replace(b"Asm", b"Opponent 1")
-    yield "help for an opponent", (1, b"", text), came
-    yield "help for a text", (1, b"", source), shown(play, ["asm", "zero.red"])
-    text = b"refused: Asm line 1 Expand Text BadByte\n  escape.red, line 1: (a terminal cannot show it)\n"
-    yield "no line that steers a terminal", (1, b"", text), shown(play, ["asm", "escape.red"])
-    text = b"refused: NoSuchSetting 2\n  settings are 0 to 1\n"
-    came = shown(play, ["asm", "--setting=2", "two.red"])
-    yield "help for a setting", (1, b"", text), came
-    text = b"refused: Template line 1 EmptyRange\n  range.red, line 1: ;@tune K 2 1 1 1\n"
-    yield "help for `settings`", (1, b"", text), shown(play, ["settings", "range.red"])
-    yield from help_after_other_refusals(play)
-    yield "no help on a pipe", (1, b"", source.split(b"  ")[0]), play.run(["asm", "zero.red"])
-
-
-def help_after_other_refusals(play):
-    """Yields checks of the lines after refusals of rules, a duel, a setting and a check."""
-    for option, name, text in [
-        ("--core=7", b"Core", b"the core size is 8 to 65535"),
-        ("--cycles=0", b"Cycles", b"the cycles are 1 to 1000000"),
-        ("--tasks=0", b"Tasks", b"the tasks are 1 to 8000"),
-        ("--length=0", b"Length", b"the length is 1 to 200"),
-        ("--distance=9", b"Distance", b"the distance is from the length to half of the core size"),
-    ]:
-        text = b"refused: Rules %s\n  %s\n" % (name, text)
-        yield f"help for {option}", (1, b"", text), shown(play, ["asm", option, "imp.red"])
-    source = b" zero.red line 2 Value DivisionByZero\n  zero.red, line 2: \tDAT 1/0\n"
-    for side, files in [(b"Candidate", "zero.red imp.red"), (b"Opponent", "imp.red zero.red")]:
-        text = b"refused: " + side + source
-        came = shown(play, ["fight", *RULES, *files.split()])
-        yield f"help for a {side.decode()}", (1, b"", text), came
-    text = b"refused: Position\n  positions are 5 to 11\n"
-    near = "--core=16 --length=4 --distance=5 --position=4".split()
-    came = shown(play, ["fight", *near, "imp.red", "imp.red"])
-    yield "help for the position of a fight", (1, b"", text), came
-    text = b"refused: Asm line 3 Value DivisionByZero\n  none.red, line 3: DAT 1/0\n"
-    came = shown(play, ["asm", "--setting=start", "none.red"])
-    yield "help for a setting that does not assemble", (1, b"", text), came
-    text = b"refused: Template line 1 EmptyRange\n  range.red, line 1: ;@tune K 2 1 1 1\n"
-    came = shown(play, ["asm", "--setting=0", "range.red"])
-    yield "help for the template of a setting", (1, b"", text), came
-    words = ["check", *RULES, "none.red", "both.csv", "two.cert", "dat.red", "imp.red"]
-    came = shown(play, words)
-    ended = (came[0], came[1], came[2].rpartition(CLEARED)[2])
-    yield "no help for a rejected certificate", (1, b"rejected row 2 WrongPoints\n", b""), ended
+def limited(play):
+    """Yields checks of a tuning that may write only a few bytes to a file, and of a CERT that is a
+    link, or that has permissions of its own."""
+    for most in [1, 10, len(OLD_CERT) - 1]:
+        limit = lambda: resource.setrlimit(resource.RLIMIT_FSIZE, (most, most))
+        play.set_cert(OLD_CERT + b"#")
+        came = (*play.run(TUNE, preexec_fn=limit, restore_signals=False), play.cert(), play.beside())
+        yield f"a limit of {most} bytes", (*NO_WRITE, OLD_CERT + b"#", []), came
+        came = (*play.run(TUNE, preexec_fn=limit), play.cert(), play.beside())
+        left = (-signal.SIGXFSZ, b"", b"", OLD_CERT + b"#", ["CERT.unfinished-1"])
+        yield f"a limit of {most} bytes that kills", left, came
+        (play.folder / "CERT.unfinished-1").unlink()
+    path = play.folder / "CERT"
+    for old in [OLD_CERT + b"#", None]:
+        play.set_cert(old)
+        if old:
+            path.chmod(0o640)
+        (play.folder / "link").symlink_to("second")
+        (play.folder / "second").symlink_to(path)
+        came = (*play.run([*TUNE[:-3], "link", *TUNE[-2:]]), play.cert(), play.beside())
+        yield "a link as CERT", (0, REPORT, b"", OLD_CERT, []), came
+        yield "the link stays", (True, True), ((play.folder / "link").is_symlink(),
+                                              (play.folder / "second").is_symlink())
+        if old:
+            yield "permissions stay", 0o640, path.stat().st_mode & 0o777
+        (play.folder / "link").unlink()
+        (play.folder / "second").unlink()
 
 
 def compare(name, expected, came):
@@ -383,8 +302,7 @@ CHECKS = [
     words_of_bytes,
     closed_streams,
     interrupted,
-    progress,
-    help_after_refusals,
+    limited,
 ]
 
 

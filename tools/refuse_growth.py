@@ -19,7 +19,8 @@ from endings import run_tool
 from trials import library_of, program_of, tally
 
 HERE = pathlib.Path(__file__).resolve().parent
-PROGRAMS = ["crates/layer_tests/out/layer_tests_tests", "crates/cwtune/out/cwtune_tests"]
+PROGRAMS = [f"crates/{crate}/out/{crate}_tests"
+            for crate in ["rc_tests", "mars_tests", "tune_tests", "cwtune"]]
 MODULE = "memory::"
 
 # How a test prints that a call was out of memory.

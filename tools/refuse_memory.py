@@ -2,7 +2,8 @@
 """Runs the built program once for each of its requests for memory, with that request refused.
 
 Each run has to end with its own result, which the tables of this file say, or with status 3, the
-line `failed: OutOfMemory`, nothing on standard output and CERT as it was. Use:
+line `failed: OutOfMemory`, nothing on standard output and CERT as it was. By the number of requests
+it is also seen that a check assembles once a setting to which many rows refer. Use:
 refuse_memory.py [PROGRAM]. Needs `cc` and a system with LD_PRELOAD. Prints what failed, and as its
 last line how many requests were refused, and `N passed, N failed`. The exit status is 1 if a run
 failed.
@@ -138,13 +139,13 @@ def all_runs():
     return runs + [(words, with_rules(words), "", tuple(end)) for words, *end in TUNINGS]
 
 
-def run(program, library, words, text, number, count=False):
+def run(program, library, words, text, number, count=False, files=FILES):
     """Runs with request `number` refused. Returns status, standard output and error, and CERT."""
     env = dict(os.environ, LD_PRELOAD=library, REFUSE=str(number))
     if count:
         env["REFUSE_COUNT"] = "1"
     with tempfile.TemporaryDirectory() as folder:
-        for name, content in {**FILES, "CERT": OLD_CERT}.items():
+        for name, content in {**files, "CERT": OLD_CERT}.items():
             pathlib.Path(folder, name).write_text(content)
         done = subprocess.run(
             [program, *words], cwd=folder, input=text, capture_output=True, text=True, env=env
@@ -152,12 +153,39 @@ def run(program, library, words, text, number, count=False):
         return done.returncode, done.stdout, done.stderr, pathlib.Path(folder, "CERT").read_text()
 
 
+def count_requests(program, library, words, text="", files=FILES):
+    """Returns how many requests for memory a run makes."""
+    return int(run(program, library, words, text, 0, True, files)[2].split("\n")[-2])
+
+
+def one_reference(program, library, template):
+    """Returns how many requests one more row that refers to setting 0 costs a check."""
+    words, counts = with_rules("check many.red both.csv many.cert dat.red imp.red"), []
+    for settings in 10, 60:
+        rows = "".join(f"same,{setting},0\n" for setting in range(1, settings))
+        files = {"many.red": f";@tune K 0 {settings - 1} 1 0\n{template}",
+                 "many.cert": f"cwcert,1,{settings}\nbest,0,4\ncap,0,0:3 1:1\n{rows}"}
+        counts.append(count_requests(program, library, words, files={**FILES, **files}))
+    return (counts[1] - counts[0]) / 50
+
+
+def assembles_once(program, library):
+    """Returns what is wrong if one more reference costs more than one more assembly."""
+    short = "MOV 0, 1\n"
+    texts = [short, "".join(f"e{number} EQU {number}\n" for number in range(40)) + short]
+    checks = [one_reference(program, library, text) for text in texts]
+    alone = [count_requests(program, library, with_rules("asm a.red"), files={"a.red": text})
+             for text in texts]
+    more, most = checks[1] - checks[0], 1.5 * (alone[1] - alone[0])
+    return [] if 0 < more < most else [f"{more} requests a reference, at most {most} expected"]
+
+
 def refuse_each(program, library, words, text, expected):
     """Refuses each request of a run in turn. Returns how often it ended out of memory, and what was
     wrong."""
     came = run(program, library, words, text, 0)
     wrong = [] if came == expected else [f"nothing refused: expected {expected}, came {came}"]
-    requests = int(run(program, library, words, text, 0, count=True)[2].split("\n")[-2])
+    requests = count_requests(program, library, words, text)
     refused = (3, "", "failed: OutOfMemory\n", OLD_CERT)
     ended = 0
     for number in range(1, requests + 1):
@@ -174,9 +202,11 @@ def main():
         library = library_of("refuse_memory.c", work)
         with concurrent.futures.ThreadPoolExecutor(os.cpu_count()) as pool:
             came = list(pool.map(lambda one: refuse_each(program, library, *one[1:]), runs))
+        again = assembles_once(program, library)
     total = sum(requests for requests, _, _ in came)
     results = [(name, wrong + ["no refused request was told"] * (ended == 0))
                for (name, *_), (_, ended, wrong) in zip(runs, came)]
+    results.append(("a setting to which many rows refer", again))
     return tally(results, f"{total} requests refused: ")
 
 

@@ -15,8 +15,9 @@ from endings import Fault, whole_file
 from program import rules_of
 
 MARK, MADE_BY = "spread.json", "spread.py 1"
-OWN = r"cwtune|[ts]\.(red|csv)|o\d+\.red|whole\.cert|\d+\.(cert|done)|\d+\.\d+\.\w+|.*\.\d+\.new"
-UNFINISHED = r"\d+\.\d+\.\w+|.*\.\d+\.new"
+# What a run that was killed may leave: `tune` writes a certificate to a file beside it.
+UNFINISHED = r"\d+\.\d+\.\w+(\.unfinished-\d+)?|.*\.\d+\.new"
+OWN = rf"cwtune|[ts]\.(red|csv)|o\d+\.red|whole\.cert|\d+\.(cert|done)|{UNFINISHED}"
 NO_CANDIDATE = "refused: NoCandidate\n"
 
 

@@ -1,10 +1,11 @@
-//! The file CERT of a tuning: a file that is not a certificate is not overwritten, and an older
-//! certificate stays until there is a new one.
-ghost use Rattle.std.specs.Prelude.{◌≡◌, ◌↔◌, IfOk, IfSome, IsTrue, IsErrOf};
+//! The file CERT of a tuning: a file that is not a certificate is not overwritten, and a
+//! certificate is replaced whole or not at all.
+ghost use Rattle.std.specs.Prelude.{◌≡◌, ◌↔◌, ◌≤◌, length, IfOk, IfSome, IsTrue, IsErrOf};
 ghost use Rattle.cwtune.specs.CertFile.{BeginsAsCert, names_twice};
 
 use crate::command_line::TuneWords;
 use crate::reading::Unread;
+use crate::replacing::{Place, place_at};
 use std::alloc::Global;
 use std::fs::{Metadata, OpenFile, OpenOptions};
 use std::io::{Read, Write};
@@ -24,37 +25,72 @@ pub(crate) enum NotOpened<'a> {
     NotCert,
     // It, or the file of another word, cannot be read.
     Unread(Unread<'a>),
-    // It cannot be opened or created.
+    // It cannot be written or created.
     Uncreated(io::Error),
 }
 
-// An open file CERT. Its old text is there until the first write.
+// The file CERT, which has its old text until the new one is written.
 #[derive(Drop)]
-pub(crate) struct CertFile<X: Write + OpenFile> {
-    file: X,
-    has_old_text: bool,
+pub(crate) struct CertFile<R: Files> {
+    way: Way<R>,
+    failure: Option<io::Error>,
 }
 
-impl<X: Write + OpenFile> Write for CertFile<X> {
-    fn write(&mut self, buf: &[u8]) -> io::Result<usize> {
-        if self.has_old_text {
-            self.file.set_len(0)?;
-            self.has_old_text = false;
+// How a text gets into CERT.
+#[derive(Drop)]
+enum Way<R: Files> {
+    // As it comes, into an open file that is not a regular one.
+    Stream(R::File),
+    // As a whole, in the place of a regular file or of none.
+    Whole(Place<R>),
+}
+
+impl<R: Files> CertFile<R> {
+    fn new(way: Way<R>) -> CertFile<R> {
+        CertFile { way, failure: None }
+    }
+
+    // Returns what the system said when the text could not be written.
+    pub(crate) fn failure(&self) -> Option<io::Error> {
+        self.failure
+    }
+
+    // Writes a text: `write_cert` hands over the whole certificate at once.
+    fn write_text(&mut self, text: &[u8]) -> io::Result<usize>
+        ensures { IfOk result (λ n. n ≤ length text.now) }
+    {
+        match &mut self.way {
+            Way::Stream(file) => file.write(text),
+            Way::Whole(place) => {
+                place.replace(text)?;
+                Ok(text.len())
+            }
         }
-        self.file.write(buf)
+    }
+}
+
+impl<R: Files> Write for CertFile<R> {
+    fn write(&mut self, buf: &[u8]) -> io::Result<usize> {
+        match self.write_text(buf) {
+            Ok(count) => Ok(count),
+            Err(error) => {
+                self.failure = Some(error);
+                Err(error)
+            }
+        }
     }
 
     fn flush(&mut self) -> io::Result<()> {
-        self.file.flush()
+        Ok(())
     }
 }
 
-// Opens CERT for writing, and creates it if it does not exist. Its text is not changed yet.
-pub(crate) fn open_cert<'a, F: Files>(
-    rt: &F,
+// Opens CERT, or finds out that it can be replaced or made. Its text is not changed yet.
+pub(crate) fn open_cert<'a, R: Files + Copy>(
+    rt: R,
     alloc: Global,
     words: &TuneWords<'a>,
-) -> Result<CertFile<F::File>, NotOpened<'a>>
+) -> Result<CertFile<R>, NotOpened<'a>>
     ensures named { IsTrue (names_twice words.now) → IsErrOf result NotOpened.Named }
 {
     if is_named_twice(words) {
@@ -64,27 +100,51 @@ pub(crate) fn open_cert<'a, F: Files>(
 }
 
 // Opens CERT, which is not another word.
-fn open_other<'a, F: Files>(
-    rt: &F,
+fn open_other<'a, R: Files + Copy>(
+    rt: R,
     alloc: Global,
     words: &TuneWords<'a>,
-) -> Result<CertFile<F::File>, NotOpened<'a>> {
-    let has_old_text = match fs::metadata(rt, words.cert) {
-        Ok(found) => has_old_cert(rt, alloc, words, &found)?,
-        Err(error) if error.kind() == io::ErrorKind::NotFound => false,
-        Err(error) => return Err(NotOpened::Uncreated(error)),
-    };
-    match open_beyond_streams(rt, words.cert) {
-        Ok(file) => Ok(CertFile { file, has_old_text }),
+) -> Result<CertFile<R>, NotOpened<'a>> {
+    check_old(&rt, alloc, words)?;
+    match open_checked(rt, alloc, words.cert) {
+        Ok(file) => Ok(file),
         Err(error) => Err(NotOpened::Uncreated(error)),
     }
+}
+
+// Opens CERT, which has no text that is not a certificate.
+fn open_checked<R: Files + Copy>(rt: R, alloc: Global, name: &str) -> io::Result<CertFile<R>> {
+    match fs::metadata(&rt, name) {
+        Ok(found) => open_found(rt, alloc, name, &found),
+        Err(error) if error.kind() == io::ErrorKind::NotFound => {
+            let place = place_at(rt, alloc, name, None)?;
+            Ok(CertFile::new(Way::Whole(place)))
+        }
+        Err(error) => Err(error),
+    }
+}
+
+// Opens CERT, which exists. A regular file that may not be written is not replaced either.
+fn open_found<R: Files + Copy>(
+    rt: R,
+    alloc: Global,
+    name: &str,
+    found: &Metadata,
+) -> io::Result<CertFile<R>> {
+    let file = open_beyond_streams(&rt, name)?;
+    if !found.is_file() {
+        return Ok(CertFile::new(Way::Stream(file)));
+    }
+    drop(file);
+    let place = place_at(rt, alloc, name, Some(found.mode()))?;
+    Ok(CertFile::new(Way::Whole(place)))
 }
 
 // Opens a file for writing. The handle is a copy, which the system never numbers as a standard
 // stream: if one of them is closed, the file would be in its place, and a report or a fault line
 // would go into it.
 fn open_beyond_streams<F: Files>(rt: &F, name: &str) -> io::Result<F::File> {
-    let file = OpenOptions::new().write(true).create(true).open(rt, name)?;
+    let file = OpenOptions::new().write(true).open(rt, name)?;
     file.try_clone()
 }
 
@@ -97,25 +157,27 @@ fn is_named_twice(words: &TuneWords<'_>) -> bool
         || words.opponents.contains(&words.cert)
 }
 
-// Returns whether a file that exists has a text, which then begins as a certificate does. What is
-// not a regular file, as a terminal, has no text to lose.
-fn has_old_cert<'a, F: Files>(
+// Checks that CERT is no other word's file, and that it has no text, or one that begins as a
+// certificate does. What is not a regular file, as a terminal, has no text to lose.
+fn check_old<'a, F: Files>(
     rt: &F,
     alloc: Global,
     words: &TuneWords<'a>,
-    found: &Metadata,
-) -> Result<bool, NotOpened<'a>> {
+) -> Result<(), NotOpened<'a>> {
+    let Ok(found) = fs::metadata(rt, words.cert) else {
+        return Ok(());
+    };
     if !found.is_file() {
-        return Ok(false);
+        return Ok(());
     }
-    if is_other_file(rt, words, found)? {
+    if is_other_file(rt, words, &found)? {
         return Err(NotOpened::Named);
     }
     if found.len() == 0 {
-        return Ok(false);
+        return Ok(());
     }
     match begins_as_cert_at(rt, alloc, words.cert) {
-        Ok(true) => Ok(true),
+        Ok(true) => Ok(()),
         Ok(false) => Err(NotOpened::NotCert),
         Err(error) => Err(unread(words.cert, error)),
     }

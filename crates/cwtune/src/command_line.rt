@@ -4,13 +4,15 @@ ghost use Rattle.tune_search.specs.Limits.{MOST_CAPACITY};
 ghost use Rattle.cwtune.specs.CommandLine.{AskForFight, IsRequest};
 
 use crate::limits;
-use crate::part_word::{part_error, part_of, part_option};
+use crate::options::{
+    explain_option, fight_numbers, number, progress_option, rules_of, tune_options, with_rules,
+};
+use crate::part_word::part_option;
 use crate::setting_word::which_setting;
+use crate::usage_error::{BadValue, bad_value, one_file};
 use clap::builder::ValueParser;
-use clap::error::ErrorKind;
 use clap::{Arg, ArgAction, ArgMatches, Command, Error, value_parser};
 use mars_core::Side;
-use rc_instr::Rules;
 use std::alloc::{AllocError, Global};
 use tune_runs::{RawRules, WhichSetting};
 use tune_template::Part;
@@ -96,73 +98,17 @@ pub(crate) fn request_of<'a>(alloc: Global, words: &'a [String]) -> Result<Reque
             file: found.get_str("TEMPLATE").unwrap_or(""),
         }),
         Some(("tune", found)) => tune_request(alloc, found),
-        Some(("check", found)) => Ok(Request::Check(tune_words(alloc, found)?)),
+        Some(("check", found)) => check_request(alloc, found),
         _ => Ok(Request::Fight),
     }
 }
 
-// Makes an option that takes a 32-bit number. Its range is checked later, with the other rules.
-fn number<'a>(alloc: Global, name: &'a str, help: &'a str) -> Arg<'a> {
-    Arg::new(alloc, name)
-        .long(name)
-        .value_name("NUMBER")
-        .action(ArgAction::Set)
-        .value_parser(value_parser!(u32))
-        .help(help)
-}
-
-// Adds the five options of the rules.
-fn with_rules<'a>(alloc: Global, command: Command<'a>) -> Result<Command<'a>, AllocError> {
-    command
-        .next_help_heading("Rules")
-        .arg(number(
-            alloc,
-            "core",
-            "Core size in cells, 8 to 65535 [default: 8000]",
-        ))?
-        .arg(number(
-            alloc,
-            "cycles",
-            "Cycles until a tie, one turn per warrior each, 1 to 1000000 [default: 80000]",
-        ))?
-        .arg(number(
-            alloc,
-            "tasks",
-            "Most tasks of a warrior, 1 to 8000 [default: 8000]",
-        ))?
-        .arg(number(
-            alloc,
-            "length",
-            "Most instructions of a warrior, 1 to 200 [default: 100]",
-        ))?
-        .arg(number(
-            alloc,
-            "distance",
-            "Least distance between warriors in cells, from the length to half the core [default: 100]",
-        ))
-}
-
-fn number_or(found: &ArgMatches<'_>, name: &str, default: u32) -> u32 {
-    found.get_one::<u32>(name).unwrap_or(default)
-}
-
-// Returns the rules of the options, with the standard rules as defaults.
-fn rules_of(found: &ArgMatches<'_>) -> RawRules {
-    let standard = Rules::standard();
-    RawRules {
-        core: number_or(found, "core", standard.core()),
-        cycles: number_or(found, "cycles", standard.cycles()),
-        tasks: number_or(found, "tasks", standard.tasks()),
-        length: number_or(found, "length", standard.length()),
-        distance: number_or(found, "distance", standard.distance()),
-    }
-}
-
 // Makes the command `fight` without words of its own: the fight text is on standard input.
-fn fight<'a>(alloc: Global) -> Command<'a> {
+fn fight<'a>(alloc: Global) -> Result<Command<'a>, AllocError> {
     Command::new(alloc, "fight")
         .about("Play a fight, of two Redcode files or the one described on standard input")
         .override_usage("cwtune fight\n       cwtune fight [OPTIONS] CANDIDATE OPPONENT")
+        .arg(explain_option(alloc))
 }
 
 // Makes the command `fight` with two files.
@@ -176,7 +122,7 @@ fn duel<'a>(alloc: Global) -> Result<Command<'a>, AllocError> {
         .action(ArgAction::Set)
         .value_parser(ValueParser::Names(&SIDES))
         .help("Who moves first, the candidate or the opponent [default: c]");
-    let command = fight(alloc)
+    let command = fight(alloc)?
         .arg(file(alloc, "CANDIDATE", candidate).required(false))?
         .arg(file(alloc, "OPPONENT", opponent).required(false))?
         .arg(number(alloc, "position", position))?
@@ -184,8 +130,7 @@ fn duel<'a>(alloc: Global) -> Result<Command<'a>, AllocError> {
     with_rules(alloc, command)
 }
 
-// Returns what `fight` asks for. Without two files it takes no words, so `clap` is asked again for
-// a command without them: its answer to other words is what it was before there were files.
+// Returns what `fight` asks for.
 fn fight_request<'a>(
     alloc: Global,
     words: &'a [String],
@@ -193,18 +138,31 @@ fn fight_request<'a>(
 ) -> Result<Request<'a>, Error>
     ensures { IfOk result IsRequest }
 {
-    let (Some(candidate), Some(opponent)) = (found.get_str("CANDIDATE"), found.get_str("OPPONENT"))
-    else {
-        let _nothing = commands(alloc, fight(alloc))?.try_get_matches_from(words)?;
-        return Ok(Request::Fight);
+    let Some(candidate) = found.get_str("CANDIDATE") else {
+        return plain_request(alloc, words);
     };
-    Ok(Request::Duel(DuelWords {
-        rules: rules_of(found),
-        candidate,
-        opponent,
-        position: found.get_one::<u32>("position"),
-        first: side_of(found.get_str("first")),
-    }))
+    let Some(opponent) = found.get_str("OPPONENT") else {
+        return Err(one_file(duel(alloc)?)?);
+    };
+    match fight_numbers(found) {
+        Ok((rules, position)) => Ok(Request::Duel(DuelWords {
+            rules,
+            candidate,
+            opponent,
+            position,
+            first: side_of(found.get_str("first")),
+        })),
+        Err(bad) => Err(bad_value(alloc, bad, duel(alloc)?, "cwtune fight")?),
+    }
+}
+
+// Returns what `fight` without files asks for. It takes no words but `--explain`, so `clap` is
+// asked again for such a command: its answer to other words is what it was before there were files.
+fn plain_request<'a>(alloc: Global, words: &'a [String]) -> Result<Request<'a>, Error>
+    ensures { IfOk result IsRequest }
+{
+    let _nothing = commands(alloc, fight(alloc)?)?.try_get_matches_from(words)?;
+    Ok(Request::Fight)
 }
 
 // Returns the side of `--first`, which `clap` keeps to `c` and `o`, or the default.
@@ -228,14 +186,18 @@ fn asm<'a>(alloc: Global) -> Result<Command<'a>, AllocError> {
     let command = Command::new(alloc, "asm")
         .about("Assemble a Redcode file and print the load file of its warrior")
         .arg(file)?
-        .arg(setting)?;
+        .arg(setting)?
+        .arg(explain_option(alloc))?;
     with_rules(alloc, command)
 }
 
 fn asm_request<'a>(alloc: Global, found: &ArgMatches<'a>) -> Result<Request<'a>, Error>
     ensures { IfOk result IsRequest }
 {
-    let rules = rules_of(found);
+    let rules = match rules_of(found) {
+        Ok(rules) => rules,
+        Err(bad) => return Err(bad_value(alloc, bad, asm(alloc)?, "cwtune asm")?),
+    };
     // `clap` requires the file.
     let file = found.get_str("FILE").unwrap_or("");
     let Some(word) = found.get_str("setting") else {
@@ -247,13 +209,14 @@ fn asm_request<'a>(alloc: Global, found: &ArgMatches<'a>) -> Result<Request<'a>,
     }
 }
 
-// Makes the usage error of a word for a setting, in the form of those that `clap` makes.
+// Makes the usage error of a word for a setting.
 fn bad_setting(alloc: Global, word: &str) -> Result<Error, AllocError> {
-    let message = format!(in alloc;
-        "invalid value '{word}' for '--setting <W>': neither an index nor `start`"
-    )?;
-    let mut command = asm(alloc)?.bin_name("cwtune asm")?;
-    command.error(ErrorKind::ValueValidation, message.as_str())
+    let bad = BadValue {
+        word,
+        option: "--setting <W>",
+        wanted: "neither an index nor `start`",
+    };
+    bad_value(alloc, bad, asm(alloc)?, "cwtune asm")
 }
 
 fn file<'a>(alloc: Global, name: &'a str, help: &'a str) -> Arg<'a> {
@@ -275,7 +238,8 @@ fn settings<'a>(alloc: Global) -> Result<Command<'a>, AllocError> {
         .about(
             "Print the number of settings of a template, and the name, number of values and START of each constant",
         )
-        .arg(template(alloc))
+        .arg(template(alloc))?
+        .arg(explain_option(alloc))
 }
 
 // Adds the files of a tuning and the options of the rules. `cert` is the help for CERT.
@@ -299,7 +263,9 @@ fn with_files<'a>(
         .arg(file(alloc, "SCHEDULE", schedule))?
         .arg(file(alloc, "CERT", cert))?
         .arg(opponents)?
-        .arg(part_option(alloc))?;
+        .arg(part_option(alloc))?
+        .arg(progress_option(alloc))?
+        .arg(explain_option(alloc))?;
     with_rules(alloc, command)
 }
 
@@ -309,6 +275,7 @@ fn cache_option<'a>(alloc: Global) -> Arg<'a> {
         .long("cache")
         .value_name("NUMBER")
         .action(ArgAction::Set)
+        .allow_negative_numbers(true)
         .value_parser(value_parser!(u32).range(1..i64::from(limits::MOST_CAPACITY) + 1))
         .help(
             "Settings to remember, so that equal warriors share fights, 1 to 65536 [default: 4096]",
@@ -335,14 +302,17 @@ fn tune<'a>(alloc: Global) -> Result<Command<'a>, AllocError> {
     with_files(
         alloc,
         command,
-        "File to write the certificate to; an older certificate is overwritten, and no other text",
+        "File to write the certificate to; an older certificate is replaced at the end, and no other text",
     )
 }
 
 fn tune_request<'a>(alloc: Global, found: &ArgMatches<'a>) -> Result<Request<'a>, Error>
     ensures { IfOk result IsRequest }
 {
-    let words = tune_words(alloc, found)?;
+    let words = match tune_options(found) {
+        Ok((rules, part)) => tune_words(alloc, found, rules, part)?,
+        Err(bad) => return Err(bad_value(alloc, bad, tune(alloc)?, "cwtune tune")?),
+    };
     if found.get_flag("all") {
         return Ok(Request::TuneAll(words));
     }
@@ -357,6 +327,15 @@ fn check<'a>(alloc: Global) -> Result<Command<'a>, AllocError> {
         "Check a certificate: print `accepted best W total T` or `rejected row R REASON`",
     );
     with_files(alloc, command, "File of the certificate")
+}
+
+fn check_request<'a>(alloc: Global, found: &ArgMatches<'a>) -> Result<Request<'a>, Error>
+    ensures { IfOk result IsRequest }
+{
+    match tune_options(found) {
+        Ok((rules, part)) => Ok(Request::Check(tune_words(alloc, found, rules, part)?)),
+        Err(bad) => Err(bad_value(alloc, bad, check(alloc)?, "cwtune check")?),
+    }
 }
 
 // Makes the command `cwtune`, before its commands are added.
@@ -395,16 +374,18 @@ fn capacity_of(found: &ArgMatches<'_>) -> u32
 }
 
 // `clap` requires each of the files, so the empty names are never used.
-fn tune_words<'a>(alloc: Global, found: &ArgMatches<'a>) -> Result<TuneWords<'a>, Error> {
-    let Some(part) = part_of(found) else {
-        return Err(part_error(commands(alloc, fight(alloc))?)?);
-    };
+fn tune_words<'a>(
+    alloc: Global,
+    found: &ArgMatches<'a>,
+    rules: RawRules,
+    part: Part,
+) -> Result<TuneWords<'a>, AllocError> {
     let mut opponents = Vec::new(alloc);
     if let Some(names) = found.get_strs("OPPONENT") {
         opponents.extend_from_slice(names)?;
     }
     Ok(TuneWords {
-        rules: rules_of(found),
+        rules,
         template: found.get_str("TEMPLATE").unwrap_or(""),
         schedule: found.get_str("SCHEDULE").unwrap_or(""),
         cert: found.get_str("CERT").unwrap_or(""),
@@ -414,7 +395,7 @@ fn tune_words<'a>(alloc: Global, found: &ArgMatches<'a>) -> Result<TuneWords<'a>
 }
 
 // Checks for the plainest words of a fight: none, or `fight` alone.
-fn ask_for_fight(words: &[String]) -> bool
+pub(crate) fn ask_for_fight(words: &[String]) -> bool
     ensures { IsTrue result ↔ AskForFight (map string_bytes words.now) }
 {
     match words {

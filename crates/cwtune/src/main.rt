@@ -4,27 +4,40 @@
 
 ghost use Rattle.std.specs.Prelude.{◌≡◌, false};
 
+mod bounds;
 mod cert_file;
 mod command_line;
 mod commands;
+mod failures;
 mod fault_line;
 mod hints;
 mod limits;
+mod notes;
+mod options;
 mod part_word;
 pub mod program;
 mod progress_line;
 mod reading;
+mod replacing;
 mod setting_word;
 mod status;
+mod telling;
 #[cfg(test)]
 mod tests;
+mod usage_error;
+mod witness;
 
-use progress_line::ProgressLine;
+use command_line::ask_for_fight;
+use failures::{explain_failure, explain_loss};
+use hints::{explain_refusal, note_template};
+use options::is_given;
+use progress_line::{Progress, Style};
 use rc_instr::Outlet;
-use status::REFUSED;
+use status::{FAILED, MISUSED, REFUSED};
 use std::io::{IsTerminal, Read, Write};
 use std::process::ExitCode;
 use std::{env, io};
+use telling::tell;
 pub use tune_runs::{
     RunFault, TuneTexts, WhichSetting, asm_run, check_part_run, check_run, duel_run, fight_run,
     laws, plain_laws, plain_tune_run, setting_run, settings_run, tune_part_run, tune_run,
@@ -35,8 +48,20 @@ fn words_of(rt: &HostRuntime) -> io::Result<Vec<String>> {
     Ok(env::args(rt)?.skip(1).collect(rt.alloc())?)
 }
 
-// Runs the program with a progress line, and with help after a refusal.
-fn run_at_a_terminal<R: Read, W: Write, V: Write>(
+// Returns how progress is shown.
+fn style_of(words: &[String], at_terminal: bool) -> Style {
+    if at_terminal {
+        Style::Line
+    } else if is_given(words, "--progress") {
+        Style::Log
+    } else {
+        Style::Hidden
+    }
+}
+
+// Runs the program, with the progress and the explanations that a terminal gets and that options
+// ask for.
+fn run<R: Read, W: Write, V: Write>(
     rt: &HostRuntime,
     words: &[String],
     input: &mut R,
@@ -46,12 +71,52 @@ fn run_at_a_terminal<R: Read, W: Write, V: Write>(
     requires out { out.old.failed ≡ false }
     requires err { err.old.failed ≡ false }
 {
-    let mut line = ProgressLine::new(Outlet::new(rt.stderr()));
-    let status = program::watched_program(rt, rt.alloc(), words, input, out, err, &mut line);
-    if status == REFUSED && !err.failed() {
-        let _ = hints::help_with(rt, rt.alloc(), words, err);
+    let at_terminal = rt.stderr().is_terminal();
+    let explains = at_terminal || is_given(words, "--explain");
+    let style = style_of(words, at_terminal);
+    if !explains && style == Style::Hidden {
+        return program::program(rt, rt.alloc(), words, input, out, err);
+    }
+    invite(rt, words, at_terminal);
+    let mut progress = Progress::new(rt, Outlet::new(rt.stderr()), style, explains);
+    let status = program::watched_program(rt, rt.alloc(), words, input, out, err, &mut progress);
+    if explains {
+        explain(rt, words, status, &progress, input, err);
     }
     status
+}
+
+// Says at a terminal what is read from it.
+fn invite(rt: &HostRuntime, words: &[String], at_terminal: bool) {
+    if at_terminal && rt.stdin().is_terminal() && ask_for_fight(words) {
+        let mut err = Outlet::new(rt.stderr());
+        tell(
+            &mut err,
+            &["reading a fight text, which Ctrl-D ends; `cwtune --help` tells of the commands\n"],
+        );
+    }
+}
+
+// Explains how a run has ended, after its line.
+fn explain<R: Read, X: Write, V: Write>(
+    rt: &HostRuntime,
+    words: &[String],
+    status: u8,
+    progress: &Progress<&HostRuntime, X>,
+    input: &mut R,
+    err: &mut Outlet<V>,
+) {
+    if status == REFUSED {
+        explain_refusal(rt, rt.alloc(), words, err);
+    }
+    if progress.is_lost() {
+        explain_loss(rt.alloc(), words, progress.failure(), progress.best(), err);
+    } else if status == FAILED {
+        explain_failure(rt, rt.alloc(), words, input, err);
+    }
+    if status != FAILED && status != MISUSED {
+        note_template(rt, rt.alloc(), words, err);
+    }
 }
 
 fn main(rt: HostRuntime) -> ExitCode {
@@ -59,13 +124,7 @@ fn main(rt: HostRuntime) -> ExitCode {
     let mut out = Outlet::new(rt.stdout());
     let mut err = Outlet::new(rt.stderr());
     let status = match words_of(&rt) {
-        Ok(words) if rt.stderr().is_terminal() => {
-            run_at_a_terminal(&rt, words.as_slice(), &mut input, &mut out, &mut err)
-        }
-        Ok(words) => {
-            let words = words.as_slice();
-            program::program(&rt, rt.alloc(), words, &mut input, &mut out, &mut err)
-        }
+        Ok(words) => run(&rt, words.as_slice(), &mut input, &mut out, &mut err),
         Err(error) => program::end_without_words(&mut err, &error),
     };
     ExitCode::from(status)

@@ -3,10 +3,10 @@ ghost use Rattle.std.specs.Prelude.{◌≡◌, ◌≤◌, ◌<◌, ◌^◌, Some
 ghost use Rattle.tune_template.specs.declared.part.Part.{Part};
 ghost use Rattle.cwtune.specs.CommandLine.{part_word, IsCounted};
 
-use clap::error::ErrorKind;
-use clap::{Arg, ArgAction, ArgMatches, Command, Error};
+use crate::usage_error::BadValue;
+use clap::{Arg, ArgAction, ArgMatches};
 use rc_instr::{after, decimal_at, decimal_of};
-use std::alloc::{AllocError, Global};
+use std::alloc::Global;
 use tune_template::Part;
 
 // Makes the option.
@@ -20,20 +20,19 @@ pub(crate) fn part_option<'a>(alloc: Global) -> Arg<'a> {
         )
 }
 
-// Returns the part that the option says, all settings without it, or `None` if its word is bad.
-pub(crate) fn part_of(found: &ArgMatches<'_>) -> Option<Part> {
-    match found.get_str("part") {
-        Some(word) => read_part(word.as_bytes()),
-        None => Some(Part::whole()),
+// Returns the part that the option says, or all settings without it.
+pub(crate) fn part_of<'a>(found: &ArgMatches<'a>) -> Result<Part, BadValue<'a>> {
+    let Some(word) = found.get_str("part") else {
+        return Ok(Part::whole());
+    };
+    match read_part(word.as_bytes()) {
+        Some(part) => Ok(part),
+        None => Err(BadValue {
+            word,
+            option: "--part <I/K>",
+            wanted: "two numbers are wanted, as in 1/4, with I from 1 to K",
+        }),
     }
-}
-
-// Makes the usage error for a bad word.
-pub(crate) fn part_error(mut command: Command<'_>) -> Result<Error, AllocError> {
-    command.error(
-        ErrorKind::ValueValidation,
-        "invalid value for '--part <I/K>': two numbers are wanted, as in 1/4, with I from 1 to K",
-    )
 }
 
 // Reads the word `I/K`, two decimals without leading zeros. Returns `None` unless I is 1 to K.

@@ -10,13 +10,14 @@ use crate::command_line::{Request, request_of};
 use crate::commands::{asm, check, duel, fight, plain_tune, setting, settings, tune};
 use crate::fault_line::say_run;
 use crate::status::{DONE, FAILED, MISUSED, end_without_memory};
+use crate::witness::Witness;
 use clap::error::ErrorKind;
 use rc_instr::Outlet;
 use std::alloc::Global;
 use std::io;
 use std::io::{Read, Write};
 use std::rt::Files;
-use tune_cert::{Silent, Watcher};
+use tune_cert::Silent;
 use tune_runs::RunFault;
 
 /// Runs the command that `words` ask for, and returns the exit status: 0 success or accepted, 1
@@ -29,10 +30,11 @@ use tune_runs::RunFault;
 /// - `asm`: checks the rules, reads the Redcode file, and writes its load file, or that of one
 ///   setting of a template.
 /// - `settings`: reads the template, and writes the number of its settings and its constants.
-/// - `tune`: checks the rules, reads the template, the schedule and the opponents, opens or creates
-///   the file of the certificate, finds the best setting, and writes the certificate, then the
-///   report. A file that is another word's, or that has a text and is not a certificate, is not
-///   opened.
+/// - `tune`: checks the rules, reads the template, the schedule and the opponents, tries that the
+///   file of the certificate can be replaced or made, finds the best setting, and writes the
+///   certificate, then the report. A file that is another word's, or that has a text and is not a
+///   certificate, stays. A regular file is replaced whole or not at all, and none is made if there
+///   is no certificate.
 /// - `check`: checks the rules, reads the template, the schedule, the certificate and the
 ///   opponents, and writes the line of the verdict.
 /// - `--help`, `help`: writes the help text.
@@ -69,8 +71,8 @@ pub fn program<F: Files, R: Read, W: Write, V: Write>(
     watched_program(rt, alloc, words, input, out, err, &mut Silent)
 }
 
-// Runs the command as `program` does, and tells `watcher` how far a tuning or a check is.
-pub(crate) fn watched_program<F: Files, R: Read, W: Write, V: Write, T: Watcher>(
+// Runs the command as `program` does, and tells `watcher` of a tuning or a check.
+pub(crate) fn watched_program<F: Files, R: Read, W: Write, V: Write, T: Witness>(
     rt: &F,
     alloc: Global,
     words: &[String],

@@ -1,11 +1,13 @@
 //! Exit statuses, and the lines on standard error that go with them.
-ghost use Rattle.std.specs.Prelude.{◌≡◌, ◌≢◌, ◌⊎◌, false};
+ghost use Rattle.std.specs.Prelude.{◌≡◌, ◌≢◌, ◌≤◌, ◌⊎◌, false};
 
-use crate::cert_file::NotOpened;
+use crate::cert_file::{CertFile, NotOpened};
 use crate::fault_line::{say_cert, say_file, say_run, say_text};
+use crate::witness::Witness;
 use rc_instr::Outlet;
 use std::io;
 use std::io::Write;
+use std::rt::Files;
 use tune_runs::RunFault;
 
 // Names the fault of a run on standard error, and returns the exit status.
@@ -29,6 +31,29 @@ pub(crate) fn end_part<V: Write>(err: &mut Outlet<V>) -> u8
 {
     let _ = err.write_all(b"error: --part I/K: the template has fewer than K settings\n");
     MISUSED
+}
+
+// Names the fault of a tuning on standard error, tells `watcher` of a certificate that could not be
+// written, and returns the exit status.
+pub(crate) fn end_tuning<T: Witness, R: Files + Drop, V: Write>(
+    watcher: &mut T,
+    cert: Outlet<CertFile<R>>,
+    err: &mut Outlet<V>,
+    fault: RunFault,
+) -> u8
+    requires { err.old.failed ≡ false }
+    ensures refused { result ≢ 3 → (fault ≢ RunFault.Write) × (fault ≢ RunFault.OutOfMemory) }
+    ensures status { (result ≢ 0) × (result ≤ 3) }
+{
+    let is_lost = cert.failed();
+    let file = cert.into_inner();
+    if is_lost {
+        watcher.lose(file.failure());
+    }
+    match fault {
+        RunFault::Part => end_part(err),
+        _ => end_run(err, fault),
+    }
 }
 
 // Names the fault of a fight of two texts on standard error, with the file of the text that does

@@ -7,15 +7,15 @@ ghost use Rattle.tune_runs.specs.CheckRun.{WritesVerdict};
 use crate::command_line::TuneWords;
 use crate::reading::read_check_texts;
 use crate::status::{DONE, REFUSED, end_file, end_part, end_run};
+use crate::witness::Witness;
 use rc_instr::Outlet;
 use std::alloc::Global;
 use std::io::Write;
 use std::rt::Files;
-use tune_cert::Watcher;
 use tune_runs::{RunFault, check_part_run, rules_of};
 
 // Runs the command on files.
-pub(crate) fn check<F: Files, T: Watcher, W: Write, V: Write>(
+pub(crate) fn check<F: Files, T: Witness, W: Write, V: Write>(
     rt: &F,
     alloc: Global,
     words: &TuneWords<'_>,
@@ -43,6 +43,7 @@ pub(crate) fn check<F: Files, T: Watcher, W: Write, V: Write>(
         Ok(files) => files,
         Err(unread) => return end_file(err, &unread.error, "read", unread.name),
     };
+    watcher.begin(alloc, words, &files.tuning.texts(&rules, words.part));
     match check_part_run(
         alloc,
         &files.tuning.texts(&rules, words.part),

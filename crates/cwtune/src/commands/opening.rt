@@ -9,27 +9,26 @@ use crate::reading::{TuneFiles, read_texts};
 use crate::status::{end_cert, end_file, end_run};
 use rc_instr::{Outlet, Rules};
 use std::alloc::Global;
-use std::fs::OpenFile;
 use std::io::Write;
 use std::rt::Files;
 use tune_runs::{RunFault, rules_of};
 
-// The rules and the files of a tuning, and its open file CERT.
+// The rules and the files of a tuning, and its file CERT.
 #[derive(Drop)]
-pub(crate) struct Opened<X: Write + OpenFile> {
+pub(crate) struct Opened<R: Files> {
     pub(crate) rules: Rules,
     pub(crate) files: TuneFiles,
-    pub(crate) cert: Outlet<CertFile<X>>,
+    pub(crate) cert: Outlet<CertFile<R>>,
 }
 
 // Checks the rules, reads the files, and opens CERT last, just before the search. If one of these
 // fails, says so on standard error and returns the exit status.
-pub(crate) fn open_tuning<F: Files, V: Write>(
-    rt: &F,
+pub(crate) fn open_tuning<R: Files + Copy, V: Write>(
+    rt: R,
     alloc: Global,
     words: &TuneWords<'_>,
     err: &mut Outlet<V>,
-) -> Result<Opened<F::File>, u8>
+) -> Result<Opened<R>, u8>
     requires { err.old.failed ≡ false }
     ensures rules { let r = words.now.rules in IfOk result (λ o. o.rules ≡ rules_view r.core r.cycles r.tasks r.length r.distance) }
     ensures cert { IfOk result (λ o. o.cert.failed ≡ false) }
@@ -41,7 +40,7 @@ pub(crate) fn open_tuning<F: Files, V: Write>(
         Ok(rules) => rules,
         Err(error) => return Err(end_run(err, RunFault::Rules(error))),
     };
-    let files = match read_texts(rt, alloc, words) {
+    let files = match read_texts(&rt, alloc, words) {
         Ok(files) => files,
         Err(unread) => return Err(end_file(err, &unread.error, "read", unread.name)),
     };

@@ -7,16 +7,16 @@ ghost use Rattle.tune_runs.specs.PlainRun.{WritesPlainTuning};
 
 use crate::command_line::TuneWords;
 use crate::commands::opening::{Opened, open_tuning};
-use crate::status::{DONE, end_part, end_run};
+use crate::status::{DONE, end_tuning};
+use crate::witness::Witness;
 use rc_instr::Outlet;
 use std::alloc::Global;
 use std::io::Write;
 use std::rt::Files;
-use tune_cert::Watcher;
-use tune_runs::{RunFault, plain_tune_run};
+use tune_runs::plain_tune_run;
 
 // Runs the command on files, as `tune` does.
-pub(crate) fn plain_tune<F: Files, T: Watcher, W: Write, V: Write>(
+pub(crate) fn plain_tune<F: Files, T: Witness, W: Write, V: Write>(
     rt: &F,
     alloc: Global,
     words: &TuneWords<'_>,
@@ -44,6 +44,7 @@ pub(crate) fn plain_tune<F: Files, T: Watcher, W: Write, V: Write>(
         files,
         mut cert,
     } = opened;
+    watcher.begin(alloc, words, &files.texts(&rules, words.part));
     match plain_tune_run(
         alloc,
         &files.texts(&rules, words.part),
@@ -51,8 +52,10 @@ pub(crate) fn plain_tune<F: Files, T: Watcher, W: Write, V: Write>(
         out,
         &mut cert,
     ) {
-        Ok(()) => DONE,
-        Err(RunFault::Part) => end_part(err),
-        Err(fault) => end_run(err, fault),
+        Ok(()) => {
+            drop(cert);
+            DONE
+        }
+        Err(fault) => end_tuning(watcher, cert, err, fault),
     }
 }

@@ -7,17 +7,18 @@ ghost use Rattle.tune_runs.specs.TuneRun.{part_texts, WritesTuning};
 
 use crate::command_line::TuneWords;
 use crate::commands::opening::{Opened, open_tuning};
-use crate::status::{DONE, end_part, end_run};
+use crate::status::{DONE, end_tuning};
+use crate::witness::Witness;
 use rc_instr::Outlet;
 use std::alloc::Global;
 use std::io::Write;
 use std::rt::Files;
-use tune_cert::Watcher;
-use tune_runs::{RunFault, tune_part_run};
+use tune_runs::tune_part_run;
 
 // Runs the command on files. Opens the file of the certificate last, just before the search; if it
-// names another word's file, nothing is written.
-pub(crate) fn tune<F: Files, T: Watcher, W: Write, V: Write>(
+// names another word's file, nothing is written. The file gets its new text, whole and on the disk,
+// before the report begins.
+pub(crate) fn tune<F: Files, T: Witness, W: Write, V: Write>(
     rt: &F,
     alloc: Global,
     words: &TuneWords<'_>,
@@ -47,6 +48,7 @@ pub(crate) fn tune<F: Files, T: Watcher, W: Write, V: Write>(
         files,
         mut cert,
     } = opened;
+    watcher.begin(alloc, words, &files.texts(&rules, words.part));
     match tune_part_run(
         alloc,
         &files.texts(&rules, words.part),
@@ -55,8 +57,10 @@ pub(crate) fn tune<F: Files, T: Watcher, W: Write, V: Write>(
         out,
         &mut cert,
     ) {
-        Ok(()) => DONE,
-        Err(RunFault::Part) => end_part(err),
-        Err(fault) => end_run(err, fault),
+        Ok(()) => {
+            drop(cert);
+            DONE
+        }
+        Err(fault) => end_tuning(watcher, cert, err, fault),
     }
 }

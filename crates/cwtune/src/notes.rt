@@ -1,0 +1,140 @@
+//! What a template, a schedule or the opponents say without any effect.
+
+use crate::telling::{tell, tell_bytes, tell_source};
+use itoa::Buffer;
+use mars_fight::Fight;
+use rc_instr::Outlet;
+use rc_text::{Lexer, is_blank, is_same_word};
+use std::alloc::Global;
+use std::io::Write;
+use tune_template::Template;
+
+// With which some editors begin a text.
+const BYTE_ORDER_MARK: &[u8] = b"\xef\xbb\xbf";
+
+// Writes the lines of a template that are like range lines and are none, and the constants that no
+// line uses.
+pub(crate) fn tell_template_notes<V: Write>(
+    err: &mut Outlet<V>,
+    alloc: Global,
+    file: &str,
+    text: &[u8],
+) {
+    tell_lost_ranges(err, file, text);
+    if let Ok(template) = Template::read(alloc, text) {
+        tell_unused(err, file, text, template.names());
+    }
+}
+
+// Writes the opponents that no fight names.
+pub(crate) fn tell_idle<V: Write>(err: &mut Outlet<V>, opponents: &[&str], fights: &[Fight]) {
+    let mut index: u32 = 0;
+    for name in opponents {
+        if !has_fight(fights, index) {
+            let mut buffer = Buffer::new();
+            let number = buffer.format(index);
+            tell(
+                err,
+                &["  no fight names opponent ", number, ", ", *name, "\n"],
+            );
+        }
+        index = index.saturating_add(1);
+    }
+}
+
+fn has_fight(fights: &[Fight], opponent: u32) -> bool {
+    fights.iter().any(|fight| fight.opponent == opponent)
+}
+
+fn tell_lost_ranges<V: Write>(err: &mut Outlet<V>, file: &str, text: &[u8]) {
+    let mut number: u64 = 0;
+    for line in text.split(|byte| *byte == b'\n') {
+        number = number.saturating_add(1);
+        if has_lost_range(line) {
+            tell_source(err, file, text, number);
+            tell(err, &[why_lost(line)]);
+        }
+    }
+}
+
+fn why_lost(line: &[u8]) -> &'static str {
+    if line.starts_with(BYTE_ORDER_MARK) {
+        "  ignored: a byte order mark is before `;@tune`\n"
+    } else {
+        "  ignored: `;@tune` has to be the very front of its line, in small letters\n"
+    }
+}
+
+// Returns whether a line that is not a range line has a comment that begins as one does: behind
+// something else, such as a byte order mark, or in other letters.
+fn has_lost_range(line: &[u8]) -> bool {
+    if is_range(line) {
+        return false;
+    }
+    for comment in line.split(|byte| *byte == b';').skip(1) {
+        if begins_as_range(comment) {
+            return true;
+        }
+    }
+    false
+}
+
+fn is_range(line: &[u8]) -> bool {
+    match line.strip_prefix(b";@tune") {
+        Some(rest) => begins_blank(rest),
+        None => false,
+    }
+}
+
+// Checks for a blank at the front, or an empty text.
+fn begins_blank(text: &[u8]) -> bool {
+    match text {
+        [] => true,
+        [first, ..] => is_blank(*first),
+    }
+}
+
+// Returns whether the first word of a comment is `@tune`, in any letters.
+fn begins_as_range(comment: &[u8]) -> bool {
+    for word in comment.split(|byte| is_blank(*byte)) {
+        if !word.is_empty() {
+            return is_same_word(word, b"@tune");
+        }
+    }
+    false
+}
+
+fn tell_unused<V: Write>(err: &mut Outlet<V>, file: &str, text: &[u8], names: &[Vec<u8>]) {
+    for name in names {
+        if !is_token(text, name.as_slice()) {
+            tell(err, &["  no line of ", file, " uses the constant "]);
+            tell_bytes(err, name.as_slice());
+            tell(err, &["\n"]);
+        }
+    }
+}
+
+// Returns whether a name is a token of a text. A text with a fault does not assemble, so no name is
+// missed there.
+fn is_token(text: &[u8], name: &[u8]) -> bool {
+    let mut lexer = Lexer::new(text);
+    for _token in 0..text.len() {
+        match lexer.next_token() {
+            Ok(Some(token)) => {
+                if is_at(text, token.lo, token.hi, name) {
+                    return true;
+                }
+            }
+            Ok(None) => return false,
+            Err(_) => return true,
+        }
+    }
+    false
+}
+
+fn is_at(text: &[u8], lo: usize, hi: usize, name: &[u8]) -> bool {
+    match text.get(lo..hi) {
+        Some(word) => word == name,
+        None => false,
+    }
+}

@@ -1,0 +1,173 @@
+//! The options that several commands have.
+
+use crate::part_word::part_of;
+use crate::usage_error::BadValue;
+use clap::{Arg, ArgAction, ArgMatches, Command};
+use rc_instr::Rules;
+use std::alloc::{AllocError, Global};
+use tune_runs::RawRules;
+use tune_template::Part;
+
+// Returns whether a flag is among the words that `clap` has accepted. After `--` they are files.
+pub(crate) fn is_given(words: &[String], flag: &str) -> bool {
+    for word in words {
+        if word.as_str() == "--" {
+            return false;
+        }
+        if word.as_str() == flag {
+            return true;
+        }
+    }
+    false
+}
+
+// Makes `--explain`, an option of all commands.
+pub(crate) fn explain_option<'a>(alloc: Global) -> Arg<'a> {
+    Arg::new(alloc, "explain")
+        .long("explain")
+        .action(ArgAction::SetTrue)
+        .help("Say more on standard error, as on a terminal: what is at fault, and what is ignored")
+}
+
+// Makes `--progress`.
+pub(crate) fn progress_option<'a>(alloc: Global) -> Arg<'a> {
+    Arg::new(alloc, "progress")
+        .long("progress")
+        .action(ArgAction::SetTrue)
+        .help("Say once a minute how far the run is, if standard error is not a terminal")
+}
+
+// Makes an option that takes a 32-bit number. Its range is checked later, with the other rules.
+pub(crate) fn number<'a>(alloc: Global, name: &'a str, help: &'a str) -> Arg<'a> {
+    Arg::new(alloc, name)
+        .long(name)
+        .value_name("NUMBER")
+        .action(ArgAction::Set)
+        .allow_negative_numbers(true)
+        .help(help)
+}
+
+// Adds the five options of the rules.
+pub(crate) fn with_rules<'a>(
+    alloc: Global,
+    command: Command<'a>,
+) -> Result<Command<'a>, AllocError> {
+    command
+        .next_help_heading("Rules")
+        .arg(number(
+            alloc,
+            "core",
+            "Core size in cells, 8 to 65535 [default: 8000]",
+        ))?
+        .arg(number(
+            alloc,
+            "cycles",
+            "Cycles until a tie, one turn per warrior each, 1 to 1000000 [default: 80000]",
+        ))?
+        .arg(number(
+            alloc,
+            "tasks",
+            "Most tasks of a warrior, 1 to 8000 [default: 8000]",
+        ))?
+        .arg(number(
+            alloc,
+            "length",
+            "Most instructions of a warrior, 1 to 200 [default: 100]",
+        ))?
+        .arg(number(
+            alloc,
+            "distance",
+            "Least distance between warriors in cells, from the length to half the core [default: 100]",
+        ))
+}
+
+// Returns the number that an option is given. `option` and `wanted` are for a usage error.
+fn number_of<'a>(
+    found: &ArgMatches<'a>,
+    name: &str,
+    option: &'static str,
+    wanted: &'static str,
+) -> Result<Option<u32>, BadValue<'a>> {
+    let Some(word) = found.get_str(name) else {
+        return Ok(None);
+    };
+    match number_in(word) {
+        Some(number) => Ok(Some(number)),
+        None => Err(BadValue {
+            word,
+            option,
+            wanted,
+        }),
+    }
+}
+
+// Returns the 32-bit number that a word is. It may have a sign.
+fn number_in(word: &str) -> Option<u32> {
+    match word.parse::<i64>() {
+        Ok(number) => u32::try_from(number).ok(),
+        Err(_) => None,
+    }
+}
+
+// Returns the rules of the options, with the standard rules as defaults.
+pub(crate) fn rules_of<'a>(found: &ArgMatches<'a>) -> Result<RawRules, BadValue<'a>> {
+    let standard = Rules::standard();
+    let core = number_of(
+        found,
+        "core",
+        "--core <NUMBER>",
+        "a number from 8 to 65535 is wanted",
+    )?;
+    let cycles = number_of(
+        found,
+        "cycles",
+        "--cycles <NUMBER>",
+        "a number from 1 to 1000000 is wanted",
+    )?;
+    let tasks = number_of(
+        found,
+        "tasks",
+        "--tasks <NUMBER>",
+        "a number from 1 to 8000 is wanted",
+    )?;
+    let length = number_of(
+        found,
+        "length",
+        "--length <NUMBER>",
+        "a number from 1 to 200 is wanted",
+    )?;
+    let distance = number_of(
+        found,
+        "distance",
+        "--distance <NUMBER>",
+        "a number from the length to half the core size is wanted",
+    )?;
+    Ok(RawRules {
+        core: core.unwrap_or(standard.core()),
+        cycles: cycles.unwrap_or(standard.cycles()),
+        tasks: tasks.unwrap_or(standard.tasks()),
+        length: length.unwrap_or(standard.length()),
+        distance: distance.unwrap_or(standard.distance()),
+    })
+}
+
+// Returns the rules of a fight of two files, and the position.
+pub(crate) fn fight_numbers<'a>(
+    found: &ArgMatches<'a>,
+) -> Result<(RawRules, Option<u32>), BadValue<'a>> {
+    let rules = rules_of(found)?;
+    let position = number_of(
+        found,
+        "position",
+        "--position <NUMBER>",
+        "a number is wanted, from the distance to the core size less it",
+    )?;
+    Ok((rules, position))
+}
+
+// Returns the rules and the part of a tuning, or of a check.
+pub(crate) fn tune_options<'a>(found: &ArgMatches<'a>) -> Result<(RawRules, Part), BadValue<'a>> {
+    let rules = rules_of(found)?;
+    let part = part_of(found)?;
+    Ok((rules, part))
+}

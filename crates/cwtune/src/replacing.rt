@@ -1,0 +1,142 @@
+//! Replaces a file whole, or leaves it as it is: a new text goes to a file beside it, is flushed to
+//! the disk, and then takes the name.
+
+use std::alloc::Global;
+use std::fs::{OpenFile, OpenOptions, Permissions};
+use std::io::Write;
+use std::os::unix::fs::PermissionsExt;
+use std::path::PathBuf;
+use std::rt::Files;
+use std::{fs, io};
+
+// The most links that a name is followed through, as on Linux.
+const MOST_LINKS: u32 = 40;
+
+// The most names that are tried for a file beside another.
+const MOST_NAMES: u32 = 1000;
+
+// A file that gets a new text, or is made with it.
+#[derive(Drop)]
+pub(crate) struct Place<R: Files> {
+    rt: R,
+    // The name of the file, links followed.
+    name: PathBuf,
+    // A name beside it that no file has. The text is there until it is whole.
+    beside: String,
+    // The permissions of the file, if there is one.
+    mode: Option<u32>,
+}
+
+// Finds the file that `name` leads to, and tries to make a file beside it, which is removed again.
+// `mode` is the permissions of the file, if there is one. No file has the empty name.
+pub(crate) fn place_at<R: Files + Copy>(
+    rt: R,
+    alloc: Global,
+    name: &str,
+    mode: Option<u32>,
+) -> io::Result<Place<R>> {
+    if name.is_empty() {
+        return Err(io::Error::from(io::ErrorKind::NotFound));
+    }
+    let name = beyond_links(&rt, alloc, name)?;
+    let beside = unused_name(&rt, alloc, name.as_str(), mode)?;
+    Ok(Place {
+        rt,
+        name,
+        beside,
+        mode,
+    })
+}
+
+impl<R: Files> Place<R> {
+    // Gives the file this text, or leaves it as it is.
+    pub(crate) fn replace(&self, text: &[u8]) -> io::Result<()> {
+        let mut file = create(&self.rt, self.beside.as_str(), self.mode)?;
+        let ended = self.fill(&mut file, text);
+        if ended.is_err() {
+            let _ = fs::remove_file(&self.rt, self.beside.as_str());
+        }
+        ended
+    }
+
+    // Writes the text to the file beside, flushes it to the disk, and gives it the name.
+    fn fill(&self, file: &mut R::File, text: &[u8]) -> io::Result<()> {
+        file.write_all(text)?;
+        file.sync_all()?;
+        fs::rename(&self.rt, self.beside.as_str(), self.name.as_str())
+    }
+}
+
+// Returns the name that `name` leads to through links. There need not be a file at the end.
+fn beyond_links<F: Files>(rt: &F, alloc: Global, name: &str) -> io::Result<PathBuf> {
+    let mut path = PathBuf::from_str(alloc, name)?;
+    for _link in 0..MOST_LINKS {
+        if !follow(rt, alloc, &mut path)? {
+            return Ok(path);
+        }
+    }
+    Err(io::Error::from(io::ErrorKind::FilesystemLoop))
+}
+
+// Follows one link. Returns whether `path` was a link.
+fn follow<F: Files>(rt: &F, alloc: Global, path: &mut PathBuf) -> io::Result<bool> {
+    let link = match rt.read_link(alloc, path.as_str()) {
+        Ok(link) => link,
+        Err(error) if is_no_link(error.kind()) => return Ok(false),
+        Err(error) => return Err(error),
+    };
+    path.pop();
+    path.push(link)?;
+    Ok(true)
+}
+
+// Returns whether the reading of a link failed since there is another file, or none.
+fn is_no_link(kind: io::ErrorKind) -> bool {
+    kind == io::ErrorKind::InvalidInput || kind == io::ErrorKind::NotFound
+}
+
+// Returns a name beside `name` that no file has, and that a file can be given.
+fn unused_name<F: Files>(
+    rt: &F,
+    alloc: Global,
+    name: &str,
+    mode: Option<u32>,
+) -> io::Result<String> {
+    for number in 1..MOST_NAMES {
+        let beside = format!(in alloc; "{name}.unfinished-{number}")?;
+        if is_unused(rt, beside.as_str(), mode)? {
+            return Ok(beside);
+        }
+    }
+    Err(io::Error::from(io::ErrorKind::AlreadyExists))
+}
+
+// Makes a file and removes it. Returns whether no file had the name.
+fn is_unused<F: Files>(rt: &F, name: &str, mode: Option<u32>) -> io::Result<bool> {
+    match create(rt, name, mode) {
+        Ok(file) => drop(file),
+        Err(error) if error.kind() == io::ErrorKind::AlreadyExists => return Ok(false),
+        Err(error) => return Err(error),
+    }
+    fs::remove_file(rt, name)?;
+    Ok(true)
+}
+
+// Makes a file where there is none, with these permissions. If that fails, there is none.
+fn create<F: Files>(rt: &F, name: &str, mode: Option<u32>) -> io::Result<F::File> {
+    let mut how = OpenOptions::new();
+    how.write(true).create_new(true);
+    let settled = settle(how.open(rt, name)?, mode);
+    if settled.is_err() {
+        let _ = fs::remove_file(rt, name);
+    }
+    settled
+}
+
+// Gives a file permissions, and returns a handle of it that is beyond the standard streams.
+fn settle<X: OpenFile + Drop>(file: X, mode: Option<u32>) -> io::Result<X> {
+    if let Some(mode) = mode {
+        file.set_permissions(Permissions::from_mode(mode))?;
+    }
+    file.try_clone()
+}

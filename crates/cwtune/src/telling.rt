@@ -1,0 +1,122 @@
+//! The lines of explanations, each indented by two blanks. A write that fails ends them silently.
+use itoa::Buffer;
+use rc_instr::Outlet;
+use std::alloc::Global;
+use std::io;
+use std::io::Write;
+
+// Writes the parts of a line.
+pub(crate) fn tell<V: Write>(err: &mut Outlet<V>, parts: &[&str]) {
+    for part in parts {
+        tell_bytes(err, (*part).as_bytes());
+    }
+}
+
+// Writes bytes that need not be text.
+pub(crate) fn tell_bytes<V: Write>(err: &mut Outlet<V>, bytes: &[u8]) {
+    if !err.failed() {
+        let _ = err.write_all(bytes);
+    }
+}
+
+// Writes what is limited, and the greatest value.
+pub(crate) fn tell_most<V: Write>(err: &mut Outlet<V>, what: &str, most: u64) {
+    let mut buffer = Buffer::new();
+    let number = buffer.format(most);
+    tell(err, &["  ", what, " ", number, "\n"]);
+}
+
+// Writes a limit, and the number that breaks it.
+pub(crate) fn tell_broken<V: Write>(err: &mut Outlet<V>, limit: &str, number: u64) {
+    let mut buffer = Buffer::new();
+    let number = buffer.format(number);
+    tell(err, &["  ", limit, ", not ", number, "\n"]);
+}
+
+// Writes a name and what the system said of it. Out of memory has been said before.
+pub(crate) fn tell_error<V: Write>(
+    err: &mut Outlet<V>,
+    alloc: Global,
+    name: &str,
+    error: &io::Error,
+) {
+    if error.kind() == io::ErrorKind::OutOfMemory {
+        return;
+    }
+    if let Ok(said) = error.to_string(alloc) {
+        tell(err, &["  ", name, ": ", said.as_str(), "\n"]);
+    }
+}
+
+// Writes the line of a text with its file and its number, from 1. There is no line 0.
+pub(crate) fn tell_source<V: Write>(err: &mut Outlet<V>, file: &str, text: &[u8], number: u64) {
+    if number == 0 {
+        return;
+    }
+    let mut buffer = Buffer::new();
+    let place = buffer.format(number);
+    tell(err, &["  ", file, ", line ", place, ": "]);
+    tell_bytes(err, line_at(text, number - 1));
+    tell(err, &["\n"]);
+}
+
+// Writes the line of a record of a table, counted from 0. Empty lines are no records.
+pub(crate) fn tell_record<V: Write>(err: &mut Outlet<V>, file: &str, text: &[u8], row: u64) {
+    let mut number: u64 = 0;
+    let mut left = row;
+    for line in text.split(|byte| *byte == b'\n') {
+        number = number.saturating_add(1);
+        if is_record(line) {
+            if left == 0 {
+                tell_source(err, file, text, number);
+                return;
+            }
+            left -= 1;
+        }
+    }
+}
+
+// Counts the records of a table.
+pub(crate) fn records_in(text: &[u8]) -> u64 {
+    let mut count: u64 = 0;
+    for line in text.split(|byte| *byte == b'\n') {
+        if is_record(line) {
+            count = count.saturating_add(1);
+        }
+    }
+    count
+}
+
+fn is_record(line: &[u8]) -> bool {
+    match line {
+        [] => false,
+        [byte] => *byte != b'\r',
+        _ => true,
+    }
+}
+
+// Returns the line at an index, from 0, as a terminal can show it, or nothing if the text has
+// fewer.
+fn line_at(text: &[u8], index: u64) -> &[u8] {
+    match text.split(|byte| *byte == b'\n').nth(index as usize) {
+        Some(line) => shown(line),
+        None => b"",
+    }
+}
+
+// Returns a line without the carriage return at its end, if it has no other bytes that would steer
+// a terminal.
+fn shown(line: &[u8]) -> &[u8] {
+    let line = match line.strip_suffix(b"\r") {
+        Some(front) => front,
+        None => line,
+    };
+    if line
+        .iter()
+        .all(|byte| *byte == b'\t' || (*byte >= b' ' && *byte != 127))
+    {
+        line
+    } else {
+        b"(a terminal cannot show it)"
+    }
+}

@@ -1,0 +1,39 @@
+//! Usage errors that the program finds itself, in the form of those that `clap` makes.
+
+use clap::error::ErrorKind;
+use clap::{Command, Error};
+use std::alloc::{AllocError, Global};
+
+// A word that is not a value of its option.
+#[derive(Clone, Copy)]
+pub(crate) struct BadValue<'a> {
+    pub(crate) word: &'a str,
+    // The option as help shows it.
+    pub(crate) option: &'static str,
+    // What it takes.
+    pub(crate) wanted: &'static str,
+}
+
+// Makes the usage error of a bad value for `command`. `name` is the words that call the command.
+pub(crate) fn bad_value(
+    alloc: Global,
+    bad: BadValue<'_>,
+    command: Command<'_>,
+    name: &'static str,
+) -> Result<Error, AllocError> {
+    let word = bad.word;
+    let option = bad.option;
+    let wanted = bad.wanted;
+    let message = format!(in alloc; "invalid value '{word}' for '{option}': {wanted}")?;
+    let mut command = command.bin_name(name)?;
+    command.error(ErrorKind::ValueValidation, message.as_str())
+}
+
+// Makes the usage error of a fight of one file.
+pub(crate) fn one_file(command: Command<'_>) -> Result<Error, AllocError> {
+    let mut command = command.bin_name("cwtune fight")?;
+    command.error(
+        ErrorKind::MissingRequiredArgument,
+        "OPPONENT is missing: a fight has two files, or none and its text on standard input",
+    )
+}

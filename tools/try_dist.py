@@ -1,0 +1,116 @@
+#!/usr/bin/env python3
+"""Tries the release that `dist.py` makes: try_dist.py
+
+Packs, unpacks, installs and removes it in a temporary folder, and runs the program and the tools of
+each without this checkout: nothing of it is on the PATH. What was proved is not asked for again.
+Prints what failed, and as its last line `N passed, N failed`; the exit status is 1 if a trial
+failed.
+"""
+import argparse, hashlib, os, pathlib, shutil, subprocess, sys, tarfile, tempfile
+
+import dist
+from endings import run_tool
+from trials import program_of, tally
+
+BOMBER = """;redcode-94
+;@tune HOP 3000 3090 45 3045
+        ORG   split
+bomb    DAT   >1, 0
+split   SPL   #0, 0
+throw   MOV   bomb, @aim
+        ADD   #HOP, aim
+        JMP   throw
+aim     DAT   0, 3000
+"""
+# Words of a tool, and the beginning of what it prints.
+TOOLS = [("scores.py a.cert fights.csv --template a.red", "best setting "),
+         ("warrior.py a.red a.cert", ";redcode-94\n"),
+         ("holdout.py --rounds 2 a.red a.cert dwarf.red", "setting ")]
+
+
+def run(words, folder, path):
+    """Runs words with nothing but the system and `path` on the PATH. Returns status and output."""
+    env = {"PATH": f"{path}:/usr/bin:/bin", "HOME": "/nonexistent", "PYTHONDONTWRITEBYTECODE": "1"}
+    done = subprocess.run(words, cwd=folder, env=env, capture_output=True, text=True)
+    return done.returncode, done.stdout + done.stderr
+
+
+def used(prefix):
+    """Yields what is wrong with a release below a prefix: a tuning, its check, and the tools."""
+    bin, tools = prefix / "bin", prefix / dist.SHARE / "tools"
+    with tempfile.TemporaryDirectory() as folder:
+        pathlib.Path(folder, "a.red").write_text(BOMBER)
+        shutil.copy(prefix / dist.SHARE / "examples/warriors/dwarf.red", folder)
+        status, text = run([sys.executable, tools / "series.py", "4321", "3", "1"], folder, bin)
+        pathlib.Path(folder, "fights.csv").write_text(text)
+        words = ["a.red", "fights.csv", "a.cert", "dwarf.red"]
+        tuned = run(["cwtune", "tune", *words], folder, bin)
+        if status or tuned[0] or not tuned[1].startswith("vectors 3\n"):
+            yield f"tune: {status} {tuned}"
+        best, total = (line.split()[1] for line in tuned[1].splitlines()[2:5:2])
+        checked = run(["cwtune", "check", *words], folder, bin)
+        if checked != (0, f"accepted best {best} total {total}\n"):
+            yield f"check: {checked}"
+        for words, start in TOOLS:
+            tool, *rest = words.split()
+            came = run([sys.executable, tools / tool, *rest], folder, bin)
+            if came[0] or not came[1].startswith(start):
+                yield f"{tool}: {came}"
+
+
+def trial_of_tar(work):
+    tar, said = dist.pack(work)
+    digest = hashlib.sha256(tar.read_bytes()).hexdigest()
+    if said.read_text() != f"{digest}  {tar.name}\n":
+        yield "its checksum is another one"
+    again, _ = dist.pack(work / "again")
+    if again.read_bytes() != tar.read_bytes():
+        yield "packed twice it has other bytes"
+    with tarfile.open(tar) as file:
+        file.extractall(work, filter="data")
+    tree = work / tar.name.removesuffix(".tar.gz")
+    summed = subprocess.run(["sha256sum", "--check", "--quiet", "SHA256SUMS"], cwd=tree,
+                            capture_output=True, text=True)
+    if summed.returncode:
+        yield summed.stdout + summed.stderr
+    yield from used(tree)
+
+
+def trial_of_install(work):
+    prefix = work / "prefix"
+    (prefix / "bin").mkdir(parents=True)
+    (prefix / "bin/other").write_text("of somebody else\n")
+    dist.install(prefix)
+    yield from used(prefix)
+    dist.uninstall(prefix)
+    left = [str(path.relative_to(prefix)) for path in dist.files_of(prefix)]
+    if left != ["bin/other"]:
+        yield f"left after uninstall: {left}"
+
+
+def trial_of_package(work):
+    if not shutil.which("dpkg-deb"):
+        return
+    [package] = dist.debian(work)
+    subprocess.run(["dpkg-deb", "--extract", package, work / "system"], check=True)
+    yield from used(work / "system/usr")
+
+
+def trials():
+    for trial in [trial_of_tar, trial_of_install, trial_of_package]:
+        with tempfile.TemporaryDirectory() as folder:
+            work = pathlib.Path(folder)
+            (work / "again").mkdir()
+            yield trial.__name__.replace("_", " "), list(trial(work))
+
+
+def main():
+    parser = argparse.ArgumentParser(description=__doc__.partition("\n")[0])
+    parser.add_argument("program", nargs="*", metavar="PROGRAM", help="the program cwtune")
+    dist.BUILT = pathlib.Path(program_of(parser.parse_args().program))
+    dist.proved = lambda: "not asked for in a trial\n"
+    return tally(trials())
+
+
+if __name__ == "__main__":
+    run_tool(main)
