@@ -12,8 +12,8 @@ from endings import run_tool
 
 ROOT = pathlib.Path(__file__).resolve().parent.parent
 STEPS = ["edits.py", "try_tools.py --plain", "large_texts.py", "limits.py", "run_cases.py",
-         "pipes.py", "terminals.py", "cuts.py", "try_dist.py", "refuse_memory.py",
-         "refuse_writes.py", "refuse_growth.py"]
+         "pipes.py", "terminals.py", "cuts.py", "two_devices.py", "try_dist.py",
+         "refuse_memory.py", "refuse_writes.py", "refuse_growth.py"]
 # Ends a tool, and all that it has started, after 20 minutes. A tool in Python says where it was.
 WATCHED = ["timeout", "--signal=ABRT", "--kill-after=5", "1200", sys.executable, "-X",
            "faulthandler"]

@@ -84,7 +84,7 @@ REFUSALS = [
       for name in ["x.jpg", "x", "png"]),
     *((f"{tool} none", "error: no program none (`make build` builds one)", 2)
       for tool in ["run_cases.py", "cuts.py", "pipes.py", "large_texts.py", "refuse_memory.py",
-                   "refuse_writes.py", "limits.py"]),
+                   "refuse_writes.py", "limits.py", "two_devices.py"]),
     ("compare_pmars.py none", "error: no program none (`sh tools/pmars.sh` builds one)", 2),
     ("refuse_growth.py none", "error: no program none (`rt test` builds one)", 2),
 ]
