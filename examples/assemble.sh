@@ -8,11 +8,12 @@
 
 here=$(dirname "$0")
 program=${1:-$here/../crates/cwtune/out/cwtune}
+[ $# -gt 0 ] || [ -x "$program" ] || program=$(command -v cwtune)
 good=0
 all=0
 
 if [ ! -x "$program" ]; then
-    echo "assemble.sh: no program at $program" >&2
+    echo "assemble.sh: no program ${program:-here or on the PATH}" >&2
     exit 1
 fi
 

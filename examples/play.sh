@@ -6,10 +6,11 @@
 
 here=$(dirname "$0")
 program=${1:-$here/../crates/cwtune/out/cwtune}
+[ $# -gt 0 ] || [ -x "$program" ] || program=$(command -v cwtune)
 wrong=0
 
 if [ ! -x "$program" ]; then
-    echo "play.sh: no program at $program" >&2
+    echo "play.sh: no program ${program:-here or on the PATH}" >&2
     exit 1
 fi
 

@@ -10,6 +10,12 @@ mkdir -p "$folder"
 folder=$(cd "$folder" && pwd)
 program=$folder/pmars-server
 if [ ! -x "$program" ]; then
+    for needed in gcc dpkg-source; do
+        command -v "$needed" >/dev/null || {
+            echo "error: no $needed (Debian: apt-get install gcc dpkg-dev)" >&2
+            exit 2
+        }
+    done
     cd "$folder"
     mkdir -p lists/partial sources.d
     for file in /etc/apt/sources.list /etc/apt/sources.list.d/*; do
