@@ -11,7 +11,7 @@ import argparse, math, pathlib, random, subprocess, tempfile
 
 import tuning_files
 from endings import Fault, number_from, run_tool
-from program import add_program, add_rules, rules_of
+from program import EXPLAIN, add_program, add_rules, rules_of
 
 MOST_FIGHTS = 10000
 
@@ -44,11 +44,11 @@ def run(words):
 
 def play(asked, rules, folder, setting):
     """Returns the points of a setting in each of the fresh fights."""
-    load = run([asked.program, "asm", *rules, "--setting", str(setting), asked.template])
+    load = run([asked.program, "asm", *EXPLAIN, *rules, "--setting", str(setting), asked.template])
     template, schedule, cert = (pathlib.Path(folder, name) for name in ("t.red", "s.csv", "cert"))
     template.write_bytes(b";@tune ONE 0 0 1 0\n" + load)
     schedule.write_text(schedule_of(asked))
-    run([asked.program, "tune", *rules, template, schedule, cert, *asked.opponent])
+    run([asked.program, "tune", *EXPLAIN, *rules, template, schedule, cert, *asked.opponent])
     return tuning_files.Certificate(cert).points(0).values()
 
 

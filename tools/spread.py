@@ -16,7 +16,7 @@ CERT.parts is of other inputs; 3 a part has no result, or a file cannot be read 
 import argparse, os, pathlib, shutil, signal, subprocess, sys, time
 
 from endings import Fault, number_from, run_tool, whole_file
-from program import add_program, add_rules, rules_of
+from program import EXPLAIN, add_program, add_rules, rules_of
 from spread_jobs import Here, Hosts
 from spread_parts import Folder, Jobs
 
@@ -61,21 +61,22 @@ def run_program(*words, **more):
 
 
 def refuse_faults(args):
-    """Ends as `tune` ends if it refuses the words or an input.
+    """Ends as `tune` ends if it refuses the words or an input, at a terminal with the explanation.
 
     A template has at most a million settings. So if nothing else is wrong, `tune` looks at all
     inputs, says that there is no such part, and plays no fight.
     """
     cert = pathlib.Path(args.cert)
     is_new = not cert.exists()
-    words = [f"--part=1/{2 ** 32 - 1}", *rules_of(args).words(), f"--cache={args.cache}", "--"]
+    words = [f"--part=1/{2 ** 32 - 1}", *EXPLAIN, *rules_of(args).words(), f"--cache={args.cache}",
+             "--"]
     try:
         done = run_program(args.program, "tune", *words, args.template, args.schedule, args.cert,
                            *args.opponents)
     finally:
         if is_new and cert.is_file() and cert.stat().st_size == 0:
             cert.unlink()
-    if done.stderr != NO_SUCH_PART:
+    if NO_SUCH_PART not in done.stderr:
         end_as(done)
 
 

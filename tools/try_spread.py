@@ -297,11 +297,10 @@ def merged(place):
     yield compare("--merge of too many parts", 3, place.spread("--merge=4", *DECOY)[0])
 
 
-def progress(place):
-    """Looks at the line on a terminal."""
+def screen_of(place, words):
+    """Returns what a run shows on a terminal."""
     screen, terminal = pty.openpty()
-    job = subprocess.Popen(place.words(["--jobs=1", "--parts=12", *DECOY]), cwd=place.folder,
-                           stdout=subprocess.DEVNULL, stderr=terminal)
+    job = subprocess.Popen(words, cwd=place.folder, stdout=subprocess.DEVNULL, stderr=terminal)
     os.close(terminal)
     text = b""
     try:
@@ -311,7 +310,23 @@ def progress(place):
         pass
     job.wait()
     os.close(screen)
-    lines = text.decode().split("\r")
+    return text.decode()
+
+
+def explained(place):
+    """Compares an explanation on a terminal with that of `tune`."""
+    place.write("x.red", FILES["imps.red"])
+    place.write("near.csv", b"opponent,position,first\n0,3,c\n")
+    words = [*RULES, "x.red", "near.csv", "CERT", "dat.red"]
+    tuned = screen_of(place, [place.program, "tune", *words])
+    yield compare("the line at fault is shown", True, "near.csv, line 2: 0,3,c" in tuned)
+    place.clear()
+    yield compare("the explanation is that of tune", tuned, screen_of(place, place.words(words)))
+
+
+def progress(place):
+    """Looks at the line on a terminal."""
+    lines = screen_of(place, place.words(["--jobs=1", "--parts=12", *DECOY])).split("\r")
     shown = re.compile(r"6 of 12 parts, 63 of 126 settings, \d+ fights, best \d+ total \d+, "
                        r"\d+:\d\d left\x1b\[K")
     yield compare("a line of progress", True, any(shown.fullmatch(line) for line in lines))
@@ -320,7 +335,7 @@ def progress(place):
 
 def trials(program):
     for plays in [after_kills, other_inputs, damaged_parts, folders, templates, faults, liars,
-                  merged, progress]:
+                  merged, explained, progress]:
         with tempfile.TemporaryDirectory() as folder:
             try:
                 for name, wrong in plays(Place(program, folder)):
