@@ -21,7 +21,7 @@ impl<X: Write> Model for Outlet<X> {
     ghost view = { λ o. record { bytes = X.contents o.inner; failed = o.has_failed } };
 }
 
-/// A write failed, now or earlier.
+/// A write or a flush failed, now or earlier.
 #[derive(Clone, Copy, Debug, PartialEq, Eq, Error)]
 #[error("write failed")]
 pub struct WriteFailed;
@@ -80,7 +80,25 @@ impl<X: Write> Outlet<X> {
         Ok(())
     }
 
-    /// Returns whether a write has failed.
+    /// Flushes the writer, which has then passed on all that was written.
+    ///
+    /// The outlet must not have failed. What was written stays, even after `WriteFailed`; the
+    /// outlet has then failed for good, as after a failed write.
+    pub fn finish(&mut self) -> Result<(), WriteFailed>
+        requires { self.old.failed ≡ false }
+        ensures bytes { Keeps self.old.bytes self.new.bytes }
+        ensures failed { self.new.failed ≡ is_err result }
+    {
+        match self.inner.flush() {
+            Ok(()) => Ok(()),
+            Err(_) => {
+                self.has_failed = true;
+                Err(WriteFailed)
+            }
+        }
+    }
+
+    /// Returns whether a write or a flush has failed.
     pub fn failed(&self) -> bool
         ensures { result ≡ self.now.failed }
     {

@@ -14,3 +14,4 @@ pub mod Spans
 pub mod LongestTokens
 pub mod SpelledTokens
 pub mod StandingTokens
+pub mod GapSteps

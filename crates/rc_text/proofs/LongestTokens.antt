@@ -55,12 +55,12 @@ digit_begins_no_name : (a : ℕ) → is_ascii_digit a ≡ true → begins_name a
 digit_begins_no_name a h = grind (arith, nat_tests)
 
 -- two bytes or more; the first does not begin a sign of two
-no_sign : (a b : ℕ) (rest : List ℕ) → long_sign a b ≡ None → is_some (sign_of (a ∷ b ∷ rest)) ≡ false
+pub no_sign : (a b : ℕ) (rest : List ℕ) → long_sign a b ≡ None → is_some (sign_of (a ∷ b ∷ rest)) ≡ false
 no_sign a b [] h = rw h refl
 no_sign a b (c ∷ rest) h = refl
 
 -- no name, no number and no sign
-no_token : (bytes : List ℕ) → is_name bytes ≡ false → is_number bytes ≡ false → is_some (sign_of bytes) ≡ false → is_one_token bytes ≡ false
+pub no_token : (bytes : List ℕ) → is_name bytes ≡ false → is_number bytes ≡ false → is_some (sign_of bytes) ≡ false → is_one_token bytes ≡ false
 no_token bytes n d s = rw (n, d, s) refl
 
 module _ (a b : ℕ) (rest : List ℕ) (k : ℕ) (within : k ≤ length rest) where
@@ -79,7 +79,7 @@ module _ (a b : ℕ) (rest : List ℕ) (k : ℕ) (within : k ≤ length rest) wh
       no_token (a ∷ b ∷ take k rest) (rw (digit_begins_no_name a digit) refl) (not_all is_ascii_digit (a ∷ b ∷ rest) (suc (suc k)) over (omega arith)) (no_sign a b (take k rest) (no_long a b (digit_begins_no_long a digit)))
 
   -- where neither a name nor a number begins
-  longer_other : begins_name a ≡ false → is_ascii_digit a ≡ false → is_some (sign_of (a ∷ b ∷ take k rest)) ≡ false → is_one_token (take (suc (suc k)) (a ∷ b ∷ rest)) ≡ false
+  pub longer_other : begins_name a ≡ false → is_ascii_digit a ≡ false → is_some (sign_of (a ∷ b ∷ take k rest)) ≡ false → is_one_token (take (suc (suc k)) (a ∷ b ∷ rest)) ≡ false
   longer_other no_name no_digit no_sign = no_token (a ∷ b ∷ take k rest) (rw no_name refl) (rw no_digit refl) no_sign
 
 -- no longer token begins at the front of the text than the one that was taken

@@ -69,7 +69,7 @@ name_taken : (a : ℕ) (rest : List ℕ) → begins_name a ≡ true → is_name 
 name_taken a rest begins = rw (begins, one-add, begins) (all_taken continues_name rest)
 
 -- what is taken as a number is one
-number_taken : (a : ℕ) (rest : List ℕ) → is_ascii_digit a ≡ true → is_number (take (prefix_len is_ascii_digit (a ∷ rest)) (a ∷ rest)) ≡ true
+pub number_taken : (a : ℕ) (rest : List ℕ) → is_ascii_digit a ≡ true → is_number (take (prefix_len is_ascii_digit (a ∷ rest)) (a ∷ rest)) ≡ true
 number_taken a rest digit = rw (digit, one-add, digit) (all_taken is_ascii_digit rest)
 
 -- `;assert` has no line feed

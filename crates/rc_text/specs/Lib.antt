@@ -11,4 +11,5 @@ pub mod Values
 pub mod Reading
 pub mod NameClasses
 pub mod TokenTexts
+pub mod Gaps
 pub mod Examples

@@ -1,8 +1,10 @@
 //! Laws of the definitions.
-ghost use Rattle.std.specs.Prelude.{◌≡◌, ◌↔◌, List, ℕ, ℤ, All, Ok, Err};
+ghost use Rattle.std.specs.Prelude.{◌≡◌, ◌↔◌, List, ℕ, ℤ, All, Ok, Err, length, true};
 ghost use Rattle.rc_text.specs.declared.fault.EvalFault.{EvalFault};
 ghost use Rattle.rc_text.specs.TokenTexts.{StandsIn};
-ghost use Rattle.rc_text.specs.Tokens.{tokens_of};
+ghost use Rattle.rc_text.specs.Gaps.{OnlyGapsBetween};
+ghost use Rattle.rc_text.specs.Headers.{header_of};
+ghost use Rattle.rc_text.specs.Tokens.{tokens_of, InOrder};
 ghost use Rattle.rc_text.specs.Symbols.{Symbol};
 ghost use Rattle.rc_text.specs.Grammar.{Tree, IsGrammatical, spelling_of};
 ghost use Rattle.rc_text.specs.Values.{Meaning, IsValue, IsEvalFault};
@@ -12,6 +14,14 @@ ghost use Rattle.rc_text.specs.Reading.{evaluation_of};
 /// the number of line feeds before it.
 pub fn tokens_stand_in_the_text()
     ensures { (text : List ℕ) → All (StandsIn text) (tokens_of text).tokens }
+{}
+
+/// The tokens of a text skip nothing but blanks and comments: their spans follow one another after
+/// the header, and each byte before, between and after them is a blank or part of a comment, up to
+/// the end of the text or the fault that ends the tokens.
+pub fn tokens_skip_blanks_and_comments()
+    ensures order { (text : List ℕ) → InOrder (header_of text).bytes (length text) (tokens_of text).tokens }
+    ensures gaps { (text : List ℕ) → OnlyGapsBetween text true (header_of text).bytes (tokens_of text).tokens (tokens_of text).ending }
 {}
 
 /// The grammar is unambiguous: no two of its trees have the same symbols.
