@@ -1,5 +1,5 @@
 //! Outlets for bytes: writers that give up at the first failure and remember it.
-ghost use Rattle.std.specs.Prelude.{◌≡◌, ◌<◌, ◌≤◌, false, take, length, IfOk, OnOk, OnErr, IsErr, IsTrue, is_err};
+ghost use Rattle.std.specs.Prelude.{◌≡◌, ◌<◌, ◌≤◌, true, false, take, length, IfOk, OnOk, OnErr, IsErr, IsTrue, is_err};
 ghost use Rattle.std.specs.Io.KnownBytes.{Appends, Keeps};
 
 use std::io::Write;
@@ -55,10 +55,7 @@ impl<X: Write> Outlet<X> {
         }
         match self.inner.write(piece) {
             Ok(count) if count > 0 || piece.is_empty() => Ok(count),
-            _ => {
-                self.has_failed = true;
-                Err(WriteFailed)
-            }
+            _ => Err(self.fail()),
         }
     }
 
@@ -91,11 +88,17 @@ impl<X: Write> Outlet<X> {
     {
         match self.inner.flush() {
             Ok(()) => Ok(()),
-            Err(_) => {
-                self.has_failed = true;
-                Err(WriteFailed)
-            }
+            Err(_) => Err(self.fail()),
         }
+    }
+
+    // Gives the writer up.
+    fn fail(&mut self) -> WriteFailed
+        ensures bytes { self.new.bytes ≡ self.old.bytes }
+        ensures failed { self.new.failed ≡ true }
+    {
+        self.has_failed = true;
+        WriteFailed
     }
 
     /// Returns whether a write or a flush has failed.

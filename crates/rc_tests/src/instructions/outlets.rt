@@ -8,8 +8,8 @@ use std::io;
 use std::io::Write;
 use std::test::Fail;
 
-// A writer that takes at most `most` bytes at a call, and counts its calls. Call `bad_call`
-// (counted from 1) fails with `kind`, or takes no byte if there is none.
+// A writer that takes at most `most` bytes at a call, and counts its calls, those of `flush` too.
+// Call `bad_call` (counted from 1) fails with `kind`; if there is none, it takes no byte.
 #[derive(Drop)]
 pub(crate) struct Fake {
     pub(crate) taken: Vec<u8>,
@@ -34,7 +34,11 @@ impl Write for Fake {
     }
 
     fn flush(&mut self) -> io::Result<()> {
-        Ok(())
+        self.calls = self.calls.saturating_add(1);
+        match self.kind {
+            Some(kind) if self.calls == self.bad_call => Err(io::Error::from(kind)),
+            _ => Ok(()),
+        }
     }
 }
 
@@ -105,6 +109,38 @@ fn a_whole_text_is_written_piece_by_piece(rt: HostRuntime) {
         assert_eq!(rt; found, want, "{most} {bad_call}");
         assert_eq!(rt; bytes.as_slice(), taken, "{most} {bad_call}");
     }
+}
+
+// Writes `abc` and flushes the writer. Returns the outlet, and the result of the flush.
+fn finished_outlet(alloc: Global, bad_call: u32) -> (Outlet<Fake>, Result<(), WriteFailed>) {
+    let mut outlet = outlet(alloc, 5, bad_call, Some(io::ErrorKind::StorageFull));
+    let result = match outlet.write_all(b"abc") {
+        Ok(()) => outlet.finish(),
+        Err(failed) => Err(failed),
+    };
+    (outlet, result)
+}
+
+#[test]
+fn a_finished_outlet_has_flushed_its_writer(rt: HostRuntime) {
+    let (mut outlet, result) = finished_outlet(rt.alloc(), 9);
+    assert_eq!(rt; result, Ok(()));
+    assert!(rt; !outlet.failed());
+    assert_eq!(rt; outlet.write(b"de"), Ok(2));
+    let fake = outlet.into_inner();
+    assert_eq!(rt; fake.taken.as_slice(), b"abcde".as_slice());
+    assert_eq!(rt; fake.calls, 3);
+}
+
+#[test]
+fn a_flush_that_fails_ends_the_outlet(rt: HostRuntime) {
+    let (mut outlet, result) = finished_outlet(rt.alloc(), 2);
+    assert_eq!(rt; result, Err(WriteFailed));
+    assert!(rt; outlet.failed());
+    assert_eq!(rt; outlet.write(b"de"), Err(WriteFailed));
+    let fake = outlet.into_inner();
+    assert_eq!(rt; fake.taken.as_slice(), b"abc".as_slice());
+    assert_eq!(rt; fake.calls, 2);
 }
 
 #[test]
