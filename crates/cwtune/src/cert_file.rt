@@ -29,7 +29,7 @@ pub(crate) enum NotOpened<'a> {
     Uncreated(io::Error),
 }
 
-// The file CERT, which has its old text until the new one is written.
+// The file CERT. A regular file has its old text until the new one is flushed.
 #[derive(Drop)]
 pub(crate) struct CertFile<R: Files> {
     way: Way<R>,
@@ -55,23 +55,30 @@ impl<R: Files> CertFile<R> {
         self.failure
     }
 
-    // Writes a text: `write_cert` hands over the whole certificate at once.
-    fn write_text(&mut self, text: &[u8]) -> io::Result<usize>
-        ensures { IfOk result (λ n. n ≤ length text.now) }
+    fn write_piece(&mut self, piece: &[u8]) -> io::Result<usize>
+        ensures { IfOk result (λ n. n ≤ length piece.now) }
     {
         match &mut self.way {
-            Way::Stream(file) => file.write(text),
+            Way::Stream(file) => file.write(piece),
             Way::Whole(place) => {
-                place.replace(text)?;
-                Ok(text.len())
+                place.write(piece)?;
+                Ok(piece.len())
             }
+        }
+    }
+
+    // Ends the text. A stream has no more to do.
+    fn finish(&mut self) -> io::Result<()> {
+        match &mut self.way {
+            Way::Stream(_) => Ok(()),
+            Way::Whole(place) => place.finish(),
         }
     }
 }
 
 impl<R: Files> Write for CertFile<R> {
     fn write(&mut self, buf: &[u8]) -> io::Result<usize> {
-        match self.write_text(buf) {
+        match self.write_piece(buf) {
             Ok(count) => Ok(count),
             Err(error) => {
                 self.failure = Some(error);
@@ -81,7 +88,13 @@ impl<R: Files> Write for CertFile<R> {
     }
 
     fn flush(&mut self) -> io::Result<()> {
-        Ok(())
+        match self.finish() {
+            Ok(()) => Ok(()),
+            Err(error) => {
+                self.failure = Some(error);
+                Err(error)
+            }
+        }
     }
 }
 

@@ -1,5 +1,5 @@
-//! Replaces a file whole, or leaves it as it is: a new text goes to a file beside it, is flushed to
-//! the disk, and then takes the name.
+//! Replaces a file whole, or leaves it as it is: a new text goes to a file beside it, piece by piece.
+//! At the end that file is flushed to the disk, and takes the name.
 
 use std::alloc::Global;
 use std::fs::{OpenFile, OpenOptions, Permissions};
@@ -25,6 +25,8 @@ pub(crate) struct Place<R: Files> {
     beside: String,
     // The permissions of the file, if there is one.
     mode: Option<u32>,
+    // The file beside it, from the first piece of the text to the last step or a failure.
+    file: Option<R::File>,
 }
 
 // Finds the file that `name` leads to, and tries to make a file beside it, which is removed again.
@@ -45,25 +47,46 @@ pub(crate) fn place_at<R: Files + Copy>(
         name,
         beside,
         mode,
+        file: None,
     })
 }
 
 impl<R: Files> Place<R> {
-    // Gives the file this text, or leaves it as it is.
-    pub(crate) fn replace(&self, text: &[u8]) -> io::Result<()> {
-        let mut file = create(&self.rt, self.beside.as_str(), self.mode)?;
-        let ended = self.fill(&mut file, text);
-        if ended.is_err() {
-            let _ = fs::remove_file(&self.rt, self.beside.as_str());
+    // Writes a piece of the text to the file beside, which the first piece makes. After a failure
+    // there is none.
+    pub(crate) fn write(&mut self, piece: &[u8]) -> io::Result<()> {
+        let mut file = match self.file.take() {
+            Some(file) => file,
+            None => create(&self.rt, self.beside.as_str(), self.mode)?,
+        };
+        let written = file.write_all(piece);
+        if written.is_ok() {
+            self.file = Some(file);
+        } else {
+            self.remove_beside();
         }
-        ended
+        written
     }
 
-    // Writes the text to the file beside, flushes it to the disk, and gives it the name.
-    fn fill(&self, file: &mut R::File, text: &[u8]) -> io::Result<()> {
-        file.write_all(text)?;
+    // Flushes the file beside to the disk, and gives it the name. After a failure there is none.
+    pub(crate) fn finish(&mut self) -> io::Result<()> {
+        let Some(file) = self.file.take() else {
+            return Ok(());
+        };
+        let named = self.name_file(&file);
+        if named.is_err() {
+            self.remove_beside();
+        }
+        named
+    }
+
+    fn name_file(&self, file: &R::File) -> io::Result<()> {
         file.sync_all()?;
         fs::rename(&self.rt, self.beside.as_str(), self.name.as_str())
+    }
+
+    fn remove_beside(&self) {
+        let _ = fs::remove_file(&self.rt, self.beside.as_str());
     }
 }
 

@@ -28,8 +28,8 @@ use tune_template::Part;
 /// the schedule. The template is a Redcode text with `;@tune` lines, each opponent a Redcode text,
 /// the schedule a table of fights. The search remembers up to `capacity` settings, 1 to 65536, so
 /// that equal warriors share their fights. The certificate and the report are made before either is
-/// written, and the certificate is written whole before the report begins. Neither outlet
-/// must have failed.
+/// written, and the certificate is written whole and its writer flushed before the report begins.
+/// Neither outlet must have failed.
 ///
 /// # Errors
 ///
@@ -145,7 +145,7 @@ pub fn tune_part_run<T: Watcher, W: Write, V: Write>(
     write_both(alloc, &found, text.as_slice(), report, cert)
 }
 
-// Writes the certificate, then the report.
+// Writes the certificate and flushes its writer, then writes the report.
 pub(crate) fn write_both<W: Write, V: Write>(
     alloc: Global,
     found: &Found,
@@ -168,6 +168,7 @@ pub(crate) fn write_both<W: Write, V: Write>(
         Err(CertFault::Write) => return Err(RunFault::Write),
         Err(CertFault::OutOfMemory) => return Err(RunFault::OutOfMemory),
     }
+    cert.finish()?;
     report.write_all(text)?;
     Ok(())
 }

@@ -29,11 +29,13 @@ impl Write for Broken {
 pub(crate) const PIECE: usize = 7;
 
 // Takes up to `PIECE` bytes at each of its first writes. Then each write fails, or takes no byte.
+// Unless it `flushes`, each flush fails.
 #[derive(Drop)]
 pub(crate) struct Failing {
     pub(crate) taken: Vec<u8>,
     writes: usize,
     fails: bool,
+    flushes: bool,
 }
 
 impl Failing {
@@ -43,6 +45,17 @@ impl Failing {
             taken: Vec::new(alloc),
             writes,
             fails,
+            flushes: true,
+        }
+    }
+
+    // Returns a writer that takes this many writes, and fails at each flush.
+    pub(crate) fn at_flush(alloc: Global, writes: usize) -> Failing {
+        Failing {
+            taken: Vec::new(alloc),
+            writes,
+            fails: true,
+            flushes: false,
         }
     }
 }
@@ -59,6 +72,6 @@ impl Write for Failing {
     }
 
     fn flush(&mut self) -> io::Result<()> {
-        Ok(())
+        if self.flushes { Ok(()) } else { failure() }
     }
 }

@@ -119,6 +119,18 @@ fn a_certificate_is_cut(rt: HostRuntime) -> Result<(), Fail> {
     Ok(())
 }
 
+// A certificate that is taken whole, but cannot be flushed: the report is not begun.
+#[test]
+fn a_certificate_is_not_flushed(rt: HostRuntime) -> Result<(), Fail> {
+    let cert = Failing::at_flush(rt.alloc(), 100);
+    let report = Failing::after(rt.alloc(), 100, true);
+    let (result, report, cert) = tuned(rt.alloc(), report, cert)?;
+    assert_eq!(rt; result, Err(RunFault::Write));
+    assert_eq!(rt; cert.as_slice(), ORDER_CERT);
+    assert!(rt; report.is_empty());
+    Ok(())
+}
+
 // A report of 71 bytes, cut after each piece: the certificate is written whole before.
 #[test]
 fn a_report_is_cut(rt: HostRuntime) -> Result<(), Fail> {
