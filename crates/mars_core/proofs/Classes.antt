@@ -50,7 +50,7 @@ key_in c =
     else if c == 37 then 10577
     else if c == 38 then 2377
     else if c == 39 then 3844
-    else if c == 40 then 2154
+    else if c == 40 then 4
     else 0
 
 -- a class is 0, or leads back to the key
@@ -103,7 +103,7 @@ leads k =
     leads_if (k == 10577) k 37 _ 10577 (λ e. eqb-true _ _ e) refl (
     leads_if (k == 2377) k 38 _ 2377 (λ e. eqb-true _ _ e) refl (
     leads_if (k == 3844) k 39 _ 3844 (λ e. eqb-true _ _ e) refl (
-    leads_if (k == 2154) k 40 _ 2154 (λ e. eqb-true _ _ e) refl (
+    leads_if (k == 4) k 40 _ 4 (λ e. eqb-true _ _ e) refl (
     inl refl))))))))))))))))))))))))))))))))))))))))
 
 -- a key says the parts
@@ -288,9 +288,9 @@ pub coded_39 : (i : Instruction) (n : ℕ) → (0 < n → n ≡ class_of i) → 
 unfolding key_in
 coded_39 i n h e = parted i 0 4 7 1 (led i n 39 h e (omega arith)) (omega arith) (omega arith) (omega arith) (omega arith)
 
-pub coded_40 : (i : Instruction) (n : ℕ) → (0 < n → n ≡ class_of i) → n ≡ 40 → IsCoded 13 2 0 1 i
+pub coded_40 : (i : Instruction) (n : ℕ) → (0 < n → n ≡ class_of i) → n ≡ 40 → IsCoded 0 4 0 0 i
 unfolding key_in
-coded_40 i n h e = parted i 13 2 0 1 (led i n 40 h e (omega arith)) (omega arith) (omega arith) (omega arith) (omega arith)
+coded_40 i n h e = parted i 0 4 0 0 (led i n 40 h e (omega arith)) (omega arith) (omega arith) (omega arith) (omega arith)
 
 -- no class is greater than the last
 pub class_most : (i : Instruction) (n : ℕ) → n ≡ class_of i → n < 41

@@ -107,7 +107,7 @@ class_small k =
     either_small (k == 10577) 37 _ (omega arith) (
     either_small (k == 2377) 38 _ (omega arith) (
     either_small (k == 3844) 39 _ (omega arith) (
-    either_small (k == 2154) 40 _ (omega arith) (
+    either_small (k == 4) 40 _ (omega arith) (
     omega arith))))))))))))))))))))))))))))))))))))))))
 
 -- the word of an opcode and a modifier alone

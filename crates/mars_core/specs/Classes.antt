@@ -58,7 +58,7 @@ class_of_key k =
     else if k == 10577 then 37  -- DJN.B $, <
     else if k == 2377 then 38  -- JMN.B $, $
     else if k == 3844 then 39  -- DAT.F >, $
-    else if k == 2154 then 40  -- SLT.AB #, $
+    else if k == 4 then 40  -- DAT.F #, #
     else 0
 
 -- The class of an instruction, 0 if it is none of these.

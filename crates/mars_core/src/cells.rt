@@ -8,6 +8,7 @@ ghost use Rattle.mars_core.specs.Core.{cell_at, filled_in, loaded_at, IsCore};
 use crate::cell::Cell;
 use rc_instr::{Instruction, OutOfMemory};
 use std::alloc::Global;
+use std::mem;
 
 /// Keeps the cells of a core, marks those that it takes to empty it again, and counts these.
 ///
@@ -75,6 +76,21 @@ pub trait Cells {
         ensures marked { marked self.new ≡ marked other.now }
         ensures marks { marks self.new ≡ marks other.now };
 
+    /// Moves the store out, and leaves one without cells, until `put_back`.
+    ///
+    /// A loop keeps it in a variable of its own meanwhile, so that the compiler holds the addresses
+    /// of the cells in registers.
+    fn take(&mut self) -> Self
+        ensures items { items result ≡ items self.old }
+        ensures marked { marked result ≡ marked self.old }
+        ensures marks { marks result ≡ marks self.old };
+
+    /// Moves a store to this place.
+    fn put_back(&mut self, store: Self)
+        ensures items { items self.new ≡ items store }
+        ensures marked { marked self.new ≡ marked store }
+        ensures marks { marks self.new ≡ marks store };
+
     /// Empties every cell and returns the number of cells that this set, which is the marks. These
     /// are at least as many as the cells that were not empty.
     ///
@@ -134,6 +150,20 @@ impl Cells for PlainCells {
     #[tactic(auto, using(crate::proofs::Marks::all_stay, crate::proofs::Marks::none_first))]
     fn put(&mut self, at: u32, cell: Instruction) {
         self.cells[at as usize] = cell;
+    }
+
+    #[inline]
+    fn take(&mut self) -> PlainCells {
+        let alloc = *self.cells.allocator();
+        let none = PlainCells {
+            cells: Vec::new(alloc),
+        };
+        mem::replace(self, none)
+    }
+
+    #[inline]
+    fn put_back(&mut self, store: PlainCells) {
+        *self = store;
     }
 
     fn copy_from(&mut self, other: &PlainCells) {

@@ -16,8 +16,43 @@ const STRETCH: u32 = 2000;
 
 // Alternates turns, `mine` first, until a queue is empty or `cycles` are over.
 // Returns the number of turns.
+//
+// Moves the cells to a variable of its own for that: through a reference, the compiler would load
+// their addresses again after each write to a cell, since it could be a write to these.
 #[inline(never)]
 fn alternate<C: Cells>(
+    cells: &mut C,
+    mine: &mut Tasks,
+    theirs: &mut Tasks,
+    size: u32,
+    cycles: u32,
+) -> u32
+    requires core { IsCore size (C.items cells.old) }
+    requires mine { AreTasks size mine.old.items }
+    requires theirs { AreTasks size theirs.old.items }
+    requires room { theirs.old.capacity ≡ mine.old.capacity }
+    requires cycles { cycles ≤ 1000000 }
+
+    // `mine` may be either side, so both clauses hold for every side that moves first.
+    ensures turns { (first : Side) → result ≡ turns_of mine.old.capacity (seen_from first (C.items cells.old) mine.old.items theirs.old.items) first cycles }
+    ensures state { (first : Side) → seen_from first (C.items cells.new) mine.new.items theirs.new.items
+        ≡ play_of mine.old.capacity (seen_from first (C.items cells.old) mine.old.items theirs.old.items) first result }
+
+    ensures core { IsCore size (C.items cells.new) }
+    ensures mine { AreTasks size mine.new.items × (mine.new.capacity ≡ mine.old.capacity) }
+    ensures theirs { AreTasks size theirs.new.items × (theirs.new.capacity ≡ theirs.old.capacity) }
+    ensures within { result ≤ 2 * cycles }
+    ensures marks { C.marks cells.new ≤ C.marks cells.old + 3 * result }
+{
+    let mut store = cells.take();
+    let turns = take_turns(&mut store, mine, theirs, size, cycles);
+    cells.put_back(store);
+    turns
+}
+
+// Does what `alternate` does, with the cells where they are.
+#[inline(always)]
+fn take_turns<C: Cells>(
     cells: &mut C,
     mine: &mut Tasks,
     theirs: &mut Tasks,

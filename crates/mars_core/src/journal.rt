@@ -9,6 +9,7 @@ use crate::packed::PackedCell;
 use rc_instr::OutOfMemory;
 use std::alloc::Global;
 use std::marker::Model;
+use std::mem;
 
 /// Keeps each cell in a word of 8 bytes, and in a journal the address of each cell that was written
 /// since the last reset. `restore` empties only these, so the marks are their number.
@@ -83,6 +84,17 @@ impl PackedCells {
             count: 0,
         })
     }
+
+    // Makes a store without cells, which takes no memory.
+    #[tactic(auto, using(crate::proofs::Stores::no_store))]
+    #[inline]
+    fn none(alloc: Global) -> PackedCells {
+        PackedCells {
+            words: Vec::new(alloc),
+            journal: Vec::new(alloc),
+            count: 0,
+        }
+    }
 }
 
 impl Cells for PackedCells {
@@ -123,6 +135,17 @@ impl Cells for PackedCells {
             at,
             word,
         );
+    }
+
+    #[inline]
+    fn take(&mut self) -> PackedCells {
+        let alloc = *self.words.allocator();
+        mem::replace(self, PackedCells::none(alloc))
+    }
+
+    #[inline]
+    fn put_back(&mut self, store: PackedCells) {
+        *self = store;
     }
 
     fn copy_from(&mut self, other: &PackedCells) {

@@ -68,10 +68,9 @@ pub(crate) fn next_turn<C: Cells>(cells: &mut C, tasks: &mut Tasks, size: u32) -
     requeue(tasks, size, pc, executed)
 }
 
-// Takes one turn of a side that has a task, whatever its instruction is. It stays out of line, so
-// that it takes no registers from the arms.
-#[tactic(auto, using(crate::proofs::Queues::queues), unfolding(crate::specs::State::core_after, crate::specs::State::tasks_after))]
-#[inline(never)]
+// Takes one turn of a side that has a task, whatever its instruction is. It is a function of its
+// own, so that only a turn of this kind prepares the places for what `turn_apart` returns.
+#[inline(always)]
 fn any_turn<C: Cells>(cells: &mut C, tasks: &mut Tasks, size: u32) -> bool
     requires core { IsCore size (C.items cells.old) }
     requires tasks { AreTasks size tasks.old.items }
@@ -83,10 +82,32 @@ fn any_turn<C: Cells>(cells: &mut C, tasks: &mut Tasks, size: u32) -> bool
     ensures below { AreTasks size tasks.new.items }
     ensures marks { C.marks cells.new ≤ C.marks cells.old + 3 }
 {
+    let (store, over) = turn_apart(cells.take(), tasks, size);
+    cells.put_back(store);
+    over
+}
+
+// Takes one turn of a side that has a task. Returns the cells, and whether the queue is empty
+// afterwards. It stays out of line, so that it takes no registers from the arms, and takes the
+// cells by value, so that no address of them leaves the loop.
+#[tactic(auto, using(crate::proofs::Queues::queues), unfolding(crate::specs::State::core_after, crate::specs::State::tasks_after))]
+#[inline(never)]
+fn turn_apart<C: Cells>(cells: C, tasks: &mut Tasks, size: u32) -> (C, bool)
+    requires core { IsCore size (C.items cells) }
+    requires tasks { AreTasks size tasks.old.items }
+    requires some { 0 < length tasks.old.items }
+    ensures cells { C.items result.0 ≡ core_after (C.items cells) tasks.old.items }
+    ensures tasks { tasks.new ≡ buffer (tasks_after tasks.old.capacity (C.items cells) tasks.old.items) tasks.old.capacity }
+    ensures over { result.1 ≡ (length tasks.new.items == 0) }
+    ensures core { IsCore size (C.items result.0) }
+    ensures below { AreTasks size tasks.new.items }
+    ensures marks { C.marks result.0 ≤ C.marks cells + 3 }
+{
+    let mut store = cells;
     let pc = tasks.first();
-    let cell = read(cells, size, pc);
-    let executed = execute_any(cells, size, pc, cell);
-    requeue(tasks, size, pc, executed)
+    let cell = read(&store, size, pc);
+    let executed = execute_any(&mut store, size, pc, cell);
+    (store, requeue(tasks, size, pc, executed))
 }
 
 // Executes the instruction at `pc`, which is `cell` (1994 draft). A frequent one has an arm of its
@@ -145,7 +166,7 @@ fn execute<C: Cells>(cells: &mut C, size: u32, pc: u32, cell: C::Kept, class: u6
         37 => arm::<C, 10, 1, 1, 5>(cells, size, pc, cell), // DJN.B $, <
         38 => arm::<C, 9, 1, 1, 1>(cells, size, pc, cell), // JMN.B $, $
         39 => arm::<C, 0, 4, 7, 1>(cells, size, pc, cell), // DAT.F >, $
-        _ => arm::<C, 13, 2, 0, 1>(cells, size, pc, cell), // SLT.AB #, $
+        _ => arm::<C, 0, 4, 0, 0>(cells, size, pc, cell), // DAT.F #, #
     }
 }
 

@@ -3,8 +3,8 @@ use Rattle.std.proofs.lemmas.Bool.{eqb-true, eqb-false}
 use Rattle.mars_core.specs.Fight.{turns_of}
 use Rattle.mars_core.specs.State.{play_of, seen_from}
 use Rattle.mars_core.proofs.Going.{mine_moved, theirs_moved, over_mine, over_theirs, ends_here, goes_to_the_end, goes_from_the_start}
-use Rattle.mars_core.proofs.fight_loop.alternate.Goals.{then-is_empty-via-then-is_empty, then-is_empty-via-else-is_empty+then-is_empty-2}
-use Rattle.mars_core.proofs.fight_loop.alternate.Goals as goal
+use Rattle.mars_core.proofs.fight_loop.take_turns.Goals.{then-is_empty-via-then-is_empty, then-is_empty-via-else-is_empty+then-is_empty-2}
+use Rattle.mars_core.proofs.fight_loop.take_turns.Goals as goal
 
 -- a side has no task from the start
 pub returns-then-is_empty-clause-turns : goal.returns-then-is_empty-clause-turns

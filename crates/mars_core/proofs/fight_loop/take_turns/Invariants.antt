@@ -3,7 +3,7 @@ use Rattle.mars_core.specs.Core.{IsCore, AreTasks}
 use Rattle.mars_core.specs.State.{seen_from}
 use Rattle.mars_core.specs.declared.side.Side.{Side}
 use Rattle.mars_core.proofs.Going.{IsGoing}
-use Rattle.mars_core.proofs.fight_loop.alternate.Given as goal
+use Rattle.mars_core.proofs.fight_loop.take_turns.Given as goal
 
 -- whole cycles were made, and both sides have tasks
 abbrev pub invariant-loop-cycle : goal.invariant-loop-cycle

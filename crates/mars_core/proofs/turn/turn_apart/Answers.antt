@@ -1,5 +1,5 @@
 use Rattle.mars_core.proofs.Queues.{appended_below, rest_below}
-use Rattle.mars_core.proofs.turn.any_turn.Goals as goal
+use Rattle.mars_core.proofs.turn.turn_apart.Goals as goal
 
 pub returns-clause-below : goal.returns-clause-below
 returns-clause-below g c =
