@@ -79,13 +79,17 @@ fn take_turns<C: Cells>(
     if mine.is_empty() || theirs.is_empty() {
         return 0;
     }
+    let mut my_task = mine.first();
+    let mut their_task = theirs.first();
     for cycle in 0..cycles {
-        if next_turn(cells, mine, size) {
+        let Some(next) = next_turn(cells, mine, size, my_task) else {
             return 2 * cycle + 1;
-        }
-        if next_turn(cells, theirs, size) {
+        };
+        my_task = next;
+        let Some(next) = next_turn(cells, theirs, size, their_task) else {
             return 2 * cycle + 2;
-        }
+        };
+        their_task = next;
     }
     2 * cycles
 }

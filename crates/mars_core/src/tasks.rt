@@ -132,7 +132,8 @@ impl Tasks {
     #[inline]
     pub(crate) fn append(&mut self, task: u32)
         requires { task < 65536 }
-        ensures { self.new ≡ buffer (if nat_lt (length self.old.items) self.old.capacity then self.old.items ++ task ∷ [] else self.old.items) self.old.capacity }
+        ensures tasks { self.new ≡ buffer (if nat_lt (length self.old.items) self.old.capacity then self.old.items ++ task ∷ [] else self.old.items) self.old.capacity }
+        ensures first { 0 < length self.old.items → slice_get self.new.items 0 ≡ slice_get self.old.items 0 }
     {
         if !self.alive {
             self.first = task as u16;
@@ -142,35 +143,46 @@ impl Tasks {
         let _ = self.waiting.try_push_back(task as u16);
     }
 
-    // Takes the first task out of a queue that has one.
+    // Takes the first task out of a queue that has one. Returns the task that is first then.
     #[inline]
-    pub(crate) fn remove_first(&mut self)
+    pub(crate) fn remove_first(&mut self) -> Option<u32>
         requires { 0 < length self.old.items }
-        ensures { self.new ≡ buffer (drop 1 self.old.items) self.old.capacity }
+        ensures tasks { self.new ≡ buffer (drop 1 self.old.items) self.old.capacity }
+        ensures first { result ≡ slice_get self.new.items 0 }
     {
         match self.waiting.pop_front() {
-            Some(next) => self.first = next,
-            None => self.alive = false,
+            Some(next) => {
+                self.first = next;
+                Some(u32::from(next))
+            }
+            None => {
+                self.alive = false;
+                None
+            }
         }
     }
 
     // Takes the first task out of a queue that has one, and appends `last`, for which there is
-    // room then.
+    // room then. Returns the task that is first then.
     #[inline]
-    pub(crate) fn replace_first(&mut self, last: u32)
+    pub(crate) fn replace_first(&mut self, last: u32) -> u32
         requires last { last < 65536 }
         requires some { 0 < length self.old.items }
         ensures tasks { self.new ≡ buffer (drop 1 self.old.items ++ last ∷ []) self.old.capacity }
         ensures room { length self.old.items ≤ self.old.capacity }
-        ensures some { (length self.new.items == 0) ≡ false }
+        ensures first { Some result ≡ slice_get self.new.items 0 }
     {
         prove!(self.waiting.len() <= self.waiting.capacity());
         match self.waiting.pop_front() {
             Some(next) => {
                 self.first = next;
                 let _ = self.waiting.try_push_back(last as u16);
+                u32::from(next)
             }
-            None => self.first = last as u16,
+            None => {
+                self.first = last as u16;
+                last
+            }
         }
     }
 }

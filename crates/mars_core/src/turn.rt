@@ -1,5 +1,5 @@
 //! One turn of a side: its first task executes an instruction, and queues what follows.
-ghost use Rattle.std.specs.Prelude.{◌≡◌, false, ◌<◌, ◌≤◌, ◌==◌, ◌+◌, ◌∷◌, [], ◌++◌, length, drop, if◌then◌else◌, nat_lt};
+ghost use Rattle.std.specs.Prelude.{◌≡◌, ◌<◌, ◌≤◌, ◌+◌, Some, length, drop, slice_get};
 ghost use Rattle.circular_buffer.specs.Buffer.{buffer};
 ghost use Rattle.rc_instr.specs.Warrior.{IsBelow};
 ghost use Rattle.mars_core.specs.Classes.{class_of};
@@ -24,87 +24,90 @@ pub(crate) struct Executed {
     pub(crate) jump: u32,
 }
 
-// Takes one turn of the side with these tasks. Changes nothing if there are none. Returns whether
-// the queue is empty afterwards.
+// Takes one turn of the side with these tasks. Changes nothing if there are none.
 #[tactic(auto, using(crate::proofs::Queues::queues), unfolding(crate::specs::State::core_after, crate::specs::State::tasks_after))]
 #[inline(always)]
-pub(crate) fn take_turn<C: Cells>(cells: &mut C, tasks: &mut Tasks, size: u32) -> bool
+pub(crate) fn take_turn<C: Cells>(cells: &mut C, tasks: &mut Tasks, size: u32)
     requires core { IsCore size (C.items cells.old) }
     requires tasks { AreTasks size tasks.old.items }
     ensures cells { C.items cells.new ≡ core_after (C.items cells.old) tasks.old.items }
     ensures tasks { tasks.new ≡ buffer (tasks_after tasks.old.capacity (C.items cells.old) tasks.old.items) tasks.old.capacity }
-    ensures over { result ≡ (length tasks.new.items == 0) }
     ensures core { IsCore size (C.items cells.new) }
     ensures below { AreTasks size tasks.new.items }
     ensures marks { C.marks cells.new ≤ C.marks cells.old + 3 }
 {
     if tasks.is_empty() {
-        return true;
+        return;
     }
-    next_turn(cells, tasks, size)
+    let pc = tasks.first();
+    next_turn(cells, tasks, size, pc);
 }
 
-// Takes one turn of a side that has a task. Returns whether the queue is empty afterwards.
+// Takes one turn of a side whose first task is `pc`. Returns the task that is first afterwards, so
+// that a loop need not read it from the queue.
 #[tactic(auto, using(crate::proofs::Queues::queues), unfolding(crate::specs::State::core_after, crate::specs::State::tasks_after))]
 #[inline(always)]
-pub(crate) fn next_turn<C: Cells>(cells: &mut C, tasks: &mut Tasks, size: u32) -> bool
+pub(crate) fn next_turn<C: Cells>(
+    cells: &mut C,
+    tasks: &mut Tasks,
+    size: u32,
+    pc: u32,
+) -> Option<u32>
     requires core { IsCore size (C.items cells.old) }
     requires tasks { AreTasks size tasks.old.items }
-    requires some { 0 < length tasks.old.items }
+    requires pc { Some pc ≡ slice_get tasks.old.items 0 }
     ensures cells { C.items cells.new ≡ core_after (C.items cells.old) tasks.old.items }
     ensures tasks { tasks.new ≡ buffer (tasks_after tasks.old.capacity (C.items cells.old) tasks.old.items) tasks.old.capacity }
-    ensures over { result ≡ (length tasks.new.items == 0) }
+    ensures next { result ≡ slice_get tasks.new.items 0 }
     ensures core { IsCore size (C.items cells.new) }
     ensures below { AreTasks size tasks.new.items }
     ensures marks { C.marks cells.new ≤ C.marks cells.old + 3 }
 {
-    let pc = tasks.first();
     let cell = read(cells, size, pc);
     let class = cell.class();
     if class == 0 {
-        return any_turn(cells, tasks, size);
+        return any_turn(cells, tasks, size, pc);
     }
     let executed = execute(cells, size, pc, cell, class);
     requeue(tasks, size, pc, executed)
 }
 
-// Takes one turn of a side that has a task, whatever its instruction is. It is a function of its
-// own, so that only a turn of this kind prepares the places for what `turn_apart` returns.
+// Takes one turn of a side whose first task is `pc`, whatever its instruction is. It is a function
+// of its own, so that only a turn of this kind prepares the places for what `turn_apart` returns.
 #[inline(always)]
-fn any_turn<C: Cells>(cells: &mut C, tasks: &mut Tasks, size: u32) -> bool
+fn any_turn<C: Cells>(cells: &mut C, tasks: &mut Tasks, size: u32, pc: u32) -> Option<u32>
     requires core { IsCore size (C.items cells.old) }
     requires tasks { AreTasks size tasks.old.items }
-    requires some { 0 < length tasks.old.items }
+    requires pc { Some pc ≡ slice_get tasks.old.items 0 }
     ensures cells { C.items cells.new ≡ core_after (C.items cells.old) tasks.old.items }
     ensures tasks { tasks.new ≡ buffer (tasks_after tasks.old.capacity (C.items cells.old) tasks.old.items) tasks.old.capacity }
-    ensures over { result ≡ (length tasks.new.items == 0) }
+    ensures next { result ≡ slice_get tasks.new.items 0 }
     ensures core { IsCore size (C.items cells.new) }
     ensures below { AreTasks size tasks.new.items }
     ensures marks { C.marks cells.new ≤ C.marks cells.old + 3 }
 {
-    let (store, over) = turn_apart(cells.take(), tasks, size);
+    let (store, next) = turn_apart(cells.take(), tasks, size, pc);
     cells.put_back(store);
-    over
+    next
 }
 
-// Takes one turn of a side that has a task. Returns the cells, and whether the queue is empty
+// Takes one turn of a side whose first task is `pc`. Returns the cells, and the task that is first
 // afterwards. It stays out of line, so that it takes no registers from the arms, and takes the
 // cells by value, so that no address of them leaves the loop.
 #[tactic(auto, using(crate::proofs::Queues::queues), unfolding(crate::specs::State::core_after, crate::specs::State::tasks_after))]
 #[inline(never)]
-fn turn_apart<C: Cells>(cells: C, tasks: &mut Tasks, size: u32) -> (C, bool)
+fn turn_apart<C: Cells>(cells: C, tasks: &mut Tasks, size: u32, pc: u32) -> (C, Option<u32>)
     requires core { IsCore size (C.items cells) }
     requires tasks { AreTasks size tasks.old.items }
-    requires some { 0 < length tasks.old.items }
+    requires pc { Some pc ≡ slice_get tasks.old.items 0 }
     ensures cells { C.items result.0 ≡ core_after (C.items cells) tasks.old.items }
     ensures tasks { tasks.new ≡ buffer (tasks_after tasks.old.capacity (C.items cells) tasks.old.items) tasks.old.capacity }
-    ensures over { result.1 ≡ (length tasks.new.items == 0) }
+    ensures next { result.1 ≡ slice_get tasks.new.items 0 }
     ensures core { IsCore size (C.items result.0) }
     ensures below { AreTasks size tasks.new.items }
     ensures marks { C.marks result.0 ≤ C.marks cells + 3 }
 {
     let mut store = cells;
-    let pc = tasks.first();
     let cell = read(&store, size, pc);
     let executed = execute_any(&mut store, size, pc, cell);
     (store, requeue(tasks, size, pc, executed))
@@ -213,40 +216,27 @@ fn execute_any<C: Cells>(cells: &mut C, size: u32, pc: u32, cell: C::Kept) -> Ex
 }
 
 // Takes out the first task, which is at `pc`, and appends what its step queued, in order, each if
-// there is room. Returns whether the queue is empty afterwards.
+// there is room. Returns the task that is first afterwards.
 #[tactic(auto, using(crate::proofs::Queues::room_test))]
 #[inline(always)]
-fn requeue(tasks: &mut Tasks, size: u32, pc: u32, executed: Executed) -> bool
+fn requeue(tasks: &mut Tasks, size: u32, pc: u32, executed: Executed) -> Option<u32>
     requires size { (2 < size) × (size ≤ 65535) }
     requires pc { pc < size }
     requires jump { executed.jump < size }
     requires some { 0 < length tasks.old.items }
     ensures tasks { tasks.new ≡ buffer (appended tasks.old.capacity (drop 1 tasks.old.items) (addresses size pc executed.jump executed.queued)) tasks.old.capacity }
     ensures below { AreTasks size (addresses size pc executed.jump executed.queued) }
-    ensures over { result ≡ (length tasks.new.items == 0) }
+    ensures next { result ≡ slice_get tasks.new.items 0 }
 {
     match executed.queued {
-        Queued::Nothing => {
-            tasks.remove_first();
-            tasks.is_empty()
-        }
-        Queued::Next => {
-            tasks.replace_first(sum(size, pc, 1));
-            false
-        }
-        Queued::Skip => {
-            tasks.replace_first(sum(size, pc, 2));
-            false
-        }
-        Queued::Jump => {
-            tasks.replace_first(executed.jump);
-            false
-        }
+        Queued::Nothing => tasks.remove_first(),
+        Queued::Next => Some(tasks.replace_first(sum(size, pc, 1))),
+        Queued::Skip => Some(tasks.replace_first(sum(size, pc, 2))),
+        Queued::Jump => Some(tasks.replace_first(executed.jump)),
         Queued::Split => {
-            let next = sum(size, pc, 1);
-            tasks.replace_first(next);
+            let first = tasks.replace_first(sum(size, pc, 1));
             tasks.append(executed.jump);
-            false
+            Some(first)
         }
     }
 }

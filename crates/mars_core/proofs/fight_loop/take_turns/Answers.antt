@@ -1,5 +1,6 @@
 use Rattle.std.proofs.Common.{◌≡◌, ◌+◌, ◌*◌, length, arith, sym, ◌∙◌, ap}
-use Rattle.std.proofs.lemmas.Bool.{eqb-true, eqb-false}
+use Rattle.std.proofs.lemmas.Bool.{eqb-true}
+use Rattle.mars_core.proofs.Queues.{none_left, some_left}
 use Rattle.mars_core.specs.Fight.{turns_of}
 use Rattle.mars_core.specs.State.{play_of, seen_from}
 use Rattle.mars_core.proofs.Going.{mine_moved, theirs_moved, over_mine, over_theirs, ends_here, goes_to_the_end, goes_from_the_start}
@@ -20,38 +21,38 @@ returns-then-is_empty-clause-turns g c first =
     ]
 
 -- the side that moves first has lost its last task
-pub returns-then-next_turn-clause-turns : goal.returns-then-next_turn-clause-turns
-returns-then-next_turn-clause-turns g c first =
+pub returns-in_default-clause-turns : goal.returns-in_default-clause-turns
+returns-in_default-clause-turns g c first =
     let h = c.loop-cycle.invariant in
     let moved = mine_moved _ _ _ first c.loop-cycle.cycle _ _ _ _ _ h.mine_room c.next_turn.ensures.cells
     (ap (λ b. b.items) c.next_turn.ensures.tasks) h.mine_some h.theirs_some (h.going first) in
-    let none : length c.next_turn.new.tasks.items ≡ 0 = eqb-true _ _ (sym c.next_turn.ensures.over ∙ c.if-next_turn.true) in
+    let none : length c.next_turn.new.tasks.items ≡ 0 = none_left _ _ c.next_turn.ensures.next c.in_default.not-Some in
     sym (ends_here _ _ first c.args.cycles (2 * c.loop-cycle.cycle + 1) _ _ _ (omega arith) moved (over_mine first _ _ _ none))
 
-pub returns-then-next_turn-clause-state : goal.returns-then-next_turn-clause-state
-returns-then-next_turn-clause-state g c first =
+pub returns-in_default-clause-state : goal.returns-in_default-clause-state
+returns-in_default-clause-state g c first =
     let h = c.loop-cycle.invariant in
     let moved = mine_moved _ _ _ first c.loop-cycle.cycle _ _ _ _ _ h.mine_room c.next_turn.ensures.cells
     (ap (λ b. b.items) c.next_turn.ensures.tasks) h.mine_some h.theirs_some (h.going first) in
     moved.state
 
 -- the other side has lost its last task
-pub returns-then-next_turn-2-clause-turns : goal.returns-then-next_turn-2-clause-turns
-returns-then-next_turn-2-clause-turns g c first =
+pub returns-in_default-next_turn-clause-turns : goal.returns-in_default-next_turn-clause-turns
+returns-in_default-next_turn-clause-turns g c first =
     let h = c.loop-cycle.invariant in
-    let some : length c.next_turn.new.tasks.items ≡ 0 → ⊥ = eqb-false _ _ (sym c.next_turn.ensures.over ∙ c.if-next_turn.false) in
+    let some = some_left _ _ _ c.next_turn.ensures.next c.in-Some.is in
     let half = mine_moved _ _ _ first c.loop-cycle.cycle _ _ _ _ _ h.mine_room c.next_turn.ensures.cells
     (ap (λ b. b.items) c.next_turn.ensures.tasks) h.mine_some h.theirs_some (h.going first) in
     let moved = theirs_moved _ _ _ first c.loop-cycle.cycle _ _ _ _ _ h.theirs_room c.next_turn-in-loop-cycle.ensures.cells
     (ap (λ b. b.items) c.next_turn-in-loop-cycle.ensures.tasks) some h.theirs_some half in
-    let none : length c.next_turn-in-loop-cycle.new.tasks.items ≡ 0 = eqb-true _ _ (sym c.next_turn-in-loop-cycle.ensures.over ∙ c.if-next_turn-2.true) in
+    let none : length c.next_turn-in-loop-cycle.new.tasks.items ≡ 0 = none_left _ _ c.next_turn-in-loop-cycle.ensures.next c.in_default-next_turn.not-Some in
     let twice : 2 * c.loop-cycle.cycle + 2 ≡ 2 * (c.loop-cycle.cycle + 1) = omega arith in
     twice ∙ sym (ends_here _ _ first c.args.cycles (2 * (c.loop-cycle.cycle + 1)) _ _ _ (omega arith) moved (over_theirs first _ _ _ none))
 
-pub returns-then-next_turn-2-clause-state : goal.returns-then-next_turn-2-clause-state
-returns-then-next_turn-2-clause-state g c first =
+pub returns-in_default-next_turn-clause-state : goal.returns-in_default-next_turn-clause-state
+returns-in_default-next_turn-clause-state g c first =
     let h = c.loop-cycle.invariant in
-    let some : length c.next_turn.new.tasks.items ≡ 0 → ⊥ = eqb-false _ _ (sym c.next_turn.ensures.over ∙ c.if-next_turn.false) in
+    let some = some_left _ _ _ c.next_turn.ensures.next c.in-Some.is in
     let half = mine_moved _ _ _ first c.loop-cycle.cycle _ _ _ _ _ h.mine_room c.next_turn.ensures.cells
     (ap (λ b. b.items) c.next_turn.ensures.tasks) h.mine_some h.theirs_some (h.going first) in
     let moved = theirs_moved _ _ _ first c.loop-cycle.cycle _ _ _ _ _ h.theirs_room c.next_turn-in-loop-cycle.ensures.cells
@@ -63,15 +64,17 @@ returns-then-next_turn-2-clause-state g c first =
 pub loop-cycle-preserved : goal.loop-cycle-preserved
 loop-cycle-preserved g c =
     let h = c.loop-cycle.invariant in
-    let some : length c.next_turn.new.tasks.items ≡ 0 → ⊥ = eqb-false _ _ (sym c.next_turn.ensures.over ∙ c.if-next_turn.false) in
+    let some = some_left _ _ _ c.next_turn.ensures.next c.in-Some.is in
     record {
       going = λ first.
           let half = mine_moved _ _ _ first c.loop-cycle.cycle _ _ _ _ _ h.mine_room c.next_turn.ensures.cells
           (ap (λ b. b.items) c.next_turn.ensures.tasks) h.mine_some h.theirs_some (h.going first) in
           theirs_moved _ _ _ first c.loop-cycle.cycle _ _ _ _ _ h.theirs_room c.next_turn-in-loop-cycle.ensures.cells
           (ap (λ b. b.items) c.next_turn-in-loop-cycle.ensures.tasks) some h.theirs_some half;
+      mine_first = sym c.in-Some.is ∙ c.next_turn.ensures.next;
+      theirs_first = sym c.in-Some-next_turn.is ∙ c.next_turn-in-loop-cycle.ensures.next;
       mine_some = some;
-      theirs_some = eqb-false _ _ (sym c.next_turn-in-loop-cycle.ensures.over ∙ c.if-next_turn-2.false);
+      theirs_some = some_left _ _ _ c.next_turn-in-loop-cycle.ensures.next c.in-Some-next_turn.is;
       core = c.next_turn-in-loop-cycle.ensures.core;
       mine_below = c.next_turn.ensures.below;
       theirs_below = c.next_turn-in-loop-cycle.ensures.below;

@@ -1,4 +1,5 @@
 use Rattle.std.proofs.Common.{◌≡◌, ◌+◌, ◌*◌, ◌≤◌, length}
+use Rattle.std.specs.Prelude.{Some, slice_get}
 use Rattle.mars_core.specs.Core.{IsCore, AreTasks}
 use Rattle.mars_core.specs.State.{seen_from}
 use Rattle.mars_core.specs.declared.side.Side.{Side}
@@ -12,6 +13,8 @@ invariant-loop-cycle g l =
     record {
       going : (first : Side) → IsGoing l.fn.mine.capacity (seen_from first (items l.fn.cells) l.fn.mine.items l.fn.theirs.items) first
           (2 * l.cycle) (items l.cells) l.mine.items l.theirs.items;
+      mine_first : Some l.my_task ≡ slice_get l.mine.items 0;
+      theirs_first : Some l.their_task ≡ slice_get l.theirs.items 0;
       mine_some : length l.mine.items ≡ 0 → ⊥;
       theirs_some : length l.theirs.items ≡ 0 → ⊥;
       core : IsCore l.size (items l.cells);
