@@ -1,5 +1,5 @@
 //! Cells in words, with a journal of those that were written.
-ghost use Rattle.std.specs.Prelude.{◌≡◌, ◌<◌, ◌≤◌, ◌+◌, slice_index, slice_set, replicate, length, true, false, IfOk};
+ghost use Rattle.std.specs.Prelude.{◌≡◌, ◌<◌, ◌≤◌, ◌+◌, slice_index, slice_set, replicate, [], length, true, false, IfOk};
 ghost use Rattle.rc_instr.specs.Instruction.{empty_cell};
 ghost use Rattle.mars_core.specs.Packed.{unpacked, is_marked, empty_word, IsClassed};
 ghost use Rattle.mars_core.specs.Store.{IsStore, ListsWritten};
@@ -88,11 +88,15 @@ impl PackedCells {
     // Makes a store without cells, which takes no memory.
     #[tactic(auto, using(crate::proofs::Stores::no_store))]
     #[inline]
-    fn none(alloc: Global) -> PackedCells {
+    fn none(alloc: Global) -> PackedCells
+        ensures items { result.items ≡ [] }
+        ensures marks { result.marks ≡ 0 }
+    {
+        let count = 0;
         PackedCells {
             words: Vec::new(alloc),
             journal: Vec::new(alloc),
-            count: 0,
+            count,
         }
     }
 }
