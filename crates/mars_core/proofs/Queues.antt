@@ -1,7 +1,7 @@
 -- Queues of tasks.
 use Rattle.std.proofs.Common.{◌≡◌, ℕ, ◌<◌, ◌≤◌, arith, List, [], ◌∷◌, ◌++◌, length, drop, true, false, refl, sym, ◌∙◌, subst}
 use Rattle.std.proofs.lemmas.Bool.Decides.{nat_tests}
-use Rattle.std.specs.Prelude.{Option, Some, slice_get, slice_index, nat_lt, if◌then◌else◌}
+use Rattle.std.specs.Prelude.{Option, Some, None, slice_get, slice_index, nat_lt, if◌then◌else◌}
 use Rattle.std.proofs.lemmas.List.Elements.{All-tail, All-drop, All-push, All-head, All-get_or}
 use Rattle.mars_core.specs.Core.{AreTasks}
 use Rattle.mars_core.specs.State.{appended}
@@ -50,5 +50,9 @@ some_left xs o x e s n = let l : 0 < length xs = some_first xs x (sym s ∙ e) i
 pub none_left : (xs : List ℕ) (o : Option ℕ) → o ≡ slice_get xs 0 → ((x : ℕ) → o ≡ Some x → ⊥) → length xs ≡ 0
 none_left [] o e n = refl
 none_left (x ∷ xs) o e n = absurd (n x e)
+
+pub none_first : (xs : List ℕ) → length xs ≡ 0 → None ≡ slice_get xs 0
+none_first [] e = refl
+none_first (x ∷ xs) e = absurd (omega (arith, e))
 
 pub ruleset queues = (some_first, first_is, first_below, rest_below, appended_below)

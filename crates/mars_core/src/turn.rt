@@ -72,8 +72,9 @@ pub(crate) fn next_turn<C: Cells>(
     requeue(tasks, size, pc, executed)
 }
 
-// Takes one turn of a side whose first task is `pc`, whatever its instruction is. It is a function
-// of its own, so that only a turn of this kind prepares the places for what `turn_apart` returns.
+// Takes one turn of a side whose first task is `pc`, whatever its instruction is. Moves the cells to
+// another place for that: if the loop's own were lent, they would lose their registers in it.
+#[tactic(auto, using(crate::proofs::Queues::none_first))]
 #[inline(always)]
 fn any_turn<C: Cells>(cells: &mut C, tasks: &mut Tasks, size: u32, pc: u32) -> Option<u32>
     requires core { IsCore size (C.items cells.old) }
@@ -86,31 +87,32 @@ fn any_turn<C: Cells>(cells: &mut C, tasks: &mut Tasks, size: u32, pc: u32) -> O
     ensures below { AreTasks size tasks.new.items }
     ensures marks { C.marks cells.new ≤ C.marks cells.old + 3 }
 {
-    let (store, next) = turn_apart(cells.take(), tasks, size, pc);
+    let mut store = cells.take();
+    turn_apart(&mut store, tasks, size, pc);
     cells.put_back(store);
-    next
+    if tasks.is_empty() {
+        return None;
+    }
+    Some(tasks.first())
 }
 
-// Takes one turn of a side whose first task is `pc`. Returns the cells, and the task that is first
-// afterwards. It stays out of line, so that it takes no registers from the arms, and takes the
-// cells by value, so that no address of them leaves the loop.
+// Takes one turn of a side whose first task is `pc`, out of line, so that it takes no registers from
+// the arms.
 #[tactic(auto, using(crate::proofs::Queues::queues), unfolding(crate::specs::State::core_after, crate::specs::State::tasks_after))]
 #[inline(never)]
-fn turn_apart<C: Cells>(cells: C, tasks: &mut Tasks, size: u32, pc: u32) -> (C, Option<u32>)
-    requires core { IsCore size (C.items cells) }
+fn turn_apart<C: Cells>(cells: &mut C, tasks: &mut Tasks, size: u32, pc: u32)
+    requires core { IsCore size (C.items cells.old) }
     requires tasks { AreTasks size tasks.old.items }
     requires pc { Some pc ≡ slice_get tasks.old.items 0 }
-    ensures cells { C.items result.0 ≡ core_after (C.items cells) tasks.old.items }
-    ensures tasks { tasks.new ≡ buffer (tasks_after tasks.old.capacity (C.items cells) tasks.old.items) tasks.old.capacity }
-    ensures next { result.1 ≡ slice_get tasks.new.items 0 }
-    ensures core { IsCore size (C.items result.0) }
+    ensures cells { C.items cells.new ≡ core_after (C.items cells.old) tasks.old.items }
+    ensures tasks { tasks.new ≡ buffer (tasks_after tasks.old.capacity (C.items cells.old) tasks.old.items) tasks.old.capacity }
+    ensures core { IsCore size (C.items cells.new) }
     ensures below { AreTasks size tasks.new.items }
-    ensures marks { C.marks result.0 ≤ C.marks cells + 3 }
+    ensures marks { C.marks cells.new ≤ C.marks cells.old + 3 }
 {
-    let mut store = cells;
-    let cell = read(&store, size, pc);
-    let executed = execute_any(&mut store, size, pc, cell);
-    (store, requeue(tasks, size, pc, executed))
+    let cell = read(cells, size, pc);
+    let executed = execute_any(cells, size, pc, cell);
+    requeue(tasks, size, pc, executed);
 }
 
 // Executes the instruction at `pc`, which is `cell` (1994 draft). A frequent one has an arm of its
