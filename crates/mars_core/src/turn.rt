@@ -72,8 +72,8 @@ pub(crate) fn next_turn<C: Cells>(
     requeue(tasks, size, pc, executed)
 }
 
-// Takes one turn of a side whose first task is `pc`, whatever its instruction is. Moves the cells to
-// another place for that: if the loop's own were lent, they would lose their registers in it.
+// Takes one turn of a side whose first task is `pc`, whatever its instruction is. Moves the cells
+// to another place for that: if the loop's own were lent, they would lose their registers in it.
 #[tactic(auto, using(crate::proofs::Queues::none_first))]
 #[inline(always)]
 fn any_turn<C: Cells>(cells: &mut C, tasks: &mut Tasks, size: u32, pc: u32) -> Option<u32>
@@ -96,8 +96,8 @@ fn any_turn<C: Cells>(cells: &mut C, tasks: &mut Tasks, size: u32, pc: u32) -> O
     Some(tasks.first())
 }
 
-// Takes one turn of a side whose first task is `pc`, out of line, so that it takes no registers from
-// the arms.
+// Takes one turn of a side whose first task is `pc`, out of line, so that it takes no registers
+// from the arms.
 #[tactic(auto, using(crate::proofs::Queues::queues), unfolding(crate::specs::State::core_after, crate::specs::State::tasks_after))]
 #[inline(never)]
 fn turn_apart<C: Cells>(cells: &mut C, tasks: &mut Tasks, size: u32, pc: u32)
