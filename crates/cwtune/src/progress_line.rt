@@ -14,6 +14,10 @@ use std::time::{Duration, Instant};
 use tune_cert::{Best, Standing, Watcher};
 use tune_runs::{TuneTexts, inputs_of};
 
+// After how many fights the clock is read: a reading takes as long as a fight of a few turns, and
+// that many of the longest fights take less than half a second.
+const FIGHTS_PER_READING: u64 = 16;
+
 // How progress is shown.
 #[derive(Clone, Copy, PartialEq, Eq)]
 pub(crate) enum Style {
@@ -44,8 +48,8 @@ pub(crate) struct Progress<C: Clock, V: Write> {
     explains: bool,
     began: Option<Instant>,
     shown: Option<Instant>,
-    // The best setting that was seen last.
-    best: Option<Best>,
+    // How far the run was when it was seen last, and the fights that were heard of since.
+    standing: Standing,
     is_lost: bool,
     failure: Option<io::Error>,
 }
@@ -60,7 +64,12 @@ impl<C: Clock, V: Write> Progress<C, V> {
             explains,
             began: None,
             shown: None,
-            best: None,
+            standing: Standing {
+                settings: 0,
+                count: 0,
+                fights: 0,
+                best: None,
+            },
             is_lost: false,
             failure: None,
         }
@@ -78,11 +87,11 @@ impl<C: Clock, V: Write> Progress<C, V> {
 
     // Returns the best setting that was seen last.
     pub(crate) fn best(&self) -> Option<Best> {
-        self.best
+        self.standing.best
     }
 
     // Shows how far the run is, if it is time.
-    fn show(&mut self, standing: &Standing) {
+    fn show(&mut self) {
         if self.style == Style::Hidden || self.err.failed() {
             return;
         }
@@ -95,16 +104,23 @@ impl<C: Clock, V: Write> Progress<C, V> {
         self.shown = Some(now);
         let millis = millis_between(self.began, now);
         let _ = match self.style {
-            Style::Log => log_line(&mut self.err, standing, millis),
-            _ => draw_line(&mut self.err, standing, millis),
+            Style::Log => log_line(&mut self.err, &self.standing, millis),
+            _ => draw_line(&mut self.err, &self.standing, millis),
         };
     }
 }
 
 impl<C: Clock, V: Write> Watcher for Progress<C, V> {
     fn see(&mut self, standing: Standing) {
-        self.best = standing.best;
-        self.show(&standing);
+        self.standing = standing;
+        self.show();
+    }
+
+    fn hear(&mut self, fights: u64) {
+        self.standing.fights = fights;
+        if fights % FIGHTS_PER_READING == 0 {
+            self.show();
+        }
     }
 
     // Clears the line of a terminal.
@@ -130,12 +146,8 @@ impl<C: Clock, V: Write> Witness for Progress<C, V> {
             tell_idle(&mut self.err, words.opponents.as_slice(), fights);
         }
         self.began = Instant::now(&self.clock).ok();
-        self.show(&Standing {
-            settings: 0,
-            count: inputs.count(),
-            fights: 0,
-            best: None,
-        });
+        self.standing.count = inputs.count();
+        self.show();
     }
 
     fn lose(&mut self, failure: Option<io::Error>) {

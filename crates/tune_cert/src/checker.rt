@@ -8,7 +8,7 @@ ghost use Rattle.tune_cert.specs.Steps.{AreRightSame, IsCertVerdict, IsFirstVerd
 
 use crate::fault::{CheckFault, ReadFault};
 use crate::read::read_cert;
-use crate::row_checks::{check_alone, check_same, is_best_row};
+use crate::row_checks::{Claim, check_alone, check_same, is_best_row};
 use crate::telling::{before_rows, refers, tell_row};
 use crate::verdict::{Reason, Verdict};
 use crate::warriors::no_warriors;
@@ -53,8 +53,8 @@ pub fn check(alloc: Global, inputs: &Inputs, bytes: &[u8]) -> Result<Verdict, Ch
     watched_check(alloc, inputs, bytes, &mut Silent)
 }
 
-/// Checks a certificate as `check` does, and tells `watcher` after each row that is right how far
-/// the check is.
+/// Checks a certificate as `check` does, and tells `watcher` after each fight and each row that is
+/// right how far the check is.
 ///
 /// # Errors
 ///
@@ -95,9 +95,10 @@ fn check_rows_alone<T: Watcher>(
 {
     let rows = cert.rows.as_slice();
     let count = inputs.count();
+    let claim = Claim { inputs, cert };
     for vector in 0..count {
         let row = &rows[vector as usize];
-        if let Some(reason) = check_alone(alloc, arena, inputs, cert, vector, row)? {
+        if let Some(reason) = check_alone(alloc, arena, &claim, vector, row, watcher)? {
             return Ok(Some(Wrong {
                 index: record_of(vector),
                 reason,

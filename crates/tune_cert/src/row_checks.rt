@@ -19,30 +19,38 @@ use mars_fight::MOST_POINTS;
 use rc_instr::{Instruction, Warrior};
 use std::alloc::Global;
 use tune_problem::{
-    Cert, Row, fight_count, fight_points, fight_weight, greatest_total, setting_warrior,
+    Cert, Row, Watcher, fight_count, fight_points, fight_weight, greatest_total, setting_warrior,
 };
 use tune_template::Inputs;
 
-// Checks a refused or a cap row, and passes over a row that refers to another setting.
-pub(crate) fn check_alone(
+// A certificate, and the inputs against which it is checked.
+#[derive(Clone, Copy)]
+pub(crate) struct Claim<'a> {
+    pub(crate) inputs: &'a Inputs,
+    pub(crate) cert: &'a Cert,
+}
+
+// Checks a refused or a cap row, and passes over a row that refers to another setting. `watcher`
+// hears of each fight.
+pub(crate) fn check_alone<T: Watcher>(
     alloc: Global,
     arena: &mut Arena<PackedCells>,
-    inputs: &Inputs,
-    cert: &Cert,
+    claim: &Claim<'_>,
     vector: u32,
     row: &Row,
+    watcher: &mut T,
 ) -> Result<Option<Reason>, CheckFault>
-    requires inside { vector < (problem_of inputs.now).count }
-    requires blank { IsBlank inputs.now.rules arena.old }
-    ensures right { IfOk result (λ o. IfNone o (IsRightAlone (problem_of inputs.now) cert.now vector row.now)) }
-    ensures wrong { IfOk result (λ o. IfSome o (IsWrong (problem_of inputs.now) cert.now vector row.now)) }
-    ensures first { IfOk result (λ o. IfSome o (IsFirstAlone (problem_of inputs.now) vector row.now)) }
-    ensures blank { IsBlank inputs.now.rules arena.new }
+    requires inside { vector < (problem_of claim.now.inputs.now).count }
+    requires blank { IsBlank claim.now.inputs.now.rules arena.old }
+    ensures right { IfOk result (λ o. IfNone o (IsRightAlone (problem_of claim.now.inputs.now) claim.now.cert.now vector row.now)) }
+    ensures wrong { IfOk result (λ o. IfSome o (IsWrong (problem_of claim.now.inputs.now) claim.now.cert.now vector row.now)) }
+    ensures first { IfOk result (λ o. IfSome o (IsFirstAlone (problem_of claim.now.inputs.now) vector row.now)) }
+    ensures blank { IsBlank claim.now.inputs.now.rules arena.new }
 {
     match row {
-        Row::Refused => check_refused(alloc, inputs, vector),
+        Row::Refused => check_refused(alloc, claim.inputs, vector),
         Row::Same(_) => Ok(None),
-        Row::Cap(listed) => check_cap(alloc, arena, inputs, cert, vector, listed.as_slice()),
+        Row::Cap(listed) => check_cap(alloc, arena, claim, vector, listed.as_slice(), watcher),
     }
 }
 
@@ -102,11 +110,12 @@ fn is_rising(listed: &[(u32, u8)]) -> bool
 
 // Checks whether every listed fight exists and gives the listed points. Plays the fights in order
 // and stops at the first that does not.
-fn have_points(
+fn have_points<T: Watcher>(
     arena: &mut Arena<PackedCells>,
     inputs: &Inputs,
     warrior: &Warrior,
     listed: &[(u32, u8)],
+    watcher: &mut T,
 ) -> bool
     requires blank { IsBlank inputs.now.rules arena.old }
     requires fits { Fits inputs.now.rules warrior.now }
@@ -122,7 +131,9 @@ fn have_points(
         if *number >= fights {
             return false;
         }
-        if fight_points(arena, inputs, warrior, *number) != *points {
+        let made = fight_points(arena, inputs, warrior, *number);
+        watcher.hear(arena.fights());
+        if made != *points {
             return false;
         }
     }
@@ -142,58 +153,58 @@ fn check_refused(alloc: Global, inputs: &Inputs, vector: u32) -> Result<Option<R
 }
 
 // Checks a cap row whose fights rise against the warrior of its setting.
-fn check_fights(
+fn check_fights<T: Watcher>(
     arena: &mut Arena<PackedCells>,
-    inputs: &Inputs,
-    cert: &Cert,
+    claim: &Claim<'_>,
     vector: u32,
     warrior: &Warrior,
     listed: &[(u32, u8)],
+    watcher: &mut T,
 ) -> Option<Reason>
-    requires blank { IsBlank inputs.now.rules arena.old }
-    requires fits { Fits inputs.now.rules warrior.now }
-    requires candidate { (problem_of inputs.now).warrior vector ≡ Some warrior.now }
+    requires blank { IsBlank claim.now.inputs.now.rules arena.old }
+    requires fits { Fits claim.now.inputs.now.rules warrior.now }
+    requires candidate { (problem_of claim.now.inputs.now).warrior vector ≡ Some warrior.now }
     requires rising { Rises 0 listed.now }
-    ensures right { IfNone result (IsRightRow (problem_of inputs.now) cert.now vector (Cap listed.now)) }
-    ensures wrong { IfSome result (IsWrongCap (problem_of inputs.now) cert.now vector listed.now) }
-    ensures first { IfSome result (IsFirstOfCap (problem_of inputs.now) vector listed.now) }
-    ensures blank { IsBlank inputs.now.rules arena.new }
+    ensures right { IfNone result (IsRightRow (problem_of claim.now.inputs.now) claim.now.cert.now vector (Cap listed.now)) }
+    ensures wrong { IfSome result (IsWrongCap (problem_of claim.now.inputs.now) claim.now.cert.now vector listed.now) }
+    ensures first { IfSome result (IsFirstOfCap (problem_of claim.now.inputs.now) vector listed.now) }
+    ensures blank { IsBlank claim.now.inputs.now.rules arena.new }
 {
-    if !have_points(arena, inputs, warrior, listed) {
+    if !have_points(arena, claim.inputs, warrior, listed, watcher) {
         return Some(Reason::WrongPoints);
     }
-    if vector == cert.best {
+    if vector == claim.cert.best {
         return None;
     }
-    if is_above(listed_cap(inputs, listed), vector, cert) {
+    if is_above(listed_cap(claim.inputs, listed), vector, claim.cert) {
         return Some(Reason::CapTooHigh);
     }
     None
 }
 
 // Checks a cap row: its fights, then its points, then its cap.
-fn check_cap(
+fn check_cap<T: Watcher>(
     alloc: Global,
     arena: &mut Arena<PackedCells>,
-    inputs: &Inputs,
-    cert: &Cert,
+    claim: &Claim<'_>,
     vector: u32,
     listed: &[(u32, u8)],
+    watcher: &mut T,
 ) -> Result<Option<Reason>, CheckFault>
-    requires inside { vector < (problem_of inputs.now).count }
-    requires blank { IsBlank inputs.now.rules arena.old }
-    ensures right { IfOk result (λ o. IfNone o (IsRightRow (problem_of inputs.now) cert.now vector (Cap listed.now))) }
-    ensures wrong { IfOk result (λ o. IfSome o (IsWrongCap (problem_of inputs.now) cert.now vector listed.now)) }
-    ensures first { IfOk result (λ o. IfSome o (IsFirstOfCap (problem_of inputs.now) vector listed.now)) }
-    ensures blank { IsBlank inputs.now.rules arena.new }
+    requires inside { vector < (problem_of claim.now.inputs.now).count }
+    requires blank { IsBlank claim.now.inputs.now.rules arena.old }
+    ensures right { IfOk result (λ o. IfNone o (IsRightRow (problem_of claim.now.inputs.now) claim.now.cert.now vector (Cap listed.now))) }
+    ensures wrong { IfOk result (λ o. IfSome o (IsWrongCap (problem_of claim.now.inputs.now) claim.now.cert.now vector listed.now)) }
+    ensures first { IfOk result (λ o. IfSome o (IsFirstOfCap (problem_of claim.now.inputs.now) vector listed.now)) }
+    ensures blank { IsBlank claim.now.inputs.now.rules arena.new }
 {
     if !is_rising(listed) {
         return Ok(Some(Reason::RepeatedFight));
     }
-    let Some(warrior) = setting_warrior(alloc, inputs, vector)? else {
+    let Some(warrior) = setting_warrior(alloc, claim.inputs, vector)? else {
         return Ok(Some(Reason::WrongPoints));
     };
-    Ok(check_fights(arena, inputs, cert, vector, &warrior, listed))
+    Ok(check_fights(arena, claim, vector, &warrior, listed, watcher))
 }
 
 fn is_same_code(one: &[Instruction], other: &[Instruction]) -> bool

@@ -27,6 +27,10 @@ pub trait Watcher {
     /// Called after each setting.
     fn see(&mut self, standing: Standing);
 
+    /// Called after each fight with the number of fights played so far. The settings that are done
+    /// and the best are still those of the last `see`.
+    fn hear(&mut self, fights: u64);
+
     /// Called by the commands of `cwtune` when the search or the check has ended, before anything
     /// is written. Searches and checks do not call it.
     fn end(&mut self);
@@ -38,6 +42,8 @@ pub struct Silent;
 
 impl Watcher for Silent {
     fn see(&mut self, _standing: Standing) {}
+
+    fn hear(&mut self, _fights: u64) {}
 
     fn end(&mut self) {}
 }

@@ -15,7 +15,7 @@ use mars_core::{Arena, PackedCells};
 use mars_fight::MOST_POINTS;
 use rc_instr::Warrior;
 use std::alloc::{AllocError, Global};
-use tune_problem::{Best, fight_points, fight_weight, greatest_total};
+use tune_problem::{Best, Watcher, fight_points, fight_weight, greatest_total};
 use tune_template::Inputs;
 
 // Fights of a warrior in the order in which they were played, each with its points, and the cap of
@@ -26,13 +26,22 @@ pub(crate) struct Bout {
     pub(crate) cap: u32,
 }
 
+// What a candidate has to do: to play the fights of `order` with a cap that beats `lead`.
+#[derive(Clone, Copy)]
+pub(crate) struct Challenge<'a> {
+    pub(crate) entrant: &'a Candidate,
+    pub(crate) order: &'a [u32],
+    pub(crate) lead: Option<Best>,
+}
+
 // Plays all fights of the schedule, in order. The arena counts those that the listing has.
 #[tactic(auto, unfolding(tune_problem::specs::Optimum::total_of))]
-pub(crate) fn play_all(
+pub(crate) fn play_all<T: Watcher>(
     alloc: Global,
     arena: &mut Arena<PackedCells>,
     inputs: &Inputs,
     warrior: &Warrior,
+    watcher: &mut T,
 ) -> Result<Bout, AllocError>
     requires blank { IsBlank inputs.now.rules arena.old }
     requires fits { Fits inputs.now.rules warrior.now }
@@ -47,6 +56,7 @@ pub(crate) fn play_all(
     let mut total: u32 = 0;
     for index in 0..count as u32 {
         let points = fight_points(arena, inputs, warrior, index);
+        watcher.hear(arena.fights());
         listing.push((index, points))?;
         total += u32::from(points) * fight_weight(inputs, index);
     }
@@ -56,35 +66,35 @@ pub(crate) fn play_all(
     })
 }
 
-// Plays the fights of `order` for a candidate until its cap does not beat the lead, or none is left.
-// The arena counts those that the listing has.
+// Plays the fights of a challenge until the cap does not beat the lead, or none is left. The arena
+// counts those that the listing has.
 #[tactic(auto, using(crate::proofs::Enough::enough_is, crate::proofs::Caps::cap_more, crate::proofs::Caps::played_more, crate::proofs::Caps::cap_none))]
-pub(crate) fn play_enough(
+pub(crate) fn play_enough<T: Watcher>(
     alloc: Global,
     arena: &mut Arena<PackedCells>,
     inputs: &Inputs,
-    entrant: &Candidate,
-    order: &[u32],
-    lead: Option<Best>,
+    challenge: &Challenge<'_>,
+    watcher: &mut T,
 ) -> Result<Bout, AllocError>
     requires blank { IsBlank inputs.now.rules arena.old }
-    requires fits { Fits inputs.now.rules entrant.now.warrior }
-    requires all { length order.now ≡ (problem_of inputs.now).fights }
-    requires once { IsPermutation (all_fights (problem_of inputs.now)) order.now }
-    requires below { All (λ k. k < (problem_of inputs.now).fights) order.now }
-    ensures listing { let p = problem_of inputs.now in IfOk result (λ b. b.listing.items ≡ played p entrant.now.warrior (take (enough p entrant.now.warrior order.now entrant.now.vector lead) order.now)) }
-    ensures cap { let p = problem_of inputs.now in IfOk result (λ b. b.cap ≡ cap_of p entrant.now.warrior (take (enough p entrant.now.warrior order.now entrant.now.vector lead) order.now)) }
+    requires fits { Fits inputs.now.rules challenge.now.entrant.now.warrior }
+    requires all { length challenge.now.order.now ≡ (problem_of inputs.now).fights }
+    requires once { IsPermutation (all_fights (problem_of inputs.now)) challenge.now.order.now }
+    requires below { All (λ k. k < (problem_of inputs.now).fights) challenge.now.order.now }
+    ensures listing { let p = problem_of inputs.now in IfOk result (λ b. b.listing.items ≡ played p challenge.now.entrant.now.warrior (take (enough p challenge.now.entrant.now.warrior challenge.now.order.now challenge.now.entrant.now.vector challenge.now.lead) challenge.now.order.now)) }
+    ensures cap { let p = problem_of inputs.now in IfOk result (λ b. b.cap ≡ cap_of p challenge.now.entrant.now.warrior (take (enough p challenge.now.entrant.now.warrior challenge.now.order.now challenge.now.entrant.now.vector challenge.now.lead) challenge.now.order.now)) }
     ensures few { IfOk result (λ b. length b.listing.items ≤ MOST_FIGHTS) }
     ensures blank { IsBlank inputs.now.rules arena.new }
     ensures fights { IfOk result (λ b. arena.old.fights + length b.listing.items < 2 ^ 64 → arena.new.fights ≡ arena.old.fights + length b.listing.items) }
 {
     let mut listing = Vec::new(alloc);
     let mut cap = greatest_total(inputs);
-    for index in order {
-        if !beats(cap, entrant.vector, lead) {
+    for index in challenge.order {
+        if !beats(cap, challenge.entrant.vector, challenge.lead) {
             return Ok(Bout { listing, cap });
         }
-        let points = fight_points(arena, inputs, &entrant.warrior, *index);
+        let points = fight_points(arena, inputs, &challenge.entrant.warrior, *index);
+        watcher.hear(arena.fights());
         listing.push((*index, points))?;
         cap -= (MOST_POINTS - u32::from(points)) * fight_weight(inputs, *index);
     }

@@ -30,8 +30,8 @@ pub fn plain_search(alloc: Global, inputs: &Inputs) -> Result<Found, SearchFault
     watched_plain_search(alloc, inputs, &mut Silent)
 }
 
-/// Finds the optimum as `plain_search` does, and tells `watcher` after each setting how far the
-/// search is.
+/// Finds the optimum as `plain_search` does, and tells `watcher` after each fight and each setting
+/// how far the search is.
 ///
 /// # Errors
 ///
@@ -48,7 +48,7 @@ pub fn watched_plain_search<T: Watcher>(
 {
     let mut progress = Progress::begin(alloc, inputs)?;
     for vector in 0..setting_count(inputs) {
-        progress.visit(alloc, inputs, vector)?;
+        progress.visit(alloc, inputs, vector, watcher)?;
         watcher.see(standing(
             vector + 1,
             setting_count(inputs),

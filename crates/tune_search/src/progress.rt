@@ -8,7 +8,7 @@ use crate::fault::SearchFault;
 use crate::fights::play_all;
 use mars_core::{Arena, PackedCells};
 use std::alloc::Global;
-use tune_problem::{Best, Listing, Row, setting_warrior};
+use tune_problem::{Best, Listing, Row, Watcher, setting_warrior};
 use tune_template::Inputs;
 
 // The rows of the settings so far, the lead, and the count of candidates. `arena` is blank between
@@ -37,12 +37,14 @@ impl Progress {
         })
     }
 
-    // Plays all fights of setting `vector` if it assembles, and adds its row.
-    pub(crate) fn visit(
+    // Plays all fights of setting `vector` if it assembles, and adds its row. `watcher` hears of each
+    // fight.
+    pub(crate) fn visit<T: Watcher>(
         &mut self,
         alloc: Global,
         inputs: &Inputs,
         vector: u32,
+        watcher: &mut T,
     ) -> Result<(), SearchFault>
         requires inside { vector < (problem_of inputs.now).count }
         requires few { (problem_of inputs.now).count ≤ MOST_SETTINGS }
@@ -54,7 +56,7 @@ impl Progress {
             self.rows.push(Row::Refused)?;
             return Ok(());
         };
-        let bout = play_all(alloc, &mut self.arena, inputs, &warrior)?;
+        let bout = play_all(alloc, &mut self.arena, inputs, &warrior, watcher)?;
         self.candidates += 1;
         self.lead = lead_after(vector, bout.cap, self.lead);
         self.rows.push(Row::Cap(Listing::from_vec(bout.listing)))?;

@@ -11,12 +11,12 @@ use crate::cache::Cache;
 use crate::candidate::{Candidate, candidate_at};
 use crate::counts::{setting_count, start_setting};
 use crate::fault::SearchFault;
-use crate::fights::play_enough;
+use crate::fights::{Challenge, play_enough};
 use crate::lead::{copies, next_lead, take_lead};
 use crate::order::{all_in_order, learn_order, sort_by_index, visited};
 use mars_core::{Arena, PackedCells};
 use std::alloc::{AllocError, Global};
-use tune_problem::{Best, Listing, Row, fight_count};
+use tune_problem::{Best, Listing, Row, Watcher, fight_count};
 use tune_template::Inputs;
 
 // `arena` is blank between visits, and counts the fights played. `rows` has a row for each setting,
@@ -59,18 +59,19 @@ impl State {
     }
 
     // Visits the setting that comes after `visits` others. Writes its row if it assembles: a
-    // setting with the load file of one in the cache shares its fights, any other is fought.
-    pub(crate) fn visit(
+    // setting with the load file of one in the cache shares its fights, any other is fought, and
+    // `watcher` hears of each fight.
+    pub(crate) fn visit<T: Watcher>(
         &mut self,
         alloc: Global,
         inputs: &Inputs,
-        capacity: u32,
         visits: u32,
+        watcher: &mut T,
     ) -> Result<(), SearchFault>
         requires visits { visits < (problem_of inputs.now).count }
         requires few { (problem_of inputs.now).count ≤ MOST_SETTINGS }
-        requires state { IsState inputs.now capacity visits self.old }
-        ensures state { OnOk result (IsState inputs.now capacity (visits + 1) self.new) }
+        requires state { IsState inputs.now self.old.cache.capacity visits self.old }
+        ensures state { OnOk result (IsState inputs.now self.old.cache.capacity (visits + 1) self.new) }
         ensures err { IfErr result (λ e. e ≡ SearchFault.OutOfMemory) }
     {
         let vector = visited(self.start, visits);
@@ -78,7 +79,7 @@ impl State {
             return Ok(());
         };
         let Some(other) = self.cache.recall(&entrant.text) else {
-            return self.fight(alloc, inputs, capacity, visits, entrant);
+            return self.fight(alloc, inputs, visits, entrant, watcher);
         };
         self.candidates += 1;
         if copies(self.start, other, vector, self.lead) {
@@ -93,30 +94,28 @@ impl State {
     }
 
     // Plays the fights of a candidate whose load file is not in the cache, and puts it there.
-    fn fight(
+    fn fight<T: Watcher>(
         &mut self,
         alloc: Global,
         inputs: &Inputs,
-        capacity: u32,
         visits: u32,
         entrant: Candidate,
+        watcher: &mut T,
     ) -> Result<(), SearchFault>
         requires visits { visits < (problem_of inputs.now).count }
         requires few { (problem_of inputs.now).count ≤ MOST_SETTINGS }
-        requires state { IsState inputs.now capacity visits self.old }
+        requires state { IsState inputs.now self.old.cache.capacity visits self.old }
         requires candidate { IsCandidateAt inputs.now (visit (problem_of inputs.now).start visits) entrant }
         requires unknown { lookup (same_text entrant.text.items) self.old.cache.known ≡ None }
-        ensures state { OnOk result (IsState inputs.now capacity (visits + 1) self.new) }
+        ensures state { OnOk result (IsState inputs.now self.old.cache.capacity (visits + 1) self.new) }
         ensures err { IfErr result (λ e. e ≡ SearchFault.OutOfMemory) }
     {
-        let bout = play_enough(
-            alloc,
-            &mut self.arena,
-            inputs,
-            &entrant,
-            &self.order,
-            self.lead,
-        )?;
+        let challenge = Challenge {
+            entrant: &entrant,
+            order: &self.order,
+            lead: self.lead,
+        };
+        let bout = play_enough(alloc, &mut self.arena, inputs, &challenge, watcher)?;
         let Candidate { vector, text, .. } = entrant;
         learn_order(alloc, &mut self.order, visits == 0, &bout.listing)?;
         self.candidates += 1;

@@ -44,8 +44,8 @@ pub fn search(alloc: Global, inputs: &Inputs, capacity: u32) -> Result<Found, Se
     watched_search(alloc, inputs, capacity, &mut Silent)
 }
 
-/// Finds the optimum as `search` does, and tells `watcher` after each setting how far the
-/// search is.
+/// Finds the optimum as `search` does, and tells `watcher` after each fight and each setting how far
+/// the search is.
 ///
 /// # Errors
 ///
@@ -66,7 +66,7 @@ pub fn watched_search<T: Watcher>(
 {
     let mut state = State::begin(alloc, inputs, capacity)?;
     for visits in 0..setting_count(inputs) {
-        state.visit(alloc, inputs, capacity, visits)?;
+        state.visit(alloc, inputs, visits, watcher)?;
         watcher.see(standing(visits + 1, setting_count(inputs), &state.arena, state.lead));
     }
     let fights = state.arena.fights();

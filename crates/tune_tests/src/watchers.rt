@@ -5,11 +5,14 @@ use std::test::Fail;
 use tune_cert::{Best, Standing, Verdict, Watcher, watched_check};
 use tune_search::{watched_plain_search, watched_search};
 
-// A watcher that keeps the first four standings, and counts all.
+// A watcher that keeps the first four standings, and counts all. `heard` is true as long as each
+// fight was told by its number, from 1, and each standing after its fights.
 #[derive(Drop)]
 struct Notes {
     count: usize,
     standings: [Option<Standing>; 4],
+    fights: u64,
+    heard: bool,
 }
 
 impl Notes {
@@ -17,6 +20,8 @@ impl Notes {
         Notes {
             count: 0,
             standings: [None; 4],
+            fights: 0,
+            heard: true,
         }
     }
 }
@@ -27,6 +32,12 @@ impl Watcher for Notes {
             *place = Some(standing);
         }
         self.count = self.count.saturating_add(1);
+        self.heard = self.heard && standing.fights == self.fights;
+    }
+
+    fn hear(&mut self, fights: u64) {
+        self.fights = self.fights.saturating_add(1);
+        self.heard = self.heard && fights == self.fights;
     }
 
     fn end(&mut self) {}
@@ -60,6 +71,7 @@ fn a_search_tells_how_far_it_is(rt: HostRuntime) -> Result<(), Fail> {
     ];
     assert_eq!(rt; notes.standings, want);
     assert_eq!(rt; notes.count, 3);
+    assert!(rt; notes.heard);
     Ok(())
 }
 
@@ -81,6 +93,7 @@ fn a_plain_search_tells_how_far_it_is(rt: HostRuntime) -> Result<(), Fail> {
     ];
     assert_eq!(rt; notes.standings, want);
     assert_eq!(rt; notes.count, 3);
+    assert!(rt; notes.heard);
     Ok(())
 }
 
@@ -104,5 +117,6 @@ fn a_check_tells_how_far_it_is(rt: HostRuntime) -> Result<(), Fail> {
     ];
     assert_eq!(rt; notes.standings, want);
     assert_eq!(rt; notes.count, 4);
+    assert!(rt; notes.heard);
     Ok(())
 }

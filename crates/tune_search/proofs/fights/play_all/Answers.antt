@@ -11,7 +11,7 @@ use Rattle.tune_search.proofs.Counted.{one_counted}
 use Rattle.tune_search.proofs.fights.play_all.Goals as goal
 
 pub loop-index-preserved : goal.loop-index-preserved
-loop-index-preserved c =
+loop-index-preserved g c =
     let i = c.args.inputs.now in
     let k = c.loop-index.index in
     let f = fight_points i.rules i.opponents i.schedule c.args.warrior.now in
@@ -31,7 +31,7 @@ loop-index-preserved c =
     }
 
 pub returns-clause-few : goal.returns-clause-few
-returns-clause-few c =
+returns-clause-few g c =
     let i = c.args.inputs.now in
     let f = fight_points i.rules i.opponents i.schedule c.args.warrior.now in
     let n : length c.loop-index.listing.items ≡ c.loop-index.index = ap length c.loop-index.invariant.fought ∙ length-map-range_with_len (λ k. (k, f k)) 0 c.loop-index.index in

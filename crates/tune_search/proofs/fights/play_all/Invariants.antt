@@ -10,7 +10,7 @@ use Rattle.tune_search.proofs.fights.play_all.Given as goal
 
 -- the fights so far, with their points
 abbrev pub invariant-loop-index : goal.invariant-loop-index
-invariant-loop-index l = record {
+invariant-loop-index g l = record {
   fought : l.listing.items ≡ played (problem_of l.fn.inputs) l.fn.warrior (range_with_len 0 l.index);
   made : l.total ≡ sum_by (score_of (problem_of l.fn.inputs) l.fn.warrior) (range_with_len 0 l.index);
   few : l.total ≤ 3 * MOST_WEIGHT * l.index;

@@ -7,21 +7,21 @@ use Rattle.tune_search.proofs.Counted.{none_counted, one_counted}
 use Rattle.tune_search.proofs.fights.play_enough.Goals as goal
 
 pub loop-index-init : goal.loop-index-init
-loop-index-init c =
+loop-index-init g c =
     let p = problem_of c.args.inputs.now in
     record {
       fought = c.new-listing.ensures.items;
-      holds = cap_none p c.args.entrant.now.warrior c.args.order.now c.greatest_total-cap.result c.greatest_total-cap.ensures.greatest;
+      holds = cap_none p c.args.challenge.now.entrant.now.warrior c.args.challenge.now.order.now c.greatest_total-cap.result c.greatest_total-cap.ensures.greatest;
       beat = λ j l. absurd (omega arith);
       blank = c.requires.blank;
       counted = λ small. none_counted _ _ c.new-listing.ensures.items;
     }
 
 pub loop-index-preserved : goal.loop-index-preserved
-loop-index-preserved c =
+loop-index-preserved g c =
     let p = problem_of c.args.inputs.now in
-    let w = c.args.entrant.now.warrior in
-    let order = c.args.order.now in
+    let w = c.args.challenge.now.entrant.now.warrior in
+    let order = c.args.challenge.now.order.now in
     let i = c.loop-index.index-index in
     let points : c.fight_points-points.result ≡ p.points w (get_or order i 0) = c.fight_points-points.ensures.points in
     let same : c.from.result ≡ c.fight_points-points.result = c.from.ensures in
@@ -29,16 +29,16 @@ loop-index-preserved c =
     record {
       fought = c.in_ok-push.ensures.items ∙ played_more p w order i _ _ c.loop-index-test.true points c.loop-index.invariant.fought;
       holds = cap_more p w order i _ _ _ c.loop-index-test.true c.requires.once (same ∙ points) scores c.fight_weight.ensures.weight c.loop-index.invariant.holds;
-      beat = below_more _ _ c.loop-index.invariant.beat (ap (λ n. beats_lead n c.args.entrant.now.vector c.args.lead) (sym c.loop-index.invariant.holds) ∙ sym c.beats.ensures ∙ c.if-not-beats.false);
+      beat = below_more _ _ c.loop-index.invariant.beat (ap (λ n. beats_lead n c.args.challenge.now.entrant.now.vector c.args.challenge.now.lead) (sym c.loop-index.invariant.holds) ∙ sym c.beats.ensures ∙ c.if-not-beats.false);
       blank = c.fight_points-points.ensures.blank;
       counted = one_counted _ _ _ _ _ _ c.in_ok-push.ensures.items c.fight_points-points.ensures.fights c.loop-index.invariant.counted;
     }
 
 pub overflow_sub-cap-in-loop-index : goal.overflow_sub-cap-in-loop-index
-overflow_sub-cap-in-loop-index c =
+overflow_sub-cap-in-loop-index g c =
     let p = problem_of c.args.inputs.now in
-    let w = c.args.entrant.now.warrior in
-    let order = c.args.order.now in
+    let w = c.args.challenge.now.entrant.now.warrior in
+    let order = c.args.challenge.now.order.now in
     let i = c.loop-index.index-index in
     let points : c.fight_points-points.result ≡ p.points w (get_or order i 0) = c.fight_points-points.ensures.points in
     let same : c.from.result ≡ c.fight_points-points.result = c.from.ensures in

@@ -9,13 +9,13 @@ use Rattle.tune_search.proofs.fights.play_enough.Given as goal
 
 -- the fights so far, in order, with their cap; each cap before beat the lead
 abbrev pub invariant-loop-index : goal.invariant-loop-index
-invariant-loop-index l =
+invariant-loop-index g l =
     let p = problem_of l.fn.inputs in
-    let w = l.fn.entrant.warrior in
+    let w = l.fn.challenge.entrant.now.warrior in
     record {
-      fought : l.listing.items ≡ played p w (take l.index-index l.order);
-      holds : l.cap ≡ cap_of p w (take l.index-index l.order);
-      beat : (j : ℕ) → j < l.index-index → beats_lead (cap_of p w (take j l.order)) l.entrant.vector l.lead ≡ true;
+      fought : l.listing.items ≡ played p w (take l.index-index l.challenge.order.now);
+      holds : l.cap ≡ cap_of p w (take l.index-index l.challenge.order.now);
+      beat : (j : ℕ) → j < l.index-index → beats_lead (cap_of p w (take j l.challenge.order.now)) l.challenge.entrant.now.vector l.challenge.lead ≡ true;
       blank : IsBlank l.fn.inputs.rules l.arena;
       counted : l.fn.arena.fights + length l.listing.items < 2 ^ 64 → l.arena.fights ≡ l.fn.arena.fights + length l.listing.items;
     }

@@ -1,4 +1,4 @@
-use Rattle.std.proofs.Common.{arith, ◌≡◌, sym, subst, ℕ, ◌≤◌, List}
+use Rattle.std.proofs.Common.{arith, ◌≡◌, ◌+◌, sym, subst, ℕ, ◌≤◌, List}
 use Rattle.tune_template.specs.Limits.{MOST_SETTINGS}
 use Rattle.tune_problem.specs.Problem.{problem_of}
 use Rattle.tune_problem.specs.declared.cert.Row.{Row}
@@ -7,6 +7,19 @@ use Rattle.tune_search.specs.Found.{IsSearch}
 use Rattle.tune_search.specs.State.{IsState}
 use Rattle.tune_search.proofs.Finish.{finds, finds_none}
 use Rattle.tune_search.proofs.tuning.watched_search.Goals as goal
+
+pub visit-requires-clause-state : goal.visit-requires-clause-state
+visit-requires-clause-state g c =
+    let i = c.args.inputs.now in
+    let s = c.loop-visits.state in
+    let state = c.loop-visits.invariant.state in
+    subst (λ (n : ℕ). IsState i n c.loop-visits.visits s) (sym state.capacity_is) state
+
+pub loop-visits-preserved : goal.loop-visits-preserved
+loop-visits-preserved g c =
+    let i = c.args.inputs.now in
+    let same = c.loop-visits.invariant.state.capacity_is in
+    record { state = subst (λ (n : ℕ). IsState i n (c.loop-visits.visits + 1) c.visit.new.self) same c.in_ok-visit.ensures.state }
 
 pub returns-in-None-clause-none : goal.returns-in-None-clause-none
 returns-in-None-clause-none g c =

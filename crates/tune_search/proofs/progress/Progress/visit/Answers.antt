@@ -10,7 +10,7 @@ use Rattle.tune_search.proofs.Visits.{refused_visit, fought_visit, progress_alon
 use Rattle.tune_search.proofs.progress.Progress.visit.Goals as goal
 
 pub returns-in_default-clause-state : goal.returns-in_default-clause-state
-returns-in_default-clause-state c =
+returns-in_default-clause-state g c =
     let p = problem_of c.args.inputs.now in
     let s = c.args.self.now in
     let none : p.warrior c.args.vector ≡ None = sym c.in_ok-warrior.ensures.warrior ∙ c.in_default.is in
@@ -21,7 +21,7 @@ returns-in_default-clause-state c =
     }
 
 pub returns-clause-state : goal.returns-clause-state
-returns-clause-state c =
+returns-clause-state g c =
     let p = problem_of c.args.inputs.now in
     let s = c.args.self.now in
     let w = c.in-Some.warrior in

@@ -18,7 +18,7 @@ use Rattle.tune_search.proofs.Visiting.{fought_visit, permutes, under_way_along}
 use Rattle.tune_search.proofs.state.State.fight.Goals as goal
 
 pub play_enough-requires-clause-all : goal.play_enough-requires-clause-all
-play_enough-requires-clause-all c =
+play_enough-requires-clause-all g c =
     let i = c.args.inputs.now in
     let p = problem_of i in
     let s = c.args.self.now in
@@ -26,11 +26,11 @@ play_enough-requires-clause-all c =
     let v = visit p.start k in
     let inside : v < p.count = visit_below p.start p.count k c.requires.state.start_inside c.requires.visits in
     ap length c.deref.ensures.value
-    ∙ order_length p s.order.items (permutes p (inputs_problem i) i.rules c.args.capacity k v refl inside
+    ∙ order_length p s.order.items (permutes p (inputs_problem i) i.rules c.args.self.now.cache.capacity k v refl inside
     s.rows.items s.lead s.order.items s.arena.fights s.candidates s.copied s.cache.known c.requires.state.going)
 
 pub play_enough-requires-clause-once : goal.play_enough-requires-clause-once
-play_enough-requires-clause-once c =
+play_enough-requires-clause-once g c =
     let i = c.args.inputs.now in
     let p = problem_of i in
     let s = c.args.self.now in
@@ -38,11 +38,11 @@ play_enough-requires-clause-once c =
     let v = visit p.start k in
     let inside : v < p.count = visit_below p.start p.count k c.requires.state.start_inside c.requires.visits in
     subst (λ (l : List ℕ). IsPermutation (all_fights p) l) (sym c.deref.ensures.value)
-    (permutes p (inputs_problem i) i.rules c.args.capacity k v refl inside
+    (permutes p (inputs_problem i) i.rules c.args.self.now.cache.capacity k v refl inside
     s.rows.items s.lead s.order.items s.arena.fights s.candidates s.copied s.cache.known c.requires.state.going)
 
 pub play_enough-requires-clause-below : goal.play_enough-requires-clause-below
-play_enough-requires-clause-below c =
+play_enough-requires-clause-below g c =
     let i = c.args.inputs.now in
     let p = problem_of i in
     let s = c.args.self.now in
@@ -50,11 +50,11 @@ play_enough-requires-clause-below c =
     let v = visit p.start k in
     let inside : v < p.count = visit_below p.start p.count k c.requires.state.start_inside c.requires.visits in
     subst (λ (l : List ℕ). All (λ k. k < p.fights) l) (sym c.deref.ensures.value)
-    (order_below p s.order.items (permutes p (inputs_problem i) i.rules c.args.capacity k v refl inside
+    (order_below p s.order.items (permutes p (inputs_problem i) i.rules c.args.self.now.cache.capacity k v refl inside
     s.rows.items s.lead s.order.items s.arena.fights s.candidates s.copied s.cache.known c.requires.state.going))
 
 pub returns-clause-state : goal.returns-clause-state
-returns-clause-state c =
+returns-clause-state g c =
     let i = c.args.inputs.now in
     let p = problem_of i in
     let s = c.args.self.now in
@@ -72,8 +72,8 @@ returns-clause-state c =
       start_inside = c.requires.state.start_inside;
       capacity_is = ap (λ (m : CacheView). m.capacity) c.in_ok-remember.ensures ∙ c.requires.state.capacity_is;
       blank = c.in_ok-bout.ensures.blank;
-      going = under_way_along p i.rules c.args.capacity (k + 1) _ _ _ _ _ _ _ _ _ _ _ _
-          (fought_visit p (inputs_problem i) i.rules c.args.capacity k v refl inside
+      going = under_way_along p i.rules c.args.self.now.cache.capacity (k + 1) _ _ _ _ _ _ _ _ _ _ _ _
+          (fought_visit p (inputs_problem i) i.rules c.args.self.now.cache.capacity k v refl inside
           s.rows.items s.lead s.order.items s.arena.fights s.candidates s.copied s.cache.known c.requires.state.going
           e.warrior is.warrior_is bout.listing.items bout.cap c.sort_by_index.result.items
           (c.in_ok-bout.ensures.listing ∙ ap (λ l. played p e.warrior (take (enough p e.warrior l e.vector s.lead) l)) in_order
@@ -86,7 +86,7 @@ returns-clause-state c =
           (ap (λ n. next_lead bout.cap n s.lead) (sym own) ∙ sym c.next_lead-self.ensures)
           (sym (c.in_ok-learn_order.ensures ∙ ap (λ l. if k == 0 then by_points l else s.order.items) listed))
           (sym (c.in_ok-bout.ensures.fights (small_count s.arena.fights k (length bout.listing.items) p.count c.requires.state.going.room c.requires.visits c.requires.few c.in_ok-bout.ensures.few)))
-          (ap (λ n. take c.args.capacity ((e.text.items, n) ∷ s.cache.known)) (sym own)
+          (ap (λ n. take c.args.self.now.cache.capacity ((e.text.items, n) ∷ s.cache.known)) (sym own)
           ∙ ap (λ n. take n ((e.text.items, e.vector) ∷ s.cache.known)) (sym c.requires.state.capacity_is)
           ∙ sym (ap (λ (m : CacheView). m.known) c.in_ok-remember.ensures));
     }

@@ -16,7 +16,7 @@ use Rattle.tune_search.proofs.Visiting.{refused_visit, shared_visit, copied_visi
 use Rattle.tune_search.proofs.state.State.visit.Goals as goal
 
 pub returns-in_default-clause-state : goal.returns-in_default-clause-state
-returns-in_default-clause-state c =
+returns-in_default-clause-state g c =
     let i = c.args.inputs.now in
     let p = problem_of i in
     let s = c.args.self.now in
@@ -29,13 +29,13 @@ returns-in_default-clause-state c =
       start_inside = c.requires.state.start_inside;
       capacity_is = c.requires.state.capacity_is;
       blank = c.requires.state.blank;
-      going = refused_visit p (inputs_problem i) i.rules c.args.capacity k v at inside
+      going = refused_visit p (inputs_problem i) i.rules c.args.self.now.cache.capacity k v at inside
           s.rows.items s.lead s.order.items s.arena.fights s.candidates s.copied s.cache.known c.requires.state.going
           (subst (λ (o : Option Candidate). IfNone o (p.warrior v ≡ None)) c.in_default.is c.in_ok-entrant.ensures.none);
     }
 
 pub fight-requires-clause-unknown : goal.fight-requires-clause-unknown
-fight-requires-clause-unknown c =
+fight-requires-clause-unknown g c =
     let t = c.deref.result.now in
     let known = c.args.self.now.cache.known in
     let none : lookup (same_text t) known ≡ None = sym c.in_default-recall.ensures.value in
@@ -44,7 +44,7 @@ fight-requires-clause-unknown c =
     ∙ ap (lookup (same_text t)) (promoted_none (same_text t) known none) ∙ none
 
 pub fight-requires-clause-state : goal.fight-requires-clause-state
-fight-requires-clause-state c =
+fight-requires-clause-state g c =
     let i = c.args.inputs.now in
     let p = problem_of i in
     let s = c.args.self.now in
@@ -55,13 +55,13 @@ fight-requires-clause-state c =
     record {
       start_is = c.requires.state.start_is;
       start_inside = c.requires.state.start_inside;
-      capacity_is = ap (λ (m : CacheView). m.capacity) same ∙ c.requires.state.capacity_is;
+      capacity_is = refl;
       blank = c.requires.state.blank;
-      going = subst (λ (m : CacheView). IsUnderWay p i.rules c.args.capacity c.args.visits s.rows.items s.lead s.order.items s.arena.fights s.candidates s.copied m.known) (sym same) c.requires.state.going;
+      going = subst (λ (m : CacheView). IsUnderWay p i.rules m.capacity c.args.visits s.rows.items s.lead s.order.items s.arena.fights s.candidates s.copied m.known) (sym same) c.requires.state.going;
     }
 
 pub returns-then-copies-clause-state : goal.returns-then-copies-clause-state
-returns-then-copies-clause-state c =
+returns-then-copies-clause-state g c =
     let i = c.args.inputs.now in
     let p = problem_of i in
     let s = c.args.self.now in
@@ -82,8 +82,8 @@ returns-then-copies-clause-state c =
       start_inside = c.requires.state.start_inside;
       capacity_is = ap (λ (m : CacheView). m.capacity) c.in-Some-recall.ensures.known ∙ c.requires.state.capacity_is;
       blank = c.requires.state.blank;
-      going = under_way_along p i.rules c.args.capacity (k + 1) _ _ _ _ _ _ _ _ _ _ _ _
-          (copied_visit p (inputs_problem i) i.rules c.args.capacity k v at inside
+      going = under_way_along p i.rules c.args.self.now.cache.capacity (k + 1) _ _ _ _ _ _ _ _ _ _ _ _
+          (copied_visit p (inputs_problem i) i.rules c.args.self.now.cache.capacity k v at inside
           s.rows.items s.lead s.order.items s.arena.fights s.candidates s.copied s.cache.known c.requires.state.going
           e.warrior is.warrior_is is.rules_hold is.is_warrior is.fits u look row row_of apart)
           refl
@@ -94,7 +94,7 @@ returns-then-copies-clause-state c =
     }
 
 pub returns-clause-state : goal.returns-clause-state
-returns-clause-state c =
+returns-clause-state g c =
     let i = c.args.inputs.now in
     let p = problem_of i in
     let s = c.args.self.now in
@@ -113,8 +113,8 @@ returns-clause-state c =
       start_inside = c.requires.state.start_inside;
       capacity_is = ap (λ (m : CacheView). m.capacity) c.in-Some-recall.ensures.known ∙ c.requires.state.capacity_is;
       blank = c.requires.state.blank;
-      going = under_way_along p i.rules c.args.capacity (k + 1) _ _ _ _ _ _ _ _ _ _ _ _
-          (shared_visit p (inputs_problem i) i.rules c.args.capacity k v at inside
+      going = under_way_along p i.rules c.args.self.now.cache.capacity (k + 1) _ _ _ _ _ _ _ _ _ _ _ _
+          (shared_visit p (inputs_problem i) i.rules c.args.self.now.cache.capacity k v at inside
           s.rows.items s.lead s.order.items s.arena.fights s.candidates s.copied s.cache.known c.requires.state.going
           e.warrior is.warrior_is is.rules_hold is.is_warrior is.fits u look apart)
           refl
