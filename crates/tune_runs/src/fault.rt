@@ -5,7 +5,7 @@ use mars_core::Side;
 use mars_fight::ScheduleFault;
 use rc_asm::AsmFault;
 use rc_instr::{LoadFault, OutOfMemory as MemoryRefused, RulesError, WriteFailed};
-use std::alloc::AllocFailed;
+use std::alloc::{AllocError, AllocFailed};
 use thiserror::Error;
 use tune_template::TemplateFault;
 
@@ -70,6 +70,16 @@ impl From<MemoryRefused> for RunFault {
     ghost from_gives = { λ _ e. e ≡ MemoryFault };
 
     fn from(_refused: MemoryRefused) -> RunFault {
+        RunFault::OutOfMemory
+    }
+}
+
+impl From<AllocError> for RunFault {
+    ghost use Rattle.tune_runs.specs.declared.fault.RunFault.TheVariants.{OutOfMemory as MemoryFault};
+
+    ghost from_gives = { λ _ e. e ≡ MemoryFault };
+
+    fn from(_refused: AllocError) -> RunFault {
         RunFault::OutOfMemory
     }
 }
