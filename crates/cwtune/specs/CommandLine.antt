@@ -2,7 +2,7 @@
 use Rattle.std.specs.Prelude.{◌≡◌, ℕ, ◌≤◌, ◌<◌, ◌^◌, List, [], ◌∷◌, ◌++◌, codes}
 use Rattle.std.specs.Fmt.{decimal}
 use Rattle.tune_template.specs.declared.part.Part.{Part}
-use Rattle.tune_search.specs.Limits.{MOST_CAPACITY}
+use Rattle.tune_runs.specs.Searching.{HasCapacity}
 use Rattle.cwtune.specs.declared.command_line.Request.{Request}
 use Rattle.cwtune.specs.declared.command_line.Request.TheVariants.{Tune}
 
@@ -14,7 +14,7 @@ AskForFight (word ∷ next ∷ more) = ⊥
 
 -- The capacity of a search is 1 to `MOST_CAPACITY`.
 abbrev pub IsRequest : Request → Type 0
-IsRequest (Tune words capacity) = (1 ≤ capacity) × (capacity ≤ MOST_CAPACITY)
+IsRequest (Tune words method) = HasCapacity method
 IsRequest _ = Unit {0}
 
 -- The word for part I of K is `I/K`.

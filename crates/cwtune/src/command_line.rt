@@ -1,6 +1,7 @@
 //! The command line, as the library `clap` reads it.
 ghost use Rattle.std.specs.Prelude.{◌≡◌, ◌↔◌, ◌≤◌, map, IfOk, IsTrue, string_bytes};
 ghost use Rattle.tune_search.specs.Limits.{MOST_CAPACITY};
+ghost use Rattle.tune_runs.specs.Searching.{HasCapacity};
 ghost use Rattle.cwtune.specs.CommandLine.{AskForFight, IsRequest};
 
 use crate::limits;
@@ -14,7 +15,7 @@ use clap::builder::ValueParser;
 use clap::{Arg, ArgAction, ArgMatches, Command, Error, value_parser};
 use mars_core::Side;
 use std::alloc::{AllocError, Global};
-use tune_runs::{RawRules, WhichSetting};
+use tune_runs::{RawRules, Search, WhichSetting};
 use tune_template::Part;
 
 // The words for the sides, as in a schedule: candidate and opponent.
@@ -47,6 +48,14 @@ pub(crate) struct DuelWords<'a> {
     pub(crate) first: Side,
 }
 
+// The rules and the file of an assembly, which is a template if a setting of it is asked for.
+#[derive(Drop)]
+pub(crate) struct AsmWords<'a> {
+    pub(crate) rules: RawRules,
+    pub(crate) file: &'a str,
+    pub(crate) setting: Option<WhichSetting>,
+}
+
 // What the words ask for.
 #[derive(Drop)]
 pub(crate) enum Request<'a> {
@@ -55,27 +64,16 @@ pub(crate) enum Request<'a> {
     // Plays a fight of two Redcode texts.
     Duel(DuelWords<'a>),
     // Assembles a file.
-    Asm {
-        rules: RawRules,
-        file: &'a str,
-    },
-    // Assembles a template with the values of one of its settings.
-    Setting {
-        rules: RawRules,
-        file: &'a str,
-        which: WhichSetting,
-    },
+    Asm(AsmWords<'a>),
     // Says how many settings a template has, and what its constants are.
     Settings {
         file: &'a str,
     },
-    // Tunes a template; the search may remember `capacity` settings.
+    // Tunes a template.
     Tune {
         words: TuneWords<'a>,
-        capacity: u32,
+        method: Search,
     },
-    // Tunes a template, and plays every fight of every setting.
-    TuneAll(TuneWords<'a>),
     // Checks a certificate of a tuning.
     Check(TuneWords<'a>),
 }
@@ -201,10 +199,18 @@ fn asm_request<'a>(alloc: Global, found: &ArgMatches<'a>) -> Result<Request<'a>,
     // `clap` requires the file.
     let file = found.get_str("FILE").unwrap_or("");
     let Some(word) = found.get_str("setting") else {
-        return Ok(Request::Asm { rules, file });
+        return Ok(Request::Asm(AsmWords {
+            rules,
+            file,
+            setting: None,
+        }));
     };
     match which_setting(word) {
-        Some(which) => Ok(Request::Setting { rules, file, which }),
+        Some(which) => Ok(Request::Asm(AsmWords {
+            rules,
+            file,
+            setting: Some(which),
+        })),
         None => Err(bad_setting(alloc, word)?),
     }
 }
@@ -309,17 +315,13 @@ fn tune<'a>(alloc: Global) -> Result<Command<'a>, AllocError> {
 fn tune_request<'a>(alloc: Global, found: &ArgMatches<'a>) -> Result<Request<'a>, Error>
     ensures { IfOk result IsRequest }
 {
-    let words = match tune_options(found) {
-        Ok((rules, part)) => tune_words(alloc, found, rules, part)?,
-        Err(bad) => return Err(bad_value(alloc, bad, tune(alloc)?, "cwtune tune")?),
-    };
-    if found.get_flag("all") {
-        return Ok(Request::TuneAll(words));
+    match tune_options(found) {
+        Ok((rules, part)) => Ok(Request::Tune {
+            words: tune_words(alloc, found, rules, part)?,
+            method: method_of(found),
+        }),
+        Err(bad) => Err(bad_value(alloc, bad, tune(alloc)?, "cwtune tune")?),
     }
-    Ok(Request::Tune {
-        words,
-        capacity: capacity_of(found),
-    })
 }
 
 fn check<'a>(alloc: Global) -> Result<Command<'a>, AllocError> {
@@ -361,6 +363,18 @@ fn commands<'a>(alloc: Global, fight: Command<'a>) -> Result<Command<'a>, AllocE
         .subcommand(settings(alloc)?)?
         .subcommand(tune(alloc)?)?
         .subcommand(check(alloc)?)
+}
+
+// Returns how `tune` searches.
+fn method_of(found: &ArgMatches<'_>) -> Search
+    ensures { HasCapacity result }
+{
+    if found.get_flag("all") {
+        return Search::Plain;
+    }
+    Search::Dropping {
+        capacity: capacity_of(found),
+    }
 }
 
 // Returns the value of `--cache`, which `clap` keeps in its range, or the default.

@@ -5,8 +5,6 @@ mod check;
 mod duel;
 mod fight;
 mod opening;
-mod plain_tune;
-mod setting;
 mod settings;
 mod tune;
 
@@ -14,7 +12,5 @@ pub(crate) use asm::asm;
 pub(crate) use check::check;
 pub(crate) use duel::duel;
 pub(crate) use fight::fight;
-pub(crate) use plain_tune::plain_tune;
-pub(crate) use setting::setting;
 pub(crate) use settings::settings;
 pub(crate) use tune::tune;

@@ -23,12 +23,10 @@ pub(crate) fn explain_failure<F: Files, R: Read, V: Write>(
 ) {
     match request_of(alloc, words) {
         Ok(Request::Fight) => explain_input(alloc, input, err),
-        Ok(Request::Asm { file, .. }) => explain_file(rt, alloc, file, err),
-        Ok(Request::Setting { file, .. }) => explain_file(rt, alloc, file, err),
+        Ok(Request::Asm(words)) => explain_file(rt, alloc, words.file, err),
         Ok(Request::Settings { file }) => explain_file(rt, alloc, file, err),
         Ok(Request::Duel(words)) => explain_duel(rt, alloc, &words, err),
-        Ok(Request::Tune { words, capacity: _ }) => explain_tuning(rt, alloc, &words, err),
-        Ok(Request::TuneAll(words)) => explain_tuning(rt, alloc, &words, err),
+        Ok(Request::Tune { words, method: _ }) => explain_tuning(rt, alloc, &words, err),
         Ok(Request::Check(words)) => explain_check(rt, alloc, &words, err),
         Err(_) => {}
     }
@@ -53,8 +51,7 @@ pub(crate) fn explain_loss<V: Write>(
 // Writes what the system said of CERT.
 fn explain_cert<V: Write>(alloc: Global, words: &[String], error: &io::Error, err: &mut Outlet<V>) {
     match request_of(alloc, words) {
-        Ok(Request::Tune { words, capacity: _ }) => tell_error(err, alloc, words.cert, error),
-        Ok(Request::TuneAll(words)) => tell_error(err, alloc, words.cert, error),
+        Ok(Request::Tune { words, method: _ }) => tell_error(err, alloc, words.cert, error),
         Ok(_request) => {}
         Err(_) => {}
     }

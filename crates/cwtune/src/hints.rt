@@ -2,7 +2,7 @@
 //! files are read once more for it, so a run that explains nothing does nothing of this.
 
 use crate::bounds::{tell_asm, tell_positions, tell_rules, tell_schedule, tell_template};
-use crate::command_line::{DuelWords, Request, TuneWords, request_of};
+use crate::command_line::{AsmWords, DuelWords, Request, TuneWords, request_of};
 use crate::fault_line::say_asm;
 use crate::notes::tell_template_notes;
 use crate::reading::{TuneFiles, read_file, read_texts};
@@ -23,14 +23,10 @@ pub(crate) fn explain_refusal<F: Files, V: Write>(
     err: &mut Outlet<V>,
 ) {
     match request_of(alloc, words) {
-        Ok(Request::Asm { rules, file }) => explain_asm(rt, alloc, rules, file, err),
-        Ok(Request::Setting { rules, file, which }) => {
-            explain_setting(rt, alloc, rules, file, which, err);
-        }
+        Ok(Request::Asm(words)) => explain_asm(rt, alloc, &words, err),
         Ok(Request::Settings { file }) => explain_settings(rt, alloc, file, err),
         Ok(Request::Duel(words)) => explain_duel(rt, alloc, &words, err),
-        Ok(Request::Tune { words, capacity: _ }) => explain_tuning(rt, alloc, &words, true, err),
-        Ok(Request::TuneAll(words)) => explain_tuning(rt, alloc, &words, true, err),
+        Ok(Request::Tune { words, method: _ }) => explain_tuning(rt, alloc, &words, true, err),
         Ok(Request::Check(words)) => explain_tuning(rt, alloc, &words, false, err),
         Ok(Request::Fight) | Err(_) => {}
     }
@@ -44,7 +40,11 @@ pub(crate) fn note_template<F: Files, V: Write>(
     err: &mut Outlet<V>,
 ) {
     match request_of(alloc, words) {
-        Ok(Request::Setting { file, .. }) => note_file(rt, alloc, file, err),
+        Ok(Request::Asm(words)) => {
+            if words.setting.is_some() {
+                note_file(rt, alloc, words.file, err);
+            }
+        }
         Ok(Request::Settings { file }) => note_file(rt, alloc, file, err),
         _ => {}
     }
@@ -56,22 +56,34 @@ fn note_file<F: Files, V: Write>(rt: &F, alloc: Global, file: &str, err: &mut Ou
     }
 }
 
+// Returns the rules, or writes which limit a number of them breaks.
+fn rules_or_hint<V: Write>(raw: RawRules, err: &mut Outlet<V>) -> Option<Rules> {
+    match rules_of(raw) {
+        Ok(rules) => Some(rules),
+        Err(error) => {
+            tell_rules(err, raw, error);
+            None
+        }
+    }
+}
+
 fn explain_asm<F: Files, V: Write>(
     rt: &F,
     alloc: Global,
-    raw: RawRules,
-    file: &str,
+    words: &AsmWords<'_>,
     err: &mut Outlet<V>,
 ) {
-    let rules = match rules_of(raw) {
-        Ok(rules) => rules,
-        Err(error) => {
-            tell_rules(err, raw, error);
-            return;
-        }
+    let Some(rules) = rules_or_hint(words.rules, err) else {
+        return;
     };
-    if let Ok(text) = read_file(rt, alloc, file) {
-        let _ = is_explained(alloc, &rules, file, text.as_slice(), err);
+    let Ok(text) = read_file(rt, alloc, words.file) else {
+        return;
+    };
+    match words.setting {
+        Some(which) => explain_setting(alloc, &rules, words.file, text.as_slice(), which, err),
+        None => {
+            let _ = is_explained(alloc, &rules, words.file, text.as_slice(), err);
+        }
     }
 }
 
@@ -98,12 +110,8 @@ fn explain_duel<F: Files, V: Write>(
     words: &DuelWords<'_>,
     err: &mut Outlet<V>,
 ) {
-    let rules = match rules_of(words.rules) {
-        Ok(rules) => rules,
-        Err(error) => {
-            tell_rules(err, words.rules, error);
-            return;
-        }
+    let Some(rules) = rules_or_hint(words.rules, err) else {
+        return;
     };
     let Ok(candidate) = read_file(rt, alloc, words.candidate) else {
         return;
@@ -120,28 +128,18 @@ fn explain_duel<F: Files, V: Write>(
     tell_positions(err, &rules);
 }
 
-fn explain_setting<F: Files, V: Write>(
-    rt: &F,
+fn explain_setting<V: Write>(
     alloc: Global,
-    raw: RawRules,
+    rules: &Rules,
     file: &str,
+    text: &[u8],
     which: WhichSetting,
     err: &mut Outlet<V>,
 ) {
-    let rules = match rules_of(raw) {
-        Ok(rules) => rules,
-        Err(error) => {
-            tell_rules(err, raw, error);
-            return;
-        }
-    };
-    let Ok(text) = read_file(rt, alloc, file) else {
-        return;
-    };
-    let template = match template_of(alloc, text.as_slice()) {
+    let template = match template_of(alloc, text) {
         Ok(template) => template,
         Err(RunFault::Template(fault)) => {
-            tell_template(err, alloc, file, text.as_slice(), fault);
+            tell_template(err, alloc, file, text, fault);
             return;
         }
         Err(_) => return,
@@ -154,8 +152,8 @@ fn explain_setting<F: Files, V: Write>(
         tell_most(err, "settings are 0 to", u64::from(template.count() - 1));
         return;
     }
-    if let Err(fault) = template.instance(alloc, index, &rules) {
-        tell_asm(err, &rules, file, text.as_slice(), fault);
+    if let Err(fault) = template.instance(alloc, index, rules) {
+        tell_asm(err, rules, file, text, fault);
     }
 }
 
@@ -178,12 +176,8 @@ fn explain_tuning<F: Files, V: Write>(
     needs_candidate: bool,
     err: &mut Outlet<V>,
 ) {
-    let rules = match rules_of(words.rules) {
-        Ok(rules) => rules,
-        Err(error) => {
-            tell_rules(err, words.rules, error);
-            return;
-        }
+    let Some(rules) = rules_or_hint(words.rules, err) else {
+        return;
     };
     let Ok(files) = read_texts(rt, alloc, words) else {
         return;

@@ -11,6 +11,7 @@ mod commands;
 mod failures;
 mod fault_line;
 mod hints;
+mod host;
 mod limits;
 mod notes;
 mod options;
@@ -30,6 +31,7 @@ mod witness;
 use command_line::ask_for_fight;
 use failures::{explain_failure, explain_loss};
 use hints::{explain_refusal, note_template};
+use host::Host;
 use options::is_given;
 use progress_line::{Progress, Style};
 use rc_instr::Outlet;
@@ -39,8 +41,9 @@ use std::process::ExitCode;
 use std::{env, io};
 use telling::tell;
 pub use tune_runs::{
-    RunFault, TuneTexts, WhichSetting, asm_run, check_part_run, check_run, duel_run, fight_run,
-    laws, plain_laws, plain_tune_run, setting_run, settings_run, tune_part_run, tune_run,
+    DuelTexts, RunFault, Search, TuneTexts, WhichSetting, asm_run, check_part_run, check_run,
+    duel_run, fight_run, laws, plain_laws, plain_tune_run, setting_run, settings_run, tune_by_run,
+    tune_part_run, tune_run,
 };
 
 // Returns the words after the program's name.
@@ -79,7 +82,11 @@ fn run<R: Read, W: Write, V: Write>(
     }
     invite(rt, words, at_terminal);
     let mut progress = Progress::new(rt, Outlet::new(rt.stderr()), style, explains);
-    let status = program::watched_program(rt, rt.alloc(), words, input, out, err, &mut progress);
+    let host = Host {
+        rt,
+        alloc: rt.alloc(),
+    };
+    let status = program::watched_program(host, words, input, out, err, &mut progress);
     if explains {
         explain(rt, words, status, &progress, input, err);
     }

@@ -1,14 +1,11 @@
 //! The program, apart from `main`: words and three streams in, an exit status out.
-ghost use Rattle.std.specs.Prelude.{◌≡◌, ◌≢◌, ◌⊎◌, ◌≤◌, ℕ, List, Option, map, true, false, string_bytes, IsTrue};
-ghost use Rattle.tune_runs.specs.FightRun.{WritesFight, IsRefusedText};
-ghost use Rattle.cwtune.specs.Input.{IsInput};
-ghost use Rattle.tune_runs.specs.TuneRun.{Texts};
-ghost use Rattle.tune_runs.specs.CheckRun.{WritesVerdict};
-ghost use Rattle.cwtune.specs.CommandLine.{AskForFight};
+ghost use Rattle.std.specs.Prelude.{◌≡◌, ◌≢◌, ◌⊎◌, ◌≤◌, map, false, string_bytes, IsTrue};
+ghost use Rattle.cwtune.specs.Program.{IsProgramRun};
 
 use crate::command_line::{Request, request_of};
-use crate::commands::{asm, check, duel, fight, plain_tune, setting, settings, tune};
+use crate::commands::{asm, check, duel, fight, settings, tune};
 use crate::fault_line::say_run;
+use crate::host::Host;
 use crate::status::{DONE, FAILED, MISUSED, end_without_memory};
 use crate::witness::Witness;
 use clap::error::ErrorKind;
@@ -52,29 +49,14 @@ pub fn program<F: Files, R: Read, W: Write, V: Write>(
 ) -> u8
     requires out { out.old.failed ≡ false }
     requires err { err.old.failed ≡ false }
-
-    // If the words ask for a fight, status 0 means that the result line of the fight in the input
-    // was written, and status 1 that the input is refused and nothing was written.
-    ensures done { AskForFight (map string_bytes words.now) → result ≡ 0
-        → (text : List ℕ) × IsInput (R.remaining input.old) text × WritesFight text out.old.bytes out.new.bytes }
-    ensures refused { AskForFight (map string_bytes words.now) → result ≡ 1
-        → (text : List ℕ) × IsInput (R.remaining input.old) text × IsRefusedText text × (out.new ≡ out.old) }
-    ensures understood { AskForFight (map string_bytes words.now) → result ≢ 2 }
-
-    // Whatever the words are, nothing is written if they or an input are refused, except the line
-    // of a rejected certificate; and a failed write gives status 3.
-    ensures misused { result ≡ 2 → out.new ≡ out.old }
-    ensures unwritten { result ≡ 1 → (out.new ≡ out.old) ⊎ ((t : Texts) × (cert : List ℕ) × WritesVerdict t cert false out.old.bytes out.new.bytes) }
-    ensures failed { IsTrue out.new.failed → result ≡ 3 }
-    ensures status { result ≤ 3 }
+    ensures { IsProgramRun (map string_bytes words.now) (R.remaining input.old) out.old out.new result }
 {
-    watched_program(rt, alloc, words, input, out, err, &mut Silent)
+    watched_program(Host { rt, alloc }, words, input, out, err, &mut Silent)
 }
 
 // Runs the command as `program` does, and tells `watcher` of a tuning or a check.
 pub(crate) fn watched_program<F: Files, R: Read, W: Write, V: Write, T: Witness>(
-    rt: &F,
-    alloc: Global,
+    host: Host<&F>,
     words: &[String],
     input: &mut R,
     out: &mut Outlet<W>,
@@ -83,36 +65,16 @@ pub(crate) fn watched_program<F: Files, R: Read, W: Write, V: Write, T: Witness>
 ) -> u8
     requires out { out.old.failed ≡ false }
     requires err { err.old.failed ≡ false }
-
-    // If the words ask for a fight, status 0 means that the result line of the fight in the input
-    // was written, and status 1 that the input is refused and nothing was written.
-    ensures done { AskForFight (map string_bytes words.now) → result ≡ 0
-        → (text : List ℕ) × IsInput (R.remaining input.old) text × WritesFight text out.old.bytes out.new.bytes }
-    ensures refused { AskForFight (map string_bytes words.now) → result ≡ 1
-        → (text : List ℕ) × IsInput (R.remaining input.old) text × IsRefusedText text × (out.new ≡ out.old) }
-    ensures understood { AskForFight (map string_bytes words.now) → result ≢ 2 }
-
-    // Whatever the words are, nothing is written if they or an input are refused, except the line
-    // of a rejected certificate; and a failed write gives status 3.
-    ensures misused { result ≡ 2 → out.new ≡ out.old }
-    ensures unwritten { result ≡ 1 → (out.new ≡ out.old) ⊎ ((t : Texts) × (cert : List ℕ) × WritesVerdict t cert false out.old.bytes out.new.bytes) }
-    ensures failed { IsTrue out.new.failed → result ≡ 3 }
-    ensures status { result ≤ 3 }
+    ensures { IsProgramRun (map string_bytes words.now) (R.remaining input.old) out.old out.new result }
 {
-    match request_of(alloc, words) {
-        Ok(Request::Fight) => fight(alloc, input, out, err),
-        Ok(Request::Duel(words)) => duel(rt, alloc, &words, out, err),
-        Ok(Request::Asm { rules, file }) => asm(rt, alloc, rules, file, out, err),
-        Ok(Request::Setting { rules, file, which }) => {
-            setting(rt, alloc, rules, file, which, out, err)
-        }
-        Ok(Request::Settings { file }) => settings(rt, alloc, file, out, err),
-        Ok(Request::Tune { words, capacity }) => {
-            tune(rt, alloc, &words, capacity, watcher, out, err)
-        }
-        Ok(Request::TuneAll(words)) => plain_tune(rt, alloc, &words, watcher, out, err),
-        Ok(Request::Check(words)) => check(rt, alloc, &words, watcher, out, err),
-        Err(answer) => show(alloc, &answer, out, err),
+    match request_of(host.alloc, words) {
+        Ok(Request::Fight) => fight(host.alloc, input, out, err),
+        Ok(Request::Duel(words)) => duel(host, &words, out, err),
+        Ok(Request::Asm(words)) => asm(host, &words, out, err),
+        Ok(Request::Settings { file }) => settings(host, file, out, err),
+        Ok(Request::Tune { words, method }) => tune(host, &words, method, watcher, out, err),
+        Ok(Request::Check(words)) => check(host, &words, watcher, out, err),
+        Err(answer) => show(host.alloc, &answer, out, err),
     }
 }
 

@@ -4,6 +4,7 @@ pub mod Opponents
 pub mod Constants
 pub mod Meaning
 pub mod Tunings
+pub mod Endings
 pub mod OneSetting
 pub mod Templates
 pub mod Duels

@@ -1,7 +1,8 @@
 -- What the run of a check writes.
-use Rattle.std.specs.Prelude.{◌≡◌, ℕ, Bool, true, false, List, ◌∷◌, [], ◌++◌, codes, Option, Some, None}
+use Rattle.std.specs.Prelude.{◌≡◌, ◌≢◌, ◌↔◌, ◌⊎◌, ℕ, Bool, true, false, List, ◌∷◌, [], ◌++◌, codes, Option, Some, None, Result, IfErr, IsErrOf, IsTrue}
 use Rattle.std.specs.Fmt.{decimal}
 use Rattle.std.specs.Io.KnownBytes.{Appends}
+use Rattle.rc_instr.specs.Outlet.{OutletView}
 use Rattle.mars_fight.specs.Records.{records_of}
 use Rattle.tune_template.specs.Instances.{InputsView}
 use Rattle.tune_problem.specs.Problem.{problem_of}
@@ -11,7 +12,8 @@ use Rattle.tune_cert.specs.declared.verdict.Reason.TheVariants.{Malformed, RowCo
 use Rattle.tune_cert.specs.declared.verdict.Verdict.{Verdict}
 use Rattle.tune_cert.specs.declared.verdict.Verdict.TheVariants.{Accepted, Rejected}
 use Rattle.tune_runs.specs.TuneRun.{Texts, Means, IsTuneRefusal}
-use Rattle.tune_runs.specs.declared.fault.RunFault.TheVariants.{NoCandidate}
+use Rattle.tune_runs.specs.declared.fault.RunFault.{RunFault}
+use Rattle.tune_runs.specs.declared.fault.RunFault.TheVariants.{NoCandidate, Write, OutOfMemory}
 
 abbrev pub reason_text : Reason → List ℕ
 reason_text Malformed = codes "Malformed"
@@ -48,3 +50,11 @@ Accepts t cert best total = (i : InputsView) × Means t i × IsRightVerdict (pro
 abbrev pub IsShown : Texts → List ℕ → Option (ℕ × ℕ) → Type 0
 IsShown t cert (Some best) = Accepts t cert best.0 best.1
 IsShown t cert None = IsTuneRefusal NoCandidate t
+
+-- How the run of a check ends, beyond what it writes if it succeeds.
+pub record IsCheckRun {X : Type 0} (t : Texts) (result : Result X RunFault) (old new : OutletView) : Type 0 where
+  -- refused texts have no meaning, and nothing was written
+  pub refused : IfErr result (λ e. e ≢ Write → (e ≢ NoCandidate) × IsTuneRefusal e t × (new ≡ old))
+  pub write : IsErrOf result Write ↔ IsTrue new.failed
+  -- texts that have a meaning are not refused
+  pub meaning : (i : InputsView) → Means t i → IfErr result (λ e. (e ≡ Write) ⊎ (e ≡ OutOfMemory))

@@ -7,10 +7,13 @@ pub mod ResultLine
 pub mod FightRun
 pub mod AsmRun
 pub mod Report
+pub mod Searching
 pub mod TuneRun
 pub mod TuneTexts
 pub mod CheckRun
 pub mod SettingRun
 pub mod SettingsRun
 pub mod DuelRun
+pub mod DuelTexts
 pub mod PlainRun
+pub mod RawRules

@@ -1,8 +1,9 @@
 -- What the texts of a tuning mean, what its run writes, and why it refuses.
-use Rattle.std.specs.Prelude.{◌≡◌, ◌≢◌, ℕ, ℤ, ◌<◌, ◌≤◌, List, [], ◌∷◌, length, take, slice_get, Option, Some, None, Err}
+use Rattle.std.specs.Prelude.{◌≡◌, ◌≢◌, ◌↔◌, ◌⊎◌, ℕ, ℤ, ◌<◌, ◌≤◌, List, [], ◌∷◌, length, take, slice_get, Option, Some, None, Result, Err, IfErr, IsErrOf, IsTrue}
 use Rattle.std.specs.Io.KnownBytes.{Appends}
 use Rattle.rc_instr.specs.Rules.{RulesView}
 use Rattle.rc_instr.specs.Warrior.{WarriorView}
+use Rattle.rc_instr.specs.Outlet.{OutletView}
 use Rattle.rc_asm.specs.Assembly.{Assembles}
 use Rattle.rc_asm.specs.declared.fault.AsmFault.{AsmFault}
 use Rattle.mars_fight.specs.Records.{records_of}
@@ -20,6 +21,7 @@ use Rattle.tune_template.specs.Parts.{part, whole, IsPart}
 use Rattle.tune_template.specs.Instances.{TemplateView, InputsView, settings_of}
 use Rattle.mars_fight.specs.declared.fight.Fight.{Fight}
 use Rattle.tune_problem.specs.Problem.{problem_of}
+use Rattle.tune_problem.specs.Optimum.{IsCandidate}
 use Rattle.tune_cert.specs.CertText.{cert_text}
 use Rattle.tune_problem.specs.Valid.{cert_of}
 use Rattle.tune_problem.specs.declared.cert.Found.{Found}
@@ -27,7 +29,7 @@ use Rattle.tune_search.specs.Found.{IsSearch}
 use Rattle.tune_runs.specs.AsmRun.{IsAsmRefusal}
 use Rattle.tune_runs.specs.Report.{report_text, report_for}
 use Rattle.tune_runs.specs.declared.fault.RunFault.{RunFault}
-use Rattle.tune_runs.specs.declared.fault.RunFault.TheVariants.{Asm, TooManyOpponents, Template, Opponent, Schedule, NoCandidate, OutOfMemory, Part as BadPart}
+use Rattle.tune_runs.specs.declared.fault.RunFault.TheVariants.{Asm, TooManyOpponents, Template, Opponent, Schedule, NoCandidate, Write, OutOfMemory, Part as BadPart}
 
 -- The texts of a tuning, its rules, and the part of the template's settings that it searches.
 pub record Texts : Type 0 where
@@ -142,3 +144,14 @@ abbrev pub WritesTuning : Texts → ℕ → Option (List ℕ) → Option (List �
 WritesTuning t capacity report_old report_new cert_old cert_new =
     (i : InputsView) × (f : Found) × (values : List ℤ) × IsTuning t capacity i f values
     × Appends cert_old cert_new (cert_text (cert_of f)) × Appends report_old report_new (report_text (report_for i f values))
+
+-- How a run of a tuning ends, beyond what it writes if it succeeds.
+pub record IsTuneRun {X : Type 0} (t : Texts) (result : Result X RunFault) (report_old report_new cert_old cert_new : OutletView) : Type 0 where
+  -- refused texts have no meaning or no candidate, and nothing was written
+  pub refused : IfErr result (λ e. e ≢ Write → IsTuneRefusal e t × (report_new ≡ report_old) × (cert_new ≡ cert_old))
+  pub write : IsErrOf result Write ↔ (IsTrue report_new.failed ⊎ IsTrue cert_new.failed)
+  -- the report begins only after the certificate is out
+  pub order : IsTrue cert_new.failed → report_new ≡ report_old
+  -- texts that have a meaning and a candidate are not refused
+  pub meaning : (i : InputsView) (v : ℕ) → Means t i → v < (problem_of i).count → IsCandidate (problem_of i) v
+      → IfErr result (λ e. (e ≡ Write) ⊎ (e ≡ OutOfMemory))

@@ -40,10 +40,7 @@ pub fn asm_run<W: Write>(
     ensures meaning { (w : WarriorView) → Assembles source.now [] rules.now w
         → IfErr result (λ e. (e ≡ RunFault.Write) ⊎ (e ≡ RunFault.OutOfMemory)) }
 {
-    let warrior = match warrior_of(alloc, source, rules) {
-        Ok(warrior) => warrior,
-        Err(fault) => return Err(fault),
-    };
+    let warrior = warrior_of(alloc, source, rules)?;
     let file = loadfile_of(alloc, &warrior, rules)?;
     out.write_all(file.as_slice())?;
     Ok(())

@@ -1,9 +1,8 @@
 //! A check: from texts and a certificate to the line of the verdict.
-ghost use Rattle.std.specs.Prelude.{◌≡◌, ◌≢◌, ◌↔◌, ◌⊎◌, map, true, false, IfOk, IfErr, IsErrOf, IsTrue};
-ghost use Rattle.tune_template.specs.Instances.{InputsView};
-ghost use Rattle.tune_runs.specs.TuneRun.{texts, Means, IsTuneRefusal};
+ghost use Rattle.std.specs.Prelude.{◌≡◌, ◌≢◌, map, true, false, IfOk, IfErr};
+ghost use Rattle.tune_runs.specs.TuneRun.{texts};
 ghost use Rattle.tune_runs.specs.TuneTexts.{texts_given};
-ghost use Rattle.tune_runs.specs.CheckRun.{accepts, WritesVerdict};
+ghost use Rattle.tune_runs.specs.CheckRun.{accepts, IsCheckRun, WritesVerdict};
 
 use crate::fault::RunFault;
 use crate::inputs::inputs_of;
@@ -12,7 +11,7 @@ use crate::tune_texts::TuneTexts;
 use rc_instr::{Outlet, Rules};
 use std::alloc::Global;
 use std::io::Write;
-use tune_cert::{CheckFault, Silent, Verdict, Watcher, watched_check};
+use tune_cert::{Silent, Verdict, Watcher, watched_check};
 use tune_template::Part;
 
 /// Checks a certificate of a tuning, whoever made it, and writes the line of the verdict. Returns
@@ -45,14 +44,8 @@ pub fn check_run<W: Write>(
     // texts.
     ensures verdict { IfOk result (λ accepted. WritesVerdict (texts template.now (map (λ o. o.items) opponents.now) schedule.now rules.now) cert.now accepted out.old.bytes out.new.bytes) }
 
-    // Refused texts have no meaning, and nothing was written.
-    ensures refused { IfErr result (λ e. e ≢ RunFault.Write →
-        (e ≢ RunFault.NoCandidate) × IsTuneRefusal e (texts template.now (map (λ o. o.items) opponents.now) schedule.now rules.now) × (out.new ≡ out.old)) }
-    ensures write { IsErrOf result RunFault.Write ↔ IsTrue out.new.failed }
-
-    // Texts that have a meaning are not refused.
-    ensures meaning { (i : InputsView) → Means (texts template.now (map (λ o. o.items) opponents.now) schedule.now rules.now) i
-        → IfErr result (λ e. (e ≡ RunFault.Write) ⊎ (e ≡ RunFault.OutOfMemory)) }
+    // Only texts without a meaning are refused, and then nothing was written.
+    ensures run { IsCheckRun (texts template.now (map (λ o. o.items) opponents.now) schedule.now rules.now) result out.old out.new }
 
     // Every template has a part 1 of 1.
     ensures whole { IfErr result (λ e. e ≢ RunFault.Part) }
@@ -83,7 +76,6 @@ pub fn check_run<W: Write>(
 ///
 /// Those of `check_run`; and `Part`, after `Schedule`, if there is no such part: nothing is written
 /// then.
-#[tactic(auto, using(crate::proofs::Tunings::refused_inputs))]
 pub fn check_part_run<T: Watcher, W: Write>(
     alloc: Global,
     given: &TuneTexts<'_>,
@@ -92,30 +84,13 @@ pub fn check_part_run<T: Watcher, W: Write>(
     out: &mut Outlet<W>,
 ) -> Result<bool, RunFault>
     requires { out.old.failed ≡ false }
-
-    // What was written is the line of the right verdict on the certificate, for the inputs in the
-    // texts.
     ensures verdict { IfOk result (λ accepted. WritesVerdict (texts_given given.now) cert.now accepted out.old.bytes out.new.bytes) }
-
-    // Refused texts have no meaning, and nothing was written.
-    ensures refused { IfErr result (λ e. e ≢ RunFault.Write →
-        (e ≢ RunFault.NoCandidate) × IsTuneRefusal e (texts_given given.now) × (out.new ≡ out.old)) }
-    ensures write { IsErrOf result RunFault.Write ↔ IsTrue out.new.failed }
-
-    // Texts that have a meaning are not refused.
-    ensures meaning { (i : InputsView) → Means (texts_given given.now) i
-        → IfErr result (λ e. (e ≡ RunFault.Write) ⊎ (e ≡ RunFault.OutOfMemory)) }
+    ensures run { IsCheckRun (texts_given given.now) result out.old out.new }
 {
-    let inputs = match inputs_of(alloc, given) {
-        Ok(inputs) => inputs,
-        Err(fault) => return Err(fault),
-    };
+    let inputs = inputs_of(alloc, given)?;
     let checked = watched_check(alloc, &inputs, cert, watcher);
     watcher.end();
-    let verdict = match checked {
-        Ok(verdict) => verdict,
-        Err(CheckFault::OutOfMemory) => return Err(RunFault::OutOfMemory),
-    };
+    let verdict = checked?;
     let line = verdict_line(alloc, verdict)?;
     out.write_all(line.as_slice())?;
     Ok(is_accepted(&verdict))

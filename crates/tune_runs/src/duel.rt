@@ -3,23 +3,24 @@ ghost use Rattle.std.specs.Prelude.{◌≡◌, ◌≢◌, ◌↔◌, ◌⊎◌, 
 ghost use Rattle.rc_instr.specs.Warrior.{WarriorView, Fits};
 ghost use Rattle.rc_asm.specs.Assembly.{Assembles};
 ghost use Rattle.mars_fight.specs.Listed.{IsPosition};
-ghost use Rattle.tune_runs.specs.DuelRun.{duel, NamesDuel, IsDuelRefusal, WritesDuel};
+ghost use Rattle.tune_runs.specs.DuelRun.{NamesDuel, IsDuelRefusal, WritesDuel};
+ghost use Rattle.tune_runs.specs.DuelTexts.{duel_given};
 
 use crate::asm::warrior_of;
+use crate::duel_texts::DuelTexts;
 use crate::fault::RunFault;
 use crate::fight::{NamedFight, play};
 use crate::inputs::opponent_of;
 use crate::lines::result_line;
-use mars_core::Side;
-use rc_instr::{Outlet, Rules};
+use rc_instr::Outlet;
 use std::alloc::Global;
 use std::io::Write;
 
-/// Assembles two Redcode texts under `rules`, plays one fight, and writes its result line: `win 3
-/// turns K`, `tie 1 turns K` or `loss 0 turns K`. Points are the candidate's, and K counts the
-/// turns of both sides.
+/// Assembles two Redcode texts, plays one fight, and writes its result line: `win 3 turns K`, `tie
+/// 1 turns K` or `loss 0 turns K`. Points are the candidate's, and K counts the turns of both
+/// sides.
 ///
-/// The opponent is loaded at `position`, and `first` moves first. The outlet must not have failed.
+/// The outlet must not have failed.
 ///
 /// # Errors
 ///
@@ -29,31 +30,24 @@ use std::io::Write;
 /// `OutOfMemory` if an allocation failed: nothing is written.
 pub fn duel_run<W: Write>(
     alloc: Global,
-    candidate: &[u8],
-    opponent: &[u8],
-    rules: &Rules,
-    position: u32,
-    first: Side,
+    given: &DuelTexts<'_>,
     out: &mut Outlet<W>,
 ) -> Result<(), RunFault>
     requires { out.old.failed ≡ false }
 
     // What was written is the result line of the duel.
-    ensures line { OnOk result (WritesDuel (duel candidate.now opponent.now rules.now position first) out.old.bytes out.new.bytes) }
+    ensures line { OnOk result (WritesDuel (duel_given given.now) out.old.bytes out.new.bytes) }
 
     // The fault of a refusal holds, those before it do not, and nothing was written.
     ensures refused { IfErr result (λ e. e ≢ RunFault.Write →
-        IsDuelRefusal e (duel candidate.now opponent.now rules.now position first) × (out.new ≡ out.old)) }
+        IsDuelRefusal e (duel_given given.now) × (out.new ≡ out.old)) }
     ensures write { IsErrOf result RunFault.Write ↔ IsTrue out.new.failed }
 
     // Texts that assemble, at a position that keeps the distance, are not refused.
-    ensures meaning { (c o : WarriorView) → NamesDuel (duel candidate.now opponent.now rules.now position first) c o
+    ensures meaning { (c o : WarriorView) → NamesDuel (duel_given given.now) c o
         → IfErr result (λ e. (e ≡ RunFault.Write) ⊎ (e ≡ RunFault.OutOfMemory)) }
 {
-    let fight = match fight_of(alloc, candidate, opponent, rules, position, first) {
-        Ok(fight) => fight,
-        Err(fault) => return Err(fault),
-    };
+    let fight = fight_of(alloc, given)?;
     let outcome = play(alloc, &fight)?;
     let line = result_line(alloc, outcome)?;
     out.write_all(line.as_slice())?;
@@ -62,37 +56,25 @@ pub fn duel_run<W: Write>(
 
 // Assembles both texts and checks the position, in the order of the faults.
 #[tactic(auto, using(crate::proofs::Duels::candidate_refused, crate::proofs::Duels::opponent_refused))]
-fn fight_of(
-    alloc: Global,
-    candidate: &[u8],
-    opponent: &[u8],
-    rules: &Rules,
-    position: u32,
-    first: Side,
-) -> Result<NamedFight, RunFault>
-    ensures found { IfOk result (λ f. NamesDuel (duel candidate.now opponent.now rules.now position first) f.candidate f.opponent
-        × (f.rules ≡ rules.now) × (f.position ≡ position) × (f.first ≡ first)) }
+fn fight_of(alloc: Global, given: &DuelTexts<'_>) -> Result<NamedFight, RunFault>
+    ensures found { IfOk result (λ f. NamesDuel (duel_given given.now) f.candidate f.opponent
+        × (f.rules ≡ given.now.rules.now) × (f.position ≡ given.now.position) × (f.first ≡ given.now.first)) }
     ensures fits { IfOk result (λ f. Fits f.rules f.candidate × Fits f.rules f.opponent) }
     ensures apart { IfOk result (λ f. IsPosition f.rules f.position) }
-    ensures refused { IfErr result (λ e. IsDuelRefusal e (duel candidate.now opponent.now rules.now position first)) }
+    ensures refused { IfErr result (λ e. IsDuelRefusal e (duel_given given.now)) }
 {
-    let candidate = match warrior_of(alloc, candidate, rules) {
-        Ok(warrior) => warrior,
-        Err(fault) => return Err(fault),
-    };
-    let opponent = match opponent_of(alloc, opponent, 0, rules) {
-        Ok(warrior) => warrior,
-        Err(fault) => return Err(fault),
-    };
+    let rules = given.rules;
+    let candidate = warrior_of(alloc, given.candidate, rules)?;
+    let opponent = opponent_of(alloc, given.opponent, 0, rules)?;
     let distance = rules.distance();
-    if position < distance || position > rules.core() - distance {
+    if given.position < distance || given.position > rules.core() - distance {
         return Err(RunFault::Position);
     }
     Ok(NamedFight {
         rules: *rules,
         candidate,
         opponent,
-        position,
-        first,
+        position: given.position,
+        first: given.first,
     })
 }

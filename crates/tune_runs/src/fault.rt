@@ -1,5 +1,7 @@
 //! Why a run ends without its answer.
 ghost use Rattle.std.specs.Prelude.{◌≡◌};
+ghost use Rattle.tune_runs.specs.declared.fault.RunFault.TheVariants.{Write as WriteFault, OutOfMemory as MemoryFault};
+ghost use Rattle.tune_runs.specs.Searching.{fault_of};
 
 use mars_core::Side;
 use mars_fight::ScheduleFault;
@@ -7,6 +9,8 @@ use rc_asm::AsmFault;
 use rc_instr::{LoadFault, OutOfMemory as MemoryRefused, RulesError, WriteFailed};
 use std::alloc::{AllocError, AllocFailed};
 use thiserror::Error;
+use tune_cert::CheckFault;
+use tune_search::SearchFault;
 use tune_template::TemplateFault;
 
 /// Why a run ends without its answer. If several faults apply, the first in this order is returned,
@@ -65,8 +69,6 @@ pub enum RunFault {
 }
 
 impl From<MemoryRefused> for RunFault {
-    ghost use Rattle.tune_runs.specs.declared.fault.RunFault.TheVariants.{OutOfMemory as MemoryFault};
-
     ghost from_gives = { λ _ e. e ≡ MemoryFault };
 
     fn from(_refused: MemoryRefused) -> RunFault {
@@ -75,8 +77,6 @@ impl From<MemoryRefused> for RunFault {
 }
 
 impl From<AllocError> for RunFault {
-    ghost use Rattle.tune_runs.specs.declared.fault.RunFault.TheVariants.{OutOfMemory as MemoryFault};
-
     ghost from_gives = { λ _ e. e ≡ MemoryFault };
 
     fn from(_refused: AllocError) -> RunFault {
@@ -85,8 +85,6 @@ impl From<AllocError> for RunFault {
 }
 
 impl<T: Drop> From<AllocFailed<T>> for RunFault {
-    ghost use Rattle.tune_runs.specs.declared.fault.RunFault.TheVariants.{OutOfMemory as MemoryFault};
-
     ghost from_gives = { λ _ e. e ≡ MemoryFault };
 
     fn from(_refused: AllocFailed<T>) -> RunFault {
@@ -95,11 +93,30 @@ impl<T: Drop> From<AllocFailed<T>> for RunFault {
 }
 
 impl From<WriteFailed> for RunFault {
-    ghost use Rattle.tune_runs.specs.declared.fault.RunFault.TheVariants.{Write as WriteFault};
-
     ghost from_gives = { λ _ e. e ≡ WriteFault };
 
     fn from(_failed: WriteFailed) -> RunFault {
         RunFault::Write
+    }
+}
+
+impl From<SearchFault> for RunFault {
+    ghost from_gives = { λ s e. e ≡ fault_of s };
+
+    fn from(fault: SearchFault) -> RunFault {
+        match fault {
+            SearchFault::NoCandidate => RunFault::NoCandidate,
+            SearchFault::OutOfMemory => RunFault::OutOfMemory,
+        }
+    }
+}
+
+impl From<CheckFault> for RunFault {
+    ghost from_gives = { λ _ e. e ≡ MemoryFault };
+
+    fn from(fault: CheckFault) -> RunFault {
+        match fault {
+            CheckFault::OutOfMemory => RunFault::OutOfMemory,
+        }
     }
 }

@@ -55,10 +55,7 @@ pub fn fight_run<W: Write>(alloc: Global, text: &[u8], out: &mut Outlet<W>) -> R
     ensures meaning { (w : FightWords) (c o : WarriorView) → NamesFight text.now w c o
         → IfErr result (λ e. (e ≡ RunFault.Write) ⊎ (e ≡ RunFault.OutOfMemory)) }
 {
-    let fight = match read_fight(alloc, text) {
-        Ok(fight) => fight,
-        Err(fault) => return Err(fault),
-    };
+    let fight = read_fight(alloc, text)?;
     let outcome = play(alloc, &fight)?;
     let line = result_line(alloc, outcome)?;
     out.write_all(line.as_slice())?;
@@ -99,14 +96,8 @@ fn read_fight(alloc: Global, text: &[u8]) -> Result<NamedFight, RunFault>
         Ok(rules) => rules,
         Err(error) => return Err(RunFault::Rules(error)),
     };
-    let candidate = match load(alloc, words.candidate, &rules, Side::Candidate) {
-        Ok(warrior) => warrior,
-        Err(fault) => return Err(fault),
-    };
-    let opponent = match load(alloc, words.opponent, &rules, Side::Opponent) {
-        Ok(warrior) => warrior,
-        Err(fault) => return Err(fault),
-    };
+    let candidate = load(alloc, words.candidate, &rules, Side::Candidate)?;
+    let opponent = load(alloc, words.opponent, &rules, Side::Opponent)?;
     let distance = rules.distance();
     if words.position < distance || words.position > rules.core() - distance {
         return Err(RunFault::Position);

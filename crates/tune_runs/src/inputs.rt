@@ -34,23 +34,14 @@ pub fn inputs_of(alloc: Global, given: &TuneTexts<'_>) -> Result<Inputs, RunFaul
     if given.opponents.len() > limits::MOST_OPPONENTS {
         return Err(RunFault::TooManyOpponents);
     }
-    let template = match template_of(alloc, given.template) {
-        Ok(template) => template,
-        Err(fault) => return Err(fault),
-    };
-    let warriors = match opponents_of(alloc, given.opponents, given.rules) {
-        Ok(warriors) => warriors,
-        Err(fault) => return Err(fault),
-    };
-    let schedule = match schedule_of(
+    let template = template_of(alloc, given.template)?;
+    let warriors = opponents_of(alloc, given.opponents, given.rules)?;
+    let schedule = schedule_of(
         alloc,
         given.schedule,
         given.opponents.len() as u32,
         given.rules,
-    ) {
-        Ok(schedule) => schedule,
-        Err(fault) => return Err(fault),
-    };
+    )?;
     match Inputs::new(template, warriors, schedule, *given.rules).part(given.part) {
         Some(inputs) => Ok(inputs),
         None => Err(RunFault::Part),
@@ -124,10 +115,7 @@ fn opponents_of(alloc: Global, sources: &[Vec<u8>], rules: &Rules) -> Result<Vec
     let mut warriors = Vec::new(alloc);
     for source in sources {
         let index = warriors.len() as u32;
-        let warrior = match opponent_of(alloc, source.as_slice(), index, rules) {
-            Ok(warrior) => warrior,
-            Err(fault) => return Err(fault),
-        };
+        let warrior = opponent_of(alloc, source.as_slice(), index, rules)?;
         warriors.push(warrior)?;
     }
     Ok(warriors)

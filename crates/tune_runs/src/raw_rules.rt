@@ -1,7 +1,8 @@
 //! Rules as they were given, not yet checked.
 ghost use Rattle.std.specs.Prelude.{◌≡◌, ◌↔◌, IsOk, IfOk, IfErr};
-ghost use Rattle.rc_instr.specs.Rules.{rules_view, IsRules};
+ghost use Rattle.rc_instr.specs.Rules.{IsRules};
 ghost use Rattle.rc_instr.specs.RulesRefusal.{IsFirstBroken};
+ghost use Rattle.tune_runs.specs.RawRules.{rules_given};
 
 use rc_instr::{Rules, RulesError};
 
@@ -27,9 +28,9 @@ pub struct RawRules {
 /// The first number that is out of range: `Core` for a core of 7 or less or more than 65535 cells,
 /// and so on, as `Rules::try_new` has it.
 pub fn rules_of(raw: RawRules) -> Result<Rules, RulesError>
-    ensures ok { IsOk result ↔ IsRules (rules_view raw.core raw.cycles raw.tasks raw.length raw.distance) }
-    ensures rules { IfOk result (λ r. r ≡ rules_view raw.core raw.cycles raw.tasks raw.length raw.distance) }
-    ensures refused { IfErr result (λ e. IsFirstBroken e (rules_view raw.core raw.cycles raw.tasks raw.length raw.distance)) }
+    ensures ok { IsOk result ↔ IsRules (rules_given raw) }
+    ensures rules { IfOk result (λ r. r ≡ rules_given raw) }
+    ensures refused { IfErr result (λ e. IsFirstBroken e (rules_given raw)) }
 {
     Rules::try_new(raw.core, raw.cycles, raw.tasks, raw.length, raw.distance)
 }

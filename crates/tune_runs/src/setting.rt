@@ -46,10 +46,7 @@ pub fn setting_run<W: Write>(
     ensures meaning { (w : WarriorView) → IsSettingOf source.now which rules.now w
         → IfErr result (λ e. (e ≡ RunFault.Write) ⊎ (e ≡ RunFault.OutOfMemory)) }
 {
-    let warrior = match warrior_at(alloc, source, which, rules) {
-        Ok(warrior) => warrior,
-        Err(fault) => return Err(fault),
-    };
+    let warrior = warrior_at(alloc, source, which, rules)?;
     let file = loadfile_of(alloc, &warrior, rules)?;
     out.write_all(file.as_slice())?;
     Ok(())
@@ -67,10 +64,7 @@ fn warrior_at(
     ensures fits { IfOk result (Fits rules.now) }
     ensures refused { IfErr result (λ e. IsSettingRefusal e source.now which rules.now) }
 {
-    let template = match template_of(alloc, source) {
-        Ok(template) => template,
-        Err(fault) => return Err(fault),
-    };
+    let template = template_of(alloc, source)?;
     let index = match index_of(&template, which) {
         Ok(index) => index,
         Err(index) => return Err(RunFault::NoSuchSetting { index }),

@@ -40,10 +40,7 @@ pub fn settings_run<W: Write>(
     ensures meaning { (t : TemplateView) → IsTemplate source.now t
         → IfErr result (λ e. (e ≡ RunFault.Write) ⊎ (e ≡ RunFault.OutOfMemory)) }
 {
-    let template = match template_of(alloc, source) {
-        Ok(template) => template,
-        Err(fault) => return Err(fault),
-    };
+    let template = template_of(alloc, source)?;
     let text = settings_text_of(alloc, &template)?;
     out.write_all(text.as_slice())?;
     Ok(())

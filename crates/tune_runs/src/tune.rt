@@ -1,25 +1,24 @@
 //! A tuning: from texts to the certificate of the best setting, and a report.
-ghost use Rattle.std.specs.Prelude.{◌≡◌, ◌≢◌, ◌↔◌, ◌≤◌, ◌<◌, ◌^◌, ◌⊎◌, ℕ, map, length, false, IfErr, OnOk, IsErrOf, IsTrue};
+ghost use Rattle.std.specs.Prelude.{◌≡◌, ◌≢◌, ◌↔◌, ◌≤◌, ◌<◌, ◌^◌, ◌⊎◌, map, length, false, IfErr, OnOk, IsErrOf, IsTrue};
 ghost use Rattle.std.specs.Io.KnownBytes.{Appends};
-ghost use Rattle.tune_template.specs.Instances.{InputsView};
-ghost use Rattle.tune_problem.specs.Problem.{problem_of};
-ghost use Rattle.tune_problem.specs.Optimum.{IsCandidate};
 ghost use Rattle.tune_cert.specs.CertText.{cert_text};
 ghost use Rattle.tune_problem.specs.Valid.{cert_of};
 ghost use Rattle.tune_cert.specs.Spelling.{IsVersion};
 ghost use Rattle.tune_search.specs.Limits.{MOST_CAPACITY};
-ghost use Rattle.tune_runs.specs.TuneRun.{texts, Means, IsTuneRefusal, WritesTuning};
+ghost use Rattle.tune_runs.specs.Searching.{HasCapacity};
+ghost use Rattle.tune_runs.specs.TuneRun.{texts, IsTuneRun, WritesTuning};
 ghost use Rattle.tune_runs.specs.TuneTexts.{texts_given};
+ghost use Rattle.tune_runs.specs.PlainRun.{WritesBy};
 
 use crate::fault::RunFault;
 use crate::inputs::inputs_of;
 use crate::report::report_of;
+use crate::searching::{Search, find};
 use crate::tune_texts::TuneTexts;
 use rc_instr::{Outlet, Rules};
 use std::alloc::Global;
 use std::io::Write;
 use tune_cert::{CertFault, Found, Silent, Watcher, write_cert};
-use tune_search::{SearchFault, watched_search};
 use tune_template::Part;
 
 /// Finds the optimum of a template, and writes its certificate, then the report.
@@ -57,19 +56,8 @@ pub fn tune_run<W: Write, V: Write>(
     ensures tuning { OnOk result (WritesTuning (texts template.now (map (λ o. o.items) opponents.now) schedule.now rules.now) capacity
         report.old.bytes report.new.bytes cert.old.bytes cert.new.bytes) }
 
-    // Refused texts have no meaning or no candidate, and nothing was written.
-    ensures refused { IfErr result (λ e. e ≢ RunFault.Write →
-        IsTuneRefusal e (texts template.now (map (λ o. o.items) opponents.now) schedule.now rules.now)
-        × (report.new ≡ report.old) × (cert.new ≡ cert.old)) }
-    ensures write { IsErrOf result RunFault.Write ↔ (IsTrue report.new.failed ⊎ IsTrue cert.new.failed) }
-
-    // The report begins only after the certificate is out.
-    ensures order { IsTrue cert.new.failed → report.new ≡ report.old }
-
-    // Texts that have a meaning and a candidate are not refused.
-    ensures meaning { (i : InputsView) (v : ℕ) → Means (texts template.now (map (λ o. o.items) opponents.now) schedule.now rules.now) i
-        → v < (problem_of i).count → IsCandidate (problem_of i) v
-        → IfErr result (λ e. (e ≡ RunFault.Write) ⊎ (e ≡ RunFault.OutOfMemory)) }
+    // Only texts without a meaning or a candidate are refused, and then nothing was written.
+    ensures run { IsTuneRun (texts template.now (map (λ o. o.items) opponents.now) schedule.now rules.now) result report.old report.new cert.old cert.new }
 
     // Every template has a part 1 of 1.
     ensures whole { IfErr result (λ e. e ≢ RunFault.Part) }
@@ -98,7 +86,6 @@ pub fn tune_run<W: Write, V: Write>(
 ///
 /// Those of `tune_run`; and `Part`, after `Schedule`, if there is no such part: nothing is written
 /// then.
-#[tactic(auto, using(crate::proofs::Tunings::refused_means))]
 pub fn tune_part_run<T: Watcher, W: Write, V: Write>(
     alloc: Global,
     given: &TuneTexts<'_>,
@@ -111,42 +98,45 @@ pub fn tune_part_run<T: Watcher, W: Write, V: Write>(
     requires report { report.old.failed ≡ false }
     requires cert { cert.old.failed ≡ false }
 
-    // Both texts are of one `Found` for which `IsSearch` holds: a valid certificate was written,
-    // and the report of its best setting, the optimum.
+    // Both texts are of one `Found` for which `IsSearch` holds, as those of `tune_run`.
     ensures tuning { OnOk result (WritesTuning (texts_given given.now) capacity
         report.old.bytes report.new.bytes cert.old.bytes cert.new.bytes) }
-
-    // Refused texts have no meaning or no candidate, and nothing was written.
-    ensures refused { IfErr result (λ e. e ≢ RunFault.Write →
-        IsTuneRefusal e (texts_given given.now)
-        × (report.new ≡ report.old) × (cert.new ≡ cert.old)) }
-    ensures write { IsErrOf result RunFault.Write ↔ (IsTrue report.new.failed ⊎ IsTrue cert.new.failed) }
-
-    // The report begins only after the certificate is out.
-    ensures order { IsTrue cert.new.failed → report.new ≡ report.old }
-
-    // Texts that have a meaning and a candidate are not refused.
-    ensures meaning { (i : InputsView) (v : ℕ) → Means (texts_given given.now) i
-        → v < (problem_of i).count → IsCandidate (problem_of i) v
-        → IfErr result (λ e. (e ≡ RunFault.Write) ⊎ (e ≡ RunFault.OutOfMemory)) }
+    ensures run { IsTuneRun (texts_given given.now) result report.old report.new cert.old cert.new }
 {
-    let inputs = match inputs_of(alloc, given) {
-        Ok(inputs) => inputs,
-        Err(fault) => return Err(fault),
-    };
-    let searched = watched_search(alloc, &inputs, capacity, watcher);
-    watcher.end();
-    let found = match searched {
-        Ok(found) => found,
-        Err(SearchFault::NoCandidate) => return Err(RunFault::NoCandidate),
-        Err(SearchFault::OutOfMemory) => return Err(RunFault::OutOfMemory),
-    };
+    let method = Search::Dropping { capacity };
+    tune_by_run(alloc, given, method, watcher, report, cert)
+}
+
+/// Finds the optimum of one part of a template's settings by either search, and writes its
+/// certificate, then the report: `tune_part_run` and `plain_tune_run` in one call. The capacity, if
+/// `method` has one, is 1 to 65536. Neither outlet must have failed.
+///
+/// # Errors
+///
+/// Those of `tune_part_run`.
+pub fn tune_by_run<T: Watcher, W: Write, V: Write>(
+    alloc: Global,
+    given: &TuneTexts<'_>,
+    method: Search,
+    watcher: &mut T,
+    report: &mut Outlet<W>,
+    cert: &mut Outlet<V>,
+) -> Result<(), RunFault>
+    requires capacity { HasCapacity method }
+    requires report { report.old.failed ≡ false }
+    requires cert { cert.old.failed ≡ false }
+    ensures tuning { OnOk result (WritesBy method (texts_given given.now)
+        report.old.bytes report.new.bytes cert.old.bytes cert.new.bytes) }
+    ensures run { IsTuneRun (texts_given given.now) result report.old report.new cert.old cert.new }
+{
+    let inputs = inputs_of(alloc, given)?;
+    let found = find(alloc, &inputs, method, watcher)?;
     let text = report_of(alloc, &inputs, &found)?;
     write_both(alloc, &found, text.as_slice(), report, cert)
 }
 
 // Writes the certificate and flushes its writer, then writes the report.
-pub(crate) fn write_both<W: Write, V: Write>(
+fn write_both<W: Write, V: Write>(
     alloc: Global,
     found: &Found,
     text: &[u8],

@@ -1,29 +1,27 @@
 //! The command `fight` with two files: from two Redcode texts to a result line.
 ghost use Rattle.std.specs.Prelude.{◌≡◌, ◌≢◌, ◌≤◌, ◌/◌, ℕ, List, false, IsTrue};
-ghost use Rattle.rc_instr.specs.Rules.{rules_view};
+ghost use Rattle.tune_runs.specs.RawRules.{rules_given};
 ghost use Rattle.tune_runs.specs.DuelRun.{duel, position_meant, WritesDuel};
 
 use crate::command_line::DuelWords;
+use crate::host::Host;
 use crate::reading::read_file;
 use crate::status::{DONE, end_duel, end_file, end_run};
 use rc_instr::{Outlet, Rules};
-use std::alloc::Global;
 use std::io::Write;
 use std::rt::Files;
-use tune_runs::{RunFault, duel_run, rules_of};
+use tune_runs::{DuelTexts, RunFault, duel_run, rules_of};
 
 // Runs the command on files. Checks the rules before it reads them.
 pub(crate) fn duel<F: Files, W: Write, V: Write>(
-    rt: &F,
-    alloc: Global,
+    host: Host<&F>,
     words: &DuelWords<'_>,
     out: &mut Outlet<W>,
     err: &mut Outlet<V>,
 ) -> u8
     requires out { out.old.failed ≡ false }
     requires err { err.old.failed ≡ false }
-    ensures done { let r = words.now.rules in let rules = rules_view r.core r.cycles r.tasks r.length r.distance in
-        result ≡ 0 → (c : List ℕ) × (o : List ℕ)
+    ensures done { let rules = rules_given words.now.rules in result ≡ 0 → (c : List ℕ) × (o : List ℕ)
         × WritesDuel (duel c o rules (position_meant rules words.now.position) words.now.first) out.old.bytes out.new.bytes }
     ensures refused { result ≡ 1 → out.new ≡ out.old }
     ensures failed { IsTrue out.new.failed → result ≡ 3 }
@@ -33,23 +31,22 @@ pub(crate) fn duel<F: Files, W: Write, V: Write>(
         Ok(rules) => rules,
         Err(error) => return end_run(err, RunFault::Rules(error)),
     };
-    let candidate = match read_file(rt, alloc, words.candidate) {
+    let candidate = match read_file(host.rt, host.alloc, words.candidate) {
         Ok(text) => text,
         Err(error) => return end_file(err, &error, "read", words.candidate),
     };
-    let opponent = match read_file(rt, alloc, words.opponent) {
+    let opponent = match read_file(host.rt, host.alloc, words.opponent) {
         Ok(text) => text,
         Err(error) => return end_file(err, &error, "read", words.opponent),
     };
-    match duel_run(
-        alloc,
-        candidate.as_slice(),
-        opponent.as_slice(),
-        &rules,
-        position_or_half(&rules, words.position),
-        words.first,
-        out,
-    ) {
+    let texts = DuelTexts {
+        candidate: candidate.as_slice(),
+        opponent: opponent.as_slice(),
+        rules: &rules,
+        position: position_or_half(&rules, words.position),
+        first: words.first,
+    };
+    match duel_run(host.alloc, &texts, out) {
         Ok(()) => DONE,
         Err(fault) => end_duel(err, fault, words.candidate, words.opponent),
     }

@@ -1,14 +1,14 @@
-//! What `tune` and `tune --all` read and open before they search.
+//! What `tune` reads and opens before it searches.
 ghost use Rattle.std.specs.Prelude.{◌≡◌, ◌≢◌, ◌≤◌, false, IfOk, IfErr, OnOk, IsErr, IsTrue};
-ghost use Rattle.rc_instr.specs.Rules.{rules_view};
+ghost use Rattle.tune_runs.specs.RawRules.{rules_given};
 ghost use Rattle.cwtune.specs.CertFile.{names_twice};
 
 use crate::cert_file::{CertFile, open_cert};
 use crate::command_line::TuneWords;
+use crate::host::Host;
 use crate::reading::{TuneFiles, read_texts};
 use crate::status::{end_cert, end_file, end_run};
 use rc_instr::{Outlet, Rules};
-use std::alloc::Global;
 use std::io::Write;
 use std::rt::Files;
 use tune_runs::{RunFault, rules_of};
@@ -23,14 +23,13 @@ pub(crate) struct Opened<R: Files> {
 
 // Checks the rules, reads the files, and opens CERT last, just before the search. If one of these
 // fails, says so on standard error and returns the exit status.
-pub(crate) fn open_tuning<R: Files + Copy, V: Write>(
-    rt: R,
-    alloc: Global,
+pub(crate) fn open_tuning<'a, F: Files, V: Write>(
+    host: Host<&'a F>,
     words: &TuneWords<'_>,
     err: &mut Outlet<V>,
-) -> Result<Opened<R>, u8>
+) -> Result<Opened<&'a F>, u8>
     requires { err.old.failed ≡ false }
-    ensures rules { let r = words.now.rules in IfOk result (λ o. o.rules ≡ rules_view r.core r.cycles r.tasks r.length r.distance) }
+    ensures rules { IfOk result (λ o. o.rules ≡ rules_given words.now.rules) }
     ensures cert { IfOk result (λ o. o.cert.failed ≡ false) }
     ensures kept { OnOk result (err.new ≡ err.old) }
     ensures named { IsTrue (names_twice words.now) → IsErr result }
@@ -40,11 +39,11 @@ pub(crate) fn open_tuning<R: Files + Copy, V: Write>(
         Ok(rules) => rules,
         Err(error) => return Err(end_run(err, RunFault::Rules(error))),
     };
-    let files = match read_texts(&rt, alloc, words) {
+    let files = match read_texts(host.rt, host.alloc, words) {
         Ok(files) => files,
         Err(unread) => return Err(end_file(err, &unread.error, "read", unread.name)),
     };
-    match open_cert(rt, alloc, words) {
+    match open_cert(host.rt, host.alloc, words) {
         Ok(file) => Ok(Opened {
             rules,
             files,

@@ -2,18 +2,17 @@
 ghost use Rattle.std.specs.Prelude.{◌≡◌, ◌≢◌, ◌≤◌, ℕ, List, false, IsTrue};
 ghost use Rattle.tune_runs.specs.SettingsRun.{WritesSettings};
 
+use crate::host::Host;
 use crate::reading::read_file;
 use crate::status::{DONE, end_file, end_run};
 use rc_instr::Outlet;
-use std::alloc::Global;
 use std::io::Write;
 use std::rt::Files;
 use tune_runs::settings_run;
 
 // Runs the command on a file.
 pub(crate) fn settings<F: Files, W: Write, V: Write>(
-    rt: &F,
-    alloc: Global,
+    host: Host<&F>,
     file: &str,
     out: &mut Outlet<W>,
     err: &mut Outlet<V>,
@@ -25,11 +24,11 @@ pub(crate) fn settings<F: Files, W: Write, V: Write>(
     ensures failed { IsTrue out.new.failed → result ≡ 3 }
     ensures status { (result ≤ 3) × (result ≢ 2) }
 {
-    let source = match read_file(rt, alloc, file) {
+    let source = match read_file(host.rt, host.alloc, file) {
         Ok(source) => source,
         Err(error) => return end_file(err, &error, "read", file),
     };
-    match settings_run(alloc, source.as_slice(), out) {
+    match settings_run(host.alloc, source.as_slice(), out) {
         Ok(()) => DONE,
         Err(fault) => end_run(err, fault),
     }

@@ -1,62 +1,52 @@
 //! The command `tune`: from texts to the certificate of the best setting, and a report.
-ghost use Rattle.std.specs.Prelude.{◌≡◌, ◌≢◌, ◌≤◌, ◌<◌, ℕ, List, Option, false, IsTrue};
-ghost use Rattle.rc_instr.specs.Rules.{rules_view};
-ghost use Rattle.tune_search.specs.Limits.{MOST_CAPACITY};
+ghost use Rattle.std.specs.Prelude.{◌≡◌, ◌≢◌, ◌≤◌, false, IsTrue};
+ghost use Rattle.tune_runs.specs.RawRules.{rules_given};
+ghost use Rattle.tune_runs.specs.Searching.{HasCapacity};
 ghost use Rattle.cwtune.specs.CertFile.{names_twice};
-ghost use Rattle.tune_runs.specs.TuneRun.{part_texts, WritesTuning};
+ghost use Rattle.cwtune.specs.Commands.{WritesReport};
 
 use crate::command_line::TuneWords;
 use crate::commands::opening::{Opened, open_tuning};
+use crate::host::Host;
 use crate::status::{DONE, end_tuning};
 use crate::witness::Witness;
 use rc_instr::Outlet;
-use std::alloc::Global;
 use std::io::Write;
 use std::rt::Files;
-use tune_runs::tune_part_run;
+use tune_runs::{Search, tune_by_run};
 
 // Runs the command on files. Opens the file of the certificate last, just before the search; if it
 // names another word's file, nothing is written. The file gets its new text, whole and on the disk,
 // before the report begins.
 pub(crate) fn tune<F: Files, T: Witness, W: Write, V: Write>(
-    rt: &F,
-    alloc: Global,
+    host: Host<&F>,
     words: &TuneWords<'_>,
-    capacity: u32,
+    method: Search,
     watcher: &mut T,
     out: &mut Outlet<W>,
     err: &mut Outlet<V>,
 ) -> u8
-    requires capacity { (1 ≤ capacity) × (capacity ≤ MOST_CAPACITY) }
+    requires capacity { HasCapacity method }
     requires out { out.old.failed ≡ false }
     requires err { err.old.failed ≡ false }
-    ensures done { let r = words.now.rules in let rules = rules_view r.core r.cycles r.tasks r.length r.distance in
-        result ≡ 0 → (template : List ℕ) × (opponents : List (List ℕ)) × (schedule : List ℕ) × (cert : Option (List ℕ)) × (written : Option (List ℕ))
-        × WritesTuning (part_texts template opponents schedule rules words.now.part) capacity out.old.bytes out.new.bytes cert written }
+    ensures done { result ≡ 0 → WritesReport method (rules_given words.now.rules) words.now.part out.old.bytes out.new.bytes }
     ensures refused { result ≡ 1 → out.new ≡ out.old }
     ensures failed { IsTrue out.new.failed → result ≡ 3 }
     ensures misused { result ≡ 2 → out.new ≡ out.old }
     ensures named { IsTrue (names_twice words.now) → (result ≢ 0) × (out.new ≡ out.old) }
     ensures status { result ≤ 3 }
 {
-    let opened = match open_tuning(rt, alloc, words, err) {
-        Ok(opened) => opened,
-        Err(status) => return status,
-    };
     let Opened {
         rules,
         files,
         mut cert,
-    } = opened;
-    watcher.begin(alloc, words, &files.texts(&rules, words.part));
-    match tune_part_run(
-        alloc,
-        &files.texts(&rules, words.part),
-        capacity,
-        watcher,
-        out,
-        &mut cert,
-    ) {
+    } = match open_tuning(host, words, err) {
+        Ok(opened) => opened,
+        Err(status) => return status,
+    };
+    let texts = files.texts(&rules, words.part);
+    watcher.begin(host.alloc, words, &texts);
+    match tune_by_run(host.alloc, &texts, method, watcher, out, &mut cert) {
         Ok(()) => {
             drop(cert);
             DONE

@@ -1,14 +1,29 @@
-//! `plain_tune_run`, under rules of 16 cells, 20 cycles, 4 tasks, length 4 and distance 4.
+//! `plain_tune_run` and `tune_by_run`, under rules of 16 cells, 20 cycles, 4 tasks, length 4 and
+//! distance 4.
 use crate::runs::tuning::{BOTH, both_opponents};
 use crate::writers::Broken;
 use rc_instr::{Outlet, Rules};
 use std::test::Fail;
 use tune_cert::Silent;
-use tune_runs::{RunFault, TuneTexts, plain_tune_run};
+use tune_runs::{RunFault, Search, TuneTexts, plain_tune_run, tune_by_run};
 use tune_template::Part;
 
-// Two settings with one warrior, an imp.
-const IMPS: &[u8] = b";@tune K 0 1 1 1\nMOV 0, 1";
+// Returns the texts of a tuning of two settings with one warrior, an imp.
+fn imps<'a>(opponents: &'a [Vec<u8>], rules: &'a Rules) -> TuneTexts<'a> {
+    TuneTexts {
+        template: b";@tune K 0 1 1 1\nMOV 0, 1",
+        opponents,
+        schedule: BOTH,
+        rules,
+        part: Part::whole(),
+    }
+}
+
+// The report of all fights, and the certificate.
+const REPORT: &[u8] =
+    b"vectors 2\ncandidates 2\nbest 0\nconstants K=0\ntotal 4 of 6\nfights 4 of 4\n";
+
+const CERT: &[u8] = b"cwcert,1,2\nbest,0,4\ncap,0,0:3 1:1\ncap,1,0:3 1:1\n";
 
 #[test]
 fn all_fights_are_played_and_listed(rt: HostRuntime) -> Result<(), Fail> {
@@ -16,28 +31,43 @@ fn all_fights_are_played_and_listed(rt: HostRuntime) -> Result<(), Fail> {
     let opponents = both_opponents(rt.alloc())?;
     let mut report = Outlet::new(Vec::new(rt.alloc()));
     let mut cert = Outlet::new(Vec::new(rt.alloc()));
-    let tuned = plain_tune_run(
-        rt.alloc(),
-        &TuneTexts {
-            template: IMPS,
-            opponents: opponents.as_slice(),
-            schedule: BOTH,
-            rules: &rules,
-            part: Part::whole(),
-        },
-        &mut Silent,
-        &mut report,
-        &mut cert,
-    );
+    let texts = imps(opponents.as_slice(), &rules);
+    let tuned = plain_tune_run(rt.alloc(), &texts, &mut Silent, &mut report, &mut cert);
     assert_eq!(rt; tuned, Ok(()));
-    assert_eq!(rt;
-        report.into_inner().as_slice(),
-        b"vectors 2\ncandidates 2\nbest 0\nconstants K=0\ntotal 4 of 6\nfights 4 of 4\n".as_slice()
-    );
-    assert_eq!(rt;
-        cert.into_inner().as_slice(),
-        b"cwcert,1,2\nbest,0,4\ncap,0,0:3 1:1\ncap,1,0:3 1:1\n".as_slice()
-    );
+    assert_eq!(rt; report.into_inner().as_slice(), REPORT);
+    assert_eq!(rt; cert.into_inner().as_slice(), CERT);
+    Ok(())
+}
+
+// Each search, and the report of what it finds: the settings may share their fights.
+const SEARCHES: [(Search, &[u8]); 2] = [
+    (
+        Search::Dropping { capacity: 1 },
+        b"vectors 2\ncandidates 2\nbest 0\nconstants K=0\ntotal 4 of 6\nfights 2 of 4\n",
+    ),
+    (Search::Plain, REPORT),
+];
+
+#[test]
+fn both_searches_find_the_optimum(rt: HostRuntime) -> Result<(), Fail> {
+    let rules = Rules::try_new(16, 20, 4, 4, 4)?;
+    let opponents = both_opponents(rt.alloc())?;
+    let texts = imps(opponents.as_slice(), &rules);
+    for &(method, told) in &SEARCHES {
+        let mut report = Outlet::new(Vec::new(rt.alloc()));
+        let mut cert = Outlet::new(Vec::new(rt.alloc()));
+        let tuned = tune_by_run(
+            rt.alloc(),
+            &texts,
+            method,
+            &mut Silent,
+            &mut report,
+            &mut cert,
+        );
+        assert_eq!(rt; tuned, Ok(()));
+        assert_eq!(rt; report.into_inner().as_slice(), told);
+        assert_eq!(rt; cert.into_inner().as_slice(), CERT);
+    }
     Ok(())
 }
 
@@ -47,19 +77,8 @@ fn a_write_failure_is_reported_before_the_report(rt: HostRuntime) -> Result<(), 
     let opponents = both_opponents(rt.alloc())?;
     let mut report = Outlet::new(Vec::new(rt.alloc()));
     let mut cert = Outlet::new(Broken);
-    let tuned = plain_tune_run(
-        rt.alloc(),
-        &TuneTexts {
-            template: IMPS,
-            opponents: opponents.as_slice(),
-            schedule: BOTH,
-            rules: &rules,
-            part: Part::whole(),
-        },
-        &mut Silent,
-        &mut report,
-        &mut cert,
-    );
+    let texts = imps(opponents.as_slice(), &rules);
+    let tuned = plain_tune_run(rt.alloc(), &texts, &mut Silent, &mut report, &mut cert);
     assert_eq!(rt; tuned, Err(RunFault::Write));
     assert!(rt; report.into_inner().is_empty());
     Ok(())

@@ -1,8 +1,11 @@
+use Rattle.std.proofs.Common.{Err, ap, ◌∙◌}
+use Rattle.std.proofs.lemmas.Result.{err_from_is_err_and}
 use Rattle.tune_runs.specs.TuneTexts.{texts_given}
-use Rattle.tune_runs.proofs.Tunings.{refused_inputs}
+use Rattle.tune_runs.proofs.Endings.{refused_check}
 use Rattle.tune_runs.proofs.check.check_part_run.Goals as goal
 
-pub returns-in-Err-clause-meaning : goal.returns-in-Err-clause-meaning
-returns-in-Err-clause-meaning g c = λ i means.
-    refused_inputs c.in-Err.fault (texts_given c.args.given.now) i
-    c.in-Err.ensures.refused c.in-Err.ensures.candidate.0 means
+pub returns-in_err-inputs-clause-run : goal.returns-in_err-inputs-clause-run
+returns-in_err-inputs-clause-run g c =
+    let p = err_from_is_err_and c.from_residual.result c.from_residual.ensures.1 in
+    refused_check _ _ c.in_err-inputs.field-0.0 (texts_given c.args.given.now) _ (p.1 ∙ ap (λ e. Err e) p.2)
+    c.requires c.in_err-inputs.ensures.candidate.0 c.in_err-inputs.ensures.refused

@@ -1,0 +1,28 @@
+-- What the commands write of the files that they read.
+use Rattle.std.specs.Prelude.{ℕ, Bool, List, Option, Some, None}
+use Rattle.rc_instr.specs.Rules.{RulesView}
+use Rattle.tune_template.specs.declared.part.Part.{Part}
+use Rattle.tune_runs.specs.AsmRun.{WritesWarrior}
+use Rattle.tune_runs.specs.SettingRun.{WritesSetting}
+use Rattle.tune_runs.specs.TuneRun.{part_texts}
+use Rattle.tune_runs.specs.PlainRun.{WritesBy}
+use Rattle.tune_runs.specs.CheckRun.{WritesVerdict}
+use Rattle.tune_runs.specs.declared.searching.Search.{Search}
+use Rattle.tune_runs.specs.declared.which_setting.WhichSetting.{WhichSetting}
+
+-- The load file of a text was written, or that of a setting of a template.
+abbrev pub WritesLoadFile : List ℕ → Option WhichSetting → RulesView → Option (List ℕ) → Option (List ℕ) → Type 0
+WritesLoadFile source None rules old new = WritesWarrior source rules old new
+WritesLoadFile source (Some which) rules old new = WritesSetting source which rules old new
+
+-- The report of a tuning of some texts was written, and a certificate.
+abbrev pub WritesReport : Search → RulesView → Part → Option (List ℕ) → Option (List ℕ) → Type 0
+WritesReport method rules part old new =
+    (template : List ℕ) × (opponents : List (List ℕ)) × (schedule : List ℕ) × (cert : Option (List ℕ)) × (written : Option (List ℕ))
+    × WritesBy method (part_texts template opponents schedule rules part) old new cert written
+
+-- The line of a check of some texts and a certificate was written.
+abbrev pub WritesCheckLine : RulesView → Part → Bool → Option (List ℕ) → Option (List ℕ) → Type 0
+WritesCheckLine rules part accepted old new =
+    (template : List ℕ) × (opponents : List (List ℕ)) × (schedule : List ℕ) × (cert : List ℕ)
+    × WritesVerdict (part_texts template opponents schedule rules part) cert accepted old new

@@ -1,0 +1,6 @@
+-- The fields that the code keeps of a duel's texts, as the duel of the definition.
+use Rattle.tune_runs.specs.DuelRun.{Duel, duel}
+use Rattle.tune_runs.specs.declared.duel_texts.DuelTexts.{DuelTexts}
+
+abbrev pub duel_given : DuelTexts → Duel
+duel_given t = duel t.candidate.now t.opponent.now t.rules.now t.position t.first
