@@ -142,6 +142,10 @@ def readers_that_go_away(play):
     ]:
         came = to_broken_pipe(play, words, "stderr")
         yield f"nobody reads the standard error of {name}", expected, came
+    writer = broken_pipe()
+    came = play.with_input("imps.fight", stdout=writer, stderr=writer)
+    yield "nobody reads a result, nor the line that says so", (3, b"", b""), came
+    os.close(writer)
 
 
 def read_slowly(path, most, text):

@@ -20,7 +20,7 @@ from trials import library_of, program_of, tally
 
 HERE = pathlib.Path(__file__).resolve().parent
 PROGRAMS = [f"crates/{crate}/out/{crate}_tests"
-            for crate in ["rc_tests", "mars_tests", "tune_tests", "cwtune"]]
+            for crate in ["rc_tests", "mars_tests", "tune_tests"]]
 MODULE = "memory::"
 
 # How a test prints that a call was out of memory.

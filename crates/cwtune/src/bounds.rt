@@ -1,15 +1,17 @@
-//! The limits that faults are about.
+//! Why a text is refused, in words, and the limits that faults are about.
 
-use crate::telling::{records_in, tell, tell_broken, tell_most, tell_record, tell_source};
+use crate::command_line::TuneWords;
+use crate::telling::{
+    records_in, tell, tell_broken, tell_most, tell_reason, tell_record, tell_source,
+};
 use itoa::Buffer;
 use mars_fight::{ScheduleFault, ScheduleFaultKind};
 use rc_asm::{AsmFault, AsmKind};
 use rc_expand::ExpandKind;
 use rc_instr::{Outlet, Rules, RulesError, WarriorError};
-use rc_text::{EvalFault, LexFault};
 use std::alloc::Global;
 use std::io::Write;
-use tune_runs::RawRules;
+use tune_runs::{RawRules, TuneTexts};
 use tune_template::{Template, TemplateFault, TemplateKind};
 
 // Writes the limit that raw rules break, and the number that breaks it.
@@ -37,9 +39,10 @@ fn rules_number(raw: RawRules, error: RulesError) -> u32 {
     }
 }
 
-// Writes the line of a text at which it does not assemble, and the limit that it breaks.
+// Writes the line of a text at which it does not assemble, and why.
 pub(crate) fn tell_asm<V: Write>(
     err: &mut Outlet<V>,
+    alloc: Global,
     rules: &Rules,
     file: &str,
     text: &[u8],
@@ -47,38 +50,16 @@ pub(crate) fn tell_asm<V: Write>(
 ) {
     tell_source(err, file, text, fault.line);
     match fault.kind {
-        AsmKind::Expand(kind) => tell_if_any(err, expand_bound(kind)),
-        AsmKind::Value(EvalFault::TooDeep) => {
-            tell(err, &["  at most 64 parentheses are open at once\n"]);
-        }
         AsmKind::Warrior(WarriorError::TooLong) => tell_most(
             err,
             "the most instructions of a warrior are",
             u64::from(rules.length()),
         ),
         AsmKind::TextTooLong => tell_bytes_of(err, text),
-        _ => {}
+        kind => tell_reason(err, alloc, kind),
     }
-}
-
-// Returns the limit that a fault of an expansion is about, if it is about one.
-fn expand_bound(kind: ExpandKind) -> Option<&'static str> {
-    match kind {
-        ExpandKind::Text(LexFault::NumberTooLarge) => Some("  a number is at most 4294967295\n"),
-        ExpandKind::ForTooDeep => Some("  FOR blocks are at most 8 deep\n"),
-        ExpandKind::EquTooDeep => Some("  EQU names are at most 16 deep\n"),
-        ExpandKind::CountRefused => Some("  a FOR count is a number, at most 4096\n"),
-        ExpandKind::TooManyLines => Some("  an expanded text has at most 4096 lines\n"),
-        ExpandKind::TooManyTokens => {
-            Some("  a line has at most 4096 tokens, and as many EQU names\n")
-        }
-        _ => None,
-    }
-}
-
-fn tell_if_any<V: Write>(err: &mut Outlet<V>, line: Option<&'static str>) {
-    if let Some(line) = line {
-        tell(err, &[line]);
+    if fault.kind == AsmKind::Expand(ExpandKind::DuplicateName) {
+        tell(err, &["  a word that is not an opcode is a label\n"]);
     }
 }
 
@@ -87,7 +68,7 @@ fn tell_bytes_of<V: Write>(err: &mut Outlet<V>, text: &[u8]) {
     tell_broken(err, "a text has at most 65536 bytes", text.len() as u64);
 }
 
-// Writes the line of a template that is at fault, and the limit that it breaks.
+// Writes the line of a template that is at fault, and why.
 pub(crate) fn tell_template<V: Write>(
     err: &mut Outlet<V>,
     alloc: Global,
@@ -104,7 +85,7 @@ pub(crate) fn tell_template<V: Write>(
         TemplateKind::TooManyConstants => tell_broken(err, "a template has at most 8 constants", 9),
         TemplateKind::TooManyVectors => tell_settings(err, settings_up_to(alloc, text, fault.line)),
         TemplateKind::TextTooLong => tell_bytes_of(err, text),
-        _ => {}
+        kind => tell_reason(err, alloc, kind),
     }
 }
 
@@ -134,45 +115,29 @@ fn values_of(alloc: Global, line: &[u8]) -> u64 {
     }
 }
 
-// Writes the record of a schedule that is at fault, and the limit that it breaks. `opponents` is
-// how many there are.
+// Writes the record of a schedule that is at fault, and why.
 pub(crate) fn tell_schedule<V: Write>(
     err: &mut Outlet<V>,
-    rules: &Rules,
-    opponents: usize,
-    file: &str,
-    text: &[u8],
+    alloc: Global,
+    words: &TuneWords<'_>,
+    texts: &TuneTexts<'_>,
     fault: ScheduleFault,
 ) {
-    tell_record(err, file, text, fault.row);
+    tell_record(err, words.schedule, texts.schedule, fault.row);
     match fault.kind {
-        ScheduleFaultKind::BadPosition => tell_positions(err, rules),
+        ScheduleFaultKind::BadPosition => tell_positions(err, texts.rules),
         ScheduleFaultKind::NoSuchOpponent => {
             tell_most(
                 err,
                 "opponents are 0 to",
-                (opponents as u64).saturating_sub(1),
+                (words.opponents.len() as u64).saturating_sub(1),
             );
         }
         ScheduleFaultKind::TooMany => {
-            let fights = records_in(text).saturating_sub(1);
+            let fights = records_in(texts.schedule).saturating_sub(1);
             tell_broken(err, "a schedule has at most 10000 fights", fights);
         }
-        kind => tell_if_any(err, schedule_bound(kind)),
-    }
-}
-
-fn schedule_bound(kind: ScheduleFaultKind) -> Option<&'static str> {
-    match kind {
-        ScheduleFaultKind::Header => {
-            Some("  the first line is `opponent,position,first`, or with `,weight`\n")
-        }
-        ScheduleFaultKind::FieldCount => Some("  a record has as many fields as the header\n"),
-        ScheduleFaultKind::BadNumber => Some("  a number has 1 to 9 digits and nothing else\n"),
-        ScheduleFaultKind::BadFirst => Some("  the first to move is `c` or `o`\n"),
-        ScheduleFaultKind::BadWeight => Some("  weights are 1 to 1000\n"),
-        ScheduleFaultKind::Empty => Some("  a schedule has at least one fight\n"),
-        _ => None,
+        kind => tell_reason(err, alloc, kind),
     }
 }
 

@@ -8,9 +8,7 @@ mod bounds;
 mod cert_file;
 mod command_line;
 mod commands;
-mod failures;
 mod fault_line;
-mod hints;
 mod host;
 mod limits;
 mod notes;
@@ -19,23 +17,19 @@ mod part_word;
 pub mod program;
 mod progress_line;
 mod reading;
+mod refusal;
 mod replacing;
 mod setting_word;
 mod status;
 mod telling;
-#[cfg(test)]
-mod tests;
 mod usage_error;
 mod witness;
 
 use command_line::ask_for_fight;
-use failures::{explain_failure, explain_loss};
-use hints::{explain_refusal, note_template};
 use host::Host;
 use options::is_given;
 use progress_line::{Progress, Style};
 use rc_instr::Outlet;
-use status::{FAILED, MISUSED, REFUSED};
 use std::io::{IsTerminal, Read, Write};
 use std::process::ExitCode;
 use std::{env, io};
@@ -86,11 +80,7 @@ fn run<R: Read, W: Write, V: Write>(
         rt,
         alloc: rt.alloc(),
     };
-    let status = program::watched_program(host, words, input, out, err, &mut progress);
-    if explains {
-        explain(rt, words, status, &progress, input, err);
-    }
-    status
+    program::watched_program(host, words, input, out, err, &mut progress)
 }
 
 // Says at a terminal what is read from it.
@@ -101,28 +91,6 @@ fn invite(rt: &HostRuntime, words: &[String], at_terminal: bool) {
             &mut err,
             &["reading a fight text, which Ctrl-D ends; `cwtune --help` tells of the commands\n"],
         );
-    }
-}
-
-// Explains how a run has ended, after its line.
-fn explain<R: Read, X: Write, V: Write>(
-    rt: &HostRuntime,
-    words: &[String],
-    status: u8,
-    progress: &Progress<&HostRuntime, X>,
-    input: &mut R,
-    err: &mut Outlet<V>,
-) {
-    if status == REFUSED {
-        explain_refusal(rt, rt.alloc(), words, err);
-    }
-    if progress.is_lost() {
-        explain_loss(rt.alloc(), words, progress.failure(), progress.best(), err);
-    } else if status == FAILED {
-        explain_failure(rt, rt.alloc(), words, input, err);
-    }
-    if status != FAILED && status != MISUSED {
-        note_template(rt, rt.alloc(), words, err);
     }
 }
 

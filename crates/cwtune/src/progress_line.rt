@@ -3,6 +3,8 @@ ghost use Rattle.std.specs.Prelude.{◌≡◌, false, is_err};
 
 use crate::command_line::TuneWords;
 use crate::notes::{tell_idle, tell_template_notes};
+use crate::refusal::{Refused, explain};
+use crate::telling::{tell, tell_error, tell_found};
 use crate::witness::Witness;
 use itoa::Buffer;
 use rc_instr::{Outlet, WriteFailed};
@@ -12,11 +14,15 @@ use std::io::Write;
 use std::rt::Clock;
 use std::time::{Duration, Instant};
 use tune_cert::{Best, Standing, Watcher};
-use tune_runs::{TuneTexts, inputs_of};
+use tune_runs::{RunFault, TuneTexts, inputs_of};
 
 // After how many fights the clock is read: a reading takes as long as a fight of a few turns, and
 // that many of the longest fights take less than half a second.
 const FIGHTS_PER_READING: u64 = 16;
+
+// Why a certificate may be rejected though it is right.
+const OTHER_INPUTS: &str =
+    "  a certificate holds for one template, schedule, order of opponents, rules and part\n";
 
 // How progress is shown.
 #[derive(Clone, Copy, PartialEq, Eq)]
@@ -50,8 +56,6 @@ pub(crate) struct Progress<C: Clock, V: Write> {
     shown: Option<Instant>,
     // How far the run was when it was seen last, and the fights that were heard of since.
     standing: Standing,
-    is_lost: bool,
-    failure: Option<io::Error>,
 }
 
 impl<C: Clock, V: Write> Progress<C, V> {
@@ -70,24 +74,7 @@ impl<C: Clock, V: Write> Progress<C, V> {
                 fights: 0,
                 best: None,
             },
-            is_lost: false,
-            failure: None,
         }
-    }
-
-    // Returns whether the certificate of a tuning could not be written.
-    pub(crate) fn is_lost(&self) -> bool {
-        self.is_lost
-    }
-
-    // Returns what the system said of a certificate that could not be written.
-    pub(crate) fn failure(&self) -> Option<io::Error> {
-        self.failure
-    }
-
-    // Returns the best setting that was seen last.
-    pub(crate) fn best(&self) -> Option<Best> {
-        self.standing.best
     }
 
     // Shows how far the run is, if it is time.
@@ -150,9 +137,41 @@ impl<C: Clock, V: Write> Witness for Progress<C, V> {
         self.show();
     }
 
-    fn lose(&mut self, failure: Option<io::Error>) {
-        self.is_lost = true;
-        self.failure = failure;
+    fn note(&mut self, alloc: Global, file: &str, text: &[u8]) {
+        if self.explains {
+            tell_template_notes(&mut self.err, alloc, file, text);
+        }
+    }
+
+    fn refuse(&mut self, alloc: Global, refused: &Refused<'_>, fault: RunFault) {
+        if self.explains {
+            explain(&mut self.err, alloc, refused, fault);
+        }
+    }
+
+    fn reject(&mut self) {
+        if self.explains {
+            tell(&mut self.err, &[OTHER_INPUTS]);
+        }
+    }
+
+    fn fail(&mut self, alloc: Global, name: &str, error: &io::Error) {
+        if self.explains {
+            tell_error(&mut self.err, alloc, name, error);
+        }
+    }
+
+    // Says what the search had found, too.
+    fn lose(&mut self, alloc: Global, name: &str, failure: Option<io::Error>) {
+        if !self.explains {
+            return;
+        }
+        if let Some(error) = failure {
+            tell_error(&mut self.err, alloc, name, &error);
+        }
+        if let Some(best) = self.standing.best {
+            tell_found(&mut self.err, best);
+        }
     }
 }
 

@@ -2,8 +2,10 @@
 use itoa::Buffer;
 use rc_instr::Outlet;
 use std::alloc::Global;
+use std::fmt::Display;
 use std::io;
 use std::io::Write;
+use tune_cert::Best;
 
 // Writes the parts of a line.
 pub(crate) fn tell<V: Write>(err: &mut Outlet<V>, parts: &[&str]) {
@@ -48,9 +50,30 @@ pub(crate) fn tell_error<V: Write>(
     }
 }
 
-// Writes the line of a text with its file and its number, from 1. There is no line 0.
+// Writes a fault in words, as its type has them.
+pub(crate) fn tell_reason<V: Write, D: Display + Drop>(
+    err: &mut Outlet<V>,
+    alloc: Global,
+    fault: D,
+) {
+    if let Ok(words) = fault.to_string(alloc) {
+        tell(err, &["  ", words.as_str(), "\n"]);
+    }
+}
+
+// Writes the best setting that a search has found.
+pub(crate) fn tell_found<V: Write>(err: &mut Outlet<V>, best: Best) {
+    let mut first = Buffer::new();
+    let mut second = Buffer::new();
+    let setting = first.format(best.vector);
+    let total = second.format(best.total);
+    tell(err, &["  found: best ", setting, " total ", total, "\n"]);
+}
+
+// Writes the line of a text with its file and its number, from 1, or the file alone for line 0.
 pub(crate) fn tell_source<V: Write>(err: &mut Outlet<V>, file: &str, text: &[u8], number: u64) {
     if number == 0 {
+        tell(err, &["  ", file, "\n"]);
         return;
     }
     let mut buffer = Buffer::new();

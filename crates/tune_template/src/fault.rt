@@ -17,10 +17,10 @@ pub enum TemplateKind {
     #[error("reserved or predefined name")]
     ReservedName,
     /// LOW is above HIGH.
-    #[error("empty range")]
+    #[error("LOW is above HIGH")]
     EmptyRange,
     /// START is not one of the values.
-    #[error("start not in the range")]
+    #[error("START is not one of the values")]
     StartOutside,
     /// There are more than 8 constants.
     #[error("more than 8 constants")]

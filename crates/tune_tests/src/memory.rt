@@ -25,8 +25,11 @@ const TEMPLATES: [(&[u8], &str); 6] = [
         b";@tune A 0 999 1 0\n;@tune B 0 1000 1 0\n",
         "line 2: more than 1000000 settings",
     ),
-    (b";@tune K 3 2 1 3\n", "line 1: empty range"),
-    (b";@tune K 0 5 2 3\n", "line 1: start not in the range"),
+    (b";@tune K 3 2 1 3\n", "line 1: LOW is above HIGH"),
+    (
+        b";@tune K 0 5 2 3\n",
+        "line 1: START is not one of the values",
+    ),
     (
         b";@tune mov 0 1 1 0\n",
         "line 1: reserved or predefined name",

@@ -1,6 +1,7 @@
 //! Tests of `tune_runs`, under rules of 16 cells, 20 cycles, 4 tasks, length 4 and distance 4.
 mod cut;
 mod duels;
+mod fault_texts;
 mod memory;
 mod parts;
 mod plain_tunings;

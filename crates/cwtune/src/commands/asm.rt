@@ -6,7 +6,9 @@ ghost use Rattle.cwtune.specs.Commands.{WritesLoadFile};
 use crate::command_line::AsmWords;
 use crate::host::Host;
 use crate::reading::read_file;
-use crate::status::{DONE, end_file, end_run};
+use crate::refusal::Refused;
+use crate::status::{DONE, end_file, end_refused, end_rules};
+use crate::witness::Witness;
 use rc_instr::{Outlet, Rules};
 use std::alloc::Global;
 use std::io::Write;
@@ -14,9 +16,10 @@ use std::rt::Files;
 use tune_runs::{RunFault, WhichSetting, asm_run, rules_of, setting_run};
 
 // Runs the command on a file. Checks the rules before it reads the file.
-pub(crate) fn asm<F: Files, W: Write, V: Write>(
+pub(crate) fn asm<F: Files, T: Witness, W: Write, V: Write>(
     host: Host<&F>,
     words: &AsmWords<'_>,
+    witness: &mut T,
     out: &mut Outlet<W>,
     err: &mut Outlet<V>,
 ) -> u8
@@ -29,15 +32,26 @@ pub(crate) fn asm<F: Files, W: Write, V: Write>(
 {
     let rules = match rules_of(words.rules) {
         Ok(rules) => rules,
-        Err(error) => return end_run(err, RunFault::Rules(error)),
+        Err(error) => return end_rules(host.alloc, words.rules, error, witness, err),
     };
     let source = match read_file(host.rt, host.alloc, words.file) {
         Ok(source) => source,
-        Err(error) => return end_file(err, &error, "read", words.file),
+        Err(error) => return end_file(host.alloc, "read", words.file, &error, witness, err),
     };
-    match assemble(host.alloc, source.as_slice(), words.setting, &rules, out) {
+    let text = source.as_slice();
+    if words.setting.is_some() {
+        witness.note(host.alloc, words.file, text);
+    }
+    match assemble(host.alloc, text, words.setting, &rules, out) {
         Ok(()) => DONE,
-        Err(fault) => end_run(err, fault),
+        Err(fault) => {
+            let refused = Refused::Warrior {
+                rules: &rules,
+                file: words.file,
+                text,
+            };
+            end_refused(host.alloc, &refused, fault, witness, err)
+        }
     }
 }
 

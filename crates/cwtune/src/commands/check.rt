@@ -6,12 +6,12 @@ ghost use Rattle.cwtune.specs.Commands.{WritesCheckLine};
 use crate::command_line::TuneWords;
 use crate::host::Host;
 use crate::reading::read_check_texts;
-use crate::status::{DONE, REFUSED, end_file, end_part, end_run};
+use crate::status::{DONE, REFUSED, end_file, end_rules, end_tuning};
 use crate::witness::Witness;
 use rc_instr::Outlet;
 use std::io::Write;
 use std::rt::Files;
-use tune_runs::{RunFault, check_part_run, rules_of};
+use tune_runs::{check_part_run, rules_of};
 
 // Runs the command on files.
 pub(crate) fn check<F: Files, T: Witness, W: Write, V: Write>(
@@ -31,18 +31,22 @@ pub(crate) fn check<F: Files, T: Witness, W: Write, V: Write>(
 {
     let rules = match rules_of(words.rules) {
         Ok(rules) => rules,
-        Err(error) => return end_run(err, RunFault::Rules(error)),
+        Err(error) => return end_rules(host.alloc, words.rules, error, watcher, err),
     };
     let files = match read_check_texts(host.rt, host.alloc, words) {
         Ok(files) => files,
-        Err(unread) => return end_file(err, &unread.error, "read", unread.name),
+        Err(unread) => {
+            return end_file(host.alloc, "read", unread.name, &unread.error, watcher, err);
+        }
     };
     let texts = files.tuning.texts(&rules, words.part);
     watcher.begin(host.alloc, words, &texts);
     match check_part_run(host.alloc, &texts, watcher, files.cert.as_slice(), out) {
         Ok(true) => DONE,
-        Ok(false) => REFUSED,
-        Err(RunFault::Part) => end_part(err),
-        Err(fault) => end_run(err, fault),
+        Ok(false) => {
+            watcher.reject();
+            REFUSED
+        }
+        Err(fault) => end_tuning(host.alloc, words, &texts, fault, watcher, err),
     }
 }

@@ -6,16 +6,18 @@ ghost use Rattle.tune_runs.specs.DuelRun.{duel, position_meant, WritesDuel};
 use crate::command_line::DuelWords;
 use crate::host::Host;
 use crate::reading::read_file;
-use crate::status::{DONE, end_duel, end_file, end_run};
+use crate::status::{DONE, end_duel, end_file, end_rules};
+use crate::witness::Witness;
 use rc_instr::{Outlet, Rules};
 use std::io::Write;
 use std::rt::Files;
-use tune_runs::{DuelTexts, RunFault, duel_run, rules_of};
+use tune_runs::{DuelTexts, duel_run, rules_of};
 
 // Runs the command on files. Checks the rules before it reads them.
-pub(crate) fn duel<F: Files, W: Write, V: Write>(
+pub(crate) fn duel<F: Files, T: Witness, W: Write, V: Write>(
     host: Host<&F>,
     words: &DuelWords<'_>,
+    witness: &mut T,
     out: &mut Outlet<W>,
     err: &mut Outlet<V>,
 ) -> u8
@@ -29,15 +31,15 @@ pub(crate) fn duel<F: Files, W: Write, V: Write>(
 {
     let rules = match rules_of(words.rules) {
         Ok(rules) => rules,
-        Err(error) => return end_run(err, RunFault::Rules(error)),
+        Err(error) => return end_rules(host.alloc, words.rules, error, witness, err),
     };
     let candidate = match read_file(host.rt, host.alloc, words.candidate) {
         Ok(text) => text,
-        Err(error) => return end_file(err, &error, "read", words.candidate),
+        Err(error) => return end_file(host.alloc, "read", words.candidate, &error, witness, err),
     };
     let opponent = match read_file(host.rt, host.alloc, words.opponent) {
         Ok(text) => text,
-        Err(error) => return end_file(err, &error, "read", words.opponent),
+        Err(error) => return end_file(host.alloc, "read", words.opponent, &error, witness, err),
     };
     let texts = DuelTexts {
         candidate: candidate.as_slice(),
@@ -48,7 +50,7 @@ pub(crate) fn duel<F: Files, W: Write, V: Write>(
     };
     match duel_run(host.alloc, &texts, out) {
         Ok(()) => DONE,
-        Err(fault) => end_duel(err, fault, words.candidate, words.opponent),
+        Err(fault) => end_duel(host.alloc, words, &texts, fault, witness, err),
     }
 }
 

@@ -5,15 +5,17 @@ ghost use Rattle.cwtune.specs.Input.{IsInput};
 
 use crate::reading::read_text;
 use crate::status::{DONE, end_file, end_run};
+use crate::witness::Witness;
 use rc_instr::Outlet;
 use std::alloc::Global;
 use std::io::{Read, Write};
 use tune_runs::fight_run;
 
 // Runs the command on the text that `input` holds.
-pub(crate) fn fight<R: Read, W: Write, V: Write>(
+pub(crate) fn fight<R: Read, T: Witness, W: Write, V: Write>(
     alloc: Global,
     input: &mut R,
+    witness: &mut T,
     out: &mut Outlet<W>,
     err: &mut Outlet<V>,
 ) -> u8
@@ -26,7 +28,7 @@ pub(crate) fn fight<R: Read, W: Write, V: Write>(
 {
     let text = match read_text(alloc, input) {
         Ok(text) => text,
-        Err(error) => return end_file(err, &error, "read", "-"),
+        Err(error) => return end_file(alloc, "read", "-", &error, witness, err),
     };
     match fight_run(alloc, text.as_slice(), out) {
         Ok(()) => DONE,

@@ -7,11 +7,12 @@ use crate::cert_file::{CertFile, open_cert};
 use crate::command_line::TuneWords;
 use crate::host::Host;
 use crate::reading::{TuneFiles, read_texts};
-use crate::status::{end_cert, end_file, end_run};
+use crate::status::{end_cert, end_file, end_rules};
+use crate::witness::Witness;
 use rc_instr::{Outlet, Rules};
 use std::io::Write;
 use std::rt::Files;
-use tune_runs::{RunFault, rules_of};
+use tune_runs::rules_of;
 
 // The rules and the files of a tuning, and its file CERT.
 #[derive(Drop)]
@@ -23,9 +24,10 @@ pub(crate) struct Opened<R: Files> {
 
 // Checks the rules, reads the files, and opens CERT last, just before the search. If one of these
 // fails, says so on standard error and returns the exit status.
-pub(crate) fn open_tuning<'a, F: Files, V: Write>(
+pub(crate) fn open_tuning<'a, F: Files, T: Witness, V: Write>(
     host: Host<&'a F>,
     words: &TuneWords<'_>,
+    witness: &mut T,
     err: &mut Outlet<V>,
 ) -> Result<Opened<&'a F>, u8>
     requires { err.old.failed ≡ false }
@@ -37,11 +39,14 @@ pub(crate) fn open_tuning<'a, F: Files, V: Write>(
 {
     let rules = match rules_of(words.rules) {
         Ok(rules) => rules,
-        Err(error) => return Err(end_run(err, RunFault::Rules(error))),
+        Err(error) => return Err(end_rules(host.alloc, words.rules, error, witness, err)),
     };
     let files = match read_texts(host.rt, host.alloc, words) {
         Ok(files) => files,
-        Err(unread) => return Err(end_file(err, &unread.error, "read", unread.name)),
+        Err(unread) => {
+            let (name, error) = (unread.name, &unread.error);
+            return Err(end_file(host.alloc, "read", name, error, witness, err));
+        }
     };
     match open_cert(host.rt, host.alloc, words) {
         Ok(file) => Ok(Opened {
@@ -49,6 +54,6 @@ pub(crate) fn open_tuning<'a, F: Files, V: Write>(
             files,
             cert: Outlet::new(file),
         }),
-        Err(refused) => Err(end_cert(err, &refused, words.cert)),
+        Err(unopened) => Err(end_cert(host.alloc, words.cert, &unopened, witness, err)),
     }
 }

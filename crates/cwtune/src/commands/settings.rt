@@ -4,16 +4,19 @@ ghost use Rattle.tune_runs.specs.SettingsRun.{WritesSettings};
 
 use crate::host::Host;
 use crate::reading::read_file;
-use crate::status::{DONE, end_file, end_run};
+use crate::refusal::Refused;
+use crate::status::{DONE, end_file, end_refused};
+use crate::witness::Witness;
 use rc_instr::Outlet;
 use std::io::Write;
 use std::rt::Files;
 use tune_runs::settings_run;
 
 // Runs the command on a file.
-pub(crate) fn settings<F: Files, W: Write, V: Write>(
+pub(crate) fn settings<F: Files, T: Witness, W: Write, V: Write>(
     host: Host<&F>,
     file: &str,
+    witness: &mut T,
     out: &mut Outlet<W>,
     err: &mut Outlet<V>,
 ) -> u8
@@ -26,10 +29,15 @@ pub(crate) fn settings<F: Files, W: Write, V: Write>(
 {
     let source = match read_file(host.rt, host.alloc, file) {
         Ok(source) => source,
-        Err(error) => return end_file(err, &error, "read", file),
+        Err(error) => return end_file(host.alloc, "read", file, &error, witness, err),
     };
-    match settings_run(host.alloc, source.as_slice(), out) {
+    let text = source.as_slice();
+    witness.note(host.alloc, file, text);
+    match settings_run(host.alloc, text, out) {
         Ok(()) => DONE,
-        Err(fault) => end_run(err, fault),
+        Err(fault) => {
+            let refused = Refused::Template { file, text };
+            end_refused(host.alloc, &refused, fault, witness, err)
+        }
     }
 }

@@ -8,7 +8,7 @@ ghost use Rattle.cwtune.specs.Commands.{WritesReport};
 use crate::command_line::TuneWords;
 use crate::commands::opening::{Opened, open_tuning};
 use crate::host::Host;
-use crate::status::{DONE, end_tuning};
+use crate::status::{DONE, end_tuning, tell_loss};
 use crate::witness::Witness;
 use rc_instr::Outlet;
 use std::io::Write;
@@ -40,7 +40,7 @@ pub(crate) fn tune<F: Files, T: Witness, W: Write, V: Write>(
         rules,
         files,
         mut cert,
-    } = match open_tuning(host, words, err) {
+    } = match open_tuning(host, words, watcher, err) {
         Ok(opened) => opened,
         Err(status) => return status,
     };
@@ -51,6 +51,10 @@ pub(crate) fn tune<F: Files, T: Witness, W: Write, V: Write>(
             drop(cert);
             DONE
         }
-        Err(fault) => end_tuning(watcher, cert, err, fault),
+        Err(fault) => {
+            let status = end_tuning(host.alloc, words, &texts, fault, watcher, err);
+            tell_loss(host.alloc, words.cert, cert, watcher);
+            status
+        }
     }
 }

@@ -1,50 +1,12 @@
-//! The lines of faults that no run shows, or only one out of memory or with a very long text; and
-//! the texts of faults, which no run prints.
-use crate::RunFault;
-use crate::fault_line::say_run;
+//! The texts of faults, which no run prints.
+
 use mars_core::Side;
 use mars_fight::{ScheduleFault, ScheduleFaultKind};
 use rc_asm::{AsmFault, AsmKind};
-use rc_expand::ExpandKind;
-use rc_instr::{LoadFault, Outlet, RulesError, WarriorError};
+use rc_instr::{LoadFault, RulesError};
 use std::test::Fail;
+use tune_runs::RunFault;
 use tune_template::{TemplateFault, TemplateKind};
-
-// Faults of runs, and their lines.
-const RUNS: [(RunFault, &str); 3] = [
-    (
-        RunFault::FightText {
-            line: 18446744073709551615,
-        },
-        "refused: FightText line 18446744073709551615\n",
-    ),
-    (
-        RunFault::Load {
-            side: Side::Opponent,
-            fault: LoadFault::OutOfMemory,
-        },
-        "refused: Load opponent OutOfMemory\n",
-    ),
-    (RunFault::OutOfMemory, "failed: OutOfMemory\n"),
-];
-
-// Faults of assembly, and their lines.
-const ASSEMBLIES: [(AsmKind, &str); 5] = [
-    (
-        AsmKind::Expand(ExpandKind::OutOfMemory),
-        "refused: Asm line 0 Expand OutOfMemory\n",
-    ),
-    (
-        AsmKind::Expand(ExpandKind::TooManyTokens),
-        "refused: Asm line 0 Expand TooManyTokens\n",
-    ),
-    (
-        AsmKind::Warrior(WarriorError::NumberTooLarge),
-        "refused: Asm line 0 Warrior NumberTooLarge\n",
-    ),
-    (AsmKind::TextTooLong, "refused: Asm line 0 TextTooLong\n"),
-    (AsmKind::OutOfMemory, "refused: Asm line 0 OutOfMemory\n"),
-];
 
 // Faults of runs, and their texts.
 const TEXTS: [(RunFault, &str); 14] = [
@@ -80,7 +42,7 @@ const TEXTS: [(RunFault, &str); 14] = [
             line: 5,
             kind: TemplateKind::EmptyRange,
         }),
-        "template: line 5: empty range",
+        "template: line 5: LOW is above HIGH",
     ),
     (
         RunFault::Opponent {
@@ -111,25 +73,6 @@ const TEXTS: [(RunFault, &str); 14] = [
         "the template has no setting 9",
     ),
 ];
-
-#[test]
-fn the_line_of_a_fault_names_its_variants(rt: HostRuntime) {
-    for &(fault, line) in &RUNS {
-        let mut err = Outlet::new(Vec::new(rt.alloc()));
-        assert!(rt; say_run(&mut err, fault).is_ok());
-        assert_eq!(rt; err.into_inner().as_slice(), line.as_bytes(), "{fault:?}");
-    }
-}
-
-#[test]
-fn the_line_of_an_assembly_fault_has_its_line_and_names(rt: HostRuntime) {
-    for &(kind, line) in &ASSEMBLIES {
-        let mut err = Outlet::new(Vec::new(rt.alloc()));
-        let fault = RunFault::Asm(AsmFault { line: 0, kind });
-        assert!(rt; say_run(&mut err, fault).is_ok());
-        assert_eq!(rt; err.into_inner().as_slice(), line.as_bytes(), "{kind:?}");
-    }
-}
 
 #[test]
 fn faults_have_texts(rt: HostRuntime) -> Result<(), Fail> {

@@ -1,0 +1,162 @@
+//! Explains a refusal after its line: the line of text at fault, and why it is refused.
+
+use crate::bounds::{tell_asm, tell_positions, tell_rules, tell_schedule, tell_template};
+use crate::command_line::{DuelWords, TuneWords};
+use crate::fault_line::say_asm;
+use crate::telling::{tell, tell_broken, tell_most};
+use rc_asm::AsmFault;
+use rc_instr::{Outlet, Rules};
+use std::alloc::Global;
+use std::io::Write;
+use tune_runs::{DuelTexts, RawRules, RunFault, TuneTexts, inputs_of};
+use tune_template::Template;
+
+// What was refused: the words of a run, and the texts that it has read.
+#[derive(Clone, Copy)]
+pub(crate) enum Refused<'a> {
+    // The numbers of the rules.
+    Rules(RawRules),
+    // A Redcode text, or a setting of a template.
+    Warrior {
+        rules: &'a Rules,
+        file: &'a str,
+        text: &'a [u8],
+    },
+    // A template.
+    Template {
+        file: &'a str,
+        text: &'a [u8],
+    },
+    // A fight of two texts.
+    Duel {
+        words: &'a DuelWords<'a>,
+        texts: &'a DuelTexts<'a>,
+    },
+    // A tuning, or a check.
+    Tuning {
+        words: &'a TuneWords<'a>,
+        texts: &'a TuneTexts<'a>,
+    },
+}
+
+// Writes what helps with a fault, if anything does.
+pub(crate) fn explain<V: Write>(
+    err: &mut Outlet<V>,
+    alloc: Global,
+    refused: &Refused<'_>,
+    fault: RunFault,
+) {
+    match refused {
+        Refused::Rules(raw) => explain_rules(err, *raw, fault),
+        Refused::Warrior { rules, file, text } => match fault {
+            RunFault::Asm(fault) => tell_asm(err, alloc, rules, file, text, fault),
+            _ => explain_template(err, alloc, file, text, fault),
+        },
+        Refused::Template { file, text } => explain_template(err, alloc, file, text, fault),
+        Refused::Duel { words, texts } => explain_duel(err, alloc, words, texts, fault),
+        Refused::Tuning { words, texts } => explain_tuning(err, alloc, words, texts, fault),
+    }
+}
+
+fn explain_rules<V: Write>(err: &mut Outlet<V>, raw: RawRules, fault: RunFault) {
+    if let RunFault::Rules(error) = fault {
+        tell_rules(err, raw, error);
+    }
+}
+
+fn explain_template<V: Write>(
+    err: &mut Outlet<V>,
+    alloc: Global,
+    file: &str,
+    text: &[u8],
+    fault: RunFault,
+) {
+    match fault {
+        RunFault::Template(fault) => tell_template(err, alloc, file, text, fault),
+        RunFault::NoSuchSetting { index: _ } => {
+            if let Ok(template) = Template::read(alloc, text) {
+                tell_most(err, "settings are 0 to", u64::from(template.count() - 1));
+            }
+        }
+        _ => {}
+    }
+}
+
+fn explain_duel<V: Write>(
+    err: &mut Outlet<V>,
+    alloc: Global,
+    words: &DuelWords<'_>,
+    texts: &DuelTexts<'_>,
+    fault: RunFault,
+) {
+    let rules = texts.rules;
+    match fault {
+        RunFault::Asm(fault) => {
+            tell_asm(err, alloc, rules, words.candidate, texts.candidate, fault);
+        }
+        RunFault::Opponent { index: _, fault } => {
+            tell_asm(err, alloc, rules, words.opponent, texts.opponent, fault);
+        }
+        RunFault::Position => tell_positions(err, rules),
+        _ => {}
+    }
+}
+
+fn explain_tuning<V: Write>(
+    err: &mut Outlet<V>,
+    alloc: Global,
+    words: &TuneWords<'_>,
+    texts: &TuneTexts<'_>,
+    fault: RunFault,
+) {
+    match fault {
+        RunFault::TooManyOpponents => {
+            let count = words.opponents.len() as u64;
+            tell_broken(err, "opponents are at most 64", count);
+        }
+        RunFault::Template(fault) => {
+            tell_template(err, alloc, words.template, texts.template, fault);
+        }
+        RunFault::Opponent { index, fault } => {
+            let index = index as usize;
+            if let (Some(name), Some(text)) = (
+                words.opponents.get(index),
+                texts.opponents.get(index),
+            ) {
+                tell_asm(err, alloc, texts.rules, *name, text.as_slice(), fault);
+            }
+        }
+        RunFault::Schedule(fault) => tell_schedule(err, alloc, words, texts, fault),
+        RunFault::NoCandidate => explain_start(err, alloc, words, texts),
+        _ => {}
+    }
+}
+
+// Writes the fault of the start setting.
+fn explain_start<V: Write>(
+    err: &mut Outlet<V>,
+    alloc: Global,
+    words: &TuneWords<'_>,
+    texts: &TuneTexts<'_>,
+) {
+    let Ok(inputs) = inputs_of(alloc, texts) else {
+        return;
+    };
+    let fault: AsmFault = match inputs.instance(alloc, inputs.start_number()) {
+        Ok(_) => return,
+        Err(fault) => fault,
+    };
+    tell(err, &["  start setting:"]);
+    if !err.failed() {
+        let _ = say_asm(err, fault);
+    }
+    tell(err, &["\n"]);
+    tell_asm(
+        err,
+        alloc,
+        texts.rules,
+        words.template,
+        texts.template,
+        fault,
+    );
+}
