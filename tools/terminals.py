@@ -52,7 +52,8 @@ BEGUN = b"0% 0 of 2 settings, 0 fights"
 BOM = (b"  bom.red, line 1: \xef\xbb\xbf;@tune K 0 1 1 0\n"
        b"  ignored: a byte order mark is before `;@tune`\n")
 LOST = b"  ignored: `;@tune` has to be the very front of its line, in small letters\n"
-OTHER = b"  a certificate holds for one template, schedule, order of opponents, rules and part\n"
+OTHER = (b"  a certificate holds only for its own template, schedule, opponents in order, rules and "
+         b"part\n")
 PROGRESS = rb"\r\x1b\[\?7l([^\r\n]*)\x1b\[K\x1b\[\?7h"
 CLEARED = b"\r\x1b[K"
 LINE = rb"\d+% \d+ of 800000 settings, [1-9]\d* fights, \d+ a second, best \d+ total \d, " \
@@ -92,10 +93,10 @@ TEXTS = [
                                   b"more than 8 nested FOR blocks")),
     (["asm", "lines.red"],
      refused(b"Asm line 1 Expand TooManyLines", b"lines.red, line 1: FOR 4096",
-             b"more than 4096 lines and copies")),
+             b"the expansion has more than 4096 lines and copies")),
     (["asm", "count.red"],
      refused(b"Asm line 2 Expand CountRefused", b"count.red, line 2: FOR 4097",
-             b"FOR count without a value or above 4096")),
+             b"FOR count has no value, or is above 4096")),
     (["asm", "--core=7", "imp.red"],
      refused(b"Rules Core", b"the core size is 8 to 65535, not 7")),
     (["fight", "--cycles=0", "imp.red", "imp.red"],
@@ -140,7 +141,7 @@ TUNINGS = [
     (tune("two.red third.csv"), refused(b"Schedule row 1 NoSuchOpponent",
                                         b"third.csv, line 2: 2,8,c", b"opponents are 0 to 1")),
     (tune("two.red word.csv"), refused(b"Schedule row 2 BadNumber", b"word.csv, line 3: 0,8 ,c",
-                                       b"number must have 1 to 9 digits")),
+                                       b"a decimal has 1 to 9 digits and nothing else")),
     (tune("two.red few.csv"), refused(b"Schedule row 1 FieldCount", b"few.csv, line 2: 0,8",
                                       b"expected as many fields as in the first record")),
     (tune("two.red weight.csv"), refused(b"Schedule row 1 BadWeight",

@@ -48,7 +48,7 @@ pub(crate) struct DuelWords<'a> {
     pub(crate) first: Side,
 }
 
-// The rules and the file of an assembly, which is a template if a setting of it is asked for.
+// The words of `asm`. The file is a template if there is a `setting`.
 #[derive(Drop)]
 pub(crate) struct AsmWords<'a> {
     pub(crate) rules: RawRules,
@@ -63,13 +63,11 @@ pub(crate) enum Request<'a> {
     Fight,
     // Plays a fight of two Redcode texts.
     Duel(DuelWords<'a>),
-    // Assembles a file.
     Asm(AsmWords<'a>),
     // Says how many settings a template has, and what its constants are.
     Settings {
         file: &'a str,
     },
-    // Tunes a template.
     Tune {
         words: TuneWords<'a>,
         method: Search,

@@ -54,26 +54,26 @@ pub fn program<F: Files, R: Read, W: Write, V: Write>(
     watched_program(Host { rt, alloc }, words, input, out, err, &mut Silent)
 }
 
-// Runs the command as `program` does, and tells `watcher` of it.
+// Runs the command as `program` does, and tells `witness` of it.
 pub(crate) fn watched_program<F: Files, R: Read, W: Write, V: Write, T: Witness>(
     host: Host<&F>,
     words: &[String],
     input: &mut R,
     out: &mut Outlet<W>,
     err: &mut Outlet<V>,
-    watcher: &mut T,
+    witness: &mut T,
 ) -> u8
     requires out { out.old.failed ≡ false }
     requires err { err.old.failed ≡ false }
     ensures { IsProgramRun (map string_bytes words.now) (R.remaining input.old) out.old out.new result }
 {
     match request_of(host.alloc, words) {
-        Ok(Request::Fight) => fight(host.alloc, input, watcher, out, err),
-        Ok(Request::Duel(words)) => duel(host, &words, watcher, out, err),
-        Ok(Request::Asm(words)) => asm(host, &words, watcher, out, err),
-        Ok(Request::Settings { file }) => settings(host, file, watcher, out, err),
-        Ok(Request::Tune { words, method }) => tune(host, &words, method, watcher, out, err),
-        Ok(Request::Check(words)) => check(host, &words, watcher, out, err),
+        Ok(Request::Fight) => fight(host.alloc, input, witness, out, err),
+        Ok(Request::Duel(words)) => duel(host, &words, witness, out, err),
+        Ok(Request::Asm(words)) => asm(host, &words, witness, out, err),
+        Ok(Request::Settings { file }) => settings(host, file, witness, out, err),
+        Ok(Request::Tune { words, method }) => tune(host, &words, method, witness, out, err),
+        Ok(Request::Check(words)) => check(host, &words, witness, out, err),
         Err(answer) => show(host.alloc, &answer, out, err),
     }
 }

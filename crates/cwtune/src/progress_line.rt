@@ -1,4 +1,4 @@
-//! What a terminal, or a log that asks for it, gets of a tuning or a check while it runs.
+//! Progress and explanations on standard error.
 ghost use Rattle.std.specs.Prelude.{◌≡◌, false, is_err};
 
 use crate::command_line::TuneWords;
@@ -22,7 +22,7 @@ const FIGHTS_PER_READING: u64 = 16;
 
 // Why a certificate may be rejected though it is right.
 const OTHER_INPUTS: &str =
-    "  a certificate holds for one template, schedule, order of opponents, rules and part\n";
+    "  a certificate holds only for its own template, schedule, opponents in order, rules and part\n";
 
 // How progress is shown.
 #[derive(Clone, Copy, PartialEq, Eq)]
@@ -45,7 +45,7 @@ impl Style {
     }
 }
 
-// Shows progress by the clock, and remembers what an explanation may need.
+// Shows progress by the clock, and writes explanations if it `explains`.
 #[derive(Drop)]
 pub(crate) struct Progress<C: Clock, V: Write> {
     clock: C,
@@ -54,12 +54,12 @@ pub(crate) struct Progress<C: Clock, V: Write> {
     explains: bool,
     began: Option<Instant>,
     shown: Option<Instant>,
-    // How far the run was when it was seen last, and the fights that were heard of since.
+    // The last standing, with `fights` as last heard.
     standing: Standing,
 }
 
 impl<C: Clock, V: Write> Progress<C, V> {
-    // Takes an outlet of its own, so that lines of faults are written even if this one has failed.
+    // Takes an outlet of its own, so that lines of faults are written even if it has failed.
     pub(crate) fn new(clock: C, err: Outlet<V>, style: Style, explains: bool) -> Progress<C, V> {
         Progress {
             clock,

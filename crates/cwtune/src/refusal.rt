@@ -14,7 +14,6 @@ use tune_template::Template;
 // What was refused: the words of a run, and the texts that it has read.
 #[derive(Clone, Copy)]
 pub(crate) enum Refused<'a> {
-    // The numbers of the rules.
     Rules(RawRules),
     // A Redcode text, or a setting of a template.
     Warrior {
@@ -22,7 +21,6 @@ pub(crate) enum Refused<'a> {
         file: &'a str,
         text: &'a [u8],
     },
-    // A template.
     Template {
         file: &'a str,
         text: &'a [u8],

@@ -1,5 +1,5 @@
-//! Replaces a file whole, or leaves it as it is: a new text goes to a file beside it, piece by piece.
-//! At the end that file is flushed to the disk, and takes the name.
+//! Replaces a file whole or not at all: a new text goes to a file beside it, piece by piece; at the
+//! end that is flushed to the disk and takes the name.
 
 use std::alloc::Global;
 use std::fs::{OpenFile, OpenOptions, Permissions};
@@ -52,8 +52,8 @@ pub(crate) fn place_at<R: Files + Copy>(
 }
 
 impl<R: Files> Place<R> {
-    // Writes a piece of the text to the file beside, which the first piece makes. After a failure
-    // there is none.
+    // Writes a piece of the text to the file beside it, which the first piece makes. If that fails,
+    // removes it.
     pub(crate) fn write(&mut self, piece: &[u8]) -> io::Result<()> {
         let mut file = match self.file.take() {
             Some(file) => file,
@@ -68,7 +68,7 @@ impl<R: Files> Place<R> {
         written
     }
 
-    // Flushes the file beside to the disk, and gives it the name. After a failure there is none.
+    // Flushes the file beside it to the disk and gives it the name. If that fails, removes it.
     pub(crate) fn finish(&mut self) -> io::Result<()> {
         let Some(file) = self.file.take() else {
             return Ok(());

@@ -7,13 +7,13 @@ use std::io;
 use tune_cert::{Silent, Watcher};
 use tune_runs::{RunFault, TuneTexts};
 
-// A watcher that also hears what a run is of, and why it ends without a result. It is told after the
-// line of a fault, while the texts that were read are at hand. No result depends on it.
+// A watcher that also hears what a run reads and why it fails. Of a fault it hears after the fault's
+// line, while the texts are still in memory. No result depends on it.
 pub(crate) trait Witness: Watcher {
     // Called before a tuning or a check begins.
     fn begin(&mut self, alloc: Global, words: &TuneWords<'_>, texts: &TuneTexts<'_>);
 
-    // Called after a run over a template that is not tuned.
+    // Called before `settings` or `asm --setting` runs over a template.
     fn note(&mut self, alloc: Global, file: &str, text: &[u8]);
 
     // Called after a run that ended with a fault.

@@ -39,7 +39,7 @@ room_test xs limit some le = let l : length (drop 1 xs) < limit = room xs limit 
 pub item_below : (m : ℕ) (tasks : List ℕ) (i x : ℕ) → AreTasks m tasks → i < length tasks → x ≡ slice_index tasks i → x < m
 item_below m tasks i x h l e = rw e (All-get_or (λ t. t < m) tasks i 0 l h.each)
 
--- a queue with a first task has one, and another has none
+-- a queue with a first task is not empty, and an empty one has no first task
 pub some_first : (xs : List ℕ) (x : ℕ) → Some x ≡ slice_get xs 0 → 0 < length xs
 some_first [] x e = absurd (cc)
 some_first (y ∷ ys) x e = omega arith

@@ -85,7 +85,7 @@ pub trait Cells {
         ensures marked { marked result ≡ marked self.old }
         ensures marks { marks result ≡ marks self.old };
 
-    /// Moves a store to this place.
+    /// Replaces the store that `take` left.
     fn put_back(&mut self, store: Self)
         ensures items { items self.new ≡ items store }
         ensures marked { marked self.new ≡ marked store }

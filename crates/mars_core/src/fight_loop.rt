@@ -17,8 +17,8 @@ const STRETCH: u32 = 2000;
 // Alternates turns, `mine` first, until a queue is empty or `cycles` are over.
 // Returns the number of turns.
 //
-// Moves the cells to a variable of its own for that: through a reference, the compiler would load
-// their addresses again after each write to a cell, since it could be a write to these.
+// Moves the cells to a variable of its own for that: behind a reference, each write to a cell might
+// be one to their addresses, so the compiler would load these again.
 #[inline(never)]
 fn alternate<C: Cells>(
     cells: &mut C,
@@ -50,7 +50,7 @@ fn alternate<C: Cells>(
     turns
 }
 
-// Does what `alternate` does, with the cells where they are.
+// The loop of `alternate`, on cells that the caller owns.
 #[inline(always)]
 fn take_turns<C: Cells>(
     cells: &mut C,

@@ -73,7 +73,7 @@ pub(crate) fn next_turn<C: Cells>(
 }
 
 // Takes one turn of a side whose first task is `pc`, whatever its instruction is. Moves the cells
-// to another place for that: if the loop's own were lent, they would lose their registers in it.
+// to a variable of its own for the call: lending the loop's would cost the loop its registers.
 #[tactic(auto, using(crate::proofs::Queues::none_first))]
 #[inline(always)]
 fn any_turn<C: Cells>(cells: &mut C, tasks: &mut Tasks, size: u32, pc: u32) -> Option<u32>

@@ -28,10 +28,10 @@ pub enum ExpandKind {
     #[error("EQU names nested more than 16 deep")]
     EquTooDeep,
     /// The count of a FOR has no value, or is above 4096.
-    #[error("FOR count without a value or above 4096")]
+    #[error("FOR count has no value, or is above 4096")]
     CountRefused,
     /// There are more than 4096 unrolled lines and copies of blocks.
-    #[error("more than 4096 lines and copies")]
+    #[error("the expansion has more than 4096 lines and copies")]
     TooManyLines,
     /// Out of memory.
     #[error("out of memory")]

@@ -77,10 +77,10 @@ impl<X: Write> Outlet<X> {
         Ok(())
     }
 
-    /// Flushes the writer, which has then passed on all that was written.
+    /// Flushes the writer. After `Ok` it has passed on all that was written.
     ///
-    /// The outlet must not have failed. What was written stays, even after `WriteFailed`; the
-    /// outlet has then failed for good, as after a failed write.
+    /// The outlet must not have failed. After `WriteFailed` it has failed for good, and what was
+    /// written stays.
     pub fn finish(&mut self) -> Result<(), WriteFailed>
         requires { self.old.failed ≡ false }
         ensures bytes { Keeps self.old.bytes self.new.bytes }

@@ -33,7 +33,7 @@ pub record IsBadByte (text : List ℕ) (at : ℕ) : Type 0 where
   pub no_semicolon : slice_index text at ≢ SEMICOLON
   pub no_token : (end : ℕ) → at < end → end ≤ length text → is_one_token (slice_range text at end) ≡ false
 
--- what ends the tokens is here: the end of the text, a bad byte, or a number of 2 ^ 32 or more
+-- what ends the tokens is here: the end of the text, a bad byte, or a decimal of 2 ^ 32 or more
 abbrev pub EndsAt : List ℕ → ℕ → Option LexFault → Type 0
 EndsAt text at None = at ≡ length text
 EndsAt text at (Some BadByte) = IsBadByte text at

@@ -31,8 +31,8 @@ pub trait Watcher {
     /// and the best are still those of the last `see`.
     fn hear(&mut self, fights: u64);
 
-    /// Called by the commands of `cwtune` when the search or the check has ended, before anything
-    /// is written. Searches and checks do not call it.
+    /// Called by the runs of `tune_runs` when the search or the check has ended, before anything is
+    /// written. Searches and checks do not call it.
     fn end(&mut self);
 }
 

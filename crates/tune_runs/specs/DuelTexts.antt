@@ -1,4 +1,4 @@
--- The fields that the code keeps of a duel's texts, as the duel of the definition.
+-- The duel that a `DuelTexts` describes.
 use Rattle.tune_runs.specs.DuelRun.{Duel, duel}
 use Rattle.tune_runs.specs.declared.duel_texts.DuelTexts.{DuelTexts}
 

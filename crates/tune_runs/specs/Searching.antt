@@ -1,4 +1,4 @@
--- The two searches of a tuning: what each finds, and why a tuning ends if its search does.
+-- The two searches of a tuning: what each finds, and the fault of a run whose search fails.
 use Rattle.std.specs.Prelude.{◌≤◌}
 use Rattle.tune_problem.specs.Problem.{Problem}
 use Rattle.tune_problem.specs.declared.cert.Found.{Found}
@@ -12,7 +12,7 @@ use Rattle.tune_runs.specs.declared.searching.Search.TheVariants.{Dropping, Plai
 use Rattle.tune_runs.specs.declared.fault.RunFault.{RunFault}
 use Rattle.tune_runs.specs.declared.fault.RunFault.TheVariants.{NoCandidate, OutOfMemory}
 
--- A search that drops settings remembers 1 to `MOST_CAPACITY` of them.
+-- The capacity of a search that drops settings is 1 to `MOST_CAPACITY`.
 abbrev pub HasCapacity : Search → Type 0
 HasCapacity (Dropping capacity) = (1 ≤ capacity) × (capacity ≤ MOST_CAPACITY)
 HasCapacity Plain = Unit {0}

@@ -17,7 +17,7 @@ use tune_cert::Watcher;
 /// fight of every setting that assembles, and lists all of them in the certificate.
 ///
 /// The best setting, its total, the meaning of the texts, the order of writing and the errors are
-/// as in `tune_part_run`. Neither outlet must have failed.
+/// as in `tune_part_run`. Neither outlet may have failed.
 ///
 /// # Errors
 ///

@@ -28,7 +28,7 @@ use tune_template::Part;
 /// the schedule a table of fights. The search remembers up to `capacity` settings, 1 to 65536, so
 /// that equal warriors share their fights. The certificate and the report are made before either is
 /// written, and the certificate is written whole and its writer flushed before the report begins.
-/// Neither outlet must have failed.
+/// Neither outlet may have failed.
 ///
 /// # Errors
 ///
@@ -108,8 +108,8 @@ pub fn tune_part_run<T: Watcher, W: Write, V: Write>(
 }
 
 /// Finds the optimum of one part of a template's settings by either search, and writes its
-/// certificate, then the report: `tune_part_run` and `plain_tune_run` in one call. The capacity, if
-/// `method` has one, is 1 to 65536. Neither outlet must have failed.
+/// certificate, then the report: `tune_part_run` or `plain_tune_run`, as `method` says. The
+/// capacity, if `method` has one, is 1 to 65536. Neither outlet may have failed.
 ///
 /// # Errors
 ///

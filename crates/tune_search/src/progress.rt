@@ -37,8 +37,8 @@ impl Progress {
         })
     }
 
-    // Plays all fights of setting `vector` if it assembles, and adds its row. `watcher` hears of each
-    // fight.
+    // Plays all fights of setting `vector` if it assembles, and adds its row. `watcher` hears of
+    // each fight.
     pub(crate) fn visit<T: Watcher>(
         &mut self,
         alloc: Global,

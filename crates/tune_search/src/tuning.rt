@@ -44,8 +44,8 @@ pub fn search(alloc: Global, inputs: &Inputs, capacity: u32) -> Result<Found, Se
     watched_search(alloc, inputs, capacity, &mut Silent)
 }
 
-/// Finds the optimum as `search` does, and tells `watcher` after each fight and each setting how far
-/// the search is.
+/// Finds the optimum as `search` does, and tells `watcher` after each fight and each setting how
+/// far the search is.
 ///
 /// # Errors
 ///

@@ -5,8 +5,8 @@ use std::test::Fail;
 use tune_cert::{Best, Standing, Verdict, Watcher, watched_check};
 use tune_search::{watched_plain_search, watched_search};
 
-// A watcher that keeps the first four standings, and counts all. `heard` is true as long as each
-// fight was told by its number, from 1, and each standing after its fights.
+// A watcher that keeps the first four standings, and counts all. `heard` stays true if `hear`
+// gets 1, 2, .. and each standing has the last of these.
 #[derive(Drop)]
 struct Notes {
     count: usize,

@@ -39,7 +39,7 @@ pub(crate) struct Failing {
 }
 
 impl Failing {
-    // Returns a writer that takes this many writes, and then fails or takes nothing.
+    // Returns a writer that takes `writes` writes, and then fails or takes nothing.
     pub(crate) fn after(alloc: Global, writes: usize, fails: bool) -> Failing {
         Failing {
             taken: Vec::new(alloc),
@@ -49,7 +49,7 @@ impl Failing {
         }
     }
 
-    // Returns a writer that takes this many writes, and fails at each flush.
+    // Returns a writer that takes `writes` writes, and fails at each flush.
     pub(crate) fn at_flush(alloc: Global, writes: usize) -> Failing {
         Failing {
             taken: Vec::new(alloc),

@@ -17,7 +17,7 @@ use tune_runs::{check_part_run, rules_of};
 pub(crate) fn check<F: Files, T: Witness, W: Write, V: Write>(
     host: Host<&F>,
     words: &TuneWords<'_>,
-    watcher: &mut T,
+    witness: &mut T,
     out: &mut Outlet<W>,
     err: &mut Outlet<V>,
 ) -> u8
@@ -31,22 +31,22 @@ pub(crate) fn check<F: Files, T: Witness, W: Write, V: Write>(
 {
     let rules = match rules_of(words.rules) {
         Ok(rules) => rules,
-        Err(error) => return end_rules(host.alloc, words.rules, error, watcher, err),
+        Err(error) => return end_rules(host.alloc, words.rules, error, witness, err),
     };
     let files = match read_check_texts(host.rt, host.alloc, words) {
         Ok(files) => files,
         Err(unread) => {
-            return end_file(host.alloc, "read", unread.name, &unread.error, watcher, err);
+            return end_file(host.alloc, "read", unread.name, &unread.error, witness, err);
         }
     };
     let texts = files.tuning.texts(&rules, words.part);
-    watcher.begin(host.alloc, words, &texts);
-    match check_part_run(host.alloc, &texts, watcher, files.cert.as_slice(), out) {
+    witness.begin(host.alloc, words, &texts);
+    match check_part_run(host.alloc, &texts, witness, files.cert.as_slice(), out) {
         Ok(true) => DONE,
         Ok(false) => {
-            watcher.reject();
+            witness.reject();
             REFUSED
         }
-        Err(fault) => end_tuning(host.alloc, words, &texts, fault, watcher, err),
+        Err(fault) => end_tuning(host.alloc, words, &texts, fault, witness, err),
     }
 }

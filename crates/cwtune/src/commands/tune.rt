@@ -22,7 +22,7 @@ pub(crate) fn tune<F: Files, T: Witness, W: Write, V: Write>(
     host: Host<&F>,
     words: &TuneWords<'_>,
     method: Search,
-    watcher: &mut T,
+    witness: &mut T,
     out: &mut Outlet<W>,
     err: &mut Outlet<V>,
 ) -> u8
@@ -40,20 +40,20 @@ pub(crate) fn tune<F: Files, T: Witness, W: Write, V: Write>(
         rules,
         files,
         mut cert,
-    } = match open_tuning(host, words, watcher, err) {
+    } = match open_tuning(host, words, witness, err) {
         Ok(opened) => opened,
         Err(status) => return status,
     };
     let texts = files.texts(&rules, words.part);
-    watcher.begin(host.alloc, words, &texts);
-    match tune_by_run(host.alloc, &texts, method, watcher, out, &mut cert) {
+    witness.begin(host.alloc, words, &texts);
+    match tune_by_run(host.alloc, &texts, method, witness, out, &mut cert) {
         Ok(()) => {
             drop(cert);
             DONE
         }
         Err(fault) => {
-            let status = end_tuning(host.alloc, words, &texts, fault, watcher, err);
-            tell_loss(host.alloc, words.cert, cert, watcher);
+            let status = end_tuning(host.alloc, words, &texts, fault, witness, err);
+            tell_loss(host.alloc, words.cert, cert, witness);
             status
         }
     }

@@ -1,4 +1,4 @@
-//! The texts of faults, which no run prints.
+//! The texts of faults. A run prints at most the words of their kinds.
 
 use mars_core::Side;
 use mars_fight::{ScheduleFault, ScheduleFaultKind};

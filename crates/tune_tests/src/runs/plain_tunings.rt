@@ -19,7 +19,7 @@ fn imps<'a>(opponents: &'a [Vec<u8>], rules: &'a Rules) -> TuneTexts<'a> {
     }
 }
 
-// The report of all fights, and the certificate.
+// The report of a plain tuning, and the certificate of either.
 const REPORT: &[u8] =
     b"vectors 2\ncandidates 2\nbest 0\nconstants K=0\ntotal 4 of 6\nfights 4 of 4\n";
 
