@@ -10,7 +10,7 @@ pub enum ScheduleFaultKind {
     Header,
     #[error("expected as many fields as in the first record")]
     FieldCount,
-    #[error("a decimal has 1 to 9 digits and nothing else")]
+    #[error("expected 1 to 9 digits and nothing else")]
     BadNumber,
     #[error("no such opponent")]
     NoSuchOpponent,

@@ -121,7 +121,10 @@ fn texts_of_faults(rt: HostRuntime) -> Result<(), Fail> {
             Kind::FieldCount,
             "record 7: expected as many fields as in the first record",
         ),
-        (Kind::BadNumber, "record 7: number must have 1 to 9 digits"),
+        (
+            Kind::BadNumber,
+            "record 7: expected 1 to 9 digits and nothing else",
+        ),
         (Kind::NoSuchOpponent, "record 7: no such opponent"),
         (
             Kind::BadPosition,

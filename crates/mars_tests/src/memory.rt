@@ -44,7 +44,7 @@ const SCHEDULES: [(&[u8], &str); 10] = [
     ),
     (
         b"opponent,position,first\nx,8,c\n",
-        "record 1: number must have 1 to 9 digits",
+        "record 1: expected 1 to 9 digits and nothing else",
     ),
     (
         b"opponent,position,first\n0,8,z\n",

@@ -31,7 +31,7 @@ pub enum ExpandKind {
     #[error("FOR count has no value, or is above 4096")]
     CountRefused,
     /// There are more than 4096 unrolled lines and copies of blocks.
-    #[error("the expansion has more than 4096 lines and copies")]
+    #[error("more than 4096 lines and copies in the expansion")]
     TooManyLines,
     /// Out of memory.
     #[error("out of memory")]

@@ -170,7 +170,7 @@ const LIMITS: [(&[u8], usize, &[u8], &[u8]); 10] = [
         b"NOP\n",
         4096,
         b"NOP",
-        b"line 4097: more than 4096 lines and copies",
+        b"line 4097: more than 4096 lines and copies in the expansion",
     ),
     (b"1 ", 4096, b"", b"1: - 1 1 1"),
     (
@@ -218,11 +218,11 @@ const TEXTS: [(ExpandKind, &str); 11] = [
     ),
     (
         ExpandKind::CountRefused,
-        "line 3: FOR count without a value or above 4096",
+        "line 3: FOR count has no value, or is above 4096",
     ),
     (
         ExpandKind::TooManyLines,
-        "line 3: more than 4096 lines and copies",
+        "line 3: more than 4096 lines and copies in the expansion",
     ),
     (ExpandKind::OutOfMemory, "line 3: out of memory"),
     (
