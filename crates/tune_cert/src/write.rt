@@ -3,7 +3,7 @@ ghost use Rattle.std.specs.Prelude.{◌≡◌, ◌<◌, ◌↔◌, ◌^◌, ◌+
 ghost use Rattle.std.specs.Fmt.{decimal};
 ghost use Rattle.std.specs.Io.KnownBytes.{Appends};
 ghost use Rattle.csv.specs.Writing.{default_writer, row_text, text_written};
-ghost use Rattle.tune_cert.specs.CertText.{item_text, spaced_text, list_text, row_fields, rows_fields, count_fields, best_fields, records_text, cert_text};
+ghost use Rattle.tune_cert.specs.CertText.{item_text, spaced_text, list_text, row_fields, rows_fields, records_text, cert_text};
 ghost use Rattle.tune_problem.specs.Valid.{cert_of};
 ghost use Rattle.tune_cert.specs.Spelling.{IsVersion};
 ghost use Rattle.tune_cert.specs.Steps.{IsReady};
@@ -143,31 +143,23 @@ fn write_row(
     }
 }
 
-fn write_count(writer: &mut Writer<Vec<u8>>, version: u32, count: u32) -> Result<(), OutOfMemory>
+// Writes a record of a word and two numbers.
+fn write_numbers(
+    writer: &mut Writer<Vec<u8>>,
+    word: &[u8],
+    first: u32,
+    second: u32,
+) -> Result<(), OutOfMemory>
     requires { IsReady writer.old }
     ensures ready { OnOk result (IsReady writer.new) }
     ensures text { OnOk result (Appends (text_written (λ v. Some v.items) writer.old) (text_written (λ v. Some v.items) writer.new)
-        (row_text default_writer (count_fields version count))) }
+        (row_text default_writer (word.now ∷ decimal first ∷ decimal second ∷ []))) }
 {
     write_record(
         writer,
-        b"cwcert",
-        Buffer::new().format(version).as_bytes(),
-        Buffer::new().format(count).as_bytes(),
-    )
-}
-
-fn write_best(writer: &mut Writer<Vec<u8>>, best: u32, total: u32) -> Result<(), OutOfMemory>
-    requires { IsReady writer.old }
-    ensures ready { OnOk result (IsReady writer.new) }
-    ensures text { OnOk result (Appends (text_written (λ v. Some v.items) writer.old) (text_written (λ v. Some v.items) writer.new)
-        (row_text default_writer (best_fields best total))) }
-{
-    write_record(
-        writer,
-        b"best",
-        Buffer::new().format(best).as_bytes(),
-        Buffer::new().format(total).as_bytes(),
+        word,
+        Buffer::new().format(first).as_bytes(),
+        Buffer::new().format(second).as_bytes(),
     )
 }
 
@@ -195,8 +187,8 @@ fn text_of(alloc: Global, found: &Found) -> Result<Vec<u8>, OutOfMemory>
 {
     let mut writer = WriterBuilder::new().from_writer(Vec::new(alloc));
     let rows = found.rows.as_slice();
-    write_count(&mut writer, found.version, rows.len() as u32)?;
-    write_best(&mut writer, found.best, found.total)?;
+    write_numbers(&mut writer, b"cwcert", found.version, rows.len() as u32)?;
+    write_numbers(&mut writer, b"best", found.best, found.total)?;
     write_rows(alloc, &mut writer, rows)?;
     writer.into_inner().map_err(|_refused| OutOfMemory)
 }

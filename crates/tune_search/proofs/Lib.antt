@@ -20,3 +20,4 @@ pub mod Finish
 pub mod Apart
 pub mod OneAnswer
 pub mod Counted
+pub mod Answered

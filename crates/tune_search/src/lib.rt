@@ -1,6 +1,7 @@
 //! The search for the optimum of a tuning.
 #![tactic(auto)]
 
+mod answer;
 mod cache;
 mod candidate;
 mod counts;

@@ -3,12 +3,13 @@ ghost use Rattle.std.specs.Prelude.{◌≡◌, ◌<◌, ℕ, None, IfOk, IfErr};
 ghost use Rattle.tune_problem.specs.Problem.{problem_of};
 ghost use Rattle.tune_search.specs.PlainFound.{IsPlainSearch};
 
+use crate::answer::{Visited, answer_of};
 use crate::counts::setting_count;
 use crate::fault::SearchFault;
 use crate::lead::standing;
 use crate::progress::Progress;
 use std::alloc::Global;
-use tune_problem::{Found, Rows, Silent, Watcher, cert_version};
+use tune_problem::{Found, Silent, Watcher};
 use tune_template::Inputs;
 
 /// Finds the optimum: the first setting of the template with the greatest total in the fights of
@@ -63,16 +64,11 @@ pub fn watched_plain_search<T: Watcher>(
         candidates,
         ..
     } = progress;
-    match lead {
-        None => Err(SearchFault::NoCandidate),
-        Some(lead) => Ok(Found {
-            version: cert_version(inputs),
-            best: lead.vector,
-            total: lead.total,
-            rows: Rows::from_vec(rows),
-            fights,
-            candidates,
-            copied: None,
-        }),
-    }
+    let visited = Visited {
+        rows,
+        fights,
+        candidates,
+        copied: None,
+    };
+    answer_of(inputs, lead, visited)
 }

@@ -4,12 +4,13 @@ ghost use Rattle.tune_problem.specs.Problem.{problem_of};
 ghost use Rattle.tune_search.specs.Limits.{MOST_CAPACITY};
 ghost use Rattle.tune_search.specs.Found.{IsSearch};
 
+use crate::answer::{Visited, answer_of};
 use crate::counts::setting_count;
 use crate::fault::SearchFault;
 use crate::lead::standing;
 use crate::state::State;
 use std::alloc::Global;
-use tune_problem::{Found, Rows, Silent, Watcher, cert_version};
+use tune_problem::{Found, Silent, Watcher};
 use tune_template::Inputs;
 
 /// Finds the optimum: the first setting of the template with the greatest total in the fights of
@@ -77,16 +78,11 @@ pub fn watched_search<T: Watcher>(
         copied,
         ..
     } = state;
-    match lead {
-        None => Err(SearchFault::NoCandidate),
-        Some(lead) => Ok(Found {
-            version: cert_version(inputs),
-            best: lead.vector,
-            total: lead.total,
-            rows: Rows::from_vec(rows),
-            fights,
-            candidates,
-            copied,
-        }),
-    }
+    let visited = Visited {
+        rows,
+        fights,
+        candidates,
+        copied,
+    };
+    answer_of(inputs, lead, visited)
 }
