@@ -7,8 +7,8 @@ use std::io;
 use tune_cert::{Silent, Watcher};
 use tune_runs::{RunFault, TuneTexts};
 
-// A watcher that also hears what a run reads and why it fails. Of a fault it hears after the fault's
-// line, while the texts are still in memory. No result depends on it.
+// A watcher that also hears what a run reads and why it fails. Of a fault it hears after the
+// fault's line, while the texts are still in memory. No result depends on it.
 pub(crate) trait Witness: Watcher {
     // Called before a tuning or a check begins.
     fn begin(&mut self, alloc: Global, words: &TuneWords<'_>, texts: &TuneTexts<'_>);

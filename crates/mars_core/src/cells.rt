@@ -76,10 +76,10 @@ pub trait Cells {
         ensures marked { marked self.new ≡ marked other.now }
         ensures marks { marks self.new ≡ marks other.now };
 
-    /// Moves the store out, and leaves one without cells, until `put_back`.
+    /// Moves the store out. Nothing is promised of what is left, which only `put_back` makes whole.
     ///
-    /// A loop keeps it in a variable of its own meanwhile, so that the compiler holds the addresses
-    /// of the cells in registers.
+    /// A loop keeps the store in a variable of its own meanwhile, so that the compiler holds the
+    /// addresses of the cells in registers.
     fn take(&mut self) -> Self
         ensures items { items result ≡ items self.old }
         ensures marked { marked result ≡ marked self.old }

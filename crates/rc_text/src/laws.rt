@@ -16,8 +16,8 @@ pub fn tokens_stand_in_the_text()
     ensures { (text : List ℕ) → All (StandsIn text) (tokens_of text).tokens }
 {}
 
-/// Only blanks and comments lie between the header and the first token, between tokens, and from the
-/// last to the end of the text or the fault that ends them. Their spans are in order.
+/// Only blanks and comments lie between the header and the first token, between tokens, and from
+/// the last to the end of the text or the fault that ends them. Their spans are in order.
 pub fn tokens_skip_blanks_and_comments()
     ensures order { (text : List ℕ) → InOrder (header_of text).bytes (length text) (tokens_of text).tokens }
     ensures gaps { (text : List ℕ) → OnlyGapsBetween text true (header_of text).bytes (tokens_of text).tokens (tokens_of text).ending }
