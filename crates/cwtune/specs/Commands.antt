@@ -1,5 +1,6 @@
--- What the commands write of the files that they read.
-use Rattle.std.specs.Prelude.{ℕ, Bool, List, Option, Some, None}
+-- What the commands write of the files that they read, and how they end.
+use Rattle.std.specs.Prelude.{◌≡◌, ℕ, Bool, List, Option, Some, None, Result, Ok, Err, IsErrOf, IsTrue}
+use Rattle.rc_instr.specs.Outlet.{OutletView}
 use Rattle.rc_instr.specs.Rules.{RulesView}
 use Rattle.tune_template.specs.declared.part.Part.{Part}
 use Rattle.tune_runs.specs.AsmRun.{WritesWarrior}
@@ -9,6 +10,8 @@ use Rattle.tune_runs.specs.PlainRun.{WritesBy}
 use Rattle.tune_runs.specs.CheckRun.{WritesVerdict}
 use Rattle.tune_runs.specs.declared.searching.Search.{Search}
 use Rattle.tune_runs.specs.declared.which_setting.WhichSetting.{WhichSetting}
+use Rattle.cwtune.specs.declared.ending.Ending.{Ending}
+use Rattle.cwtune.specs.declared.ending.Ending.TheVariants.{Refused, Misused, Failed}
 
 -- The load file of a text was written, or that of a setting of a template.
 abbrev pub WritesLoadFile : List ℕ → Option WhichSetting → RulesView → Option (List ℕ) → Option (List ℕ) → Type 0
@@ -26,3 +29,17 @@ abbrev pub WritesCheckLine : RulesView → Part → Bool → Option (List ℕ) �
 WritesCheckLine rules part accepted old new =
     (template : List ℕ) × (opponents : List (List ℕ)) × (schedule : List ℕ) × (cert : List ℕ)
     × WritesVerdict (part_texts template opponents schedule rules part) cert accepted old new
+
+-- The exit statuses.
+abbrev pub status_of : {X : Type 0} → Result X Ending → ℕ
+status_of (Ok _) = 0
+status_of (Err Refused) = 1
+status_of (Err Misused) = 2
+status_of (Err Failed) = 3
+
+-- A command ended so that words and inputs without an answer left standard output as it was, and
+-- that a failed write is told.
+pub record IsEnded {X : Type 0} (old new : OutletView) (result : Result X Ending) : Type 0 where
+  pub refused : IsErrOf result Refused → new ≡ old
+  pub misused : IsErrOf result Misused → new ≡ old
+  pub failed : IsTrue new.failed → IsErrOf result Failed

@@ -4,7 +4,6 @@ ghost use Rattle.std.specs.Prelude.{◌≡◌, ◌↔◌, ◌≤◌, length, IfO
 ghost use Rattle.cwtune.specs.CertFile.{BeginsAsCert, names_twice};
 
 use crate::command_line::TuneWords;
-use crate::reading::Unread;
 use crate::replacing::{Place, place_at};
 use std::alloc::Global;
 use std::fs::{Metadata, OpenFile, OpenOptions};
@@ -24,7 +23,7 @@ pub(crate) enum NotOpened<'a> {
     // It has a text that does not begin as a certificate does.
     NotCert,
     // It, or the file of another word, cannot be read.
-    Unread(Unread<'a>),
+    Unread { name: &'a str, error: io::Error },
     // It cannot be written or created.
     Uncreated(io::Error),
 }
@@ -197,7 +196,7 @@ fn check_old<'a, F: Files>(
 }
 
 fn unread<'a>(name: &'a str, error: io::Error) -> NotOpened<'a> {
-    NotOpened::Unread(Unread { name, error })
+    NotOpened::Unread { name, error }
 }
 
 // Returns whether another word is a name of the file that was found under the word CERT.

@@ -4,7 +4,6 @@ mod asm;
 mod check;
 mod duel;
 mod fight;
-mod opening;
 mod settings;
 mod tune;
 

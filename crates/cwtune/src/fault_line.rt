@@ -2,74 +2,44 @@
 //! `failed: ` and what failed.
 //!
 //! A line is written in pieces and takes no memory, so that it can report that memory ran out.
-ghost use Rattle.std.specs.Prelude.{◌≡◌, false, is_err};
-
+use crate::telling::tell;
 use itoa::Buffer;
 use mars_core::Side;
 use mars_fight::{ScheduleFault, ScheduleFaultKind};
 use rc_asm::{AsmFault, AsmKind};
 use rc_expand::ExpandKind;
-use rc_instr::{LoadFault, Outlet, RulesError, WarriorError, WriteFailed};
+use rc_instr::{LoadFault, Outlet, RulesError, WarriorError};
 use rc_text::{EvalFault, LexFault};
 use std::io::Write;
 use tune_runs::RunFault;
 use tune_template::{TemplateFault, TemplateKind};
 
 // Writes the line of a fault: `failed: Write`, `failed: OutOfMemory`, or `refused: ` and its names.
-pub(crate) fn say_run<V: Write>(err: &mut Outlet<V>, fault: RunFault) -> Result<(), WriteFailed>
-    requires { err.old.failed ≡ false }
-{
+pub(crate) fn say_run<V: Write>(err: &mut Outlet<V>, fault: RunFault) {
     match fault {
-        RunFault::Write | RunFault::OutOfMemory => err.write_all(b"failed:")?,
-        _ => err.write_all(b"refused:")?,
+        RunFault::Write | RunFault::OutOfMemory => tell(err, &["failed:"]),
+        _ => tell(err, &["refused:"]),
     }
-    say_fault(err, fault)?;
-    err.write_all(b"\n")
+    say_fault(err, fault);
+    tell(err, &["\n"]);
 }
 
 // Writes the line of a text of a fight that does not assemble: `refused: SIDE FILE line N` and the
 // names of the fault. `side` is `Candidate` or `Opponent`.
-pub(crate) fn say_text<V: Write>(
-    err: &mut Outlet<V>,
-    side: &str,
-    file: &str,
-    fault: AsmFault,
-) -> Result<(), WriteFailed>
-    requires { err.old.failed ≡ false }
-{
-    err.write_all(b"refused:")?;
-    say(err, side)?;
-    say(err, file)?;
-    say_asm(err, fault)?;
-    err.write_all(b"\n")
+pub(crate) fn say_text<V: Write>(err: &mut Outlet<V>, side: &str, file: &str, fault: AsmFault) {
+    tell(err, &["refused: ", side, " ", file]);
+    say_asm(err, fault);
+    tell(err, &["\n"]);
 }
 
 // Writes the line of a file: `failed: read NAME` or `failed: create NAME`.
-pub(crate) fn say_file<V: Write>(
-    err: &mut Outlet<V>,
-    action: &str,
-    name: &str,
-) -> Result<(), WriteFailed>
-    requires { err.old.failed ≡ false }
-{
-    err.write_all(b"failed:")?;
-    say(err, action)?;
-    say(err, name)?;
-    err.write_all(b"\n")
+pub(crate) fn say_file<V: Write>(err: &mut Outlet<V>, action: &str, name: &str) {
+    tell(err, &["failed: ", action, " ", name, "\n"]);
 }
 
 // Writes why the file CERT is not opened: `error: CERT`, the reason, and the file.
-pub(crate) fn say_cert<V: Write>(
-    err: &mut Outlet<V>,
-    reason: &str,
-    name: &str,
-) -> Result<(), WriteFailed>
-    requires { err.old.failed ≡ false }
-{
-    err.write_all(b"error: CERT")?;
-    say(err, reason)?;
-    say(err, name)?;
-    err.write_all(b"\n")
+pub(crate) fn say_cert<V: Write>(err: &mut Outlet<V>, reason: &str, name: &str) {
+    tell(err, &["error: CERT ", reason, " ", name, "\n"]);
 }
 
 fn lex_name(fault: LexFault) -> &'static str {
@@ -175,117 +145,92 @@ fn schedule_name(kind: ScheduleFaultKind) -> &'static str {
 }
 
 // Writes a space, then a word.
-fn say<V: Write>(err: &mut Outlet<V>, word: &str) -> Result<(), WriteFailed>
-    requires { err.old.failed ≡ false }
-    ensures { err.new.failed ≡ is_err result }
-{
-    err.write_all(b" ")?;
-    err.write_all(word.as_bytes())
+fn say<V: Write>(err: &mut Outlet<V>, word: &str) {
+    tell(err, &[" ", word]);
 }
 
 // Writes ` line N`.
-fn say_line<V: Write>(err: &mut Outlet<V>, line: u64) -> Result<(), WriteFailed>
-    requires { err.old.failed ≡ false }
-    ensures { err.new.failed ≡ is_err result }
-{
-    say(err, "line")?;
+fn say_line<V: Write>(err: &mut Outlet<V>, line: u64) {
+    say(err, "line");
     say(err, Buffer::new().format(line))
 }
 
-fn say_expand<V: Write>(err: &mut Outlet<V>, kind: ExpandKind) -> Result<(), WriteFailed>
-    requires { err.old.failed ≡ false }
-    ensures { err.new.failed ≡ is_err result }
-{
-    say(err, expand_name(kind))?;
+fn say_expand<V: Write>(err: &mut Outlet<V>, kind: ExpandKind) {
+    say(err, expand_name(kind));
     match kind {
         ExpandKind::Text(fault) => say(err, lex_name(fault)),
-        _ => Ok(()),
+        _ => {}
     }
 }
 
 // Writes ` line N`, then the names of the fault.
-pub(crate) fn say_asm<V: Write>(err: &mut Outlet<V>, fault: AsmFault) -> Result<(), WriteFailed>
-    requires { err.old.failed ≡ false }
-    ensures { err.new.failed ≡ is_err result }
-{
-    say_line(err, fault.line)?;
-    say(err, asm_name(fault.kind))?;
+pub(crate) fn say_asm<V: Write>(err: &mut Outlet<V>, fault: AsmFault) {
+    say_line(err, fault.line);
+    say(err, asm_name(fault.kind));
     match fault.kind {
         AsmKind::Expand(kind) => say_expand(err, kind),
         AsmKind::Value(fault) => say(err, eval_name(fault)),
         AsmKind::Warrior(error) => say(err, warrior_name(error)),
-        _ => Ok(()),
+        _ => {}
     }
 }
 
-fn say_load<V: Write>(err: &mut Outlet<V>, fault: LoadFault) -> Result<(), WriteFailed>
-    requires { err.old.failed ≡ false }
-    ensures { err.new.failed ≡ is_err result }
-{
+fn say_load<V: Write>(err: &mut Outlet<V>, fault: LoadFault) {
     match fault {
         LoadFault::Malformed { line } => {
-            say(err, "Malformed")?;
+            say(err, "Malformed");
             say_line(err, line)
         }
         LoadFault::Warrior(error) => {
-            say(err, "Warrior")?;
+            say(err, "Warrior");
             say(err, warrior_name(error))
         }
         LoadFault::OutOfMemory => say(err, "OutOfMemory"),
     }
 }
 
-fn say_template<V: Write>(err: &mut Outlet<V>, fault: TemplateFault) -> Result<(), WriteFailed>
-    requires { err.old.failed ≡ false }
-    ensures { err.new.failed ≡ is_err result }
-{
-    say(err, "Template")?;
-    say_line(err, fault.line)?;
+fn say_template<V: Write>(err: &mut Outlet<V>, fault: TemplateFault) {
+    say(err, "Template");
+    say_line(err, fault.line);
     say(err, template_name(fault.kind))
 }
 
-fn say_schedule<V: Write>(err: &mut Outlet<V>, fault: ScheduleFault) -> Result<(), WriteFailed>
-    requires { err.old.failed ≡ false }
-    ensures { err.new.failed ≡ is_err result }
-{
-    say(err, "Schedule")?;
-    say(err, "row")?;
-    say(err, Buffer::new().format(fault.row))?;
+fn say_schedule<V: Write>(err: &mut Outlet<V>, fault: ScheduleFault) {
+    say(err, "Schedule");
+    say(err, "row");
+    say(err, Buffer::new().format(fault.row));
     say(err, schedule_name(fault.kind))
 }
 
-fn say_fault<V: Write>(err: &mut Outlet<V>, fault: RunFault) -> Result<(), WriteFailed>
-    requires { err.old.failed ≡ false }
-    ensures { err.new.failed ≡ is_err result }
-{
+fn say_fault<V: Write>(err: &mut Outlet<V>, fault: RunFault) {
     match fault {
         RunFault::FightText { line } => {
-            say(err, "FightText")?;
+            say(err, "FightText");
             say_line(err, line)
         }
         RunFault::Rules(error) => {
-            say(err, "Rules")?;
+            say(err, "Rules");
             say(err, rules_name(error))
         }
         RunFault::Load { side, fault } => {
-            say(err, "Load")?;
-            say(err, side_name(side))?;
+            say(err, "Load");
+            say(err, side_name(side));
             say_load(err, fault)
         }
         RunFault::Position => say(err, "Position"),
         RunFault::Asm(fault) => {
-            say(err, "Asm")?;
+            say(err, "Asm");
             say_asm(err, fault)
         }
         RunFault::TooManyOpponents => say(err, "TooManyOpponents"),
         RunFault::Template(fault) => say_template(err, fault),
         RunFault::NoSuchSetting { index } => {
-            say(err, "NoSuchSetting")?;
+            say(err, "NoSuchSetting");
             say(err, Buffer::new().format(index))
         }
         RunFault::Opponent { index, fault } => {
-            say(err, "Opponent")?;
-            say(err, Buffer::new().format(index))?;
+            say(err, "Opponent");
+            say(err, Buffer::new().format(index));
             say_asm(err, fault)
         }
         RunFault::Schedule(fault) => say_schedule(err, fault),

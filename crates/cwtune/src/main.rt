@@ -8,6 +8,7 @@ mod bounds;
 mod cert_file;
 mod command_line;
 mod commands;
+mod ending;
 mod fault_line;
 mod host;
 mod limits;
@@ -20,7 +21,6 @@ mod reading;
 mod refusal;
 mod replacing;
 mod setting_word;
-mod status;
 mod telling;
 mod usage_error;
 mod witness;
@@ -79,8 +79,10 @@ fn run<R: Read, W: Write, V: Write>(
     let host = Host {
         rt,
         alloc: rt.alloc(),
+        witness: &mut progress,
+        err,
     };
-    program::watched_program(host, words, input, out, err, &mut progress)
+    program::watched_program(host, words, input, out)
 }
 
 // Says at a terminal what is read from it.

@@ -1,12 +1,14 @@
 //! The program, apart from `main`: words and three streams in, an exit status out.
-ghost use Rattle.std.specs.Prelude.{◌≡◌, ◌≢◌, ◌⊎◌, ◌≤◌, map, false, string_bytes, IsTrue};
+ghost use Rattle.std.specs.Prelude.{◌≡◌, ◌≢◌, ◌⊎◌, map, false, string_bytes, IfErr};
+ghost use Rattle.cwtune.specs.Commands.{IsEnded};
 ghost use Rattle.cwtune.specs.Program.{IsProgramRun};
 
 use crate::command_line::{Request, request_of};
 use crate::commands::{asm, check, duel, fight, settings, tune};
+use crate::ending::{Ending, status_of};
 use crate::fault_line::say_run;
 use crate::host::Host;
-use crate::status::{DONE, FAILED, MISUSED, end_without_memory};
+use crate::telling::tell;
 use crate::witness::Witness;
 use clap::error::ErrorKind;
 use rc_instr::Outlet;
@@ -51,75 +53,72 @@ pub fn program<F: Files, R: Read, W: Write, V: Write>(
     requires err { err.old.failed ≡ false }
     ensures { IsProgramRun (map string_bytes words.now) (R.remaining input.old) out.old out.new result }
 {
-    watched_program(Host { rt, alloc }, words, input, out, err, &mut Silent)
+    let host = Host {
+        rt,
+        alloc,
+        witness: &mut Silent,
+        err,
+    };
+    watched_program(host, words, input, out)
 }
 
-// Runs the command as `program` does, and tells `witness` of it.
+// Runs the command as `program` does, and tells the witness of it.
 pub(crate) fn watched_program<F: Files, R: Read, W: Write, V: Write, T: Witness>(
-    host: Host<&F>,
+    mut host: Host<'_, F, T, V>,
     words: &[String],
     input: &mut R,
     out: &mut Outlet<W>,
-    err: &mut Outlet<V>,
-    witness: &mut T,
 ) -> u8
-    requires out { out.old.failed ≡ false }
-    requires err { err.old.failed ≡ false }
+    requires { out.old.failed ≡ false }
     ensures { IsProgramRun (map string_bytes words.now) (R.remaining input.old) out.old out.new result }
 {
+    let host = &mut host;
     match request_of(host.alloc, words) {
-        Ok(Request::Fight) => fight(host.alloc, input, witness, out, err),
-        Ok(Request::Duel(words)) => duel(host, &words, witness, out, err),
-        Ok(Request::Asm(words)) => asm(host, &words, witness, out, err),
-        Ok(Request::Settings { file }) => settings(host, file, witness, out, err),
-        Ok(Request::Tune { words, method }) => tune(host, &words, method, witness, out, err),
-        Ok(Request::Check(words)) => check(host, &words, witness, out, err),
-        Err(answer) => show(host.alloc, &answer, out, err),
+        Ok(Request::Fight) => status_of(fight(host, input, out)),
+        Ok(Request::Duel(words)) => status_of(duel(host, &words, out)),
+        Ok(Request::Asm(words)) => status_of(asm(host, &words, out)),
+        Ok(Request::Settings { file }) => status_of(settings(host, file, out)),
+        Ok(Request::Tune { words, method }) => status_of(tune(host, &words, method, out)),
+        Ok(Request::Check(words)) => status_of(check(host, &words, out)),
+        Err(answer) => status_of(show(host, &answer, out)),
     }
 }
 
 // Says on standard error why there are no words, and returns the exit status: 2 if a word is not
 // UTF-8, 3 if memory ran out.
 pub(crate) fn end_without_words<V: Write>(err: &mut Outlet<V>, error: &io::Error) -> u8
-    requires { err.old.failed ≡ false }
     ensures { (result ≡ 2) ⊎ (result ≡ 3) }
 {
     if error.kind() != io::ErrorKind::InvalidData {
-        return end_without_memory(err);
+        say_run(err, RunFault::OutOfMemory);
+        return 3;
     }
-    let _ = err.write_all(b"error: a word of the command line is not UTF-8\n");
-    MISUSED
+    tell(err, &["error: a word of the command line is not UTF-8\n"]);
+    2
 }
 
-// Prints what `clap` has to say, help on standard output or a usage error on standard error, and
-// returns the exit status.
-fn show<W: Write, V: Write>(
-    alloc: Global,
+// Prints what `clap` has to say: help on standard output, or a usage error on standard error.
+fn show<F: Files, W: Write, V: Write, T: Witness>(
+    host: &mut Host<'_, F, T, V>,
     answer: &clap::Error,
     out: &mut Outlet<W>,
-    err: &mut Outlet<V>,
-) -> u8
-    requires out { out.old.failed ≡ false }
-    requires err { err.old.failed ≡ false }
-    ensures misused { result ≡ 2 → out.new ≡ out.old }
-    ensures failed { IsTrue out.new.failed → result ≡ 3 }
-    ensures status { (result ≤ 3) × (result ≢ 1) }
+) -> Result<(), Ending>
+    requires { out.old.failed ≡ false }
+    ensures ended { IsEnded out.old out.new result }
+    ensures known { IfErr result (λ e. e ≢ Ending.Refused) }
 {
     if answer.kind() == ErrorKind::OutOfMemory {
-        return end_without_memory(err);
+        return Err(host.end_without_memory());
     }
-    let Ok(text) = answer.to_string(alloc) else {
-        return end_without_memory(err);
+    let Ok(text) = answer.to_string(host.alloc) else {
+        return Err(host.end_without_memory());
     };
     if answer.use_stderr() {
-        let _ = err.write_all(text.as_bytes());
-        return MISUSED;
+        tell(host.err, &[text.as_str()]);
+        return Err(Ending::Misused);
     }
     match out.write_all(text.as_bytes()) {
-        Ok(()) => DONE,
-        Err(_) => {
-            let _ = say_run(err, RunFault::Write);
-            FAILED
-        }
+        Ok(()) => Ok(()),
+        Err(_) => Err(host.end(RunFault::Write)),
     }
 }

@@ -1,13 +1,11 @@
 //! Progress and explanations on standard error.
-ghost use Rattle.std.specs.Prelude.{◌≡◌, false, is_err};
-
 use crate::command_line::TuneWords;
 use crate::notes::{tell_idle, tell_template_notes};
 use crate::refusal::{Refused, explain};
 use crate::telling::{tell, tell_error, tell_found};
 use crate::witness::Witness;
 use itoa::Buffer;
-use rc_instr::{Outlet, WriteFailed};
+use rc_instr::Outlet;
 use std::alloc::Global;
 use std::io;
 use std::io::Write;
@@ -90,10 +88,10 @@ impl<C: Clock, V: Write> Progress<C, V> {
         }
         self.shown = Some(now);
         let millis = millis_between(self.began, now);
-        let _ = match self.style {
+        match self.style {
             Style::Log => log_line(&mut self.err, &self.standing, millis),
             _ => draw_line(&mut self.err, &self.standing, millis),
-        };
+        }
     }
 }
 
@@ -112,8 +110,8 @@ impl<C: Clock, V: Write> Watcher for Progress<C, V> {
 
     // Clears the line of a terminal.
     fn end(&mut self) {
-        if self.style == Style::Line && self.shown.is_some() && !self.err.failed() {
-            let _ = self.err.write_all(b"\r\x1b[K");
+        if self.style == Style::Line && self.shown.is_some() {
+            tell(&mut self.err, &["\r\x1b[K"]);
         }
         self.shown = None;
     }
@@ -197,138 +195,68 @@ fn millis_of(time: Duration) -> u64 {
 
 // Writes the line over the one before, and clears the rest of that. A line that is wider than the
 // terminal is cut, since lines are not wrapped meanwhile.
-fn draw_line<V: Write>(
-    err: &mut Outlet<V>,
-    standing: &Standing,
-    millis: u64,
-) -> Result<(), WriteFailed>
-    requires { err.old.failed ≡ false }
-{
-    err.write_all(b"\r\x1b[?7l")?;
-    say_standing(err, standing, millis)?;
-    err.write_all(b"\x1b[K\x1b[?7h")
+fn draw_line<V: Write>(err: &mut Outlet<V>, standing: &Standing, millis: u64) {
+    tell(err, &["\r\x1b[?7l"]);
+    tell_standing(err, standing, millis);
+    tell(err, &["\x1b[K\x1b[?7h"]);
 }
 
-fn log_line<V: Write>(
-    err: &mut Outlet<V>,
-    standing: &Standing,
-    millis: u64,
-) -> Result<(), WriteFailed>
-    requires { err.old.failed ≡ false }
-{
-    say_standing(err, standing, millis)?;
-    err.write_all(b"\n")
+fn log_line<V: Write>(err: &mut Outlet<V>, standing: &Standing, millis: u64) {
+    tell_standing(err, standing, millis);
+    tell(err, &["\n"]);
 }
 
 // Writes percent, settings, fights, fights a second, the best setting so far, and the time left.
-fn say_standing<V: Write>(
-    err: &mut Outlet<V>,
-    standing: &Standing,
-    millis: u64,
-) -> Result<(), WriteFailed>
-    requires { err.old.failed ≡ false }
-    ensures { err.new.failed ≡ is_err result }
-{
+fn tell_standing<V: Write>(err: &mut Outlet<V>, standing: &Standing, millis: u64) {
     let done = u64::from(standing.settings);
     let count = u64::from(standing.count);
-    say_done(err, done, count)?;
-    say_fights(err, standing.fights, millis)?;
-    say_best(err, standing.best)?;
-    say_left(err, done, count, millis)
-}
-
-fn say_done<V: Write>(err: &mut Outlet<V>, done: u64, count: u64) -> Result<(), WriteFailed>
-    requires { err.old.failed ≡ false }
-    ensures { err.new.failed ≡ is_err result }
-{
-    let percent = done.saturating_mul(100).checked_div(count);
-    say_number(err, percent.unwrap_or(0))?;
-    err.write_all(b"% ")?;
-    say_number(err, done)?;
-    err.write_all(b" of ")?;
-    say_number(err, count)?;
-    err.write_all(b" settings")
-}
-
-fn say_fights<V: Write>(err: &mut Outlet<V>, fights: u64, millis: u64) -> Result<(), WriteFailed>
-    requires { err.old.failed ≡ false }
-    ensures { err.new.failed ≡ is_err result }
-{
-    err.write_all(b", ")?;
-    say_number(err, fights)?;
-    err.write_all(b" fights")?;
-    say_rate(err, fights, millis)
-}
-
-fn say_rate<V: Write>(err: &mut Outlet<V>, fights: u64, millis: u64) -> Result<(), WriteFailed>
-    requires { err.old.failed ≡ false }
-    ensures { err.new.failed ≡ is_err result }
-{
-    match fights.saturating_mul(1000).checked_div(millis) {
-        Some(rate) if fights > 0 => {
-            err.write_all(b", ")?;
-            say_number(err, rate)?;
-            err.write_all(b" a second")
-        }
-        _ => Ok(()),
+    tell_done(err, done, count);
+    tell_fights(err, standing.fights, millis);
+    if let Some(best) = standing.best {
+        tell_number(err, ", best ", u64::from(best.vector), "");
+        tell_number(err, " total ", u64::from(best.total), "");
     }
+    tell_left(err, done, count, millis);
 }
 
-fn say_best<V: Write>(err: &mut Outlet<V>, best: Option<Best>) -> Result<(), WriteFailed>
-    requires { err.old.failed ≡ false }
-    ensures { err.new.failed ≡ is_err result }
-{
-    match best {
-        Some(best) => {
-            err.write_all(b", best ")?;
-            say_number(err, u64::from(best.vector))?;
-            err.write_all(b" total ")?;
-            say_number(err, u64::from(best.total))
+fn tell_done<V: Write>(err: &mut Outlet<V>, done: u64, count: u64) {
+    let percent = done.saturating_mul(100).checked_div(count);
+    tell_number(err, "", percent.unwrap_or(0), "% ");
+    tell_number(err, "", done, " of ");
+    tell_number(err, "", count, " settings");
+}
+
+fn tell_fights<V: Write>(err: &mut Outlet<V>, fights: u64, millis: u64) {
+    tell_number(err, ", ", fights, " fights");
+    if fights > 0 {
+        if let Some(rate) = fights.saturating_mul(1000).checked_div(millis) {
+            tell_number(err, ", ", rate, " a second");
         }
-        None => Ok(()),
     }
 }
 
 // Writes the time left, if the settings to come take as long as those that are done.
-fn say_left<V: Write>(
-    err: &mut Outlet<V>,
-    done: u64,
-    count: u64,
-    millis: u64,
-) -> Result<(), WriteFailed>
-    requires { err.old.failed ≡ false }
-    ensures { err.new.failed ≡ is_err result }
-{
+fn tell_left<V: Write>(err: &mut Outlet<V>, done: u64, count: u64, millis: u64) {
     let whole = millis.saturating_mul(count.saturating_sub(done));
-    match whole.checked_div(done) {
-        Some(left) => {
-            err.write_all(b", ")?;
-            say_time(err, left / 1000)?;
-            err.write_all(b" left")
-        }
-        None => Ok(()),
+    if let Some(left) = whole.checked_div(done) {
+        let (number, unit) = in_units(left / 1000);
+        tell_number(err, ", ", number, unit);
+        tell(err, &[" left"]);
     }
 }
 
-fn say_time<V: Write>(err: &mut Outlet<V>, seconds: u64) -> Result<(), WriteFailed>
-    requires { err.old.failed ≡ false }
-    ensures { err.new.failed ≡ is_err result }
-{
+// Returns a time as a number of seconds, minutes or hours, and the unit.
+fn in_units(seconds: u64) -> (u64, &'static str) {
     if seconds < 120 {
-        say_number(err, seconds)?;
-        err.write_all(b" s")
+        (seconds, " s")
     } else if seconds < 7200 {
-        say_number(err, seconds / 60)?;
-        err.write_all(b" min")
+        (seconds / 60, " min")
     } else {
-        say_number(err, seconds / 3600)?;
-        err.write_all(b" h")
+        (seconds / 3600, " h")
     }
 }
 
-fn say_number<V: Write>(err: &mut Outlet<V>, number: u64) -> Result<(), WriteFailed>
-    requires { err.old.failed ≡ false }
-    ensures { err.new.failed ≡ is_err result }
-{
-    err.write_all(Buffer::new().format(number).as_bytes())
+// Writes a number, with what stands before and after it.
+fn tell_number<V: Write>(err: &mut Outlet<V>, before: &str, number: u64, after: &str) {
+    tell(err, &[before, Buffer::new().format(number), after]);
 }

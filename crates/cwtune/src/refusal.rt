@@ -145,9 +145,7 @@ fn explain_start<V: Write>(
         Err(fault) => fault,
     };
     tell(err, &["  start setting:"]);
-    if !err.failed() {
-        let _ = say_asm(err, fault);
-    }
+    say_asm(err, fault);
     tell(err, &["\n"]);
     tell_asm(
         err,

@@ -24,6 +24,19 @@ impl Notes {
             heard: true,
         }
     }
+
+    // Expects `count` standings that begin with these, each with the fights heard of before.
+    fn expect(
+        &self,
+        rt: HostRuntime,
+        standings: [Option<Standing>; 4],
+        count: usize,
+    ) -> Result<(), Fail> {
+        assert_eq!(rt; self.standings, standings);
+        assert_eq!(rt; self.count, count);
+        assert!(rt; self.heard);
+        Ok(())
+    }
 }
 
 impl Watcher for Notes {
@@ -53,26 +66,25 @@ fn after(settings: u32, count: u32, fights: u64, best: Option<Best>) -> Option<S
     })
 }
 
-// Setting 1 is visited first: an imp with the total 4. Setting 0 does not assemble.
+// Setting 1 of `THREE`, an imp with the total 4.
+const IMP: Option<Best> = Some(Best {
+    vector: 1,
+    total: 4,
+});
+
+// Setting 1 is visited first. Setting 0 does not assemble.
 #[test]
 fn a_search_tells_how_far_it_is(rt: HostRuntime) -> Result<(), Fail> {
     let inputs = inputs_of(rt.alloc(), THREE)?;
     let mut notes = Notes::new();
     watched_search(rt.alloc(), &inputs, 1, &mut notes)?;
-    let best = Some(Best {
-        vector: 1,
-        total: 4,
-    });
     let want = [
-        after(1, 3, 2, best),
-        after(2, 3, 2, best),
-        after(3, 3, 3, best),
+        after(1, 3, 2, IMP),
+        after(2, 3, 2, IMP),
+        after(3, 3, 3, IMP),
         None,
     ];
-    assert_eq!(rt; notes.standings, want);
-    assert_eq!(rt; notes.count, 3);
-    assert!(rt; notes.heard);
-    Ok(())
+    notes.expect(rt, want, 3)
 }
 
 // Settings are visited by index.
@@ -81,20 +93,13 @@ fn a_plain_search_tells_how_far_it_is(rt: HostRuntime) -> Result<(), Fail> {
     let inputs = inputs_of(rt.alloc(), THREE)?;
     let mut notes = Notes::new();
     watched_plain_search(rt.alloc(), &inputs, &mut notes)?;
-    let best = Some(Best {
-        vector: 1,
-        total: 4,
-    });
     let want = [
         after(1, 3, 0, None),
-        after(2, 3, 2, best),
-        after(3, 3, 4, best),
+        after(2, 3, 2, IMP),
+        after(3, 3, 4, IMP),
         None,
     ];
-    assert_eq!(rt; notes.standings, want);
-    assert_eq!(rt; notes.count, 3);
-    assert!(rt; notes.heard);
-    Ok(())
+    notes.expect(rt, want, 3)
 }
 
 // Rows that refer to other settings are checked last, and no fight is played for them.
@@ -115,8 +120,5 @@ fn a_check_tells_how_far_it_is(rt: HostRuntime) -> Result<(), Fail> {
         after(3, 4, 4, best),
         after(4, 4, 4, best),
     ];
-    assert_eq!(rt; notes.standings, want);
-    assert_eq!(rt; notes.count, 4);
-    assert!(rt; notes.heard);
-    Ok(())
+    notes.expect(rt, want, 4)
 }

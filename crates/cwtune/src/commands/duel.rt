@@ -1,46 +1,33 @@
 //! The command `fight` with two files: from two Redcode texts to a result line.
-ghost use Rattle.std.specs.Prelude.{◌≡◌, ◌≢◌, ◌≤◌, ◌/◌, ℕ, List, false, IsTrue};
+ghost use Rattle.std.specs.Prelude.{◌≡◌, ◌≢◌, ◌/◌, ℕ, List, false, IfErr, OnOk};
 ghost use Rattle.tune_runs.specs.RawRules.{rules_given};
 ghost use Rattle.tune_runs.specs.DuelRun.{duel, position_meant, WritesDuel};
+ghost use Rattle.cwtune.specs.Commands.{IsEnded};
 
 use crate::command_line::DuelWords;
+use crate::ending::Ending;
 use crate::host::Host;
-use crate::reading::read_file;
-use crate::status::{DONE, end_duel, end_file, end_rules};
 use crate::witness::Witness;
 use rc_instr::{Outlet, Rules};
 use std::io::Write;
 use std::rt::Files;
-use tune_runs::{DuelTexts, duel_run, rules_of};
+use tune_runs::{DuelTexts, duel_run};
 
 // Runs the command on files. Checks the rules before it reads them.
 pub(crate) fn duel<F: Files, T: Witness, W: Write, V: Write>(
-    host: Host<&F>,
+    host: &mut Host<'_, F, T, V>,
     words: &DuelWords<'_>,
-    witness: &mut T,
     out: &mut Outlet<W>,
-    err: &mut Outlet<V>,
-) -> u8
-    requires out { out.old.failed ≡ false }
-    requires err { err.old.failed ≡ false }
-    ensures done { let rules = rules_given words.now.rules in result ≡ 0 → (c : List ℕ) × (o : List ℕ)
-        × WritesDuel (duel c o rules (position_meant rules words.now.position) words.now.first) out.old.bytes out.new.bytes }
-    ensures refused { result ≡ 1 → out.new ≡ out.old }
-    ensures failed { IsTrue out.new.failed → result ≡ 3 }
-    ensures status { (result ≤ 3) × (result ≢ 2) }
+) -> Result<(), Ending>
+    requires { out.old.failed ≡ false }
+    ensures done { let rules = rules_given words.now.rules in OnOk result ((c : List ℕ) × (o : List ℕ)
+        × WritesDuel (duel c o rules (position_meant rules words.now.position) words.now.first) out.old.bytes out.new.bytes) }
+    ensures ended { IsEnded out.old out.new result }
+    ensures understood { IfErr result (λ e. e ≢ Ending.Misused) }
 {
-    let rules = match rules_of(words.rules) {
-        Ok(rules) => rules,
-        Err(error) => return end_rules(host.alloc, words.rules, error, witness, err),
-    };
-    let candidate = match read_file(host.rt, host.alloc, words.candidate) {
-        Ok(text) => text,
-        Err(error) => return end_file(host.alloc, "read", words.candidate, &error, witness, err),
-    };
-    let opponent = match read_file(host.rt, host.alloc, words.opponent) {
-        Ok(text) => text,
-        Err(error) => return end_file(host.alloc, "read", words.opponent, &error, witness, err),
-    };
+    let rules = host.rules(words.rules)?;
+    let candidate = host.read(words.candidate)?;
+    let opponent = host.read(words.opponent)?;
     let texts = DuelTexts {
         candidate: candidate.as_slice(),
         opponent: opponent.as_slice(),
@@ -49,8 +36,8 @@ pub(crate) fn duel<F: Files, T: Witness, W: Write, V: Write>(
         first: words.first,
     };
     match duel_run(host.alloc, &texts, out) {
-        Ok(()) => DONE,
-        Err(fault) => end_duel(host.alloc, words, &texts, fault, witness, err),
+        Ok(()) => Ok(()),
+        Err(fault) => Err(host.refuse_duel(words, &texts, fault)),
     }
 }
 

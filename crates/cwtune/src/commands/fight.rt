@@ -1,37 +1,36 @@
 //! The command `fight`: from a fight text to a result line.
-ghost use Rattle.std.specs.Prelude.{◌≡◌, ◌≢◌, ◌≤◌, false, List, ℕ, IsTrue, Ok};
+ghost use Rattle.std.specs.Prelude.{◌≡◌, ◌≢◌, false, List, ℕ, IfErr, IsErrOf, OnOk};
 ghost use Rattle.tune_runs.specs.FightRun.{WritesFight, IsRefusedText};
+ghost use Rattle.cwtune.specs.Commands.{IsEnded};
 ghost use Rattle.cwtune.specs.Input.{IsInput};
 
+use crate::ending::Ending;
+use crate::host::Host;
 use crate::reading::read_text;
-use crate::status::{DONE, end_file, end_run};
 use crate::witness::Witness;
 use rc_instr::Outlet;
-use std::alloc::Global;
 use std::io::{Read, Write};
+use std::rt::Files;
 use tune_runs::fight_run;
 
 // Runs the command on the text that `input` holds.
-pub(crate) fn fight<R: Read, T: Witness, W: Write, V: Write>(
-    alloc: Global,
+pub(crate) fn fight<F: Files, R: Read, T: Witness, W: Write, V: Write>(
+    host: &mut Host<'_, F, T, V>,
     input: &mut R,
-    witness: &mut T,
     out: &mut Outlet<W>,
-    err: &mut Outlet<V>,
-) -> u8
-    requires out { out.old.failed ≡ false }
-    requires err { err.old.failed ≡ false }
-    ensures done { result ≡ 0 → (text : List ℕ) × IsInput (R.remaining input.old) text × WritesFight text out.old.bytes out.new.bytes }
-    ensures refused { result ≡ 1 → (text : List ℕ) × IsInput (R.remaining input.old) text × IsRefusedText text × (out.new ≡ out.old) }
-    ensures failed { IsTrue out.new.failed → result ≡ 3 }
-    ensures status { (result ≤ 3) × (result ≢ 2) }
+) -> Result<(), Ending>
+    requires { out.old.failed ≡ false }
+    ensures done { OnOk result ((text : List ℕ) × IsInput (R.remaining input.old) text × WritesFight text out.old.bytes out.new.bytes) }
+    ensures refused { IsErrOf result Ending.Refused → (text : List ℕ) × IsInput (R.remaining input.old) text × IsRefusedText text }
+    ensures ended { IsEnded out.old out.new result }
+    ensures understood { IfErr result (λ e. e ≢ Ending.Misused) }
 {
-    let text = match read_text(alloc, input) {
+    let text = match read_text(host.alloc, input) {
         Ok(text) => text,
-        Err(error) => return end_file(alloc, "read", "-", &error, witness, err),
+        Err(error) => return Err(host.fail("read", "-", &error)),
     };
-    match fight_run(alloc, text.as_slice(), out) {
-        Ok(()) => DONE,
-        Err(fault) => end_run(err, fault),
+    match fight_run(host.alloc, text.as_slice(), out) {
+        Ok(()) => Ok(()),
+        Err(fault) => Err(host.end(fault)),
     }
 }

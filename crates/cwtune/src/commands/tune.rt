@@ -1,14 +1,14 @@
 //! The command `tune`: from texts to the certificate of the best setting, and a report.
-ghost use Rattle.std.specs.Prelude.{◌≡◌, ◌≢◌, ◌≤◌, false, IsTrue};
+ghost use Rattle.std.specs.Prelude.{◌≡◌, false, IsErr, IsTrue, OnOk};
 ghost use Rattle.tune_runs.specs.RawRules.{rules_given};
 ghost use Rattle.tune_runs.specs.Searching.{HasCapacity};
 ghost use Rattle.cwtune.specs.CertFile.{names_twice};
-ghost use Rattle.cwtune.specs.Commands.{WritesReport};
+ghost use Rattle.cwtune.specs.Commands.{WritesReport, IsEnded};
 
+use crate::cert_file::open_cert;
 use crate::command_line::TuneWords;
-use crate::commands::opening::{Opened, open_tuning};
+use crate::ending::Ending;
 use crate::host::Host;
-use crate::status::{DONE, end_tuning, tell_loss};
 use crate::witness::Witness;
 use rc_instr::Outlet;
 use std::io::Write;
@@ -19,42 +19,34 @@ use tune_runs::{Search, tune_by_run};
 // names another word's file, nothing is written. The file gets its new text, whole and on the disk,
 // before the report begins.
 pub(crate) fn tune<F: Files, T: Witness, W: Write, V: Write>(
-    host: Host<&F>,
+    host: &mut Host<'_, F, T, V>,
     words: &TuneWords<'_>,
     method: Search,
-    witness: &mut T,
     out: &mut Outlet<W>,
-    err: &mut Outlet<V>,
-) -> u8
+) -> Result<(), Ending>
     requires capacity { HasCapacity method }
     requires out { out.old.failed ≡ false }
-    requires err { err.old.failed ≡ false }
-    ensures done { result ≡ 0 → WritesReport method (rules_given words.now.rules) words.now.part out.old.bytes out.new.bytes }
-    ensures refused { result ≡ 1 → out.new ≡ out.old }
-    ensures failed { IsTrue out.new.failed → result ≡ 3 }
-    ensures misused { result ≡ 2 → out.new ≡ out.old }
-    ensures named { IsTrue (names_twice words.now) → (result ≢ 0) × (out.new ≡ out.old) }
-    ensures status { result ≤ 3 }
+    ensures done { OnOk result (WritesReport method (rules_given words.now.rules) words.now.part out.old.bytes out.new.bytes) }
+    ensures ended { IsEnded out.old out.new result }
+    ensures named { IsTrue (names_twice words.now) → IsErr result × (out.new ≡ out.old) }
 {
-    let Opened {
-        rules,
-        files,
-        mut cert,
-    } = match open_tuning(host, words, witness, err) {
-        Ok(opened) => opened,
-        Err(status) => return status,
+    let rules = host.rules(words.rules)?;
+    let files = host.read_tuning(words)?;
+    let mut cert = match open_cert(host.rt, host.alloc, words) {
+        Ok(file) => Outlet::new(file),
+        Err(unopened) => return Err(host.end_unopened(words.cert, &unopened)),
     };
     let texts = files.texts(&rules, words.part);
-    witness.begin(host.alloc, words, &texts);
-    match tune_by_run(host.alloc, &texts, method, witness, out, &mut cert) {
+    host.witness.begin(host.alloc, words, &texts);
+    match tune_by_run(host.alloc, &texts, method, host.witness, out, &mut cert) {
         Ok(()) => {
             drop(cert);
-            DONE
+            Ok(())
         }
         Err(fault) => {
-            let status = end_tuning(host.alloc, words, &texts, fault, witness, err);
-            tell_loss(host.alloc, words.cert, cert, witness);
-            status
+            let ending = host.refuse_tuning(words, &texts, fault);
+            host.tell_loss(words.cert, cert);
+            Err(ending)
         }
     }
 }

@@ -13,6 +13,20 @@ const HALF: &[u8] = b";@tune K 0 5 1 0\nMOV 0, 1\nDAT K % 2";
 // The certificate of the second half of the settings.
 const CERT: &[u8] = b"cwcert,1,3\nbest,0,4\ncap,0,0:3 1:1\ncap,1,1:1\nsame,2,0\n";
 
+// Returns the texts of a tuning of the second half of the settings.
+fn second_half<'a>(opponents: &'a [Vec<u8>], rules: &'a Rules) -> TuneTexts<'a> {
+    TuneTexts {
+        template: HALF,
+        opponents,
+        schedule: BOTH,
+        rules,
+        part: Part {
+            number: 2,
+            parts: 2,
+        },
+    }
+}
+
 #[test]
 fn a_part_is_tuned(rt: HostRuntime) -> Result<(), Fail> {
     let rules = Rules::try_new(16, 20, 4, 4, 4)?;
@@ -21,16 +35,7 @@ fn a_part_is_tuned(rt: HostRuntime) -> Result<(), Fail> {
     let mut cert = Outlet::new(Vec::new(rt.alloc()));
     let tuned = tune_part_run(
         rt.alloc(),
-        &TuneTexts {
-            template: HALF,
-            opponents: opponents.as_slice(),
-            schedule: BOTH,
-            rules: &rules,
-            part: Part {
-                number: 2,
-                parts: 2,
-            },
-        },
+        &second_half(opponents.as_slice(), &rules),
         4096,
         &mut Silent,
         &mut report,
@@ -52,16 +57,7 @@ fn a_part_is_checked(rt: HostRuntime) -> Result<(), Fail> {
     let mut line = Outlet::new(Vec::new(rt.alloc()));
     let checked = check_part_run(
         rt.alloc(),
-        &TuneTexts {
-            template: HALF,
-            opponents: opponents.as_slice(),
-            schedule: BOTH,
-            rules: &rules,
-            part: Part {
-                number: 2,
-                parts: 2,
-            },
-        },
+        &second_half(opponents.as_slice(), &rules),
         &mut Silent,
         CERT,
         &mut line,
