@@ -14,7 +14,7 @@ import sys
 import tempfile
 import time
 
-from pairs import WrongPoints, print_pairs
+from pairs import WrongPoints, print_pairs, processor_time
 
 HERE = pathlib.Path(__file__).resolve().parent
 PROGRAM = HERE.parent / "crates" / "cwtune" / "out" / "cwtune"
@@ -272,7 +272,7 @@ def print_texts(program, runs):
 
 
 def fastest_tuning(program, name, runs):
-    """Returns the least seconds of the tuning of a template, and how many settings it has."""
+    """Returns the least processor time of a tuning of a template, and its number of settings."""
     report = (TUNING / TEMPLATES[name]).read_text(encoding="ascii")
     opponents = [str(TUNING.parent / "warriors" / f"{name}.red") for name in OPPONENTS]
     best = math.inf
@@ -280,7 +280,7 @@ def fastest_tuning(program, name, runs):
         template, cert = TUNING / f"{name}.red", pathlib.Path(folder) / f"{name}.cert"
         files = [template, TUNING / "schedule.csv", cert]
         for _ in range(runs):
-            seconds, output = timed([str(program), "tune", *map(str, files), *opponents], "")
+            seconds, output = processor_time([program, "tune", *files, *opponents])
             if output != report:
                 raise WrongResult(f"{program} tune did not give {TUNING / TEMPLATES[name]}")
             best = min(best, seconds)

@@ -20,8 +20,8 @@ use tune_cert::Silent;
 use tune_runs::RunFault;
 
 /// Runs the command that `words` ask for, and returns the exit status: 0 success or accepted, 1
-/// input refused or certificate rejected, 2 usage error, or a file CERT that is not overwritten, 3
-/// I/O error or out of memory.
+/// input refused or certificate rejected, 2 usage error, a part that the template does not have, or
+/// a file CERT that is not overwritten, 3 I/O error or out of memory.
 ///
 /// - Without words, or with `fight`: reads a fight text from `input` and writes its result line.
 /// - `fight` and two files: checks the rules, reads the two Redcode files, and writes the result
@@ -36,7 +36,7 @@ use tune_runs::RunFault;
 ///   is no certificate.
 /// - `check`: checks the rules, reads the template, the schedule, the certificate and the
 ///   opponents, and writes the line of the verdict.
-/// - `--help`, `help`: writes the help text.
+/// - `--help`, `help`: writes the help text. `--version`: writes the version.
 ///
 /// A text may have at most 1073741824 bytes. On standard error goes a line `refused: ..` with
 /// status 1, the usage error with status 2, and a line `failed: ..` with status 3; that such a

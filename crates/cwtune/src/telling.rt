@@ -1,4 +1,5 @@
-//! The lines of explanations, each indented by two blanks. A write that fails ends them silently.
+//! Lines on standard error; those that explain are indented by two blanks. A write that fails ends
+//! them silently.
 use itoa::Buffer;
 use rc_instr::Outlet;
 use std::alloc::Global;

@@ -10,8 +10,8 @@ use crate::snapshot::Snapshot;
 use crate::tasks::Tasks;
 use crate::turn::next_turn;
 
-// After each stretch of so many cycles the fight looks whether its state has come back. Fights of
-// fewer cycles never look.
+// The cycles after which the fight looks, again and again, whether its state has come back. The
+// first look only keeps the state, so a fight of at most two stretches compares none.
 const STRETCH: u32 = 2000;
 
 // Alternates turns, `mine` first, until a queue is empty or `cycles` are over.
