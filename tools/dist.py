@@ -21,13 +21,18 @@ MANUAL = {"cwtune.1": "share/man/man1/cwtune.1",
           "cwtune.fish": "share/fish/vendor_completions.d/cwtune.fish"}
 # Tools that need the sources.
 OF_THE_GATE = ["gate.py", "edits.py", "functions.py", "dist.py", "manual.py", "refuse_*", "try_*",
-               "run_cases.py", "cuts.py", "pipes.py", "large_texts.py", "limits.py", "prove.sh",
-               "harmless", "expected", "__pycache__"]
+               "run_cases.py", "cuts.py", "pipes.py", "terminals.py", "two_devices.*",
+               "large_texts.py", "limits.py", "prove.sh", "harmless", "expected", "__pycache__"]
+TOP = """cwtune tunes Core War warriors. Begin with share/doc/cwtune/README.md.
+
+    sha256sum --check --quiet SHA256SUMS    checks the files
+    share/doc/cwtune/PROVED                 says what was proved, and with which kit
+"""
 CONTROL = """Package: cwtune
 Version: {version}
 Architecture: amd64
 Maintainer: the cwtune project
-Depends: libc6
+Depends: libc6 (>= 2.34)
 Recommends: python3
 Suggests: parallel, python3-matplotlib
 Section: games
@@ -36,6 +41,8 @@ Description: tunes Core War warriors, with a certificate of the answer
  Finds the values of a warrior's constants that total the most points against given opponents, and
  writes a certificate that a separate checker accepts exactly if the answer is right.
 """
+# What Python leaves beside the tools is no file of the package.
+REMOVED = "#!/bin/sh\nrm -rf /usr/share/cwtune/tools/__pycache__\n"
 
 
 def proved():
@@ -77,7 +84,7 @@ def stage(tree):
     shutil.copytree(ROOT / "tools", tree / SHARE / "tools",
                     ignore=shutil.ignore_patterns(*OF_THE_GATE))
     shutil.copytree(ROOT / "examples", tree / SHARE / "examples",
-                    ignore=shutil.ignore_patterns("__pycache__"))
+                    ignore=shutil.ignore_patterns("look.sh", "__pycache__"))
     shutil.copytree(ROOT / "docs", tree / DOC / "docs")
     for name in ["README.md", "CHANGELOG.md", "LICENSE"]:
         shutil.copy(ROOT / name, tree / DOC / name)
@@ -101,6 +108,7 @@ def pack(folder):
     with tempfile.TemporaryDirectory() as name:
         tree = pathlib.Path(name, "tree")
         version = stage(tree)
+        (tree / "README").write_text(TOP)
         (tree / "SHA256SUMS").write_text(sums(tree))
         title = f"cwtune-{version}-linux-x86_64"
         packed = io.BytesIO()
@@ -132,6 +140,8 @@ def debian(folder):
         (tree / "usr" / DOC / "copyright").write_text((ROOT / "LICENSE").read_text())
         (tree / "DEBIAN").mkdir()
         (tree / "DEBIAN/control").write_text(CONTROL.format(version=version))
+        (tree / "DEBIAN/prerm").write_text(REMOVED)
+        (tree / "DEBIAN/prerm").chmod(0o755)
         package = folder / f"cwtune_{version}_amd64.deb"
         subprocess.run(["dpkg-deb", "--root-owner-group", "--build", str(tree), str(package)],
                        check=True, stdout=subprocess.DEVNULL)
@@ -160,6 +170,7 @@ def uninstall(prefix):
         raise Fault(f"cwtune is not installed below {prefix}") from None
     for path in placed:
         (prefix / path).unlink(missing_ok=True)
+    shutil.rmtree(prefix / SHARE / "tools/__pycache__", ignore_errors=True)
     folders = {folder for path in placed for folder in pathlib.Path(path).parents
                if folder.is_relative_to(DOC) or folder.is_relative_to(SHARE)}
     for folder in sorted(folders, key=lambda it: -len(it.parts)):

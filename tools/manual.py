@@ -110,7 +110,7 @@ def bash(program):
     """Returns the lines of the completion for bash."""
     names = " ".join(program.commands)
     lines = [f"# Completes the words of {NAME} in bash.", f"_{NAME}() {{",
-             "    local word=${COMP_WORDS[COMP_CWORD]} options=",
+             "    local word=${COMP_WORDS[COMP_CWORD]} options=", "    COMPREPLY=()",
              "    case ${COMP_WORDS[1]} in"]
     lines += [f'        {name}) options="{words_of(page)}" ;;'
               for name, page in program.commands.items()]
@@ -118,8 +118,8 @@ def bash(program):
               f'        COMPREPLY=($(compgen -W "{names} --help --version" -- "$word"))',
               "    elif [[ $word == -* ]]; then",
               '        COMPREPLY=($(compgen -W "$options" -- "$word"))',
-              "    else", '        COMPREPLY=($(compgen -f -- "$word"))', "    fi", "}",
-              f"complete -o filenames -F _{NAME} {NAME}"]
+              "    fi", "}", "# Where there is nothing to choose from, names of files are completed.",
+              f"complete -o default -F _{NAME} {NAME}"]
     return lines
 
 

@@ -57,9 +57,7 @@ impl<C: Cells + Drop> Snapshot<C> {
 }
 
 impl<C: Cells> Snapshot<C> {
-    // Begins a fight, of which no state was taken. It is out of line so that `alternate`, after it
-    // in the program, begins at a multiple of 32 bytes: the loop is faster there (docs/PROVING.md).
-    #[inline(never)]
+    // Begins a fight, of which no state was taken.
     pub(crate) fn forget(&mut self)
         ensures { self.new ≡ record self.old { cycles = 0 } }
     {
