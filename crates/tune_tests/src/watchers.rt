@@ -1,6 +1,7 @@
 //! Tests of what searches and checks tell their watchers.
 
 use crate::searches::{THREE, inputs_of};
+use std::process::Abort;
 use std::test::Fail;
 use tune_cert::{Best, Standing, Verdict, Watcher, watched_check};
 use tune_search::{watched_plain_search, watched_search};
@@ -26,9 +27,9 @@ impl Notes {
     }
 
     // Expects `count` standings that begin with these, each with the fights heard of before.
-    fn expect(
+    fn expect<A: Abort>(
         &self,
-        rt: HostRuntime,
+        rt: &A,
         standings: [Option<Standing>; 4],
         count: usize,
     ) -> Result<(), Fail> {
@@ -84,7 +85,7 @@ fn a_search_tells_how_far_it_is(rt: HostRuntime) -> Result<(), Fail> {
         after(3, 3, 3, IMP),
         None,
     ];
-    notes.expect(rt, want, 3)
+    notes.expect(&rt, want, 3)
 }
 
 // Settings are visited by index.
@@ -99,7 +100,7 @@ fn a_plain_search_tells_how_far_it_is(rt: HostRuntime) -> Result<(), Fail> {
         after(3, 3, 4, IMP),
         None,
     ];
-    notes.expect(rt, want, 3)
+    notes.expect(&rt, want, 3)
 }
 
 // Rows that refer to other settings are checked last, and no fight is played for them.
@@ -120,5 +121,5 @@ fn a_check_tells_how_far_it_is(rt: HostRuntime) -> Result<(), Fail> {
         after(3, 4, 4, best),
         after(4, 4, 4, best),
     ];
-    notes.expect(rt, want, 4)
+    notes.expect(&rt, want, 4)
 }
