@@ -65,6 +65,13 @@ RUNS = [
                                    "s": schedule(1), "b": DIES},
      f"tune {SHORT} --cache=65536 t s CERT b",
      report(65536, start("AB"), "3 of 3", "1 of 65536")),
+    ("the settings of 8 constants", {"t": ranges("ABCDEFGH", 2) + IMP}, "settings t",
+     "vectors 256\n" + "".join(f"constant {name} 2 0\n" for name in "ABCDEFGH")),
+    ("a row of 10000 fights, copied", {"t": ";@tune A 0 1 1 1\n" + IMP, "s": schedule(10000),
+                                       "b": DIES}, "tune t s CERT b",
+     report(2, "A=0", "30000 of 30000", "10000 of 20000")),
+    ("the last of 1000000 settings", {"t": ranges("AB", 1000) + "DAT A, B\n"},
+     "asm --setting=999999 t", "ORG 0\nDAT.F $999, $999\n"),
     ("1000000 settings", {"t": ranges("AB", 1000) + IMP, "s": schedule(1), "b": DIES},
      f"tune {SHORT} t s CERT b", report(1000000, start("AB"), "3 of 3", "1 of 1000000")),
 ]
@@ -95,7 +102,9 @@ def run(program, words, folder, prepare=None):
 
 def differences(expected, came, status=0):
     """Returns how a run differs from what is expected, in a list."""
-    return [] if came == (status, expected, "") else [f"expected {expected!r}, came {came!r}"[:2000]]
+    if came == (status, expected, ""):
+        return []
+    return [f"expected {expected!r}, came {came!r}"[:2000]]
 
 
 def trials(program):

@@ -3,8 +3,9 @@
 
 A reader that goes away ends a run with status 3 and the line `failed: Write`. A standard input that
 cannot be read, that is a terminal or that has no end leads to a named error or a result, in bounded
-time. A word that is not UTF-8 is a usage error. A run that is killed, or that may not write as much,
-leaves an older certificate. CERT may be a link, and keeps its permissions.
+time, and a file has at most 1 GiB. A word that is not UTF-8 is a usage error. A run that is killed,
+or that may not write as much, leaves an older certificate. CERT may be a link, and keeps its
+permissions.
 Expected values follow from `docs/FORMATS.md`. Prints what failed, and as its last line
 `N passed, N failed`. The exit status is 1 if a check failed.
 """
@@ -158,7 +159,7 @@ def read_slowly(path, most, text):
             text.append(piece)
 
 
-def to_named_pipe(play, most):
+def to_named_pipe(play, most, **streams):
     """Writes a long certificate to a named pipe. Returns how the run ended, and what came out."""
     path = play.folder / "CERT"
     path.unlink(missing_ok=True)
@@ -166,7 +167,7 @@ def to_named_pipe(play, most):
     text = []
     reader = threading.Thread(target=read_slowly, args=(path, most, text), daemon=True)
     reader.start()
-    came = play.run(MANY)
+    came = play.run(MANY, **streams)
     reader.join(SECONDS)
     path.unlink()
     return came, b"".join(text)
@@ -180,6 +181,8 @@ def certificates_for_pipes(play):
     yield "a named pipe gets the whole certificate", (0, b"", whole), (status, err, text)
     came, text = to_named_pipe(play, 10)
     yield "a reader leaves amid the certificate: no report", (NO_WRITE, whole[:10]), (came, text)
+    came, text = to_named_pipe(play, 2 * len(whole), preexec_fn=lambda: os.close(1))
+    yield "a named pipe is not taken for a closed output", (NO_WRITE, whole), (came, text)
 
 
 def at_terminal(play, typed):
@@ -222,6 +225,12 @@ def standard_inputs(play):
     yield "an endless standard input in 512 MB", NO_MEMORY, came
     came = play.run(["asm", "/dev/zero"])
     yield "an endless file", (3, b"", b"failed: read /dev/zero\n"), came
+    (play.folder / "most").touch()
+    for size, end in [(1 << 30, (1, b"", b"refused: Asm line 0 TextTooLong\n")),
+                      ((1 << 30) + 1, (3, b"", b"failed: read most\n"))]:
+        os.truncate(play.folder / "most", size)
+        yield f"a file of {size} bytes", end, play.run(["asm", "most"])
+    (play.folder / "most").unlink()
 
 
 def words_of_bytes(play):
@@ -269,7 +278,8 @@ def limited(play):
     for most in [1, 10, len(OLD_CERT) - 1]:
         limit = lambda: resource.setrlimit(resource.RLIMIT_FSIZE, (most, most))
         play.set_cert(OLD_CERT + b"#")
-        came = (*play.run(TUNE, preexec_fn=limit, restore_signals=False), play.cert(), play.beside())
+        came = play.run(TUNE, preexec_fn=limit, restore_signals=False)
+        came = (*came, play.cert(), play.beside())
         yield f"a limit of {most} bytes", (*NO_WRITE, OLD_CERT + b"#", []), came
         came = (*play.run(TUNE, preexec_fn=limit), play.cert(), play.beside())
         left = (-signal.SIGXFSZ, b"", b"", OLD_CERT + b"#", ["CERT.unfinished-1"])
@@ -290,6 +300,21 @@ def limited(play):
             yield "permissions stay", 0o640, path.stat().st_mode & 0o777
         (play.folder / "link").unlink()
         (play.folder / "second").unlink()
+    yield from chains(play)
+
+
+def chains(play):
+    """Yields checks of a CERT behind as many links as the system follows, and behind one more."""
+    names = ["CERT", *(f"link-{count}" for count in range(1, 42))]
+    for name, to in zip(names[1:], names):
+        (play.folder / name).symlink_to(to)
+    for count, end in [(40, (0, REPORT, b"", OLD_CERT)),
+                       (41, (3, b"", b"failed: create link-41\n", None))]:
+        play.set_cert(None)
+        came = play.run([*TUNE[:-3], names[count], *TUNE[-2:]])
+        yield f"{count} links to CERT", end, (*came, play.cert())
+    for name in names[1:]:
+        (play.folder / name).unlink()
 
 
 def compare(name, expected, came):

@@ -5,8 +5,8 @@ The runs are those of `refuse_memory.py`, each with an older certificate in CERT
 step is a write of one byte, the flush of a certificate to the disk, or its new name. The first, the
 second and so on fails, finds no room, takes no byte, or is the last before the program is killed.
 Until a certificate has its name CERT is as it was, and nothing is on standard output. Only a kill
-leaves a file beside it. Needs `cc` and a system with LD_PRELOAD. Prints what failed, and as its last
-line how many steps failed, and `N passed, N failed`. The exit status is 1 if a run failed.
+leaves a file beside it. Needs `cc` and a system with LD_PRELOAD. Prints what failed, and as its
+last line how many steps failed, and `N passed, N failed`. The exit status is 1 if a run failed.
 """
 import concurrent.futures, os, pathlib, signal, subprocess, sys, tempfile
 from typing import NamedTuple

@@ -19,7 +19,8 @@ FILES = {
     "none.red": b";@tune K 0 1 1 0\nMOV 0, K\nDAT 1/0\n",
     "range.red": b";@tune K 2 1 1 1\nMOV 0, 1\n",
     "words.red": b";@tune K 0 1 1 0 why\nMOV 0, 1\n",
-    "wide.red": b";@tune A 0 999 1 0\nMOV A, B\n;@tune B 0 1000 1 0\n",
+    "either.red": b";@tune K 0 1 1 1\nMOV 0, 1\nDAT 1/K\nDAT 1/(K-1)\n",
+    "wide.red": b";@tune A 0 999 1 0\nMOV A, B\n;@tune B 0 1000 1 0\n;@tune C 0 1 1 0\n",
     "nine.red": b"".join(b";@tune K%d 0 0 1 0\n" % number for number in range(9)),
     "big.red": b";" * 65537,
     "zero.red": b"MOV 0, 1\n\tDAT 1/0\r\n",
@@ -42,6 +43,7 @@ FILES = {
     "bare.csv": b"0,8,c\n",
     "many.csv": b"opponent,position,first\n" + b"0,8,c\n" * 10003,
     "one.csv": b"opponent,position,first\n1,8,c\n",
+    "zero.csv": b"opponent,position,first\n0,8,c\n",
     "two.cert": b"cwcert,1,2\nbest,0,4\ncap,0,0:3 1:1\nsame,1,0\n",
     "wrong.cert": b"cwcert,1,2\nbest,0,4\ncap,0,0:3 1:1\nrefused,1,-\n",
 }
@@ -49,17 +51,20 @@ REPORT = b"vectors 2\ncandidates 2\nbest 0\nconstants K=0\ntotal 4 of 6\nfights 
 ONE = b"vectors 1\ncandidates 1\nbest 0\nconstants -\ntotal 4 of 6\nfights 2 of 2\n"
 IMP = b"ORG 0\nMOV.I $0, $1\n"
 BEGUN = b"0% 0 of 2 settings, 0 fights"
+LONG_BEGUN = b"0% 0 of 800000 settings, 0 fights"
 BOM = (b"  bom.red, line 1: \xef\xbb\xbf;@tune K 0 1 1 0\n"
        b"  ignored: a byte order mark is before `;@tune`\n")
 LOST = b"  ignored: `;@tune` has to be the very front of its line, in small letters\n"
-OTHER = (b"  a certificate holds only for its own template, schedule, opponents in order, rules and "
-         b"part\n")
+OTHER = (b"  a certificate holds only for its own template, schedule, opponents in order, rules "
+         b"and part\n")
 PROGRESS = rb"\r\x1b\[\?7l([^\r\n]*)\x1b\[K\x1b\[\?7h"
 CLEARED = b"\r\x1b[K"
 LINE = rb"\d+% \d+ of 800000 settings, [1-9]\d* fights, \d+ a second, best \d+ total \d, " \
        rb"\d+ (s|min|h) left"
 
 MEANWHILE = rb"0% 0 of 1 settings, [1-9]\d* fights, \d+ a second"
+STEADY = rb"(\d+)% (\d+) of 40 settings, (\d+) fights, (\d+) a second, best 0 total \d+, " \
+         rb"(\d+) s left"
 
 
 def tune(files, *options, opponents="dat.red imp.red"):
@@ -86,7 +91,8 @@ TEXTS = [
              b"the most instructions of a warrior are 4")),
     (["asm", "empty.red"],
      refused(b"Asm line 0 Warrior Empty", b"empty.red", b"no instructions")),
-    (["asm", "moov.red"], refused(b"Asm line 2 Expand DuplicateName", b"moov.red, line 2: MOOV 0, 1",
+    (["asm", "moov.red"], refused(b"Asm line 2 Expand DuplicateName",
+                                  b"moov.red, line 2: MOOV 0, 1",
                                   b"name already defined",
                                   b"a word that is not an opcode is a label")),
     (["asm", "deep.red"], refused(b"Asm line 9 Expand ForTooDeep", b"deep.red, line 9: FOR 1",
@@ -118,7 +124,8 @@ TEXTS = [
      refused(b"Position", b"positions are 5 to 11")),
     (["asm", "--setting=2", "two.red"], refused(b"NoSuchSetting 2", b"settings are 0 to 1")),
     (["asm", "--setting=start", "none.red"],
-     refused(b"Asm line 3 Value DivisionByZero", b"none.red, line 3: DAT 1/0", b"division by zero")),
+     refused(b"Asm line 3 Value DivisionByZero", b"none.red, line 3: DAT 1/0",
+             b"division by zero")),
     (["asm", "--setting=0", "range.red"],
      refused(b"Template line 1 EmptyRange", b"range.red, line 1: ;@tune K 2 1 1 1",
              b"LOW is above HIGH")),
@@ -159,8 +166,11 @@ TUNINGS = [
     (tune("two.red both.csv", opponents="dat.red " * 65),
      refused(b"TooManyOpponents", b"opponents are at most 64, not 65")),
     (tune("none.red both.csv"),
-     refused(b"NoCandidate", b"start setting: line 3 Value DivisionByZero",
+     refused(b"NoCandidate", b"first setting tried: line 3 Value DivisionByZero",
              b"none.red, line 3: DAT 1/0", b"division by zero")),
+    (tune("either.red both.csv"),
+     refused(b"NoCandidate", b"first setting tried: line 4 Value DivisionByZero",
+             b"either.red, line 4: DAT 1/(K-1)", b"division by zero")),
     (["check", *RULES, "two.red", "both.csv", "wrong.cert", "dat.red", "imp.red"],
      (1, b"rejected row 3 NotRefused\n", OTHER)),
     (["check", *RULES, "two.red", "both.csv", "two.cert", "dat.red", "imp.red"],
@@ -169,7 +179,7 @@ TUNINGS = [
 ]
 NOTES = [
     (tune("bom.red both.csv"),
-     (1, b"", BOM + b"refused: NoCandidate\n  start setting: line 1 Expand Text BadByte\n"
+     (1, b"", BOM + b"refused: NoCandidate\n  first setting tried: line 1 Expand Text BadByte\n"
       b"  bom.red, line 1: \xef\xbb\xbf;@tune K 0 1 1 0\n  unexpected byte\n")),
     (tune("blank.red both.csv", "--all"),
      (0, ONE, b"  blank.red, line 2:   ;@tune K 0 1 1 0\n" + LOST)),
@@ -185,6 +195,9 @@ NOTES = [
       b"  no line of unused.red uses the constant NO\n")),
     (["check", *RULES, "two.red", "one.csv", "good.cert", "dat.red", "imp.red"],
      (1, b"rejected row 0 RowCount\n", b"  no fight names opponent 0, dat.red\n" + OTHER)),
+    (["check", *RULES, "two.red", "zero.csv", "good.cert", "dat.red", "imp.red", "imp.red"],
+     (1, b"rejected row 0 RowCount\n",
+      b"  no fight names opponent 1, imp.red\n  no fight names opponent 2, imp.red\n" + OTHER)),
     (["asm", "imp.red"], (0, IMP, b"")),
     (["asm", "bom.red"], refused(b"Asm line 1 Expand Text BadByte",
                                  b"bom.red, line 1: \xef\xbb\xbf;@tune K 0 1 1 0",
@@ -200,9 +213,12 @@ def piece_of(terminal):
         return b""
 
 
-def shown(play, words, **streams):
-    """Runs with a terminal as standard error. Returns status, standard output, what was shown."""
+def shown(play, words, both=False, **streams):
+    """Runs with a terminal as standard error, and if `both` as standard output. Returns status,
+    standard output, what was shown."""
     terminal, program_end = pty.openpty()
+    if both:
+        streams["stdout"] = program_end
     process = play.start(words, stderr=program_end, **streams)
     os.close(program_end)
     out, _ = process.communicate(timeout=SECONDS)
@@ -233,6 +249,8 @@ def progress(play):
     for name, words, out in [("a tuning", tune("two.red both.csv"), REPORT),
                              ("a check", check, accepted)]:
         yield f"the progress of {name}", (0, out, line), shown(play, words)
+        came = shown(play, words, both=True)
+        yield f"the progress of {name} is cleared before it prints", (0, None, line + out), came
         came = play.run([*words, "--progress"])
         yield f"--progress of {name}", (0, out, BEGUN + b"\n"), came
         yield f"no progress of {name} on a pipe", (0, out, b""), play.run(words)
@@ -264,16 +282,37 @@ def long_runs(play):
     lines, first = seen_within(play, words, 3.2)
     yield "two lines a second at most", True, 4 <= len(lines) <= 8 or lines
     wrong = [line for line in lines[1:] if not re.fullmatch(LINE, line)]
-    yield "what the lines say", ([], [b"0% 0 of 800000 settings, 0 fights"]), (wrong, lines[:1])
+    yield "what the lines say", ([], [LONG_BEGUN]), (wrong, lines[:1])
     yield "the first line within a second", True, (first or 9) < 1 or first
     (play.folder / "long.csv").write_bytes(b"opponent,position,first\n" + b"0,4000,c\n" * 10000)
-    # In a core of 8009 cells no state comes back where it is looked at, so each fight is played out.
+    # In a core of 8009 cells no state comes back where it is looked at: each fight is played out.
     words = ["tune", "--core=8009", "--cycles=1000000", "imp.red", "long.csv", "NEW", "imp.red"]
     lines, first = seen_within(play, words, 2.2)
     wrong = [line for line in lines[1:] if not re.fullmatch(MEANWHILE, line)]
     yield "one long setting", ([], [b"0% 0 of 1 settings, 0 fights"]), (wrong, lines[:1])
     yield "its lines while fights are played", True, 2 <= len(lines) <= 5 or lines
     yield "its first line within a second", True, (first or 9) < 1 or first
+    (play.folder / "four.csv").write_bytes(b"opponent,position,first\n" + b"0,4000,c\n" * 4)
+    (play.folder / "forty.red").write_bytes(b";@tune K 0 39 1 0\nMOV 0, 1\nDAT K\n")
+    words = ["tune", "--all", *words[1:3], "forty.red", "four.csv", "NEW", "imp.red"]
+    lines, _ = seen_within(play, words, 3.2)
+    wrong = [line for line in lines if not agrees(line)]
+    yield "the numbers of a line agree", [], wrong
+    process = play.start(["tune", "--progress", "slow.red", "far.csv", "NEW", "imp.red"])
+    time.sleep(2.2)
+    process.kill()
+    yield "--progress is no line twice a second", LONG_BEGUN + b"\n", process.communicate()[1]
+
+
+def agrees(line):
+    """Returns whether the numbers of a line agree: the percent with the settings, and the time left
+    with the time so far, if the settings to come take as long as those that are done."""
+    found = re.fullmatch(STEADY, line)
+    if not found:
+        return b" left" not in line
+    percent, done, fights, rate, left = map(int, found.groups())
+    wanted = fights / max(rate, 1) * (40 - done) / done
+    return percent == 100 * done // 40 and abs(left - wanted) <= 1 + wanted / 10
 
 
 def invitations(play):

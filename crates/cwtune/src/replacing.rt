@@ -93,7 +93,7 @@ impl<R: Files> Place<R> {
 // Returns the name that `name` leads to through links. There need not be a file at the end.
 fn beyond_links<F: Files>(rt: &F, alloc: Global, name: &str) -> io::Result<PathBuf> {
     let mut path = PathBuf::from_str(alloc, name)?;
-    for _link in 0..MOST_LINKS {
+    for _link in 0..MOST_LINKS + 1 {
         if !follow(rt, alloc, &mut path)? {
             return Ok(path);
         }
@@ -125,7 +125,7 @@ fn unused_name<F: Files>(
     name: &str,
     mode: Option<u32>,
 ) -> io::Result<String> {
-    for number in 1..MOST_NAMES {
+    for number in 1..MOST_NAMES + 1 {
         let beside = format!(in alloc; "{name}.unfinished-{number}")?;
         if is_unused(rt, beside.as_str(), mode)? {
             return Ok(beside);

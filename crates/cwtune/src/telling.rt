@@ -90,13 +90,12 @@ pub(crate) fn tell_record<V: Write>(err: &mut Outlet<V>, file: &str, text: &[u8]
     let mut left = row;
     for line in text.split(|byte| *byte == b'\n') {
         number = number.saturating_add(1);
-        if is_record(line) {
-            if left == 0 {
-                tell_source(err, file, text, number);
-                return;
-            }
-            left -= 1;
+        let records = records_of(line);
+        if left < records {
+            tell_source(err, file, text, number);
+            return;
         }
+        left -= records;
     }
 }
 
@@ -104,19 +103,20 @@ pub(crate) fn tell_record<V: Write>(err: &mut Outlet<V>, file: &str, text: &[u8]
 pub(crate) fn records_in(text: &[u8]) -> u64 {
     let mut count: u64 = 0;
     for line in text.split(|byte| *byte == b'\n') {
-        if is_record(line) {
-            count = count.saturating_add(1);
-        }
+        count = count.saturating_add(records_of(line));
     }
     count
 }
 
-fn is_record(line: &[u8]) -> bool {
-    match line {
-        [] => false,
-        [byte] => *byte != b'\r',
-        _ => true,
+// Counts the records of a line, which a carriage return ends too.
+fn records_of(line: &[u8]) -> u64 {
+    let mut count: u64 = 0;
+    for record in line.split(|byte| *byte == b'\r') {
+        if !record.is_empty() {
+            count = count.saturating_add(1);
+        }
     }
+    count
 }
 
 // Returns the line at an index, from 0, as a terminal can show it, or nothing if the text has

@@ -8,3 +8,4 @@ mod plain_tunings;
 mod settings;
 mod settings_text;
 mod tuning;
+mod watched;

@@ -1,0 +1,109 @@
+//! What runs tell their watchers, under rules of 16 cells, 20 cycles, 4 tasks, length 4 and
+//! distance 4.
+use crate::runs::tuning::{BOTH, ORDER, ORDER_CERT, both_opponents};
+use rc_instr::{Outlet, Rules};
+use std::test::Fail;
+use tune_cert::{Standing, Watcher};
+use tune_runs::{TuneTexts, check_part_run, plain_tune_run, tune_part_run};
+use tune_template::Part;
+
+// Counts the settings, the fights and the ends that it is told of, and what it is told after an
+// end.
+#[derive(Drop)]
+struct Told {
+    settings: u32,
+    fights: u32,
+    ends: u32,
+    late: u32,
+}
+
+impl Told {
+    fn nothing() -> Told {
+        Told {
+            settings: 0,
+            fights: 0,
+            ends: 0,
+            late: 0,
+        }
+    }
+
+    // Notes what comes after an end.
+    fn note(&mut self) {
+        if self.ends > 0 {
+            self.late = self.late.saturating_add(1);
+        }
+    }
+
+    // Returns the four numbers.
+    fn numbers(&self) -> (u32, u32, u32, u32) {
+        (self.settings, self.fights, self.ends, self.late)
+    }
+}
+
+impl Watcher for Told {
+    fn see(&mut self, _standing: Standing) {
+        self.note();
+        self.settings = self.settings.saturating_add(1);
+    }
+
+    fn hear(&mut self, _fights: u64) {
+        self.note();
+        self.fights = self.fights.saturating_add(1);
+    }
+
+    fn end(&mut self) {
+        self.note();
+        self.ends = self.ends.saturating_add(1);
+    }
+}
+
+// Returns the texts of a tuning of all settings of `ORDER`.
+fn order<'a>(opponents: &'a [Vec<u8>], rules: &'a Rules) -> TuneTexts<'a> {
+    TuneTexts {
+        template: ORDER,
+        opponents,
+        schedule: BOTH,
+        rules,
+        part: Part::whole(),
+    }
+}
+
+// A setting is dropped after one fight of two.
+#[test]
+fn a_tuning_tells_its_watcher_once(rt: HostRuntime) -> Result<(), Fail> {
+    let rules = Rules::try_new(16, 20, 4, 4, 4)?;
+    let opponents = both_opponents(rt.alloc())?;
+    let texts = order(opponents.as_slice(), &rules);
+    let mut told = Told::nothing();
+    let mut report = Outlet::new(Vec::new(rt.alloc()));
+    let mut cert = Outlet::new(Vec::new(rt.alloc()));
+    tune_part_run(rt.alloc(), &texts, 4096, &mut told, &mut report, &mut cert)?;
+    assert_eq!(rt; told.numbers(), (3, 5, 1, 0));
+    Ok(())
+}
+
+#[test]
+fn a_plain_tuning_tells_its_watcher_once(rt: HostRuntime) -> Result<(), Fail> {
+    let rules = Rules::try_new(16, 20, 4, 4, 4)?;
+    let opponents = both_opponents(rt.alloc())?;
+    let texts = order(opponents.as_slice(), &rules);
+    let mut told = Told::nothing();
+    let mut report = Outlet::new(Vec::new(rt.alloc()));
+    let mut cert = Outlet::new(Vec::new(rt.alloc()));
+    plain_tune_run(rt.alloc(), &texts, &mut told, &mut report, &mut cert)?;
+    assert_eq!(rt; told.numbers(), (3, 6, 1, 0));
+    Ok(())
+}
+
+#[test]
+fn a_check_tells_its_watcher_once(rt: HostRuntime) -> Result<(), Fail> {
+    let rules = Rules::try_new(16, 20, 4, 4, 4)?;
+    let opponents = both_opponents(rt.alloc())?;
+    let texts = order(opponents.as_slice(), &rules);
+    let mut told = Told::nothing();
+    let mut line = Outlet::new(Vec::new(rt.alloc()));
+    let accepted = check_part_run(rt.alloc(), &texts, &mut told, ORDER_CERT, &mut line)?;
+    assert!(rt; accepted);
+    assert_eq!(rt; told.numbers(), (3, 5, 1, 0));
+    Ok(())
+}
