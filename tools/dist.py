@@ -41,8 +41,8 @@ Description: tunes Core War warriors, with a certificate of the answer
  Finds the values of a warrior's constants that total the most points against given opponents, and
  writes a certificate that a separate checker accepts exactly if the answer is right.
 """
-# What Python leaves beside the tools is no file of the package.
-REMOVED = "#!/bin/sh\nrm -rf /usr/share/cwtune/tools/__pycache__\n"
+# Python leaves this beside the tools, and dpkg does not know of it.
+PRERM = "#!/bin/sh\nrm -rf /usr/share/cwtune/tools/__pycache__\n"
 
 
 def proved():
@@ -140,7 +140,7 @@ def debian(folder):
         (tree / "usr" / DOC / "copyright").write_text((ROOT / "LICENSE").read_text())
         (tree / "DEBIAN").mkdir()
         (tree / "DEBIAN/control").write_text(CONTROL.format(version=version))
-        (tree / "DEBIAN/prerm").write_text(REMOVED)
+        (tree / "DEBIAN/prerm").write_text(PRERM)
         (tree / "DEBIAN/prerm").chmod(0o755)
         package = folder / f"cwtune_{version}_amd64.deb"
         subprocess.run(["dpkg-deb", "--root-owner-group", "--build", str(tree), str(package)],

@@ -118,7 +118,7 @@ def bash(program):
               f'        COMPREPLY=($(compgen -W "{names} --help --version" -- "$word"))',
               "    elif [[ $word == -* ]]; then",
               '        COMPREPLY=($(compgen -W "$options" -- "$word"))',
-              "    fi", "}", "# Where there is nothing to choose from, it completes names of files.",
+              "    fi", "}", "# With nothing to choose from, bash completes names of files.",
               f"complete -o default -F _{NAME} {NAME}"]
     return lines
 

@@ -304,7 +304,7 @@ def limited(play):
 
 
 def chains(play):
-    """Yields checks of a CERT behind as many links as the system follows, and behind one more."""
+    """Yields checks of a CERT that as many links lead to as the system follows, and one more."""
     names = ["CERT", *(f"link-{count}" for count in range(1, 42))]
     for name, to in zip(names[1:], names):
         (play.folder / name).symlink_to(to)

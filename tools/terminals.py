@@ -166,10 +166,10 @@ TUNINGS = [
     (tune("two.red both.csv", opponents="dat.red " * 65),
      refused(b"TooManyOpponents", b"opponents are at most 64, not 65")),
     (tune("none.red both.csv"),
-     refused(b"NoCandidate", b"first setting tried: line 3 Value DivisionByZero",
+     refused(b"NoCandidate", b"one of the settings: line 3 Value DivisionByZero",
              b"none.red, line 3: DAT 1/0", b"division by zero")),
     (tune("either.red both.csv"),
-     refused(b"NoCandidate", b"first setting tried: line 4 Value DivisionByZero",
+     refused(b"NoCandidate", b"one of the settings: line 4 Value DivisionByZero",
              b"either.red, line 4: DAT 1/(K-1)", b"division by zero")),
     (["check", *RULES, "two.red", "both.csv", "wrong.cert", "dat.red", "imp.red"],
      (1, b"rejected row 3 NotRefused\n", OTHER)),
@@ -179,7 +179,7 @@ TUNINGS = [
 ]
 NOTES = [
     (tune("bom.red both.csv"),
-     (1, b"", BOM + b"refused: NoCandidate\n  first setting tried: line 1 Expand Text BadByte\n"
+     (1, b"", BOM + b"refused: NoCandidate\n  one of the settings: line 1 Expand Text BadByte\n"
       b"  bom.red, line 1: \xef\xbb\xbf;@tune K 0 1 1 0\n  unexpected byte\n")),
     (tune("blank.red both.csv", "--all"),
      (0, ONE, b"  blank.red, line 2:   ;@tune K 0 1 1 0\n" + LOST)),
@@ -301,7 +301,7 @@ def long_runs(play):
     process = play.start(["tune", "--progress", "slow.red", "far.csv", "NEW", "imp.red"])
     time.sleep(2.2)
     process.kill()
-    yield "--progress is no line twice a second", LONG_BEGUN + b"\n", process.communicate()[1]
+    yield "--progress prints no second line within two seconds", LONG_BEGUN + b"\n", process.communicate()[1]
 
 
 def agrees(line):

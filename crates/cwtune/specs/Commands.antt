@@ -30,15 +30,14 @@ WritesCheckLine rules part accepted old new =
     (template : List ℕ) × (opponents : List (List ℕ)) × (schedule : List ℕ) × (cert : List ℕ)
     × WritesVerdict (part_texts template opponents schedule rules part) cert accepted old new
 
--- The exit statuses.
+-- The exit status of a command.
 abbrev pub status_of : {X : Type 0} → Result X Ending → ℕ
 status_of (Ok _) = 0
 status_of (Err Refused) = 1
 status_of (Err Misused) = 2
 status_of (Err Failed) = 3
 
--- A command ended so that words and inputs without an answer left standard output as it was, and
--- that a failed write is told.
+-- A refusal or a usage error left standard output as it was, and a failed write ended as `Failed`.
 pub record IsEnded {X : Type 0} (old new : OutletView) (result : Result X Ending) : Type 0 where
   pub refused : IsErrOf result Refused → new ≡ old
   pub misused : IsErrOf result Misused → new ≡ old

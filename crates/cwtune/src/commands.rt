@@ -1,4 +1,4 @@
-//! The commands, each from its words and files to an exit status.
+//! The commands, each from its words and files to success or an ending.
 
 mod asm;
 mod check;

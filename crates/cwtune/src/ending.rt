@@ -2,7 +2,7 @@
 ghost use Rattle.std.specs.Prelude.{◌≡◌};
 ghost use Rattle.cwtune.specs.Commands.{status_of};
 
-// Why a command ends without its answer. `status_of` numbers them.
+// Why a command does not succeed. `status_of` gives each ending its exit status.
 #[derive(Clone, Copy)]
 pub(crate) enum Ending {
     // An input is refused, or a certificate rejected.
@@ -14,7 +14,7 @@ pub(crate) enum Ending {
     Failed,
 }
 
-// Returns the exit status of a command: 0 if it gave its answer.
+// Returns the exit status of a command: 0 if it succeeded.
 pub(crate) fn status_of(ended: Result<(), Ending>) -> u8
     ensures { result ≡ status_of ended }
 {

@@ -1,5 +1,5 @@
-//! The lines on standard error: `refused: ` and the names of the fault from outside in, or
-//! `failed: ` and what failed.
+//! Lines of faults: `refused: ` and the names of the fault from outside in, `failed: ` and what
+//! failed, or `error: CERT ` and why the file is not opened.
 //!
 //! A line is written in pieces and takes no memory, so that it can report that memory ran out.
 use crate::telling::tell;

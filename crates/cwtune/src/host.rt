@@ -17,7 +17,7 @@ use std::io::Write;
 use std::rt::Files;
 use tune_runs::{DuelTexts, RawRules, RunFault, TuneTexts, rules_of};
 
-// The files of the system, its memory, and who hears why a command ends without its answer.
+// What a command uses: files, memory, the witness, and standard error for the lines of faults.
 #[derive(Drop)]
 pub(crate) struct Host<'a, F: Files, T: Witness, V: Write> {
     pub(crate) rt: &'a F,
@@ -143,8 +143,8 @@ impl<F: Files, T: Witness, V: Write> Host<'_, F, T, V> {
         Ending::Failed
     }
 
-    // Names a file that could not be read or created, and lets the witness say why. `action` is the
-    // verb.
+    // Names a file that could not be read or created, and lets the witness say why; or says that
+    // memory ran out. `action` is the verb.
     pub(crate) fn fail(&mut self, action: &str, name: &str, error: &io::Error) -> Ending
         ensures { result ≡ Ending.Failed }
     {

@@ -29,7 +29,7 @@ use tune_runs::RunFault;
 /// - `asm`: checks the rules, reads the Redcode file, and writes its load file, or that of one
 ///   setting of a template.
 /// - `settings`: reads the template, and writes the number of its settings and its constants.
-/// - `tune`: checks the rules, reads the template, the schedule and the opponents, tries that the
+/// - `tune`: checks the rules, reads the template, the schedule and the opponents, tries whether the
 ///   file of the certificate can be replaced or made, finds the best setting, and writes the
 ///   certificate, then the report. A file that is another word's, or that has a text and is not a
 ///   certificate, stays. A regular file is replaced whole or not at all, and none is made if there
@@ -38,9 +38,9 @@ use tune_runs::RunFault;
 ///   opponents, and writes the line of the verdict.
 /// - `--help`, `help`: writes the help text. `--version`: writes the version.
 ///
-/// A text may have at most 1073741824 bytes. On standard error goes a line `refused: ..` with
-/// status 1, the usage error with status 2, and a line `failed: ..` with status 3; that such a
-/// write fails changes nothing. Neither outlet has failed.
+/// A text may have at most 1073741824 bytes. On standard error goes a line `refused: ..` for an
+/// input that is refused, the usage error, or a line `failed: ..` with status 3; that such a
+/// write fails changes nothing. Neither outlet may have failed.
 pub fn program<F: Files, R: Read, W: Write, V: Write>(
     rt: &F,
     alloc: Global,

@@ -256,7 +256,7 @@ fn in_units(seconds: u64) -> (u64, &'static str) {
     }
 }
 
-// Writes a number, with what stands before and after it.
+// Writes `before`, a number, and `after`.
 fn tell_number<V: Write>(err: &mut Outlet<V>, before: &str, number: u64, after: &str) {
     tell(err, &[before, Buffer::new().format(number), after]);
 }

@@ -130,7 +130,7 @@ fn explain_tuning<V: Write>(
     }
 }
 
-// Writes the fault of the setting that is tried first.
+// Writes the fault of one setting: the start setting, or the first of a part without it.
 fn explain_start<V: Write>(
     err: &mut Outlet<V>,
     alloc: Global,
@@ -144,7 +144,7 @@ fn explain_start<V: Write>(
         Ok(_) => return,
         Err(fault) => fault,
     };
-    tell(err, &["  first setting tried:"]);
+    tell(err, &["  one of the settings:"]);
     say_asm(err, fault);
     tell(err, &["\n"]);
     tell_asm(

@@ -84,7 +84,7 @@ pub(crate) fn tell_source<V: Write>(err: &mut Outlet<V>, file: &str, text: &[u8]
     tell(err, &["\n"]);
 }
 
-// Writes the line of a record of a table, counted from 0. Empty lines are no records.
+// Writes the line of a record of a table, counted from 0. An empty line is not a record.
 pub(crate) fn tell_record<V: Write>(err: &mut Outlet<V>, file: &str, text: &[u8], row: u64) {
     let mut number: u64 = 0;
     let mut left = row;
@@ -108,7 +108,7 @@ pub(crate) fn records_in(text: &[u8]) -> u64 {
     count
 }
 
-// Counts the records of a line, which a carriage return ends too.
+// Counts the records of a line. A carriage return ends a record, too.
 fn records_of(line: &[u8]) -> u64 {
     let mut count: u64 = 0;
     for record in line.split(|byte| *byte == b'\r') {

@@ -10,8 +10,8 @@ use crate::snapshot::Snapshot;
 use crate::tasks::Tasks;
 use crate::turn::next_turn;
 
-// The cycles after which the fight looks, again and again, whether its state has come back. The
-// first look only keeps the state, so a fight of at most two stretches compares none.
+// The cycles between two looks at whether the state has come back. The first look has nothing to
+// compare with, so a fight of at most two stretches compares no states.
 const STRETCH: u32 = 2000;
 
 // Alternates turns, `mine` first, until a queue is empty or `cycles` are over.

@@ -57,7 +57,7 @@ impl<C: Cells + Drop> Snapshot<C> {
 }
 
 impl<C: Cells> Snapshot<C> {
-    // Begins a fight, of which no state was taken.
+    // Begins a fight: none of its states was taken yet.
     pub(crate) fn forget(&mut self)
         ensures { self.new ≡ record self.old { cycles = 0 } }
     {
@@ -91,7 +91,7 @@ impl<C: Cells> Snapshot<C> {
 
     // Takes the state after `cycles` cycles, in place of the one taken before, if that is due and
     // both sides have few tasks. Each is kept until four times its cycles were made, so a period of
-    // any length is found (after Brent, who doubles them: with four there are fewer to copy).
+    // any length is found; with four times and not twice there are fewer states to copy.
     pub(crate) fn renew(&mut self, cells: &C, mine: &Tasks, theirs: &Tasks, cycles: u32)
         requires size { length (C.items cells.now) ≡ length self.old.core }
         requires cycles { cycles ≤ 1000000 }

@@ -26,7 +26,7 @@ impl Notes {
         }
     }
 
-    // Expects `count` standings that begin with these, each with the fights heard of before.
+    // Expects `count` standings, `standings` first, each with the fights heard of so far.
     fn expect<A: Abort>(
         &self,
         rt: &A,

@@ -13,7 +13,7 @@ use std::io::Write;
 use std::rt::Files;
 use tune_runs::check_part_run;
 
-// Runs the command on files. Checks the rules before it reads them in the order of the words:
+// Runs the command on files. Checks the rules, then reads the files in the order of the words:
 // template, schedule, certificate, opponents.
 pub(crate) fn check<F: Files, T: Witness, W: Write, V: Write>(
     host: &mut Host<'_, F, T, V>,

@@ -15,9 +15,9 @@ use std::io::Write;
 use std::rt::Files;
 use tune_runs::{Search, tune_by_run};
 
-// Runs the command on files. Opens the file of the certificate last, just before the search; if it
-// names another word's file, nothing is written. The file gets its new text, whole and on the disk,
-// before the report begins.
+// Runs the command on files. Checks the rules, reads the files, and opens CERT before their texts
+// are judged; if CERT is another word's file, nothing is written. The file gets its new text, whole
+// and on the disk, before the report begins.
 pub(crate) fn tune<F: Files, T: Witness, W: Write, V: Write>(
     host: &mut Host<'_, F, T, V>,
     words: &TuneWords<'_>,

@@ -34,7 +34,7 @@ impl Told {
         }
     }
 
-    // Returns the four numbers.
+    // Returns the settings, the fights, the ends, and what came after an end.
     fn numbers(&self) -> (u32, u32, u32, u32) {
         (self.settings, self.fights, self.ends, self.late)
     }
