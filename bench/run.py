@@ -2,7 +2,7 @@
 """Measures turns per second of `cwtune fight`, and how long `cwtune asm` and `cwtune tune` take.
 
 Plays each fight of fights/, the same fights cut short, assembles each text of warriors/, and tunes
-the templates of examples/tuning/, several times; the run that took least counts. Given a pMARS server
+the templates of examples/tuning/, several times; the least time counts. Given a pMARS server
 build, plays the fights with it too, after the series of pairs.py. README.md says what is measured.
 """
 

@@ -301,7 +301,8 @@ def long_runs(play):
     process = play.start(["tune", "--progress", "slow.red", "far.csv", "NEW", "imp.red"])
     time.sleep(2.2)
     process.kill()
-    yield "--progress prints no second line within two seconds", LONG_BEGUN + b"\n", process.communicate()[1]
+    came = process.communicate()[1]
+    yield "--progress prints no second line within two seconds", LONG_BEGUN + b"\n", came
 
 
 def agrees(line):

@@ -29,8 +29,8 @@ use tune_runs::RunFault;
 /// - `asm`: checks the rules, reads the Redcode file, and writes its load file, or that of one
 ///   setting of a template.
 /// - `settings`: reads the template, and writes the number of its settings and its constants.
-/// - `tune`: checks the rules, reads the template, the schedule and the opponents, tries whether the
-///   file of the certificate can be replaced or made, finds the best setting, and writes the
+/// - `tune`: checks the rules, reads the template, the schedule and the opponents, tries whether
+///   CERT can be replaced or made, finds the best setting, and writes the
 ///   certificate, then the report. A file that is another word's, or that has a text and is not a
 ///   certificate, stays. A regular file is replaced whole or not at all, and none is made if there
 ///   is no certificate.
