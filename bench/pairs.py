@@ -12,7 +12,8 @@ import sys
 import tempfile
 
 HERE = pathlib.Path(__file__).resolve().parent
-WARRIORS = HERE.parent / "examples" / "warriors"
+# In each folder, each warrior fights each other one.
+FOLDERS = {"examples": HERE.parent / "examples" / "warriors", "unseen": HERE / "unseen"}
 sys.path.insert(0, str(HERE.parent / "tools"))
 
 # The folder of the tools has to be known first.
@@ -24,17 +25,17 @@ ROUNDS, SEED = 60, 3000
 
 
 class WrongPoints(Exception):
-    """A series in which the two programs differ, or one of them fails."""
+    """A series in which the two programs differ, or a command that fails."""
 
 
 class Pair:
-    """Two warriors and the commands that play their series."""
+    """Two warriors, each a name and a load file, and the commands that play their series."""
 
     def __init__(self, candidate, opponent, programs, folder):
-        self.name = f"{candidate}:{opponent}"
+        (mine, my_load), (theirs, their_load) = candidate, opponent
+        self.name = f"{mine}:{theirs}"
         cwtune, pmars = map(str, programs)
-        loads = [(WARRIORS / f"{name}.load").read_text("ascii") for name in (candidate, opponent)]
-        game = Game(Rules(), *loads, folder)
+        game = Game(Rules(), my_load, their_load, folder)
         self.tune = game.tune_words(cwtune, fights_of(game.rules, SEED, ROUNDS))
         self.pmars = game.series_words(pmars, SEED, ROUNDS)
 
@@ -81,18 +82,28 @@ def processor_time(command):
     return usage.ru_utime + usage.ru_stime, output.decode("ascii")
 
 
-def print_pairs(cwtune, pmars, runs):
-    """Prints a line per pair of warriors, and the geometric mean and the least of the ratios."""
-    names = sorted(path.stem for path in WARRIORS.glob("*.load"))
-    print(f"{'series':<26}{'points':>8}{'ms':>10}{'pMARS ms':>10}{'ratio':>8}", flush=True)
+def loads_of(cwtune, folder):
+    """Returns the names and the load files of the warriors of a folder."""
+    paths = sorted(folder.glob("*.red"))
+    return [(path.stem, processor_time([str(cwtune), "asm", str(path)])[1]) for path in paths]
+
+
+def print_folder(name, cwtune, pmars, runs):
+    """Prints a line per pair of warriors of a folder, the geometric mean and the least ratio."""
+    print(f"{name:<32}{'points':>8}{'ms':>10}{'pMARS ms':>10}{'ratio':>8}", flush=True)
     ratios = []
-    for candidate, opponent in itertools.combinations(names, 2):
-        with tempfile.TemporaryDirectory() as folder:
-            pair = Pair(candidate, opponent, (cwtune, pmars), folder)
+    for candidate, opponent in itertools.combinations(loads_of(cwtune, FOLDERS[name]), 2):
+        with tempfile.TemporaryDirectory() as work:
+            pair = Pair(candidate, opponent, (cwtune, pmars), work)
             (mine, theirs), points = pair.measure(runs)
         ratios.append(theirs / mine)
-        line = f"{pair.name:<26}{points:>8}{mine * 1e3:>10.1f}{theirs * 1e3:>10.1f}"
+        line = f"{pair.name:<32}{points:>8}{mine * 1e3:>10.1f}{theirs * 1e3:>10.1f}"
         print(f"{line}{ratios[-1]:>8.2f}", flush=True)
     mean = math.exp(sum(map(math.log, ratios)) / len(ratios))
     print(f"the same points in {len(ratios)} series of {ROUNDS} fights")
     print(f"geometric mean of the ratios {mean:.2f}, least {min(ratios):.2f}")
+
+
+def print_pairs(cwtune, pmars, runs):
+    for name in FOLDERS:
+        print_folder(name, cwtune, pmars, runs)

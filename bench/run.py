@@ -8,6 +8,7 @@ build, plays the fights with it too, after the series of pairs.py. README.md say
 
 import argparse
 import math
+import os
 import pathlib
 import subprocess
 import sys
@@ -308,6 +309,9 @@ def read_options():
     options.add_argument("--texts", default=200, help="runs of each text (default: 200)", **count)
     options.add_argument("--tunings", default=3, help="runs of each tuning (default: 3)", **count)
     read = options.parse_args()
+    # The processors of a shared machine differ by a third and more, and the two programs would not
+    # be given the same ones.
+    os.sched_setaffinity(0, {min(os.sched_getaffinity(0))})
     if read.runs < 1:
         options.error("--runs is at least 1")
     for name in ("series", "short", "texts", "tunings"):

@@ -21,8 +21,9 @@ MANUAL = {"cwtune.1": "share/man/man1/cwtune.1",
           "cwtune.fish": "share/fish/vendor_completions.d/cwtune.fish"}
 # Tools that need the sources.
 OF_THE_GATE = ["gate.py", "edits.py", "functions.py", "dist.py", "manual.py", "refuse_*", "try_*",
-               "run_cases.py", "cuts.py", "pipes.py", "terminals.py", "two_devices.*",
-               "large_texts.py", "limits.py", "prove.sh", "harmless", "expected", "__pycache__"]
+               "once_each.py", "run_cases.py", "cuts.py", "pipes.py", "terminals.py",
+               "two_devices.*", "large_texts.py", "limits.py", "prove.sh", "harmless", "expected",
+               "__pycache__"]
 TOP = """cwtune tunes Core War warriors. Begin with share/doc/cwtune/README.md.
 
     sha256sum --check --quiet SHA256SUMS    checks the files

@@ -52,6 +52,8 @@ RUNS = [
     ("200 instructions", {"a": LONG}, "asm --length=200 --distance=200 a", LONG),
     ("a start at the last of 200 instructions", {"a": LONG, "b": DIES},
      "fight --length=200 --distance=200 a b", "win 3 turns 2\n"),
+    ("a template of 200 instructions", {"t": LONG, "s": schedule(1), "b": DIES},
+     "tune --length=200 --distance=200 t s CERT b", report(1, "-", "3 of 3", "1 of 1")),
     ("65536 bytes", {"a": DIES + ";" * (65536 - len(DIES))}, "asm a", "ORG 0\nDAT.F $0, $0\n"),
     ("10000 fights", {"t": IMP, "s": schedule(10000), "b": DIES}, "tune t s CERT b",
      report(1, "-", "30000 of 30000", "10000 of 10000")),

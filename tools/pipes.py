@@ -5,7 +5,7 @@ A reader that goes away ends a run with status 3 and the line `failed: Write`. A
 cannot be read, that is a terminal or that has no end leads to a named error or a result, in bounded
 time, and a file has at most 1 GiB. A word that is not UTF-8 is a usage error. A run that is killed,
 or that may not write as much, leaves an older certificate. CERT may be a link, and keeps its
-permissions.
+permissions; a new one has those that the umask leaves.
 Expected values follow from `docs/FORMATS.md`. Prints what failed, and as its last line
 `N passed, N failed`. The exit status is 1 if a check failed.
 """
@@ -13,6 +13,7 @@ import os
 import pathlib
 import pty
 import resource
+import shutil
 import signal
 import subprocess
 import sys
@@ -51,11 +52,14 @@ MANY = ["tune", *RULES, "many.red", "both.csv", "CERT", "dat.red", "imp.red"]
 TYPO = ["tune", *RULES, "one.red", "typo.csv", "CERT", "dat.red", "imp.red"]
 CHECK = ["check", *RULES, "one.red", "both.csv", "good.cert", "dat.red", "imp.red"]
 HELP = ["tune", "--help"]
+NOBODY = 65534
 NO_WRITE = (3, b"", b"failed: Write\n")
+NO_CREATE = (3, b"", b"failed: create CERT\n")
 NO_READ = (3, b"", b"failed: read -\n")
 NO_MEMORY = (3, b"", b"failed: OutOfMemory\n")
 NO_TEXT = (1, b"", b"refused: FightText line 1\n")
 TIE = (0, b"tie 1 turns 40\n", b"")
+IMP = b"ORG 0\nMOV.I $0, $1\n"
 REPORT = b"vectors 1\ncandidates 1\nbest 0\nconstants -\ntotal 4 of 6\nfights 2 of 2\n"
 
 
@@ -231,6 +235,11 @@ def standard_inputs(play):
         os.truncate(play.folder / "most", size)
         yield f"a file of {size} bytes", end, play.run(["asm", "most"])
     (play.folder / "most").unlink()
+    pipe = play.folder / "pipe"
+    os.mkfifo(pipe)
+    threading.Thread(target=pipe.write_bytes, args=(FILES["imp.red"],), daemon=True).start()
+    yield "a text from a named pipe", (0, IMP, b""), play.run(["asm", "pipe"])
+    pipe.unlink()
 
 
 def words_of_bytes(play):
@@ -300,7 +309,48 @@ def limited(play):
             yield "permissions stay", 0o640, path.stat().st_mode & 0o777
         (play.folder / "link").unlink()
         (play.folder / "second").unlink()
-    yield from chains(play)
+
+
+def certificates_in_place(play):
+    """Yields checks of a link in another folder, of a new CERT, of files that other runs have left
+    beside it, and of a CERT that may not be written."""
+    inside = play.folder / "inside"
+    inside.mkdir()
+    (inside / "link").symlink_to("real")
+    came = play.run([*TUNE[:-3], "inside/link", *TUNE[-2:]])
+    real = inside / "real"
+    came = (*came, real.exists() and real.read_bytes())
+    yield "a link leads on from its own folder", (0, REPORT, b"", OLD_CERT), came
+    play.set_cert(None)
+    came = play.run(TUNE, preexec_fn=lambda: os.umask(0o027))
+    path = play.folder / "CERT"
+    came = (*came, path.exists() and path.stat().st_mode & 0o777)
+    yield "a new file's permissions", (0, REPORT, b"", 0o640), came
+    left = [play.folder / f"CERT.unfinished-{number}" for number in range(1, 4)]
+    for other in left:
+        other.touch()
+    play.set_cert(None)
+    came = (*play.run(TUNE), play.cert(), sorted(play.beside()), [it.stat().st_size for it in left])
+    names = [other.name for other in left]
+    yield "files that are left", (0, REPORT, b"", OLD_CERT, names, [0, 0, 0]), came
+    for other in left:
+        other.unlink(missing_ok=True)
+    play.set_cert(OLD_CERT + b"#")
+    path.chmod(0o444)
+    came = (*play.run(TUNE, **as_owner(path, play.program)), play.cert())
+    yield "a CERT that may not be written", (*NO_CREATE, OLD_CERT + b"#"), came
+
+
+def as_owner(path, program):
+    """Returns the arguments with which the owner of `path` runs the program in that folder.
+    Permissions do not bind root, so as root the owner becomes nobody, who may make files in the
+    folder, and runs a copy of the program there."""
+    if os.geteuid() != 0:
+        return {}
+    os.chown(path, NOBODY, NOBODY)
+    path.parent.chmod(0o777)
+    shutil.copy(program, path.with_name("program"))
+    return {"user": NOBODY, "group": NOBODY, "extra_groups": [], "executable": "./program"}
 
 
 def chains(play):
@@ -332,6 +382,8 @@ CHECKS = [
     closed_streams,
     interrupted,
     limited,
+    chains,
+    certificates_in_place,
 ]
 
 

@@ -1,6 +1,6 @@
 /* Refuses the request for memory whose number, from 1, is in REFUSE. With REFUSE_COUNT set, prints
- * the number of requests on standard error at the end. Loaded before the C library: see
- * refuse_memory.py. */
+ * the number of requests on standard error at the end. Requests of fewer bytes than REFUSE_LEAST
+ * are neither counted nor refused. Loaded before the C library. */
 #define _GNU_SOURCE
 #include <dlfcn.h>
 #include <errno.h>
@@ -9,13 +9,22 @@
 
 static long seen;
 
-static int is_refused(void)
+/* Returns the number that a variable of the environment has, 0 if there is none. */
+static long number_in(const char *name)
 {
-    static long number = -1;
+    const char *text = getenv(name);
+    return text ? atol(text) : 0;
+}
+
+static int is_refused(size_t size)
+{
+    static long number = -1, least;
     if (number < 0) {
-        const char *text = getenv("REFUSE");
-        number = text ? atol(text) : 0;
+        number = number_in("REFUSE");
+        least = number_in("REFUSE_LEAST");
     }
+    if (size < (size_t)least)
+        return 0;
     seen++;
     if (seen == number)
         errno = ENOMEM;
@@ -27,7 +36,7 @@ void *malloc(size_t size)
     static void *(*real)(size_t);
     if (!real)
         real = dlsym(RTLD_NEXT, "malloc");
-    return is_refused() ? NULL : real(size);
+    return is_refused(size) ? NULL : real(size);
 }
 
 void *realloc(void *old, size_t size)
@@ -35,7 +44,7 @@ void *realloc(void *old, size_t size)
     static void *(*real)(void *, size_t);
     if (!real)
         real = dlsym(RTLD_NEXT, "realloc");
-    return is_refused() ? NULL : real(old, size);
+    return is_refused(size) ? NULL : real(old, size);
 }
 
 __attribute__((destructor)) static void print_count(void)

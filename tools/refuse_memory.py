@@ -2,19 +2,18 @@
 """Runs the built program once for each of its requests for memory, with that request refused.
 
 Each run has to end with its own result, which the tables of this file say, or with status 3, the
-line `failed: OutOfMemory`, nothing on standard output and CERT as it was. By the number of requests
-it is also seen that a check assembles once a setting to which many rows refer. Use:
-refuse_memory.py [PROGRAM]. Needs `cc` and a system with LD_PRELOAD. Prints what failed, and as its
-last line how many requests were refused, and `N passed, N failed`. The exit status is 1 if a run
-failed.
+line `failed: OutOfMemory`, nothing on standard output and CERT as it was. The number of requests
+also shows that no assembly is repeated (once_each.py).
+Use: refuse_memory.py [PROGRAM]. Needs `cc` and a system with LD_PRELOAD. Prints what failed, and as
+its last line how many requests were refused, and `N passed, N failed`. The exit status is 1 if a
+run failed.
 """
 import concurrent.futures
 import os
-import pathlib
-import subprocess
 import sys
 import tempfile
 
+import once_each
 from endings import run_tool
 from trials import RULES, library_of, program_of, tally
 
@@ -44,6 +43,7 @@ FILES = {
     "points.cert": GOOD.replace("cap,2,0:3 1:1", "cap,2,0:3 1:3"),
     "short.cert": GOOD[: GOOD.rindex("same")],
 }
+WITH_CERT = {**FILES, "CERT": OLD_CERT}
 
 
 def fight(cycles, candidate, opponent):
@@ -139,45 +139,9 @@ def all_runs():
     return runs + [(words, with_rules(words), "", tuple(end)) for words, *end in TUNINGS]
 
 
-def run(program, library, words, text, number, count=False, files=FILES):
+def run(program, library, words, text, number):
     """Runs with request `number` refused. Returns status, standard output and error, and CERT."""
-    env = dict(os.environ, LD_PRELOAD=library, REFUSE=str(number))
-    if count:
-        env["REFUSE_COUNT"] = "1"
-    with tempfile.TemporaryDirectory() as folder:
-        for name, content in {**files, "CERT": OLD_CERT}.items():
-            pathlib.Path(folder, name).write_text(content)
-        done = subprocess.run(
-            [program, *words], cwd=folder, input=text, capture_output=True, text=True, env=env
-        )
-        return done.returncode, done.stdout, done.stderr, pathlib.Path(folder, "CERT").read_text()
-
-
-def count_requests(program, library, words, text="", files=FILES):
-    """Returns how many requests for memory a run makes."""
-    return int(run(program, library, words, text, 0, True, files)[2].split("\n")[-2])
-
-
-def one_reference(program, library, template):
-    """Returns how many requests one more row that refers to setting 0 costs a check."""
-    words, counts = with_rules("check many.red both.csv many.cert dat.red imp.red"), []
-    for settings in 10, 60:
-        rows = "".join(f"same,{setting},0\n" for setting in range(1, settings))
-        files = {"many.red": f";@tune K 0 {settings - 1} 1 0\n{template}",
-                 "many.cert": f"cwcert,1,{settings}\nbest,0,4\ncap,0,0:3 1:1\n{rows}"}
-        counts.append(count_requests(program, library, words, files={**FILES, **files}))
-    return (counts[1] - counts[0]) / 50
-
-
-def assembles_once(program, library):
-    """Returns what is wrong if one more reference costs more than one more assembly."""
-    short = "MOV 0, 1\n"
-    texts = [short, "".join(f"e{number} EQU {number}\n" for number in range(40)) + short]
-    checks = [one_reference(program, library, text) for text in texts]
-    alone = [count_requests(program, library, with_rules("asm a.red"), files={"a.red": text})
-             for text in texts]
-    more, most = checks[1] - checks[0], 1.5 * (alone[1] - alone[0])
-    return [] if 0 < more < most else [f"{more} requests a reference, at most {most} expected"]
+    return once_each.run(program, library, words, WITH_CERT, text, REFUSE=number)
 
 
 def refuse_each(program, library, words, text, expected):
@@ -185,7 +149,7 @@ def refuse_each(program, library, words, text, expected):
     wrong."""
     came = run(program, library, words, text, 0)
     wrong = [] if came == expected else [f"nothing refused: expected {expected}, came {came}"]
-    requests = count_requests(program, library, words, text)
+    requests = once_each.requests(program, library, words, WITH_CERT, text)
     refused = (3, "", "failed: OutOfMemory\n", OLD_CERT)
     ended = 0
     for number in range(1, requests + 1):
@@ -202,12 +166,11 @@ def main():
         library = library_of("refuse_memory.c", work)
         with concurrent.futures.ThreadPoolExecutor(os.cpu_count()) as pool:
             came = list(pool.map(lambda one: refuse_each(program, library, *one[1:]), runs))
-        again = assembles_once(program, library)
+        again = list(once_each.trials(program, library))
     total = sum(requests for requests, _, _ in came)
     results = [(name, wrong + ["no refused request was told"] * (ended == 0))
                for (name, *_), (_, ended, wrong) in zip(runs, came)]
-    results.append(("a setting to which many rows refer", again))
-    return tally(results, f"{total} requests refused: ")
+    return tally([*results, *again], f"{total} requests refused: ")
 
 
 if __name__ == "__main__":

@@ -17,7 +17,7 @@ once for each pair of a run and a table of `each`. With `fill.place = "Asm"`, in
 case or in a table, `$place` stands for `Asm` in `words`, `files`, `stdin`, `out`, `err` and
 `err_begins`.
 `long` makes long files: `long."x.red" = { text = ";", times = 65537 }`, also with a `head` that
-comes once before the text.
+comes once before the text, and a `tail` after it.
 `each_beginning_of` is `stdin` or the name of a file of the case, which is then played once for each
 beginning of that text, except for the whole.
 
@@ -38,7 +38,7 @@ OPTIONAL = {
 }
 # what the tables of `runs` and `each` may say
 MERGED = {**OPTIONAL, "status": int, "runs": None, "each": None}
-LONG = {"head": str, "text": str, "times": int}
+LONG = {"head": str, "text": str, "times": int, "tail": str}
 SHARED = {"files": dict, "folders": list, "words": dict, "case": list}
 SECONDS = 60
 
@@ -81,7 +81,8 @@ def filled(case):
     files = {name: fill(text, names) for name, text in case["files"].items()}
     for name, long in case["long"].items():
         check_keys(long, LONG, ["text", "times"], case["name"])
-        files[name] = long.get("head", "") + long["text"] * long["times"]
+        middle = long["text"] * long["times"]
+        files[name] = long.get("head", "") + middle + long.get("tail", "")
     made = {key: fill(case[key], names) for key in FILLED if key in case}
     return case | made | {"files": files, "words": shlex.split(words)}
 

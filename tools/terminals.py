@@ -251,9 +251,14 @@ def progress(play):
         yield f"the progress of {name}", (0, out, line), shown(play, words)
         came = shown(play, words, both=True)
         yield f"the progress of {name} is cleared before it prints", (0, None, line + out), came
+        came = shown(play, [*words, "--progress"])
+        yield f"--progress of {name} at a terminal", (0, out, line), came
         came = play.run([*words, "--progress"])
         yield f"--progress of {name}", (0, out, BEGUN + b"\n"), came
         yield f"no progress of {name} on a pipe", (0, out, b""), play.run(words)
+    text = shown(play, tune("none.red both.csv"))[2]
+    cleared = text.startswith(line + b"refused: NoCandidate\n")
+    yield "the progress is cleared before a refusal", True, cleared or text
 
 
 def seen_within(play, words, seconds, **streams):

@@ -1,15 +1,15 @@
 #!/usr/bin/env python3
 """Runs the tools on the examples and compares with the results stored in tools/expected/.
 
-Also gives them what they have to refuse, and kills `spread.py` and starts it again. With --plain no
-picture is drawn, which needs matplotlib. With --store the results replace those stored; look at the
-difference before you keep them. A picture is compared by its words and numbers, and by how many
-grey marks it has. Prints what failed, and as its last line `N passed, N failed`; the exit
-status is 1 if a run failed.
+Also gives them what they have to refuse, kills `spread.py` and starts it again, and types the
+commands that README.md and docs/ show with their output. With --plain no picture is drawn, which
+needs matplotlib. With --store the results replace those stored; look at the difference before you
+keep them. A picture is compared by its words and numbers, and by how many grey marks it has. Prints
+what failed, and as its last line `N passed, N failed`; the exit status is 1 if a run failed.
 """
 import argparse, contextlib, os, pathlib, re, signal, subprocess, sys, tempfile
 
-import try_authors, try_spread
+import try_authors, try_documents, try_spread
 from endings import Fault, run_tool
 from trials import program_of, tally
 
@@ -216,7 +216,8 @@ def main():
             (EXPECTED / name).write_text(result, "utf-8")
     helps = ((tool, [] if helped(tool) else ["no help"]) for tool in TOOLS)
     return tally([*stored(results), *helps, *refusals(rows, python), *signals(),
-                  *try_authors.trials(program), *try_spread.trials(program)])
+                  *try_authors.trials(program), *try_documents.trials(program),
+                  *try_spread.trials(program)])
 
 
 if __name__ == "__main__":

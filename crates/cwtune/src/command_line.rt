@@ -22,7 +22,7 @@ use tune_template::Part;
 const SIDES: [&str; 2] = ["c", "o"];
 
 // What `--version` says after the name: the version, and the kit that all proofs passed with.
-const VERSION: &str = "1.0.0 (proved with rattle-kit-13b)";
+const VERSION: &str = "1.0.0 (proved with rattle-kit-13f)";
 
 // The default of `--cache`.
 const DEFAULT_CAPACITY: u32 = 4096;

@@ -4,7 +4,7 @@ use Rattle.std.proofs.Common.{◌≡◌, ℕ, sym, ◌∙◌, ◌<◌, ◌+◌, 
 use Rattle.std.proofs.lemmas.Bool.{eqb-true}
 use Rattle.rc_instr.specs.Instruction.{opcode_number, modifier_number, mode_number}
 use Rattle.rc_instr.specs.declared.instruction.Instruction.{Instruction}
-use Rattle.mars_core.specs.Classes.{key_of, class_of_key, class_of, IsCoded}
+use Rattle.mars_core.specs.Classes.{key_of, class_of_key, further_class_of_key, class_of, IsCoded}
 use Rattle.mars_core.specs.Codes.{opcode_of, modifier_of, mode_of}
 use Rattle.mars_core.proofs.Packing.{class_small, opcode_small, modifier_small, mode_small}
 
@@ -51,6 +51,30 @@ key_in c =
     else if c == 38 then 2377
     else if c == 39 then 3844
     else if c == 40 then 4
+    else if c == 41 then 10353
+    else if c == 42 then 8305
+    else if c == 43 then 12401
+    else if c == 44 then 113
+    else if c == 45 then 11121
+    else if c == 46 then 9073
+    else if c == 47 then 13169
+    else if c == 48 then 4110
+    else if c == 49 then 12558
+    else if c == 50 then 8462
+    else if c == 51 then 14862
+    else if c == 52 then 3086
+    else if c == 53 then 9486
+    else if c == 54 then 3854
+    else if c == 55 then 14094
+    else if c == 56 then 8532
+    else if c == 57 then 12628
+    else if c == 58 then 11065
+    else if c == 59 then 15161
+    else if c == 60 then 10564
+    else if c == 61 then 6750
+    else if c == 62 then 6758
+    else if c == 63 then 6757
+    else if c == 64 then 3332
     else 0
 
 -- a class is 0, or leads back to the key
@@ -62,7 +86,7 @@ leads_if true k c r j h e l = inr (e ∙ sym (h refl))
 leads_if false k c r j h e l = l
 
 leads : (k : ℕ) → Leads k (class_of_key k)
-unfolding class_of_key key_in
+unfolding class_of_key further_class_of_key key_in
 leads k =
     leads_if (k == 2318) k 1 _ 2318 (λ e. eqb-true _ _ e) refl (
     leads_if (k == 2361) k 2 _ 2361 (λ e. eqb-true _ _ e) refl (
@@ -104,7 +128,31 @@ leads k =
     leads_if (k == 2377) k 38 _ 2377 (λ e. eqb-true _ _ e) refl (
     leads_if (k == 3844) k 39 _ 3844 (λ e. eqb-true _ _ e) refl (
     leads_if (k == 4) k 40 _ 4 (λ e. eqb-true _ _ e) refl (
-    inl refl))))))))))))))))))))))))))))))))))))))))
+    leads_if (k == 10353) k 41 _ 10353 (λ e. eqb-true _ _ e) refl (
+    leads_if (k == 8305) k 42 _ 8305 (λ e. eqb-true _ _ e) refl (
+    leads_if (k == 12401) k 43 _ 12401 (λ e. eqb-true _ _ e) refl (
+    leads_if (k == 113) k 44 _ 113 (λ e. eqb-true _ _ e) refl (
+    leads_if (k == 11121) k 45 _ 11121 (λ e. eqb-true _ _ e) refl (
+    leads_if (k == 9073) k 46 _ 9073 (λ e. eqb-true _ _ e) refl (
+    leads_if (k == 13169) k 47 _ 13169 (λ e. eqb-true _ _ e) refl (
+    leads_if (k == 4110) k 48 _ 4110 (λ e. eqb-true _ _ e) refl (
+    leads_if (k == 12558) k 49 _ 12558 (λ e. eqb-true _ _ e) refl (
+    leads_if (k == 8462) k 50 _ 8462 (λ e. eqb-true _ _ e) refl (
+    leads_if (k == 14862) k 51 _ 14862 (λ e. eqb-true _ _ e) refl (
+    leads_if (k == 3086) k 52 _ 3086 (λ e. eqb-true _ _ e) refl (
+    leads_if (k == 9486) k 53 _ 9486 (λ e. eqb-true _ _ e) refl (
+    leads_if (k == 3854) k 54 _ 3854 (λ e. eqb-true _ _ e) refl (
+    leads_if (k == 14094) k 55 _ 14094 (λ e. eqb-true _ _ e) refl (
+    leads_if (k == 8532) k 56 _ 8532 (λ e. eqb-true _ _ e) refl (
+    leads_if (k == 12628) k 57 _ 12628 (λ e. eqb-true _ _ e) refl (
+    leads_if (k == 11065) k 58 _ 11065 (λ e. eqb-true _ _ e) refl (
+    leads_if (k == 15161) k 59 _ 15161 (λ e. eqb-true _ _ e) refl (
+    leads_if (k == 10564) k 60 _ 10564 (λ e. eqb-true _ _ e) refl (
+    leads_if (k == 6750) k 61 _ 6750 (λ e. eqb-true _ _ e) refl (
+    leads_if (k == 6758) k 62 _ 6758 (λ e. eqb-true _ _ e) refl (
+    leads_if (k == 6757) k 63 _ 6757 (λ e. eqb-true _ _ e) refl (
+    leads_if (k == 3332) k 64 _ 3332 (λ e. eqb-true _ _ e) refl (
+    inl refl))))))))))))))))))))))))))))))))))))))))))))))))))))))))))))))))
 
 -- a key says the parts
 parted : (i : Instruction) (o k a b : ℕ) → key_of i ≡ k + 8 * o + 256 * (a + 8 * b) → k < 8 → o < 16 → a < 8 → b < 8 → IsCoded o k a b i
@@ -292,8 +340,104 @@ pub coded_40 : (i : Instruction) (n : ℕ) → (0 < n → n ≡ class_of i) → 
 unfolding key_in
 coded_40 i n h e = parted i 0 4 0 0 (led i n 40 h e (omega arith)) (omega arith) (omega arith) (omega arith) (omega arith)
 
+pub coded_41 : (i : Instruction) (n : ℕ) → (0 < n → n ≡ class_of i) → n ≡ 41 → IsCoded 14 1 0 5 i
+unfolding key_in
+coded_41 i n h e = parted i 14 1 0 5 (led i n 41 h e (omega arith)) (omega arith) (omega arith) (omega arith) (omega arith)
+
+pub coded_42 : (i : Instruction) (n : ℕ) → (0 < n → n ≡ class_of i) → n ≡ 42 → IsCoded 14 1 0 4 i
+unfolding key_in
+coded_42 i n h e = parted i 14 1 0 4 (led i n 42 h e (omega arith)) (omega arith) (omega arith) (omega arith) (omega arith)
+
+pub coded_43 : (i : Instruction) (n : ℕ) → (0 < n → n ≡ class_of i) → n ≡ 43 → IsCoded 14 1 0 6 i
+unfolding key_in
+coded_43 i n h e = parted i 14 1 0 6 (led i n 43 h e (omega arith)) (omega arith) (omega arith) (omega arith) (omega arith)
+
+pub coded_44 : (i : Instruction) (n : ℕ) → (0 < n → n ≡ class_of i) → n ≡ 44 → IsCoded 14 1 0 0 i
+unfolding key_in
+coded_44 i n h e = parted i 14 1 0 0 (led i n 44 h e (omega arith)) (omega arith) (omega arith) (omega arith) (omega arith)
+
+pub coded_45 : (i : Instruction) (n : ℕ) → (0 < n → n ≡ class_of i) → n ≡ 45 → IsCoded 14 1 3 5 i
+unfolding key_in
+coded_45 i n h e = parted i 14 1 3 5 (led i n 45 h e (omega arith)) (omega arith) (omega arith) (omega arith) (omega arith)
+
+pub coded_46 : (i : Instruction) (n : ℕ) → (0 < n → n ≡ class_of i) → n ≡ 46 → IsCoded 14 1 3 4 i
+unfolding key_in
+coded_46 i n h e = parted i 14 1 3 4 (led i n 46 h e (omega arith)) (omega arith) (omega arith) (omega arith) (omega arith)
+
+pub coded_47 : (i : Instruction) (n : ℕ) → (0 < n → n ≡ class_of i) → n ≡ 47 → IsCoded 14 1 3 6 i
+unfolding key_in
+coded_47 i n h e = parted i 14 1 3 6 (led i n 47 h e (omega arith)) (omega arith) (omega arith) (omega arith) (omega arith)
+
+pub coded_48 : (i : Instruction) (n : ℕ) → (0 < n → n ≡ class_of i) → n ≡ 48 → IsCoded 1 6 0 2 i
+unfolding key_in
+coded_48 i n h e = parted i 1 6 0 2 (led i n 48 h e (omega arith)) (omega arith) (omega arith) (omega arith) (omega arith)
+
+pub coded_49 : (i : Instruction) (n : ℕ) → (0 < n → n ≡ class_of i) → n ≡ 49 → IsCoded 1 6 1 6 i
+unfolding key_in
+coded_49 i n h e = parted i 1 6 1 6 (led i n 49 h e (omega arith)) (omega arith) (omega arith) (omega arith) (omega arith)
+
+pub coded_50 : (i : Instruction) (n : ℕ) → (0 < n → n ≡ class_of i) → n ≡ 50 → IsCoded 1 6 1 4 i
+unfolding key_in
+coded_50 i n h e = parted i 1 6 1 4 (led i n 50 h e (omega arith)) (omega arith) (omega arith) (omega arith) (omega arith)
+
+pub coded_51 : (i : Instruction) (n : ℕ) → (0 < n → n ≡ class_of i) → n ≡ 51 → IsCoded 1 6 2 7 i
+unfolding key_in
+coded_51 i n h e = parted i 1 6 2 7 (led i n 51 h e (omega arith)) (omega arith) (omega arith) (omega arith) (omega arith)
+
+pub coded_52 : (i : Instruction) (n : ℕ) → (0 < n → n ≡ class_of i) → n ≡ 52 → IsCoded 1 6 4 1 i
+unfolding key_in
+coded_52 i n h e = parted i 1 6 4 1 (led i n 52 h e (omega arith)) (omega arith) (omega arith) (omega arith) (omega arith)
+
+pub coded_53 : (i : Instruction) (n : ℕ) → (0 < n → n ≡ class_of i) → n ≡ 53 → IsCoded 1 6 5 4 i
+unfolding key_in
+coded_53 i n h e = parted i 1 6 5 4 (led i n 53 h e (omega arith)) (omega arith) (omega arith) (omega arith) (omega arith)
+
+pub coded_54 : (i : Instruction) (n : ℕ) → (0 < n → n ≡ class_of i) → n ≡ 54 → IsCoded 1 6 7 1 i
+unfolding key_in
+coded_54 i n h e = parted i 1 6 7 1 (led i n 54 h e (omega arith)) (omega arith) (omega arith) (omega arith) (omega arith)
+
+pub coded_55 : (i : Instruction) (n : ℕ) → (0 < n → n ≡ class_of i) → n ≡ 55 → IsCoded 1 6 7 6 i
+unfolding key_in
+coded_55 i n h e = parted i 1 6 7 6 (led i n 55 h e (omega arith)) (omega arith) (omega arith) (omega arith) (omega arith)
+
+pub coded_56 : (i : Instruction) (n : ℕ) → (0 < n → n ≡ class_of i) → n ≡ 56 → IsCoded 10 4 1 4 i
+unfolding key_in
+coded_56 i n h e = parted i 10 4 1 4 (led i n 56 h e (omega arith)) (omega arith) (omega arith) (omega arith) (omega arith)
+
+pub coded_57 : (i : Instruction) (n : ℕ) → (0 < n → n ≡ class_of i) → n ≡ 57 → IsCoded 10 4 1 6 i
+unfolding key_in
+coded_57 i n h e = parted i 10 4 1 6 (led i n 57 h e (omega arith)) (omega arith) (omega arith) (omega arith) (omega arith)
+
+pub coded_58 : (i : Instruction) (n : ℕ) → (0 < n → n ≡ class_of i) → n ≡ 58 → IsCoded 7 1 3 5 i
+unfolding key_in
+coded_58 i n h e = parted i 7 1 3 5 (led i n 58 h e (omega arith)) (omega arith) (omega arith) (omega arith) (omega arith)
+
+pub coded_59 : (i : Instruction) (n : ℕ) → (0 < n → n ≡ class_of i) → n ≡ 59 → IsCoded 7 1 3 7 i
+unfolding key_in
+coded_59 i n h e = parted i 7 1 3 7 (led i n 59 h e (omega arith)) (omega arith) (omega arith) (omega arith) (omega arith)
+
+pub coded_60 : (i : Instruction) (n : ℕ) → (0 < n → n ≡ class_of i) → n ≡ 60 → IsCoded 8 4 1 5 i
+unfolding key_in
+coded_60 i n h e = parted i 8 4 1 5 (led i n 60 h e (omega arith)) (omega arith) (omega arith) (omega arith) (omega arith)
+
+pub coded_61 : (i : Instruction) (n : ℕ) → (0 < n → n ≡ class_of i) → n ≡ 61 → IsCoded 11 6 2 3 i
+unfolding key_in
+coded_61 i n h e = parted i 11 6 2 3 (led i n 61 h e (omega arith)) (omega arith) (omega arith) (omega arith) (omega arith)
+
+pub coded_62 : (i : Instruction) (n : ℕ) → (0 < n → n ≡ class_of i) → n ≡ 62 → IsCoded 12 6 2 3 i
+unfolding key_in
+coded_62 i n h e = parted i 12 6 2 3 (led i n 62 h e (omega arith)) (omega arith) (omega arith) (omega arith) (omega arith)
+
+pub coded_63 : (i : Instruction) (n : ℕ) → (0 < n → n ≡ class_of i) → n ≡ 63 → IsCoded 12 5 2 3 i
+unfolding key_in
+coded_63 i n h e = parted i 12 5 2 3 (led i n 63 h e (omega arith)) (omega arith) (omega arith) (omega arith) (omega arith)
+
+pub coded_64 : (i : Instruction) (n : ℕ) → (0 < n → n ≡ class_of i) → n ≡ 64 → IsCoded 0 4 5 1 i
+unfolding key_in
+coded_64 i n h e = parted i 0 4 5 1 (led i n 64 h e (omega arith)) (omega arith) (omega arith) (omega arith) (omega arith)
+
 -- no class is greater than the last
-pub class_most : (i : Instruction) (n : ℕ) → n ≡ class_of i → n < 41
+pub class_most : (i : Instruction) (n : ℕ) → n ≡ class_of i → n < 65
 class_most i n e = rw e (class_small (key_of i))
 
-pub ruleset classes = (coded_1, coded_2, coded_3, coded_4, coded_5, coded_6, coded_7, coded_8, coded_9, coded_10, coded_11, coded_12, coded_13, coded_14, coded_15, coded_16, coded_17, coded_18, coded_19, coded_20, coded_21, coded_22, coded_23, coded_24, coded_25, coded_26, coded_27, coded_28, coded_29, coded_30, coded_31, coded_32, coded_33, coded_34, coded_35, coded_36, coded_37, coded_38, coded_39, coded_40)
+pub ruleset classes = (coded_1, coded_2, coded_3, coded_4, coded_5, coded_6, coded_7, coded_8, coded_9, coded_10, coded_11, coded_12, coded_13, coded_14, coded_15, coded_16, coded_17, coded_18, coded_19, coded_20, coded_21, coded_22, coded_23, coded_24, coded_25, coded_26, coded_27, coded_28, coded_29, coded_30, coded_31, coded_32, coded_33, coded_34, coded_35, coded_36, coded_37, coded_38, coded_39, coded_40, coded_41, coded_42, coded_43, coded_44, coded_45, coded_46, coded_47, coded_48, coded_49, coded_50, coded_51, coded_52, coded_53, coded_54, coded_55, coded_56, coded_57, coded_58, coded_59, coded_60, coded_61, coded_62, coded_63, coded_64)

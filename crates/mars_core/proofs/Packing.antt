@@ -11,7 +11,7 @@ use Rattle.rc_instr.specs.declared.instruction.Mode.{Mode}
 use Rattle.rc_instr.specs.declared.instruction.Mode.TheVariants.{Immediate, Direct, AIndirect, BIndirect, APredecrement, BPredecrement, APostincrement, BPostincrement}
 use Rattle.mars_core.specs.Numbers.{with_field}
 use Rattle.mars_core.specs.Numbers.{ANumber, BNumber}
-use Rattle.mars_core.specs.Classes.{key_of, class_of_key, class_of}
+use Rattle.mars_core.specs.Classes.{key_of, class_of_key, further_class_of_key, class_of}
 use Rattle.mars_core.specs.Codes.{opcode_of, modifier_of, mode_of}
 use Rattle.mars_core.specs.Packed.{IsClassed, class_in, packed, unpacked, mark_of, marked, same_parts}
 
@@ -61,12 +61,12 @@ parts : (o o' : ℕ) (k k' : ℕ) (m m' n n' x x' y y' : ℕ) → o ≡ o' → k
 parts o o' k k' m m' n n' x x' y y' eo ek em ex en ey = rw (eo, ek, em, ex, en, ey) refl
 
 -- a class is at most the last one
-either_small : (b : Bool) (x y : ℕ) → x < 41 → y < 41 → (if b then x else y) < 41
+either_small : (b : Bool) (x y : ℕ) → x < 65 → y < 65 → (if b then x else y) < 65
 either_small true x y h l = h
 either_small false x y h l = l
 
-pub class_small : (k : ℕ) → class_of_key k < 41
-unfolding class_of_key
+pub class_small : (k : ℕ) → class_of_key k < 65
+unfolding class_of_key further_class_of_key
 class_small k =
     either_small (k == 2318) 1 _ (omega arith) (
     either_small (k == 2361) 2 _ (omega arith) (
@@ -108,7 +108,31 @@ class_small k =
     either_small (k == 2377) 38 _ (omega arith) (
     either_small (k == 3844) 39 _ (omega arith) (
     either_small (k == 4) 40 _ (omega arith) (
-    omega arith))))))))))))))))))))))))))))))))))))))))
+    either_small (k == 10353) 41 _ (omega arith) (
+    either_small (k == 8305) 42 _ (omega arith) (
+    either_small (k == 12401) 43 _ (omega arith) (
+    either_small (k == 113) 44 _ (omega arith) (
+    either_small (k == 11121) 45 _ (omega arith) (
+    either_small (k == 9073) 46 _ (omega arith) (
+    either_small (k == 13169) 47 _ (omega arith) (
+    either_small (k == 4110) 48 _ (omega arith) (
+    either_small (k == 12558) 49 _ (omega arith) (
+    either_small (k == 8462) 50 _ (omega arith) (
+    either_small (k == 14862) 51 _ (omega arith) (
+    either_small (k == 3086) 52 _ (omega arith) (
+    either_small (k == 9486) 53 _ (omega arith) (
+    either_small (k == 3854) 54 _ (omega arith) (
+    either_small (k == 14094) 55 _ (omega arith) (
+    either_small (k == 8532) 56 _ (omega arith) (
+    either_small (k == 12628) 57 _ (omega arith) (
+    either_small (k == 11065) 58 _ (omega arith) (
+    either_small (k == 15161) 59 _ (omega arith) (
+    either_small (k == 10564) 60 _ (omega arith) (
+    either_small (k == 6750) 61 _ (omega arith) (
+    either_small (k == 6758) 62 _ (omega arith) (
+    either_small (k == 6757) 63 _ (omega arith) (
+    either_small (k == 3332) 64 _ (omega arith) (
+    omega arith))))))))))))))))))))))))))))))))))))))))))))))))))))))))))))))))
 
 -- the word of an opcode and a modifier alone
 pub coded_opcode : (o k w : ℕ) → w ≡ k + 8 * o → o < 16 → k < 8 → opcode_of (w / 8 % 16) ≡ opcode_of o

@@ -16,7 +16,37 @@ pub record IsCoded (opcode modifier a_mode b_mode : ℕ) (i : Instruction) : Typ
 abbrev pub key_of : Instruction → ℕ
 key_of i = modifier_number i.modifier + 8 * opcode_number i.opcode + 256 * (mode_number i.a_mode + 8 * mode_number i.b_mode)
 
--- The table: each key that has a class.
+-- Classes 41 to 64 of `class_of_key`, which follows. They are apart since one search does not prove
+-- the code of a table of 64.
+unfoldable pub further_class_of_key : ℕ → ℕ
+further_class_of_key k =
+    if k == 10353 then 41  -- SPL.B #, <
+    else if k == 8305 then 42  -- SPL.B #, {
+    else if k == 12401 then 43  -- SPL.B #, }
+    else if k == 113 then 44  -- SPL.B #, #
+    else if k == 11121 then 45  -- SPL.B @, <
+    else if k == 9073 then 46  -- SPL.B @, {
+    else if k == 13169 then 47  -- SPL.B @, }
+    else if k == 4110 then 48  -- MOV.I #, *
+    else if k == 12558 then 49  -- MOV.I $, }
+    else if k == 8462 then 50  -- MOV.I $, {
+    else if k == 14862 then 51  -- MOV.I *, >
+    else if k == 3086 then 52  -- MOV.I {, $
+    else if k == 9486 then 53  -- MOV.I <, {
+    else if k == 3854 then 54  -- MOV.I >, $
+    else if k == 14094 then 55  -- MOV.I >, }
+    else if k == 8532 then 56  -- DJN.F $, {
+    else if k == 12628 then 57  -- DJN.F $, }
+    else if k == 11065 then 58  -- JMP.B @, <
+    else if k == 15161 then 59  -- JMP.B @, >
+    else if k == 10564 then 60  -- JMZ.F $, <
+    else if k == 6750 then 61  -- SEQ.I *, @
+    else if k == 6758 then 62  -- SNE.I *, @
+    else if k == 6757 then 63  -- SNE.X *, @
+    else if k == 3332 then 64  -- DAT.F <, $
+    else 0
+
+-- The class of each key, 0 if it has none: 40 here, the others in `further_class_of_key`.
 unfoldable pub class_of_key : ℕ → ℕ
 class_of_key k =
     if k == 2318 then 1  -- MOV.I $, $
@@ -59,7 +89,7 @@ class_of_key k =
     else if k == 2377 then 38  -- JMN.B $, $
     else if k == 3844 then 39  -- DAT.F >, $
     else if k == 4 then 40  -- DAT.F #, #
-    else 0
+    else further_class_of_key k
 
 -- The class of an instruction, 0 if it is none of these.
 abbrev pub class_of : Instruction → ℕ

@@ -17,7 +17,7 @@ const STRETCH: u32 = 2000;
 // Alternates turns, `mine` first, until a queue is empty or `cycles` are over.
 // Returns the number of turns.
 //
-// Moves the cells to a variable of its own for that: behind a reference, each write to a cell might
+// Moves the cells to `take_turns`, which owns them: behind a reference, each write to a cell might
 // be one to their addresses, so the compiler would load these again.
 #[inline(never)]
 fn alternate<C: Cells>(
@@ -44,54 +44,53 @@ fn alternate<C: Cells>(
     ensures within { result ≤ 2 * cycles }
     ensures marks { C.marks cells.new ≤ C.marks cells.old + 3 * result }
 {
-    let mut store = cells.take();
-    let turns = take_turns(&mut store, mine, theirs, size, cycles);
+    let (store, turns) = take_turns(cells.take(), mine, theirs, size, cycles);
     cells.put_back(store);
     turns
 }
 
-// The loop of `alternate`, on cells that the caller owns.
-#[inline(always)]
+// The loop of `alternate`, on cells of its own, which it hands back. Too large to be inlined.
+#[inline(never)]
 fn take_turns<C: Cells>(
-    cells: &mut C,
+    mut cells: C,
     mine: &mut Tasks,
     theirs: &mut Tasks,
     size: u32,
     cycles: u32,
-) -> u32
-    requires core { IsCore size (C.items cells.old) }
+) -> (C, u32)
+    requires core { IsCore size (C.items cells) }
     requires mine { AreTasks size mine.old.items }
     requires theirs { AreTasks size theirs.old.items }
     requires room { theirs.old.capacity ≡ mine.old.capacity }
     requires cycles { cycles ≤ 1000000 }
 
     // `mine` may be either side, so both clauses hold for every side that moves first.
-    ensures turns { (first : Side) → result ≡ turns_of mine.old.capacity (seen_from first (C.items cells.old) mine.old.items theirs.old.items) first cycles }
-    ensures state { (first : Side) → seen_from first (C.items cells.new) mine.new.items theirs.new.items
-        ≡ play_of mine.old.capacity (seen_from first (C.items cells.old) mine.old.items theirs.old.items) first result }
+    ensures turns { (first : Side) → result.1 ≡ turns_of mine.old.capacity (seen_from first (C.items cells) mine.old.items theirs.old.items) first cycles }
+    ensures state { (first : Side) → seen_from first (C.items result.0) mine.new.items theirs.new.items
+        ≡ play_of mine.old.capacity (seen_from first (C.items cells) mine.old.items theirs.old.items) first result.1 }
 
-    ensures core { IsCore size (C.items cells.new) }
+    ensures core { IsCore size (C.items result.0) }
     ensures mine { AreTasks size mine.new.items × (mine.new.capacity ≡ mine.old.capacity) }
     ensures theirs { AreTasks size theirs.new.items × (theirs.new.capacity ≡ theirs.old.capacity) }
-    ensures within { result ≤ 2 * cycles }
-    ensures marks { C.marks cells.new ≤ C.marks cells.old + 3 * result }
+    ensures within { result.1 ≤ 2 * cycles }
+    ensures marks { C.marks result.0 ≤ C.marks cells + 3 * result.1 }
 {
     if mine.is_empty() || theirs.is_empty() {
-        return 0;
+        return (cells, 0);
     }
     let mut my_task = mine.first();
     let mut their_task = theirs.first();
     for cycle in 0..cycles {
-        let Some(next) = next_turn(cells, mine, size, my_task) else {
-            return 2 * cycle + 1;
+        let Some(next) = next_turn(&mut cells, mine, size, my_task) else {
+            return (cells, 2 * cycle + 1);
         };
         my_task = next;
-        let Some(next) = next_turn(cells, theirs, size, their_task) else {
-            return 2 * cycle + 2;
+        let Some(next) = next_turn(&mut cells, theirs, size, their_task) else {
+            return (cells, 2 * cycle + 2);
         };
         their_task = next;
     }
-    2 * cycles
+    (cells, 2 * cycles)
 }
 
 // Leaves the state that `alternate` leaves, and returns the number of its turns. A state that comes

@@ -2,7 +2,7 @@
 ghost use Rattle.std.specs.Prelude.{◌≡◌, ◌<◌, ◌%◌};
 ghost use Rattle.rc_instr.specs.Instruction.{opcode_number, modifier_number, mode_number};
 ghost use Rattle.rc_instr.specs.declared.instruction.Instruction.{Instruction};
-ghost use Rattle.mars_core.specs.Classes.{class_of_key};
+ghost use Rattle.mars_core.specs.Classes.{class_of_key, further_class_of_key};
 ghost use Rattle.mars_core.specs.Codes.{opcode_of, modifier_of, mode_of};
 ghost use Rattle.mars_core.specs.Packed.{IsClassed, packed, unpacked, is_marked, marked, empty_word, same_parts};
 
@@ -146,6 +146,41 @@ fn class_in(key: u64) -> u64
         2377 => 38, // JMN.B $, $
         3844 => 39, // DAT.F >, $
         4 => 40, // DAT.F #, #
+        _ => further_class_in(key),
+    }
+}
+
+// Returns the class of a key that is none of the first 40, 0 if it has none.
+#[tactic(auto, unfolding(crate::specs::Classes::further_class_of_key))]
+fn further_class_in(key: u64) -> u64
+    ensures value { result ≡ further_class_of_key key }
+    ensures small { result < 256 }
+{
+    match key {
+        10353 => 41, // SPL.B #, <
+        8305 => 42, // SPL.B #, {
+        12401 => 43, // SPL.B #, }
+        113 => 44, // SPL.B #, #
+        11121 => 45, // SPL.B @, <
+        9073 => 46, // SPL.B @, {
+        13169 => 47, // SPL.B @, }
+        4110 => 48, // MOV.I #, *
+        12558 => 49, // MOV.I $, }
+        8462 => 50, // MOV.I $, {
+        14862 => 51, // MOV.I *, >
+        3086 => 52, // MOV.I {, $
+        9486 => 53, // MOV.I <, {
+        3854 => 54, // MOV.I >, $
+        14094 => 55, // MOV.I >, }
+        8532 => 56, // DJN.F $, {
+        12628 => 57, // DJN.F $, }
+        11065 => 58, // JMP.B @, <
+        15161 => 59, // JMP.B @, >
+        10564 => 60, // JMZ.F $, <
+        6750 => 61, // SEQ.I *, @
+        6758 => 62, // SNE.I *, @
+        6757 => 63, // SNE.X *, @
+        3332 => 64, // DAT.F <, $
         _ => 0,
     }
 }

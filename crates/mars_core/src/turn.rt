@@ -171,7 +171,31 @@ fn execute<C: Cells>(cells: &mut C, size: u32, pc: u32, cell: C::Kept, class: u6
         37 => arm::<C, 10, 1, 1, 5>(cells, size, pc, cell), // DJN.B $, <
         38 => arm::<C, 9, 1, 1, 1>(cells, size, pc, cell), // JMN.B $, $
         39 => arm::<C, 0, 4, 7, 1>(cells, size, pc, cell), // DAT.F >, $
-        _ => arm::<C, 0, 4, 0, 0>(cells, size, pc, cell), // DAT.F #, #
+        40 => arm::<C, 0, 4, 0, 0>(cells, size, pc, cell), // DAT.F #, #
+        41 => arm::<C, 14, 1, 0, 5>(cells, size, pc, cell), // SPL.B #, <
+        42 => arm::<C, 14, 1, 0, 4>(cells, size, pc, cell), // SPL.B #, {
+        43 => arm::<C, 14, 1, 0, 6>(cells, size, pc, cell), // SPL.B #, }
+        44 => arm::<C, 14, 1, 0, 0>(cells, size, pc, cell), // SPL.B #, #
+        45 => arm::<C, 14, 1, 3, 5>(cells, size, pc, cell), // SPL.B @, <
+        46 => arm::<C, 14, 1, 3, 4>(cells, size, pc, cell), // SPL.B @, {
+        47 => arm::<C, 14, 1, 3, 6>(cells, size, pc, cell), // SPL.B @, }
+        48 => arm::<C, 1, 6, 0, 2>(cells, size, pc, cell), // MOV.I #, *
+        49 => arm::<C, 1, 6, 1, 6>(cells, size, pc, cell), // MOV.I $, }
+        50 => arm::<C, 1, 6, 1, 4>(cells, size, pc, cell), // MOV.I $, {
+        51 => arm::<C, 1, 6, 2, 7>(cells, size, pc, cell), // MOV.I *, >
+        52 => arm::<C, 1, 6, 4, 1>(cells, size, pc, cell), // MOV.I {, $
+        53 => arm::<C, 1, 6, 5, 4>(cells, size, pc, cell), // MOV.I <, {
+        54 => arm::<C, 1, 6, 7, 1>(cells, size, pc, cell), // MOV.I >, $
+        55 => arm::<C, 1, 6, 7, 6>(cells, size, pc, cell), // MOV.I >, }
+        56 => arm::<C, 10, 4, 1, 4>(cells, size, pc, cell), // DJN.F $, {
+        57 => arm::<C, 10, 4, 1, 6>(cells, size, pc, cell), // DJN.F $, }
+        58 => arm::<C, 7, 1, 3, 5>(cells, size, pc, cell), // JMP.B @, <
+        59 => arm::<C, 7, 1, 3, 7>(cells, size, pc, cell), // JMP.B @, >
+        60 => arm::<C, 8, 4, 1, 5>(cells, size, pc, cell), // JMZ.F $, <
+        61 => arm::<C, 11, 6, 2, 3>(cells, size, pc, cell), // SEQ.I *, @
+        62 => arm::<C, 12, 6, 2, 3>(cells, size, pc, cell), // SNE.I *, @
+        63 => arm::<C, 12, 5, 2, 3>(cells, size, pc, cell), // SNE.X *, @
+        _ => arm::<C, 0, 4, 5, 1>(cells, size, pc, cell), // DAT.F <, $
     }
 }
 

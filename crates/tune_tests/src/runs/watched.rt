@@ -4,7 +4,7 @@ use crate::runs::tuning::{BOTH, ORDER, ORDER_CERT, both_opponents};
 use rc_instr::{Outlet, Rules};
 use std::test::Fail;
 use tune_cert::{Standing, Watcher};
-use tune_runs::{TuneTexts, check_part_run, plain_tune_run, tune_part_run};
+use tune_runs::{RunFault, TuneTexts, check_part_run, plain_tune_run, tune_part_run};
 use tune_template::Part;
 
 // Counts the settings, the fights and the ends that it is told of, and what it is told after an
@@ -105,5 +105,26 @@ fn a_check_tells_its_watcher_once(rt: HostRuntime) -> Result<(), Fail> {
     let accepted = check_part_run(rt.alloc(), &texts, &mut told, ORDER_CERT, &mut line)?;
     assert!(rt; accepted);
     assert_eq!(rt; told.numbers(), (3, 5, 1, 0));
+    Ok(())
+}
+
+// No setting assembles.
+#[test]
+fn a_refused_tuning_tells_its_watcher_once(rt: HostRuntime) -> Result<(), Fail> {
+    let rules = Rules::try_new(16, 20, 4, 4, 4)?;
+    let opponents = both_opponents(rt.alloc())?;
+    let texts = TuneTexts {
+        template: b";@tune K 0 1 1 0\nMOV 0, K\nDAT 1/0\n",
+        ..order(opponents.as_slice(), &rules)
+    };
+    let mut told = Told::nothing();
+    let mut report = Outlet::new(Vec::new(rt.alloc()));
+    let mut cert = Outlet::new(Vec::new(rt.alloc()));
+    match tune_part_run(rt.alloc(), &texts, 4096, &mut told, &mut report, &mut cert) {
+        Err(RunFault::NoCandidate) => {}
+        Err(other) => return Err(Fail::from(other)),
+        Ok(()) => return Err(Fail::from("not refused")),
+    }
+    assert_eq!(rt; told.numbers(), (2, 0, 1, 0));
     Ok(())
 }

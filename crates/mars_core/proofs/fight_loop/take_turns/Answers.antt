@@ -10,7 +10,7 @@ use Rattle.mars_core.proofs.fight_loop.take_turns.Goals as goal
 -- a side has no task from the start
 pub returns-then-is_empty-clause-turns : goal.returns-then-is_empty-clause-turns
 returns-then-is_empty-clause-turns g c first =
-    let start = goes_from_the_start c.args.mine.now.capacity first (g.C.Cells.items c.args.cells.now) c.args.mine.now.items c.args.theirs.now.items in
+    let start = goes_from_the_start c.args.mine.now.capacity first (g.C.Cells.items c.args.cells) c.args.mine.now.items c.args.theirs.now.items in
     elim c.then-is_empty.branch [
       | then-is_empty-via-then-is_empty w ↦
           let none : length c.args.mine.now.items ≡ 0 = eqb-true _ _ (sym c.is_empty.ensures ∙ w.if-is_empty.true) in
@@ -88,5 +88,5 @@ pub returns-clause-turns : goal.returns-clause-turns
 returns-clause-turns g c first =
     let all : c.loop-cycle.cycle ≡ c.args.cycles = omega arith in
     let e = goes_to_the_end c.args.mine.now.capacity _ first c.loop-cycle.cycle _ _ _ (c.loop-cycle.invariant.going first) in
-    let start = seen_from first (g.C.Cells.items c.args.cells.now) c.args.mine.now.items c.args.theirs.now.items in
+    let start = seen_from first (g.C.Cells.items c.args.cells) c.args.mine.now.items c.args.theirs.now.items in
     sym (ap (λ n. turns_of c.args.mine.now.capacity start first n) (sym all) ∙ e ∙ ap (λ n. 2 * n) all)

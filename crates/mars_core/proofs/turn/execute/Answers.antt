@@ -1,5 +1,5 @@
 use Rattle.std.proofs.Common.{arith}
-use Rattle.mars_core.proofs.Classes.{coded_1, coded_2, coded_3, coded_4, coded_5, coded_6, coded_7, coded_8, coded_9, coded_10, coded_11, coded_12, coded_13, coded_14, coded_15, coded_16, coded_17, coded_18, coded_19, coded_20, coded_21, coded_22, coded_23, coded_24, coded_25, coded_26, coded_27, coded_28, coded_29, coded_30, coded_31, coded_32, coded_33, coded_34, coded_35, coded_36, coded_37, coded_38, coded_39, coded_40, class_most}
+use Rattle.mars_core.proofs.Classes.{coded_1, coded_2, coded_3, coded_4, coded_5, coded_6, coded_7, coded_8, coded_9, coded_10, coded_11, coded_12, coded_13, coded_14, coded_15, coded_16, coded_17, coded_18, coded_19, coded_20, coded_21, coded_22, coded_23, coded_24, coded_25, coded_26, coded_27, coded_28, coded_29, coded_30, coded_31, coded_32, coded_33, coded_34, coded_35, coded_36, coded_37, coded_38, coded_39, coded_40, coded_41, coded_42, coded_43, coded_44, coded_45, coded_46, coded_47, coded_48, coded_49, coded_50, coded_51, coded_52, coded_53, coded_54, coded_55, coded_56, coded_57, coded_58, coded_59, coded_60, coded_61, coded_62, coded_63, coded_64, class_most}
 use Rattle.mars_core.proofs.turn.execute.Goals as goal
 
 pub arm-requires-clause-coded : goal.arm-requires-clause-coded
@@ -119,7 +119,79 @@ arm-requires-in-38-clause-coded g c = coded_38 _ _ (λ _. c.requires.class) c.in
 pub arm-requires-in-39-clause-coded : goal.arm-requires-in-39-clause-coded
 arm-requires-in-39-clause-coded g c = coded_39 _ _ (λ _. c.requires.class) c.in-39.is
 
+pub arm-requires-in-40-clause-coded : goal.arm-requires-in-40-clause-coded
+arm-requires-in-40-clause-coded g c = coded_40 _ _ (λ _. c.requires.class) c.in-40.is
+
+pub arm-requires-in-41-clause-coded : goal.arm-requires-in-41-clause-coded
+arm-requires-in-41-clause-coded g c = coded_41 _ _ (λ _. c.requires.class) c.in-41.is
+
+pub arm-requires-in-42-clause-coded : goal.arm-requires-in-42-clause-coded
+arm-requires-in-42-clause-coded g c = coded_42 _ _ (λ _. c.requires.class) c.in-42.is
+
+pub arm-requires-in-43-clause-coded : goal.arm-requires-in-43-clause-coded
+arm-requires-in-43-clause-coded g c = coded_43 _ _ (λ _. c.requires.class) c.in-43.is
+
+pub arm-requires-in-44-clause-coded : goal.arm-requires-in-44-clause-coded
+arm-requires-in-44-clause-coded g c = coded_44 _ _ (λ _. c.requires.class) c.in-44.is
+
+pub arm-requires-in-45-clause-coded : goal.arm-requires-in-45-clause-coded
+arm-requires-in-45-clause-coded g c = coded_45 _ _ (λ _. c.requires.class) c.in-45.is
+
+pub arm-requires-in-46-clause-coded : goal.arm-requires-in-46-clause-coded
+arm-requires-in-46-clause-coded g c = coded_46 _ _ (λ _. c.requires.class) c.in-46.is
+
+pub arm-requires-in-47-clause-coded : goal.arm-requires-in-47-clause-coded
+arm-requires-in-47-clause-coded g c = coded_47 _ _ (λ _. c.requires.class) c.in-47.is
+
+pub arm-requires-in-48-clause-coded : goal.arm-requires-in-48-clause-coded
+arm-requires-in-48-clause-coded g c = coded_48 _ _ (λ _. c.requires.class) c.in-48.is
+
+pub arm-requires-in-49-clause-coded : goal.arm-requires-in-49-clause-coded
+arm-requires-in-49-clause-coded g c = coded_49 _ _ (λ _. c.requires.class) c.in-49.is
+
+pub arm-requires-in-50-clause-coded : goal.arm-requires-in-50-clause-coded
+arm-requires-in-50-clause-coded g c = coded_50 _ _ (λ _. c.requires.class) c.in-50.is
+
+pub arm-requires-in-51-clause-coded : goal.arm-requires-in-51-clause-coded
+arm-requires-in-51-clause-coded g c = coded_51 _ _ (λ _. c.requires.class) c.in-51.is
+
+pub arm-requires-in-52-clause-coded : goal.arm-requires-in-52-clause-coded
+arm-requires-in-52-clause-coded g c = coded_52 _ _ (λ _. c.requires.class) c.in-52.is
+
+pub arm-requires-in-53-clause-coded : goal.arm-requires-in-53-clause-coded
+arm-requires-in-53-clause-coded g c = coded_53 _ _ (λ _. c.requires.class) c.in-53.is
+
+pub arm-requires-in-54-clause-coded : goal.arm-requires-in-54-clause-coded
+arm-requires-in-54-clause-coded g c = coded_54 _ _ (λ _. c.requires.class) c.in-54.is
+
+pub arm-requires-in-55-clause-coded : goal.arm-requires-in-55-clause-coded
+arm-requires-in-55-clause-coded g c = coded_55 _ _ (λ _. c.requires.class) c.in-55.is
+
+pub arm-requires-in-56-clause-coded : goal.arm-requires-in-56-clause-coded
+arm-requires-in-56-clause-coded g c = coded_56 _ _ (λ _. c.requires.class) c.in-56.is
+
+pub arm-requires-in-57-clause-coded : goal.arm-requires-in-57-clause-coded
+arm-requires-in-57-clause-coded g c = coded_57 _ _ (λ _. c.requires.class) c.in-57.is
+
+pub arm-requires-in-58-clause-coded : goal.arm-requires-in-58-clause-coded
+arm-requires-in-58-clause-coded g c = coded_58 _ _ (λ _. c.requires.class) c.in-58.is
+
+pub arm-requires-in-59-clause-coded : goal.arm-requires-in-59-clause-coded
+arm-requires-in-59-clause-coded g c = coded_59 _ _ (λ _. c.requires.class) c.in-59.is
+
+pub arm-requires-in-60-clause-coded : goal.arm-requires-in-60-clause-coded
+arm-requires-in-60-clause-coded g c = coded_60 _ _ (λ _. c.requires.class) c.in-60.is
+
+pub arm-requires-in-61-clause-coded : goal.arm-requires-in-61-clause-coded
+arm-requires-in-61-clause-coded g c = coded_61 _ _ (λ _. c.requires.class) c.in-61.is
+
+pub arm-requires-in-62-clause-coded : goal.arm-requires-in-62-clause-coded
+arm-requires-in-62-clause-coded g c = coded_62 _ _ (λ _. c.requires.class) c.in-62.is
+
+pub arm-requires-in-63-clause-coded : goal.arm-requires-in-63-clause-coded
+arm-requires-in-63-clause-coded g c = coded_63 _ _ (λ _. c.requires.class) c.in-63.is
+
 pub arm-requires-in_default-clause-coded : goal.arm-requires-in_default-clause-coded
 arm-requires-in_default-clause-coded g c =
     let most = class_most (g.C.Kept.Cell.held c.args.cell) _ c.requires.class in
-    coded_40 _ _ (λ _. c.requires.class) (omega (arith, c.in_default, c.requires.some, most))
+    coded_64 _ _ (λ _. c.requires.class) (omega (arith, c.in_default, c.requires.some, most))
