@@ -42,7 +42,7 @@ CALLS = re.compile(r"no proof: it calls ")
 ERROR = re.compile(r"(?m)^(?:\./)?([^\s:]+)(?::\d+:\d+)?: error(?:\[[\w-]+\])?: "
                    r"(?:`([^`]*)`: )?(.*)")
 # Such an error says that the edit took a name away, and nothing of the contract.
-LOST_NAME = re.compile(r"is not in scope|has no field")
+LOST_NAME = re.compile(r"is not in scope|has no field|can be named from here|was not checked")
 # Such an error is of a hole for a function that the check calls by another name.
 UNKNOWN = re.compile(r"has no function .* for this file to be the proof of")
 

@@ -1,8 +1,8 @@
 """Counts requests for memory, to see that no run repeats an assembly or makes a second arena.
 
-One more setting, row, reference or opponent may cost one more assembly, and a run makes one arena,
-whatever its number of settings. `refuse_memory.py` counts what `trials` yields: names, and for each
-a list of what was wrong.
+One more setting, row, `same` row or opponent costs one more assembly, and a run makes one arena,
+whatever its number of settings. `refuse_memory.py` takes the trials: names, and for each a list of
+what was wrong.
 """
 import os, pathlib, subprocess, tempfile
 
@@ -16,8 +16,8 @@ LONG = "".join(f"e{number} EQU {number}\n" for number in range(40))
 REFUSED = IMP + "DAT 1/(1-(K+{0}-1)/{0})\n"
 CHECK = "check many.red one.csv many.cert dat.red"
 TUNE = "tune {} one.csv CERT dat.red"
-# What is repeated: the command, the end of the template, and the certificate's row of setting
-# K > 0.
+# For each thing of which there is one more: the command, the end of the template, and the
+# certificate's row of setting K > 0.
 KINDS = {
     "a reference": (CHECK, IMP, "same,{},0\n"),
     "a row": (CHECK, IMP + "DAT K\n", "cap,{},0:3\n"),
@@ -26,8 +26,8 @@ KINDS = {
     "a setting of --all": (TUNE.format("--all many.red"), IMP + "DAT K\n", ""),
     "an opponent": (TUNE.format("one.red"), IMP, ""),
 }
-# Commands that make one arena. Its core and the copy of it, 4000 cells of 8 bytes each, are the
-# only requests of at least LARGE bytes.
+# Commands that make one arena. Its core and that of its snapshot, 4000 cells of 8 bytes each, are
+# the only requests of at least LARGE bytes.
 ARENAS = [CHECK, TUNE.format("many.red"), TUNE.format("--all many.red"), "fight dat.red dat.red"]
 LARGE = 30_000
 
@@ -57,7 +57,7 @@ def requests(program, library, words, files, text="", least=0):
 
 
 def requests_of_success(program, library, words, files, least=0):
-    """Returns the number of requests of a run, which has to succeed."""
+    """Returns the number of requests of a run, which has to succeed: it is run twice."""
     status, _, error, _ = run(program, library, words, files)
     if status != 0:
         raise Fault(f"{' '.join(words)} ended with status {status}: {error}", 1)
@@ -95,6 +95,7 @@ def trials(program, library):
         return
     for kind in KINDS:
         short, long = (one_more(program, library, kind, before) for before in ("", LONG))
+        # What the lines of LONG add to it, in assemblies of them.
         times = (long - short) / (alone[1] - alone[0])
         yield f"one more: {kind}", [] if 0.5 < times < 1.5 else [f"costs {times} assemblies"]
     for words in ARENAS:

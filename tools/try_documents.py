@@ -1,15 +1,14 @@
 """Types the commands of README.md and docs/ that are shown with their output, and compares it.
 
-A command stands in an indented block that begins with `$ `; the lines after it are what it prints,
-where a line `..` stands for any lines. `try_tools.py` counts what `trials` yields: names, and for
-each a list of what was wrong.
+An indented block that begins with `$ ` holds commands, each with its output; a line `..` of it
+matches any lines. `try_tools.py` takes the trials: names, and for each a list of what was wrong.
 """
 import os, pathlib, re, shutil, subprocess, tempfile
 
 ROOT = pathlib.Path(__file__).resolve().parent.parent
-# All documents share a folder, in this order: USING.md goes on with the files of README.md.
+# All documents share a folder: USING.md goes on with the files of README.md, which comes first.
 DOCUMENTS = [ROOT / "README.md", *sorted((ROOT / "docs").glob("*.md"), reverse=True)]
-# The commands of a document are typed here if not at the top.
+# The folders for commands that are not typed at the top.
 FOLDERS = {"TOOLS.md": "examples/tuning"}
 BLOCK = re.compile(r"(?:^    .*\n)+", re.M)
 # What is saved: `Save this as NAME`, and the next block.
@@ -41,7 +40,7 @@ def is_printed(expected, output):
 
 
 def save_files(text, folder):
-    """Saves what a document says is to be saved."""
+    """Saves the files that a document says to save."""
     for match in SAVED.finditer(text):
         block = BLOCK.search(text, match.end())
         (folder / match[1]).write_text(without_margin(block[0]))
@@ -64,7 +63,7 @@ def typed(program, document, folder):
         right = is_printed(expected, came)
         yield f"{document.name}: {command}", [] if right else [f"came {came!r}"]
     if len(outputs) <= len(commands):
-        yield f"{document.name}: {commands[len(outputs) - 1][0]}", ["failed"]
+        yield f"{document.name}: its commands", [f"ended after {len(outputs) - 1}"]
 
 
 def trials(program):

@@ -2,7 +2,7 @@
 //! constants, and checks certificates that a setting is the best.
 #![tactic(auto)]
 
-ghost use Rattle.std.specs.Prelude.{◌≡◌, false};
+ghost use Rattle.std.specs.Prelude.{◌≡◌, false, IsTrue};
 
 mod bounds;
 mod cert_file;
@@ -46,7 +46,9 @@ fn words_of(rt: &HostRuntime) -> io::Result<Vec<String>> {
 }
 
 // Returns how progress is shown.
-fn style_of(words: &[String], at_terminal: bool) -> Style {
+fn style_of(words: &[String], at_terminal: bool) -> Style
+    ensures { IsTrue at_terminal → result ≡ Style.Line }
+{
     if at_terminal {
         Style::Line
     } else if is_given(words, "--progress") {

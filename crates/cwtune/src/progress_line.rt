@@ -1,4 +1,6 @@
 //! Progress and explanations on standard error.
+ghost use Rattle.std.specs.Prelude.{◌≡◌, ◌<◌, ◌≤◌, ◌/◌};
+
 use crate::command_line::TuneWords;
 use crate::notes::{tell_idle, tell_template_notes};
 use crate::refusal::{Refused, explain};
@@ -35,7 +37,10 @@ pub(crate) enum Style {
 
 impl Style {
     // Returns the milliseconds from one line to the next.
-    fn pause(self) -> u64 {
+    fn pause(self) -> u64
+        ensures log { self ≡ Style.Log → result ≡ 60000 }
+        ensures line { self ≡ Style.Line → result ≡ 500 }
+    {
         match self {
             Style::Log => 60_000,
             _ => 500,
@@ -246,7 +251,11 @@ fn tell_left<V: Write>(err: &mut Outlet<V>, done: u64, count: u64, millis: u64) 
 }
 
 // Returns a time as a number of seconds, minutes or hours, and the unit.
-fn in_units(seconds: u64) -> (u64, &'static str) {
+fn in_units(seconds: u64) -> (u64, &'static str)
+    ensures seconds { seconds < 120 → result.0 ≡ seconds }
+    ensures minutes { 120 ≤ seconds → seconds < 7200 → result.0 ≡ seconds / 60 }
+    ensures hours { 7200 ≤ seconds → result.0 ≡ seconds / 3600 }
+{
     if seconds < 120 {
         (seconds, " s")
     } else if seconds < 7200 {

@@ -6,6 +6,7 @@ pub mod Written
 pub mod Sums
 pub mod Fields
 pub mod Operands
+pub mod Slots
 pub mod Queues
 pub mod Least
 pub mod Loading

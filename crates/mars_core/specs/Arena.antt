@@ -2,8 +2,8 @@
 use Rattle.std.specs.Prelude.{◌≡◌, ℕ, ◌+◌, ◌*◌, ◌%◌, ◌≤◌, List, length}
 use Rattle.rc_instr.specs.Rules.{RulesView, IsRules}
 use Rattle.rc_instr.specs.declared.instruction.Instruction.{Instruction}
-use Rattle.circular_buffer.specs.Buffer.{Buffer}
 use Rattle.mars_core.specs.Core.{IsCore, AreTasks}
+use Rattle.mars_core.specs.Queue.{Queue}
 use Rattle.mars_core.specs.State.{State, blank_of}
 use Rattle.mars_core.specs.Snapshot.{SnapshotView}
 
@@ -34,7 +34,7 @@ pub record IsBlank (rules : RulesView) (a : ArenaView) : Type 0 where
 
 -- What holds of every arena: checked rules, a core and tasks of their size, queues with room for the
 -- tasks that the rules allow, and a snapshot of as many cells.
-pub record IsArena (rules : RulesView) (core : List Instruction) (candidate opponent : Buffer ℕ) (snapshot : SnapshotView) (turns : ℕ) : Type 0 where
+pub record IsArena (rules : RulesView) (core : List Instruction) (candidate opponent : Queue) (snapshot : SnapshotView) (turns : ℕ) : Type 0 where
   pub rules_hold : IsRules rules
   pub core_holds : IsCore rules.core core
   pub candidate_room : candidate.capacity ≡ rules.tasks

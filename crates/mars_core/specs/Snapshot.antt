@@ -1,7 +1,7 @@
 -- A state of a fight that was kept, to see whether it comes back.
 use Rattle.std.specs.Prelude.{◌≡◌, ℕ, ◌+◌, ◌<◌, List}
-use Rattle.circular_buffer.specs.Buffer.{Buffer}
 use Rattle.rc_instr.specs.declared.instruction.Instruction.{Instruction}
+use Rattle.mars_core.specs.Queue.{Queue}
 
 -- The cells, the tasks of the side that moves first, and those of the other side.
 pub record SnapshotView : Type 0 where
@@ -15,7 +15,7 @@ abbrev pub snapshot_view : List Instruction → List ℕ → List ℕ → ℕ �
 snapshot_view core mine theirs cycles = record { core = core; mine = mine; theirs = theirs; cycles = cycles }
 
 -- A snapshot has room for 8 tasks of each side.
-pub record HasRoom (mine theirs : Buffer ℕ) : Type 0 where
+pub record HasRoom (mine theirs : Queue) : Type 0 where
   pub mine_room : mine.capacity ≡ 8
   pub theirs_room : theirs.capacity ≡ 8
 

@@ -1,45 +1,60 @@
 //! The queue of a warrior's tasks: their addresses, the next to execute first.
-ghost use Rattle.std.specs.Prelude.{◌≡◌, ◌<◌, ◌≤◌, ◌==◌, ◌∷◌, [], ◌++◌, Some, true, false, length, drop, slice_get, slice_index_or, if◌then◌else◌, nat_lt, IfOk};
-ghost use Rattle.circular_buffer.specs.Buffer.{buffer};
+ghost use Rattle.std.specs.Prelude.{◌≡◌, ◌<◌, ◌≤◌, ◌==◌, ◌∷◌, [], ◌++◌, Some, true, length, drop, slice_get, slice_index_or, if◌then◌else◌, nat_lt, IfOk};
+ghost use Rattle.mars_core.specs.Queue.{queue, ring_size, slot_after};
 
-use circular_buffer::HeapCircularBuffer;
-use std::alloc::{AllocError, Global};
+use rc_instr::OutOfMemory;
+use std::alloc::Global;
 use std::marker::Model;
 
-// A queue of tasks. For speed, the first is kept apart from those that wait: a turn of a single
-// task that does not split leaves the ring buffer `waiting` alone.
+// The slots of a ring: a power of two, so that `%` is one instruction.
+const SLOTS: usize = 8192;
+
+// Returns the slot that is `steps` after another.
+#[inline]
+fn slot(at: usize, steps: usize) -> usize
+    requires { (at < ring_size) × (steps < ring_size) }
+    ensures { result ≡ slot_after at steps }
+{
+    (at + steps) % SLOTS
+}
+
+// A queue of tasks in a ring of slots, where the first comes after the last. The slot behind the
+// last task is always free, so a task is written there before it is asked whether there is room.
+//
+// The ring is this module's own, since each turn goes through it (docs/DECISIONS.md).
 //
 // Contracts see the list of the tasks, and how many there may be.
 #[derive(Drop)]
 pub(crate) struct Tasks {
-    first: u16,
-    alive: bool,
-    waiting: HeapCircularBuffer<u16>,
+    slots: Vec<u16>,
+    // The slot of the first task.
+    first: usize,
+    count: usize,
+    capacity: usize,
 }
 
 impl Model for Tasks {
-    ghost use Rattle.std.specs.Prelude.{ℕ, ◌+◌};
-    ghost use Rattle.circular_buffer.specs.Buffer.{Buffer, buffer};
-    ghost use Rattle.mars_core.specs.Queue.{queue_of, IsQueue};
+    ghost use Rattle.mars_core.specs.Queue.{Queue, queue, held_from, IsRing};
 
-    ghost Value = { Buffer ℕ };
+    ghost Value = { Queue };
 
-    ghost view = { λ t. buffer (queue_of t.alive t.first t.waiting.items) (t.waiting.capacity + 1) };
+    ghost view = { λ t. queue (held_from t.slots.items t.first t.count) t.capacity };
 
-    ghost invariant = { λ t. IsQueue t.alive t.waiting.items };
+    ghost invariant = { λ t. IsRing t.slots.items t.first t.count t.capacity };
 }
 
 impl Tasks {
     // Makes an empty queue for at most `capacity` tasks.
-    pub(crate) fn with_capacity(alloc: Global, capacity: usize) -> Result<Tasks, AllocError>
-        requires { 1 ≤ capacity }
-        ensures { IfOk result (λ t. t ≡ buffer [] capacity) }
+    pub(crate) fn with_capacity(alloc: Global, capacity: usize) -> Result<Tasks, OutOfMemory>
+        requires { capacity < ring_size }
+        ensures { IfOk result (λ t. t ≡ queue [] capacity) }
     {
-        let waiting = HeapCircularBuffer::with_capacity(alloc, capacity - 1)?;
+        let slots = vec![in alloc; 0; SLOTS]?;
         Ok(Tasks {
+            slots,
             first: 0,
-            alive: false,
-            waiting,
+            count: 0,
+            capacity,
         })
     }
 
@@ -48,32 +63,27 @@ impl Tasks {
     pub(crate) fn is_empty(&self) -> bool
         ensures { result ≡ (length self.now.items == 0) }
     {
-        !self.alive
+        self.count == 0
     }
 
     // Returns the number of tasks.
+    #[tactic(auto, using(crate::proofs::Slots::slots))]
     pub(crate) fn len(&self) -> usize
         ensures len { result ≡ length self.now.items }
         ensures within { result ≤ self.now.capacity }
     {
-        if self.alive {
-            self.waiting.len() + 1
-        } else {
-            0
-        }
+        self.count
     }
 
     // Returns the task at `index`; the one at 0 executes next.
+    #[tactic(auto, using(crate::proofs::Slots::slots))]
     pub(crate) fn get(&self, index: usize) -> Option<u16>
         ensures { result ≡ slice_get self.now.items index }
     {
-        if !self.alive {
+        if index >= self.count {
             return None;
         }
-        if index == 0 {
-            return Some(self.first);
-        }
-        self.waiting.get(index - 1).copied()
+        Some(self.slots[slot(self.first, index)])
     }
 
     // Returns the task at `index`, 0 if there is none.
@@ -85,7 +95,8 @@ impl Tasks {
 
     // Checks whether two queues have the same tasks.
     pub(crate) fn is_same(&self, other: &Tasks) -> bool
-        ensures { result ≡ true → self.now.items ≡ other.now.items }
+        ensures same { result ≡ true → self.now.items ≡ other.now.items }
+        ensures found { self.now.items ≡ other.now.items → result ≡ true }
     {
         if self.len() != other.len() {
             return false;
@@ -99,24 +110,21 @@ impl Tasks {
     }
 
     // Copies the tasks of another queue, for which there is room.
+    #[tactic(auto, using(crate::proofs::Slots::slots))]
     pub(crate) fn copy_from(&mut self, other: &Tasks)
         requires { length other.now.items ≤ self.old.capacity }
-        ensures { self.new ≡ buffer other.now.items self.old.capacity }
+        ensures { self.new ≡ queue other.now.items self.old.capacity }
     {
-        let (front, back) = other.waiting.as_slices();
-        self.waiting.clear();
-        self.waiting.fill_from_slice(front);
-        self.waiting.fill_from_slice(back);
+        self.slots.copy_from_slice(&other.slots);
         self.first = other.first;
-        self.alive = other.alive;
+        self.count = other.count;
     }
 
     // Takes all tasks out.
     pub(crate) fn clear(&mut self)
-        ensures { self.new ≡ buffer [] self.old.capacity }
+        ensures { self.new ≡ queue [] self.old.capacity }
     {
-        self.alive = false;
-        self.waiting.clear();
+        self.count = 0;
     }
 
     // Returns the first task of a queue that has one.
@@ -125,64 +133,56 @@ impl Tasks {
         requires { 0 < length self.now.items }
         ensures { Some result ≡ slice_get self.now.items 0 }
     {
-        u32::from(self.first)
+        u32::from(self.slots[self.first])
     }
 
     // Appends a task if there is room; else the task is lost (1994 draft).
+    #[tactic(auto, using(crate::proofs::Slots::slots))]
     #[inline]
     pub(crate) fn append(&mut self, task: u32)
         requires { task < 65536 }
-        ensures tasks { self.new ≡ buffer (if nat_lt (length self.old.items) self.old.capacity then self.old.items ++ task ∷ [] else self.old.items) self.old.capacity }
+        ensures tasks { self.new ≡ queue (if nat_lt (length self.old.items) self.old.capacity then self.old.items ++ task ∷ [] else self.old.items) self.old.capacity }
         ensures first { 0 < length self.old.items → slice_get self.new.items 0 ≡ slice_get self.old.items 0 }
     {
-        if !self.alive {
-            self.first = task as u16;
-            self.alive = true;
-            return;
-        }
-        let _ = self.waiting.try_push_back(task as u16);
+        let end = slot(self.first, self.count);
+        self.count += usize::from(self.count < self.capacity);
+        self.slots[end] = task as u16;
     }
 
     // Takes the first task out of a queue that has one. Returns the task that is first then.
     #[inline]
     pub(crate) fn remove_first(&mut self) -> Option<u32>
         requires { 0 < length self.old.items }
-        ensures tasks { self.new ≡ buffer (drop 1 self.old.items) self.old.capacity }
+        ensures tasks { self.new ≡ queue (drop 1 self.old.items) self.old.capacity }
         ensures first { result ≡ slice_get self.new.items 0 }
     {
-        match self.waiting.pop_front() {
-            Some(next) => {
-                self.first = next;
-                Some(u32::from(next))
-            }
-            None => {
-                self.alive = false;
-                None
-            }
+        self.first = slot(self.first, 1);
+        self.count -= 1;
+        if self.count == 0 {
+            return None;
         }
+        Some(self.first())
     }
 
     // Takes the first task out of a queue that has one, and appends `last`, for which there is
     // room then. Returns the task that is first then.
+    #[tactic(auto, using(crate::proofs::Slots::slots))]
     #[inline]
     pub(crate) fn replace_first(&mut self, last: u32) -> u32
         requires last { last < 65536 }
         requires some { 0 < length self.old.items }
-        ensures tasks { self.new ≡ buffer (drop 1 self.old.items ++ last ∷ []) self.old.capacity }
+        ensures tasks { self.new ≡ queue (drop 1 self.old.items ++ last ∷ []) self.old.capacity }
         ensures room { length self.old.items ≤ self.old.capacity }
         ensures first { Some result ≡ slice_get self.new.items 0 }
     {
-        prove!(self.waiting.len() <= self.waiting.capacity());
-        match self.waiting.pop_front() {
-            Some(next) => {
-                self.first = next;
-                let _ = self.waiting.try_push_back(last as u16);
-                u32::from(next)
-            }
-            None => {
-                self.first = last as u16;
-                last
-            }
+        if self.count == 1 {
+            self.slots[self.first] = last as u16;
+            return last;
         }
+        let end = slot(self.first, self.count);
+        let next = slot(self.first, 1);
+        self.first = next;
+        self.slots[end] = last as u16;
+        u32::from(self.slots[next])
     }
 }

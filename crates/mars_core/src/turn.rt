@@ -1,6 +1,6 @@
 //! One turn of a side: its first task executes an instruction, and queues what follows.
 ghost use Rattle.std.specs.Prelude.{◌≡◌, ◌<◌, ◌≤◌, ◌+◌, Some, length, drop, slice_get};
-ghost use Rattle.circular_buffer.specs.Buffer.{buffer};
+ghost use Rattle.mars_core.specs.Queue.{queue};
 ghost use Rattle.rc_instr.specs.Warrior.{IsBelow};
 ghost use Rattle.mars_core.specs.Classes.{class_of};
 ghost use Rattle.mars_core.specs.Core.{cell_at, IsCore, AreTasks};
@@ -31,7 +31,7 @@ pub(crate) fn take_turn<C: Cells>(cells: &mut C, tasks: &mut Tasks, size: u32)
     requires core { IsCore size (C.items cells.old) }
     requires tasks { AreTasks size tasks.old.items }
     ensures cells { C.items cells.new ≡ core_after (C.items cells.old) tasks.old.items }
-    ensures tasks { tasks.new ≡ buffer (tasks_after tasks.old.capacity (C.items cells.old) tasks.old.items) tasks.old.capacity }
+    ensures tasks { tasks.new ≡ queue (tasks_after tasks.old.capacity (C.items cells.old) tasks.old.items) tasks.old.capacity }
     ensures core { IsCore size (C.items cells.new) }
     ensures below { AreTasks size tasks.new.items }
     ensures marks { C.marks cells.new ≤ C.marks cells.old + 3 }
@@ -57,7 +57,7 @@ pub(crate) fn next_turn<C: Cells>(
     requires tasks { AreTasks size tasks.old.items }
     requires pc { Some pc ≡ slice_get tasks.old.items 0 }
     ensures cells { C.items cells.new ≡ core_after (C.items cells.old) tasks.old.items }
-    ensures tasks { tasks.new ≡ buffer (tasks_after tasks.old.capacity (C.items cells.old) tasks.old.items) tasks.old.capacity }
+    ensures tasks { tasks.new ≡ queue (tasks_after tasks.old.capacity (C.items cells.old) tasks.old.items) tasks.old.capacity }
     ensures next { result ≡ slice_get tasks.new.items 0 }
     ensures core { IsCore size (C.items cells.new) }
     ensures below { AreTasks size tasks.new.items }
@@ -81,7 +81,7 @@ fn any_turn<C: Cells>(cells: &mut C, tasks: &mut Tasks, size: u32, pc: u32) -> O
     requires tasks { AreTasks size tasks.old.items }
     requires pc { Some pc ≡ slice_get tasks.old.items 0 }
     ensures cells { C.items cells.new ≡ core_after (C.items cells.old) tasks.old.items }
-    ensures tasks { tasks.new ≡ buffer (tasks_after tasks.old.capacity (C.items cells.old) tasks.old.items) tasks.old.capacity }
+    ensures tasks { tasks.new ≡ queue (tasks_after tasks.old.capacity (C.items cells.old) tasks.old.items) tasks.old.capacity }
     ensures next { result ≡ slice_get tasks.new.items 0 }
     ensures core { IsCore size (C.items cells.new) }
     ensures below { AreTasks size tasks.new.items }
@@ -105,7 +105,7 @@ fn turn_apart<C: Cells>(cells: &mut C, tasks: &mut Tasks, size: u32, pc: u32)
     requires tasks { AreTasks size tasks.old.items }
     requires pc { Some pc ≡ slice_get tasks.old.items 0 }
     ensures cells { C.items cells.new ≡ core_after (C.items cells.old) tasks.old.items }
-    ensures tasks { tasks.new ≡ buffer (tasks_after tasks.old.capacity (C.items cells.old) tasks.old.items) tasks.old.capacity }
+    ensures tasks { tasks.new ≡ queue (tasks_after tasks.old.capacity (C.items cells.old) tasks.old.items) tasks.old.capacity }
     ensures core { IsCore size (C.items cells.new) }
     ensures below { AreTasks size tasks.new.items }
     ensures marks { C.marks cells.new ≤ C.marks cells.old + 3 }
@@ -250,7 +250,7 @@ fn requeue(tasks: &mut Tasks, size: u32, pc: u32, executed: Executed) -> Option<
     requires pc { pc < size }
     requires jump { executed.jump < size }
     requires some { 0 < length tasks.old.items }
-    ensures tasks { tasks.new ≡ buffer (appended tasks.old.capacity (drop 1 tasks.old.items) (addresses size pc executed.jump executed.queued)) tasks.old.capacity }
+    ensures tasks { tasks.new ≡ queue (appended tasks.old.capacity (drop 1 tasks.old.items) (addresses size pc executed.jump executed.queued)) tasks.old.capacity }
     ensures below { AreTasks size (addresses size pc executed.jump executed.queued) }
     ensures next { result ≡ slice_get tasks.new.items 0 }
 {
