@@ -19,7 +19,7 @@ TUNE = "tune {} one.csv CERT dat.red"
 # For each thing of which there is one more: the command, the end of the template, and the
 # certificate's row of setting K > 0.
 KINDS = {
-    "a reference": (CHECK, IMP, "same,{},0\n"),
+    "a same row": (CHECK, IMP, "same,{},0\n"),
     "a row": (CHECK, IMP + "DAT K\n", "cap,{},0:3\n"),
     "a refused row": (CHECK, REFUSED, "refused,{},-\n"),
     "a setting": (TUNE.format("many.red"), IMP + "DAT K\n", ""),

@@ -16,8 +16,8 @@ use std::time::{Duration, Instant};
 use tune_cert::{Best, Standing, Watcher};
 use tune_runs::{RunFault, TuneTexts, inputs_of};
 
-// After how many fights the clock is read: a reading takes as long as a fight of a few turns, and
-// that many of the longest fights take less than half a second.
+// After how many fights of a setting the clock is read again: a reading takes as long as a few turns,
+// and sixteen of the longest fights take less than a second.
 const FIGHTS_PER_READING: u64 = 16;
 
 // Why a certificate may be rejected though it is right.
@@ -31,12 +31,12 @@ pub(crate) enum Style {
     Hidden,
     // As one line of a terminal, rewritten in place twice a second at most.
     Line,
-    // As lines of a log, one a minute.
+    // As lines of a log, one a minute at most.
     Log,
 }
 
 impl Style {
-    // Returns the milliseconds from one line to the next.
+    // Returns the least number of milliseconds from one line to the next.
     fn pause(self) -> u64
         ensures log { self ≡ Style.Log → result ≡ 60000 }
         ensures line { self ≡ Style.Line → result ≡ 500 }
@@ -250,7 +250,7 @@ fn tell_left<V: Write>(err: &mut Outlet<V>, done: u64, count: u64, millis: u64) 
     }
 }
 
-// Returns a time as a number of seconds, minutes or hours, and the unit.
+// Returns a time in whole seconds, minutes or hours, and the unit.
 fn in_units(seconds: u64) -> (u64, &'static str)
     ensures seconds { seconds < 120 → result.0 ≡ seconds }
     ensures minutes { 120 ≤ seconds → seconds < 7200 → result.0 ≡ seconds / 60 }

@@ -9,21 +9,21 @@ pub record Queue : Type 0 where
 abbrev pub queue : List ℕ → ℕ → Queue
 queue items capacity = record { items = items; capacity = capacity }
 
--- The slots of a ring: more than the 8000 tasks that rules allow.
+-- The number of slots in a ring: more than the 8000 tasks that rules allow.
 abbrev pub ring_size : ℕ
 ring_size = 8192
 
--- The slot that is so many after another. After the last comes the first.
+-- The slot so many steps after another: slot 0 comes after the last one.
 abbrev pub slot_after : ℕ → ℕ → ℕ
-slot_after at steps = (at + steps) % ring_size
+slot_after from steps = (from + steps) % ring_size
 
--- What so many slots hold, in order, beginning with the one at `at`.
+-- What `count` slots hold, in order, from the slot `at` on.
 abbrev pub held_from : List ℕ → ℕ → ℕ → List ℕ
 held_from slots at zero = []
 held_from slots at (suc count) = get_or slots at 0 ∷ held_from slots (slot_after at 1) count
 
--- What holds of every queue. There may be fewer tasks than there are slots, so the slot behind the
--- last task is free.
+-- What holds of every queue. It has room for fewer tasks than there are slots, so the slot after
+-- the last task is free.
 pub record IsRing (slots : List ℕ) (first count capacity : ℕ) : Type 0 where
   pub slots_are : length slots ≡ ring_size
   pub first_is : first < ring_size

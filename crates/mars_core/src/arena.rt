@@ -255,9 +255,8 @@ impl Arena<PlainCells> {
 
     /// Makes a blank arena over plain cells. Its marks are the core size.
     ///
-    /// Reserves all the memory that fights in it need: the cells, for each side a queue of as many
-    /// tasks as the rules allow, and a copy of the cells to see whether a state comes back. Returns
-    /// `OutOfMemory` if that fails.
+    /// Reserves all the memory that fights in it need: the cells, a queue for each side, and a
+    /// snapshot of both to see whether a state comes back. Returns `OutOfMemory` if that fails.
     pub fn try_new(alloc: Global, rules: &Rules) -> Result<Arena<PlainCells>, OutOfMemory>
         ensures blank { IfOk result (IsBlank rules.now) }
         ensures fights { IfOk result (λ a. a.fights ≡ 0) }
@@ -274,9 +273,8 @@ impl Arena<PackedCells> {
 
     /// Makes a blank arena over packed cells. It has no marks.
     ///
-    /// Reserves all the memory that fights in it need: the cells, their journal, for each side a
-    /// queue of as many tasks as the rules allow, and a copy of the cells to see whether a state
-    /// comes back. Returns `OutOfMemory` if that fails.
+    /// Reserves all the memory that fights in it need: the cells, their journal, a queue for each
+    /// side, and a snapshot to see whether a state comes back. Returns `OutOfMemory` if that fails.
     pub fn try_new(alloc: Global, rules: &Rules) -> Result<Arena<PackedCells>, OutOfMemory>
         ensures blank { IfOk result (IsBlank rules.now) }
         ensures fights { IfOk result (λ a. a.fights ≡ 0) }

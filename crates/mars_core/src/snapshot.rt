@@ -58,10 +58,6 @@ impl<C: Cells + Drop> Snapshot<C> {
 
 impl<C: Cells> Snapshot<C> {
     // Begins a fight: none of its states was taken yet.
-    //
-    // Not inlined only so that `take_turns` begins at a multiple of 32, which makes it faster
-    // (docs/COSTS.md, "The machine"). Look with `nm` after a change of what comes before it.
-    #[inline(never)]
     pub(crate) fn forget(&mut self)
         ensures { self.new ≡ record self.old { cycles = 0 } }
     {

@@ -6,29 +6,28 @@ use rc_instr::OutOfMemory;
 use std::alloc::Global;
 use std::marker::Model;
 
-// The slots of a ring: a power of two, so that `%` is one instruction.
+// The number of slots in a ring: a power of two, so that `%` is one instruction.
 const SLOTS: usize = 8192;
 
-// Returns the slot that is `steps` after another.
+// Returns the slot `steps` after `from`.
 #[inline]
-fn slot(at: usize, steps: usize) -> usize
-    requires { (at < ring_size) × (steps < ring_size) }
-    ensures { result ≡ slot_after at steps }
+fn slot(from: usize, steps: usize) -> usize
+    requires { (from < ring_size) × (steps < ring_size) }
+    ensures { result ≡ slot_after from steps }
 {
-    (at + steps) % SLOTS
+    (from + steps) % SLOTS
 }
 
-// A queue of tasks in a ring of slots, where the first comes after the last. The slot behind the
-// last task is always free, so a task is written there before it is asked whether there is room.
+// A queue of tasks in a ring of slots: slot 0 comes after the last one. The slot after the last task
+// is always free, so `append` writes there even if the queue is full.
 //
-// The ring is this module's own, since each turn goes through it (docs/DECISIONS.md).
+// Not a `HeapCircularBuffer`, which takes twice the instructions (docs/DECISIONS.md).
 //
 // Contracts see the list of the tasks, and how many there may be.
 #[derive(Drop)]
 pub(crate) struct Tasks {
     slots: Vec<u16>,
-    // The slot of the first task.
-    first: usize,
+    first_slot: usize,
     count: usize,
     capacity: usize,
 }
@@ -38,9 +37,9 @@ impl Model for Tasks {
 
     ghost Value = { Queue };
 
-    ghost view = { λ t. queue (held_from t.slots.items t.first t.count) t.capacity };
+    ghost view = { λ t. queue (held_from t.slots.items t.first_slot t.count) t.capacity };
 
-    ghost invariant = { λ t. IsRing t.slots.items t.first t.count t.capacity };
+    ghost invariant = { λ t. IsRing t.slots.items t.first_slot t.count t.capacity };
 }
 
 impl Tasks {
@@ -52,7 +51,7 @@ impl Tasks {
         let slots = vec![in alloc; 0; SLOTS]?;
         Ok(Tasks {
             slots,
-            first: 0,
+            first_slot: 0,
             count: 0,
             capacity,
         })
@@ -83,7 +82,7 @@ impl Tasks {
         if index >= self.count {
             return None;
         }
-        Some(self.slots[slot(self.first, index)])
+        Some(self.slots[slot(self.first_slot, index)])
     }
 
     // Returns the task at `index`, 0 if there is none.
@@ -109,14 +108,14 @@ impl Tasks {
         true
     }
 
-    // Copies the tasks of another queue, for which there is room.
+    // Copies the tasks of `other`, for which there is room: all slots, used or not.
     #[tactic(auto, using(crate::proofs::Slots::slots))]
     pub(crate) fn copy_from(&mut self, other: &Tasks)
         requires { length other.now.items ≤ self.old.capacity }
         ensures { self.new ≡ queue other.now.items self.old.capacity }
     {
         self.slots.copy_from_slice(&other.slots);
-        self.first = other.first;
+        self.first_slot = other.first_slot;
         self.count = other.count;
     }
 
@@ -133,7 +132,7 @@ impl Tasks {
         requires { 0 < length self.now.items }
         ensures { Some result ≡ slice_get self.now.items 0 }
     {
-        u32::from(self.slots[self.first])
+        u32::from(self.slots[self.first_slot])
     }
 
     // Appends a task if there is room; else the task is lost (1994 draft).
@@ -144,19 +143,19 @@ impl Tasks {
         ensures tasks { self.new ≡ queue (if nat_lt (length self.old.items) self.old.capacity then self.old.items ++ task ∷ [] else self.old.items) self.old.capacity }
         ensures first { 0 < length self.old.items → slice_get self.new.items 0 ≡ slice_get self.old.items 0 }
     {
-        let end = slot(self.first, self.count);
+        let end = slot(self.first_slot, self.count);
         self.count += usize::from(self.count < self.capacity);
         self.slots[end] = task as u16;
     }
 
-    // Takes the first task out of a queue that has one. Returns the task that is first then.
+    // Removes the first task of a queue that has one. Returns the new first task, if any.
     #[inline]
     pub(crate) fn remove_first(&mut self) -> Option<u32>
         requires { 0 < length self.old.items }
         ensures tasks { self.new ≡ queue (drop 1 self.old.items) self.old.capacity }
         ensures first { result ≡ slice_get self.new.items 0 }
     {
-        self.first = slot(self.first, 1);
+        self.first_slot = slot(self.first_slot, 1);
         self.count -= 1;
         if self.count == 0 {
             return None;
@@ -164,8 +163,8 @@ impl Tasks {
         Some(self.first())
     }
 
-    // Takes the first task out of a queue that has one, and appends `last`, for which there is
-    // room then. Returns the task that is first then.
+    // Removes the first task of a queue that has one, and appends `last`, for which there is room
+    // then. Returns the new first task.
     #[tactic(auto, using(crate::proofs::Slots::slots))]
     #[inline]
     pub(crate) fn replace_first(&mut self, last: u32) -> u32
@@ -175,13 +174,14 @@ impl Tasks {
         ensures room { length self.old.items ≤ self.old.capacity }
         ensures first { Some result ≡ slice_get self.new.items 0 }
     {
+        // A single task keeps its slot, which is quicker.
         if self.count == 1 {
-            self.slots[self.first] = last as u16;
+            self.slots[self.first_slot] = last as u16;
             return last;
         }
-        let end = slot(self.first, self.count);
-        let next = slot(self.first, 1);
-        self.first = next;
+        let end = slot(self.first_slot, self.count);
+        let next = slot(self.first_slot, 1);
+        self.first_slot = next;
         self.slots[end] = last as u16;
         u32::from(self.slots[next])
     }
