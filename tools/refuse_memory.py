@@ -23,6 +23,7 @@ DAT = "ORG 0\nDAT.F $0, $0\n"
 JUMP = "ORG 0\nJMP.B $0, $0\n"
 SHARED = ";@tune K 0 3 1 2\nMOV 0, 1\n"
 GOOD = "cwcert,1,4\nbest,0,4\ncap,0,0:3 1:1\nsame,1,2\ncap,2,0:3 1:1\nsame,3,2\n"
+# The inputs. `refuse_writes.py` judges what else is in a run's folder, CERT above all.
 FILES = {
     "dat.red": "DAT 0\n",
     "imp.red": "MOV 0, 1\n",
