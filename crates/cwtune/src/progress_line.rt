@@ -16,8 +16,8 @@ use std::time::{Duration, Instant};
 use tune_cert::{Best, Standing, Watcher};
 use tune_runs::{RunFault, TuneTexts, inputs_of};
 
-// After how many fights of a setting the clock is read again: a reading takes as long as a few turns,
-// and sixteen of the longest fights take less than a second.
+// After how many fights of a setting the clock is read again: a reading takes as long as a few
+// turns, and sixteen of the longest fights take less than a second.
 const FIGHTS_PER_READING: u64 = 16;
 
 // Why a certificate may be rejected though it is right.

@@ -36,7 +36,7 @@ pub play_on : (limit : ℕ) (start s : State) (first : Side) (c k j : ℕ) → s
 play_on limit start s first c k j e d =
     ap (λ x. play_of limit x first k) e ∙ play_more limit start first c k ∙ ap (play_of limit start first) (sym d)
 
--- a fight that has gone on for c cycles, and from there for the turns of n cycles, has not been over
+-- a fight that has gone on for c cycles, and then for the turns of n more, has not been over
 pub not_before : (limit : ℕ) (start s : State) (first : Side) (c n r : ℕ) → s ≡ play_of limit start first (2 * c) →
     ((j : ℕ) → j < 2 * c → is_over (play_of limit start first j) ≡ false) → r ≡ turns_of limit s first n →
     (j : ℕ) → j < 2 * c + r → is_over (play_of limit start first j) ≡ false

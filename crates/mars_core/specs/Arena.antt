@@ -32,8 +32,8 @@ pub record IsBlank (rules : RulesView) (a : ArenaView) : Type 0 where
   pub state : a.state ≡ blank_of rules.core
   pub turns : a.turns ≡ 0
 
--- What holds of every arena: checked rules, a core and tasks of their size, queues with room for the
--- tasks that the rules allow, and a snapshot of as many cells.
+-- What holds of every arena: checked rules, a core and tasks of their size, queues with room for
+-- the tasks that the rules allow, and a snapshot of as many cells.
 pub record IsArena (rules : RulesView) (core : List Instruction) (candidate opponent : Queue) (snapshot : SnapshotView) (turns : ℕ) : Type 0 where
   pub rules_hold : IsRules rules
   pub core_holds : IsCore rules.core core

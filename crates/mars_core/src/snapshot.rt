@@ -65,8 +65,8 @@ impl<C: Cells> Snapshot<C> {
         self.due = 0;
     }
 
-    // Returns how many cycles ago the state was the same, if it is the one that was taken. Each cell
-    // has to be kept as it was, so a mark that is new hides a return for one period.
+    // Returns how many cycles ago the state was the same, if it is the one that was taken. Each
+    // cell has to be kept as it was, so a mark that is new hides a return for one period.
     pub(crate) fn period(
         &mut self,
         cells: &C,

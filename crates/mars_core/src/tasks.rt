@@ -18,8 +18,8 @@ fn slot(from: usize, steps: usize) -> usize
     (from + steps) % SLOTS
 }
 
-// A queue of tasks in a ring of slots: slot 0 comes after the last one. The slot after the last task
-// is always free, so `append` writes there even if the queue is full.
+// A queue of tasks in a ring of slots: slot 0 comes after the last one. The slot after the last
+// task is always free, so `append` writes there even if the queue is full.
 //
 // Not a `HeapCircularBuffer`, which takes twice the instructions (docs/DECISIONS.md).
 //

@@ -61,8 +61,8 @@ is_bare_rof h = not h.spoiled && ((length h.labels == 0) && (length h.rest == 0)
 abbrev pub at_rof : Head → Step
 at_rof rof u = if is_bare_rof rof then Ok u else Err (at_line rof.number BadDirective)
 
--- the faults of a line other than FOR: a ROF ends no block, an EQU is in a block, or a ninth counter
--- was to be joined to a name
+-- the faults of a line other than FOR: a ROF ends no block, an EQU is in a block, or a ninth
+-- counter was to be joined to a name
 abbrev pub line_checked : (line : ℕ) → HeadWord → (in_block spoiled : Bool) → Result (Unit {0}) ExpandFault
 line_checked line word.Rof b s = Err (at_line line RofWithoutFor)
 line_checked line word.Equ true s = Err (at_line line BadDirective)

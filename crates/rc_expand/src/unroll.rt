@@ -189,8 +189,8 @@ fn append_line<'s, 'a>(
     append(out, context, scope.copies, head, false)
 }
 
-// Appends the labels before a counter as a line of their own, if there are any. `opened` is the line
-// of the FOR as it is in `copies`.
+// Appends the labels before a counter as a line of their own, if there are any. `opened` is the
+// line of the FOR as it is in `copies`.
 #[tactic(auto, using(crate::proofs::Unrolling::Reaching::no_earlier))]
 fn append_earlier<'a>(
     out: &mut Unrolling<'a>,

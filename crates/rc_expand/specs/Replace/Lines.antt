@@ -1,5 +1,5 @@
--- The third pass, line by line: the names that a line defines must be new, its EQU names give way to
--- their tokens, and EQU lines are dropped.
+-- The third pass, line by line: the names that a line defines must be new, its EQU names give way
+-- to their tokens, and EQU lines are dropped.
 use Rattle.std.specs.Prelude.{ℕ, ◌||◌, List, [], ◌∷◌, ◌++◌, map, Option, Some, None, if◌then◌else◌, option_to_list, flat_map, Result, Ok, Err}
 use Rattle.rc_text.specs.declared.token.Token.{Token}
 use Rattle.rc_text.specs.Symbols.{name_of}

@@ -61,8 +61,8 @@ module _ (source : List ℕ) where
   copied_rest counter k word.Code ts = copied_code counter k ts
   copied_rest counter k _ ts = copied_tokens counter k ts
 
-  -- if a ninth counter would be joined to a name, the line is spoiled: only its number, its word and
-  -- its directive are left
+  -- if a ninth counter would be joined to a name, the line is spoiled: only its number, its word
+  -- and its directive are left
   abbrev pub or_spoiled : Head → Option (List (List Token)) → Option (List Token) → Head
   or_spoiled h (Some labels) (Some rest) = record h { labels = labels; rest = rest }
   or_spoiled h _ _ = record h { labels = []; rest = []; spoiled = true }

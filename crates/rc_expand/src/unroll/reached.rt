@@ -22,8 +22,8 @@ pub(crate) struct Copying<'a> {
     pub number: u16,
 }
 
-// A line of the text, and the copies that it is in, the outermost first. `is_earlier` is set for the
-// labels that a FOR has before its counter, which are a line of their own.
+// A line of the text, and the copies that it is in, the outermost first. `is_earlier` is set for
+// the labels that a FOR has before its counter, which are a line of their own.
 #[derive(Drop)]
 pub(crate) struct Reached<'a> {
     pub head: &'a Head,
