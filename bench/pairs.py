@@ -29,13 +29,17 @@ class WrongPoints(Exception):
 
 
 class Pair:
-    """Two warriors, each a name and a load file, and the commands that play their series."""
+    """Two warriors, each a name and a load file, and the commands that play their series.
+
+    `best` has the least seconds of each program, `points` the candidate's points.
+    """
 
     def __init__(self, candidate, opponent, programs, folder):
         (mine, my_load), (theirs, their_load) = candidate, opponent
         self.name = f"{mine}:{theirs}"
+        self.best, self.points = [math.inf, math.inf], None
         cwtune, pmars = map(str, programs)
-        game = Game(Rules(), my_load, their_load, folder)
+        game = Game(Rules(), my_load, their_load, tempfile.mkdtemp(dir=folder))
         self.tune = game.tune_words(cwtune, fights_of(game.rules, SEED, ROUNDS))
         self.pmars = game.series_words(pmars, SEED, ROUNDS)
 
@@ -54,15 +58,12 @@ class Pair:
         wins, ties = map(int, output.split()[:2])
         return seconds, 3 * wins + ties
 
-    def measure(self, runs):
-        """Returns the least seconds of each program, played in turn, and the points of both."""
-        best = [math.inf, math.inf]
-        for _ in range(runs):
-            (mine, points), (theirs, others) = self.play_tune(), self.play_pmars()
-            if points != others:
-                raise WrongPoints(f"{self.name}: cwtune has {points} points, pMARS {others}")
-            best = [min(best[0], mine), min(best[1], theirs)]
-        return best, points
+    def play(self):
+        """Plays the series by each program, which must have the same points."""
+        (mine, self.points), (theirs, others) = self.play_tune(), self.play_pmars()
+        if self.points != others:
+            raise WrongPoints(f"{self.name}: cwtune has {self.points} points, pMARS {others}")
+        self.best = [min(self.best[0], mine), min(self.best[1], theirs)]
 
 
 def processor_time(command):
@@ -88,16 +89,24 @@ def loads_of(cwtune, folder):
     return [(path.stem, processor_time([str(cwtune), "asm", str(path)])[1]) for path in paths]
 
 
+def measured(warriors, programs, runs):
+    """Plays each pair of warriors once, then again, so that a slow minute is one run of each."""
+    with tempfile.TemporaryDirectory() as folder:
+        pairs = [Pair(*both, programs, folder) for both in itertools.combinations(warriors, 2)]
+        for _ in range(runs):
+            for pair in pairs:
+                pair.play()
+    return pairs
+
+
 def print_folder(name, cwtune, pmars, runs):
     """Prints a line per pair of warriors of a folder, the geometric mean and the least ratio."""
     print(f"{name:<32}{'points':>8}{'ms':>10}{'pMARS ms':>10}{'ratio':>8}", flush=True)
     ratios = []
-    for candidate, opponent in itertools.combinations(loads_of(cwtune, FOLDERS[name]), 2):
-        with tempfile.TemporaryDirectory() as work:
-            pair = Pair(candidate, opponent, (cwtune, pmars), work)
-            (mine, theirs), points = pair.measure(runs)
+    for pair in measured(loads_of(cwtune, FOLDERS[name]), (cwtune, pmars), runs):
+        mine, theirs = pair.best
         ratios.append(theirs / mine)
-        line = f"{pair.name:<32}{points:>8}{mine * 1e3:>10.1f}{theirs * 1e3:>10.1f}"
+        line = f"{pair.name:<32}{pair.points:>8}{mine * 1e3:>10.1f}{theirs * 1e3:>10.1f}"
         print(f"{line}{ratios[-1]:>8.2f}", flush=True)
     mean = math.exp(sum(map(math.log, ratios)) / len(ratios))
     print(f"the same points in {len(ratios)} series of {ROUNDS} fights")

@@ -235,7 +235,7 @@ def print_short(players, fights, runs, folder):
 
 
 def fastest_texts(program, runs):
-    """Returns the least seconds of each text, its lines, and the least seconds of the start.
+    """Returns the least seconds of each text, its instructions, and those of the start.
 
     The texts take turns, so that a busy moment affects all.
     """
@@ -254,16 +254,16 @@ def fastest_texts(program, runs):
                     load = file.with_suffix(".load")
                     raise WrongResult(f"{program} asm {file} did not give {load}")
                 best[number] = min(best[number], seconds)
-    lines = [output.count("\n") - 1 for output in expected]
-    return best, lines, start
+    instructions = [output.count("\n") - 1 for output in expected]
+    return best, instructions, start
 
 
 def print_texts(program, runs):
-    """Prints a line per text: texts per second and microseconds per line, without the start."""
-    best, lines, start = fastest_texts(program, runs)
+    """Prints a line per text: texts a second, microseconds an instruction, without the start."""
+    best, instructions, start = fastest_texts(program, runs)
     note = f"(start of the process {start * 1e6:.0f} us, taken off)"
-    print(f"{'text':<14}{'lines':>10}{'texts/s':>12}{'us/line':>10}   {note}")
-    for name, seconds, count in zip(TEXTS, best, lines):
+    print(f"{'text':<14}{'instrs':>10}{'texts/s':>12}{'us/instr':>10}   {note}")
+    for name, seconds, count in zip(TEXTS, best, instructions):
         rest = seconds - start
         if rest < LEAST_PART * start:
             print(f"{name:<14}{count:>10}   too short to tell")
