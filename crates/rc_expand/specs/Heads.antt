@@ -1,4 +1,4 @@
--- The first passes: the lines of a text, the check that its blocks nest, and its EQU names (pMARS).
+-- The first pass: the lines of a text, the check that its blocks nest, and its EQU names (pMARS).
 pub mod Lines
 pub mod Nesting
 pub mod Faults

@@ -1,4 +1,4 @@
--- What all passes share.
+-- What the second and the third pass share.
 use Rattle.std.specs.Prelude.{ℕ, List}
 use Rattle.rc_instr.specs.Rules.{RulesView}
 use Rattle.rc_expand.specs.declared.names.GivenNames.{GivenNames}

@@ -62,13 +62,13 @@ abbrev pub at_rof : Head → Step
 at_rof rof u = if is_bare_rof rof then Ok u else Err (at_line rof.number BadDirective)
 
 -- the faults of a line other than FOR: a ROF ends no block, an EQU is in a block, or a ninth
--- counter was to be joined to a name
+-- counter was to be joined to a name. In a text whose blocks nest no ROF comes here.
 abbrev pub line_checked : (line : ℕ) → HeadWord → (in_block spoiled : Bool) → Result (Unit {0}) ExpandFault
 line_checked line word.Rof b s = Err (at_line line RofWithoutFor)
 line_checked line word.Equ true s = Err (at_line line BadDirective)
 line_checked line _ b s = if s then Err (at_line line BadDirective) else Ok tt
 
--- the same, of a whole line
+-- the faults of a line that is made
 abbrev pub checked_line : (in_block : Bool) → Head → Result (Unit {0}) ExpandFault
 checked_line b h = line_checked h.number h.word b h.spoiled
 

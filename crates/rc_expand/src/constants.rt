@@ -1,9 +1,10 @@
-//! Constants of a text.
+//! Constants that are given from outside of a text.
 
 /// Names and numbers from outside of a text, such as a template's constants.
 ///
-/// There are as many values as names, at most 8, possibly none. The names are distinct, each a
-/// letter or `_` and then letters, digits and `_`, and none is reserved or predefined.
+/// A template gives at most 8, with distinct names that are neither reserved nor predefined.
+/// Nothing is required of others: the first of equal names counts, and a name without a value is no
+/// constant.
 #[derive(Clone, Copy, Debug)]
 pub struct Constants<'a> {
     /// The names, by their bytes.

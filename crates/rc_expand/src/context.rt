@@ -1,4 +1,4 @@
-//! What all passes of the expansion share.
+//! What the second and the third pass of the expansion share.
 ghost use Rattle.rc_expand.specs.Replace.{EqusLie};
 ghost use Rattle.rc_expand.specs.Heads.NameTables.{AreLinks};
 
@@ -7,9 +7,9 @@ use crate::heads::table::NameTable;
 use crate::names::GivenNames;
 use std::alloc::Global;
 
-// What all passes share: the source, the names given from outside, and the EQU table. The spans of
-// the EQU names' tokens lie in the source. For each EQU name the links say which of its tokens are
-// EQU names themselves.
+// The source, the names given from outside of it, and its EQU names. The spans of the EQU names'
+// tokens lie in the source. For each EQU name the links say which of its tokens are EQU names
+// themselves.
 #[derive(Drop)]
 pub(crate) struct Context<'a> {
     pub(crate) alloc: Global,

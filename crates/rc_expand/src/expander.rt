@@ -7,7 +7,7 @@ ghost use Rattle.rc_expand.specs.Expansion.{LineLies, expansion_of};
 
 use crate::constants::Constants;
 use crate::context::Context;
-use crate::fault::{ExpandFault, placed};
+use crate::fault::{ExpandFault, memory_at_line_0};
 use crate::heads::read_heads;
 use crate::line::{Expanded, Lines};
 use crate::names::GivenNames;
@@ -55,11 +55,11 @@ pub fn expand(
 {
     match expand_text(alloc, source, constants, rules) {
         Ok(expanded) => Ok(expanded),
-        Err(found) => Err(placed(found)),
+        Err(found) => Err(memory_at_line_0(found)),
     }
 }
 
-// Does what `expand` does, but an `OutOfMemory` may carry the line at which it came up.
+// Does what `expand` does. Its contract says nothing of the line of an `OutOfMemory`.
 #[tactic(auto, unfolding(crate::specs::Expansion::expansion_of))]
 fn expand_text(
     alloc: Global,

@@ -88,8 +88,9 @@ pub(crate) fn fault(line: u64, kind: ExpandKind) -> ExpandFault
     ExpandFault { line, kind }
 }
 
-// Sets the line of an `OutOfMemory` to 0; any other fault stays as it is.
-pub(crate) fn placed(found: ExpandFault) -> ExpandFault
+// Sets the line of an `OutOfMemory` to 0, which it is already: the contracts of the passes do not
+// say so. Any other fault stays as it is.
+pub(crate) fn memory_at_line_0(found: ExpandFault) -> ExpandFault
     ensures kind { result.kind ≡ found.kind }
     ensures memory { result.kind ≡ OutOfMemory → result.line ≡ 0 }
     ensures fault { found.kind ≢ OutOfMemory → result ≡ found }

@@ -47,6 +47,10 @@ pub(crate) fn unroll<'a>(
 }
 
 // Appends lines with their blocks unrolled.
+//
+// `check_blocks` has refused each FOR without its ROF, each ROF without its FOR and each block that
+// is nested too deep. These faults are told here, in `check_line` and in `append_copy` all the
+// same, since the definition is one of any lines.
 #[cycle(unroll)]
 fn append_lines<'s, 'a>(
     out: &mut Unrolling<'a>,
@@ -136,8 +140,8 @@ fn append<'a>(
     Ok(())
 }
 
-// Refuses a ROF alone, an EQU in a block, and a line to which a ninth counter was to be joined.
-// This depends on nothing of a line but its number, its word and whether it is spoiled.
+// Refuses a ROF without its FOR, an EQU in a block, and a spoiled line. Reads only the number, the
+// word and `spoiled`, which are known of a short line before it is made.
 fn check_line(head: &Head, in_block: bool) -> Result<(), ExpandFault>
     ensures { Returns (λ u. u) result (line_checked head.now.number head.now.word in_block head.now.spoiled) }
 {

@@ -72,7 +72,7 @@ pub record Replacement : Type 0 where
 abbrev pub no_lines : Replacement
 no_lines = record { names = []; lines = [] }
 
--- what the code keeps of it
+-- the names and lines that the code has so far
 abbrev pub lines_so_far : Replacements → Replacement
 lines_so_far r = record { names = names_in r.names; lines = r.lines.items }
 

@@ -61,8 +61,8 @@ module _ (source : List ℕ) where
   copied_rest counter k word.Code ts = copied_code counter k ts
   copied_rest counter k _ ts = copied_tokens counter k ts
 
-  -- if a ninth counter would be joined to a name, the line is spoiled: only its number, its word
-  -- and its directive are left
+  -- if a ninth counter would be joined to a name, the line is spoiled: its labels and what comes
+  -- after them are dropped
   abbrev pub or_spoiled : Head → Option (List (List Token)) → Option (List Token) → Head
   or_spoiled h (Some labels) (Some rest) = record h { labels = labels; rest = rest }
   or_spoiled h _ _ = record h { labels = []; rest = []; spoiled = true }
@@ -76,15 +76,15 @@ module _ (source : List ℕ) where
   copied_block None k hs = hs
   copied_block (Some counter) k hs = map (copied_line counter k) hs
 
--- among `n` tokens no ninth counter is ever joined to this one, in however many copies: to join one
--- takes two tokens away
+-- `n` tokens are too few for a ninth counter to be joined to this one of them, in however many
+-- copies: each counter that is joined takes two tokens away
 abbrev pub stays_joinable : ℕ → Token → Bool
 stays_joinable n t = nat_le (2 * length t.joined + n) (2 * (MOST_JOINED + 1))
 
--- the same, of all of these tokens
+-- all of the tokens stay joinable
 abbrev pub is_short : List Token → Bool
 is_short ts = list_all (stays_joinable (length ts)) ts
 
--- a line to which no ninth counter is ever joined, in however many copies
+-- the line is too short for a ninth counter to be joined to a name of it
 abbrev pub is_short_line : Head → Bool
 is_short_line h = list_all is_short h.labels && is_short h.rest

@@ -24,15 +24,15 @@ module _ (source : List ℕ) where
   reached_part true h = bare_line h.number (earlier_of h.labels)
   reached_part false h = h
 
-  -- what is unrolled there
+  -- the line that was reached, as it is in its copies
   abbrev pub reached_line : Reached → Head
   reached_line r = reached_part r.is_earlier (line_in r.copies.items r.head.now)
 
-  -- and in several places
+  -- the lines that were reached
   abbrev pub reached_lines : List Reached → List Head
   reached_lines rs = map reached_line rs
 
-  -- what the lines that were reached stand for
+  -- the lines that were reached so far, and the number of copies made for them
   abbrev pub unrolled_so_far : Unrolling → Unrolled
   unrolled_so_far u = record { lines = reached_lines u.lines.items; copies = u.copies }
 

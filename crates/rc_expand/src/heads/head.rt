@@ -67,7 +67,7 @@ pub(crate) struct Head {
     pub word: HeadWord,
     pub directive: Option<Token>,
     pub rest: Tokens,
-    // Set if a ninth counter was to be joined to a name of the line. Nothing but `word` is then
-    // left of it.
+    // Set if a ninth counter was to be joined to a name of the line. Its labels and `rest` are then
+    // empty.
     pub spoiled: bool,
 }

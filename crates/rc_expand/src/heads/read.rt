@@ -163,8 +163,8 @@ fn read_head(
     })
 }
 
-// Appends the line of these tokens, unless there are none, and returns whether it has END. The
-// tokens are used up.
+// Appends the line of these tokens, unless there are none, and returns whether it has END. Moves
+// what comes after the labels out of `line`, which the caller clears.
 fn push_line(
     alloc: Global,
     source: &[u8],

@@ -17,8 +17,8 @@ use crate::replace::replace_tokens;
 use rc_text::Token;
 use std::alloc::{AllocError, Global};
 
-// Splits the labels before the first that is not a single name. From there on they are not labels:
-// they are tokens of a line of code.
+// Splits the labels at the first that is not a single name. That one and those after it are not
+// labels but tokens of a line of code.
 pub(crate) fn split_labels<'a>(
     alloc: Global,
     source: &[u8],

@@ -82,7 +82,8 @@ pub(crate) fn with_copy<'a>(
     }
 }
 
-// Checks for a line to which no ninth counter is ever joined, in however many copies.
+// Checks for a line that is too short for a ninth counter to be joined to a name of it, in however
+// many copies.
 pub(crate) fn is_short_line(head: &Head) -> bool
     ensures { result ≡ is_short_line head.now }
 {
@@ -101,11 +102,11 @@ fn is_short(tokens: &[Token]) -> bool
     tokens.iter().all(|t| stays_joinable(t, tokens.len()))
 }
 
-// The most tokens of a line to which no ninth counter is ever joined.
+// Up to this many tokens no ninth counter can be joined to a name, since each takes two of them.
 const MOST_SHORT: usize = 2 * (MOST_JOINED + 1);
 
-// Checks that among `len` tokens no ninth counter is ever joined to this one: to join one takes two
-// tokens away.
+// Checks that `len` tokens are too few for a ninth counter to be joined to this one of them: each
+// counter that is joined takes two tokens away.
 fn stays_joinable(token: &Token, len: usize) -> bool
     ensures { result ≡ stays_joinable len token.now }
 {
