@@ -4,7 +4,7 @@ pub mod ReadSteps
 pub mod HeadSteps
 pub mod EquLines
 pub mod TableFound
-pub mod TablePlaces
+pub mod TableIndices
 pub mod TextFaults
 pub mod NestingSteps
 pub mod LabelLaws

@@ -4,7 +4,7 @@
 ghost use Rattle.std.specs.Prelude.{◌≡◌, ◌≢◌, ℕ, List, [], ◌∷◌, ◌++◌, ◌+◌, ◌≤◌, length, MatchResult, Ok, Err, Some, None, option_map, All, IfSome, IfOk, OnOk};
 ghost use Rattle.rc_text.specs.Symbols.{LiesIn};
 ghost use Rattle.rc_expand.specs.Results.{Returns};
-ghost use Rattle.rc_expand.specs.Heads.NameTables.{at_place, ArePlaces};
+ghost use Rattle.rc_expand.specs.Heads.NameTables.{at_index, AreIndices};
 ghost use Rattle.rc_expand.specs.Replace.{replaced_so_far, with_token, one, equ_in, equ_at, inner_at, replaced_within, replaced_tokens};
 
 pub(crate) mod finish;
@@ -41,26 +41,26 @@ pub(crate) fn replace_tokens(
     ensures inside { IfOk result (All (LiesIn context.now.source.now)) }
     ensures tokens { Returns (λ t. t) result (replaced_tokens context.now.source.now context.now.equs.now line front.items tokens.now) }
 {
-    let places = link_tokens(context.alloc, context.source, tokens, context.equs)?;
+    let indices = link_tokens(context.alloc, context.source, tokens, context.equs)?;
     let mut out = Replacing {
         line,
         tokens: front,
         replacements: 0,
     };
-    append_replaced(&mut out, context, tokens, places.as_slice(), DEEPEST_EQU)?;
+    append_replaced(&mut out, context, tokens, indices.as_slice(), DEEPEST_EQU)?;
     Ok(Tokens::from_vec(out.tokens))
 }
 
 // Returns the tokens of the EQU name at an index of the table, and their links.
 fn body_at<'a>(
     context: &Context<'a>,
-    place: Option<usize>,
+    index: Option<usize>,
 ) -> Option<(&'a [Token], &'a [Option<usize>])>
-    ensures tokens { option_map (λ p. p.0.now) result ≡ option_map (λ e. e.tokens) (at_place context.now.equs.now place) }
-    ensures places { IfSome result (λ p. ArePlaces context.now.source.now context.now.equs.now p.0.now p.1.now) }
+    ensures tokens { option_map (λ p. p.0.now) result ≡ option_map (λ e. e.tokens) (at_index context.now.equs.now index) }
+    ensures indices { IfSome result (λ p. AreIndices context.now.source.now context.now.equs.now p.0.now p.1.now) }
     ensures inside { IfSome result (λ p. All (LiesIn context.now.source.now) p.0.now) }
 {
-    let i = place?;
+    let i = index?;
     let equ = context.equs.at(i)?;
     Some((equ.tokens(), context.links[i].as_slice()))
 }
@@ -85,19 +85,19 @@ fn append_one(
     out: &mut Replacing,
     context: &Context,
     token: &Token,
-    place: Option<usize>,
+    index: Option<usize>,
     levels: u8,
 ) -> Result<(), ExpandFault>
     requires inside { LiesIn context.now.source.now token.now }
-    requires place { at_place context.now.equs.now place ≡ equ_in context.now.source.now context.now.equs.now token.now }
+    requires index { at_index context.now.equs.now index ≡ equ_in context.now.source.now context.now.equs.now token.now }
     requires before { All (LiesIn context.now.source.now) out.old.tokens.items }
     ensures after { OnOk result (All (LiesIn context.now.source.now) out.new.tokens.items) }
     ensures adds { Returns (λ u. replaced_so_far out.new) result
         (one (inner_at context.now.source.now context.now.equs.now levels) token.now (equ_at context.now.source.now context.now.equs.now token.now) (replaced_so_far out.old)) }
 {
-    match body_at(context, place) {
+    match body_at(context, index) {
         None => push_token(out, context.source, token),
-        Some((body, places)) => {
+        Some((body, indices)) => {
             if levels == 0 {
                 return Err(fault(out.line, ExpandKind::EquTooDeep));
             }
@@ -105,7 +105,7 @@ fn append_one(
                 return Err(fault(out.line, ExpandKind::TooManyTokens));
             }
             out.replacements += 1;
-            append_replaced(out, context, body, places, levels - 1)
+            append_replaced(out, context, body, indices, levels - 1)
         }
     }
 }
@@ -116,18 +116,18 @@ fn append_replaced(
     out: &mut Replacing,
     context: &Context,
     tokens: &[Token],
-    places: &[Option<usize>],
+    indices: &[Option<usize>],
     levels: u8,
 ) -> Result<(), ExpandFault>
     requires inside { All (LiesIn context.now.source.now) tokens.now }
-    requires places { ArePlaces context.now.source.now context.now.equs.now tokens.now places.now }
+    requires indices { AreIndices context.now.source.now context.now.equs.now tokens.now indices.now }
     requires before { All (LiesIn context.now.source.now) out.old.tokens.items }
     ensures after { OnOk result (All (LiesIn context.now.source.now) out.new.tokens.items) }
     ensures adds { Returns (λ u. replaced_so_far out.new) result
         (replaced_within context.now.source.now context.now.equs.now levels tokens.now (replaced_so_far out.old)) }
 {
     for i in 0..tokens.len() {
-        append_one(out, context, &tokens[i], places[i], levels)?;
+        append_one(out, context, &tokens[i], indices[i], levels)?;
     }
     Ok(())
 }

@@ -20,7 +20,9 @@ use crate::fault::{ExpandFault, ExpandKind, fault};
 use crate::heads::head::{Head, HeadWord};
 use crate::limits::{DEEPEST_BLOCK, MOST_LINES};
 use crate::unroll::opening::{begin_block, check_rof};
-use crate::unroll::reached::{Copying, Reached, clone_copies, is_short_line, make_line, with_copy};
+use crate::unroll::reached::{
+    Copying, Reached, clone_copies, inner_copies, is_short_line, make_line,
+};
 use crate::unroll::unrolling::{Block, CutBlock, Scope, Unrolling};
 
 // Unrolls the blocks of lines.
@@ -35,7 +37,7 @@ pub(crate) fn unroll<'a>(
 {
     let mut out = Unrolling {
         lines: Vec::new(context.alloc),
-        copies: 0,
+        copy_count: 0,
     };
     let scope = Scope {
         copies: &[],
@@ -94,19 +96,19 @@ fn cut_block<'a>(source: &[u8], lines: &'a [Head]) -> Option<CutBlock<'a>>
         (λ p. cut 0 lines.now ≡ Some (record { block = p.lines.now; rof = p.rof.now; after = p.after.now })) }
     ensures shorter { IfSome result (λ p. length p.after.now < length lines.now) }
 {
-    let mut opened: usize = 0;
+    let mut open_blocks: usize = 0;
     for i in 0..lines.len() {
         match lines[i].word {
-            HeadWord::For => opened += 1,
+            HeadWord::For => open_blocks += 1,
             HeadWord::Rof => {
-                if opened == 0 {
+                if open_blocks == 0 {
                     return Some(CutBlock {
                         lines: &lines[..i],
                         rof: &lines[i],
                         after: &lines[i + 1..],
                     });
                 }
-                opened -= 1;
+                open_blocks -= 1;
             }
             _ => {}
         }
@@ -128,7 +130,7 @@ fn append<'a>(
         (with_line (reached_part context.now.source.now is_earlier (line_in context.now.source.now copies.now head.now)) (unrolled_so_far context.now.source.now out.old)) }
     ensures after { OnOk result (All (ReachedLies context.now.source.now) out.new.lines.items) }
 {
-    if out.lines.len() + out.copies >= MOST_LINES {
+    if out.lines.len() + out.copy_count >= MOST_LINES {
         return Err(fault(head.number, ExpandKind::TooManyLines));
     }
     let copies = clone_copies(context.alloc, copies)?;
@@ -193,27 +195,27 @@ fn append_line<'s, 'a>(
     append(out, context, scope.copies, head, false)
 }
 
-// Appends the labels before a counter as a line of their own, if there are any. `opened` is the
+// Appends the labels before a counter as a line of their own, if there are any. `made` is the
 // line of the FOR as it is in `copies`.
 #[tactic(auto, using(crate::proofs::Unrolling::Reaching::no_earlier))]
 fn append_earlier<'a>(
     out: &mut Unrolling<'a>,
     context: &Context<'a>,
     copies: &[Copying<'a>],
-    first: &'a Head,
-    opened: &Head,
+    head: &'a Head,
+    made: &Head,
 ) -> Result<(), ExpandFault>
-    requires first { HeadLies context.now.source.now first.now }
-    requires opened { opened.now ≡ line_in context.now.source.now copies.now first.now }
+    requires head { HeadLies context.now.source.now head.now }
+    requires made { made.now ≡ line_in context.now.source.now copies.now head.now }
     requires before { All (ReachedLies context.now.source.now) out.old.lines.items }
     ensures adds { Returns (λ u. unrolled_so_far context.now.source.now out.new) result
-        (with_earlier first.now.number (earlier_of opened.now.labels) (unrolled_so_far context.now.source.now out.old)) }
+        (with_earlier head.now.number (earlier_of made.now.labels) (unrolled_so_far context.now.source.now out.old)) }
     ensures after { OnOk result (All (ReachedLies context.now.source.now) out.new.lines.items) }
 {
-    if opened.labels.as_slice().len() < 2 {
+    if made.labels.as_slice().len() < 2 {
         return Ok(());
     }
-    append(out, context, copies, first, true)
+    append(out, context, copies, head, true)
 }
 
 // Appends the copy of a block for one `number` of its counter.
@@ -232,14 +234,14 @@ fn append_copy<'s, 'a>(
         (lines_in context.now.source.now scope.now.copies.now block.now.lines.now) number (unrolled_so_far context.now.source.now out.old)) }
     ensures after { OnOk result (All (ReachedLies context.now.source.now) out.new.lines.items) }
 {
-    if out.lines.len() + out.copies >= MOST_LINES {
+    if out.lines.len() + out.copy_count >= MOST_LINES {
         return Err(fault(block.line, ExpandKind::TooManyLines));
     }
-    out.copies += 1;
+    out.copy_count += 1;
     if scope.levels == 0 {
         return Err(fault(block.line, ExpandKind::ForTooDeep));
     }
-    let copies = with_copy(context.alloc, scope.copies, block.counter, number)?;
+    let copies = inner_copies(context.alloc, scope.copies, block.counter, number)?;
     let inner = Scope {
         copies: &copies,
         in_block: true,
@@ -276,29 +278,29 @@ fn append_block<'s, 'a>(
     out: &mut Unrolling<'a>,
     context: &Context<'a>,
     scope: &Scope<'s, 'a>,
-    first: &'a Head,
-    inside: &CutBlock<'a>,
+    head: &'a Head,
+    cut: &CutBlock<'a>,
 ) -> Result<(), ExpandFault>
-    requires first { HeadLies context.now.source.now first.now }
-    requires lines { All (HeadLies context.now.source.now) inside.now.lines.now }
-    requires rof { HeadLies context.now.source.now inside.now.rof.now }
+    requires head { HeadLies context.now.source.now head.now }
+    requires lines { All (HeadLies context.now.source.now) cut.now.lines.now }
+    requires rof { HeadLies context.now.source.now cut.now.rof.now }
     requires before { All (ReachedLies context.now.source.now) out.old.lines.items }
     ensures adds { Returns (λ u. unrolled_so_far context.now.source.now out.new) result
-        (block_of (shared context.now) (deeper_at (shared context.now) scope.now.levels) (line_in context.now.source.now scope.now.copies.now first.now)
-        (lines_in context.now.source.now scope.now.copies.now inside.now.lines.now) (line_in context.now.source.now scope.now.copies.now inside.now.rof.now)
+        (block_of (shared context.now) (deeper_at (shared context.now) scope.now.levels) (line_in context.now.source.now scope.now.copies.now head.now)
+        (lines_in context.now.source.now scope.now.copies.now cut.now.lines.now) (line_in context.now.source.now scope.now.copies.now cut.now.rof.now)
         (unrolled_so_far context.now.source.now out.old)) }
     ensures after { OnOk result (All (ReachedLies context.now.source.now) out.new.lines.items) }
 {
-    let opened = make_line(context.alloc, context.source, scope.copies, first)?;
-    let closed = make_line(context.alloc, context.source, scope.copies, inside.rof)?;
-    let opening = begin_block(context, &opened)?;
-    append_earlier(out, context, scope.copies, first, &opened)?;
+    let made = make_line(context.alloc, context.source, scope.copies, head)?;
+    let made_rof = make_line(context.alloc, context.source, scope.copies, cut.rof)?;
+    let opening = begin_block(context, &made)?;
+    append_earlier(out, context, scope.copies, head, &made)?;
     let block = Block {
         counter: opening.counter,
         count: opening.count,
-        line: first.number,
-        lines: inside.lines,
+        line: head.number,
+        lines: cut.lines,
     };
     append_copies(out, context, scope, &block)?;
-    check_rof(&closed)
+    check_rof(&made_rof)
 }

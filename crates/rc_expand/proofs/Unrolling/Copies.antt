@@ -7,7 +7,7 @@ use Rattle.rc_text.specs.declared.token.Token.{Token}
 use Rattle.rc_text.specs.Symbols.{LiesIn}
 use Rattle.rc_expand.specs.Limits.{MOST_JOINED}
 use Rattle.rc_expand.specs.Heads.Lines.{is_name_token, is_ampersand, has_modifier}
-use Rattle.rc_expand.specs.Unroll.Copies.{is_use, numbered, joins, joined, copied_from, copied_tokens, copied_code}
+use Rattle.rc_expand.specs.Unroll.Copies.{is_counter, numbered, joins, joined, copied_from, copied_tokens, copied_code}
 
 -- an item and what follows it
 pub split_at : {A : Type 0} (xs : List A) (i : ℕ) (x : A) → i < length xs → x ≡ get_or xs i x → drop i xs ≡ x ∷ drop (i + 1) xs
@@ -36,7 +36,7 @@ module _ (source : List ℕ) (counter : List ℕ) where
 
   -- whether the next two tokens join, by what they are
   pub joins_at : (t : Token) (ts : List Token) (i : ℕ) (u v : Token) → i + 1 < length ts → u ≡ get_or ts i u → v ≡ get_or ts (i + 1) v
-      → joins source counter t (drop i ts) ≡ (is_name_token t && (is_ampersand u && is_use source counter v))
+      → joins source counter t (drop i ts) ≡ (is_name_token t && (is_ampersand u && is_counter source counter v))
   joins_at t ts i u v h e f = ap (joins source counter t) (split_two ts i u v h e f)
 
   module _ (k : ℕ) where

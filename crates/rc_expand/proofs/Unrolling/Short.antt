@@ -11,7 +11,7 @@ use Rattle.rc_expand.specs.declared.heads.head.HeadWord.{HeadWord}
 use Rattle.rc_expand.specs.declared.heads.head.HeadWord.TheVariants as word
 use Rattle.rc_expand.specs.declared.unroll.reached.Copying.{Copying}
 use Rattle.rc_expand.specs.Heads.Lines.{has_modifier}
-use Rattle.rc_expand.specs.Unroll.Copies.{is_use, numbered, joins, joined, copied_from, copied_tokens, copied_code, copied_rest, copied_line, or_spoiled, all_of, stays_joinable, is_short, is_short_line}
+use Rattle.rc_expand.specs.Unroll.Copies.{is_counter, numbered, joins, joined, copied_from, copied_tokens, copied_code, copied_rest, copied_line, or_spoiled, all_of, stays_joinable, is_short, is_short_line}
 use Rattle.rc_expand.specs.Unroll.Reached.{line_in}
 use Rattle.rc_expand.proofs.Unrolling.Copies.{from_list, passed_list}
 
@@ -41,7 +41,7 @@ if_joined false k t = refl
 
 module _ (source counter : List ℕ) (k : ℕ) where
   same_joined : (m : Bool) (t : Token) → (numbered source counter k m t).joined ≡ t.joined
-  same_joined m t = if_joined (not m && is_use source counter t) k t
+  same_joined m t = if_joined (not m && is_counter source counter t) k t
 
   -- the tokens after `n` others in a copy
   pub record Copied (n : ℕ) (limit : ℕ) (o : Option (List Token)) : Type 0 where

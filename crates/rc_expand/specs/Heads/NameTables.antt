@@ -26,14 +26,14 @@ abbrev pub names_in : {A : Type 0} → List (List ℕ × A) → List (List ℕ)
 names_in table = map (λ e. e.0) table
 
 -- the value at an index of the table
-abbrev pub at_place : {A : Type 0} → List (List ℕ × A) → Option ℕ → Option A
-at_place table None = None
-at_place table (Some i) = option_map (λ e. e.1) (slice_get table i)
+abbrev pub at_index : {A : Type 0} → List (List ℕ × A) → Option ℕ → Option A
+at_index table None = None
+at_index table (Some i) = option_map (λ e. e.1) (slice_get table i)
 
--- `places` has for each token its index among the EQU names, or None
-abbrev pub ArePlaces : List ℕ → Equs → List Token → List (Option ℕ) → Type 0
-ArePlaces source equs tokens places = map (at_place equs) places ≡ map (equ_in source equs) tokens
+-- `indices` has for each token its index among the EQU names, or None
+abbrev pub AreIndices : List ℕ → Equs → List Token → List (Option ℕ) → Type 0
+AreIndices source equs tokens indices = map (at_index equs) indices ≡ map (equ_in source equs) tokens
 
 -- `links` has this for the tokens of every EQU name
 abbrev pub AreLinks : List ℕ → Equs → List (Vec (Option ℕ)) → Type 0
-AreLinks source equs links = map (λ l. map (at_place equs) l.items) links ≡ map (λ e. map (equ_in source equs) e.1.tokens) equs
+AreLinks source equs links = map (λ l. map (at_index equs) l.items) links ≡ map (λ e. map (equ_in source equs) e.1.tokens) equs

@@ -19,13 +19,13 @@ all_of f (x ∷ xs) = option_and_then (λ y. option_map (λ ys. y ∷ ys) (all_o
 
 module _ (source : List ℕ) where
   -- the token is a name, and spells `counter`
-  abbrev pub is_use : List ℕ → Token → Bool
-  is_use counter t = is_name_token t && bytes_eq (name_of source t) counter
+  abbrev pub is_counter : List ℕ → Token → Bool
+  is_counter counter t = is_name_token t && bytes_eq (name_of source t) counter
 
   -- the counter's name becomes the number `k`; a name that this copy `made` by joining stays a
   -- name, even if it spells the counter
   abbrev pub numbered : List ℕ → ℕ → (made : Bool) → Token → Token
-  numbered counter k made t = if not made && is_use counter t then record t { kind = Number k } else t
+  numbered counter k made t = if not made && is_counter counter t then record t { kind = Number k } else t
 
   -- one more counter is joined to a name, unless `MOST_JOINED` are joined to it already
   abbrev pub joined : ℕ → Token → Option Token
@@ -33,7 +33,7 @@ module _ (source : List ℕ) where
 
   -- `t` is a name, and `&` and the counter come after it
   abbrev pub joins : List ℕ → Token → List Token → Bool
-  joins counter t (u ∷ v ∷ ts) = is_name_token t && (is_ampersand u && is_use counter v)
+  joins counter t (u ∷ v ∷ ts) = is_name_token t && (is_ampersand u && is_counter counter v)
   joins counter t _ = false
 
   -- the copy of `t` and the tokens after it; `made` says whether this copy has joined its number
@@ -42,7 +42,7 @@ module _ (source : List ℕ) where
   copied_from counter k made t [] = Some (numbered counter k made t ∷ [])
   copied_from counter k made t (u ∷ []) = option_map (λ r. numbered counter k made t ∷ r) (copied_from counter k false u [])
   copied_from counter k made t (u ∷ v ∷ ts) =
-      choose (is_name_token t && (is_ampersand u && is_use counter v)) (λ i. option_and_then (λ j. copied_from counter k true j ts) (joined k t))
+      choose (is_name_token t && (is_ampersand u && is_counter counter v)) (λ i. option_and_then (λ j. copied_from counter k true j ts) (joined k t))
       (λ i. option_map (λ r. numbered counter k made t ∷ r) (copied_from counter k false u (v ∷ ts)))
 
   -- tokens in the copy for `k`, or None if a ninth counter would be joined to a name

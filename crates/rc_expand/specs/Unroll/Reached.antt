@@ -34,7 +34,7 @@ module _ (source : List ℕ) where
 
   -- the lines that were reached so far, and the number of copies made for them
   abbrev pub unrolled_so_far : Unrolling → Unrolled
-  unrolled_so_far u = record { lines = reached_lines u.lines.items; copies = u.copies }
+  unrolled_so_far u = record { lines = reached_lines u.lines.items; copies = u.copy_count }
 
   -- the spans of the tokens of its line in the text lie in the source
   abbrev pub ReachedLies : Reached → Type 0

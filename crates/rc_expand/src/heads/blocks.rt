@@ -12,29 +12,29 @@ use crate::limits::DEEPEST_BLOCK;
 pub(crate) fn check_blocks(heads: &[Head]) -> Result<(), ExpandFault>
     ensures { MatchResult result (λ u. nesting_fault 0 0 heads.now ≡ None) (λ e. nesting_fault 0 0 heads.now ≡ Some e) }
 {
-    let mut opened: u8 = 0;
+    let mut open_blocks: u8 = 0;
     let mut outermost: u64 = 0;
     for i in 0..heads.len() {
         match heads[i].word {
             HeadWord::For => {
-                if opened == DEEPEST_BLOCK {
+                if open_blocks == DEEPEST_BLOCK {
                     return Err(fault(heads[i].number, ExpandKind::ForTooDeep));
                 }
-                if opened == 0 {
+                if open_blocks == 0 {
                     outermost = heads[i].number;
                 }
-                opened += 1;
+                open_blocks += 1;
             }
             HeadWord::Rof => {
-                if opened == 0 {
+                if open_blocks == 0 {
                     return Err(fault(heads[i].number, ExpandKind::RofWithoutFor));
                 }
-                opened -= 1;
+                open_blocks -= 1;
             }
             _ => {}
         }
     }
-    if opened > 0 {
+    if open_blocks > 0 {
         return Err(fault(outermost, ExpandKind::ForWithoutRof));
     }
     Ok(())

@@ -57,14 +57,14 @@ pub(crate) fn collect_equs(
     ensures equs { Returns (λ t. t) result (equs_of source.now (constants_of names.now) names.now.rules.now heads.now) }
     ensures inside { IfOk result (EqusLie source.now) }
 {
-    let mut opened: usize = 0;
+    let mut open_blocks: usize = 0;
     let mut equs = NameTable::new(alloc);
     let mut rest = heads;
     while let Some((head, after)) = rest.split_first() {
         match head.word {
-            HeadWord::For => opened += 1,
-            HeadWord::Rof => opened = opened.saturating_sub(1),
-            HeadWord::Equ => if opened == 0 {
+            HeadWord::For => open_blocks += 1,
+            HeadWord::Rof => open_blocks = open_blocks.saturating_sub(1),
+            HeadWord::Equ => if open_blocks == 0 {
                 let (name, equ) = read_equ(alloc, source, names, &equs, head)?;
                 equs.insert(name, equ)?;
             },

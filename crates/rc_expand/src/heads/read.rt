@@ -49,7 +49,7 @@ fn is_link(source: &[u8], sign: &Token, name: &Token) -> bool
 #[tactic(auto, using(crate::proofs::Reading::HeadSteps::goes_on_at, crate::proofs::Reading::HeadSteps::goes_on_short))]
 fn goes_on(source: &[u8], tokens: &[Token], at: usize) -> bool
     requires inside { All (LiesIn source.now) tokens.now }
-    requires place { at ≤ length tokens.now }
+    requires index { at ≤ length tokens.now }
     ensures result { result ≡ goes_on source.now (drop at tokens.now) }
     ensures room { IsTrue result → at + 2 ≤ length tokens.now }
 {
@@ -64,7 +64,7 @@ fn goes_on(source: &[u8], tokens: &[Token], at: usize) -> bool
 #[tactic(auto, using(crate::proofs::Reading::HeadSteps::tail_more, crate::proofs::Reading::HeadSteps::tail_colon, crate::proofs::Reading::HeadSteps::tail_none, crate::proofs::Reading::HeadSteps::tail_end))]
 fn label_end(source: &[u8], tokens: &[Token], from: usize) -> usize
     requires inside { All (LiesIn source.now) tokens.now }
-    requires place { from ≤ length tokens.now }
+    requires index { from ≤ length tokens.now }
     ensures end { result ≡ from + tail_len source.now (drop from tokens.now) }
     ensures low { from ≤ result }
     ensures high { result ≤ length tokens.now }
@@ -102,7 +102,7 @@ fn read_labels(
     requires { All (LiesIn source.now) tokens.now }
     ensures labels { IfOk result (λ p. p.0 ≡ (labelled source.now tokens.now).labels) }
     ensures rest { IfOk result (λ p. drop p.1 tokens.now ≡ (labelled source.now tokens.now).after) }
-    ensures place { IfOk result (λ p. p.1 ≤ length tokens.now) }
+    ensures index { IfOk result (λ p. p.1 ≤ length tokens.now) }
     ensures inside { IfOk result (λ p. All (All (LiesIn source.now)) p.0) }
 {
     let mut labels = Labels::none(alloc);

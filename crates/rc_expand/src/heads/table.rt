@@ -4,7 +4,7 @@ ghost use Rattle.std.specs.Hash as fed;
 ghost use Rattle.std.specs.Str.{bytes_eq};
 ghost use Rattle.rc_text.specs.Symbols.{LiesIn, name_of, counter_text};
 ghost use Rattle.rc_expand.specs.Names.{entry_of};
-ghost use Rattle.rc_expand.specs.Heads.NameTables.{joined_name, with_name, at_place};
+ghost use Rattle.rc_expand.specs.Heads.NameTables.{joined_name, with_name, at_index};
 
 use crate::names::{counter_text, is_joined_name, name_of};
 use indexmap::{Equivalent, IndexMap};
@@ -202,18 +202,18 @@ impl<'a, V: Drop> NameTable<'a, V> {
     }
 
     // Returns the index of the name that a token spells. The token's span must lie in `source`.
-    pub(crate) fn place(&self, source: &[u8], token: &Token) -> Option<usize>
+    pub(crate) fn index_of(&self, source: &[u8], token: &Token) -> Option<usize>
         requires { LiesIn source.now token.now }
-        ensures { at_place self.now result ≡ entry_of self.now (name_of source.now token.now) }
+        ensures { at_index self.now result ≡ entry_of self.now (name_of source.now token.now) }
     {
         self.entries.get_index_of(spelled(source, token))
     }
 
     // Returns the value at an index.
-    pub(crate) fn at(&self, place: usize) -> Option<&V>
-        ensures { option_map (λ v. v.now) result ≡ at_place self.now (Some place) }
+    pub(crate) fn at(&self, index: usize) -> Option<&V>
+        ensures { option_map (λ v. v.now) result ≡ at_index self.now (Some index) }
     {
-        let (_, value) = self.entries.get_index(place)?;
+        let (_, value) = self.entries.get_index(index)?;
         Some(value)
     }
 }

@@ -3,7 +3,7 @@
 ghost use Rattle.std.specs.Prelude.{◌≡◌, All, IfOk, IfSome, option_map, map};
 ghost use Rattle.rc_text.specs.Symbols.{LiesIn};
 ghost use Rattle.rc_expand.specs.Replace.{EqusLie, equ_in};
-ghost use Rattle.rc_expand.specs.Heads.NameTables.{at_place, ArePlaces, AreLinks};
+ghost use Rattle.rc_expand.specs.Heads.NameTables.{at_index, AreIndices, AreLinks};
 
 use crate::heads::equs::Equ;
 use crate::heads::table::NameTable;
@@ -19,13 +19,13 @@ pub(crate) fn link_tokens(
     equs: &NameTable<Equ>,
 ) -> Result<Vec<Option<usize>>, AllocError>
     requires { All (LiesIn source.now) tokens.now }
-    ensures { IfOk result (λ v. ArePlaces source.now equs.now tokens.now v.items) }
+    ensures { IfOk result (λ v. AreIndices source.now equs.now tokens.now v.items) }
 {
-    let mut places = Vec::with_capacity(alloc, tokens.len())?;
+    let mut indices = Vec::with_capacity(alloc, tokens.len())?;
     for token in tokens {
-        places.push(equ_place(source, token, equs))?;
+        indices.push(equ_index(source, token, equs))?;
     }
-    Ok(places)
+    Ok(indices)
 }
 
 // Looks up the tokens of every EQU body.
@@ -38,21 +38,21 @@ pub(crate) fn link_equs(
     ensures { IfOk result (λ v. AreLinks source.now equs.now v.items) }
 {
     let mut links = Vec::new(alloc);
-    let mut place = 0;
-    while let Some(equ) = equs.at(place) {
+    let mut index = 0;
+    while let Some(equ) = equs.at(index) {
         links.push(link_tokens(alloc, source, equ.tokens(), equs)?)?;
-        place += 1;
+        index += 1;
     }
     Ok(links)
 }
 
 // Returns the index of the EQU name that a token is.
-fn equ_place(source: &[u8], token: &Token, equs: &NameTable<Equ>) -> Option<usize>
+fn equ_index(source: &[u8], token: &Token, equs: &NameTable<Equ>) -> Option<usize>
     requires { LiesIn source.now token.now }
-    ensures { at_place equs.now result ≡ equ_in source.now equs.now token.now }
+    ensures { at_index equs.now result ≡ equ_in source.now equs.now token.now }
 {
     if is_name_token(token) {
-        equs.place(source, token)
+        equs.index_of(source, token)
     } else {
         None
     }

@@ -2,7 +2,7 @@
 ghost use Rattle.std.specs.Prelude.{◌≡◌, List, ℕ, ◌++◌, ◌∷◌, ◌+◌, ◌<◌, ◌≤◌, ◌^◌, ◌&&◌, length, drop, map, option_map, option_and_then, IsTrue, All, IfOk, IfSome};
 ghost use Rattle.rc_text.specs.Symbols.{LiesIn};
 ghost use Rattle.rc_expand.specs.Heads.Lines.{HeadLies, is_name_token, is_ampersand};
-ghost use Rattle.rc_expand.specs.Unroll.Copies.{is_use, numbered, joins, copied_tokens, copied_code, copied_rest, copied_line, all_of};
+ghost use Rattle.rc_expand.specs.Unroll.Copies.{is_counter, numbered, joins, copied_tokens, copied_code, copied_rest, copied_line, all_of};
 
 use crate::heads::head::{Head, HeadWord, Labels};
 use crate::heads::words::{
@@ -58,7 +58,7 @@ fn copy_name(
     at: usize,
 ) -> Result<Option<(Token, usize)>, AllocError>
     requires inside { All (LiesIn source.now) tokens.now }
-    requires place { at < length tokens.now }
+    requires index { at < length tokens.now }
     ensures copied { IfOk result (λ o. copied_tokens source.now counter.now number (drop at tokens.now)
         ≡ option_and_then (λ p. option_map (λ r. p.0 ∷ r) (copied_tokens source.now counter.now number (drop p.1 tokens.now))) o) }
     ensures inside { IfOk result (λ o. IfSome o (λ p. LiesIn source.now p.0)) }
@@ -67,7 +67,7 @@ fn copy_name(
     let mut name = clone_token(&tokens[at])?;
     let mut made = false;
     let mut after = at + 1;
-    while after < tokens.len() && is_joined(source, counter, &name, tokens, after) {
+    while after < tokens.len() && joins(source, counter, &name, tokens, after) {
         if name.joined.len() >= MOST_JOINED {
             return Ok(None);
         }
@@ -144,9 +144,9 @@ pub(crate) fn clone_head(alloc: Global, head: &Head) -> Result<Head, AllocError>
 }
 
 // Checks whether a token is the name of the counter.
-fn is_use(source: &[u8], counter: &[u8], token: &Token) -> bool
+fn is_counter(source: &[u8], counter: &[u8], token: &Token) -> bool
     requires { LiesIn source.now token.now }
-    ensures { result ≡ is_use source.now counter.now token.now }
+    ensures { result ≡ is_counter source.now counter.now token.now }
 {
     is_name_token(token) && spells(source, token, counter)
 }
@@ -157,7 +157,7 @@ fn put_number(source: &[u8], counter: &[u8], number: u16, made: bool, token: &mu
     requires { LiesIn source.now token.old }
     ensures { token.new ≡ numbered source.now counter.now number made token.old }
 {
-    if !made && is_use(source, counter, token) {
+    if !made && is_counter(source, counter, token) {
         token.kind = Kind::Number(u32::from(number));
     }
 }
@@ -165,24 +165,20 @@ fn put_number(source: &[u8], counter: &[u8], number: u16, made: bool, token: &mu
 // Checks for a name, `&` and the counter.
 fn is_join(source: &[u8], counter: &[u8], name: &Token, sign: &Token, used: &Token) -> bool
     requires { LiesIn source.now used.now }
-    ensures { result ≡ (is_name_token name.now && (is_ampersand sign.now && is_use source.now counter.now used.now)) }
+    ensures { result ≡ (is_name_token name.now && (is_ampersand sign.now && is_counter source.now counter.now used.now)) }
 {
-    is_name_token(name) && is_ampersand(sign) && is_use(source, counter, used)
+    is_name_token(name) && is_ampersand(sign) && is_counter(source, counter, used)
 }
 
 // Checks whether `&` and the counter come after `name`, at index `at` of `tokens`.
 #[tactic(auto, using(crate::proofs::Unrolling::Copies::joins_at, crate::proofs::Unrolling::Copies::joins_short))]
-fn is_joined(source: &[u8], counter: &[u8], name: &Token, tokens: &[Token], at: usize) -> bool
+fn joins(source: &[u8], counter: &[u8], name: &Token, tokens: &[Token], at: usize) -> bool
     requires inside { All (LiesIn source.now) tokens.now }
-    requires place { at < length tokens.now }
+    requires index { at < length tokens.now }
     ensures result { result ≡ joins source.now counter.now name.now (drop at tokens.now) }
     ensures room { IsTrue result → at + 2 ≤ length tokens.now }
 {
-    if at + 1 < tokens.len() {
-        is_join(source, counter, name, &tokens[at], &tokens[at + 1])
-    } else {
-        false
-    }
+    at + 1 < tokens.len() && is_join(source, counter, name, &tokens[at], &tokens[at + 1])
 }
 
 // Copies the tokens of a line of code. The modifier after an opcode is not a name, so it is left

@@ -32,17 +32,17 @@ pub(crate) struct BlockStart<'a> {
 #[tactic(auto, unfolding(crate::specs::Unroll::Openings::opening))]
 pub(crate) fn begin_block<'a>(
     context: &Context<'a>,
-    first: &Head,
+    head: &Head,
 ) -> Result<BlockStart<'a>, ExpandFault>
-    requires first { HeadLies context.now.source.now first.now }
-    ensures { Returns (seen_start first.now) result (opening (shared context.now) first.now) }
+    requires head { HeadLies context.now.source.now head.now }
+    ensures { Returns (seen_start head.now) result (opening (shared context.now) head.now) }
 {
-    if first.spoiled {
-        return Err(fault(first.number, ExpandKind::BadDirective));
+    if head.spoiled {
+        return Err(fault(head.number, ExpandKind::BadDirective));
     }
-    let token = counter_token(context.source, first)?;
-    let counter = counter_name(context, token, first.number)?;
-    let count = count_of(context, first)?;
+    let token = counter_token(context.source, head)?;
+    let counter = counter_name(context, token, head.number)?;
+    let count = count_of(context, head)?;
     Ok(BlockStart { counter, count })
 }
 
@@ -80,20 +80,20 @@ fn counter_fault(line: u64, label: &[Token]) -> ExpandFault
 }
 
 // Returns the counter, which is the last label before FOR.
-fn counter_token<'a>(source: &[u8], first: &'a Head) -> Result<Option<&'a Token>, ExpandFault>
-    requires { HeadLies source.now first.now }
-    ensures token { Returns (λ o. option_map (λ t. t.now) o) result (counter_of source.now first.now.number first.now.labels) }
+fn counter_token<'a>(source: &[u8], head: &'a Head) -> Result<Option<&'a Token>, ExpandFault>
+    requires { HeadLies source.now head.now }
+    ensures token { Returns (λ o. option_map (λ t. t.now) o) result (counter_of source.now head.now.number head.now.labels) }
     ensures inside { IfOk result (λ o. IfSome o (λ t. LiesIn source.now t.now)) }
     ensures written { IfOk result (λ o. IfSome o (λ t. t.now.joined ≡ [])) }
 {
-    let labels = first.labels.as_slice();
+    let labels = head.labels.as_slice();
     if labels.len() == 0 {
         return Ok(None);
     }
     let label = labels[labels.len() - 1].as_slice();
     match plain_token(source, label) {
         Some(token) => Ok(Some(token)),
-        None => Err(counter_fault(first.number, label)),
+        None => Err(counter_fault(head.number, label)),
     }
 }
 
@@ -114,18 +114,18 @@ fn small_count(value: i64) -> Option<u16>
 
 // Evaluates the count of a block, after replacing its EQU names.
 #[tactic(auto, unfolding(crate::specs::Unroll::Openings::count_of))]
-fn count_of(context: &Context, first: &Head) -> Result<u16, ExpandFault>
-    requires first { HeadLies context.now.source.now first.now }
-    ensures { Returns (λ n. n) result (count_of (shared context.now) first.now.number first.now.rest) }
+fn count_of(context: &Context, head: &Head) -> Result<u16, ExpandFault>
+    requires head { HeadLies context.now.source.now head.now }
+    ensures { Returns (λ n. n) result (count_of (shared context.now) head.now.number head.now.rest) }
 {
     let front = Vec::new(context.alloc);
-    let tokens = replace_tokens(context, first.number, front, first.rest.as_slice())?;
+    let tokens = replace_tokens(context, head.number, front, head.rest.as_slice())?;
     match eval(context.source, tokens.as_slice(), context.names) {
         Ok(value) => match small_count(value) {
             Some(count) => Ok(count),
-            None => Err(fault(first.number, ExpandKind::CountRefused)),
+            None => Err(fault(head.number, ExpandKind::CountRefused)),
         },
-        Err(_) => Err(fault(first.number, ExpandKind::CountRefused)),
+        Err(_) => Err(fault(head.number, ExpandKind::CountRefused)),
     }
 }
 

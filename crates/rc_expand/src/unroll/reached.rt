@@ -63,7 +63,7 @@ pub(crate) fn clone_copies<'a>(
 }
 
 // Adds the copy of a block inside others. Without a counter it is as the block.
-pub(crate) fn with_copy<'a>(
+pub(crate) fn inner_copies<'a>(
     alloc: Global,
     copies: &[Copying<'a>],
     counter: Option<&'a [u8]>,
@@ -129,14 +129,14 @@ impl<'a> Reached<'a> {
 }
 
 // Makes the line of the labels before a counter.
-fn earlier_line(alloc: Global, source: &[u8], first: &Head) -> Result<Head, AllocError>
-    requires { HeadLies source.now first.now }
-    ensures made { IfOk result (λ h. h ≡ bare_line first.now.number (earlier_of first.now.labels)) }
+fn earlier_line(alloc: Global, source: &[u8], head: &Head) -> Result<Head, AllocError>
+    requires { HeadLies source.now head.now }
+    ensures made { IfOk result (λ h. h ≡ bare_line head.now.number (earlier_of head.now.labels)) }
     ensures inside { IfOk result (HeadLies source.now) }
 {
-    let labels = earlier_labels(alloc, source, first.labels.as_slice())?;
+    let labels = earlier_labels(alloc, source, head.labels.as_slice())?;
     Ok(Head {
-        number: first.number,
+        number: head.number,
         labels,
         word: HeadWord::Bare,
         directive: None,

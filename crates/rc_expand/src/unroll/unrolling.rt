@@ -9,8 +9,8 @@ use crate::unroll::reached::{Copying, Reached};
 #[derive(Drop)]
 pub(crate) struct Unrolling<'a> {
     pub(crate) lines: Vec<Reached<'a>>,
-    pub(crate) copies: usize,
-    ghost room: { length lines.items + copies ≤ MOST_LINES },
+    pub(crate) copy_count: usize,
+    ghost room: { length lines.items + copy_count ≤ MOST_LINES },
 }
 
 // Where lines are unrolled: in these copies, the outermost first; in a block or outside of all; and

@@ -19,58 +19,58 @@ append_block-returns-in_err-opening-clause-adds t c =
     let k = shared c.args.context.now in
     let s = k.source in
     let cs = c.args.scope.now.copies.now in
-    let f = line_in s cs c.args.first.now in
-    let block = lines_in s cs c.args.inside.now.lines.now in
-    let rof = line_in s cs c.args.inside.now.rof.now in
+    let f = line_in s cs c.args.head.now in
+    let block = lines_in s cs c.args.cut.now.lines.now in
+    let rof = line_in s cs c.args.cut.now.rof.now in
     let old = unrolled_so_far s c.args.out.now in
     let p = err_from_is_err_and c.from_residual-in_err-opening.result c.from_residual-in_err-opening.ensures.1 in
-    rw (p.1, p.2) (λ h. block_refused k c.args.scope.now.levels f block rof old c.in_err-opening.field-0.0 (ap (opening k) (sym c.in_ok-opened.ensures.made) ∙ c.in_err-opening.ensures h))
+    rw (p.1, p.2) (λ h. block_refused k c.args.scope.now.levels f block rof old c.in_err-opening.field-0.0 (ap (opening k) (sym c.in_ok-made.ensures.made) ∙ c.in_err-opening.ensures h))
 
 pub append_block-returns-in_err-append_earlier-clause-adds : goal.append_block-returns-in_err-append_earlier-clause-adds
 append_block-returns-in_err-append_earlier-clause-adds t c =
     let k = shared c.args.context.now in
     let s = k.source in
     let cs = c.args.scope.now.copies.now in
-    let f = line_in s cs c.args.first.now in
-    let block = lines_in s cs c.args.inside.now.lines.now in
-    let rof = line_in s cs c.args.inside.now.rof.now in
+    let f = line_in s cs c.args.head.now in
+    let block = lines_in s cs c.args.cut.now.lines.now in
+    let rof = line_in s cs c.args.cut.now.rof.now in
     let old = unrolled_so_far s c.args.out.now in
-    let o = seen_start c.in_ok-opened.opened c.in_ok-opening.opening in
-    let is = ap (opening k) (sym c.in_ok-opened.ensures.made) ∙ c.in_ok-opening.ensures in
-    let same = number_in s cs c.args.first.now in
+    let o = seen_start c.in_ok-made.made c.in_ok-opening.opening in
+    let is = ap (opening k) (sym c.in_ok-made.ensures.made) ∙ c.in_ok-opening.ensures in
+    let same = number_in s cs c.args.head.now in
     let p = err_from_is_err_and c.from_residual-in_err-append_earlier.result c.from_residual-in_err-append_earlier.ensures.1 in
-    rw (p.1, p.2) (λ h. earlier_fails k c.args.scope.now.levels f block rof old o is c.args.first.now.number same c.in_err-append_earlier.field-0.0 (c.in_err-append_earlier.ensures.adds h))
+    rw (p.1, p.2) (λ h. earlier_fails k c.args.scope.now.levels f block rof old o is c.args.head.now.number same c.in_err-append_earlier.field-0.0 (c.in_err-append_earlier.ensures.adds h))
 
 pub append_block-returns-in_err-append_copies-clause-adds : goal.append_block-returns-in_err-append_copies-clause-adds
 append_block-returns-in_err-append_copies-clause-adds t c =
     let k = shared c.args.context.now in
     let s = k.source in
     let cs = c.args.scope.now.copies.now in
-    let f = line_in s cs c.args.first.now in
-    let block = lines_in s cs c.args.inside.now.lines.now in
-    let rof = line_in s cs c.args.inside.now.rof.now in
+    let f = line_in s cs c.args.head.now in
+    let block = lines_in s cs c.args.cut.now.lines.now in
+    let rof = line_in s cs c.args.cut.now.rof.now in
     let old = unrolled_so_far s c.args.out.now in
-    let o = seen_start c.in_ok-opened.opened c.in_ok-opening.opening in
-    let is = ap (opening k) (sym c.in_ok-opened.ensures.made) ∙ c.in_ok-opening.ensures in
-    let same = number_in s cs c.args.first.now in
+    let o = seen_start c.in_ok-made.made c.in_ok-opening.opening in
+    let is = ap (opening k) (sym c.in_ok-made.ensures.made) ∙ c.in_ok-opening.ensures in
+    let same = number_in s cs c.args.head.now in
     let p = err_from_is_err_and c.from_residual-in_err-append_copies.result c.from_residual-in_err-append_copies.ensures.1 in
-    rw (p.1, p.2) (λ h. copies_fail k c.args.scope.now.levels f block rof old o is c.args.first.now.number same (unrolled_so_far s c.append_earlier.new.out) c.in_ok-append_earlier.ensures.adds c.in_err-append_copies.field-0.0 (c.in_err-append_copies.ensures.adds h))
+    rw (p.1, p.2) (λ h. copies_fail k c.args.scope.now.levels f block rof old o is c.args.head.now.number same (unrolled_so_far s c.append_earlier.new.out) c.in_ok-append_earlier.ensures.adds c.in_err-append_copies.field-0.0 (c.in_err-append_copies.ensures.adds h))
 
 pub append_block-returns-clause-adds : goal.append_block-returns-clause-adds
 append_block-returns-clause-adds t c =
     let k = shared c.args.context.now in
     let s = k.source in
     let cs = c.args.scope.now.copies.now in
-    let f = line_in s cs c.args.first.now in
-    let block = lines_in s cs c.args.inside.now.lines.now in
-    let rof = line_in s cs c.args.inside.now.rof.now in
+    let f = line_in s cs c.args.head.now in
+    let block = lines_in s cs c.args.cut.now.lines.now in
+    let rof = line_in s cs c.args.cut.now.rof.now in
     let old = unrolled_so_far s c.args.out.now in
-    let o = seen_start c.in_ok-opened.opened c.in_ok-opening.opening in
-    let is = ap (opening k) (sym c.in_ok-opened.ensures.made) ∙ c.in_ok-opening.ensures in
-    let same = number_in s cs c.args.first.now in
+    let o = seen_start c.in_ok-made.made c.in_ok-opening.opening in
+    let is = ap (opening k) (sym c.in_ok-made.ensures.made) ∙ c.in_ok-opening.ensures in
+    let same = number_in s cs c.args.head.now in
     let new = unrolled_so_far s c.append_copies.new.out in
-    let ends = block_ends k c.args.scope.now.levels f block rof old o is c.args.first.now.number same (unrolled_so_far s c.append_earlier.new.out) c.in_ok-append_earlier.ensures.adds new c.in_ok-append_copies.ensures.adds in
-    subst (λ r. Returns (λ u. new) c.check_rof.result r) (ap (λ h. at_rof h new) c.in_ok-closed.ensures.made ∙ sym ends) (c.check_rof.ensures new)
+    let ends = block_ends k c.args.scope.now.levels f block rof old o is c.args.head.now.number same (unrolled_so_far s c.append_earlier.new.out) c.in_ok-append_earlier.ensures.adds new c.in_ok-append_copies.ensures.adds in
+    subst (λ r. Returns (λ u. new) c.check_rof.result r) (ap (λ h. at_rof h new) c.in_ok-made_rof.ensures.made ∙ sym ends) (c.check_rof.ensures new)
 
 pub append_block-returns-clause-after : goal.append_block-returns-clause-after
 append_block-returns-clause-after t c = anyway _ c.check_rof.result c.in_ok-append_copies.ensures.after
@@ -105,7 +105,7 @@ append_copy-returns-clause-adds t c =
     let s = k.source in
     let cs = c.args.scope.now.copies.now in
     let h : 0 < c.args.scope.now.levels = omega arith in
-    let room : length (reached_lines s c.args.out.now.lines.items) + c.args.out.now.copies < MOST_LINES = omega (arith, reached_length s c.args.out.now.lines.items) in
+    let room : length (reached_lines s c.args.out.now.lines.items) + c.args.out.now.copy_count < MOST_LINES = omega (arith, reached_length s c.args.out.now.lines.items) in
     let counter = option_map (λ b. b.now) c.args.block.now.counter in
     let block = lines_in s cs c.args.block.now.lines.now in
     let made : copied_block s counter c.args.number block ≡ lines_in s c.deref.result.now c.args.block.now.lines.now =

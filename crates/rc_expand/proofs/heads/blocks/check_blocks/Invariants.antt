@@ -5,4 +5,4 @@ use Rattle.rc_expand.proofs.heads.blocks.check_blocks.Given as goal
 
 abbrev pub invariant-loop-i : goal.invariant-loop-i
 invariant-loop-i l =
-    (l.opened ≤ DEEPEST_BLOCK) × (nesting_fault 0 0 l.heads ≡ nesting_fault l.opened l.outermost (drop l.i l.heads))
+    (l.open_blocks ≤ DEEPEST_BLOCK) × (nesting_fault 0 0 l.heads ≡ nesting_fault l.open_blocks l.outermost (drop l.i l.heads))

@@ -25,7 +25,7 @@ loop-head-preserved-in-For c =
     let t : Table = table_of c.args.names.now.constants.now.names.now c.args.names.now.constants.now.values.now in
     let r : RulesView = c.args.names.now.rules.now in
     let s = c.args.source.now in (
-      c.loop-head.invariant.0 ∙ ap (λ hs. equs_from s t r hs c.loop-head.equs) (at_for c.loop-head.rest.now c.in-Some.head.now c.in-Some.after.now c.loop-head.opened c.in-Some.ensures.cases.0 c.in-For.is),
+      c.loop-head.invariant.0 ∙ ap (λ hs. equs_from s t r hs c.loop-head.equs) (at_for c.loop-head.rest.now c.in-Some.head.now c.in-Some.after.now c.loop-head.open_blocks c.in-Some.ensures.cases.0 c.in-For.is),
       omega (arith, c.loop-head.invariant.1, ap length c.in-Some.ensures.cases.0),
       All-rest (HeadLies s) c.in-Some.head.now c.in-Some.after.now c.loop-head.rest.now c.in-Some.ensures.cases.0 c.loop-head.invariant.2,
       c.loop-head.invariant.3,
@@ -36,8 +36,8 @@ loop-head-preserved-in-Rof c =
     let t : Table = table_of c.args.names.now.constants.now.names.now c.args.names.now.constants.now.values.now in
     let r : RulesView = c.args.names.now.rules.now in
     let s = c.args.source.now in (
-      c.loop-head.invariant.0 ∙ ap (λ hs. equs_from s t r hs c.loop-head.equs) (at_rof c.loop-head.rest.now c.in-Some.head.now c.in-Some.after.now c.loop-head.opened c.saturating_sub-opened.result c.in-Some.ensures.cases.0 c.in-Rof.is (omega (arith, c.saturating_sub-opened.ensures))),
-      omega (arith, c.loop-head.invariant.1, ap length c.in-Some.ensures.cases.0, c.saturating_sub-opened.ensures),
+      c.loop-head.invariant.0 ∙ ap (λ hs. equs_from s t r hs c.loop-head.equs) (at_rof c.loop-head.rest.now c.in-Some.head.now c.in-Some.after.now c.loop-head.open_blocks c.saturating_sub-open_blocks.result c.in-Some.ensures.cases.0 c.in-Rof.is (omega (arith, c.saturating_sub-open_blocks.ensures))),
+      omega (arith, c.loop-head.invariant.1, ap length c.in-Some.ensures.cases.0, c.saturating_sub-open_blocks.ensures),
       All-rest (HeadLies s) c.in-Some.head.now c.in-Some.after.now c.loop-head.rest.now c.in-Some.ensures.cases.0 c.loop-head.invariant.2,
       c.loop-head.invariant.3,
     )
@@ -50,19 +50,19 @@ loop-head-preserved-in_ok-insert-in-Equ c =
     let e : List ℕ × EquText = (c.in_ok-name-in-Equ.name, c.in_ok-name-in-Equ.equ) in
     let pushed : c.insert.new.self ≡ c.loop-head.equs ++ (e ∷ []) = name_pushed c.in_ok-name-in-Equ.name c.loop-head.equs c.insert.new.self c.in_ok-name-in-Equ.name c.in_ok-name-in-Equ.equ c.in_ok-insert-in-Equ.ensures.table refl c.in_ok-name-in-Equ.ensures.new in (
       c.loop-head.invariant.0
-          ∙ (ap (λ hs. equs_from s t r hs c.loop-head.equs) (at_equ c.loop-head.rest.now c.in-Some.head.now c.in-Some.after.now c.loop-head.opened c.in-Some.ensures.cases.0 c.in-Equ.is (omega (arith, c.if-opened-eq0.true)))
-          ∙ ap (and_then (equs_from s t r (equ_lines c.loop-head.opened c.in-Some.after.now))) (c.in_ok-name-in-Equ.ensures.equ ∙ ap Ok (sym pushed))),
+          ∙ (ap (λ hs. equs_from s t r hs c.loop-head.equs) (at_equ c.loop-head.rest.now c.in-Some.head.now c.in-Some.after.now c.loop-head.open_blocks c.in-Some.ensures.cases.0 c.in-Equ.is (omega (arith, c.if-open_blocks-eq0.true)))
+          ∙ ap (and_then (equs_from s t r (equ_lines c.loop-head.open_blocks c.in-Some.after.now))) (c.in_ok-name-in-Equ.ensures.equ ∙ ap Ok (sym pushed))),
       omega (arith, c.loop-head.invariant.1, ap length c.in-Some.ensures.cases.0),
       All-rest (HeadLies s) c.in-Some.head.now c.in-Some.after.now c.loop-head.rest.now c.in-Some.ensures.cases.0 c.loop-head.invariant.2,
       All-same (λ e. All (LiesIn s) e.1.tokens) c.insert.new.self _ pushed (All-push (λ e. All (LiesIn s) e.1.tokens) c.loop-head.equs e c.loop-head.invariant.3 c.in_ok-name-in-Equ.ensures.inside),
     )
 
-pub loop-head-preserved-else-opened-eq0 : goal.loop-head-preserved-else-opened-eq0
-loop-head-preserved-else-opened-eq0 c =
+pub loop-head-preserved-else-open_blocks-eq0 : goal.loop-head-preserved-else-open_blocks-eq0
+loop-head-preserved-else-open_blocks-eq0 c =
     let t : Table = table_of c.args.names.now.constants.now.names.now c.args.names.now.constants.now.values.now in
     let r : RulesView = c.args.names.now.rules.now in
     let s = c.args.source.now in (
-      c.loop-head.invariant.0 ∙ ap (λ hs. equs_from s t r hs c.loop-head.equs) (at_inner_equ c.loop-head.rest.now c.in-Some.head.now c.in-Some.after.now c.loop-head.opened c.in-Some.ensures.cases.0 c.in-Equ.is (omega (arith, c.if-opened-eq0.false))),
+      c.loop-head.invariant.0 ∙ ap (λ hs. equs_from s t r hs c.loop-head.equs) (at_inner_equ c.loop-head.rest.now c.in-Some.head.now c.in-Some.after.now c.loop-head.open_blocks c.in-Some.ensures.cases.0 c.in-Equ.is (omega (arith, c.if-open_blocks-eq0.false))),
       omega (arith, c.loop-head.invariant.1, ap length c.in-Some.ensures.cases.0),
       All-rest (HeadLies s) c.in-Some.head.now c.in-Some.after.now c.loop-head.rest.now c.in-Some.ensures.cases.0 c.loop-head.invariant.2,
       c.loop-head.invariant.3,
@@ -73,7 +73,7 @@ loop-head-preserved c =
     let t : Table = table_of c.args.names.now.constants.now.names.now c.args.names.now.constants.now.values.now in
     let r : RulesView = c.args.names.now.rules.now in
     let s = c.args.source.now in (
-      c.loop-head.invariant.0 ∙ ap (λ hs. equs_from s t r hs c.loop-head.equs) (at_other c.loop-head.rest.now c.in-Some.head.now c.in-Some.after.now c.loop-head.opened c.in-Some.ensures.cases.0 c.in_default-word.not-Equ c.in_default-word.not-For c.in_default-word.not-Rof),
+      c.loop-head.invariant.0 ∙ ap (λ hs. equs_from s t r hs c.loop-head.equs) (at_other c.loop-head.rest.now c.in-Some.head.now c.in-Some.after.now c.loop-head.open_blocks c.in-Some.ensures.cases.0 c.in_default-word.not-Equ c.in_default-word.not-For c.in_default-word.not-Rof),
       omega (arith, c.loop-head.invariant.1, ap length c.in-Some.ensures.cases.0),
       All-rest (HeadLies s) c.in-Some.head.now c.in-Some.after.now c.loop-head.rest.now c.in-Some.ensures.cases.0 c.loop-head.invariant.2,
       c.loop-head.invariant.3,
@@ -86,12 +86,12 @@ returns-in_err-name-in-Equ-clause-equs c =
     let s = c.args.source.now in
     let p = err_from_is_err_and c.from_residual.result c.from_residual.ensures.1 in
     rw (p.1, p.2) (λ h. c.loop-head.invariant.0
-    ∙ (ap (λ hs. equs_from s t r hs c.loop-head.equs) (at_equ c.loop-head.rest.now c.in-Some.head.now c.in-Some.after.now c.loop-head.opened c.in-Some.ensures.cases.0 c.in-Equ.is (omega (arith, c.if-opened-eq0.true)))
-    ∙ ap (and_then (equs_from s t r (equ_lines c.loop-head.opened c.in-Some.after.now))) (c.in_err-name-in-Equ.ensures.equ h)))
+    ∙ (ap (λ hs. equs_from s t r hs c.loop-head.equs) (at_equ c.loop-head.rest.now c.in-Some.head.now c.in-Some.after.now c.loop-head.open_blocks c.in-Some.ensures.cases.0 c.in-Equ.is (omega (arith, c.if-open_blocks-eq0.true)))
+    ∙ ap (and_then (equs_from s t r (equ_lines c.loop-head.open_blocks c.in-Some.after.now))) (c.in_err-name-in-Equ.ensures.equ h)))
 
 pub returns-clause-equs : goal.returns-clause-equs
 returns-clause-equs c =
     let t : Table = table_of c.args.names.now.constants.now.names.now c.args.names.now.constants.now.values.now in
     let r : RulesView = c.args.names.now.rules.now in
     let s = c.args.source.now in
-    c.loop-head.invariant.0 ∙ equs_end s t r c.loop-head.opened c.loop-head.rest.now c.loop-head.equs c.in_default.ensures.cases
+    c.loop-head.invariant.0 ∙ equs_end s t r c.loop-head.open_blocks c.loop-head.rest.now c.loop-head.equs c.in_default.ensures.cases

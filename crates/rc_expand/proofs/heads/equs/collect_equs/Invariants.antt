@@ -13,5 +13,5 @@ decreases-loop-head l = length l.rest
 abbrev pub invariant-loop-head : goal.invariant-loop-head
 invariant-loop-head l =
     (equs_of l.source (table_of l.names.constants.now.names.now l.names.constants.now.values.now) l.names.rules.now l.heads
-    ≡ equs_from l.source (table_of l.names.constants.now.names.now l.names.constants.now.values.now) l.names.rules.now (equ_lines l.opened l.rest) l.equs)
-    × (l.opened + length l.rest ≤ length l.heads) × All (HeadLies l.source) l.rest × EqusLie l.source l.equs
+    ≡ equs_from l.source (table_of l.names.constants.now.names.now l.names.constants.now.values.now) l.names.rules.now (equ_lines l.open_blocks l.rest) l.equs)
+    × (l.open_blocks + length l.rest ≤ length l.heads) × All (HeadLies l.source) l.rest × EqusLie l.source l.equs

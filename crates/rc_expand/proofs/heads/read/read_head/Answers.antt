@@ -8,7 +8,7 @@ pub returns-clause-inside : goal.returns-clause-inside
 returns-clause-inside c =
     let source = c.args.source.now in
     let tokens = c.args.tokens.now.items in
-    let h : c.in_ok-labels.at < length tokens = omega (arith, c.in_ok-labels.ensures.place) in
+    let h : c.in_ok-labels.at < length tokens = omega (arith, c.in_ok-labels.ensures.index) in
     let is : c.in_ok-directive.directive ≡ get_or tokens c.in_ok-labels.at c.in_ok-directive.directive =
     same_read tokens c.in_ok-labels.at c.in_ok-directive.directive c.index-2.result.now c.in_ok-directive.ensures c.index-2.ensures in
     record {

@@ -3,12 +3,12 @@ use Rattle.std.specs.Prelude.{option_map}
 use Rattle.rc_text.specs.declared.token.Token.{Token}
 use Rattle.rc_expand.specs.Unroll.Copies.{joins, copied_tokens}
 use Rattle.rc_expand.proofs.Unrolling.Copies.{name_joined, joined_lies, no_more_joined, joins_short}
-use Rattle.rc_expand.proofs.unroll.copy.copy_name.Goals.{then-loop-after-test+else-is_joined, else-loop-after-test}
+use Rattle.rc_expand.proofs.unroll.copy.copy_name.Goals.{then-loop-after-test+else-joins, else-loop-after-test}
 use Rattle.rc_expand.proofs.unroll.copy.copy_name.Goals as goal
 
 pub loop-after-preserved : goal.loop-after-preserved
 loop-after-preserved c = rw c.push.ensures (
-  c.loop-after.invariant.0 ∙ name_joined c.args.source.now c.args.counter.now c.args.number c.loop-after.made c.loop-after.name c.args.tokens.now c.loop-after.after (omega arith) c.if-is_joined.ensures.result,
+  c.loop-after.invariant.0 ∙ name_joined c.args.source.now c.args.counter.now c.args.number c.loop-after.made c.loop-after.name c.args.tokens.now c.loop-after.after (omega arith) c.if-joins.ensures.result,
   joined_lies c.args.source.now c.loop-after.name _ c.loop-after.invariant.1,
   omega arith,
   omega arith,
@@ -20,7 +20,7 @@ returns-clause-copied c =
     let n = c.loop-after.name in
     let others = drop c.loop-after.after c.args.tokens.now in
     let no_more : joins s c.args.counter.now n others ≡ false = elim c.loop-after-test.branch [
-      | then-loop-after-test+else-is_joined w ↦ sym w.if-is_joined.ensures.result
+      | then-loop-after-test+else-joins w ↦ sym w.if-joins.ensures.result
       | else-loop-after-test w ↦ joins_short s c.args.counter.now n c.args.tokens.now c.loop-after.after (omega arith)
     ] in
     c.loop-after.invariant.0

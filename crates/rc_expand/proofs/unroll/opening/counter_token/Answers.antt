@@ -10,16 +10,16 @@ pub returns-in-Some-clause-token : goal.returns-in-Some-clause-token
 returns-in-Some-clause-token c =
     let s = c.args.source.now in
     let n : suc (length c.as_slice-labels.result.now - 1) ≡ length c.as_slice-labels.result.now = omega arith in
-    let last = ap (counter_of s c.args.first.now.number) (sym c.as_slice-labels.ensures)
-    ∙ (counter_at s c.args.first.now.number c.as_slice-labels.result.now (length c.as_slice-labels.result.now - 1) c.index-labels-labels.result n c.index-labels-labels.is
-    ∙ ap (λ l. plain_or (at_line c.args.first.now.number (counter_kind l)) (plain_token s l)) (sym c.as_slice-label.ensures)) in
-    last ∙ ap (plain_or (at_line c.args.first.now.number (counter_kind c.as_slice-label.result.now))) (sym c.in-Some.ensures.token)
+    let last = ap (counter_of s c.args.head.now.number) (sym c.as_slice-labels.ensures)
+    ∙ (counter_at s c.args.head.now.number c.as_slice-labels.result.now (length c.as_slice-labels.result.now - 1) c.index-labels-labels.result n c.index-labels-labels.is
+    ∙ ap (λ l. plain_or (at_line c.args.head.now.number (counter_kind l)) (plain_token s l)) (sym c.as_slice-label.ensures)) in
+    last ∙ ap (plain_or (at_line c.args.head.now.number (counter_kind c.as_slice-label.result.now))) (sym c.in-Some.ensures.token)
 
 pub returns-in-None-clause-token : goal.returns-in-None-clause-token
 returns-in-None-clause-token c =
     let s = c.args.source.now in
     let n : suc (length c.as_slice-labels.result.now - 1) ≡ length c.as_slice-labels.result.now = omega arith in
-    let last = ap (counter_of s c.args.first.now.number) (sym c.as_slice-labels.ensures)
-    ∙ (counter_at s c.args.first.now.number c.as_slice-labels.result.now (length c.as_slice-labels.result.now - 1) c.index-labels-labels.result n c.index-labels-labels.is
-    ∙ ap (λ l. plain_or (at_line c.args.first.now.number (counter_kind l)) (plain_token s l)) (sym c.as_slice-label.ensures)) in
-    λ h. last ∙ (ap (plain_or (at_line c.args.first.now.number (counter_kind c.as_slice-label.result.now))) (sym c.in-None.ensures.token) ∙ ap Err (sym c.counter_fault.ensures))
+    let last = ap (counter_of s c.args.head.now.number) (sym c.as_slice-labels.ensures)
+    ∙ (counter_at s c.args.head.now.number c.as_slice-labels.result.now (length c.as_slice-labels.result.now - 1) c.index-labels-labels.result n c.index-labels-labels.is
+    ∙ ap (λ l. plain_or (at_line c.args.head.now.number (counter_kind l)) (plain_token s l)) (sym c.as_slice-label.ensures)) in
+    λ h. last ∙ (ap (plain_or (at_line c.args.head.now.number (counter_kind c.as_slice-label.result.now))) (sym c.in-None.ensures.token) ∙ ap Err (sym c.counter_fault.ensures))

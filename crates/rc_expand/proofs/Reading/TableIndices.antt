@@ -7,10 +7,10 @@ use Rattle.std.proofs.lemmas.List.Elements.{All-same}
 use Rattle.rc_text.specs.declared.token.Token.{Token}
 use Rattle.rc_text.specs.Symbols.{LiesIn}
 use Rattle.rc_expand.specs.Replace.{EquText, Equs, EqusLie, equ_in}
-use Rattle.rc_expand.specs.Heads.NameTables.{at_place, ArePlaces, AreLinks}
+use Rattle.rc_expand.specs.Heads.NameTables.{at_index, AreIndices, AreLinks}
 
 module _ {A : Type 0} where
-  value_at : (table : List (List ℕ × A)) (i : ℕ) → slice_get (map (λ e. e.1) table) i ≡ at_place table (Some i)
+  value_at : (table : List (List ℕ × A)) (i : ℕ) → slice_get (map (λ e. e.1) table) i ≡ at_index table (Some i)
   value_at [] i = refl
   value_at (e ∷ es) zero = refl
   value_at (e ∷ es) (suc i) = value_at es i
@@ -23,46 +23,46 @@ module _ {A : Type 0} where
   nothing None h = refl
   nothing (Some x) h = cc
 
-  -- the place that is found has the value that is found
-  pub place_finds : (entries table : List (List ℕ × A)) (place : Option ℕ) (value : Option A) → entries ≡ table → is_some place ≡ is_some value
-      → IfSome place (λ i. slice_get (map (λ e. e.1) entries) i ≡ value) → at_place table place ≡ value
-  place_finds entries table None value e s h = nothing value s
-  place_finds entries table (Some i) value e s h = ap (λ t. at_place t (Some i)) (sym e) ∙ (sym (value_at entries i) ∙ h)
+  -- the index that is found has the value that is found
+  pub index_finds : (entries table : List (List ℕ × A)) (index : Option ℕ) (value : Option A) → entries ≡ table → is_some index ≡ is_some value
+      → IfSome index (λ i. slice_get (map (λ e. e.1) entries) i ≡ value) → at_index table index ≡ value
+  index_finds entries table None value e s h = nothing value s
+  index_finds entries table (Some i) value e s h = ap (λ t. at_index t (Some i)) (sym e) ∙ (sym (value_at entries i) ∙ h)
 
-  -- a place with a value lies in the table, and is the first of those from there on
-  pub place_inside : (table : List (List ℕ × A)) (i : ℕ) (x : A) → Some x ≡ at_place table (Some i) → i < length table
-  place_inside [] i x h = cc
-  place_inside (e ∷ es) zero x h = omega arith
-  place_inside (e ∷ es) (suc i) x h = let p : i < length es = place_inside es i x h in omega arith
+  -- an index with a value is below its length, and is the first of those from there on
+  pub index_inside : (table : List (List ℕ × A)) (i : ℕ) (x : A) → Some x ≡ at_index table (Some i) → i < length table
+  index_inside [] i x h = cc
+  index_inside (e ∷ es) zero x h = omega arith
+  index_inside (e ∷ es) (suc i) x h = let p : i < length es = index_inside es i x h in omega arith
 
   module _ {B : Type 0} (f : A → B) where
     abbrev values : List (List ℕ × A) → List B
     values table = map (λ e. f e.1) table
 
-    first_value : (table : List (List ℕ × A)) (i : ℕ) (x : A) → Some x ≡ at_place table (Some i) → values (drop i table) ≡ f x ∷ values (drop (suc i) table)
+    first_value : (table : List (List ℕ × A)) (i : ℕ) (x : A) → Some x ≡ at_index table (Some i) → values (drop i table) ≡ f x ∷ values (drop (suc i) table)
     first_value [] i x h = cc
     first_value (e ∷ es) zero x h = ap (λ y. f y ∷ values es) (sym (ap (λ o. value_or o x) h))
     first_value (e ∷ es) (suc i) x h = first_value es i x h
 
     -- one more value is worked on
-    pub values_more : (table : List (List ℕ × A)) (i : ℕ) (x : A) (done : List B) → Some x ≡ at_place table (Some i)
+    pub values_more : (table : List (List ℕ × A)) (i : ℕ) (x : A) (done : List B) → Some x ≡ at_index table (Some i)
         → done ++ values (drop i table) ≡ values table → (done ++ (f x ∷ [])) ++ values (drop (i + 1) table) ≡ values table
     values_more table i x done h e =
         append_assoc done (f x ∷ []) (values (drop (i + 1) table))
         ∙ (ap (λ vs. done ++ vs) (ap (λ n. f x ∷ values (drop n table)) (add-one i) ∙ sym (first_value table i x h)) ∙ e)
 
     -- no value is left
-    no_value : (table : List (List ℕ × A)) (i : ℕ) → None ≡ at_place table (Some i) → drop i table ≡ []
+    no_value : (table : List (List ℕ × A)) (i : ℕ) → None ≡ at_index table (Some i) → drop i table ≡ []
     no_value [] zero h = refl
     no_value [] (suc i) h = refl
     no_value (e ∷ es) zero h = cc
     no_value (e ∷ es) (suc i) h = no_value es i h
 
-    pub values_done : (table : List (List ℕ × A)) (i : ℕ) (done : List B) → None ≡ at_place table (Some i) → done ++ values (drop i table) ≡ values table → done ≡ values table
+    pub values_done : (table : List (List ℕ × A)) (i : ℕ) (done : List B) → None ≡ at_index table (Some i) → done ++ values (drop i table) ≡ values table → done ≡ values table
     values_done table i done h e = sym (append-nil done) ∙ (ap (λ t. done ++ values t) (sym (no_value table i h)) ∙ e)
 
     -- as the last of those done
-    pub value_pushed : {L : Type 0} (g : L → B) (table : List (List ℕ × A)) (i : ℕ) (x : A) (done new : List L) (l : L) → Some x ≡ at_place table (Some i) → new ≡ done ++ (l ∷ []) → g l ≡ f x
+    pub value_pushed : {L : Type 0} (g : L → B) (table : List (List ℕ × A)) (i : ℕ) (x : A) (done new : List L) (l : L) → Some x ≡ at_index table (Some i) → new ≡ done ++ (l ∷ []) → g l ≡ f x
         → map g done ++ values (drop i table) ≡ values table → map g new ++ values (drop (i + 1) table) ≡ values table
     value_pushed g table i x done new l h n e r =
         ap (λ ls. map g ls ++ values (drop (i + 1) table)) n
@@ -86,27 +86,27 @@ module _ {X Y Z : Type 0} (f : X → Z) (g : Y → Z) where
   same_at (a ∷ xs) (b ∷ ys) (suc i) x y e h = same_at xs ys i x y (ap others e) (omega arith)
 
 module _ (source : List ℕ) (equs : Equs) where
-  -- the place of a token
-  pub place_of : (tokens : List Token) (places : List (Option ℕ)) (i : ℕ) (t : Token) → ArePlaces source equs tokens places → i < length tokens → t ≡ get_or tokens i t
-      → at_place equs (get_or places i None) ≡ equ_in source equs t
-  place_of tokens places i t p h e = same_at (at_place equs) (equ_in source equs) places tokens i None t p h ∙ ap (equ_in source equs) (sym e)
+  -- the index of a token
+  pub index_of : (tokens : List Token) (indices : List (Option ℕ)) (i : ℕ) (t : Token) → AreIndices source equs tokens indices → i < length tokens → t ≡ get_or tokens i t
+      → at_index equs (get_or indices i None) ≡ equ_in source equs t
+  index_of tokens indices i t p h e = same_at (at_index equs) (equ_in source equs) indices tokens i None t p h ∙ ap (equ_in source equs) (sym e)
 
-  value_is : (table : Equs) (i : ℕ) (body : EquText) (d : List ℕ × EquText) → Some body ≡ at_place table (Some i) → (get_or table i d).1 ≡ body
+  value_is : (table : Equs) (i : ℕ) (body : EquText) (d : List ℕ × EquText) → Some body ≡ at_index table (Some i) → (get_or table i d).1 ≡ body
   value_is [] i body d h = cc
   value_is (e ∷ es) zero body d h = sym (ap (λ o. value_or o body) h)
   value_is (e ∷ es) (suc i) body d h = value_is es i body d h
 
   -- the tokens of an EQU name are linked
-  pub body_linked : (links : List (Vec (Option ℕ))) (i : ℕ) (body : EquText) (tokens : List Token) (l : Vec (Option ℕ)) (places : List (Option ℕ)) → AreLinks source equs links → Some body ≡ at_place equs (Some i)
-      → tokens ≡ body.tokens → l ≡ get_or links i l → places ≡ l.items → ArePlaces source equs tokens places
-  body_linked links i body tokens l places a h t e p =
+  pub body_linked : (links : List (Vec (Option ℕ))) (i : ℕ) (body : EquText) (tokens : List Token) (l : Vec (Option ℕ)) (indices : List (Option ℕ)) → AreLinks source equs links → Some body ≡ at_index equs (Some i)
+      → tokens ≡ body.tokens → l ≡ get_or links i l → indices ≡ l.items → AreIndices source equs tokens indices
+  body_linked links i body tokens l indices a h t e p =
       let d : List ℕ × EquText = ([], body) in
-      ap (map (at_place equs)) (p ∙ ap (λ (v : Vec (Option ℕ)). v.items) e)
-      ∙ (same_at (λ (v : Vec (Option ℕ)). map (at_place equs) v.items) (λ x. map (equ_in source equs) x.1.tokens) links equs i l d a (place_inside equs i body h)
+      ap (map (at_index equs)) (p ∙ ap (λ (v : Vec (Option ℕ)). v.items) e)
+      ∙ (same_at (λ (v : Vec (Option ℕ)). map (at_index equs) v.items) (λ x. map (equ_in source equs) x.1.tokens) links equs i l d a (index_inside equs i body h)
       ∙ ap (map (equ_in source equs)) (ap (λ (e : EquText). e.tokens) (value_is equs i body d h) ∙ sym t))
 
   -- and lie in the source
-  pub body_lies : (i : ℕ) (body : EquText) (tokens : List Token) → EqusLie source equs → Some body ≡ at_place equs (Some i) → tokens ≡ body.tokens → All (LiesIn source) tokens
+  pub body_lies : (i : ℕ) (body : EquText) (tokens : List Token) → EqusLie source equs → Some body ≡ at_index equs (Some i) → tokens ≡ body.tokens → All (LiesIn source) tokens
   body_lies i body tokens a h t =
       let d : List ℕ × EquText = ([], body) in
-      All-same (LiesIn source) tokens (get_or equs i d).1.tokens (t ∙ sym (ap (λ (e : EquText). e.tokens) (value_is equs i body d h))) (a i d (place_inside equs i body h))
+      All-same (LiesIn source) tokens (get_or equs i d).1.tokens (t ∙ sym (ap (λ (e : EquText). e.tokens) (value_is equs i body d h))) (a i d (index_inside equs i body h))

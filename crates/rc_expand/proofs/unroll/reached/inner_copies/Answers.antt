@@ -4,7 +4,7 @@ use Rattle.rc_expand.specs.declared.unroll.reached.Copying.{Copying}
 use Rattle.rc_expand.specs.Unroll.Copies.{copied_block}
 use Rattle.rc_expand.specs.Unroll.Reached.{lines_in}
 use Rattle.rc_expand.proofs.Unrolling.Reaching.{lines_more}
-use Rattle.rc_expand.proofs.unroll.reached.with_copy.Goals as goal
+use Rattle.rc_expand.proofs.unroll.reached.inner_copies.Goals as goal
 
 pub returns-in-None : goal.returns-in-None
 returns-in-None c = λ source hs.
