@@ -2,8 +2,10 @@
 use Rattle.std.specs.Prelude.{ℕ, Bool, ◌||◌, List, [], ◌∷◌, Option, Some, None, if◌then◌else◌, is_some, codes, ℤ, pos}
 use Rattle.std.specs.Global.{Vec}
 use Rattle.std.specs.List.{list_any}
+use Rattle.std.specs.Option.{option_or}
 use Rattle.std.specs.Str.{bytes_eq}
 use Rattle.rc_instr.specs.Rules.{RulesView}
+use Rattle.rc_expand.specs.declared.constants.Constants.{Constants}
 
 abbrev pub is_among : List (List ℕ) → List ℕ → Bool
 is_among names name = list_any (λ n. bytes_eq n name) names
@@ -17,6 +19,10 @@ abbrev pub table_of : List (Vec ℕ) → List ℤ → Table
 table_of (n ∷ names) (v ∷ values) = (n.items, v) ∷ table_of names values
 table_of _ _ = []
 
+-- the constants, by name
+abbrev pub table_in : Constants → Table
+table_in c = table_of c.names.now c.values.now
+
 -- the predefined names (pMARS) but for CURLINE, which has no value before lines are counted
 abbrev pub predefined : RulesView → Table
 predefined r = (codes "CORESIZE", pos r.core) ∷ (codes "MAXPROCESSES", pos r.tasks) ∷ (codes "MAXCYCLES", pos r.cycles) ∷ (codes "MAXLENGTH", pos r.length) ∷ (codes "MINDISTANCE", pos r.distance) ∷ (codes "WARRIORS", pos 2) ∷ (codes "VERSION", pos 92) ∷ []
@@ -29,13 +35,9 @@ abbrev pub entry_of : {A : Type 0} → List (List ℕ × A) → List ℕ → Opt
 entry_of [] name = None
 entry_of (e ∷ table) name = if bytes_eq name e.0 then Some e.1 else entry_of table name
 
-abbrev pub or_else : {A : Type 0} → Option A → Option A → Option A
-or_else (Some x) o = Some x
-or_else None o = o
-
 -- the value of a name in a count: a constant or a predefined name
 unfoldable pub given_names : Table → RulesView → List ℕ → Option ℤ
-given_names constants rules name = or_else (entry_of constants name) (entry_of (predefined rules) name)
+given_names constants rules name = option_or (entry_of constants name) (entry_of (predefined rules) name)
 
 -- a constant or a predefined name, CURLINE included
 unfoldable pub is_taken : Table → RulesView → List ℕ → Bool

@@ -3,7 +3,7 @@ use Rattle.std.specs.Prelude.{ℕ, List}
 use Rattle.rc_instr.specs.Rules.{RulesView}
 use Rattle.rc_expand.specs.declared.names.GivenNames.{GivenNames}
 use Rattle.rc_expand.specs.declared.context.Context.{Context}
-use Rattle.rc_expand.specs.Names.{Table, table_of}
+use Rattle.rc_expand.specs.Names.{Table, table_in}
 use Rattle.rc_expand.specs.Replace.{Equs}
 
 -- the text, the names given from outside of it, the rules, and the text's own EQU names
@@ -15,7 +15,7 @@ pub record Shared : Type 0 where
 
 -- the constants with their values
 abbrev pub constants_of : GivenNames → Table
-constants_of g = table_of g.constants.now.names.now g.constants.now.values.now
+constants_of g = table_in g.constants.now
 
 abbrev pub shared : Context → Shared
 shared k = record { source = k.source.now; constants = constants_of k.names.now; rules = k.names.now.rules.now; equs = k.equs.now }

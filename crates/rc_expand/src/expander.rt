@@ -2,7 +2,7 @@
 ghost use Rattle.std.specs.Prelude.{◌≡◌, ◌≢◌, All, IfOk, IfErr, Ok, Err};
 ghost use Rattle.rc_expand.specs.declared.fault.ExpandKind.TheVariants.{OutOfMemory};
 ghost use Rattle.rc_expand.specs.Results.{Returns};
-ghost use Rattle.rc_expand.specs.Names.{table_of};
+ghost use Rattle.rc_expand.specs.Names.{table_in};
 ghost use Rattle.rc_expand.specs.Expansion.{LineLies, expansion_of};
 
 use crate::constants::Constants;
@@ -49,7 +49,7 @@ pub fn expand(
     constants: &Constants,
     rules: &Rules,
 ) -> Result<Expanded, ExpandFault>
-    ensures expansion { Returns (λ e. e.lines) result (expansion_of source.now (table_of constants.now.names.now constants.now.values.now) rules.now) }
+    ensures expansion { Returns (λ e. e.lines) result (expansion_of source.now (table_in constants.now) rules.now) }
     ensures spans { IfOk result (λ e. All (LineLies source.now) e.lines) }
     ensures memory { IfErr result (λ f. f.kind ≡ OutOfMemory → f.line ≡ 0) }
 {
@@ -67,7 +67,7 @@ fn expand_text(
     constants: &Constants,
     rules: &Rules,
 ) -> Result<Expanded, ExpandFault>
-    ensures expansion { Returns (λ e. e.lines) result (expansion_of source.now (table_of constants.now.names.now constants.now.values.now) rules.now) }
+    ensures expansion { Returns (λ e. e.lines) result (expansion_of source.now (table_in constants.now) rules.now) }
     ensures spans { IfOk result (λ e. All (LineLies source.now) e.lines) }
 {
     let names = GivenNames { constants, rules };

@@ -1,7 +1,7 @@
 //! The names of a text, with joined counters, and the values given from outside of it.
 ghost use Rattle.std.specs.Prelude.{◌≡◌, ◌≢◌, List, ℕ, ◌++◌, MatchOption, IfOk};
 ghost use Rattle.std.specs.Str.{bytes_eq};
-ghost use Rattle.rc_expand.specs.Names.{entry_of, predefined, table_of, is_taken};
+ghost use Rattle.rc_expand.specs.Names.{entry_of, predefined, table_in, is_taken};
 ghost use Rattle.rc_expand.specs.Shared.{constants_of};
 ghost use Rattle.rc_text.specs.Symbols.{LiesIn, name_of, counter_text};
 ghost use Rattle.rc_expand.specs.Heads.NameTables.{joined_name};
@@ -22,10 +22,10 @@ pub struct GivenNames<'a> {
 }
 
 impl<'a> Names for GivenNames<'a> {
-    ghost use Rattle.rc_expand.specs.Names.{table_of};
+    ghost use Rattle.rc_expand.specs.Names.{table_in};
     ghost use Rattle.rc_expand.specs.Names.{given_names};
 
-    ghost meaning = { λ s. given_names (table_of s.constants.now.names.now s.constants.now.values.now) s.rules.now };
+    ghost meaning = { λ s. given_names (table_in s.constants.now) s.rules.now };
 
     #[tactic(auto, unfolding(crate::specs::Names::given_names))]
     fn value(&self, source: &[u8], name: &Token) -> Option<i64> {
@@ -115,7 +115,7 @@ fn after_bytes<'a>(front: &[u8], bytes: &'a [u8]) -> Option<&'a [u8]>
 #[tactic(auto, using(crate::proofs::TableSteps::found_ends, crate::proofs::TableSteps::found_passed))]
 fn constant_value(constants: &Constants, source: &[u8], token: &Token) -> Option<i64>
     requires { LiesIn source.now token.now }
-    ensures { result ≡ entry_of (table_of constants.now.names.now constants.now.values.now) (name_of source.now token.now) }
+    ensures { result ≡ entry_of (table_in constants.now) (name_of source.now token.now) }
 {
     for i in 0..constants.names.len() {
         if i >= constants.values.len() {

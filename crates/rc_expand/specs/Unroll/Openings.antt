@@ -1,6 +1,6 @@
 -- What the FOR of a block says: its counter, the labels before the counter, and the number of
 -- copies (FOR is from pMARS).
-use Rattle.std.specs.Prelude.{ℕ, Bool, true, false, ◌&&◌, nat_le, nat_lt, ℤ, pos, negsuc, List, [], ◌∷◌, Option, Some, None, if◌then◌else◌, option_and_then, option_map, Result, Ok, Err}
+use Rattle.std.specs.Prelude.{ℕ, max, Bool, true, false, ◌&&◌, nat_le, nat_lt, ℤ, pos, negsuc, List, [], ◌∷◌, Option, Some, None, if◌then◌else◌, option_and_then, option_map, Result, Ok, Err}
 use Rattle.std.specs.Result.{result_ok}
 use Rattle.rc_text.specs.declared.token.Kind.{Kind}
 use Rattle.rc_text.specs.declared.token.Kind.TheVariants.{Number}
@@ -70,14 +70,10 @@ abbrev pub plain_or : ExpandFault → Option Token → Result (Option Token) Exp
 plain_or fault None = Err fault
 plain_or fault (Some t) = Ok (Some t)
 
--- the later of two lines
-abbrev pub later_line : ℕ → ℕ → ℕ
-later_line a b = if nat_lt a b then b else a
-
 -- a counter must not be an EQU name; the fault is told at the later of the FOR and the EQU line
 abbrev pub unless_equ : (line : ℕ) → List ℕ → Option EquText → Result (Option (List ℕ)) ExpandFault
 unless_equ line name None = Ok (Some name)
-unless_equ line name (Some e) = Err (at_line (later_line line e.line) DuplicateName)
+unless_equ line name (Some e) = Err (at_line (max line e.line) DuplicateName)
 
 -- the counter is the last label, if there are any, and must be a plain name
 abbrev pub counter_of : (source : List ℕ) (line : ℕ) → List (List Token) → Result (Option Token) ExpandFault

@@ -1,5 +1,6 @@
 //! Lines as they are read and copied, before EQU names are replaced.
 ghost use Rattle.std.specs.Prelude.{◌≡◌, ◌∷◌, ◌++◌, [], OnOk};
+ghost use Rattle.rc_expand.specs.Heads.Lines.{bare_line};
 
 use crate::line::Tokens;
 use rc_text::Token;
@@ -70,4 +71,20 @@ pub(crate) struct Head {
     // Set if a ninth counter was to be joined to a name of the line. Its labels and `rest` are then
     // empty.
     pub spoiled: bool,
+}
+
+impl Head {
+    // Makes a line that has labels alone.
+    pub(crate) fn bare(alloc: Global, number: u64, labels: Labels) -> Head
+        ensures { result ≡ bare_line number labels }
+    {
+        Head {
+            number,
+            labels,
+            word: HeadWord::Bare,
+            directive: None,
+            rest: Tokens::from_vec(Vec::new(alloc)),
+            spoiled: false,
+        }
+    }
 }

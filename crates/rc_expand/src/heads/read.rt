@@ -53,11 +53,7 @@ fn goes_on(source: &[u8], tokens: &[Token], at: usize) -> bool
     ensures result { result ≡ goes_on source.now (drop at tokens.now) }
     ensures room { IsTrue result → at + 2 ≤ length tokens.now }
 {
-    if tokens.len() - at > 1 {
-        is_link(source, &tokens[at], &tokens[at + 1])
-    } else {
-        false
-    }
+    at + 1 < tokens.len() && is_link(source, &tokens[at], &tokens[at + 1])
 }
 
 // Returns the index after a label. Its first name is the token before `from`.
@@ -86,11 +82,7 @@ fn begins_label(source: &[u8], tokens: &[Token], at: usize) -> bool
     ensures result { result ≡ begins_label source.now (drop at tokens.now) }
     ensures room { IsTrue result → at + 1 ≤ length tokens.now }
 {
-    if at < tokens.len() {
-        is_free(source, &tokens[at])
-    } else {
-        false
-    }
+    at < tokens.len() && is_free(source, &tokens[at])
 }
 
 // Reads the labels of a line. Returns them and the index after them.
@@ -130,14 +122,7 @@ fn read_head(
 {
     let (labels, at) = read_labels(alloc, source, tokens.as_slice())?;
     if at == tokens.len() {
-        return Ok(Head {
-            number,
-            labels,
-            word: HeadWord::Bare,
-            directive: None,
-            rest: Tokens::from_vec(Vec::new(alloc)),
-            spoiled: false,
-        });
+        return Ok(Head::bare(alloc, number, labels));
     }
     let word = word_of(source, &tokens[at]);
     if word == HeadWord::Code {
@@ -177,14 +162,11 @@ fn push_line(
     ensures ended { IfOk result (λ ended. ended ≡ has_end (line_of_tokens source.now line.old.items)) }
     ensures after { IfOk result (λ ended. All (HeadLies source.now) heads.new.items) }
 {
-    if line.len() == 0 {
+    if line.is_empty() {
         return Ok(false);
     }
     let head = read_head(alloc, source, line[0].line, line)?;
-    let ended = match head.word {
-        HeadWord::End => true,
-        _ => false,
-    };
+    let ended = head.word == HeadWord::End;
     heads.push(head)?;
     Ok(ended)
 }

@@ -5,7 +5,7 @@ ghost use Rattle.rc_expand.specs.Results.{Returns, at_line};
 ghost use Rattle.rc_expand.specs.Shared.{shared};
 ghost use Rattle.rc_expand.specs.Heads.Lines.{HeadLies};
 ghost use Rattle.rc_expand.specs.Unroll.{Unrolled, is_bare_rof, at_rof};
-ghost use Rattle.rc_expand.specs.Unroll.Openings.{is_plain_number, is_enclosing, counter_kind, counter_of, small_count, later_line, earlier_of, seen_start, opening, count_of, counter_name};
+ghost use Rattle.rc_expand.specs.Unroll.Openings.{is_plain_number, is_enclosing, counter_kind, counter_of, small_count, earlier_of, seen_start, opening, count_of, counter_name};
 
 use crate::context::Context;
 use crate::fault::{ExpandFault, ExpandKind, fault};
@@ -175,15 +175,9 @@ fn check_counter(context: &Context, token: &Token, line: u64) -> Result<(), Expa
         return Err(fault(line, ExpandKind::DuplicateName));
     }
     match equ_line(context.equs, context.source, token) {
-        Some(other) => Err(fault(later_line(line, other), ExpandKind::DuplicateName)),
+        Some(other) => Err(fault(line.max(other), ExpandKind::DuplicateName)),
         None => Ok(()),
     }
-}
-
-fn later_line(one: u64, other: u64) -> u64
-    ensures { result ≡ later_line one other }
-{
-    if one < other { other } else { one }
 }
 
 // Copies all labels but the last.

@@ -7,7 +7,7 @@ ghost use Rattle.rc_expand.specs.Unroll.Openings.{earlier_of};
 ghost use Rattle.rc_expand.specs.Unroll.Reached.{line_in, lines_in, reached_line};
 ghost use Rattle.std.specs.List.{list_all};
 
-use crate::heads::head::{Head, HeadWord};
+use crate::heads::head::Head;
 use crate::limits::MOST_JOINED;
 use crate::line::Tokens;
 use crate::unroll::copy::{clone_head, copy_line};
@@ -135,12 +135,5 @@ fn earlier_line(alloc: Global, source: &[u8], head: &Head) -> Result<Head, Alloc
     ensures inside { IfOk result (HeadLies source.now) }
 {
     let labels = earlier_labels(alloc, source, head.labels.as_slice())?;
-    Ok(Head {
-        number: head.number,
-        labels,
-        word: HeadWord::Bare,
-        directive: None,
-        rest: Tokens::from_vec(Vec::new(alloc)),
-        spoiled: false,
-    })
+    Ok(Head::bare(alloc, head.number, labels))
 }

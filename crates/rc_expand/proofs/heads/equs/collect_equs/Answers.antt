@@ -5,7 +5,7 @@ use Rattle.std.specs.Prelude.{All, Ok}
 use Rattle.rc_text.specs.Symbols.{LiesIn}
 use Rattle.rc_instr.specs.Rules.{RulesView}
 use Rattle.rc_expand.specs.Results.{and_then}
-use Rattle.rc_expand.specs.Names.{Table, table_of}
+use Rattle.rc_expand.specs.Names.{Table, table_in}
 use Rattle.rc_expand.specs.Heads.Lines.{HeadLies}
 use Rattle.rc_expand.specs.Heads.{equ_lines, equs_from}
 use Rattle.rc_expand.specs.Replace.{EquText}
@@ -15,14 +15,14 @@ use Rattle.rc_expand.proofs.heads.equs.collect_equs.Goals as goal
 
 pub loop-head-init : goal.loop-head-init
 loop-head-init c =
-    let t : Table = table_of c.args.names.now.constants.now.names.now c.args.names.now.constants.now.values.now in
+    let t : Table = table_in c.args.names.now.constants.now in
     let r : RulesView = c.args.names.now.rules.now in
     let s = c.args.source.now in
     rw c.new-equs.ensures (equs_start s t r c.args.heads.now, omega arith, c.requires, All-nil (λ e. All (LiesIn s) e.1.tokens))
 
 pub loop-head-preserved-in-For : goal.loop-head-preserved-in-For
 loop-head-preserved-in-For c =
-    let t : Table = table_of c.args.names.now.constants.now.names.now c.args.names.now.constants.now.values.now in
+    let t : Table = table_in c.args.names.now.constants.now in
     let r : RulesView = c.args.names.now.rules.now in
     let s = c.args.source.now in (
       c.loop-head.invariant.0 ∙ ap (λ hs. equs_from s t r hs c.loop-head.equs) (at_for c.loop-head.rest.now c.in-Some.head.now c.in-Some.after.now c.loop-head.open_blocks c.in-Some.ensures.cases.0 c.in-For.is),
@@ -33,7 +33,7 @@ loop-head-preserved-in-For c =
 
 pub loop-head-preserved-in-Rof : goal.loop-head-preserved-in-Rof
 loop-head-preserved-in-Rof c =
-    let t : Table = table_of c.args.names.now.constants.now.names.now c.args.names.now.constants.now.values.now in
+    let t : Table = table_in c.args.names.now.constants.now in
     let r : RulesView = c.args.names.now.rules.now in
     let s = c.args.source.now in (
       c.loop-head.invariant.0 ∙ ap (λ hs. equs_from s t r hs c.loop-head.equs) (at_rof c.loop-head.rest.now c.in-Some.head.now c.in-Some.after.now c.loop-head.open_blocks c.saturating_sub-open_blocks.result c.in-Some.ensures.cases.0 c.in-Rof.is (omega (arith, c.saturating_sub-open_blocks.ensures))),
@@ -44,7 +44,7 @@ loop-head-preserved-in-Rof c =
 
 pub loop-head-preserved-in_ok-insert-in-Equ : goal.loop-head-preserved-in_ok-insert-in-Equ
 loop-head-preserved-in_ok-insert-in-Equ c =
-    let t : Table = table_of c.args.names.now.constants.now.names.now c.args.names.now.constants.now.values.now in
+    let t : Table = table_in c.args.names.now.constants.now in
     let r : RulesView = c.args.names.now.rules.now in
     let s = c.args.source.now in
     let e : List ℕ × EquText = (c.in_ok-name-in-Equ.name, c.in_ok-name-in-Equ.equ) in
@@ -59,7 +59,7 @@ loop-head-preserved-in_ok-insert-in-Equ c =
 
 pub loop-head-preserved-else-open_blocks-eq0 : goal.loop-head-preserved-else-open_blocks-eq0
 loop-head-preserved-else-open_blocks-eq0 c =
-    let t : Table = table_of c.args.names.now.constants.now.names.now c.args.names.now.constants.now.values.now in
+    let t : Table = table_in c.args.names.now.constants.now in
     let r : RulesView = c.args.names.now.rules.now in
     let s = c.args.source.now in (
       c.loop-head.invariant.0 ∙ ap (λ hs. equs_from s t r hs c.loop-head.equs) (at_inner_equ c.loop-head.rest.now c.in-Some.head.now c.in-Some.after.now c.loop-head.open_blocks c.in-Some.ensures.cases.0 c.in-Equ.is (omega (arith, c.if-open_blocks-eq0.false))),
@@ -70,7 +70,7 @@ loop-head-preserved-else-open_blocks-eq0 c =
 
 pub loop-head-preserved : goal.loop-head-preserved
 loop-head-preserved c =
-    let t : Table = table_of c.args.names.now.constants.now.names.now c.args.names.now.constants.now.values.now in
+    let t : Table = table_in c.args.names.now.constants.now in
     let r : RulesView = c.args.names.now.rules.now in
     let s = c.args.source.now in (
       c.loop-head.invariant.0 ∙ ap (λ hs. equs_from s t r hs c.loop-head.equs) (at_other c.loop-head.rest.now c.in-Some.head.now c.in-Some.after.now c.loop-head.open_blocks c.in-Some.ensures.cases.0 c.in_default-word.not-Equ c.in_default-word.not-For c.in_default-word.not-Rof),
@@ -81,7 +81,7 @@ loop-head-preserved c =
 
 pub returns-in_err-name-in-Equ-clause-equs : goal.returns-in_err-name-in-Equ-clause-equs
 returns-in_err-name-in-Equ-clause-equs c =
-    let t : Table = table_of c.args.names.now.constants.now.names.now c.args.names.now.constants.now.values.now in
+    let t : Table = table_in c.args.names.now.constants.now in
     let r : RulesView = c.args.names.now.rules.now in
     let s = c.args.source.now in
     let p = err_from_is_err_and c.from_residual.result c.from_residual.ensures.1 in
@@ -91,7 +91,7 @@ returns-in_err-name-in-Equ-clause-equs c =
 
 pub returns-clause-equs : goal.returns-clause-equs
 returns-clause-equs c =
-    let t : Table = table_of c.args.names.now.constants.now.names.now c.args.names.now.constants.now.values.now in
+    let t : Table = table_in c.args.names.now.constants.now in
     let r : RulesView = c.args.names.now.rules.now in
     let s = c.args.source.now in
     c.loop-head.invariant.0 ∙ equs_end s t r c.loop-head.open_blocks c.loop-head.rest.now c.loop-head.equs c.in_default.ensures.cases
