@@ -13,7 +13,7 @@ queue items capacity = record { items = items; capacity = capacity }
 abbrev pub ring_size : ℕ
 ring_size = 8192
 
--- The slot so many steps after another: slot 0 comes after the last one.
+-- The slot `steps` after `from`: slot 0 comes after the last one.
 abbrev pub slot_after : ℕ → ℕ → ℕ
 slot_after from steps = (from + steps) % ring_size
 

@@ -57,7 +57,7 @@ impl<C: Cells> Arena<C> {
     /// Loads the candidate from address 0 and the opponent from address `at`, and gives each one
     /// task, at its start.
     ///
-    /// The arena must be blank and both warriors must keep its rules. `at` is at least the distance
+    /// The arena must be blank and both warriors must fit its rules. `at` is at least the distance
     /// of the rules, and at most the core size less that distance. The marks grow by at most the
     /// two code lengths.
     #[tactic(auto, unfolding(crate::specs::State::start_of))]
@@ -83,8 +83,8 @@ impl<C: Cells> Arena<C> {
     /// queues while there is room (1994 draft). A side without tasks changes nothing, but the turn
     /// counts.
     ///
-    /// Fewer turns than two for each cycle of the rules were made since the load. The marks grow by
-    /// at most 3.
+    /// Requires that fewer turns than two for each cycle of the rules were made since the load. The
+    /// marks grow by at most 3.
     pub fn step(&mut self, side: Side)
         requires { self.old.turns < 2 * self.old.rules.cycles }
         ensures state { self.new.state ≡ turn_of self.old.rules.tasks self.old.state side }
@@ -143,21 +143,21 @@ impl<C: Cells> Arena<C> {
         match first {
             Side::Candidate => {
                 let (mine, theirs) = (&mut self.candidate, &mut self.opponent);
-                let kept = &mut self.snapshot;
-                let turns = decide(&mut self.cells, mine, theirs, kept, size, cycles);
+                let snapshot = &mut self.snapshot;
+                let turns = decide(&mut self.cells, mine, theirs, snapshot, size, cycles);
                 self.finish(turns)
             }
             Side::Opponent => {
                 let (mine, theirs) = (&mut self.opponent, &mut self.candidate);
-                let kept = &mut self.snapshot;
-                let turns = decide(&mut self.cells, mine, theirs, kept, size, cycles);
+                let snapshot = &mut self.snapshot;
+                let turns = decide(&mut self.cells, mine, theirs, snapshot, size, cycles);
                 self.finish(turns)
             }
         }
     }
 
-    /// Makes the arena blank again. Returns the number of cells that this set, which is the marks,
-    /// and at least the number of cells that were not empty.
+    /// Makes the arena blank again. Returns the number of cells that it set: the marks, which are at
+    /// least the number of cells that were not empty.
     pub fn reset(&mut self) -> u32
         ensures count { result ≡ self.old.marks }
         ensures least { filled_in self.old.state.core ≤ result }
@@ -227,17 +227,17 @@ impl<C: Cells + Drop> Arena<C> {
     ghost use Rattle.rc_instr.specs.Instruction.{empty_cell};
     ghost use Rattle.mars_core.specs.Arena.{IsBlank};
 
-    // Makes a blank arena over empty cells. Its snapshot keeps the cells of a state in `kept`.
-    fn over(alloc: Global, cells: C, kept: C, rules: &Rules) -> Result<Arena<C>, OutOfMemory>
+    // Makes a blank arena over empty cells. Its snapshot has the cells `copies`.
+    fn over(alloc: Global, cells: C, copies: C, rules: &Rules) -> Result<Arena<C>, OutOfMemory>
         requires cells { C.items cells ≡ replicate rules.now.core empty_cell }
-        requires kept { C.items kept ≡ replicate rules.now.core empty_cell }
+        requires copies { C.items copies ≡ replicate rules.now.core empty_cell }
         ensures blank { IfOk result (IsBlank rules.now) }
         ensures fights { IfOk result (λ a. a.fights ≡ 0) }
         ensures marks { IfOk result (λ a. a.marks ≡ C.marks cells) }
     {
         let candidate = Tasks::with_capacity(alloc, rules.tasks() as usize)?;
         let opponent = Tasks::with_capacity(alloc, rules.tasks() as usize)?;
-        let snapshot = Snapshot::over(alloc, kept)?;
+        let snapshot = Snapshot::over(alloc, copies)?;
         Ok(Arena {
             cells,
             candidate,
@@ -263,8 +263,8 @@ impl Arena<PlainCells> {
         ensures marks { IfOk result (λ a. a.marks ≡ rules.now.core) }
     {
         let cells = PlainCells::try_new(alloc, rules.core())?;
-        let kept = PlainCells::try_new(alloc, rules.core())?;
-        Arena::over(alloc, cells, kept, rules)
+        let copies = PlainCells::try_new(alloc, rules.core())?;
+        Arena::over(alloc, cells, copies, rules)
     }
 }
 
@@ -281,7 +281,7 @@ impl Arena<PackedCells> {
         ensures marks { IfOk result (λ a. a.marks ≡ 0) }
     {
         let cells = PackedCells::try_new(alloc, rules.core())?;
-        let kept = PackedCells::try_new(alloc, rules.core())?;
-        Arena::over(alloc, cells, kept, rules)
+        let copies = PackedCells::try_new(alloc, rules.core())?;
+        Arena::over(alloc, cells, copies, rules)
     }
 }

@@ -36,7 +36,7 @@ pub(crate) enum Queued {
 // Runs `instruction` on its evaluated operands, for the task at `pc`. Returns what the task queues.
 //
 // Each arm decodes the modifier anew, so that the compiler merges the decoding and the match on it
-// into one jump. MOV.I, SPL and NOP have arms too, though `execute` runs them itself.
+// into one jump. `execute_any` runs MOV.I, SPL and NOP itself, so only `arm` needs their arms here.
 #[tactic(auto, unfolding(crate::specs::Step::effect_of, crate::specs::Pairs::computed))]
 #[inline(always)]
 pub(crate) fn act<C: Cells>(

@@ -93,14 +93,13 @@ fn take_turns<C: Cells>(
     (cells, 2 * cycles)
 }
 
-// Leaves the state that `alternate` leaves, and returns the number of its turns. A state that comes
-// back does so for ever, so the fight is a tie: of the cycles that are left then, whole periods are
-// not played.
+// Does what `alternate` does, but plays no whole periods of a state that has come back: it will do
+// so for ever, so the fight is a tie.
 pub(crate) fn decide<C: Cells>(
     cells: &mut C,
     mine: &mut Tasks,
     theirs: &mut Tasks,
-    kept: &mut Snapshot<C>,
+    snapshot: &mut Snapshot<C>,
     size: u32,
     cycles: u32,
 ) -> u32
@@ -108,7 +107,7 @@ pub(crate) fn decide<C: Cells>(
     requires mine { AreTasks size mine.old.items }
     requires theirs { AreTasks size theirs.old.items }
     requires room { theirs.old.capacity ≡ mine.old.capacity }
-    requires kept { length kept.old.core ≡ size }
+    requires snapshot { length snapshot.old.core ≡ size }
     requires cycles { cycles ≤ 1000000 }
 
     // `mine` may be either side, so both clauses hold for every side that moves first.
@@ -119,11 +118,11 @@ pub(crate) fn decide<C: Cells>(
     ensures core { IsCore size (C.items cells.new) }
     ensures mine { AreTasks size mine.new.items × (mine.new.capacity ≡ mine.old.capacity) }
     ensures theirs { AreTasks size theirs.new.items × (theirs.new.capacity ≡ theirs.old.capacity) }
-    ensures kept { length kept.new.core ≡ size }
+    ensures snapshot { length snapshot.new.core ≡ size }
     ensures within { result ≤ 2 * cycles }
     ensures marks { C.marks cells.new ≤ C.marks cells.old + 3 * result }
 {
-    kept.forget();
+    snapshot.forget();
     let mut done = 0;
     while done + STRETCH < cycles {
         let turns = alternate(cells, mine, theirs, size, STRETCH);
@@ -131,11 +130,11 @@ pub(crate) fn decide<C: Cells>(
             return 2 * done + turns;
         }
         done += STRETCH;
-        if let Some(period) = kept.period(cells, mine, theirs, done) {
+        if let Some(period) = snapshot.period(cells, mine, theirs, done) {
             alternate(cells, mine, theirs, size, (cycles - done) % period);
             return 2 * cycles;
         }
-        kept.renew(cells, mine, theirs, done);
+        snapshot.renew(cells, mine, theirs, done);
     }
     2 * done + alternate(cells, mine, theirs, size, cycles - done)
 }

@@ -9,6 +9,13 @@ ghost use Rattle.mars_core.specs.Packed.{IsClassed, packed, unpacked, is_marked,
 use crate::cell::Cell;
 use rc_instr::{Instruction, Mode, Modifier, Opcode};
 
+// What the parts of a word are multiplied by: the mark, the A-number, the class and the B-number.
+// Below the mark are the modifier, the opcode and the modes (specs/Packed.antt has the table).
+const MARK: u64 = 32768;
+const A_NUMBER: u64 = 65536;
+const CLASS: u64 = 4294967296;
+const B_NUMBER: u64 = 281474976710656;
+
 /// A cell in one word: its instruction, its class, and the mark of a cell that was written.
 #[derive(Clone, Copy, Drop)]
 pub struct PackedCell {
@@ -101,7 +108,7 @@ fn mode_code(mode: Mode) -> u64
 // Returns the class of a key, 0 if it has none.
 #[inline]
 #[tactic(auto, unfolding(crate::specs::Classes::class_of_key))]
-fn class_in(key: u64) -> u64
+fn class_of_key(key: u64) -> u64
     ensures value { result ≡ class_of_key key }
     ensures small { result < 256 }
 {
@@ -146,13 +153,13 @@ fn class_in(key: u64) -> u64
         2377 => 38, // JMN.B $, $
         3844 => 39, // DAT.F >, $
         4 => 40, // DAT.F #, #
-        _ => further_class_in(key),
+        _ => further_class_of_key(key),
     }
 }
 
 // Returns the class of a key that is none of the first 40, 0 if it has none.
 #[tactic(auto, unfolding(crate::specs::Classes::further_class_of_key))]
-fn further_class_in(key: u64) -> u64
+fn further_class_of_key(key: u64) -> u64
     ensures value { result ≡ further_class_of_key key }
     ensures small { result < 256 }
 {
@@ -196,7 +203,7 @@ fn pack(instruction: Instruction) -> u64
     let a = u64::from(instruction.a_number);
     let b = u64::from(instruction.b_number);
     let key = code + 256 * modes;
-    key + 65536 * a + 4294967296 * class_in(key) + 281474976710656 * b
+    key + A_NUMBER * a + CLASS * class_of_key(key) + B_NUMBER * b
 }
 
 impl PackedCell {
@@ -217,9 +224,9 @@ impl PackedCell {
     pub(crate) fn marked(self) -> PackedCell
         ensures { result.word ≡ marked self.word }
     {
-        let mark = self.word / 32768 % 2;
+        let mark = self.word / MARK % 2;
         PackedCell {
-            word: self.word + 32768 * (1 - mark),
+            word: self.word + MARK * (1 - mark),
         }
     }
 
@@ -229,7 +236,7 @@ impl PackedCell {
     pub(crate) fn is_marked(self) -> bool
         ensures { result ≡ is_marked self.word }
     {
-        self.word / 32768 % 2 == 1
+        self.word / MARK % 2 == 1
     }
 }
 
@@ -259,15 +266,15 @@ impl Cell for PackedCell {
             opcode: self.opcode(),
             modifier: self.modifier(),
             a_mode: self.a_mode(),
-            a_number: (self.word / 65536 % 65536) as u16,
+            a_number: (self.word / A_NUMBER % 65536) as u16,
             b_mode: self.b_mode(),
-            b_number: (self.word / 281474976710656) as u16,
+            b_number: (self.word / B_NUMBER) as u16,
         }
     }
 
     #[inline]
     fn class(self) -> u64 {
-        self.word / 4294967296 % 65536
+        self.word / CLASS % 65536
     }
 
     #[tactic(auto, unfolding(crate::specs::Packed::unpacked))]
@@ -310,31 +317,31 @@ impl Cell for PackedCell {
     #[tactic(auto, unfolding(crate::specs::Packed::unpacked))]
     #[inline]
     fn a_number(self) -> u32 {
-        (self.word / 65536 % 65536) as u32
+        (self.word / A_NUMBER % 65536) as u32
     }
 
     #[tactic(auto, unfolding(crate::specs::Packed::unpacked))]
     #[inline]
     fn b_number(self) -> u32 {
-        (self.word / 281474976710656) as u32
+        (self.word / B_NUMBER) as u32
     }
 
     #[tactic(auto, using(crate::proofs::Packing::classed_a))]
     #[inline]
     fn with_a_number(self, number: u32) -> PackedCell {
-        let low = self.word % 65536;
-        let high = self.word / 4294967296;
+        let low = self.word % A_NUMBER;
+        let high = self.word / CLASS;
         PackedCell {
-            word: low + 65536 * u64::from(number) + 4294967296 * high,
+            word: low + A_NUMBER * u64::from(number) + CLASS * high,
         }
     }
 
     #[tactic(auto, using(crate::proofs::Packing::classed_b))]
     #[inline]
     fn with_b_number(self, number: u32) -> PackedCell {
-        let low = self.word % 281474976710656;
+        let low = self.word % B_NUMBER;
         PackedCell {
-            word: low + 281474976710656 * u64::from(number),
+            word: low + B_NUMBER * u64::from(number),
         }
     }
 
@@ -360,9 +367,9 @@ fn are_same(x: u64, y: u64) -> bool
     x / 8 % 16 == y / 8 % 16
         && modifier_code_in(x) == modifier_code_in(y)
         && x / 256 % 8 == y / 256 % 8
-        && x / 65536 % 65536 == y / 65536 % 65536
+        && x / A_NUMBER % 65536 == y / A_NUMBER % 65536
         && x / 2048 % 8 == y / 2048 % 8
-        && x / 281474976710656 == y / 281474976710656
+        && x / B_NUMBER == y / B_NUMBER
 }
 
 // Returns the number of the modifier in a word. 7, which `pack` never makes, is `I` too.

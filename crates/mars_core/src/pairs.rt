@@ -113,45 +113,42 @@ pub(crate) fn write_pairs<O: Operation, K: Cell>(
     ensures below { IsBelow size (K.held result) }
 {
     match modifier {
-        Modifier::A => put_a_number(size, O::value(size, a.a_number(), b.a_number()), target),
-        Modifier::B => put_b_number(size, O::value(size, a.b_number(), b.b_number()), target),
-        Modifier::AB => put_b_number(size, O::value(size, a.a_number(), b.b_number()), target),
-        Modifier::BA => put_a_number(size, O::value(size, a.b_number(), b.a_number()), target),
+        Modifier::A => {
+            put_number::<FieldA, K>(size, O::value(size, a.a_number(), b.a_number()), target)
+        }
+        Modifier::B => {
+            put_number::<FieldB, K>(size, O::value(size, a.b_number(), b.b_number()), target)
+        }
+        Modifier::AB => {
+            put_number::<FieldB, K>(size, O::value(size, a.a_number(), b.b_number()), target)
+        }
+        Modifier::BA => {
+            put_number::<FieldA, K>(size, O::value(size, a.b_number(), b.a_number()), target)
+        }
         Modifier::F | Modifier::I => {
-            let half = put_a_number(size, O::value(size, a.a_number(), b.a_number()), target);
-            put_b_number(size, O::value(size, a.b_number(), b.b_number()), half)
+            let first = O::value(size, a.a_number(), b.a_number());
+            let half = put_number::<FieldA, K>(size, first, target);
+            put_number::<FieldB, K>(size, O::value(size, a.b_number(), b.b_number()), half)
         }
         Modifier::X => {
-            let half = put_b_number(size, O::value(size, a.a_number(), b.b_number()), target);
-            put_a_number(size, O::value(size, a.b_number(), b.a_number()), half)
+            let first = O::value(size, a.a_number(), b.b_number());
+            let half = put_number::<FieldB, K>(size, first, target);
+            put_number::<FieldA, K>(size, O::value(size, a.b_number(), b.a_number()), half)
         }
     }
 }
 
+// Puts a number into a field of a cell, which stays as it is without one.
 #[inline]
-fn put_a_number<K: Cell>(size: u32, number: Option<u32>, cell: K) -> K
+fn put_number<N: Number, K: Cell>(size: u32, number: Option<u32>, cell: K) -> K
     requires size { size ≤ 65535 }
     requires number { IfSome number (λ n. n < size) }
     requires cell { IsBelow size (K.held cell) }
-    ensures value { K.held result ≡ put ANumber number (K.held cell) }
+    ensures value { K.held result ≡ put N.field number (K.held cell) }
     ensures below { IsBelow size (K.held result) }
 {
     match number {
-        Some(number) => cell.with_a_number(number),
-        None => cell,
-    }
-}
-
-#[inline]
-fn put_b_number<K: Cell>(size: u32, number: Option<u32>, cell: K) -> K
-    requires size { size ≤ 65535 }
-    requires number { IfSome number (λ n. n < size) }
-    requires cell { IsBelow size (K.held cell) }
-    ensures value { K.held result ≡ put BNumber number (K.held cell) }
-    ensures below { IsBelow size (K.held result) }
-{
-    match number {
-        Some(number) => cell.with_b_number(number),
+        Some(number) => with_number::<N, K>(size, cell, number),
         None => cell,
     }
 }

@@ -24,7 +24,7 @@ pub(crate) struct Snapshot<C: Cells> {
     cycles: u32,
     // After how many cycles the next one is to be taken.
     due: u32,
-    // The address at which the cells were others when they were compared last.
+    // Where the last comparison found different cells; the core size if it found none.
     differs: u32,
 }
 
@@ -82,7 +82,7 @@ impl<C: Cells> Snapshot<C> {
         if self.cycles == 0 || !self.mine.is_same(mine) || !self.theirs.is_same(theirs) {
             return None;
         }
-        self.differs = difference(&self.cells, cells, self.differs);
+        self.differs = differing_address(&self.cells, cells, self.differs);
         if self.differs != cells.size() {
             return None;
         }
@@ -110,7 +110,7 @@ impl<C: Cells> Snapshot<C> {
 
 // Returns an address at which two stores of one size keep different cells: `likely` if it is one,
 // else the first. Returns the size if there is none.
-fn difference<C: Cells>(x: &C, y: &C, likely: u32) -> u32
+fn differing_address<C: Cells>(x: &C, y: &C, likely: u32) -> u32
     requires size { length (C.items x.now) ≡ length (C.items y.now) }
     ensures { result ≡ length (C.items y.now) → C.items x.now ≡ C.items y.now }
 {

@@ -115,8 +115,8 @@ fn turn_apart<C: Cells>(cells: &mut C, tasks: &mut Tasks, size: u32, pc: u32)
     requeue(tasks, size, pc, executed);
 }
 
-// Executes the instruction at `pc`, which is `cell` (1994 draft). A frequent one has an arm of its
-// own, in which the numbers of its opcode, modifier and modes are constants: one jump leads there.
+// Executes the instruction at `pc`, which is `cell`, by its class (1994 draft). Each class has an
+// arm, in which the numbers of its opcode, modifier and modes are constants: one jump leads there.
 // The last class has the arm `_`. A call in place of an arm would cost a second jump.
 #[inline(always)]
 fn execute<C: Cells>(cells: &mut C, size: u32, pc: u32, cell: C::Kept, class: u64) -> Executed
@@ -199,8 +199,8 @@ fn execute<C: Cells>(cells: &mut C, size: u32, pc: u32, cell: C::Kept, class: u6
     }
 }
 
-// Executes any instruction. MOV.I, SPL and NOP come before the match of opcodes, since they are
-// frequent and need no field of the operands' copies.
+// Executes any instruction. MOV.I, SPL and NOP come before the match of opcodes, since they need no
+// field of the operands' copies.
 #[tactic(auto, unfolding(crate::specs::Step::step_of, crate::specs::Step::effect_of, crate::specs::Pairs::computed))]
 #[inline(always)]
 fn execute_any<C: Cells>(cells: &mut C, size: u32, pc: u32, cell: C::Kept) -> Executed

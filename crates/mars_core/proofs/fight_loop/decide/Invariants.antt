@@ -13,9 +13,9 @@ invariant-loop-done g l =
     record {
       going : (first : Side) → IsGoing l.fn.mine.capacity (seen_from first (items l.fn.cells) l.fn.mine.items l.fn.theirs.items) first
           (2 * l.done) (items l.cells) l.mine.items l.theirs.items;
-      earlier : (first : Side) → IsEarlier l.fn.mine.capacity (seen_from first (items l.fn.cells) l.fn.mine.items l.fn.theirs.items) first l.kept;
-      before : l.kept.cycles ≤ l.done;
-      kept_size : length l.kept.core ≡ l.size;
+      earlier : (first : Side) → IsEarlier l.fn.mine.capacity (seen_from first (items l.fn.cells) l.fn.mine.items l.fn.theirs.items) first l.snapshot;
+      before : l.snapshot.cycles ≤ l.done;
+      snapshot_size : length l.snapshot.core ≡ l.size;
       within : l.done ≤ l.cycles;
       core : IsCore l.size (items l.cells);
       mine_below : AreTasks l.size l.mine.items;

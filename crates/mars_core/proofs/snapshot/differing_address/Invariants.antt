@@ -1,6 +1,6 @@
 use Rattle.std.proofs.Common.{◌≡◌, ℕ, ◌<◌}
 use Rattle.mars_core.specs.Core.{cell_at}
-use Rattle.mars_core.proofs.snapshot.difference.Given as goal
+use Rattle.mars_core.proofs.snapshot.differing_address.Given as goal
 
 -- the cells so far are the same
 abbrev pub invariant-loop-at : goal.invariant-loop-at
