@@ -9,7 +9,7 @@ use Rattle.rc_instr.specs.declared.instruction.Instruction.{Instruction}
 use Rattle.rc_instr.specs.declared.warrior.WarriorError.{WarriorError}
 use Rattle.rc_instr.specs.declared.warrior.WarriorError.TheVariants as warrior
 use Rattle.rc_expand.specs.declared.fault.ExpandFault.{ExpandFault}
-use Rattle.rc_expand.specs.declared.fault.ExpandKind.TheVariants.{OutOfMemory as NoRoom}
+use Rattle.rc_expand.specs.declared.fault.ExpandKind.TheVariants.{OutOfMemory as NoMemory}
 use Rattle.rc_expand.specs.declared.line.LineWord.{LineWord}
 use Rattle.rc_expand.specs.declared.line.LineWord.TheVariants.{Code, Org, End, Assert}
 use Rattle.rc_expand.specs.declared.line.Line.{Line}
@@ -96,5 +96,5 @@ IsFaultOfLines source names lines f = (lines_fault source names lines ≡ Some f
 abbrev pub IsAsmFault : List ℕ → Table → RulesView → AsmFault → Type 0
 IsAsmFault source constants rules f =
     ((MOST_BYTES < length source) × (f ≡ at_line 0 TextTooLong))
-    ⊎ (((length source ≤ MOST_BYTES) × (e : ExpandFault) × (expansion_of source constants rules ≡ Err e) × (e.kind ≢ NoRoom) × (f ≡ at_line e.line (Expand e.kind)))
+    ⊎ (((length source ≤ MOST_BYTES) × (e : ExpandFault) × (expansion_of source constants rules ≡ Err e) × (e.kind ≢ NoMemory) × (f ≡ at_line e.line (Expand e.kind)))
     ⊎ ((length source ≤ MOST_BYTES) × (lines : List Line) × IsExpansion source constants rules lines × IsFaultOfLines source (names_of source constants rules lines) lines f))

@@ -32,7 +32,7 @@ pub(crate) fn shape_of<'a>(source: &[u8], tokens: &'a [Token]) -> Result<Shape<'
     requires { All (LiesIn source.now) tokens.now }
     ensures shape { mapped seen_shape result ≡ shape_of source.now tokens.now }
     ensures inside { IfOk result (λ s. SidesLie source.now s.sides) }
-    ensures room { IfErr result (λ e. e ≢ OutOfMemory) }
+    ensures other { IfErr result (λ e. e ≢ OutOfMemory) }
 {
     match tokens {
         [] => Err(AsmKind::UnknownOpcode),
@@ -102,7 +102,7 @@ fn two_sides<'a>(first: &'a [Token], second: &'a [Token]) -> Option<Sides<'a>>
 fn sides_of(opcode: Opcode, tokens: &[Token]) -> Result<Sides<'_>, AsmKind>
     ensures sides { mapped seen_sides result ≡ sides_of opcode (parts tokens.now) }
     ensures inside { (source : List ℕ) → All (LiesIn source) tokens.now → IfOk result (SidesLie source) }
-    ensures room { IfErr result (λ e. e ≢ OutOfMemory) }
+    ensures other { IfErr result (λ e. e ≢ OutOfMemory) }
 {
     if tokens.is_empty() {
         return no_side(opcode).ok_or(AsmKind::MissingOperand);
@@ -127,7 +127,7 @@ fn with_operands(
 ) -> Result<Shape<'_>, AsmKind>
     ensures shape { mapped seen_shape result ≡ with_operands opcode modifier tokens.now }
     ensures inside { (source : List ℕ) → All (LiesIn source) tokens.now → IfOk result (λ s. SidesLie source s.sides) }
-    ensures room { IfErr result (λ e. e ≢ OutOfMemory) }
+    ensures other { IfErr result (λ e. e ≢ OutOfMemory) }
 {
     let sides = sides_of(opcode, tokens)?;
     Ok(Shape {
@@ -147,7 +147,7 @@ fn with_modifier<'a>(
     requires { All (LiesIn source.now) tokens.now }
     ensures shape { mapped seen_shape result ≡ with_modifier source.now opcode tokens.now }
     ensures inside { IfOk result (λ s. SidesLie source.now s.sides) }
-    ensures room { IfErr result (λ e. e ≢ OutOfMemory) }
+    ensures other { IfErr result (λ e. e ≢ OutOfMemory) }
 {
     match tokens {
         [] => Err(AsmKind::UnknownOpcode),
@@ -168,7 +168,7 @@ fn after_opcode<'a>(
     requires { All (LiesIn source.now) tokens.now }
     ensures shape { mapped seen_shape result ≡ after_opcode source.now opcode tokens.now }
     ensures inside { IfOk result (λ s. SidesLie source.now s.sides) }
-    ensures room { IfErr result (λ e. e ≢ OutOfMemory) }
+    ensures other { IfErr result (λ e. e ≢ OutOfMemory) }
 {
     match tokens {
         [first, rest @ ..] if is_dot(first) => with_modifier(source, opcode, rest),
