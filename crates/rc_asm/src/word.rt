@@ -36,17 +36,14 @@ pub(crate) fn mode_at(token: &Token) -> Option<Mode>
     ensures { result ≡ mode_at token.now }
 {
     match token.kind {
-        Kind::Sign(sign) => match sign {
-            Sign::Hash => Some(Mode::Immediate),
-            Sign::Dollar => Some(Mode::Direct),
-            Sign::Star => Some(Mode::AIndirect),
-            Sign::At => Some(Mode::BIndirect),
-            Sign::OpenBrace => Some(Mode::APredecrement),
-            Sign::Less => Some(Mode::BPredecrement),
-            Sign::CloseBrace => Some(Mode::APostincrement),
-            Sign::Greater => Some(Mode::BPostincrement),
-            _ => None,
-        },
+        Kind::Sign(Sign::Hash) => Some(Mode::Immediate),
+        Kind::Sign(Sign::Dollar) => Some(Mode::Direct),
+        Kind::Sign(Sign::Star) => Some(Mode::AIndirect),
+        Kind::Sign(Sign::At) => Some(Mode::BIndirect),
+        Kind::Sign(Sign::OpenBrace) => Some(Mode::APredecrement),
+        Kind::Sign(Sign::Less) => Some(Mode::BPredecrement),
+        Kind::Sign(Sign::CloseBrace) => Some(Mode::APostincrement),
+        Kind::Sign(Sign::Greater) => Some(Mode::BPostincrement),
         _ => None,
     }
 }
@@ -54,25 +51,13 @@ pub(crate) fn mode_at(token: &Token) -> Option<Mode>
 pub(crate) fn is_comma(token: &Token) -> bool
     ensures { result ≡ is_comma token.now }
 {
-    match token.kind {
-        Kind::Sign(sign) => match sign {
-            Sign::Comma => true,
-            _ => false,
-        },
-        _ => false,
-    }
+    matches!(token.kind, Kind::Sign(Sign::Comma))
 }
 
 pub(crate) fn is_dot(token: &Token) -> bool
     ensures { result ≡ is_dot token.now }
 {
-    match token.kind {
-        Kind::Sign(sign) => match sign {
-            Sign::Dot => true,
-            _ => false,
-        },
-        _ => false,
-    }
+    matches!(token.kind, Kind::Sign(Sign::Dot))
 }
 
 // The letters are lower case. CMP is another spelling of SEQ.
