@@ -85,10 +85,8 @@ impl<'a> Labels<'a> {
         ensures address { result ≡ entry_of self.now (name_of source.now token.now) }
         ensures small { IfSome result (λ at. at < 2 ^ 63) }
     {
-        match self.table.get(source, token) {
-            Some(address) => Some(address.number),
-            None => None,
-        }
+        let address = self.table.get(source, token)?;
+        Some(address.number)
     }
 }
 

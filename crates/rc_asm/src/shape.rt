@@ -36,10 +36,10 @@ pub(crate) fn shape_of<'a>(source: &[u8], tokens: &'a [Token]) -> Result<Shape<'
 {
     match tokens {
         [] => Err(AsmKind::UnknownOpcode),
-        [first, rest @ ..] => match opcode_at(source, first) {
-            Some(opcode) => after_opcode(source, opcode, rest),
-            None => Err(AsmKind::UnknownOpcode),
-        },
+        [first, rest @ ..] => {
+            let opcode = opcode_at(source, first).ok_or(AsmKind::UnknownOpcode)?;
+            after_opcode(source, opcode, rest)
+        }
     }
 }
 
@@ -151,10 +151,10 @@ fn with_modifier<'a>(
 {
     match tokens {
         [] => Err(AsmKind::UnknownOpcode),
-        [first, rest @ ..] => match modifier_at(source, first) {
-            Some(modifier) => with_operands(opcode, Some(modifier), rest),
-            None => Err(AsmKind::UnknownOpcode),
-        },
+        [first, rest @ ..] => {
+            let modifier = modifier_at(source, first).ok_or(AsmKind::UnknownOpcode)?;
+            with_operands(opcode, Some(modifier), rest)
+        }
     }
 }
 
