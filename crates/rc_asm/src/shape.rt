@@ -43,17 +43,11 @@ pub(crate) fn shape_of<'a>(source: &[u8], tokens: &'a [Token]) -> Result<Shape<'
     }
 }
 
-#[tactic(auto, using(crate::proofs::Parts::parts_whole, crate::proofs::Parts::parts_comma))]
 fn first_comma(tokens: &[Token]) -> Option<usize>
     ensures found { IfSome result (λ at. (at < length tokens.now) × (parts_from tokens.now ≡ take at tokens.now ∷ parts_from (drop (at + 1) tokens.now))) }
     ensures none { IfNone result (parts_from tokens.now ≡ tokens.now ∷ []) }
 {
-    for i in 0..tokens.len() {
-        if is_comma(&tokens[i]) {
-            return Some(i);
-        }
-    }
-    None
+    tokens.iter().position(is_comma)
 }
 
 fn no_side(opcode: Opcode) -> Option<Sides<'static>>
