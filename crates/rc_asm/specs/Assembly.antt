@@ -57,20 +57,20 @@ starts_after End (t ∷ ts) (Err e) s = None
 starts_after _ ts v s = Some s
 
 module _ (source : List ℕ) (names : NameValues) where
-  -- the instructions of the lines, with `at` lines of code before the first
+  -- the instructions of the lines; the first line is at `address`
   abbrev pub instructions_from : ℕ → List Line → Option (List Instruction)
-  instructions_from at [] = Some []
-  instructions_from at (l ∷ ls) = next_instruction l.word (instruction_at source names at l.tokens) (instructions_from (code_lines_after l.word at) ls)
+  instructions_from address [] = Some []
+  instructions_from address (l ∷ ls) = next_instruction l.word (instruction_at source names address l.tokens) (instructions_from (code_lines_after l.word address) ls)
 
   -- every assertion holds. A label has its address as its value.
   abbrev pub holds_from : ℕ → List Line → Bool
-  holds_from at [] = true
-  holds_from at (l ∷ ls) = line_holds l.word (value_at source names at 0 l.tokens) && holds_from (code_lines_after l.word at) ls
+  holds_from address [] = true
+  holds_from address (l ∷ ls) = line_holds l.word (value_at source names address 0 l.tokens) && holds_from (code_lines_after l.word address) ls
 
   -- the values of the last ORG and of END after the lines. A label has its address as its value.
   abbrev pub starts_from : ℕ → Starts → List Line → Option Starts
-  starts_from at s [] = Some s
-  starts_from at s (l ∷ ls) = option_and_then (λ r. starts_from (code_lines_after l.word at) r ls) (starts_after l.word l.tokens (value_at source names at 0 l.tokens) s)
+  starts_from address s [] = Some s
+  starts_from address s (l ∷ ls) = option_and_then (λ r. starts_from (code_lines_after l.word address) r ls) (starts_after l.word l.tokens (value_at source names address 0 l.tokens) s)
 
 -- what gives the names of a text their values
 abbrev pub names_of : List ℕ → Table → RulesView → List Line → NameValues

@@ -58,12 +58,12 @@ value_fault Assert ts i v = assertion_fault v
 value_fault _ ts i v = None
 
 module _ (source : List ℕ) (names : NameValues) where
-  -- the first line with such a fault, with `at` lines of code before the first line
+  -- the first line with such a fault; the first of the lines is at `address`
   abbrev pub values_fault : ℕ → List Line → Option AsmFault
-  values_fault at [] = None
-  values_fault at (l ∷ ls) =
-      or_else (option_map (at_line l.number) (value_fault l.word l.tokens (instruction_at source names at l.tokens) (value_at source names at 0 l.tokens)))
-      (values_fault (code_lines_after l.word at) ls)
+  values_fault address [] = None
+  values_fault address (l ∷ ls) =
+      or_else (option_map (at_line l.number) (value_fault l.word l.tokens (instruction_at source names address l.tokens) (value_at source names address 0 l.tokens)))
+      (values_fault (code_lines_after l.word address) ls)
 
   -- the first fault of the lines, if there is one
   abbrev pub lines_fault : List Line → Option AsmFault

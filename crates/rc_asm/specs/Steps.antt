@@ -26,14 +26,14 @@ pub record IsLineRead (source : List ℕ) (names : NameValues) (l : Line) (befor
   pub holds : line_holds l.word (value_at source names (length before) 0 l.tokens) ≡ true
   pub starts : starts_after l.word l.tokens (value_at source names (length before) 0 l.tokens) s ≡ Some r
 
--- the fault of a line with `at` lines of code before it
+-- the fault of a line at `address`
 abbrev pub fault_at : List ℕ → NameValues → ℕ → Line → Option AsmKind
-fault_at source names at l = value_fault l.word l.tokens (instruction_at source names at l.tokens) (value_at source names at 0 l.tokens)
+fault_at source names address l = value_fault l.word l.tokens (instruction_at source names address l.tokens) (value_at source names address 0 l.tokens)
 
 -- the lines do not make any code and start
 abbrev pub GiveNothing : List ℕ → NameValues → ℕ → Starts → List Line → Type 0
-GiveNothing source names at s lines =
-    (code : List Instruction) (r : Starts) → instructions_from source names at lines ≡ Some code → holds_from source names at lines ≡ true → starts_from source names at s lines ≡ Some r → ⊥
+GiveNothing source names address s lines =
+    (code : List Instruction) (r : Starts) → instructions_from source names address lines ≡ Some code → holds_from source names address lines ≡ true → starts_from source names address s lines ≡ Some r → ⊥
 
 -- all lines were read, without a fault
 pub record AreLinesRead (source : List ℕ) (names : NameValues) (lines : List Line) (all : List Instruction) (s : Starts) : Type 0 where
