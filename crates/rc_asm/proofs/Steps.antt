@@ -29,7 +29,7 @@ use Rattle.rc_asm.specs.Names.{NameValues, Labels, code_lines_after, labels_from
 use Rattle.rc_asm.specs.Instructions.{instruction_at, shaped}
 use Rattle.rc_asm.specs.Assembly.{next_instruction, line_holds, starts_after, instructions_from, holds_from, starts_from, no_starts}
 use Rattle.rc_asm.specs.Faults.{at_line, form_fault, forms_fault, value_fault, values_fault, lines_fault}
-use Rattle.rc_asm.specs.Steps.{code_after, IsLineRead, fault_at, GiveNothing, Progress, Agree}
+use Rattle.rc_asm.specs.Steps.{code_after, IsLineRead, fault_at, Agree}
 
 some_is : {A : Type 0} (x y : A) → Some x ≡ Some y → x ≡ y
 some_is x y h = cc
@@ -63,6 +63,14 @@ fault_passed : (n : ℕ) (k : Option AsmKind) (rest : Option AsmFault) → k ≡
 fault_passed n None rest h = refl
 fault_passed n (Some e) rest h = absurd (cc)
 
+-- `before` and `s` are what the lines before `rest` gave, so that `rest` decides the whole
+pub record Progress (source : List ℕ) (names : NameValues) (lines rest : List Line) (before : List Instruction) (s : Starts) : Type 0 where
+  pub code : instructions_from source names 0 lines ≡ option_map (λ is. before ++ is) (instructions_from source names (length before) rest)
+  pub holds : holds_from source names 0 lines ≡ holds_from source names (length before) rest
+  pub starts : starts_from source names 0 no_starts lines ≡ starts_from source names (length before) s rest
+  pub faults : values_fault source names 0 lines ≡ values_fault source names (length before) rest
+  pub below : All (IsBelow names.rules.core) before
+
 module _ (source : List ℕ) (names : NameValues) where
   -- after a line was read, the remaining lines decide the whole
   pub progress_next : (lines rest others : List Line) (l : Line) (before after : List Instruction) (s r : Starts) → rest ≡ l ∷ others → IsLineRead source names l before s after r
@@ -95,6 +103,11 @@ rest_some Assert i rest code h = (code, h)
 then_some : {A B : Type 0} (f : A → Option B) (o : Option A) (y : B) → option_and_then f o ≡ Some y → (x : A) × (o ≡ Some x) × (f x ≡ Some y)
 then_some f None y h = absurd (cc)
 then_some f (Some x) y h = (x, refl, h)
+
+-- the lines do not make any code and start
+abbrev pub GiveNothing : List ℕ → NameValues → ℕ → Starts → List Line → Type 0
+GiveNothing source names address s lines =
+    (code : List Instruction) (r : Starts) → instructions_from source names address lines ≡ Some code → holds_from source names address lines ≡ true → starts_from source names address s lines ≡ Some r → ⊥
 
 -- the line itself makes the code, the assertions and the starts
 abbrev LineMakes : LineWord → List Token → Result Instruction AsmKind → Result ℤ EvalFault → Option (List Instruction) → List Instruction → Starts → Starts → Type 0

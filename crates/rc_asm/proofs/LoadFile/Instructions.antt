@@ -28,7 +28,7 @@ use Rattle.rc_asm.specs.Words.{named, opcodes, modifiers, is_plain, opcode_at, m
 use Rattle.rc_asm.specs.Shape.{begun, parts_from, parts, sides, sides_of, Shape, shape, with_operands, with_modifier, after_opcode, shape_of}
 use Rattle.rc_asm.specs.Names.{NameValues, stands_for}
 use Rattle.rc_asm.specs.Instructions.{natural, core_number, operand, operand_after, operand_at, made, shaped, instruction_at}
-use Rattle.rc_asm.specs.Printed.{mode_sign, IsWord, AreNumber, Plain, Below, Row, a_tokens, b_tokens, row_tokens, IsPrinted}
+use Rattle.rc_asm.proofs.LoadFile.Printed.{mode_sign, IsWord, AreNumber, Plain, Below, Row, a_tokens, b_tokens, row_tokens, IsPrinted}
 
 -- ---- words
 
