@@ -6,11 +6,12 @@ use Rattle.std.proofs.lemmas.Iterator.Adapters.{position_from-zero}
 use Rattle.std.proofs.lemmas.Slice.{between_to_end}
 use Rattle.std.proofs.lemmas.Bool.{cases_Bool}
 use Rattle.rc_text.specs.declared.token.Token.{Token}
+use Rattle.rc_expand.specs.Heads.Lines.{into_first}
 use Rattle.rc_asm.specs.Words.{is_comma}
 use Rattle.rc_instr.specs.declared.instruction.Opcode.{Opcode}
 use Rattle.std.specs.Prelude.{Err}
 use Rattle.rc_asm.specs.declared.fault.AsmKind.TheVariants.{ExtraText}
-use Rattle.rc_asm.specs.Shape.{begun, parts_from, parts, sides_of}
+use Rattle.rc_asm.specs.Shape.{parts_from, parts, sides_of}
 
 -- the parts up to the first comma, if there is one; `i` tokens come before `ts`
 abbrev CommaAt : List Token → ℕ → Option ℕ → Type 0
@@ -21,8 +22,8 @@ comma_at : (ts : List Token) (i : ℕ) → CommaAt ts i (position_from is_comma 
 comma_at [] i = refl
 comma_at (t ∷ ts) i = by_comma (is_comma t) refl (comma_at ts (i + 1)) where
   later : (o : Option ℕ) → is_comma t ≡ false → CommaAt ts (i + 1) o → CommaAt (t ∷ ts) i o
-  later None e h = rw e (ap (begun t) h)
-  later (Some at) e h = (suc h.0, omega (arith, h.1), omega (arith, h.2), rw e (ap (begun t) h.3))
+  later None e h = rw e (ap (into_first t) h)
+  later (Some at) e h = (suc h.0, omega (arith, h.1), omega (arith, h.2), rw e (ap (into_first t) h.3))
 
   by_comma : (b : Bool) → is_comma t ≡ b → CommaAt ts (i + 1) (position_from is_comma (i + 1) ts) → CommaAt (t ∷ ts) i (cond b (Some i) (position_from is_comma (i + 1) ts))
   by_comma true e h = (0, omega arith, omega arith, rw e refl)
@@ -43,13 +44,13 @@ comma_found ts (Some at) e =
     let m : suc h.0 ≡ at + 1 = omega (arith, h.1) in
     (omega (arith, h.2, n), h.3 ∙ (ap (λ k. take k ts ∷ parts_from (drop (suc h.0) ts)) n ∙ ap (λ k. take at ts ∷ parts_from (drop k ts)) m))
 
-begun_some : (t : Token) (ps : List (List Token)) → begun t ps ≡ [] → ⊥
-begun_some t [] h = cc
-begun_some t (p ∷ ps) h = cc
+into_some : (t : Token) (ps : List (List Token)) → into_first t ps ≡ [] → ⊥
+into_some t [] h = cc
+into_some t (p ∷ ps) h = cc
 
 parts_some : (ts : List Token) → parts_from ts ≡ [] → ⊥
 parts_some [] h = cc
-parts_some (t ∷ ts) h = ⊎_elim (λ e. let k = rw e at h in cc) (λ e. begun_some t (parts_from ts) (rw e at h)) (cases_Bool (is_comma t))
+parts_some (t ∷ ts) h = ⊎_elim (λ e. let k = rw e at h in cc) (λ e. into_some t (parts_from ts) (rw e at h)) (cases_Bool (is_comma t))
 
 too_many : (o : Opcode) (p q : List Token) (ps : List (List Token)) → (ps ≡ [] → ⊥) → Err ExtraText ≡ sides_of o (p ∷ q ∷ ps)
 too_many o p q [] h = absurd (h refl)

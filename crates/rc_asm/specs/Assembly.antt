@@ -1,6 +1,7 @@
 -- The warrior that a text assembles to. Instructions, labels and ORG are the 1994 draft's;
 -- `;assert` and END with a start are pMARS's.
-use Rattle.std.specs.Prelude.{◌≡◌, ◌≤◌, ◌<◌, ℕ, nat_le, nat_lt, if◌then◌else◌, Bool, true, false, ◌&&◌, not, ℤ, pos, negsuc, List, [], ◌∷◌, length, Option, Some, None, option_and_then, option_map, Result, Ok, Err}
+use Rattle.std.specs.Prelude.{◌≡◌, ◌≤◌, ◌<◌, ℕ, nat_le, nat_lt, if◌then◌else◌, Bool, true, false, ◌&&◌, not, ℤ, pos, negsuc, List, [], ◌∷◌, length, Option, Some, None, unwrap_or, option_and_then, option_map, Result, Ok, Err}
+use Rattle.std.specs.Option.{option_or}
 use Rattle.std.specs.Result.{result_ok}
 use Rattle.rc_text.specs.declared.token.Token.{Token}
 use Rattle.rc_text.specs.declared.fault.EvalFault.{EvalFault}
@@ -39,13 +40,8 @@ abbrev pub no_starts : Starts
 no_starts = record { org = None; end = None }
 
 -- the value of the last ORG; without ORG, the value after END; without either, 0
-abbrev pub start_by : Option ℤ → Option ℤ → ℤ
-start_by (Some v) e = v
-start_by None (Some v) = v
-start_by None None = pos 0
-
 abbrev pub start_value : Starts → ℤ
-start_value s = start_by s.org s.end
+start_value s = unwrap_or (option_or s.org s.end) (pos 0)
 
 -- ORG needs an expression and END may have one. The last ORG counts.
 abbrev pub starts_after : LineWord → List Token → Result ℤ EvalFault → Starts → Option Starts

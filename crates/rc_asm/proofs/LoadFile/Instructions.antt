@@ -12,7 +12,7 @@ use Rattle.rc_text.specs.declared.token.Token.{Token}
 use Rattle.rc_text.specs.Values.{Meaning}
 use Rattle.rc_text.specs.Reading.{evaluation_of, before_operand, after_operand}
 use Rattle.rc_text.specs.Symbols.{Symbol, Numeral, Mark, symbol_of_kind, name_of, symbols_of}
-use Rattle.rc_expand.specs.Heads.Lines.{is_name_kind, is_dot, is_dot_kind, is_unjoined, bytes_of}
+use Rattle.rc_expand.specs.Heads.Lines.{is_name_kind, is_dot, is_dot_kind, is_unjoined, bytes_of, into_first}
 use Rattle.rc_instr.specs.LoadText.{opcode_text, modifier_text}
 use Rattle.rc_instr.specs.declared.instruction.Opcode.{Opcode}
 use Rattle.rc_instr.specs.declared.instruction.Opcode.TheVariants as op
@@ -25,7 +25,7 @@ use Rattle.rc_asm.specs.declared.fault.AsmKind.TheVariants.{UnknownOpcode, Value
 use Rattle.rc_asm.specs.declared.operand.Operand.{Operand}
 use Rattle.rc_asm.specs.Results.{mapped, and_then, with_fault}
 use Rattle.rc_asm.specs.Words.{named, opcodes, modifiers, is_plain, opcode_at, modifier_at, mode_of, mode_of_kind, mode_at, is_comma, is_comma_kind}
-use Rattle.rc_asm.specs.Shape.{begun, parts_from, parts, sides, sides_of, Shape, shape, with_operands, with_modifier, after_opcode, shape_of}
+use Rattle.rc_asm.specs.Shape.{parts_from, parts, sides, sides_of, Shape, shape, with_operands, with_modifier, after_opcode, shape_of}
 use Rattle.rc_asm.specs.Names.{NameValues, stands_for}
 use Rattle.rc_asm.specs.Instructions.{natural, core_number, operand, operand_after, operand_at, made, shaped, instruction_at}
 use Rattle.rc_asm.proofs.LoadFile.Printed.{mode_sign, IsWord, AreNumber, Plain, Below, Row, a_tokens, b_tokens, row_tokens, IsPrinted}
@@ -160,12 +160,12 @@ HaveNoComma (t ∷ ts) = (is_comma t ≡ false) × HaveNoComma ts
 -- tokens without a comma are one part
 whole_part : (ts : List Token) → HaveNoComma ts → parts_from ts ≡ ts ∷ []
 whole_part [] h = refl
-whole_part (t ∷ ts) h = rw h.0 (ap (begun t) (whole_part ts h.1))
+whole_part (t ∷ ts) h = rw h.0 (ap (into_first t) (whole_part ts h.1))
 
 -- the tokens before the first comma are the first part
 first_part : (ts : List Token) (c : Token) (us : List Token) → HaveNoComma ts → is_comma c ≡ true → parts_from (ts ++ (c ∷ us)) ≡ ts ∷ parts_from us
 first_part [] c us h k = rw k refl
-first_part (t ∷ ts) c us h k = rw h.0 (ap (begun t) (first_part ts c us h.1 k))
+first_part (t ∷ ts) c us h k = rw h.0 (ap (into_first t) (first_part ts c us h.1 k))
 
 -- a comma is not a mode
 mode_no_comma : (m : Mode) → is_comma_kind (SignOf (mode_sign m)) ≡ false
