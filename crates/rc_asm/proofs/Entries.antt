@@ -6,7 +6,8 @@ use Rattle.std.specs.Str.{bytes_eq}
 use Rattle.std.proofs.lemmas.Bool.{ne_eqb, and_parts, both_ways}
 use Rattle.std.proofs.lemmas.List.{length-map}
 use Rattle.std.proofs.lemmas.Slice.Eq.{bytes_eq-Decides}
-use Rattle.rc_asm.specs.Words.{entry, named, opcodes}
+use Rattle.rc_expand.specs.Names.{entry_of}
+use Rattle.rc_asm.specs.Words.{named, opcodes}
 
 not_true : (b : Bool) → (b ≡ true → ⊥) → b ≡ false
 not_true true h = absurd (h refl)
@@ -18,11 +19,11 @@ all_pass test [] = true
 all_pass test (e ∷ es) = test e.0 && all_pass test es
 
 -- a word that fails the test is not in the table
-entry_none : {A : Type 0} (test : List ℕ → Bool) (table : List (List ℕ × A)) (w : List ℕ) → all_pass test table ≡ true → test w ≡ false → entry table w ≡ None
+entry_none : {A : Type 0} (test : List ℕ → Bool) (table : List (List ℕ × A)) (w : List ℕ) → all_pass test table ≡ true → test w ≡ false → entry_of table w ≡ None
 entry_none test [] w k h = refl
 entry_none test (e ∷ es) w k h =
     let p = and_parts (test e.0) (all_pass test es) k in
-    let n : bytes_eq e.0 w ≡ false = not_true (bytes_eq e.0 w) (λ s. both_ways (test w) h (ap test (sym ((bytes_eq-Decides e.0 w).0 s)) ∙ p.0)) in
+    let n : bytes_eq w e.0 ≡ false = not_true (bytes_eq w e.0) (λ s. both_ways (test w) h (ap test ((bytes_eq-Decides w e.0).0 s) ∙ p.0)) in
     rw n (entry_none test es w p.1 h)
 
 -- opcodes have three letters

@@ -1,4 +1,5 @@
 -- A load file assembles to its warrior.
+pub mod Printed
 pub mod Instructions
 pub mod Lines
 pub mod Pieces

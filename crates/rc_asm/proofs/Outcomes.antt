@@ -1,5 +1,5 @@
 -- What a text assembles to is its warrior, or its first fault.
-use Rattle.std.proofs.Common.{◌≡◌, ℕ, ◌<◌, ◌≤◌, Bool, true, false, List, [], ◌∷◌, length, Option, Some, None, refl, sym, ◌∙◌, ap, arith, inl, inr}
+use Rattle.std.proofs.Common.{◌≡◌, ℕ, ◌<◌, ◌≤◌, true, false, List, [], ◌∷◌, length, Option, Some, None, refl, sym, ◌∙◌, ap, arith, inl, inr}
 use Rattle.std.specs.Prelude.{◌≢◌, ◌⊎◌, ℤ, pos, negsuc, nat_le, nat_lt, if◌then◌else◌, Result, Ok, Err, IfOk, IfErr, MatchResult}
 use Rattle.std.proofs.lemmas.Bool.{le-leb, lt-ltb, le-ltb, leb-true, cases_Bool}
 use Rattle.rc_instr.specs.declared.instruction.Instruction.{Instruction}
@@ -17,7 +17,7 @@ use Rattle.rc_asm.specs.Limits.{MOST_BYTES}
 use Rattle.rc_asm.specs.Names.{NameValues}
 use Rattle.rc_asm.specs.Results.{and_then, with_fault}
 use Rattle.rc_asm.specs.Assembly.{instructions_from, starts_from, start_value, no_starts, names_of, IsMadeOf}
-use Rattle.rc_asm.specs.Faults.{at_line, lines_fault, IsWarriorFault, IsFaultOfCode, IsFaultOfLines, IsAsmFault}
+use Rattle.rc_asm.specs.Faults.{at_line, lines_fault, IsWarriorFault, IsFaultOfLines, IsAsmFault}
 use Rattle.rc_asm.specs.Outcome.{started, fitted, fitted_by, unless, lines_outcome, expand_fault, outcome_of}
 use Rattle.rc_asm.proofs.Whole.{map_some, lines_stop}
 

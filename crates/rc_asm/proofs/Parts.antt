@@ -1,45 +1,56 @@
 -- The parts between commas.
-use Rattle.std.proofs.Common.{◌≡◌, ℕ, zero, suc, ◌+◌, ◌-◌, ◌<◌, ◌≤◌, true, false, List, [], ◌∷◌, length, take, drop, get_or, refl, sym, ◌∙◌, ap, arith, ⊎_elim}
+use Rattle.std.proofs.Common.{◌≡◌, ℕ, suc, ◌+◌, ◌-◌, ◌<◌, Bool, true, false, List, [], ◌∷◌, Option, Some, None, length, take, drop, refl, sym, ◌∙◌, ap, subst, cond, arith, ⊎_elim}
+use Rattle.std.specs.Prelude.{IfSome, IfNone, position}
+use Rattle.std.specs.List.{position_from}
+use Rattle.std.proofs.lemmas.Iterator.Adapters.{position_from-zero}
 use Rattle.std.proofs.lemmas.Slice.{between_to_end}
 use Rattle.std.proofs.lemmas.Bool.{cases_Bool}
 use Rattle.rc_text.specs.declared.token.Token.{Token}
+use Rattle.rc_expand.specs.Heads.Lines.{into_first}
 use Rattle.rc_asm.specs.Words.{is_comma}
 use Rattle.rc_instr.specs.declared.instruction.Opcode.{Opcode}
 use Rattle.std.specs.Prelude.{Err}
 use Rattle.rc_asm.specs.declared.fault.AsmKind.TheVariants.{ExtraText}
-use Rattle.rc_asm.specs.Shape.{begun, parts_from, parts, sides_of}
+use Rattle.rc_asm.specs.Shape.{parts_from, parts, sides_of}
 
--- no comma before an index
-abbrev pub NoComma : List Token → ℕ → Type 0
-NoComma ts i = (k : ℕ) (d : Token) → k < i → is_comma (get_or ts k d) ≡ false
+-- the parts up to the first comma, if there is one; `i` tokens come before `ts`
+abbrev CommaAt : List Token → ℕ → Option ℕ → Type 0
+CommaAt ts i None = parts_from ts ≡ ts ∷ []
+CommaAt ts i (Some at) = (n : ℕ) × (n + i ≡ at) × (n < length ts) × (parts_from ts ≡ take n ts ∷ parts_from (drop (suc n) ts))
 
-later : (t : Token) (ts : List Token) (i : ℕ) → NoComma (t ∷ ts) (suc i) → NoComma ts i
-later t ts i h k d l = h (suc k) d (omega (arith, l))
+comma_at : (ts : List Token) (i : ℕ) → CommaAt ts i (position_from is_comma i ts)
+comma_at [] i = refl
+comma_at (t ∷ ts) i = by_comma (is_comma t) refl (comma_at ts (i + 1)) where
+  later : (o : Option ℕ) → is_comma t ≡ false → CommaAt ts (i + 1) o → CommaAt (t ∷ ts) i o
+  later None e h = rw e (ap (into_first t) h)
+  later (Some at) e h = (suc h.0, omega (arith, h.1), omega (arith, h.2), rw e (ap (into_first t) h.3))
 
-pub parts_whole : (ts : List Token) (i : ℕ) → length ts ≤ i → NoComma ts i → parts_from ts ≡ ts ∷ []
-parts_whole [] i l h = refl
-parts_whole (t ∷ ts) zero l h = absurd (omega (arith, l))
-parts_whole (t ∷ ts) (suc i) l h =
-    let e : is_comma t ≡ false = h 0 t (omega arith) in
-    rw e (ap (begun t) (parts_whole ts i (omega (arith, l)) (later t ts i h)))
+  by_comma : (b : Bool) → is_comma t ≡ b → CommaAt ts (i + 1) (position_from is_comma (i + 1) ts) → CommaAt (t ∷ ts) i (cond b (Some i) (position_from is_comma (i + 1) ts))
+  by_comma true e h = (0, omega arith, omega arith, rw e refl)
+  by_comma false e h = later (position_from is_comma (i + 1) ts) e h
 
-cut_at : (ts : List Token) (i : ℕ) (t : Token) → i < length ts → NoComma ts i → t ≡ get_or ts i t → is_comma t ≡ true → parts_from ts ≡ take i ts ∷ parts_from (drop (suc i) ts)
-cut_at [] i t h a e c = absurd (omega arith)
-cut_at (x ∷ ts) zero t h a e c = let q : is_comma x ≡ true = ap (is_comma) (sym e) ∙ c in rw q refl
-cut_at (x ∷ ts) (suc i) t h a e c =
-    let n : is_comma x ≡ false = a 0 x (omega arith) in
-    rw n (ap (begun x) (cut_at ts i t (omega arith) (later x ts i a) e c))
+first_at : (ts : List Token) (o : Option ℕ) → o ≡ position is_comma ts → CommaAt ts 0 o
+first_at ts o e = subst (CommaAt ts 0) (sym (e ∙ position_from-zero is_comma ts)) (comma_at ts 0)
 
-pub parts_comma : (ts : List Token) (i : ℕ) (t : Token) → i < length ts → NoComma ts i → t ≡ get_or ts i t → is_comma t ≡ true → parts_from ts ≡ take i ts ∷ parts_from (drop (i + 1) ts)
-parts_comma ts i t h a e c = let n : suc i ≡ i + 1 = omega arith in cut_at ts i t h a e c ∙ ap (λ j. take i ts ∷ parts_from (drop j ts)) n
+pub no_comma_found : (ts : List Token) (o : Option ℕ) → o ≡ position is_comma ts → IfNone o (parts_from ts ≡ ts ∷ [])
+no_comma_found ts None e = first_at ts None e
+no_comma_found ts (Some at) e = tt
 
-begun_some : (t : Token) (ps : List (List Token)) → begun t ps ≡ [] → ⊥
-begun_some t [] h = cc
-begun_some t (p ∷ ps) h = cc
+pub comma_found : (ts : List Token) (o : Option ℕ) → o ≡ position is_comma ts → IfSome o (λ at. (at < length ts) × (parts_from ts ≡ take at ts ∷ parts_from (drop (at + 1) ts)))
+comma_found ts None e = tt
+comma_found ts (Some at) e =
+    let h = first_at ts (Some at) e in
+    let n : h.0 ≡ at = omega (arith, h.1) in
+    let m : suc h.0 ≡ at + 1 = omega (arith, h.1) in
+    (omega (arith, h.2, n), h.3 ∙ (ap (λ k. take k ts ∷ parts_from (drop (suc h.0) ts)) n ∙ ap (λ k. take at ts ∷ parts_from (drop k ts)) m))
+
+into_some : (t : Token) (ps : List (List Token)) → into_first t ps ≡ [] → ⊥
+into_some t [] h = cc
+into_some t (p ∷ ps) h = cc
 
 parts_some : (ts : List Token) → parts_from ts ≡ [] → ⊥
 parts_some [] h = cc
-parts_some (t ∷ ts) h = ⊎_elim (λ e. let k = rw e at h in cc) (λ e. begun_some t (parts_from ts) (rw e at h)) (cases_Bool (is_comma t))
+parts_some (t ∷ ts) h = ⊎_elim (λ e. let k = rw e at h in cc) (λ e. into_some t (parts_from ts) (rw e at h)) (cases_Bool (is_comma t))
 
 too_many : (o : Opcode) (p q : List Token) (ps : List (List Token)) → (ps ≡ [] → ⊥) → Err ExtraText ≡ sides_of o (p ∷ q ∷ ps)
 too_many o p q [] h = absurd (h refl)

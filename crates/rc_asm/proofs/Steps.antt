@@ -29,7 +29,7 @@ use Rattle.rc_asm.specs.Names.{NameValues, Labels, code_lines_after, labels_from
 use Rattle.rc_asm.specs.Instructions.{instruction_at, shaped}
 use Rattle.rc_asm.specs.Assembly.{next_instruction, line_holds, starts_after, instructions_from, holds_from, starts_from, no_starts}
 use Rattle.rc_asm.specs.Faults.{at_line, form_fault, forms_fault, value_fault, values_fault, lines_fault}
-use Rattle.rc_asm.specs.Steps.{code_after, IsLineRead, fault_at, GiveNothing, Progress, Agree}
+use Rattle.rc_asm.specs.Steps.{code_after, IsLineRead, fault_at, Agree}
 
 some_is : {A : Type 0} (x y : A) → Some x ≡ Some y → x ≡ y
 some_is x y h = cc
@@ -62,6 +62,14 @@ code_next Assert i before after rest h = ap (λ c. option_map (λ is. c ++ is) r
 fault_passed : (n : ℕ) (k : Option AsmKind) (rest : Option AsmFault) → k ≡ None → or_else (option_map (at_line n) k) rest ≡ rest
 fault_passed n None rest h = refl
 fault_passed n (Some e) rest h = absurd (cc)
+
+-- `before` and `s` are what the lines before `rest` gave, so that `rest` decides the whole
+pub record Progress (source : List ℕ) (names : NameValues) (lines rest : List Line) (before : List Instruction) (s : Starts) : Type 0 where
+  pub code : instructions_from source names 0 lines ≡ option_map (λ is. before ++ is) (instructions_from source names (length before) rest)
+  pub holds : holds_from source names 0 lines ≡ holds_from source names (length before) rest
+  pub starts : starts_from source names 0 no_starts lines ≡ starts_from source names (length before) s rest
+  pub faults : values_fault source names 0 lines ≡ values_fault source names (length before) rest
+  pub below : All (IsBelow names.rules.core) before
 
 module _ (source : List ℕ) (names : NameValues) where
   -- after a line was read, the remaining lines decide the whole
@@ -96,6 +104,11 @@ then_some : {A B : Type 0} (f : A → Option B) (o : Option A) (y : B) → optio
 then_some f None y h = absurd (cc)
 then_some f (Some x) y h = (x, refl, h)
 
+-- the lines do not make any code and start
+abbrev pub GiveNothing : List ℕ → NameValues → ℕ → Starts → List Line → Type 0
+GiveNothing source names address s lines =
+    (code : List Instruction) (r : Starts) → instructions_from source names address lines ≡ Some code → holds_from source names address lines ≡ true → starts_from source names address s lines ≡ Some r → ⊥
+
 -- the line itself makes the code, the assertions and the starts
 abbrev LineMakes : LineWord → List Token → Result Instruction AsmKind → Result ℤ EvalFault → Option (List Instruction) → List Instruction → Starts → Starts → Type 0
 LineMakes w ts i v rest code s r = (next_instruction w i rest ≡ Some code) × (line_holds w v ≡ true) × (starts_after w ts v s ≡ Some r)
@@ -117,53 +130,53 @@ value_stops Assert ts i (Ok x) k rest code s r f m = zero_or_not (is_zero x) f m
 value_stops Bare ts i v k rest code s r f m = cc
 
 module _ (source : List ℕ) (names : NameValues) where
-  value_refuses : (l : Line) (ls : List Line) (at : ℕ) (s : Starts) (k : AsmKind) → fault_at source names at l ≡ Some k → GiveNothing source names at s (l ∷ ls)
-  value_refuses l ls at s k f code r hc hh hs =
-      let t = then_some _ (starts_after l.word l.tokens (value_at source names at 0 l.tokens) s) r hs in
+  value_refuses : (l : Line) (ls : List Line) (address : ℕ) (s : Starts) (k : AsmKind) → fault_at source names address l ≡ Some k → GiveNothing source names address s (l ∷ ls)
+  value_refuses l ls address s k f code r hc hh hs =
+      let t = then_some _ (starts_after l.word l.tokens (value_at source names address 0 l.tokens) s) r hs in
       value_stops l.word l.tokens _ _ k _ code s t.0 f (hc, (and_parts _ _ hh).0, t.1)
 
-  others_refuse : (l : Line) (ls : List Line) (at : ℕ) (s : Starts) → ((r : Starts) → GiveNothing source names (code_lines_after l.word at) r ls) → GiveNothing source names at s (l ∷ ls)
-  others_refuse l ls at s next code r hc hh hs =
-      let i = rest_some l.word (instruction_at source names at l.tokens) _ code hc in
-      let t = then_some _ (starts_after l.word l.tokens (value_at source names at 0 l.tokens) s) r hs in
+  others_refuse : (l : Line) (ls : List Line) (address : ℕ) (s : Starts) → ((r : Starts) → GiveNothing source names (code_lines_after l.word address) r ls) → GiveNothing source names address s (l ∷ ls)
+  others_refuse l ls address s next code r hc hh hs =
+      let i = rest_some l.word (instruction_at source names address l.tokens) _ code hc in
+      let t = then_some _ (starts_after l.word l.tokens (value_at source names address 0 l.tokens) s) r hs in
       next t.0 i.0 r i.1 (and_parts _ _ hh).1 t.2
 
   -- a line without a value makes no warrior
-  pub valueless : (lines : List Line) (at : ℕ) (s : Starts) (f : AsmFault) → values_fault source names at lines ≡ Some f → GiveNothing source names at s lines
-  valueless [] at s f h = absurd (none_some None f refl h)
-  valueless (l ∷ ls) at s f h = by_fault (fault_at source names at l) refl h (λ k r. valueless ls (code_lines_after l.word at) r f k) where
-    by_fault : (k : Option AsmKind) → fault_at source names at l ≡ k → or_else (option_map (at_line l.number) k) (values_fault source names (code_lines_after l.word at) ls) ≡ Some f
-        → (values_fault source names (code_lines_after l.word at) ls ≡ Some f → (r : Starts) → GiveNothing source names (code_lines_after l.word at) r ls) → GiveNothing source names at s (l ∷ ls)
-    by_fault (Some k) e h next = value_refuses l ls at s k e
-    by_fault None e h next = others_refuse l ls at s (next h)
+  pub valueless : (lines : List Line) (address : ℕ) (s : Starts) (f : AsmFault) → values_fault source names address lines ≡ Some f → GiveNothing source names address s lines
+  valueless [] address s f h = absurd (none_some None f refl h)
+  valueless (l ∷ ls) address s f h = by_fault (fault_at source names address l) refl h (λ k r. valueless ls (code_lines_after l.word address) r f k) where
+    by_fault : (k : Option AsmKind) → fault_at source names address l ≡ k → or_else (option_map (at_line l.number) k) (values_fault source names (code_lines_after l.word address) ls) ≡ Some f
+        → (values_fault source names (code_lines_after l.word address) ls ≡ Some f → (r : Starts) → GiveNothing source names (code_lines_after l.word address) r ls) → GiveNothing source names address s (l ∷ ls)
+    by_fault (Some k) e h next = value_refuses l ls address s k e
+    by_fault None e h next = others_refuse l ls address s (next h)
 
-  no_value : (at : ℕ) → value_at source names at 0 [] ≡ Err Syntax
+  no_value : (address : ℕ) → value_at source names address 0 [] ≡ Err Syntax
   unfolding before_operand
-  no_value at = refl
+  no_value address = refl
 
-  no_shape : (at : ℕ) (ts : List Token) (k : AsmKind) (r : Result Shape AsmKind) → shape_of source ts ≡ r → result_err r ≡ Some k → result_err (and_then (λ s. with_fault Value (shaped source names at s)) r) ≡ Some k
-  no_shape at ts k (Ok x) e h = absurd (cc)
-  no_shape at ts k (Err d) e h = h
+  no_shape : (address : ℕ) (ts : List Token) (k : AsmKind) (r : Result Shape AsmKind) → shape_of source ts ≡ r → result_err r ≡ Some k → result_err (and_then (λ s. with_fault Value (shaped source names address s)) r) ≡ Some k
+  no_shape address ts k (Ok x) e h = absurd (cc)
+  no_shape address ts k (Err d) e h = h
 
   -- a malformed line has no instruction
-  no_form : (w : LineWord) (ts : List Token) (at : ℕ) (k : AsmKind) → form_fault source w ts ≡ Some k
-      → (j : AsmKind) × (value_fault w ts (instruction_at source names at ts) (value_at source names at 0 ts) ≡ Some j)
+  no_form : (w : LineWord) (ts : List Token) (address : ℕ) (k : AsmKind) → form_fault source w ts ≡ Some k
+      → (j : AsmKind) × (value_fault w ts (instruction_at source names address ts) (value_at source names address 0 ts) ≡ Some j)
   unfolding instruction_at
-  no_form Code ts at k h = (k, no_shape at ts k (shape_of source ts) refl h)
-  no_form Org [] at k h = (Value Syntax, ap (λ v. option_map Value (result_err v)) (no_value at))
-  no_form Org (t ∷ ts) at k h = absurd (cc)
-  no_form End ts at k h = absurd (cc)
-  no_form Assert ts at k h = absurd (cc)
-  no_form Bare ts at k h = absurd (cc)
+  no_form Code ts address k h = (k, no_shape address ts k (shape_of source ts) refl h)
+  no_form Org [] address k h = (Value Syntax, ap (λ v. option_map Value (result_err v)) (no_value address))
+  no_form Org (t ∷ ts) address k h = absurd (cc)
+  no_form End ts address k h = absurd (cc)
+  no_form Assert ts address k h = absurd (cc)
+  no_form Bare ts address k h = absurd (cc)
 
   -- a malformed line makes no warrior
-  pub formless : (lines : List Line) (at : ℕ) (s : Starts) (f : AsmFault) → forms_fault source lines ≡ Some f → GiveNothing source names at s lines
-  formless [] at s f h = absurd (none_some None f refl h)
-  formless (l ∷ ls) at s f h = by_fault (form_fault source l.word l.tokens) refl h (λ k r. formless ls (code_lines_after l.word at) r f k) where
+  pub formless : (lines : List Line) (address : ℕ) (s : Starts) (f : AsmFault) → forms_fault source lines ≡ Some f → GiveNothing source names address s lines
+  formless [] address s f h = absurd (none_some None f refl h)
+  formless (l ∷ ls) address s f h = by_fault (form_fault source l.word l.tokens) refl h (λ k r. formless ls (code_lines_after l.word address) r f k) where
     by_fault : (k : Option AsmKind) → form_fault source l.word l.tokens ≡ k → or_else (option_map (at_line l.number) k) (forms_fault source ls) ≡ Some f
-        → (forms_fault source ls ≡ Some f → (r : Starts) → GiveNothing source names (code_lines_after l.word at) r ls) → GiveNothing source names at s (l ∷ ls)
-    by_fault (Some k) e h next = let j = no_form l.word l.tokens at k e in value_refuses l ls at s j.0 j.1
-    by_fault None e h next = others_refuse l ls at s (next h)
+        → (forms_fault source ls ≡ Some f → (r : Starts) → GiveNothing source names (code_lines_after l.word address) r ls) → GiveNothing source names address s (l ∷ ls)
+    by_fault (Some k) e h next = let j = no_form l.word l.tokens address k e in value_refuses l ls address s j.0 j.1
+    by_fault None e h next = others_refuse l ls address s (next h)
 
   -- lines with a fault make no warrior
   pub faulty : (lines : List Line) (f : AsmFault) → lines_fault source names lines ≡ Some f → GiveNothing source names 0 no_starts lines
@@ -174,12 +187,12 @@ module _ (source : List ℕ) (names : NameValues) where
 
 -- ---- labels
 
-pub after_most : (w : LineWord) (at next : ℕ) → next ≡ code_lines_after w at → next ≤ at + 1
-after_most Bare at next h = omega (arith, h)
-after_most Code at next h = omega (arith, h)
-after_most Org at next h = omega (arith, h)
-after_most End at next h = omega (arith, h)
-after_most Assert at next h = omega (arith, h)
+pub after_most : (w : LineWord) (address next : ℕ) → next ≡ code_lines_after w address → next ≤ address + 1
+after_most Bare address next h = omega (arith, h)
+after_most Code address next h = omega (arith, h)
+after_most Org address next h = omega (arith, h)
+after_most End address next h = omega (arith, h)
+after_most Assert address next h = omega (arith, h)
 
 -- looking up in two lists, one after the other
 found_both : {A : Type 0} (a b : List (List ℕ × A)) (name : List ℕ) → entry_of (a ++ b) name ≡ or_else (entry_of a name) (entry_of b name)
@@ -241,10 +254,10 @@ pub address_found : {A : Type 0} (f : A → ℕ) (t : List (List ℕ × A)) (o :
 address_found f t o all name e m = ap (option_map f) e ∙ (sym (found_among f t name) ∙ ap (λ l. entry_of l name) m)
 
 -- the labels of a line are added
-pub labels_next : (source : List ℕ) (rest others : List Line) (l : Line) (old new whole : Labels) (at next : ℕ) → rest ≡ l ∷ others
-    → ((r : Labels) → Agree (new ++ r) (old ++ (map (λ t. (name_of source t, at)) l.labels ++ r))) → next ≡ code_lines_after l.word at
-    → Agree (old ++ labels_from source at rest) whole → Agree (new ++ labels_from source next others) whole
-labels_next source rest others l old new whole at next e n b w name =
+pub labels_next : (source : List ℕ) (rest others : List Line) (l : Line) (old new whole : Labels) (address next : ℕ) → rest ≡ l ∷ others
+    → ((r : Labels) → Agree (new ++ r) (old ++ (map (λ t. (name_of source t, address)) l.labels ++ r))) → next ≡ code_lines_after l.word address
+    → Agree (old ++ labels_from source address rest) whole → Agree (new ++ labels_from source next others) whole
+labels_next source rest others l old new whole address next e n b w name =
     ap (λ k. entry_of (new ++ labels_from source k others) name) b
-    ∙ (n (labels_from source (code_lines_after l.word at) others) name
-    ∙ (ap (λ ls. entry_of (old ++ labels_from source at ls) name) (sym e) ∙ w name))
+    ∙ (n (labels_from source (code_lines_after l.word address) others) name
+    ∙ (ap (λ ls. entry_of (old ++ labels_from source address ls) name) (sym e) ∙ w name))

@@ -19,8 +19,8 @@ use Rattle.rc_asm.specs.Limits.{MOST_BYTES}
 use Rattle.rc_asm.specs.Names.{NameValues, Labels, labels_of}
 use Rattle.rc_asm.specs.Assembly.{start_value, no_starts, starts_from, names_of, IsMadeOf, Assembles}
 use Rattle.rc_asm.specs.Faults.{forms_fault, values_fault, IsWarriorFault, IsFaultOfCode, IsFaultOfLines, IsAsmFault}
-use Rattle.rc_asm.specs.Steps.{GiveNothing, IsStarted, Agree}
-use Rattle.rc_asm.proofs.Steps.{faulty}
+use Rattle.rc_asm.specs.Steps.{IsStarted, Agree}
+use Rattle.rc_asm.proofs.Steps.{GiveNothing, faulty}
 
 some_is : {A : Type 0} (x y : A) → Some x ≡ Some y → x ≡ y
 some_is x y h = cc

@@ -1,6 +1,7 @@
 -- The warrior that a text assembles to. Instructions, labels and ORG are the 1994 draft's;
 -- `;assert` and END with a start are pMARS's.
-use Rattle.std.specs.Prelude.{◌≡◌, ◌≤◌, ◌<◌, ℕ, nat_le, nat_lt, if◌then◌else◌, Bool, true, false, ◌&&◌, not, ℤ, pos, negsuc, List, [], ◌∷◌, length, Option, Some, None, option_and_then, option_map, Result, Ok, Err}
+use Rattle.std.specs.Prelude.{◌≡◌, ◌≤◌, ◌<◌, ℕ, nat_le, nat_lt, if◌then◌else◌, Bool, true, false, ◌&&◌, not, ℤ, pos, negsuc, List, [], ◌∷◌, length, Option, Some, None, unwrap_or, option_and_then, option_map, Result, Ok, Err}
+use Rattle.std.specs.Option.{option_or}
 use Rattle.std.specs.Result.{result_ok}
 use Rattle.rc_text.specs.declared.token.Token.{Token}
 use Rattle.rc_text.specs.declared.fault.EvalFault.{EvalFault}
@@ -39,13 +40,8 @@ abbrev pub no_starts : Starts
 no_starts = record { org = None; end = None }
 
 -- the value of the last ORG; without ORG, the value after END; without either, 0
-abbrev pub start_by : Option ℤ → Option ℤ → ℤ
-start_by (Some v) e = v
-start_by None (Some v) = v
-start_by None None = pos 0
-
 abbrev pub start_value : Starts → ℤ
-start_value s = start_by s.org s.end
+start_value s = unwrap_or (option_or s.org s.end) (pos 0)
 
 -- ORG needs an expression and END may have one. The last ORG counts.
 abbrev pub starts_after : LineWord → List Token → Result ℤ EvalFault → Starts → Option Starts
@@ -57,20 +53,20 @@ starts_after End (t ∷ ts) (Err e) s = None
 starts_after _ ts v s = Some s
 
 module _ (source : List ℕ) (names : NameValues) where
-  -- the instructions of the lines, with `at` lines of code before the first
+  -- the instructions of the lines; the first line is at `address`
   abbrev pub instructions_from : ℕ → List Line → Option (List Instruction)
-  instructions_from at [] = Some []
-  instructions_from at (l ∷ ls) = next_instruction l.word (instruction_at source names at l.tokens) (instructions_from (code_lines_after l.word at) ls)
+  instructions_from address [] = Some []
+  instructions_from address (l ∷ ls) = next_instruction l.word (instruction_at source names address l.tokens) (instructions_from (code_lines_after l.word address) ls)
 
   -- every assertion holds. A label has its address as its value.
   abbrev pub holds_from : ℕ → List Line → Bool
-  holds_from at [] = true
-  holds_from at (l ∷ ls) = line_holds l.word (value_at source names at 0 l.tokens) && holds_from (code_lines_after l.word at) ls
+  holds_from address [] = true
+  holds_from address (l ∷ ls) = line_holds l.word (value_at source names address 0 l.tokens) && holds_from (code_lines_after l.word address) ls
 
   -- the values of the last ORG and of END after the lines. A label has its address as its value.
   abbrev pub starts_from : ℕ → Starts → List Line → Option Starts
-  starts_from at s [] = Some s
-  starts_from at s (l ∷ ls) = option_and_then (λ r. starts_from (code_lines_after l.word at) r ls) (starts_after l.word l.tokens (value_at source names at 0 l.tokens) s)
+  starts_from address s [] = Some s
+  starts_from address s (l ∷ ls) = option_and_then (λ r. starts_from (code_lines_after l.word address) r ls) (starts_after l.word l.tokens (value_at source names address 0 l.tokens) s)
 
 -- what gives the names of a text their values
 abbrev pub names_of : List ℕ → Table → RulesView → List Line → NameValues

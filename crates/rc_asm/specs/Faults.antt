@@ -9,7 +9,7 @@ use Rattle.rc_instr.specs.declared.instruction.Instruction.{Instruction}
 use Rattle.rc_instr.specs.declared.warrior.WarriorError.{WarriorError}
 use Rattle.rc_instr.specs.declared.warrior.WarriorError.TheVariants as warrior
 use Rattle.rc_expand.specs.declared.fault.ExpandFault.{ExpandFault}
-use Rattle.rc_expand.specs.declared.fault.ExpandKind.TheVariants.{OutOfMemory as NoRoom}
+use Rattle.rc_expand.specs.declared.fault.ExpandKind.TheVariants.{OutOfMemory as NoMemory}
 use Rattle.rc_expand.specs.declared.line.LineWord.{LineWord}
 use Rattle.rc_expand.specs.declared.line.LineWord.TheVariants.{Code, Org, End, Assert}
 use Rattle.rc_expand.specs.declared.line.Line.{Line}
@@ -58,12 +58,12 @@ value_fault Assert ts i v = assertion_fault v
 value_fault _ ts i v = None
 
 module _ (source : List ℕ) (names : NameValues) where
-  -- the first line with such a fault, with `at` lines of code before the first line
+  -- the first line with such a fault; the first of the lines is at `address`
   abbrev pub values_fault : ℕ → List Line → Option AsmFault
-  values_fault at [] = None
-  values_fault at (l ∷ ls) =
-      or_else (option_map (at_line l.number) (value_fault l.word l.tokens (instruction_at source names at l.tokens) (value_at source names at 0 l.tokens)))
-      (values_fault (code_lines_after l.word at) ls)
+  values_fault address [] = None
+  values_fault address (l ∷ ls) =
+      or_else (option_map (at_line l.number) (value_fault l.word l.tokens (instruction_at source names address l.tokens) (value_at source names address 0 l.tokens)))
+      (values_fault (code_lines_after l.word address) ls)
 
   -- the first fault of the lines, if there is one
   abbrev pub lines_fault : List Line → Option AsmFault
@@ -96,5 +96,5 @@ IsFaultOfLines source names lines f = (lines_fault source names lines ≡ Some f
 abbrev pub IsAsmFault : List ℕ → Table → RulesView → AsmFault → Type 0
 IsAsmFault source constants rules f =
     ((MOST_BYTES < length source) × (f ≡ at_line 0 TextTooLong))
-    ⊎ (((length source ≤ MOST_BYTES) × (e : ExpandFault) × (expansion_of source constants rules ≡ Err e) × (e.kind ≢ NoRoom) × (f ≡ at_line e.line (Expand e.kind)))
+    ⊎ (((length source ≤ MOST_BYTES) × (e : ExpandFault) × (expansion_of source constants rules ≡ Err e) × (e.kind ≢ NoMemory) × (f ≡ at_line e.line (Expand e.kind)))
     ⊎ ((length source ≤ MOST_BYTES) × (lines : List Line) × IsExpansion source constants rules lines × IsFaultOfLines source (names_of source constants rules lines) lines f))

@@ -39,11 +39,11 @@ made s a b = record {
   b_number = b.number;
 }
 
-module _ (source : List ℕ) (names : NameValues) (at : ℕ) where
+module _ (source : List ℕ) (names : NameValues) (address : ℕ) where
   -- after the mode, everything is the expression; without a mode it is direct
   abbrev pub operand_after : Option Mode → Token → List Token → Result Operand EvalFault
-  operand_after (Some mode) t ts = mapped (operand names.rules.core mode) (value_at source names at at ts)
-  operand_after None t ts = mapped (operand names.rules.core Direct) (value_at source names at at (t ∷ ts))
+  operand_after (Some mode) t ts = mapped (operand names.rules.core mode) (value_at source names address address ts)
+  operand_after None t ts = mapped (operand names.rules.core Direct) (value_at source names address address (t ∷ ts))
 
   -- an operand that is not written is `$0`
   unfoldable pub operand_at : Option (List Token) → Result Operand EvalFault

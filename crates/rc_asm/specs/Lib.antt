@@ -12,5 +12,4 @@ pub mod Faults
 pub mod Outcome
 pub mod Seen
 pub mod Steps
-pub mod Printed
 pub mod Examples

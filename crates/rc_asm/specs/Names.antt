@@ -1,4 +1,5 @@
--- The values of names in expressions (labels: 1994 draft; predefined names: pMARS).
+-- The values of names in expressions (labels: 1994 draft; predefined names: pMARS). The address of
+-- a line is the number of lines of code before it.
 use Rattle.std.specs.Prelude.{ℕ, ◌+◌, ℤ, pos, ◌-ℤ◌, List, [], ◌∷◌, ◌++◌, map, Option, Some, Result, if◌then◌else◌, option_map}
 use Rattle.std.specs.Str.{bytes_eq}
 use Rattle.rc_text.specs.declared.token.Token.{Token}
@@ -15,15 +16,15 @@ use Rattle.rc_expand.specs.Names.{Table, or_else, given_names, CURLINE}
 abbrev pub Labels : Type 0
 Labels = List (List ℕ × ℕ)
 
--- the number of lines of code up to and including a line, with `at` of them before it
+-- the address after a line at `address`
 abbrev pub code_lines_after : LineWord → ℕ → ℕ
-code_lines_after Code at = at + 1
-code_lines_after _ at = at
+code_lines_after Code address = address + 1
+code_lines_after _ address = address
 
--- each label with its address: the number of lines of code before it
+-- each label of the lines with its address; the first line is at `address`
 abbrev pub labels_from : List ℕ → ℕ → List Line → Labels
-labels_from source at [] = []
-labels_from source at (l ∷ ls) = map (λ t. (name_of source t, at)) l.labels ++ labels_from source (code_lines_after l.word at) ls
+labels_from source address [] = []
+labels_from source address (l ∷ ls) = map (λ t. (name_of source t, address)) l.labels ++ labels_from source (code_lines_after l.word address) ls
 
 abbrev pub labels_of : List ℕ → List Line → Labels
 labels_of source lines = labels_from source 0 lines
@@ -34,13 +35,13 @@ pub record NameValues : Type 0 where
   pub rules : RulesView
   pub address : List ℕ → Option ℕ
 
--- the value of a name at a line with `at` lines of code before it: a constant, a predefined name,
--- CURLINE, or a label, whose address is counted from `base`
-unfoldable pub stands_for : NameValues → (at base : ℕ) → List ℕ → Option ℤ
-stands_for names at base name =
+-- the value of a name in the line at `address`: a constant, a predefined name, CURLINE, or a label,
+-- whose address is counted from `base`
+unfoldable pub stands_for : NameValues → (address base : ℕ) → List ℕ → Option ℤ
+stands_for names address base name =
     or_else (given_names names.constants names.rules name)
-    (if bytes_eq name CURLINE then Some (pos at) else option_map (λ a. pos a -ℤ pos base) (names.address name))
+    (if bytes_eq name CURLINE then Some (pos address) else option_map (λ a. pos a -ℤ pos base) (names.address name))
 
--- the value of an expression at such a line, or its first fault
-abbrev pub value_at : List ℕ → NameValues → (at base : ℕ) → List Token → Result ℤ EvalFault
-value_at source names at base tokens = evaluation_of (stands_for names at base) (symbols_of source tokens)
+-- the value of an expression in such a line, or its first fault
+abbrev pub value_at : List ℕ → NameValues → (address base : ℕ) → List Token → Result ℤ EvalFault
+value_at source names address base tokens = evaluation_of (stands_for names address base) (symbols_of source tokens)

@@ -3,7 +3,7 @@
 use Rattle.std.specs.Prelude.{ℕ, List, [], ◌∷◌, Option, Some, None, if◌then◌else◌, Result, Err}
 use Rattle.std.specs.Option.{ok_or}
 use Rattle.rc_text.specs.declared.token.Token.{Token}
-use Rattle.rc_expand.specs.Heads.Lines.{is_dot}
+use Rattle.rc_expand.specs.Heads.Lines.{is_dot, into_first}
 use Rattle.rc_instr.specs.declared.instruction.Opcode.{Opcode}
 use Rattle.rc_instr.specs.declared.instruction.Opcode.TheVariants.{Dat, Jmp, Spl, Nop}
 use Rattle.rc_instr.specs.declared.instruction.Modifier.{Modifier}
@@ -12,15 +12,10 @@ use Rattle.rc_asm.specs.declared.fault.AsmKind.TheVariants.{UnknownOpcode, Missi
 use Rattle.rc_asm.specs.Results.{mapped, and_then}
 use Rattle.rc_asm.specs.Words.{is_comma, opcode_at, modifier_at}
 
--- the token joins the first part
-abbrev pub begun : Token → List (List Token) → List (List Token)
-begun t [] = (t ∷ []) ∷ []
-begun t (p ∷ ps) = (t ∷ p) ∷ ps
-
 -- the parts between commas; there is at least one
 abbrev pub parts_from : List Token → List (List Token)
 parts_from [] = [] ∷ []
-parts_from (t ∷ ts) = if is_comma t then [] ∷ parts_from ts else begun t (parts_from ts)
+parts_from (t ∷ ts) = if is_comma t then [] ∷ parts_from ts else into_first t (parts_from ts)
 
 -- the parts between commas; no tokens have no parts
 unfoldable pub parts : List Token → List (List Token)

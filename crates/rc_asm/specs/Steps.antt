@@ -1,5 +1,5 @@
 -- One line at a time, for contracts of private functions. What must hold is in Assembly and Faults.
-use Rattle.std.specs.Prelude.{◌≡◌, ◌<◌, ◌≤◌, ℕ, pos, true, List, [], ◌∷◌, ◌++◌, length, Option, Some, None, option_map, All, Result, Ok, Err}
+use Rattle.std.specs.Prelude.{◌≡◌, ◌<◌, ◌≤◌, ℕ, pos, true, List, [], ◌∷◌, ◌++◌, length, Option, Some, None, All, Result, Ok, Err}
 use Rattle.rc_instr.specs.declared.instruction.Instruction.{Instruction}
 use Rattle.rc_instr.specs.Warrior.{IsBelow, WarriorView}
 use Rattle.rc_instr.specs.Rules.{RulesView}
@@ -26,14 +26,9 @@ pub record IsLineRead (source : List ℕ) (names : NameValues) (l : Line) (befor
   pub holds : line_holds l.word (value_at source names (length before) 0 l.tokens) ≡ true
   pub starts : starts_after l.word l.tokens (value_at source names (length before) 0 l.tokens) s ≡ Some r
 
--- the fault of a line with `at` lines of code before it
+-- the fault of a line at `address`
 abbrev pub fault_at : List ℕ → NameValues → ℕ → Line → Option AsmKind
-fault_at source names at l = value_fault l.word l.tokens (instruction_at source names at l.tokens) (value_at source names at 0 l.tokens)
-
--- the lines do not make any code and start
-abbrev pub GiveNothing : List ℕ → NameValues → ℕ → Starts → List Line → Type 0
-GiveNothing source names at s lines =
-    (code : List Instruction) (r : Starts) → instructions_from source names at lines ≡ Some code → holds_from source names at lines ≡ true → starts_from source names at s lines ≡ Some r → ⊥
+fault_at source names address l = value_fault l.word l.tokens (instruction_at source names address l.tokens) (value_at source names address 0 l.tokens)
 
 -- all lines were read, without a fault
 pub record AreLinesRead (source : List ℕ) (names : NameValues) (lines : List Line) (all : List Instruction) (s : Starts) : Type 0 where
@@ -42,14 +37,6 @@ pub record AreLinesRead (source : List ℕ) (names : NameValues) (lines : List L
   pub starts : starts_from source names 0 no_starts lines ≡ Some s
   pub faultless : values_fault source names 0 lines ≡ None
   pub below : All (IsBelow names.rules.core) all
-
--- `before` and `s` are what the lines before `rest` gave, so that `rest` decides the whole
-pub record Progress (source : List ℕ) (names : NameValues) (lines rest : List Line) (before : List Instruction) (s : Starts) : Type 0 where
-  pub code : instructions_from source names 0 lines ≡ option_map (λ is. before ++ is) (instructions_from source names (length before) rest)
-  pub holds : holds_from source names 0 lines ≡ holds_from source names (length before) rest
-  pub starts : starts_from source names 0 no_starts lines ≡ starts_from source names (length before) s rest
-  pub faults : values_fault source names 0 lines ≡ values_fault source names (length before) rest
-  pub below : All (IsBelow names.rules.core) before
 
 -- the code and the start make this warrior under the rules
 pub record IsStarted (rules : RulesView) (all : List Instruction) (s : Starts) (warrior : WarriorView) : Type 0 where

@@ -2,12 +2,12 @@
 -- SNE and NOP are pMARS's.
 use Rattle.std.specs.Prelude.{ℕ, Bool, true, false, ◌&&◌, List, [], ◌∷◌, map, Option, Some, None, if◌then◌else◌, codes}
 use Rattle.std.specs.Char.{to_ascii_lowercase}
-use Rattle.std.specs.Str.{bytes_eq}
 use Rattle.rc_text.specs.declared.token.Sign.{Sign}
 use Rattle.rc_text.specs.declared.token.Sign.TheVariants.{Comma, Hash, Dollar, Star, At, OpenBrace, CloseBrace, Less, Greater}
 use Rattle.rc_text.specs.declared.token.Kind.{Kind}
 use Rattle.rc_text.specs.declared.token.Kind.TheVariants.{Sign as SignOf}
 use Rattle.rc_text.specs.declared.token.Token.{Token}
+use Rattle.rc_expand.specs.Names.{entry_of}
 use Rattle.rc_expand.specs.Heads.Lines.{is_name_token, is_unjoined, bytes_of}
 use Rattle.rc_instr.specs.declared.instruction.Opcode.{Opcode}
 use Rattle.rc_instr.specs.declared.instruction.Opcode.TheVariants as op
@@ -16,14 +16,9 @@ use Rattle.rc_instr.specs.declared.instruction.Modifier.TheVariants as mod'
 use Rattle.rc_instr.specs.declared.instruction.Mode.{Mode}
 use Rattle.rc_instr.specs.declared.instruction.Mode.TheVariants as mode
 
--- the entry of the first equal word in the table
-abbrev pub entry : {A : Type 0} → List (List ℕ × A) → List ℕ → Option A
-entry [] word = None
-entry (e ∷ es) word = if bytes_eq e.0 word then Some e.1 else entry es word
-
 -- looks up a name in either case; the words of the table are lower case
 abbrev pub named : {A : Type 0} → List (List ℕ × A) → List ℕ → Option A
-named table name = entry table (map to_ascii_lowercase name)
+named table name = entry_of table (map to_ascii_lowercase name)
 
 -- CMP is another spelling of SEQ
 abbrev pub opcodes : List (List ℕ × Opcode)

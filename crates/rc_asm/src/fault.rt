@@ -2,7 +2,7 @@
 ghost use Rattle.std.specs.Prelude.{◌≡◌, ◌≢◌};
 ghost use Rattle.rc_asm.specs.declared.fault.AsmKind.TheVariants.{OutOfMemory, Expand};
 ghost use Rattle.rc_asm.specs.Faults.{at_line};
-ghost use Rattle.rc_expand.specs.declared.fault.ExpandKind.TheVariants.{OutOfMemory as NoRoom};
+ghost use Rattle.rc_expand.specs.declared.fault.ExpandKind.TheVariants.{OutOfMemory as NoMemory};
 
 use rc_expand::{ExpandFault, ExpandKind};
 use rc_instr::WarriorError;
@@ -112,8 +112,8 @@ pub(crate) fn at_line(line: u64, kind: AsmKind) -> AsmFault
 
 // Wraps a fault of the expansion. `OutOfMemory` stays `OutOfMemory`, at line 0.
 pub(crate) fn of_expansion(fault: ExpandFault) -> AsmFault
-    ensures fault { fault.kind ≢ NoRoom → result ≡ at_line fault.line (Expand fault.kind) }
-    ensures memory { fault.kind ≡ NoRoom → result ≡ at_line 0 OutOfMemory }
+    ensures fault { fault.kind ≢ NoMemory → result ≡ at_line fault.line (Expand fault.kind) }
+    ensures memory { fault.kind ≡ NoMemory → result ≡ at_line 0 OutOfMemory }
 {
     match fault.kind {
         ExpandKind::OutOfMemory => AsmFault {

@@ -14,7 +14,7 @@ use rc_expand::{Line, LineWord};
 pub(crate) fn check_forms(source: &[u8], lines: &[Line]) -> Result<(), AsmFault>
     requires { All (LineLies source.now) lines.now }
     ensures forms { result_err result ≡ forms_fault source.now lines.now }
-    ensures room { IfErr result (λ f. f.kind ≢ OutOfMemory) }
+    ensures other { IfErr result (λ f. f.kind ≢ OutOfMemory) }
 {
     let mut rest = lines;
     while let Some((line, after)) = rest.split_first() {
@@ -34,7 +34,7 @@ pub(crate) fn check_forms(source: &[u8], lines: &[Line]) -> Result<(), AsmFault>
 fn check_form(source: &[u8], line: &Line) -> Result<(), AsmKind>
     requires { LineLies source.now line.now }
     ensures form { result_err result ≡ form_fault source.now line.now.word line.now.tokens }
-    ensures room { IfErr result (λ e. e ≢ OutOfMemory) }
+    ensures other { IfErr result (λ e. e ≢ OutOfMemory) }
 {
     let tokens = line.tokens.as_slice();
     match line.word {

@@ -12,22 +12,22 @@ use crate::shape::{Shape, shape_of};
 use rc_instr::{Instruction, default_modifier};
 use rc_text::{EvalFault, Token};
 
-// Reads the instruction that `tokens` spell, with `at` lines of code before it.
+// Reads the instruction that `tokens` spell, at `address`.
 #[tactic(auto, unfolding(crate::specs::Instructions::instruction_at))]
 pub(crate) fn instruction_at(
     source: &[u8],
     context: &Context,
-    at: usize,
+    address: usize,
     tokens: &[Token],
 ) -> Result<Instruction, AsmKind>
     requires tokens { All (LiesIn source.now) tokens.now }
-    requires small { at < 2 ^ 63 }
+    requires small { address < 2 ^ 63 }
     requires core { 0 < context.now.rules.now.core }
-    ensures instruction { result ≡ instruction_at source.now (seen_names context.now) at tokens.now }
+    ensures instruction { result ≡ instruction_at source.now (seen_names context.now) address tokens.now }
     ensures below { IfOk result (IsBelow context.now.rules.now.core) }
 {
     let shape = shape_of(source, tokens)?;
-    let instruction = shaped(source, context, at, &shape)?;
+    let instruction = shaped(source, context, address, &shape)?;
     Ok(instruction)
 }
 
@@ -54,16 +54,16 @@ fn made(shape: &Shape, a: Operand, b: Operand) -> Instruction
 fn shaped(
     source: &[u8],
     context: &Context,
-    at: usize,
+    address: usize,
     shape: &Shape,
 ) -> Result<Instruction, EvalFault>
     requires sides { SidesLie source.now shape.now.sides }
-    requires small { at < 2 ^ 63 }
+    requires small { address < 2 ^ 63 }
     requires core { 0 < context.now.rules.now.core }
-    ensures instruction { result ≡ shaped source.now (seen_names context.now) at (seen_shape shape.now) }
+    ensures instruction { result ≡ shaped source.now (seen_names context.now) address (seen_shape shape.now) }
     ensures below { IfOk result (IsBelow context.now.rules.now.core) }
 {
-    let a = operand_at(source, context, at, shape.sides.a)?;
-    let b = operand_at(source, context, at, shape.sides.b)?;
+    let a = operand_at(source, context, address, shape.sides.a)?;
+    let b = operand_at(source, context, address, shape.sides.b)?;
     Ok(made(shape, a, b))
 }

@@ -11,7 +11,7 @@ use rc_text::Token;
 use std::alloc::{AllocError, Global};
 use std::marker::Model;
 
-// The number of lines of code before a label.
+// An address: the number of lines of code before a line.
 #[derive(Debug, Drop)]
 struct Address {
     number: usize,
@@ -70,11 +70,11 @@ impl<'a> Labels<'a> {
         let mut labels = Labels {
             table: NameTable::with_capacity(alloc, lines.len())?,
         };
-        let mut at: usize = 0;
+        let mut address: usize = 0;
         let mut rest = lines;
         while let Some((line, after)) = rest.split_first() {
-            labels.insert_all(alloc, source, line.labels.as_slice(), at)?;
-            at = code_lines_after(line.word, at);
+            labels.insert_all(alloc, source, line.labels.as_slice(), address)?;
+            address = code_lines_after(line.word, address);
             rest = after;
         }
         Ok(labels)
@@ -83,22 +83,20 @@ impl<'a> Labels<'a> {
     pub(crate) fn address_of(&self, source: &[u8], token: &Token) -> Option<usize>
         requires { LiesIn source.now token.now }
         ensures address { result ≡ entry_of self.now (name_of source.now token.now) }
-        ensures small { IfSome result (λ at. at < 2 ^ 63) }
+        ensures small { IfSome result (λ address. address < 2 ^ 63) }
     {
-        match self.table.get(source, token) {
-            Some(address) => Some(address.number),
-            None => None,
-        }
+        let address = self.table.get(source, token)?;
+        Some(address.number)
     }
 }
 
-// Counts the lines of code up to and including a line, from the `at` lines of code before it.
-pub(crate) fn code_lines_after(word: LineWord, at: usize) -> usize
-    requires { at < 2 ^ 63 }
-    ensures { result ≡ code_lines_after word at }
+// Returns the address after a line at `address`.
+pub(crate) fn code_lines_after(word: LineWord, address: usize) -> usize
+    requires { address < 2 ^ 63 }
+    ensures { result ≡ code_lines_after word address }
 {
     match word {
-        LineWord::Code => at + 1,
-        _ => at,
+        LineWord::Code => address + 1,
+        _ => address,
     }
 }

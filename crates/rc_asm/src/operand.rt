@@ -17,19 +17,19 @@ pub(crate) struct Operand {
     pub(crate) number: u16,
 }
 
-// Reads the operand that `part` spells, with `at` lines of code before it. `None` gives `$0`.
+// Reads the operand that `part` spells, at `address`. `None` gives `$0`.
 #[inline(always)]
 #[tactic(auto, unfolding(crate::specs::Instructions::operand_at))]
 pub(crate) fn operand_at(
     source: &[u8],
     context: &Context,
-    at: usize,
+    address: usize,
     part: Option<&[Token]>,
 ) -> Result<Operand, EvalFault>
     requires part { IfSome part (λ p. All (LiesIn source.now) p.now) }
-    requires small { at < 2 ^ 63 }
+    requires small { address < 2 ^ 63 }
     requires core { 0 < context.now.rules.now.core }
-    ensures operand { result ≡ operand_at source.now (seen_names context.now) at (option_map (λ p. p.now) part.entry) }
+    ensures operand { result ≡ operand_at source.now (seen_names context.now) address (option_map (λ p. p.now) part.entry) }
     ensures below { IfOk result (λ o. o.number < context.now.rules.now.core) }
 {
     match part {
@@ -40,8 +40,8 @@ pub(crate) fn operand_at(
         Some(tokens) => match tokens {
             [] => Err(EvalFault::Syntax),
             [first, rest @ ..] => match mode_at(first) {
-                Some(mode) => with_value(source, context, at, mode, rest),
-                None => with_value(source, context, at, Mode::Direct, tokens),
+                Some(mode) => with_value(source, context, address, mode, rest),
+                None => with_value(source, context, address, Mode::Direct, tokens),
             },
         },
     }
@@ -62,16 +62,16 @@ fn core_number(value: i64, core: u32) -> u16
 fn with_value(
     source: &[u8],
     context: &Context,
-    at: usize,
+    address: usize,
     mode: Mode,
     tokens: &[Token],
 ) -> Result<Operand, EvalFault>
     requires tokens { All (LiesIn source.now) tokens.now }
-    requires small { at < 2 ^ 63 }
-    ensures operand { result ≡ mapped (operand context.now.rules.now.core mode) (value_at source.now (seen_names context.now) at at tokens.now) }
+    requires small { address < 2 ^ 63 }
+    ensures operand { result ≡ mapped (operand context.now.rules.now.core mode) (value_at source.now (seen_names context.now) address address tokens.now) }
     ensures below { IfOk result (λ o. o.number < context.now.rules.now.core) }
 {
-    let value = value_at(source, context, at, at, tokens)?;
+    let value = value_at(source, context, address, address, tokens)?;
     Ok(Operand {
         mode,
         number: core_number(value, context.rules.core()),

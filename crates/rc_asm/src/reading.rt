@@ -58,14 +58,14 @@ pub(crate) fn read_lines(
 fn check_assertion(
     source: &[u8],
     context: &Context,
-    at: usize,
+    address: usize,
     tokens: &[Token],
 ) -> Result<(), AsmKind>
     requires tokens { All (LiesIn source.now) tokens.now }
-    requires small { at < 2 ^ 63 }
-    ensures { result_err result ≡ assertion_fault (value_at source.now (seen_names context.now) at 0 tokens.now) }
+    requires small { address < 2 ^ 63 }
+    ensures { result_err result ≡ assertion_fault (value_at source.now (seen_names context.now) address 0 tokens.now) }
 {
-    let value = value_at(source, context, at, 0, tokens)?;
+    let value = value_at(source, context, address, 0, tokens)?;
     if value == 0 {
         return Err(AsmKind::AssertFailed);
     }
@@ -86,27 +86,27 @@ fn read_line(
     ensures refused { IfErr result (λ e. e ≢ OutOfMemory → fault_at source.now (seen_names context.now) (length reading.old.code.items) line.now ≡ Some e) }
 {
     let tokens = line.tokens.as_slice();
-    let at = reading.code.len();
+    let address = reading.code.len();
     match line.word {
         LineWord::Code => {
-            let instruction = instruction_at(source, context, at, tokens)?;
+            let instruction = instruction_at(source, context, address, tokens)?;
             reading.code.push(instruction)?;
             Ok(())
         }
         LineWord::Org => {
-            let value = value_at(source, context, at, 0, tokens)?;
+            let value = value_at(source, context, address, 0, tokens)?;
             reading.starts.org = Some(value);
             Ok(())
         }
         LineWord::End => match tokens {
             [] => Ok(()),
             _ => {
-                let value = value_at(source, context, at, 0, tokens)?;
+                let value = value_at(source, context, address, 0, tokens)?;
                 reading.starts.end = Some(value);
                 Ok(())
             }
         },
-        LineWord::Assert => check_assertion(source, context, at, tokens),
+        LineWord::Assert => check_assertion(source, context, address, tokens),
         LineWord::Bare => Ok(()),
     }
 }

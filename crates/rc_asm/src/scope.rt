@@ -17,20 +17,20 @@ pub(crate) struct Context<'a, 't> {
     pub(crate) labels: &'a Labels<'t>,
 }
 
-// The names at one line: `at` lines of code are before it, and labels count from `base`.
+// The names in the line at `address`. Labels count from `base`.
 #[derive(Drop)]
 struct Scope<'a, 't> {
     context: Context<'a, 't>,
-    at: usize,
+    address: usize,
     base: usize,
-    ghost small: { (at < 2 ^ 63) × (base < 2 ^ 63) },
+    ghost small: { (address < 2 ^ 63) × (base < 2 ^ 63) },
 }
 
 impl<'a, 't> Names for Scope<'a, 't> {
     ghost use Rattle.rc_asm.specs.Names.{stands_for};
     ghost use Rattle.rc_asm.specs.Seen.{seen_names};
 
-    ghost meaning = { λ s. stands_for (seen_names s.context) s.at s.base };
+    ghost meaning = { λ s. stands_for (seen_names s.context) s.address s.base };
 
     #[tactic(auto, unfolding(crate::specs::Names::stands_for))]
     fn value(&self, source: &[u8], name: &Token) -> Option<i64> {
@@ -42,29 +42,28 @@ impl<'a, 't> Names for Scope<'a, 't> {
             return Some(value);
         }
         if spells(source, name, b"CURLINE") {
-            return Some(self.at as i64);
+            return Some(self.address as i64);
         }
-        let address = self.context.labels.address_of(source, name)?;
-        Some(address as i64 - self.base as i64)
+        let label = self.context.labels.address_of(source, name)?;
+        Some(label as i64 - self.base as i64)
     }
 }
 
-// Evaluates `tokens` with `at` lines of code before the line. A label's value is its address minus
-// `base`.
+// Evaluates `tokens` in the line at `address`. A label's value is its address minus `base`.
 pub(crate) fn value_at(
     source: &[u8],
     context: &Context,
-    at: usize,
+    address: usize,
     base: usize,
     tokens: &[Token],
 ) -> Result<i64, EvalFault>
     requires tokens { All (LiesIn source.now) tokens.now }
-    requires small { (at < 2 ^ 63) × (base < 2 ^ 63) }
-    ensures { result ≡ value_at source.now (seen_names context.now) at base tokens.now }
+    requires small { (address < 2 ^ 63) × (base < 2 ^ 63) }
+    ensures { result ≡ value_at source.now (seen_names context.now) address base tokens.now }
 {
     let scope = Scope {
         context: *context,
-        at,
+        address,
         base,
     };
     eval(source, tokens, &scope)

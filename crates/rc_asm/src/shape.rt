@@ -32,28 +32,22 @@ pub(crate) fn shape_of<'a>(source: &[u8], tokens: &'a [Token]) -> Result<Shape<'
     requires { All (LiesIn source.now) tokens.now }
     ensures shape { mapped seen_shape result ≡ shape_of source.now tokens.now }
     ensures inside { IfOk result (λ s. SidesLie source.now s.sides) }
-    ensures room { IfErr result (λ e. e ≢ OutOfMemory) }
+    ensures other { IfErr result (λ e. e ≢ OutOfMemory) }
 {
     match tokens {
         [] => Err(AsmKind::UnknownOpcode),
-        [first, rest @ ..] => match opcode_at(source, first) {
-            Some(opcode) => after_opcode(source, opcode, rest),
-            None => Err(AsmKind::UnknownOpcode),
-        },
+        [first, rest @ ..] => {
+            let opcode = opcode_at(source, first).ok_or(AsmKind::UnknownOpcode)?;
+            after_opcode(source, opcode, rest)
+        }
     }
 }
 
-#[tactic(auto, using(crate::proofs::Parts::parts_whole, crate::proofs::Parts::parts_comma))]
 fn first_comma(tokens: &[Token]) -> Option<usize>
     ensures found { IfSome result (λ at. (at < length tokens.now) × (parts_from tokens.now ≡ take at tokens.now ∷ parts_from (drop (at + 1) tokens.now))) }
     ensures none { IfNone result (parts_from tokens.now ≡ tokens.now ∷ []) }
 {
-    for i in 0..tokens.len() {
-        if is_comma(&tokens[i]) {
-            return Some(i);
-        }
-    }
-    None
+    tokens.iter().position(is_comma)
 }
 
 fn no_side(opcode: Opcode) -> Option<Sides<'static>>
@@ -102,7 +96,7 @@ fn two_sides<'a>(first: &'a [Token], second: &'a [Token]) -> Option<Sides<'a>>
 fn sides_of(opcode: Opcode, tokens: &[Token]) -> Result<Sides<'_>, AsmKind>
     ensures sides { mapped seen_sides result ≡ sides_of opcode (parts tokens.now) }
     ensures inside { (source : List ℕ) → All (LiesIn source) tokens.now → IfOk result (SidesLie source) }
-    ensures room { IfErr result (λ e. e ≢ OutOfMemory) }
+    ensures other { IfErr result (λ e. e ≢ OutOfMemory) }
 {
     if tokens.is_empty() {
         return no_side(opcode).ok_or(AsmKind::MissingOperand);
@@ -127,7 +121,7 @@ fn with_operands(
 ) -> Result<Shape<'_>, AsmKind>
     ensures shape { mapped seen_shape result ≡ with_operands opcode modifier tokens.now }
     ensures inside { (source : List ℕ) → All (LiesIn source) tokens.now → IfOk result (λ s. SidesLie source s.sides) }
-    ensures room { IfErr result (λ e. e ≢ OutOfMemory) }
+    ensures other { IfErr result (λ e. e ≢ OutOfMemory) }
 {
     let sides = sides_of(opcode, tokens)?;
     Ok(Shape {
@@ -147,14 +141,14 @@ fn with_modifier<'a>(
     requires { All (LiesIn source.now) tokens.now }
     ensures shape { mapped seen_shape result ≡ with_modifier source.now opcode tokens.now }
     ensures inside { IfOk result (λ s. SidesLie source.now s.sides) }
-    ensures room { IfErr result (λ e. e ≢ OutOfMemory) }
+    ensures other { IfErr result (λ e. e ≢ OutOfMemory) }
 {
     match tokens {
         [] => Err(AsmKind::UnknownOpcode),
-        [first, rest @ ..] => match modifier_at(source, first) {
-            Some(modifier) => with_operands(opcode, Some(modifier), rest),
-            None => Err(AsmKind::UnknownOpcode),
-        },
+        [first, rest @ ..] => {
+            let modifier = modifier_at(source, first).ok_or(AsmKind::UnknownOpcode)?;
+            with_operands(opcode, Some(modifier), rest)
+        }
     }
 }
 
@@ -168,7 +162,7 @@ fn after_opcode<'a>(
     requires { All (LiesIn source.now) tokens.now }
     ensures shape { mapped seen_shape result ≡ after_opcode source.now opcode tokens.now }
     ensures inside { IfOk result (λ s. SidesLie source.now s.sides) }
-    ensures room { IfErr result (λ e. e ≢ OutOfMemory) }
+    ensures other { IfErr result (λ e. e ≢ OutOfMemory) }
 {
     match tokens {
         [first, rest @ ..] if is_dot(first) => with_modifier(source, opcode, rest),

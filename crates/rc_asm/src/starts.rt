@@ -23,12 +23,6 @@ impl Starts {
     pub(crate) fn value(&self) -> i64
         ensures { result ≡ start_value self.now }
     {
-        match self.org {
-            Some(value) => value,
-            None => match self.end {
-                Some(value) => value,
-                None => 0,
-            },
-        }
+        self.org.or(self.end).unwrap_or(0)
     }
 }

@@ -2,8 +2,9 @@
 ghost use Rattle.std.specs.Prelude.{◌≡◌, ◌∷◌, [], map, ◌&&◌, option_map, None};
 ghost use Rattle.std.specs.Char.{to_ascii_lowercase};
 ghost use Rattle.rc_text.specs.Symbols.{LiesIn};
+ghost use Rattle.rc_expand.specs.Names.{entry_of};
 ghost use Rattle.rc_expand.specs.Heads.Lines.{is_dot, bytes_of};
-ghost use Rattle.rc_asm.specs.Words.{entry, named, opcodes, modifiers, mode_at, is_comma, is_plain, opcode_at, modifier_at};
+ghost use Rattle.rc_asm.specs.Words.{named, opcodes, modifiers, mode_at, is_comma, is_plain, opcode_at, modifier_at};
 
 use rc_instr::{Mode, Modifier, Opcode};
 use rc_text::{Kind, Sign, Token};
@@ -36,17 +37,14 @@ pub(crate) fn mode_at(token: &Token) -> Option<Mode>
     ensures { result ≡ mode_at token.now }
 {
     match token.kind {
-        Kind::Sign(sign) => match sign {
-            Sign::Hash => Some(Mode::Immediate),
-            Sign::Dollar => Some(Mode::Direct),
-            Sign::Star => Some(Mode::AIndirect),
-            Sign::At => Some(Mode::BIndirect),
-            Sign::OpenBrace => Some(Mode::APredecrement),
-            Sign::Less => Some(Mode::BPredecrement),
-            Sign::CloseBrace => Some(Mode::APostincrement),
-            Sign::Greater => Some(Mode::BPostincrement),
-            _ => None,
-        },
+        Kind::Sign(Sign::Hash) => Some(Mode::Immediate),
+        Kind::Sign(Sign::Dollar) => Some(Mode::Direct),
+        Kind::Sign(Sign::Star) => Some(Mode::AIndirect),
+        Kind::Sign(Sign::At) => Some(Mode::BIndirect),
+        Kind::Sign(Sign::OpenBrace) => Some(Mode::APredecrement),
+        Kind::Sign(Sign::Less) => Some(Mode::BPredecrement),
+        Kind::Sign(Sign::CloseBrace) => Some(Mode::APostincrement),
+        Kind::Sign(Sign::Greater) => Some(Mode::BPostincrement),
         _ => None,
     }
 }
@@ -54,30 +52,18 @@ pub(crate) fn mode_at(token: &Token) -> Option<Mode>
 pub(crate) fn is_comma(token: &Token) -> bool
     ensures { result ≡ is_comma token.now }
 {
-    match token.kind {
-        Kind::Sign(sign) => match sign {
-            Sign::Comma => true,
-            _ => false,
-        },
-        _ => false,
-    }
+    matches!(token.kind, Kind::Sign(Sign::Comma))
 }
 
 pub(crate) fn is_dot(token: &Token) -> bool
     ensures { result ≡ is_dot token.now }
 {
-    match token.kind {
-        Kind::Sign(sign) => match sign {
-            Sign::Dot => true,
-            _ => false,
-        },
-        _ => false,
-    }
+    matches!(token.kind, Kind::Sign(Sign::Dot))
 }
 
 // The letters are lower case. CMP is another spelling of SEQ.
 fn opcode_of(first: u8, second: u8, third: u8) -> Option<Opcode>
-    ensures { result ≡ entry opcodes (first ∷ second ∷ third ∷ []) }
+    ensures { result ≡ entry_of opcodes (first ∷ second ∷ third ∷ []) }
 {
     match (first, second, third) {
         (b'd', b'a', b't') => Some(Opcode::Dat),
@@ -117,7 +103,7 @@ fn opcode_named(name: &[u8]) -> Option<Opcode>
 
 // The letter is lower case.
 fn one_letter(letter: u8) -> Option<Modifier>
-    ensures { result ≡ entry modifiers (letter ∷ []) }
+    ensures { result ≡ entry_of modifiers (letter ∷ []) }
 {
     match letter {
         b'a' => Some(Modifier::A),
@@ -131,7 +117,7 @@ fn one_letter(letter: u8) -> Option<Modifier>
 
 // The letters are lower case.
 fn two_letters(first: u8, second: u8) -> Option<Modifier>
-    ensures { result ≡ entry modifiers (first ∷ second ∷ []) }
+    ensures { result ≡ entry_of modifiers (first ∷ second ∷ []) }
 {
     match (first, second) {
         (b'a', b'b') => Some(Modifier::AB),

@@ -119,14 +119,14 @@ Stops n (Mark s ∷ rest) = level_of s < n
 Stops n (_ ∷ rest) = Unit {0}
 
 -- an operand is read from `symbols` up to `rest` and means `x`, on any frames that fit `level` and
--- have `waiting` parentheses open
-abbrev pub ReadsOperand : Meaning → (level waiting : ℕ) → List Symbol → Outcome → List Symbol → Type 0
-ReadsOperand names level waiting symbols x rest = (frames : List (Frame Outcome)) → FitsFrames level frames → open_count frames ≡ waiting
+-- have `depth` parentheses open
+abbrev pub ReadsOperand : Meaning → (level depth : ℕ) → List Symbol → Outcome → List Symbol → Type 0
+ReadsOperand names level depth symbols x rest = (frames : List (Frame Outcome)) → FitsFrames level frames → open_count frames ≡ depth
     → before_operand (values names DEEPEST) symbols frames ≡ after_operand (values names DEEPEST) rest x frames
 
 -- on all such frames, reading an operand ends with the fault `e`
-abbrev pub RefusesOperand : Meaning → (level waiting : ℕ) → List Symbol → EvalFault → Type 0
-RefusesOperand names level waiting symbols e = (frames : List (Frame Outcome)) → FitsFrames level frames → open_count frames ≡ waiting
+abbrev pub RefusesOperand : Meaning → (level depth : ℕ) → List Symbol → EvalFault → Type 0
+RefusesOperand names level depth symbols e = (frames : List (Frame Outcome)) → FitsFrames level frames → open_count frames ≡ depth
     → before_operand (values names DEEPEST) symbols frames ≡ Err e
 
 -- the next symbol is not a closing parenthesis

@@ -53,12 +53,13 @@ infix_value And x y = Ok (truth_value (not (is_zero x) && not (is_zero y)))
 infix_value Or x y = Ok (truth_value (not (is_zero x && is_zero y)))
 infix_value _ x y = Err Syntax
 
--- the first fault from the left, or the operator applied to the values; both sides are evaluated,
--- even of `&&` and `||`
+-- the operator applied to the value, or the operand's fault
 abbrev pub prefix_outcome : Sign → Outcome → Outcome
 prefix_outcome s (Ok x) = prefix_value s x
 prefix_outcome s (Err e) = Err e
 
+-- the first fault from the left, or the operator applied to the values; both sides are evaluated,
+-- even of `&&` and `||`
 abbrev pub infix_outcome : Outcome → Sign → Outcome → Outcome
 infix_outcome (Ok x) s (Ok y) = infix_value s x y
 infix_outcome (Ok x) s (Err e) = Err e

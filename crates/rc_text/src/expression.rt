@@ -85,36 +85,35 @@ fn signed_outcome(signs: &[Token], operand: Outcome) -> Outcome
     ensures { result ≡ signed_outcome signs.now operand }
 {
     let mut outcome = operand;
-    let mut waiting = signs;
-    while let Some((last, others)) = waiting.split_last() {
+    let mut rest = signs;
+    while let Some((last, others)) = rest.split_last() {
         outcome = signed_by(last.kind, outcome);
-        waiting = others;
+        rest = others;
     }
     outcome
 }
 
-// Reads the inside of a group and its closing parenthesis. `waiting` parentheses are open before
-// it.
+// Reads the inside of a group and its closing parenthesis. `depth` parentheses are open before it.
 #[cycle(expression)]
 fn group<'a, N: Names>(
     source: &[u8],
     tokens: &'a [Token],
     names: &N,
-    waiting: u8,
+    depth: u8,
 ) -> Result<(Outcome, &'a [Token]), EvalFault>
     requires inside { All (LiesIn source.now) tokens.now }
-    requires room { waiting ≤ DEEPEST }
+    requires room { depth ≤ DEEPEST }
     ensures read { MatchResult result
-        (λ r. ReadsOperand (N.meaning names.now) 8 waiting
+        (λ r. ReadsOperand (N.meaning names.now) 8 depth
         (Mark Sign.Open ∷ symbols_of source.now tokens.now) r.0 (symbols_of source.now r.1.now))
-        (RefusesOperand (N.meaning names.now) 8 waiting (Mark Sign.Open ∷ symbols_of source.now tokens.now)) }
+        (RefusesOperand (N.meaning names.now) 8 depth (Mark Sign.Open ∷ symbols_of source.now tokens.now)) }
     ensures inside { IfOk result (λ r. All (LiesIn source.now) r.1.now) }
     ensures shorter { IfOk result (λ r. length r.1.now < length tokens.now) }
 {
-    if waiting == limits::DEEPEST {
+    if depth == limits::DEEPEST {
         return Err(EvalFault::TooDeep);
     }
-    let (outcome, after) = climb(source, tokens, names, 1, waiting + 1)?;
+    let (outcome, after) = climb(source, tokens, names, 1, depth + 1)?;
     match after_close(source, after) {
         None => Err(EvalFault::Syntax),
         Some(rest) => Ok((outcome, rest)),
@@ -127,15 +126,15 @@ fn primary<'a, N: Names>(
     source: &[u8],
     tokens: &'a [Token],
     names: &N,
-    waiting: u8,
+    depth: u8,
 ) -> Result<(Outcome, &'a [Token]), EvalFault>
     requires inside { All (LiesIn source.now) tokens.now }
-    requires room { waiting ≤ DEEPEST }
+    requires room { depth ≤ DEEPEST }
     requires unsigned { prefix_len (λ t. is_prefix_kind t.kind) tokens.now ≡ 0 }
     ensures read { MatchResult result
-        (λ r. ReadsOperand (N.meaning names.now) 8 waiting
+        (λ r. ReadsOperand (N.meaning names.now) 8 depth
         (symbols_of source.now tokens.now) r.0 (symbols_of source.now r.1.now))
-        (RefusesOperand (N.meaning names.now) 8 waiting (symbols_of source.now tokens.now)) }
+        (RefusesOperand (N.meaning names.now) 8 depth (symbols_of source.now tokens.now)) }
     ensures inside { IfOk result (λ r. All (LiesIn source.now) r.1.now) }
     ensures shorter { IfOk result (λ r. length r.1.now < length tokens.now) }
 {
@@ -145,7 +144,7 @@ fn primary<'a, N: Names>(
             Kind::Number(n) => Ok((number_outcome(n), rest)),
             Kind::Name => Ok((name_outcome(names.value(source, token)), rest)),
             Kind::Sign(sign) => match sign {
-                Sign::Open => group(source, rest, names, waiting),
+                Sign::Open => group(source, rest, names, depth),
                 _ => Err(EvalFault::Syntax),
             },
             Kind::Assert | Kind::LineEnd => Err(EvalFault::Syntax),
@@ -159,19 +158,19 @@ fn operand<'a, N: Names>(
     source: &[u8],
     tokens: &'a [Token],
     names: &N,
-    waiting: u8,
+    depth: u8,
 ) -> Result<(Outcome, &'a [Token]), EvalFault>
     requires inside { All (LiesIn source.now) tokens.now }
-    requires room { waiting ≤ DEEPEST }
+    requires room { depth ≤ DEEPEST }
     ensures read { MatchResult result
-        (λ r. ReadsOperand (N.meaning names.now) 8 waiting
+        (λ r. ReadsOperand (N.meaning names.now) 8 depth
         (symbols_of source.now tokens.now) r.0 (symbols_of source.now r.1.now))
-        (RefusesOperand (N.meaning names.now) 8 waiting (symbols_of source.now tokens.now)) }
+        (RefusesOperand (N.meaning names.now) 8 depth (symbols_of source.now tokens.now)) }
     ensures inside { IfOk result (λ r. All (LiesIn source.now) r.1.now) }
     ensures shorter { IfOk result (λ r. length r.1.now < length tokens.now) }
 {
     let (signs, unsigned) = split_signs(source, tokens);
-    let (outcome, rest) = primary(source, unsigned, names, waiting)?;
+    let (outcome, rest) = primary(source, unsigned, names, depth)?;
     Ok((signed_outcome(signs, outcome), rest))
 }
 
@@ -182,23 +181,23 @@ fn climb<'a, N: Names>(
     tokens: &'a [Token],
     names: &N,
     level: u8,
-    waiting: u8,
+    depth: u8,
 ) -> Result<(Outcome, &'a [Token]), EvalFault>
     requires inside { All (LiesIn source.now) tokens.now }
-    requires room { waiting ≤ DEEPEST }
+    requires room { depth ≤ DEEPEST }
     requires level { 0 < level }
     requires tightest { level ≤ 7 }
     ensures read { MatchResult result
-        (λ r. ReadsOperand (N.meaning names.now) level waiting
+        (λ r. ReadsOperand (N.meaning names.now) level depth
         (symbols_of source.now tokens.now) r.0 (symbols_of source.now r.1.now))
-        (RefusesOperand (N.meaning names.now) level waiting (symbols_of source.now tokens.now)) }
+        (RefusesOperand (N.meaning names.now) level depth (symbols_of source.now tokens.now)) }
     ensures stops { IfOk result (λ r. Stops level (symbols_of source.now r.1.now)) }
     ensures inside { IfOk result (λ r. All (LiesIn source.now) r.1.now) }
     ensures shorter { IfOk result (λ r. length r.1.now < length tokens.now) }
 {
-    let (mut left, mut rest) = operand(source, tokens, names, waiting)?;
+    let (mut left, mut rest) = operand(source, tokens, names, depth)?;
     while let Some((sign, after)) = operator(source, rest, level) {
-        let (right, next) = climb(source, after, names, level_of(sign) + 1, waiting)?;
+        let (right, next) = climb(source, after, names, level_of(sign) + 1, depth)?;
         left = infix_outcome(left, sign, right);
         rest = next;
     }

@@ -8,8 +8,8 @@ use crate::token::Token;
 pub trait Names {
     ghost meaning: { Self → List ℕ → Option ℤ };
 
-    // Returns the value of the name that a token spells, joined counters included, or `None`. The
-    // token's span must lie in `source`.
+    /// Returns the value of the name that a token spells, joined counters included, or `None`. The
+    /// token's span must lie in `source`.
     fn value(&self, source: &[u8], name: &Token) -> Option<i64>
         requires { LiesIn source.now name.now }
         ensures { result ≡ meaning self.now (name_of source.now name.now) };

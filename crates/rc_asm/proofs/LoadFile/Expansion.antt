@@ -9,7 +9,7 @@ use Rattle.rc_expand.specs.Heads.Lines.{is_line_end_kind}
 use Rattle.rc_expand.specs.Expansion.{IsExpansion}
 use Rattle.rc_expand.proofs.PlainHeads.{AnOpcode, AStart, PlainLine, HaveNoEnd, IsPlain, ArePlain, plain_tokens, plain_lines}
 use Rattle.rc_expand.proofs.PlainLines.{plain_expands}
-use Rattle.rc_asm.specs.Printed.{AreNumber, Plain, Below, Row, row_tokens, rows_tokens, Opening, Printed, IsPrinted, ArePrinted, IsStart, IsPrint, printed_tokens, start_line, code_line, code_lines, printed_lines}
+use Rattle.rc_asm.proofs.LoadFile.Printed.{AreNumber, Plain, Below, Row, row_tokens, rows_tokens, Opening, Printed, IsPrinted, ArePrinted, IsStart, IsPrint, printed_tokens, start_line, code_line, code_lines, printed_lines}
 
 -- ---- the lines of a load text are plain
 

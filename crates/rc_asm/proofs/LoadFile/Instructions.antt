@@ -12,7 +12,7 @@ use Rattle.rc_text.specs.declared.token.Token.{Token}
 use Rattle.rc_text.specs.Values.{Meaning}
 use Rattle.rc_text.specs.Reading.{evaluation_of, before_operand, after_operand}
 use Rattle.rc_text.specs.Symbols.{Symbol, Numeral, Mark, symbol_of_kind, name_of, symbols_of}
-use Rattle.rc_expand.specs.Heads.Lines.{is_name_kind, is_dot, is_dot_kind, is_unjoined, bytes_of}
+use Rattle.rc_expand.specs.Heads.Lines.{is_name_kind, is_dot, is_dot_kind, is_unjoined, bytes_of, into_first}
 use Rattle.rc_instr.specs.LoadText.{opcode_text, modifier_text}
 use Rattle.rc_instr.specs.declared.instruction.Opcode.{Opcode}
 use Rattle.rc_instr.specs.declared.instruction.Opcode.TheVariants as op
@@ -25,10 +25,10 @@ use Rattle.rc_asm.specs.declared.fault.AsmKind.TheVariants.{UnknownOpcode, Value
 use Rattle.rc_asm.specs.declared.operand.Operand.{Operand}
 use Rattle.rc_asm.specs.Results.{mapped, and_then, with_fault}
 use Rattle.rc_asm.specs.Words.{named, opcodes, modifiers, is_plain, opcode_at, modifier_at, mode_of, mode_of_kind, mode_at, is_comma, is_comma_kind}
-use Rattle.rc_asm.specs.Shape.{begun, parts_from, parts, sides, sides_of, Shape, shape, with_operands, with_modifier, after_opcode, shape_of}
+use Rattle.rc_asm.specs.Shape.{parts_from, parts, sides, sides_of, Shape, shape, with_operands, with_modifier, after_opcode, shape_of}
 use Rattle.rc_asm.specs.Names.{NameValues, stands_for}
 use Rattle.rc_asm.specs.Instructions.{natural, core_number, operand, operand_after, operand_at, made, shaped, instruction_at}
-use Rattle.rc_asm.specs.Printed.{mode_sign, IsWord, AreNumber, Plain, Below, Row, a_tokens, b_tokens, row_tokens, IsPrinted}
+use Rattle.rc_asm.proofs.LoadFile.Printed.{mode_sign, IsWord, AreNumber, Plain, Below, Row, a_tokens, b_tokens, row_tokens, IsPrinted}
 
 -- ---- words
 
@@ -139,14 +139,14 @@ number_there source names m n ts h l (Below s t k e f g) = record {
   same = minus_number m n k h g;
 }
 
-module _ (source : List ℕ) (names : NameValues) (at : ℕ) where
+module _ (source : List ℕ) (names : NameValues) (address : ℕ) where
   -- a mode and a number are the operand that they print
   operand_there : (n : ℕ) (mode : Mode) (sign : Token) (ts : List Token) → n < names.rules.core → names.rules.core ≤ 65535 → sign.kind ≡ SignOf (mode_sign mode) → AreNumber names.rules.core n ts
-      → operand_at source names at (Some (sign ∷ ts)) ≡ Ok (record { mode = mode; number = n })
+      → operand_at source names address (Some (sign ∷ ts)) ≡ Ok (record { mode = mode; number = n })
   unfolding operand_at
   operand_there n mode sign ts h l k t =
-      let v = number_there source (stands_for names at at) names.rules.core n ts h l t in
-      ap (λ o. operand_after source names at o sign ts) (mode_there sign mode k)
+      let v = number_there source (stands_for names address address) names.rules.core n ts h l t in
+      ap (λ o. operand_after source names address o sign ts) (mode_there sign mode k)
       ∙ ap (mapped (operand names.rules.core mode)) v.there
       ∙ ap (λ x. Ok (record { mode = mode; number = x })) v.same
 
@@ -160,12 +160,12 @@ HaveNoComma (t ∷ ts) = (is_comma t ≡ false) × HaveNoComma ts
 -- tokens without a comma are one part
 whole_part : (ts : List Token) → HaveNoComma ts → parts_from ts ≡ ts ∷ []
 whole_part [] h = refl
-whole_part (t ∷ ts) h = rw h.0 (ap (begun t) (whole_part ts h.1))
+whole_part (t ∷ ts) h = rw h.0 (ap (into_first t) (whole_part ts h.1))
 
 -- the tokens before the first comma are the first part
 first_part : (ts : List Token) (c : Token) (us : List Token) → HaveNoComma ts → is_comma c ≡ true → parts_from (ts ++ (c ∷ us)) ≡ ts ∷ parts_from us
 first_part [] c us h k = rw k refl
-first_part (t ∷ ts) c us h k = rw h.0 (ap (begun t) (first_part ts c us h.1 k))
+first_part (t ∷ ts) c us h k = rw h.0 (ap (into_first t) (first_part ts c us h.1 k))
 
 -- a comma is not a mode
 mode_no_comma : (m : Mode) → is_comma_kind (SignOf (mode_sign m)) ≡ false
@@ -192,7 +192,7 @@ two_parts : (a : Token) (as' : List Token) (c : Token) (bs : List Token) → Hav
 unfolding parts
 two_parts a as' c bs h k l = first_part (a ∷ as') c bs h k ∙ ap (λ ps. (a ∷ as') ∷ ps) (whole_part bs l)
 
-module _ (source : List ℕ) (names : NameValues) (at : ℕ) (i : Instruction) (r : Row) (p : IsPrinted source names.rules.core i r) where
+module _ (source : List ℕ) (names : NameValues) (address : ℕ) (i : Instruction) (r : Row) (p : IsPrinted source names.rules.core i r) where
   -- the opcode, the modifier and both operands are written
   abbrev printed_shape : Shape
   printed_shape = shape i.opcode (Some i.modifier) (sides (Some (a_tokens r)) (Some (b_tokens r)))
@@ -213,11 +213,11 @@ module _ (source : List ℕ) (names : NameValues) (at : ℕ) (i : Instruction) (
       ∙ ap (λ x. mapped (shape i.opcode (Some i.modifier)) (sides_of i.opcode x)) ps
 
   -- the tokens of a printed instruction spell it
-  pub instruction_there : names.rules.core ≤ 65535 → i.a_number < names.rules.core → i.b_number < names.rules.core → instruction_at source names at (row_tokens r) ≡ Ok i
+  pub instruction_there : names.rules.core ≤ 65535 → i.a_number < names.rules.core → i.b_number < names.rules.core → instruction_at source names address (row_tokens r) ≡ Ok i
   unfolding instruction_at shaped made
   instruction_there l a b =
       let s = printed_shape in
       let x : Operand = record { mode = i.a_mode; number = i.a_number } in
-      ap (and_then (λ s. with_fault Value (shaped source names at s))) shape_there
-      ∙ ap (λ v. with_fault Value (and_then (λ o. mapped (made s o) (operand_at source names at (Some (b_tokens r)))) v)) (operand_there source names at i.a_number i.a_mode r.a_sign r.a_number a l p.a_sign p.a_number)
-      ∙ ap (λ v. with_fault Value (mapped (made s x) v)) (operand_there source names at i.b_number i.b_mode r.b_sign r.b_number b l p.b_sign p.b_number)
+      ap (and_then (λ s. with_fault Value (shaped source names address s))) shape_there
+      ∙ ap (λ v. with_fault Value (and_then (λ o. mapped (made s o) (operand_at source names address (Some (b_tokens r)))) v)) (operand_there source names address i.a_number i.a_mode r.a_sign r.a_number a l p.a_sign p.a_number)
+      ∙ ap (λ v. with_fault Value (mapped (made s x) v)) (operand_there source names address i.b_number i.b_mode r.b_sign r.b_number b l p.b_sign p.b_number)

@@ -9,29 +9,29 @@ use Rattle.rc_expand.specs.declared.line.LineWord.TheVariants.{Code, Org}
 use Rattle.rc_asm.specs.declared.starts.Starts.{Starts}
 use Rattle.rc_asm.specs.Names.{NameValues, stands_for, value_at}
 use Rattle.rc_asm.specs.Assembly.{next_instruction, starts_after, no_starts, start_value, instructions_from, holds_from, starts_from, IsMadeOf}
-use Rattle.rc_asm.specs.Printed.{Row, Opening, Printed, ArePrinted, IsStart, IsPrint, code_lines, printed_lines}
+use Rattle.rc_asm.proofs.LoadFile.Printed.{Row, Opening, Printed, ArePrinted, IsStart, IsPrint, code_lines, printed_lines}
 use Rattle.rc_asm.proofs.LoadFile.Instructions.{instruction_there, plain_value}
 
 module _ (source : List ℕ) (names : NameValues) where
   -- the rows' lines are the instructions
-  code_there : names.rules.core ≤ 65535 → (is : List Instruction) (rs : List Row) (at : ℕ) → All (IsBelow names.rules.core) is → ArePrinted source names.rules.core is rs → instructions_from source names at (code_lines rs) ≡ Some is
-  code_there small [] [] at b p = refl
-  code_there small [] (r ∷ rs) at b p = absurd p
-  code_there small (i ∷ is) [] at b p = absurd p
-  code_there small (i ∷ is) (r ∷ rs) at b p =
+  code_there : names.rules.core ≤ 65535 → (is : List Instruction) (rs : List Row) (address : ℕ) → All (IsBelow names.rules.core) is → ArePrinted source names.rules.core is rs → instructions_from source names address (code_lines rs) ≡ Some is
+  code_there small [] [] address b p = refl
+  code_there small [] (r ∷ rs) address b p = absurd p
+  code_there small (i ∷ is) [] address b p = absurd p
+  code_there small (i ∷ is) (r ∷ rs) address b p =
       let low : IsBelow names.rules.core i = b 0 i (omega arith) in
-      ap (λ x. next_instruction Code x (instructions_from source names (at + 1) (code_lines rs))) (instruction_there source names at i r p.0 small low.a low.b)
-      ∙ ap (option_map (λ ys. i ∷ ys)) (code_there small is rs (at + 1) (λ k d h. b (suc k) d (omega (arith, h))) p.1)
+      ap (λ x. next_instruction Code x (instructions_from source names (address + 1) (code_lines rs))) (instruction_there source names address i r p.0 small low.a low.b)
+      ∙ ap (option_map (λ ys. i ∷ ys)) (code_there small is rs (address + 1) (λ k d h. b (suc k) d (omega (arith, h))) p.1)
 
   -- the lines have no assertion
-  holds_there : (rs : List Row) (at : ℕ) → holds_from source names at (code_lines rs) ≡ true
-  holds_there [] at = refl
-  holds_there (r ∷ rs) at = holds_there rs (at + 1)
+  holds_there : (rs : List Row) (address : ℕ) → holds_from source names address (code_lines rs) ≡ true
+  holds_there [] address = refl
+  holds_there (r ∷ rs) address = holds_there rs (address + 1)
 
   -- the lines of code have no ORG or END
-  starts_there : (rs : List Row) (at : ℕ) (s : Starts) → starts_from source names at s (code_lines rs) ≡ Some s
-  starts_there [] at s = refl
-  starts_there (r ∷ rs) at s = starts_there rs (at + 1) s
+  starts_there : (rs : List Row) (address : ℕ) (s : Starts) → starts_from source names address s (code_lines rs) ≡ Some s
+  starts_there [] address s = refl
+  starts_there (r ∷ rs) address s = starts_there rs (address + 1) s
 
   -- the value after ORG is the start
   start_number : (start : ℕ) (o : Opening) → IsStart source start o → value_at source names 0 0 (o.number ∷ []) ≡ Ok (pos start)

@@ -4,7 +4,7 @@ use Rattle.rc_instr.specs.Rules.{RulesView, IsRules}
 use Rattle.rc_instr.specs.Warrior.{WarriorView, IsWarrior, Fits}
 use Rattle.rc_instr.specs.LoadText.{load_text}
 use Rattle.rc_asm.specs.Assembly.{Assembles, names_of}
-use Rattle.rc_asm.specs.Printed.{printed_lines}
+use Rattle.rc_asm.proofs.LoadFile.Printed.{printed_lines}
 use Rattle.rc_asm.proofs.LoadFile.Tokens.{load_tokens}
 use Rattle.rc_asm.proofs.LoadFile.Expansion.{print_expands}
 use Rattle.rc_asm.proofs.LoadFile.Lines.{made_of_printed}

@@ -1,5 +1,5 @@
 use Rattle.std.proofs.Common.{◌≢◌, arith, ap, inl, inr}
-use Rattle.rc_expand.specs.declared.fault.ExpandKind.TheVariants.{OutOfMemory as NoRoom}
+use Rattle.rc_expand.specs.declared.fault.ExpandKind.TheVariants.{OutOfMemory as NoMemory}
 use Rattle.rc_expand.specs.Names.{table_of}
 use Rattle.rc_asm.specs.declared.fault.AsmFault.{AsmFault}
 use Rattle.rc_asm.proofs.Whole.{refusal_stops, lines_refused}
@@ -15,7 +15,7 @@ returns-in-Ok-clause-refused c =
 pub returns-in-Err-clause-fault : goal.returns-in-Err-clause-fault
 returns-in-Err-clause-fault c = λ h.
     let e = c.in-Err.fault in
-    let k : e.kind ≢ NoRoom = λ m. h (ap (λ (f : AsmFault). f.kind) (c.of_expansion.ensures.memory m)) in
+    let k : e.kind ≢ NoMemory = λ m. h (ap (λ (f : AsmFault). f.kind) (c.of_expansion.ensures.memory m)) in
     inr (inl (omega (arith, c.if-source-gt-MOST_BYTES.false), e, c.in-Err.ensures.expansion k, k, c.of_expansion.ensures.fault k))
 
 pub returns-in-Ok-clause-outcome : goal.returns-in-Ok-clause-outcome
@@ -28,7 +28,7 @@ pub returns-in-Err-clause-outcome : goal.returns-in-Err-clause-outcome
 returns-in-Err-clause-outcome c = λ h.
     let t = table_of c.args.constants.now.names.now c.args.constants.now.values.now in
     let e = c.in-Err.fault in
-    let k : e.kind ≢ NoRoom = λ m. h (ap (λ (f : AsmFault). f.kind) (c.of_expansion.ensures.memory m)) in
+    let k : e.kind ≢ NoMemory = λ m. h (ap (λ (f : AsmFault). f.kind) (c.of_expansion.ensures.memory m)) in
     fault_comes_out c.args.source.now t c.args.rules.now c.of_expansion.result (inr (inl (omega (arith, c.if-source-gt-MOST_BYTES.false), e, c.in-Err.ensures.expansion k, k, c.of_expansion.ensures.fault k)))
 
 pub returns-then-source-gt-MOST_BYTES-clause-outcome : goal.returns-then-source-gt-MOST_BYTES-clause-outcome

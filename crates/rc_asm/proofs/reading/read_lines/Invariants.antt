@@ -2,7 +2,7 @@ use Rattle.std.proofs.Common.{length}
 use Rattle.std.specs.Prelude.{All}
 use Rattle.rc_expand.specs.Expansion.{LineLies}
 use Rattle.rc_asm.specs.Seen.{seen_names}
-use Rattle.rc_asm.specs.Steps.{Progress}
+use Rattle.rc_asm.proofs.Steps.{Progress}
 use Rattle.rc_asm.proofs.reading.read_lines.Given as goal
 
 abbrev pub decreases-loop-line : goal.decreases-loop-line

@@ -18,7 +18,7 @@ decreases-group g l = 4 * length l.tokens.now + 3
 
 abbrev pub invariant-climb-loop-sign : goal.invariant-climb-loop-sign
 invariant-climb-loop-sign g l =
-    ReadsOperand (g.N.Names.meaning l.names) l.level l.waiting (symbols_of l.source l.tokens) l.left (symbols_of l.source l.rest)
+    ReadsOperand (g.N.Names.meaning l.names) l.level l.depth (symbols_of l.source l.tokens) l.left (symbols_of l.source l.rest)
     × All (LiesIn l.source) l.rest
     × (length l.rest < length l.tokens)
 

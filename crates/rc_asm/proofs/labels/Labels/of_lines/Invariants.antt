@@ -10,4 +10,4 @@ decreases-loop-line l = length l.rest
 
 -- the lines that are left make the labels whole
 abbrev pub invariant-loop-line : goal.invariant-loop-line
-invariant-loop-line l = (l.at + length l.rest ≤ length l.lines) × Agree (l.labels ++ labels_from l.source l.at l.rest) (labels_of l.source l.lines) × All (LineLies l.source) l.rest
+invariant-loop-line l = (l.address + length l.rest ≤ length l.lines) × Agree (l.labels ++ labels_from l.source l.address l.rest) (labels_of l.source l.lines) × All (LineLies l.source) l.rest
