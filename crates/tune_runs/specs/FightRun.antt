@@ -19,7 +19,7 @@ use Rattle.tune_runs.specs.ResultLine.{result_line}
 use Rattle.tune_runs.specs.declared.fault.RunFault.{RunFault}
 use Rattle.tune_runs.specs.declared.fault.RunFault.TheVariants.{FightText, Rules, Load, Position, OutOfMemory}
 
--- Bytes are the load file of a warrior that keeps the rules.
+-- Bytes are the load file of a warrior that fits the rules.
 pub record Loads (rules : RulesView) (bytes : List ℕ) (w : WarriorView) : Type 0 where
   pub text : bytes ≡ load_text rules.core w
   pub warrior : IsWarrior w

@@ -25,7 +25,7 @@ use Rattle.tune_problem.specs.Optimum.{IsCandidate}
 use Rattle.tune_cert.specs.CertText.{cert_text}
 use Rattle.tune_problem.specs.Valid.{cert_of}
 use Rattle.tune_problem.specs.declared.cert.Found.{Found}
-use Rattle.tune_search.specs.Found.{IsSearch}
+use Rattle.tune_search.specs.Found.{IsSearch, NoneAssembles}
 use Rattle.tune_runs.specs.AsmRun.{IsAsmRefusal}
 use Rattle.tune_runs.specs.Report.{report_text, report_for}
 use Rattle.tune_runs.specs.declared.fault.RunFault.{RunFault}
@@ -78,7 +78,7 @@ pub record Means (t : Texts) (i : InputsView) : Type 0 where
 
 -- No setting assembles.
 abbrev pub HasNoCandidate : InputsView → Type 0
-HasNoCandidate i = (v : ℕ) → v < (problem_of i).count → (problem_of i).warrior v ≡ None
+HasNoCandidate i = NoneAssembles (problem_of i)
 
 -- The opponents before this one assemble; this one does not, and the fault is its first.
 abbrev pub IsOpponentRefusal : RulesView → List (List ℕ) → ℕ → AsmFault → Type 0

@@ -6,7 +6,7 @@ ghost use Rattle.mars_core.specs.State.{start_of};
 ghost use Rattle.mars_core.specs.Fight.{outcome_of};
 ghost use Rattle.mars_fight.specs.Listed.{IsPosition};
 ghost use Rattle.tune_runs.specs.FightText.{FightWords};
-ghost use Rattle.tune_runs.specs.FightRun.{Loads, NamesFight, IsRefusal, IsLoadRefusal, outcome_for};
+ghost use Rattle.tune_runs.specs.FightRun.{Loads, NamesFight, IsRefusal, IsLoadRefusal, WritesFight, outcome_for};
 ghost use Rattle.tune_runs.specs.ResultLine.{result_line};
 
 use crate::fault::RunFault;
@@ -37,15 +37,14 @@ pub(crate) struct NamedFight {
 ///
 /// The first that applies: `FightText` with the first bad line, `Rules` if a number of the rules is
 /// out of range, `Load` if the candidate's load file, then the opponent's, is not the load file of
-/// a warrior that keeps the rules, `Position` if the warriors are nearer than the distance. Nothing
+/// a warrior that fits the rules, `Position` if the warriors are nearer than the distance. Nothing
 /// is written then. `Write` if the writer failed: an unknown part of the line may be out.
 /// `OutOfMemory` if an allocation failed: nothing is written.
 pub fn fight_run<W: Write>(alloc: Global, text: &[u8], out: &mut Outlet<W>) -> Result<(), RunFault>
     requires { out.old.failed ≡ false }
 
     // What was written is the result line of the fight in the text.
-    ensures line { OnOk result ((w : FightWords) × (c : WarriorView) × (o : WarriorView) × NamesFight text.now w c o
-        × Appends out.old.bytes out.new.bytes (result_line (outcome_for w c o))) }
+    ensures line { OnOk result (WritesFight text.now out.old.bytes out.new.bytes) }
 
     // The fault of a refusal holds, those before it do not, and nothing was written.
     ensures refused { IfErr result (λ e. e ≢ RunFault.Write → IsRefusal e text.now × (out.new ≡ out.old)) }
@@ -70,14 +69,7 @@ fn load(alloc: Global, bytes: &[u8], rules: &Rules, side: Side) -> Result<Warrio
     match read_loadfile(alloc, bytes, rules) {
         Ok(warrior) => Ok(warrior),
         Err(LoadFault::OutOfMemory) => Err(RunFault::OutOfMemory),
-        Err(LoadFault::Malformed { line }) => Err(RunFault::Load {
-            side,
-            fault: LoadFault::Malformed { line },
-        }),
-        Err(LoadFault::Warrior(error)) => Err(RunFault::Load {
-            side,
-            fault: LoadFault::Warrior(error),
-        }),
+        Err(fault) => Err(RunFault::Load { side, fault }),
     }
 }
 

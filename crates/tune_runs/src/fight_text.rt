@@ -46,7 +46,7 @@ pub(crate) fn read_fight_text(text: &[u8]) -> Result<FightText<'_>, u64>
     }
 }
 
-fn place_of(byte: u8, bytes: &[u8]) -> Option<usize>
+fn index_of(byte: u8, bytes: &[u8]) -> Option<usize>
     ensures { result ≡ position (λ b. b == byte) bytes.now }
 {
     bytes.iter().position(|b| *b == byte)
@@ -57,10 +57,8 @@ fn place_of(byte: u8, bytes: &[u8]) -> Option<usize>
 fn cut_at(byte: u8, bytes: &[u8]) -> Option<(&[u8], &[u8])>
     ensures { MatchOption result (cut_at byte bytes.now ≡ None) (λ x. cut_at byte bytes.now ≡ Some (x.0.now, x.1.now)) }
 {
-    match place_of(byte, bytes) {
-        Some(at) => Some((&bytes[..at], &bytes[at + 1..])),
-        None => None,
-    }
+    let at = index_of(byte, bytes)?;
+    Some((&bytes[..at], &bytes[at + 1..]))
 }
 
 // Takes a decimal and the `byte` after it off the front.
@@ -69,10 +67,7 @@ fn number_before(byte: u8, bytes: &[u8]) -> Option<(u32, &[u8])>
     ensures { MatchOption result (number_before byte bytes.now ≡ None) (λ x. number_before byte bytes.now ≡ Some (x.0, x.1.now)) }
 {
     let (digits, rest) = cut_at(byte, bytes)?;
-    match padded_decimal(digits) {
-        Some(number) => Some((number, rest)),
-        None => None,
-    }
+    Some((padded_decimal(digits)?, rest))
 }
 
 #[tactic(auto, unfolding(crate::specs::FightText::after_word))]

@@ -25,8 +25,9 @@ pub struct RawRules {
 ///
 /// # Errors
 ///
-/// The first number that is out of range: `Core` for a core of 7 or less or more than 65535 cells,
-/// and so on, as `Rules::try_new` has it.
+/// The first that applies: `Core` for a core size other than 8 to 65535, `Cycles` for other than 1
+/// to 1000000, `Tasks` for other than 1 to 8000, `Length` for other than 1 to 200, `Distance` for one
+/// below the length or above half the core size.
 pub fn rules_of(raw: RawRules) -> Result<Rules, RulesError>
     ensures ok { IsOk result ↔ IsRules (rules_given raw) }
     ensures rules { IfOk result (λ r. r ≡ rules_given raw) }

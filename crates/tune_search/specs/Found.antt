@@ -37,6 +37,10 @@ abbrev pub copied_fights : List Row → Option ℕ → ℕ
 copied_fights rows None = 0
 copied_fights rows (Some v) = listed_at (slice_get rows v)
 
+-- No setting has a warrior.
+abbrev pub NoneAssembles : Problem → Type 0
+NoneAssembles p = (v : ℕ) → v < p.count → p.warrior v ≡ None
+
 -- What a search finds that remembers up to `capacity` settings.
 pub record IsSearch (p : Problem) (capacity : ℕ) (f : Found) : Type 0 where
   -- the best setting is the optimum, and the rows are a valid certificate of it

@@ -11,7 +11,7 @@ use Rattle.tune_problem.specs.Optimum.{total_of}
 use Rattle.tune_problem.specs.declared.cert.Row.{Row}
 use Rattle.tune_search.specs.Plays.{row_of}
 use Rattle.tune_problem.specs.declared.watcher.Best.{Best}
-use Rattle.tune_search.specs.declared.progress.Progress.{Progress}
+use Rattle.tune_search.specs.declared.progress.PlainState.{PlainState}
 
 -- Setting v, with total t, is the first of the greatest total among the settings before k.
 pub record IsBest (p : Problem) (k v t : ℕ) : Type 0 where
@@ -41,6 +41,6 @@ pub record IsProgress (p : Problem) (k : ℕ) (rows : List Row) (lead : Option B
   pub room : fights ≤ MOST_FIGHTS * candidates
   pub work : fights ≡ candidates * p.fights
 
-pub record IsPlainState (i : InputsView) (k : ℕ) (s : Progress) : Type 0 where
+pub record IsPlainState (i : InputsView) (k : ℕ) (s : PlainState) : Type 0 where
   pub blank : IsBlank i.rules s.arena
   pub going : IsProgress (problem_of i) k s.rows.items s.lead s.candidates s.arena.fights

@@ -5,8 +5,8 @@ ghost use Rattle.tune_problem.specs.Problem.{problem_of};
 
 use tune_template::Inputs;
 
-// Returns the number of settings.
-pub(crate) fn setting_count(inputs: &Inputs) -> u32
+// Returns the number of settings of the part that is tuned.
+pub(crate) fn part_size(inputs: &Inputs) -> u32
     ensures count { result ≡ (problem_of inputs.now).count }
     ensures few { result ≤ MOST_SETTINGS }
 {

@@ -34,7 +34,8 @@ pub(crate) struct Challenge<'a> {
     pub(crate) lead: Option<Best>,
 }
 
-// Plays all fights of the schedule, in order. The arena counts those that the listing has.
+// Plays all fights of the schedule, in order. The arena's count of fights grows by the length of
+// the listing.
 #[tactic(auto, unfolding(tune_problem::specs::Optimum::total_of))]
 pub(crate) fn play_all<T: Watcher>(
     alloc: Global,
@@ -66,8 +67,8 @@ pub(crate) fn play_all<T: Watcher>(
     })
 }
 
-// Plays the fights of a challenge until the cap does not beat the lead, or none is left. The arena
-// counts those that the listing has.
+// Plays the fights of a challenge until the cap does not beat the lead, or none is left. The
+// arena's count of fights grows by the length of the listing.
 #[tactic(auto, using(crate::proofs::Enough::enough_is, crate::proofs::Caps::cap_more, crate::proofs::Caps::played_more, crate::proofs::Caps::cap_none))]
 pub(crate) fn play_enough<T: Watcher>(
     alloc: Global,

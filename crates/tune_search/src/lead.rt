@@ -41,8 +41,8 @@ pub(crate) fn copies(start: u32, other: u32, vector: u32, lead: Option<Best>) ->
     }
 }
 
-// Puts setting `vector` in the place of the lead, with the same total.
-pub(crate) fn take_lead(vector: u32, lead: Option<Best>) -> Option<Best>
+// Returns the lead with setting `vector` in its place, and the same total.
+pub(crate) fn lead_with(vector: u32, lead: Option<Best>) -> Option<Best>
     ensures { result ≡ lead_taken vector lead }
 {
     lead.map(|lead| Best {

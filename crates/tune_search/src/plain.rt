@@ -1,13 +1,14 @@
 //! The search that plays every fight of every setting.
-ghost use Rattle.std.specs.Prelude.{◌≡◌, ◌<◌, ℕ, None, IfOk, IfErr};
+ghost use Rattle.std.specs.Prelude.{◌≡◌, IfOk, IfErr};
 ghost use Rattle.tune_problem.specs.Problem.{problem_of};
+ghost use Rattle.tune_search.specs.Found.{NoneAssembles};
 ghost use Rattle.tune_search.specs.PlainFound.{IsPlainSearch};
 
 use crate::answer::{Visited, answer_of};
-use crate::counts::setting_count;
+use crate::counts::part_size;
 use crate::fault::SearchFault;
 use crate::lead::standing;
-use crate::progress::Progress;
+use crate::progress::PlainState;
 use std::alloc::Global;
 use tune_problem::{Found, Silent, Watcher};
 use tune_template::Inputs;
@@ -26,7 +27,7 @@ pub fn plain_search(alloc: Global, inputs: &Inputs) -> Result<Found, SearchFault
     // The best setting is the optimum, the rows are a valid certificate of it and list every fight
     // of every candidate, and `fights` counts these.
     ensures found { IfOk result (IsPlainSearch (problem_of inputs.now)) }
-    ensures none { let p = problem_of inputs.now in IfErr result (λ e. e ≡ SearchFault.NoCandidate → (v : ℕ) → v < p.count → p.warrior v ≡ None) }
+    ensures none { IfErr result (λ e. e ≡ SearchFault.NoCandidate → NoneAssembles (problem_of inputs.now)) }
 {
     watched_plain_search(alloc, inputs, &mut Silent)
 }
@@ -42,23 +43,22 @@ pub fn watched_plain_search<T: Watcher>(
     inputs: &Inputs,
     watcher: &mut T,
 ) -> Result<Found, SearchFault>
-    // The best setting is the optimum, the rows are a valid certificate of it and list every fight
-    // of every candidate, and `fights` counts these.
+    // What `plain_search` promises.
     ensures found { IfOk result (IsPlainSearch (problem_of inputs.now)) }
-    ensures none { let p = problem_of inputs.now in IfErr result (λ e. e ≡ SearchFault.NoCandidate → (v : ℕ) → v < p.count → p.warrior v ≡ None) }
+    ensures none { IfErr result (λ e. e ≡ SearchFault.NoCandidate → NoneAssembles (problem_of inputs.now)) }
 {
-    let mut progress = Progress::begin(alloc, inputs)?;
-    for vector in 0..setting_count(inputs) {
+    let mut progress = PlainState::begin(alloc, inputs)?;
+    for vector in 0..part_size(inputs) {
         progress.visit(alloc, inputs, vector, watcher)?;
         watcher.see(standing(
             vector + 1,
-            setting_count(inputs),
+            part_size(inputs),
             &progress.arena,
             progress.lead,
         ));
     }
     let fights = progress.arena.fights();
-    let Progress {
+    let PlainState {
         rows,
         lead,
         candidates,

@@ -14,22 +14,22 @@ use tune_template::Inputs;
 // The rows of the settings so far, the lead, and the count of candidates. `arena` is blank between
 // visits, and counts the fights played.
 #[derive(Drop)]
-pub(crate) struct Progress {
+pub(crate) struct PlainState {
     pub(crate) arena: Arena<PackedCells>,
     pub(crate) rows: Vec<Row>,
     pub(crate) lead: Option<Best>,
     pub(crate) candidates: u32,
 }
 
-impl Progress {
+impl PlainState {
     // Starts before the first setting. Reserves the rows of all settings at once.
-    pub(crate) fn begin(alloc: Global, inputs: &Inputs) -> Result<Progress, SearchFault>
+    pub(crate) fn begin(alloc: Global, inputs: &Inputs) -> Result<PlainState, SearchFault>
         ensures state { IfOk result (IsPlainState inputs.now 0) }
         ensures err { IfErr result (λ e. e ≡ SearchFault.OutOfMemory) }
     {
         let arena = Arena::<PackedCells>::try_new(alloc, inputs.rules())?;
         let rows = Vec::with_capacity(alloc, inputs.count() as usize)?;
-        Ok(Progress {
+        Ok(PlainState {
             arena,
             rows,
             lead: None,

@@ -9,29 +9,31 @@ ghost use Rattle.tune_search.specs.State.{IsCandidateAt, IsState};
 
 use crate::cache::Cache;
 use crate::candidate::{Candidate, candidate_at};
-use crate::counts::{setting_count, start_setting};
+use crate::counts::{part_size, start_setting};
 use crate::fault::SearchFault;
 use crate::fights::{Challenge, play_enough};
-use crate::lead::{copies, next_lead, take_lead};
+use crate::lead::{copies, lead_with, next_lead};
 use crate::order::{all_in_order, learn_order, sort_by_index, visited};
 use mars_core::{Arena, PackedCells};
 use std::alloc::{AllocError, Global};
 use tune_problem::{Best, Listing, Row, Watcher, fight_count};
 use tune_template::Inputs;
 
-// `arena` is blank between visits, and counts the fights played. `rows` has a row for each setting,
-// `Refused` until it is visited. `order` is that of the next setting's fights. `candidates` is the
-// count so far. `copied` is the setting that has a copy of the start setting's row. `cache` has the
-// recent settings.
 #[derive(Drop)]
 pub(crate) struct State {
+    // Blank between visits. It counts the fights played.
     pub(crate) arena: Arena<PackedCells>,
     pub(crate) start: u32,
+    // A row for each setting, `Refused` until it is visited.
     pub(crate) rows: Vec<Row>,
     pub(crate) lead: Option<Best>,
+    // The order in which the next setting plays its fights.
     pub(crate) order: Vec<u32>,
+    // The number of candidates so far.
     pub(crate) candidates: u32,
+    // The setting that has a copy of the start setting's row.
     pub(crate) copied: Option<u32>,
+    // The recent settings.
     pub(crate) cache: Cache,
 }
 
@@ -43,7 +45,7 @@ impl State {
         ensures err { IfErr result (λ e. e ≡ SearchFault.OutOfMemory) }
     {
         let arena = Arena::<PackedCells>::try_new(alloc, inputs.rules())?;
-        let rows = blank_rows(alloc, setting_count(inputs))?;
+        let rows = blank_rows(alloc, part_size(inputs))?;
         let order = all_in_order(alloc, fight_count(inputs))?;
         let cache = Cache::with_capacity(alloc, capacity)?;
         Ok(State {
@@ -85,7 +87,7 @@ impl State {
         if copies(self.start, other, vector, self.lead) {
             let row = self.rows[other as usize].copy(alloc)?;
             self.rows[vector as usize] = row;
-            self.lead = take_lead(vector, self.lead);
+            self.lead = lead_with(vector, self.lead);
             self.copied = Some(vector);
             return Ok(());
         }

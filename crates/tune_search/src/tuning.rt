@@ -1,11 +1,11 @@
 //! The search for the optimum.
-ghost use Rattle.std.specs.Prelude.{◌≡◌, ◌<◌, ◌≤◌, ℕ, None, IfOk, IfErr};
+ghost use Rattle.std.specs.Prelude.{◌≡◌, ◌≤◌, IfOk, IfErr};
 ghost use Rattle.tune_problem.specs.Problem.{problem_of};
 ghost use Rattle.tune_search.specs.Limits.{MOST_CAPACITY};
-ghost use Rattle.tune_search.specs.Found.{IsSearch};
+ghost use Rattle.tune_search.specs.Found.{IsSearch, NoneAssembles};
 
 use crate::answer::{Visited, answer_of};
-use crate::counts::setting_count;
+use crate::counts::part_size;
 use crate::fault::SearchFault;
 use crate::lead::standing;
 use crate::state::State;
@@ -40,7 +40,7 @@ pub fn search(alloc: Global, inputs: &Inputs, capacity: u32) -> Result<Found, Se
     // fought setting lists exactly the fights that the rule above asks for, and `fights` counts
     // these.
     ensures found { IfOk result (IsSearch (problem_of inputs.now) capacity) }
-    ensures none { let p = problem_of inputs.now in IfErr result (λ e. e ≡ SearchFault.NoCandidate → (v : ℕ) → v < p.count → p.warrior v ≡ None) }
+    ensures none { IfErr result (λ e. e ≡ SearchFault.NoCandidate → NoneAssembles (problem_of inputs.now)) }
 {
     watched_search(alloc, inputs, capacity, &mut Silent)
 }
@@ -59,16 +59,14 @@ pub fn watched_search<T: Watcher>(
 ) -> Result<Found, SearchFault>
     requires capacity { (1 ≤ capacity) × (capacity ≤ MOST_CAPACITY) }
 
-    // The best setting is the optimum, the rows are a valid certificate of it, the row of each
-    // fought setting lists exactly the fights that the rule above asks for, and `fights` counts
-    // these.
+    // What `search` promises.
     ensures found { IfOk result (IsSearch (problem_of inputs.now) capacity) }
-    ensures none { let p = problem_of inputs.now in IfErr result (λ e. e ≡ SearchFault.NoCandidate → (v : ℕ) → v < p.count → p.warrior v ≡ None) }
+    ensures none { IfErr result (λ e. e ≡ SearchFault.NoCandidate → NoneAssembles (problem_of inputs.now)) }
 {
     let mut state = State::begin(alloc, inputs, capacity)?;
-    for visits in 0..setting_count(inputs) {
+    for visits in 0..part_size(inputs) {
         state.visit(alloc, inputs, visits, watcher)?;
-        watcher.see(standing(visits + 1, setting_count(inputs), &state.arena, state.lead));
+        watcher.see(standing(visits + 1, part_size(inputs), &state.arena, state.lead));
     }
     let fights = state.arena.fights();
     let State {

@@ -26,7 +26,7 @@ returns-clause-none g c =
     let i = c.args.inputs.now in
     let p = problem_of i in
     let s = c.loop-visits.state in
-    let e : c.loop-visits.visits ≡ p.count = omega (arith, c.loop-visits-test.false, c.loop-visits.auto.visits-end, c.setting_count-visits-end.ensures.count) in
+    let e : c.loop-visits.visits ≡ p.count = omega (arith, c.loop-visits-test.false, c.loop-visits.auto.visits-end, c.part_size-visits-end.ensures.count) in
     let state : IsState i c.args.capacity p.count s = subst (λ (k : ℕ). IsState i c.args.capacity k s) e c.loop-visits.invariant.state in
     unanswered p c.answer_of.result s.lead c.answer_of.ensures.none
     (finds_none p (inputs_problem i) state.start_inside i.rules c.args.capacity s.rows.items s.lead s.order.items s.arena.fights s.candidates s.copied s.cache.known state.going)
@@ -36,9 +36,9 @@ returns-clause-found g c =
     let i = c.args.inputs.now in
     let p = problem_of i in
     let s = c.loop-visits.state in
-    let e : c.loop-visits.visits ≡ p.count = omega (arith, c.loop-visits-test.false, c.loop-visits.auto.visits-end, c.setting_count-visits-end.ensures.count) in
+    let e : c.loop-visits.visits ≡ p.count = omega (arith, c.loop-visits-test.false, c.loop-visits.auto.visits-end, c.part_size-visits-end.ensures.count) in
     let state : IsState i c.args.capacity p.count s = subst (λ (k : ℕ). IsState i c.args.capacity k s) e c.loop-visits.invariant.state in
-    let few : p.count ≤ MOST_SETTINGS = omega (arith, c.setting_count-visits-end.ensures.count, c.setting_count-visits-end.ensures.few) in
+    let few : p.count ≤ MOST_SETTINGS = omega (arith, c.part_size-visits-end.ensures.count, c.part_size-visits-end.ensures.few) in
     answered p (IsSearch p c.args.capacity) c.answer_of.result s.lead s.rows.items c.fights-fights.result s.candidates s.copied c.answer_of.ensures.found
     (λ version own best is. subst (λ (n : ℕ). IsSearch p c.args.capacity (made_with s.rows.items n s.candidates s.copied version best)) (sym c.fights-fights.ensures)
     (finds p (inputs_problem i) state.start_inside i.rules c.args.capacity s.rows.items s.lead s.order.items s.arena.fights s.candidates s.copied s.cache.known state.going version own best is few))

@@ -19,7 +19,7 @@ returns-clause-state c =
       capacity_is = ap (λ (m : CacheView). m.capacity) c.in_ok-cache.ensures;
       blank = subst (λ (r : RulesView). IsBlank r c.in_ok-arena.arena) c.rules.ensures c.in_ok-arena.ensures.blank;
       going = under_way_along p i.rules c.args.capacity 0 _ _ _ _ _ _ _ _ _ _ _ _ (starts p i.rules c.args.capacity)
-          (sym (c.in_ok-rows.ensures ∙ ap (λ n. replicate n Refused) c.setting_count.ensures.count)) refl
+          (sym (c.in_ok-rows.ensures ∙ ap (λ n. replicate n Refused) c.part_size.ensures.count)) refl
           (sym (c.in_ok-order.ensures ∙ ap (range_with_len 0) c.fight_count.ensures.count)) (sym c.in_ok-arena.ensures.fights)
           (sym (ap (λ (m : CacheView). m.known) c.in_ok-cache.ensures));
     }

@@ -87,7 +87,7 @@ returns-then-copies-clause-state g c =
           s.rows.items s.lead s.order.items s.arena.fights s.candidates s.copied s.cache.known c.requires.state.going
           e.warrior is.warrior_is is.rules_hold is.is_warrior is.fits u look row row_of apart)
           refl
-          (sym c.take_lead-self.ensures)
+          (sym c.lead_with-self.ensures)
           refl
           refl
           (ap (λ t. promoted (same_text t) s.cache.known) (sym text) ∙ sym (ap (λ (m : CacheView). m.known) c.in-Some-recall.ensures.known));

@@ -7,7 +7,7 @@ use Rattle.tune_problem.specs.declared.cert.Row.TheVariants.{Cap}
 use Rattle.tune_search.specs.Plays.{played}
 use Rattle.tune_search.proofs.Counted.{small_count}
 use Rattle.tune_search.proofs.Visits.{refused_visit, fought_visit, progress_along}
-use Rattle.tune_search.proofs.progress.Progress.visit.Goals as goal
+use Rattle.tune_search.proofs.progress.PlainState.visit.Goals as goal
 
 pub returns-in_default-clause-state : goal.returns-in_default-clause-state
 returns-in_default-clause-state g c =
