@@ -1,5 +1,6 @@
 -- One line at a time.
 use Rattle.std.proofs.Common.{◌≡◌, ℕ, ◌+◌, ◌≤◌, map, true, false, List, [], ◌∷◌, ◌++◌, length, Option, Some, None, refl, sym, ◌∙◌, ap, arith, append_assoc, length-append, inl, inr}
+use Rattle.std.specs.Option.{option_or}
 use Rattle.std.specs.Prelude.{◌&&◌, not, ℤ, All, option_map, option_and_then, is_some, ◌⊎◌, Result, Ok, Err, if◌then◌else◌, Bool}
 use Rattle.std.specs.Result.{result_err}
 use Rattle.std.proofs.lemmas.List.{map-append}
@@ -14,7 +15,7 @@ use Rattle.rc_instr.specs.Warrior.{IsBelow}
 use Rattle.rc_expand.specs.declared.line.LineWord.{LineWord}
 use Rattle.rc_expand.specs.declared.line.LineWord.TheVariants.{Bare, Code, Org, End, Assert}
 use Rattle.rc_expand.specs.declared.line.Line.{Line}
-use Rattle.rc_expand.specs.Names.{or_else, entry_of}
+use Rattle.rc_expand.specs.Names.{entry_of}
 use Rattle.rc_expand.specs.Heads.NameTables.{with_name}
 use Rattle.std.specs.Str.{bytes_eq}
 use Rattle.std.proofs.lemmas.Slice.Eq.{bytes_eq-Decides}
@@ -59,7 +60,7 @@ code_next End i before after rest h = ap (λ c. option_map (λ is. c ++ is) rest
 code_next Assert i before after rest h = ap (λ c. option_map (λ is. c ++ is) rest) (some_is before after h)
 
 -- a line without a fault: the first fault is that of the later lines
-fault_passed : (n : ℕ) (k : Option AsmKind) (rest : Option AsmFault) → k ≡ None → or_else (option_map (at_line n) k) rest ≡ rest
+fault_passed : (n : ℕ) (k : Option AsmKind) (rest : Option AsmFault) → k ≡ None → option_or (option_map (at_line n) k) rest ≡ rest
 fault_passed n None rest h = refl
 fault_passed n (Some e) rest h = absurd (cc)
 
@@ -145,7 +146,7 @@ module _ (source : List ℕ) (names : NameValues) where
   pub valueless : (lines : List Line) (address : ℕ) (s : Starts) (f : AsmFault) → values_fault source names address lines ≡ Some f → GiveNothing source names address s lines
   valueless [] address s f h = absurd (none_some None f refl h)
   valueless (l ∷ ls) address s f h = by_fault (fault_at source names address l) refl h (λ k r. valueless ls (code_lines_after l.word address) r f k) where
-    by_fault : (k : Option AsmKind) → fault_at source names address l ≡ k → or_else (option_map (at_line l.number) k) (values_fault source names (code_lines_after l.word address) ls) ≡ Some f
+    by_fault : (k : Option AsmKind) → fault_at source names address l ≡ k → option_or (option_map (at_line l.number) k) (values_fault source names (code_lines_after l.word address) ls) ≡ Some f
         → (values_fault source names (code_lines_after l.word address) ls ≡ Some f → (r : Starts) → GiveNothing source names (code_lines_after l.word address) r ls) → GiveNothing source names address s (l ∷ ls)
     by_fault (Some k) e h next = value_refuses l ls address s k e
     by_fault None e h next = others_refuse l ls address s (next h)
@@ -173,7 +174,7 @@ module _ (source : List ℕ) (names : NameValues) where
   pub formless : (lines : List Line) (address : ℕ) (s : Starts) (f : AsmFault) → forms_fault source lines ≡ Some f → GiveNothing source names address s lines
   formless [] address s f h = absurd (none_some None f refl h)
   formless (l ∷ ls) address s f h = by_fault (form_fault source l.word l.tokens) refl h (λ k r. formless ls (code_lines_after l.word address) r f k) where
-    by_fault : (k : Option AsmKind) → form_fault source l.word l.tokens ≡ k → or_else (option_map (at_line l.number) k) (forms_fault source ls) ≡ Some f
+    by_fault : (k : Option AsmKind) → form_fault source l.word l.tokens ≡ k → option_or (option_map (at_line l.number) k) (forms_fault source ls) ≡ Some f
         → (forms_fault source ls ≡ Some f → (r : Starts) → GiveNothing source names (code_lines_after l.word address) r ls) → GiveNothing source names address s (l ∷ ls)
     by_fault (Some k) e h next = let j = no_form l.word l.tokens address k e in value_refuses l ls address s j.0 j.1
     by_fault None e h next = others_refuse l ls address s (next h)
@@ -181,7 +182,7 @@ module _ (source : List ℕ) (names : NameValues) where
   -- lines with a fault make no warrior
   pub faulty : (lines : List Line) (f : AsmFault) → lines_fault source names lines ≡ Some f → GiveNothing source names 0 no_starts lines
   faulty lines f h = by_form (forms_fault source lines) refl h where
-    by_form : (k : Option AsmFault) → forms_fault source lines ≡ k → or_else k (values_fault source names 0 lines) ≡ Some f → GiveNothing source names 0 no_starts lines
+    by_form : (k : Option AsmFault) → forms_fault source lines ≡ k → option_or k (values_fault source names 0 lines) ≡ Some f → GiveNothing source names 0 no_starts lines
     by_form (Some g) e h = formless lines 0 no_starts g e
     by_form None e h = valueless lines 0 no_starts f h
 
@@ -195,10 +196,10 @@ after_most End address next h = omega (arith, h)
 after_most Assert address next h = omega (arith, h)
 
 -- looking up in two lists, one after the other
-found_both : {A : Type 0} (a b : List (List ℕ × A)) (name : List ℕ) → entry_of (a ++ b) name ≡ or_else (entry_of a name) (entry_of b name)
+found_both : {A : Type 0} (a b : List (List ℕ × A)) (name : List ℕ) → entry_of (a ++ b) name ≡ option_or (entry_of a name) (entry_of b name)
 found_both [] b name = refl
 found_both (e ∷ a) b name = by_name (bytes_eq name e.0) (found_both a b name) where
-  by_name : (t : Bool) → entry_of (a ++ b) name ≡ or_else (entry_of a name) (entry_of b name) → (if t then Some e.1 else entry_of (a ++ b) name) ≡ or_else (if t then Some e.1 else entry_of a name) (entry_of b name)
+  by_name : (t : Bool) → entry_of (a ++ b) name ≡ option_or (entry_of a name) (entry_of b name) → (if t then Some e.1 else entry_of (a ++ b) name) ≡ option_or (if t then Some e.1 else entry_of a name) (entry_of b name)
   by_name true h = refl
   by_name false h = h
 
@@ -216,7 +217,7 @@ kept_label f t n k r h name =
     found_both (map (λ e. (e.0, f e.1)) t) r name
     ∙ (by_name (cases_Bool (bytes_eq name n)) ∙ sym (found_both (map (λ e. (e.0, f e.1)) t) ((n, k) ∷ r) name))
   where
-    some_first : (o : Option ℕ) (x y : Option ℕ) → is_some o ≡ true → or_else o x ≡ or_else o y
+    some_first : (o : Option ℕ) (x y : Option ℕ) → is_some o ≡ true → option_or o x ≡ option_or o y
     some_first (Some z) x y h = refl
     some_first None x y h = absurd (both_ways false refl h)
 
@@ -224,7 +225,7 @@ kept_label f t n k r h name =
     some_still None g = refl
     some_still (Some z) g = refl
 
-    by_name : ((bytes_eq name n ≡ true) ⊎ (bytes_eq name n ≡ false)) → or_else (entry_of (map (λ e. (e.0, f e.1)) t) name) (entry_of r name) ≡ or_else (entry_of (map (λ e. (e.0, f e.1)) t) name) (if bytes_eq name n then Some k else entry_of r name)
+    by_name : ((bytes_eq name n ≡ true) ⊎ (bytes_eq name n ≡ false)) → option_or (entry_of (map (λ e. (e.0, f e.1)) t) name) (entry_of r name) ≡ option_or (entry_of (map (λ e. (e.0, f e.1)) t) name) (if bytes_eq name n then Some k else entry_of r name)
     by_name (inl e) =
         let same : name ≡ n = (bytes_eq-Decides name n).0 e in
         some_first (entry_of (map (λ e. (e.0, f e.1)) t) name) _ _ (ap is_some (found_among f t name) ∙ (some_still (entry_of t name) f ∙ (ap (λ x. is_some (entry_of t x)) same ∙ h)))

@@ -1,5 +1,6 @@
 -- The whole text.
 use Rattle.std.proofs.Common.{◌≡◌, ℕ, ◌-◌, ◌^◌, ◌<◌, ◌≤◌, List, length, Option, Some, None, refl, sym, ◌∙◌, ap, arith, subst, inl, inr}
+use Rattle.std.specs.Option.{option_or}
 use Rattle.std.specs.Prelude.{ℤ, negsuc, ◌↔◌, ◌⊎◌, ◌≢◌, pos, All, option_map, Result, Ok, Err, IfErr}
 use Rattle.std.proofs.lemmas.Bool.{cases_lt}
 use Rattle.rc_instr.specs.declared.instruction.Instruction.{Instruction}
@@ -10,7 +11,7 @@ use Rattle.rc_instr.specs.Warrior.{WarriorView, warrior_view, IsWarrior, IsBelow
 use Rattle.rc_instr.specs.WarriorRefusal.{IsWarriorError}
 use Rattle.rc_expand.specs.declared.fault.ExpandFault.{ExpandFault}
 use Rattle.rc_expand.specs.declared.line.Line.{Line}
-use Rattle.rc_expand.specs.Names.{Table, entry_of, or_else}
+use Rattle.rc_expand.specs.Names.{Table, entry_of}
 use Rattle.rc_expand.specs.Expansion.{IsExpansion}
 use Rattle.rc_asm.specs.declared.fault.AsmKind.TheVariants.{OutOfMemory}
 use Rattle.rc_asm.specs.declared.starts.Starts.{Starts}
@@ -131,11 +132,11 @@ lines_refused source constants rules lines (Ok x) s e h = h
 lines_refused source constants rules lines (Err f) s e h = λ m. inr (inr (s, lines, e, h m))
 
 -- a malformed line comes before any other fault
-pub form_first : (source : List ℕ) (names : NameValues) (lines : List Line) (found f : AsmFault) → Some f ≡ or_else (forms_fault source lines) (Some found)
+pub form_first : (source : List ℕ) (names : NameValues) (lines : List Line) (found f : AsmFault) → Some f ≡ option_or (forms_fault source lines) (Some found)
     → (found.kind ≢ OutOfMemory → forms_fault source lines ≡ None → IsFaultOfLines source names lines found) → f.kind ≢ OutOfMemory → IsFaultOfLines source names lines f
 form_first source names lines found f e h m = by_form (forms_fault source lines) refl e where
-  by_form : (k : Option AsmFault) → forms_fault source lines ≡ k → Some f ≡ or_else k (Some found) → IsFaultOfLines source names lines f
-  by_form (Some g) p q = inl (ap (λ k. or_else k (values_fault source names 0 lines)) p ∙ sym q)
+  by_form : (k : Option AsmFault) → forms_fault source lines ≡ k → Some f ≡ option_or k (Some found) → IsFaultOfLines source names lines f
+  by_form (Some g) p q = inl (ap (λ k. option_or k (values_fault source names 0 lines)) p ∙ sym q)
   by_form None p q =
       let s : found ≡ f = sym (some_is f found q) in
       subst (λ g. IsFaultOfLines source names lines g) s (h (λ r. m (ap (λ (g : AsmFault). g.kind) (sym s) ∙ r)) p)

@@ -1,5 +1,6 @@
 -- The first fault of a text: pass by pass, and within a pass line by line.
 use Rattle.std.specs.Prelude.{◌≡◌, ◌≢◌, ◌⊎◌, ◌≤◌, ◌<◌, ℕ, ℤ, pos, List, [], ◌∷◌, length, Option, Some, None, option_map, Result, Ok, Err, if◌then◌else◌}
+use Rattle.std.specs.Option.{option_or}
 use Rattle.std.specs.Result.{result_err}
 use Rattle.rc_text.specs.declared.token.Token.{Token}
 use Rattle.rc_text.specs.declared.fault.EvalFault.{EvalFault}
@@ -13,7 +14,7 @@ use Rattle.rc_expand.specs.declared.fault.ExpandKind.TheVariants.{OutOfMemory as
 use Rattle.rc_expand.specs.declared.line.LineWord.{LineWord}
 use Rattle.rc_expand.specs.declared.line.LineWord.TheVariants.{Code, Org, End, Assert}
 use Rattle.rc_expand.specs.declared.line.Line.{Line}
-use Rattle.rc_expand.specs.Names.{Table, or_else}
+use Rattle.rc_expand.specs.Names.{Table}
 use Rattle.rc_expand.specs.Expansion.{IsExpansion, expansion_of}
 use Rattle.rc_asm.specs.declared.fault.AsmKind.{AsmKind}
 use Rattle.rc_asm.specs.declared.fault.AsmKind.TheVariants.{Expand, MissingOperand, Value, AssertFailed, Warrior, TextTooLong}
@@ -37,7 +38,7 @@ form_fault source _ ts = None
 -- the first line with such a fault
 abbrev pub forms_fault : List ℕ → List Line → Option AsmFault
 forms_fault source [] = None
-forms_fault source (l ∷ ls) = or_else (option_map (at_line l.number) (form_fault source l.word l.tokens)) (forms_fault source ls)
+forms_fault source (l ∷ ls) = option_or (option_map (at_line l.number) (form_fault source l.word l.tokens)) (forms_fault source ls)
 
 -- an assertion without a value, or with the value 0
 abbrev pub assertion_fault : Result ℤ EvalFault → Option AsmKind
@@ -62,12 +63,12 @@ module _ (source : List ℕ) (names : NameValues) where
   abbrev pub values_fault : ℕ → List Line → Option AsmFault
   values_fault address [] = None
   values_fault address (l ∷ ls) =
-      or_else (option_map (at_line l.number) (value_fault l.word l.tokens (instruction_at source names address l.tokens) (value_at source names address 0 l.tokens)))
+      option_or (option_map (at_line l.number) (value_fault l.word l.tokens (instruction_at source names address l.tokens) (value_at source names address 0 l.tokens)))
       (values_fault (code_lines_after l.word address) ls)
 
   -- the first fault of the lines, if there is one
   abbrev pub lines_fault : List Line → Option AsmFault
-  lines_fault lines = or_else (forms_fault source lines) (values_fault 0 lines)
+  lines_fault lines = option_or (forms_fault source lines) (values_fault 0 lines)
 
 -- the last check: no instruction, too many, or a start outside the code
 abbrev pub IsWarriorFault : WarriorError → RulesView → List Instruction → Starts → Type 0

@@ -1,6 +1,7 @@
 -- The values of names in expressions (labels: 1994 draft; predefined names: pMARS). The address of
 -- a line is the number of lines of code before it.
 use Rattle.std.specs.Prelude.{ℕ, ◌+◌, ℤ, pos, ◌-ℤ◌, List, [], ◌∷◌, ◌++◌, map, Option, Some, Result, if◌then◌else◌, option_map}
+use Rattle.std.specs.Option.{option_or}
 use Rattle.std.specs.Str.{bytes_eq}
 use Rattle.rc_text.specs.declared.token.Token.{Token}
 use Rattle.rc_text.specs.declared.fault.EvalFault.{EvalFault}
@@ -10,7 +11,7 @@ use Rattle.rc_instr.specs.Rules.{RulesView}
 use Rattle.rc_expand.specs.declared.line.LineWord.{LineWord}
 use Rattle.rc_expand.specs.declared.line.LineWord.TheVariants.{Code}
 use Rattle.rc_expand.specs.declared.line.Line.{Line}
-use Rattle.rc_expand.specs.Names.{Table, or_else, given_names, CURLINE}
+use Rattle.rc_expand.specs.Names.{Table, given_names, CURLINE}
 
 -- labels with their addresses
 abbrev pub Labels : Type 0
@@ -39,7 +40,7 @@ pub record NameValues : Type 0 where
 -- whose address is counted from `base`
 unfoldable pub stands_for : NameValues → (address base : ℕ) → List ℕ → Option ℤ
 stands_for names address base name =
-    or_else (given_names names.constants names.rules name)
+    option_or (given_names names.constants names.rules name)
     (if bytes_eq name CURLINE then Some (pos address) else option_map (λ a. pos a -ℤ pos base) (names.address name))
 
 -- the value of an expression in such a line, or its first fault

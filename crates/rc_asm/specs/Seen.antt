@@ -1,7 +1,7 @@
 -- The values that contracts of private functions see of borrowed types.
 use Rattle.std.specs.Prelude.{ℕ, List, option_map, IfSome, All}
 use Rattle.rc_text.specs.Symbols.{LiesIn}
-use Rattle.rc_expand.specs.Names.{table_of, entry_of}
+use Rattle.rc_expand.specs.Names.{table_in, entry_of}
 use Rattle.rc_asm.specs.declared.shape.Sides.{Sides as Borrowed}
 use Rattle.rc_asm.specs.declared.shape.Shape.{Shape as BorrowedShape}
 use Rattle.rc_asm.specs.declared.scope.Context.{Context}
@@ -20,4 +20,4 @@ pub record SidesLie (source : List ℕ) (s : Borrowed) : Type 0 where
   pub b : IfSome s.b (λ p. All (LiesIn source) p.now)
 
 abbrev pub seen_names : Context → NameValues
-seen_names k = record { constants = table_of k.constants.now.names.now k.constants.now.values.now; rules = k.rules.now; address = entry_of k.labels.now }
+seen_names k = record { constants = table_in k.constants.now; rules = k.rules.now; address = entry_of k.labels.now }

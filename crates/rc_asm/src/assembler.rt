@@ -1,6 +1,7 @@
 //! The assembler: expansion, the values of the lines, their forms if that fails, and the warrior.
 ghost use Rattle.std.specs.Prelude.{◌≡◌, ◌≢◌, ◌↔◌, ◌<◌, ◌^◌, ◌-◌, ℕ, pos, All, IfErr, IfOk, MatchResult, Some, None, Ok, Err};
-ghost use Rattle.rc_expand.specs.Names.{table_of, or_else};
+ghost use Rattle.std.specs.Option.{option_or};
+ghost use Rattle.rc_expand.specs.Names.{table_in};
 ghost use Rattle.rc_expand.specs.Expansion.{LineLies};
 ghost use Rattle.rc_instr.specs.Warrior.{IsBelow, WarriorView, IsWarrior, Fits};
 ghost use Rattle.rc_instr.specs.Rules.{IsRules};
@@ -58,16 +59,16 @@ pub fn assemble(
     rules: &Rules,
 ) -> Result<Warrior, AsmFault>
     // Unless memory runs out, the result is the warrior of the definition, or the first fault.
-    ensures outcome { MatchResult result (λ w. outcome_of source.now (table_of constants.now.names.now constants.now.values.now) rules.now ≡ Ok w)
-        (λ f. f.kind ≢ OutOfMemory → outcome_of source.now (table_of constants.now.names.now constants.now.values.now) rules.now ≡ Err f) }
-    ensures warrior { IfOk result (Assembles source.now (table_of constants.now.names.now constants.now.values.now) rules.now) }
+    ensures outcome { MatchResult result (λ w. outcome_of source.now (table_in constants.now) rules.now ≡ Ok w)
+        (λ f. f.kind ≢ OutOfMemory → outcome_of source.now (table_in constants.now) rules.now ≡ Err f) }
+    ensures warrior { IfOk result (Assembles source.now (table_in constants.now) rules.now) }
     ensures is_warrior { IfOk result IsWarrior }
     ensures fits { IfOk result (Fits rules.now) }
 
     // The same in other words: a text is refused only if it assembles to no warrior, and the fault
     // is the first one.
-    ensures refused { IfErr result (λ f. f.kind ≢ OutOfMemory → (w : WarriorView) → Assembles source.now (table_of constants.now.names.now constants.now.values.now) rules.now w → ⊥) }
-    ensures fault { IfErr result (λ f. f.kind ≢ OutOfMemory → IsAsmFault source.now (table_of constants.now.names.now constants.now.values.now) rules.now f) }
+    ensures refused { IfErr result (λ f. f.kind ≢ OutOfMemory → (w : WarriorView) → Assembles source.now (table_in constants.now) rules.now w → ⊥) }
+    ensures fault { IfErr result (λ f. f.kind ≢ OutOfMemory → IsAsmFault source.now (table_in constants.now) rules.now f) }
     ensures memory { IfErr result (λ f. f.kind ≡ OutOfMemory → f.line ≡ 0) }
 {
     if source.len() > MOST_BYTES {
@@ -135,7 +136,7 @@ fn assemble_with(
 // Returns the fault of the first line that is malformed, or else `found`.
 fn first_fault(source: &[u8], lines: &[Line], found: AsmFault) -> AsmFault
     requires lines { All (LineLies source.now) lines.now }
-    ensures fault { Some result ≡ or_else (forms_fault source.now lines.now) (Some found) }
+    ensures fault { Some result ≡ option_or (forms_fault source.now lines.now) (Some found) }
     ensures memory { (found.kind ≡ OutOfMemory → found.line ≡ 0) → result.kind ≡ OutOfMemory → result.line ≡ 0 }
 {
     match check_forms(source, lines) {
@@ -154,11 +155,11 @@ fn assemble_lines(
     lines: &[Line],
 ) -> Result<Warrior, AsmFault>
     requires lines { All (LineLies source.now) lines.now }
-    ensures made { IfOk result (IsMadeOf source.now (names_of source.now (table_of constants.now.names.now constants.now.values.now) rules.now lines.now) lines.now) }
+    ensures made { IfOk result (IsMadeOf source.now (names_of source.now (table_in constants.now) rules.now lines.now) lines.now) }
     ensures warrior { IfOk result IsWarrior }
     ensures fits { IfOk result (Fits rules.now) }
     ensures refused { IfErr result (λ f. f.kind ≢ OutOfMemory →
-        IsFaultOfLines source.now (names_of source.now (table_of constants.now.names.now constants.now.values.now) rules.now lines.now) lines.now f) }
+        IsFaultOfLines source.now (names_of source.now (table_in constants.now) rules.now lines.now) lines.now f) }
     ensures memory { IfErr result (λ f. f.kind ≡ OutOfMemory → f.line ≡ 0) }
 {
     let labels = Labels::of_lines(alloc, source, lines)?;
