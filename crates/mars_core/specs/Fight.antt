@@ -1,6 +1,7 @@
 -- The outcome of a fight: its points (pMARS, for two warriors) and its turns.
-use Rattle.std.specs.Prelude.{◌≡◌, ℕ, zero, suc, ◌*◌, ◌<◌, ◌≤◌, Bool, true, false, ◌||◌, nat_lt, ◌==◌, if◌then◌else◌, length, ◌⊎◌}
-use Rattle.mars_core.specs.State.{State, play_of}
+use Rattle.std.specs.Prelude.{◌≡◌, ℕ, zero, suc, ◌*◌, ◌<◌, ◌≤◌, List, Bool, true, false, ◌||◌, nat_lt, ◌==◌, if◌then◌else◌, length, ◌⊎◌}
+use Rattle.rc_instr.specs.declared.instruction.Instruction.{Instruction}
+use Rattle.mars_core.specs.State.{State, seen_from, play_of}
 use Rattle.mars_core.specs.declared.side.Side.{Side}
 use Rattle.mars_core.specs.declared.arena.Outcome.{Outcome}
 
@@ -21,6 +22,16 @@ points_in s = if length s.opponent == 0 then 3 else if length s.candidate == 0 t
 -- A fight takes turns until a side has no task, and at most two for each cycle.
 unfoldable pub turns_of : ℕ → State → Side → ℕ → ℕ
 turns_of limit start first cycles = least (λ k. is_over (play_of limit start first k)) (2 * cycles)
+
+-- From this core and these tasks so many turns are made within the cycles, whichever side has the
+-- tasks `mine` and moves first.
+abbrev pub AreTurns : (limit : ℕ) → List Instruction → (mine theirs : List ℕ) → (cycles turns : ℕ) → Type 0
+AreTurns limit core mine theirs cycles turns = (first : Side) → turns ≡ turns_of limit (seen_from first core mine theirs) first cycles
+
+-- These turns leave another core and other tasks.
+abbrev pub TurnsLeave : (limit : ℕ) → List Instruction → (mine theirs : List ℕ) → (turns : ℕ) → List Instruction → (my_new their_new : List ℕ) → Type 0
+TurnsLeave limit core mine theirs turns core_new my_new their_new =
+    (first : Side) → seen_from first core_new my_new their_new ≡ play_of limit (seen_from first core mine theirs) first turns
 
 -- The points are read off the state after these turns.
 unfoldable pub outcome_of : ℕ → State → Side → ℕ → Outcome

@@ -1,9 +1,7 @@
 //! The loop of a fight: the sides take turns until one of them has no task.
 ghost use Rattle.std.specs.Prelude.{◌≡◌, ◌+◌, ◌*◌, ◌≤◌, length};
 ghost use Rattle.mars_core.specs.Core.{IsCore, AreTasks};
-ghost use Rattle.mars_core.specs.State.{seen_from, play_of};
-ghost use Rattle.mars_core.specs.Fight.{turns_of};
-ghost use Rattle.mars_core.specs.declared.side.Side.{Side};
+ghost use Rattle.mars_core.specs.Fight.{AreTurns, TurnsLeave};
 
 use crate::cells::Cells;
 use crate::snapshot::Snapshot;
@@ -32,12 +30,8 @@ fn alternate<C: Cells>(
     requires theirs { AreTasks size theirs.old.items }
     requires room { theirs.old.capacity ≡ mine.old.capacity }
     requires cycles { cycles ≤ 1000000 }
-
-    // `mine` may be either side, so both clauses hold for every side that moves first.
-    ensures turns { (first : Side) → result ≡ turns_of mine.old.capacity (seen_from first (C.items cells.old) mine.old.items theirs.old.items) first cycles }
-    ensures state { (first : Side) → seen_from first (C.items cells.new) mine.new.items theirs.new.items
-        ≡ play_of mine.old.capacity (seen_from first (C.items cells.old) mine.old.items theirs.old.items) first result }
-
+    ensures turns { AreTurns mine.old.capacity (C.items cells.old) mine.old.items theirs.old.items cycles result }
+    ensures state { TurnsLeave mine.old.capacity (C.items cells.old) mine.old.items theirs.old.items result (C.items cells.new) mine.new.items theirs.new.items }
     ensures core { IsCore size (C.items cells.new) }
     ensures mine { AreTasks size mine.new.items × (mine.new.capacity ≡ mine.old.capacity) }
     ensures theirs { AreTasks size theirs.new.items × (theirs.new.capacity ≡ theirs.old.capacity) }
@@ -63,12 +57,8 @@ fn take_turns<C: Cells>(
     requires theirs { AreTasks size theirs.old.items }
     requires room { theirs.old.capacity ≡ mine.old.capacity }
     requires cycles { cycles ≤ 1000000 }
-
-    // `mine` may be either side, so both clauses hold for every side that moves first.
-    ensures turns { (first : Side) → result.1 ≡ turns_of mine.old.capacity (seen_from first (C.items cells) mine.old.items theirs.old.items) first cycles }
-    ensures state { (first : Side) → seen_from first (C.items result.0) mine.new.items theirs.new.items
-        ≡ play_of mine.old.capacity (seen_from first (C.items cells) mine.old.items theirs.old.items) first result.1 }
-
+    ensures turns { AreTurns mine.old.capacity (C.items cells) mine.old.items theirs.old.items cycles result.1 }
+    ensures state { TurnsLeave mine.old.capacity (C.items cells) mine.old.items theirs.old.items result.1 (C.items result.0) mine.new.items theirs.new.items }
     ensures core { IsCore size (C.items result.0) }
     ensures mine { AreTasks size mine.new.items × (mine.new.capacity ≡ mine.old.capacity) }
     ensures theirs { AreTasks size theirs.new.items × (theirs.new.capacity ≡ theirs.old.capacity) }
@@ -109,12 +99,8 @@ pub(crate) fn decide<C: Cells>(
     requires room { theirs.old.capacity ≡ mine.old.capacity }
     requires snapshot { length snapshot.old.core ≡ size }
     requires cycles { cycles ≤ 1000000 }
-
-    // `mine` may be either side, so both clauses hold for every side that moves first.
-    ensures turns { (first : Side) → result ≡ turns_of mine.old.capacity (seen_from first (C.items cells.old) mine.old.items theirs.old.items) first cycles }
-    ensures state { (first : Side) → seen_from first (C.items cells.new) mine.new.items theirs.new.items
-        ≡ play_of mine.old.capacity (seen_from first (C.items cells.old) mine.old.items theirs.old.items) first result }
-
+    ensures turns { AreTurns mine.old.capacity (C.items cells.old) mine.old.items theirs.old.items cycles result }
+    ensures state { TurnsLeave mine.old.capacity (C.items cells.old) mine.old.items theirs.old.items result (C.items cells.new) mine.new.items theirs.new.items }
     ensures core { IsCore size (C.items cells.new) }
     ensures mine { AreTasks size mine.new.items × (mine.new.capacity ≡ mine.old.capacity) }
     ensures theirs { AreTasks size theirs.new.items × (theirs.new.capacity ≡ theirs.old.capacity) }
