@@ -260,10 +260,7 @@ fn read_items(alloc: Global, bytes: &[u8]) -> Result<Option<Vec<(u32, u8)>>, Out
     let Some((first, rest)) = item_at(bytes) else {
         return Ok(None);
     };
-    match read_others(alloc, first, rest)? {
-        Some(items) => Ok(Some(items)),
-        None => Ok(None),
-    }
+    read_others(alloc, first, rest)
 }
 
 // A comparison of its own, so that its fact is in the form that the callers need.
