@@ -26,5 +26,5 @@ abbrev pub IsPlain : List Fight → Type 0
 IsPlain fights = All (λ (f : Fight). f.weight ≡ 1) fights
 
 -- what a win in every fight gives: 3 points times the weight, summed
-unfoldable pub greatest_points : List Fight → ℕ
-greatest_points fights = sum_by (λ (f : Fight). 3 * f.weight) fights
+unfoldable pub greatest_total : List Fight → ℕ
+greatest_total fights = sum_by (λ (f : Fight). 3 * f.weight) fights

@@ -19,12 +19,9 @@ names_fight a b c = bytes_eq a (codes "opponent") && bytes_eq b (codes "position
 
 -- what a header says of the fields: three, or four with a weight. None if it is no header.
 abbrev pub columns_of : Fields → Option Columns
-columns_of [] = None
-columns_of (a ∷ []) = None
-columns_of (a ∷ b ∷ []) = None
 columns_of (a ∷ b ∷ c ∷ []) = if names_fight a b c then Some Plain else None
 columns_of (a ∷ b ∷ c ∷ d ∷ []) = if names_fight a b c && bytes_eq d (codes "weight") then Some Weighted else None
-columns_of (a ∷ b ∷ c ∷ d ∷ e ∷ more) = None
+columns_of _ = None
 
 -- the first record is the header
 abbrev pub header_of : List Fields → Option Columns
@@ -44,9 +41,8 @@ position_of rules (Some number) =
 
 -- who moves first: c for the candidate, o for the opponent
 abbrev pub mover_named : List ℕ → Result Side ScheduleFaultKind
-mover_named [] = Err BadFirst
 mover_named (x ∷ []) = if x == byte "c" then Ok Candidate else if x == byte "o" then Ok Opponent else Err BadFirst
-mover_named (x ∷ y ∷ more) = Err BadFirst
+mover_named _ = Err BadFirst
 
 -- a weight from 1 to `MOST_WEIGHT`
 abbrev pub weight_of : Option ℕ → Result ℕ ScheduleFaultKind
@@ -63,22 +59,15 @@ fight_made (Ok opponent) (Ok position) (Ok first) (Ok weight) = Ok (record { opp
 
 -- the fight of a record without a weight, which has three fields: it counts once
 abbrev pub plain_fight : RulesView → ℕ → Fields → Result Fight ScheduleFaultKind
-plain_fight rules opponents [] = Err FieldCount
-plain_fight rules opponents (a ∷ []) = Err FieldCount
-plain_fight rules opponents (a ∷ b ∷ []) = Err FieldCount
 plain_fight rules opponents (a ∷ b ∷ c ∷ []) =
     fight_made (opponent_of opponents (padded_decimal a)) (position_of rules (padded_decimal b)) (mover_named c) (Ok 1)
-plain_fight rules opponents (a ∷ b ∷ c ∷ d ∷ more) = Err FieldCount
+plain_fight rules opponents _ = Err FieldCount
 
 -- the fight of a record with a weight, which has four fields
 abbrev pub weighted_fight : RulesView → ℕ → Fields → Result Fight ScheduleFaultKind
-weighted_fight rules opponents [] = Err FieldCount
-weighted_fight rules opponents (a ∷ []) = Err FieldCount
-weighted_fight rules opponents (a ∷ b ∷ []) = Err FieldCount
-weighted_fight rules opponents (a ∷ b ∷ c ∷ []) = Err FieldCount
 weighted_fight rules opponents (a ∷ b ∷ c ∷ d ∷ []) =
     fight_made (opponent_of opponents (padded_decimal a)) (position_of rules (padded_decimal b)) (mover_named c) (weight_of (padded_decimal d))
-weighted_fight rules opponents (a ∷ b ∷ c ∷ d ∷ e ∷ more) = Err FieldCount
+weighted_fight rules opponents _ = Err FieldCount
 
 -- the fight of a record with the fields that the header names, or what is wrong with it
 unfoldable pub fight_of : RulesView → ℕ → Columns → Fields → Result Fight ScheduleFaultKind

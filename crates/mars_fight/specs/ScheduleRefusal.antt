@@ -8,7 +8,7 @@ use Rattle.mars_fight.specs.declared.fight.Fight.{Fight}
 use Rattle.mars_fight.specs.declared.record.Columns.{Columns}
 use Rattle.mars_fight.specs.declared.fault.ScheduleFault.{ScheduleFault}
 use Rattle.mars_fight.specs.declared.fault.ScheduleFaultKind.{ScheduleFaultKind}
-use Rattle.mars_fight.specs.declared.fault.ScheduleFaultKind.TheVariants.{Header, FieldCount, BadNumber, NoSuchOpponent, BadPosition, BadFirst, Empty, TooMany, OutOfMemory, BadWeight}
+use Rattle.mars_fight.specs.declared.fault.ScheduleFaultKind.TheVariants.{Header, Empty, TooMany, OutOfMemory}
 
 -- the header names these columns; it and then records of these fights come before the records that
 -- are left
@@ -49,15 +49,10 @@ pub record IsHeaderAlone (records : List Fields) : Type 0 where
 -- what a fault says of the records. Out of memory says nothing of them.
 abbrev pub IsScheduleFault : RulesView → ℕ → List Fields → ℕ → ScheduleFaultKind → Type 0
 IsScheduleFault rules opponents records row Header = (row ≡ 0) × (header_of records ≡ None)
-IsScheduleFault rules opponents records row FieldCount = IsFirstWrong rules opponents records row FieldCount
-IsScheduleFault rules opponents records row BadNumber = IsFirstWrong rules opponents records row BadNumber
-IsScheduleFault rules opponents records row NoSuchOpponent = IsFirstWrong rules opponents records row NoSuchOpponent
-IsScheduleFault rules opponents records row BadPosition = IsFirstWrong rules opponents records row BadPosition
-IsScheduleFault rules opponents records row BadFirst = IsFirstWrong rules opponents records row BadFirst
 IsScheduleFault rules opponents records row Empty = (row ≡ 0) × IsHeaderAlone records
 IsScheduleFault rules opponents records row TooMany = IsOneTooMany rules opponents records row
 IsScheduleFault rules opponents records row OutOfMemory = row ≡ 0
-IsScheduleFault rules opponents records row BadWeight = IsFirstWrong rules opponents records row BadWeight
+IsScheduleFault rules opponents records row kind = IsFirstWrong rules opponents records row kind
 
 abbrev pub no_memory : ScheduleFault
 no_memory = record { row = 0; kind = OutOfMemory }

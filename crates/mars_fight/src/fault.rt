@@ -6,24 +6,34 @@ use thiserror::Error;
 /// Why a schedule, or one of its records, is refused.
 #[derive(Clone, Copy, Debug, PartialEq, Eq, Error)]
 pub enum ScheduleFaultKind {
+    /// The first record is not a header, or there is none.
     #[error("first record must be opponent,position,first or opponent,position,first,weight")]
     Header,
+    /// The record does not have as many fields as the header.
     #[error("expected as many fields as in the first record")]
     FieldCount,
+    /// The opponent, the position or the weight is not 1 to 9 digits.
     #[error("expected 1 to 9 digits and nothing else")]
     BadNumber,
+    /// The index is not below the number of opponents.
     #[error("no such opponent")]
     NoSuchOpponent,
+    /// The position is below the distance, or above the core size minus the distance.
     #[error("position closer than the distance")]
     BadPosition,
+    /// The first mover is neither `c` nor `o`.
     #[error("first mover must be c or o")]
     BadFirst,
+    /// Nothing comes after the header.
     #[error("no fights")]
     Empty,
+    /// A record comes after 10000 fights.
     #[error("more than 10000 fights")]
     TooMany,
+    /// An allocation failed.
     #[error("out of memory")]
     OutOfMemory,
+    /// The weight is not 1 to 1000.
     #[error("weight must be from 1 to 1000")]
     BadWeight,
 }

@@ -3,7 +3,7 @@ ghost use Rattle.std.specs.Prelude.{◌≡◌, ◌≢◌, ℕ, ◌<◌, ◌≤�
 ghost use Rattle.rc_instr.specs.Rules.{RulesView};
 ghost use Rattle.mars_fight.specs.Records.{records_of};
 ghost use Rattle.mars_fight.specs.Limits.{MOST_FIGHTS, MOST_WEIGHT};
-ghost use Rattle.mars_fight.specs.Listed.{IsFight, IsPlain, greatest_points};
+ghost use Rattle.mars_fight.specs.Listed.{IsFight, IsPlain, greatest_total};
 ghost use Rattle.mars_fight.specs.Schedule.{fights_of, header_of, scheduled};
 ghost use Rattle.mars_fight.specs.ScheduleRefusal.{IsScheduleFault};
 
@@ -73,7 +73,7 @@ impl Schedule {
         ensures fault { IfErr result (λ e. IsScheduleFault rules.now opponents (records_of bytes.now) e.row e.kind) }
 
         // What is read fits.
-        ensures placed { IfOk result (λ s. All (IsFight rules.now opponents) s) }
+        ensures fit { IfOk result (λ s. All (IsFight rules.now opponents) s) }
     {
         let fights = read_fights(alloc, bytes, opponents, rules)?;
         Ok(Schedule { fights })
@@ -106,9 +106,9 @@ impl Schedule {
     }
 
     /// Returns the greatest total, 3 times the sum of the weights: 3 to 30000000.
-    #[tactic(auto, unfolding(crate::specs::Listed::greatest_points))]
+    #[tactic(auto, unfolding(crate::specs::Listed::greatest_total))]
     pub fn greatest(&self) -> u32
-        ensures greatest { result ≡ greatest_points self.now }
+        ensures greatest { result ≡ greatest_total self.now }
         ensures small { result ≤ 3 * MOST_WEIGHT * length self.now }
     {
         let mut greatest: u32 = 0;

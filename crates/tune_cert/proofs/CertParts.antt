@@ -4,7 +4,7 @@ use Rattle.std.proofs.lemmas.Fmt.{decimal_injective}
 use Rattle.std.proofs.lemmas.Option.{slice_get_within}
 use Rattle.mars_fight.specs.Records.{Fields}
 use Rattle.tune_cert.specs.CertText.{rows_fields, count_fields, best_fields, cert_fields}
-use Rattle.tune_cert.specs.Spelling.{IsNumber, IsVersion, Spells, HasForm, IsMalformed, IsReadRefusal}
+use Rattle.tune_cert.specs.Spelling.{FitsU32, IsVersion, Spells, HasForm, IsMalformed, IsReadRefusal}
 use Rattle.tune_cert.specs.Steps.{AreRows, HasRow, IsBadCount, IsBadBest, IsBadRow}
 use Rattle.tune_problem.specs.declared.cert.Cert.{Cert}
 use Rattle.tune_cert.specs.declared.fault.ReadFault.{ReadFault}
@@ -12,7 +12,7 @@ use Rattle.tune_cert.specs.declared.fault.ReadFault.TheVariants.{Malformed, OutO
 
 -- what was read is a certificate
 pub spelled : (records rest behind : List Fields) (c : Cert) → records ≡ count_fields c.version c.count ∷ rest → rest ≡ best_fields c.best c.total ∷ behind
-    → IsVersion c.version → IsNumber c.count → IsNumber c.best → IsNumber c.total → AreRows 0 behind c.rows → Spells records c
+    → IsVersion c.version → FitsU32 c.count → FitsU32 c.best → FitsU32 c.total → AreRows 0 behind c.rows → Spells records c
 unfolding cert_fields
 spelled records rest behind c e f v a b t r = record {
   cert = record { version = v; count = a; best = b; total = t; rows = r.each; few = omega (arith, r.few) };
@@ -32,7 +32,7 @@ version_small : (n : ℕ) → IsVersion n → n < 2 ^ 32
 version_small n h = elim h [ inl a ↦ omega arith | inr b ↦ omega arith ]
 
 -- what comes behind the first record, and its version and count
-pub after_count : (records rest : List Fields) (version count : ℕ) (c : Cert) → IsVersion version → IsNumber count → records ≡ count_fields version count ∷ rest → Spells records c
+pub after_count : (records rest : List Fields) (version count : ℕ) (c : Cert) → IsVersion version → FitsU32 count → records ≡ count_fields version count ∷ rest → Spells records c
     → (version ≡ c.version) × (count ≡ c.count) × (rest ≡ best_fields c.best c.total ∷ rows_fields c.rows 0)
 unfolding cert_fields
 after_count records rest version count c v small e s =
@@ -42,13 +42,13 @@ after_count records rest version count c v small e s =
     let other = version_small c.version s.cert.version in
     (decimal_injective version c.version (omega arith) (omega arith) t.0, decimal_injective count c.count (omega arith) (omega arith) t.1, t.2)
 
-pub best_fault : (records rest : List Fields) (version count : ℕ) (e : ReadFault) (c : Cert) → IsVersion version → IsNumber count → records ≡ count_fields version count ∷ rest → Spells records c → IsBadBest rest e → e ≡ OutOfMemory
+pub best_fault : (records rest : List Fields) (version count : ℕ) (e : ReadFault) (c : Cert) → IsVersion version → FitsU32 count → records ≡ count_fields version count ∷ rest → Spells records c → IsBadBest rest e → e ≡ OutOfMemory
 best_fault records rest version count OutOfMemory c v small at s h = refl
 best_fault records rest version count (Malformed row) c v small at s h =
     absurd (h.1 c.best c.total s.cert.best s.cert.total (ap (λ (l : List Fields). slice_get l 0) (after_count records rest version count c v small at s).2))
 
 -- what comes behind the second record, and its numbers
-pub after_best : (records rest behind : List Fields) (version count best total : ℕ) (c : Cert) → IsVersion version → IsNumber count → IsNumber best → IsNumber total
+pub after_best : (records rest behind : List Fields) (version count best total : ℕ) (c : Cert) → IsVersion version → FitsU32 count → FitsU32 best → FitsU32 total
     → records ≡ count_fields version count ∷ rest → rest ≡ best_fields best total ∷ behind → Spells records c
     → (version ≡ c.version) × (count ≡ c.count) × (best ≡ c.best) × (total ≡ c.total) × AreRows 0 behind c.rows
 after_best records rest behind version count best total c v p q r e f s =

@@ -6,7 +6,7 @@ use Rattle.std.proofs.lemmas.Fmt.{decimal_injective}
 use Rattle.std.proofs.lemmas.List.Elements.{All-head, All-tail}
 use Rattle.mars_fight.specs.Records.{Fields}
 use Rattle.tune_cert.specs.CertText.{item_text, spaced_text, list_text, kind_text, last_text, rows_fields, best_fields, cert_fields}
-use Rattle.tune_cert.specs.Spelling.{IsNumber, IsItem, IsRow, Spells}
+use Rattle.tune_cert.specs.Spelling.{FitsU32, IsItem, IsRow, Spells}
 use Rattle.tune_problem.specs.declared.cert.Row.{Row}
 use Rattle.tune_problem.specs.declared.cert.Row.TheVariants.{Refused, Same, Cap}
 use Rattle.tune_problem.specs.declared.cert.Cert.{Cert}
@@ -15,7 +15,7 @@ use Rattle.tune_cert.proofs.ItemText.{fine_parts}
 use Rattle.tune_cert.proofs.Spaced.{dash_only}
 use Rattle.tune_cert.proofs.CertParts.{after_best}
 
-one_number : (n m : ℕ) → IsNumber n → IsNumber m → decimal n ≡ decimal m → n ≡ m
+one_number : (n m : ℕ) → FitsU32 n → FitsU32 m → decimal n ≡ decimal m → n ≡ m
 one_number n m a b e =
     let p : n < 2 ^ 32 = a in
     let q : m < 2 ^ 32 = b in

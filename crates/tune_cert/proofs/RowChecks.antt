@@ -6,9 +6,9 @@ use Rattle.std.proofs.lemmas.List.FromFn.{length-range_with_len}
 use Rattle.rc_instr.specs.Warrior.{WarriorView}
 use Rattle.tune_problem.specs.Problem.{Problem, IsProblem}
 use Rattle.tune_problem.specs.Optimum.{most_besides, cap_of, all_fights}
-use Rattle.tune_problem.specs.Valid.{numbers, IsCapRow}
+use Rattle.tune_problem.specs.Valid.{listed_indices, IsCapRow}
 use Rattle.tune_cert.specs.Verdict.{Rises, HavePoints}
-use Rattle.tune_cert.specs.Steps.{AreNumbers, listed_cap}
+use Rattle.tune_cert.specs.Steps.{ListsAll, listed_cap}
 use Rattle.tune_problem.proofs.CapRows.{row_few, row_sum}
 
 -- a cap row rises and has its points
@@ -29,35 +29,35 @@ pub few_listed : (p : Problem) → IsProblem p → (w : WarriorView) (row : List
 few_listed p laws w row h = row_few p laws w row h
 
 -- the cap by the points that a cap row lists
-pub listed_is_cap : (p : Problem) (w : WarriorView) (row : List (ℕ × ℕ)) → IsCapRow p w 0 row → listed_cap p row ≡ cap_of p w (numbers row)
+pub listed_is_cap : (p : Problem) (w : WarriorView) (row : List (ℕ × ℕ)) → IsCapRow p w 0 row → listed_cap p row ≡ cap_of p w (listed_indices row)
 unfolding cap_of
-listed_is_cap p w row h = ap (λ n. n + most_besides p (numbers row)) (row_sum p w 0 row h)
+listed_is_cap p w row h = ap (λ n. n + most_besides p (listed_indices row)) (row_sum p w 0 row h)
 
--- all fights by number
-up_to : (n a : ℕ) (row : List (ℕ × ℕ)) → AreNumbers n a row → n ≡ a + length row
+-- all fights by index
+up_to : (n a : ℕ) (row : List (ℕ × ℕ)) → ListsAll n a row → n ≡ a + length row
 up_to n a [] h = omega (arith, h)
 up_to n a (e ∷ row) h = omega (arith, up_to n (a + 1) row h.1)
 
-numbers_are : (n a m : ℕ) (row : List (ℕ × ℕ)) → n ≡ a + m → AreNumbers n a row → numbers row ≡ range_with_len a m
-numbers_are n a zero [] is h = refl
-numbers_are n a zero (e ∷ row) is h = absurd (omega (arith, up_to n (a + 1) row h.1))
-numbers_are n a (suc m) [] is h = absurd (omega (arith, h))
-numbers_are n a (suc m) (e ∷ row) is h = ap (λ k. k ∷ numbers row) h.0 ∙ ap (λ ks. a ∷ ks) (numbers_are n (a + 1) m row (omega arith) h.1)
+indices_are : (n a m : ℕ) (row : List (ℕ × ℕ)) → n ≡ a + m → ListsAll n a row → listed_indices row ≡ range_with_len a m
+indices_are n a zero [] is h = refl
+indices_are n a zero (e ∷ row) is h = absurd (omega (arith, up_to n (a + 1) row h.1))
+indices_are n a (suc m) [] is h = absurd (omega (arith, h))
+indices_are n a (suc m) (e ∷ row) is h = ap (λ k. k ∷ listed_indices row) h.0 ∙ ap (λ ks. a ∷ ks) (indices_are n (a + 1) m row (omega arith) h.1)
 
-are_numbers : (n a m : ℕ) (row : List (ℕ × ℕ)) → n ≡ a + m → numbers row ≡ range_with_len a m → AreNumbers n a row
-are_numbers n a zero [] is h = omega arith
-are_numbers n a zero (e ∷ row) is h = absurd (cc)
-are_numbers n a (suc m) [] is h = absurd (cc)
-are_numbers n a (suc m) (e ∷ row) is h =
+are_indices : (n a m : ℕ) (row : List (ℕ × ℕ)) → n ≡ a + m → listed_indices row ≡ range_with_len a m → ListsAll n a row
+are_indices n a zero [] is h = omega arith
+are_indices n a zero (e ∷ row) is h = absurd (cc)
+are_indices n a (suc m) [] is h = absurd (cc)
+are_indices n a (suc m) (e ∷ row) is h =
     let here : e.0 ≡ a = cc in
-    let rest : numbers row ≡ range_with_len (a + 1) m = cc in
-    (here, are_numbers n (a + 1) m row (omega arith) rest)
+    let rest : listed_indices row ≡ range_with_len (a + 1) m = cc in
+    (here, are_indices n (a + 1) m row (omega arith) rest)
 
-pub all_numbers : (p : Problem) (row : List (ℕ × ℕ)) → AreNumbers p.fights 0 row → numbers row ≡ all_fights p
-all_numbers p row h = numbers_are p.fights 0 p.fights row (omega arith) h
+pub all_indices : (p : Problem) (row : List (ℕ × ℕ)) → ListsAll p.fights 0 row → listed_indices row ≡ all_fights p
+all_indices p row h = indices_are p.fights 0 p.fights row (omega arith) h
 
-pub numbers_all : (p : Problem) (row : List (ℕ × ℕ)) → numbers row ≡ all_fights p → AreNumbers p.fights 0 row
-numbers_all p row h = are_numbers p.fights 0 p.fights row (omega arith) h
+pub indices_all : (p : Problem) (row : List (ℕ × ℕ)) → listed_indices row ≡ all_fights p → ListsAll p.fights 0 row
+indices_all p row h = are_indices p.fights 0 p.fights row (omega arith) h
 
-pub all_listed : (p : Problem) (row : List (ℕ × ℕ)) → numbers row ≡ all_fights p → length row ≡ p.fights
+pub all_listed : (p : Problem) (row : List (ℕ × ℕ)) → listed_indices row ≡ all_fights p → length row ≡ p.fights
 all_listed p row h = sym (length-map row (λ e. e.0)) ∙ (ap length h ∙ length-range_with_len 0 p.fights)

@@ -1,17 +1,15 @@
 -- What the parts of a check say together.
-use Rattle.std.proofs.Common.{◌≡◌, inl, inr, ℕ, ◌<◌, arith, Bool, true, false, List, length, Result, Ok, Err, None, refl, sym, ◌∙◌, subst}
-use Rattle.std.specs.Prelude.{IfOk}
+use Rattle.std.proofs.Common.{◌≡◌, inl, inr, ℕ, ◌<◌, arith, Bool, true, false, List, length, None, refl, sym, ◌∙◌, subst}
 use Rattle.std.proofs.lemmas.Option.{slice_get_within}
 use Rattle.rc_instr.specs.Warrior.{WarriorView}
 use Rattle.mars_fight.specs.Records.{Fields}
 use Rattle.tune_problem.specs.Problem.{Problem, IsProblem}
 use Rattle.tune_problem.specs.Optimum.{cap_of, beats}
-use Rattle.tune_problem.specs.Valid.{numbers, IsVersionOf, IsRightRow, IsValid}
+use Rattle.tune_problem.specs.Valid.{listed_indices, IsVersionOf, IsRightRow, IsValid}
 use Rattle.tune_cert.specs.Spelling.{Spells}
 use Rattle.tune_cert.specs.Verdict.{IsBestRow, IsWrongRefused, IsWrongCap, IsWrongSame, IsWrong, IsWrongRow, IsRejected, IsVerdict, IsRightAlone, IsRightSame, AreRightAlone, IsFirstRow, IsFirstOfCert, IsFirst}
 use Rattle.tune_cert.specs.Steps.{AreRightSame, IsCertVerdict, IsFirstVerdict}
 use Rattle.tune_problem.specs.declared.cert.Cert.{Cert}
-use Rattle.tune_cert.specs.declared.fault.CheckFault.{CheckFault}
 use Rattle.tune_problem.specs.declared.cert.Row.{Row}
 use Rattle.tune_problem.specs.declared.cert.Row.TheVariants.{Refused, Same, Cap}
 use Rattle.tune_cert.specs.declared.verdict.Reason.{Reason}
@@ -61,7 +59,7 @@ not_cap p c v row RepeatedFight w h = w (cap_row_rises p h.0 0 row h.2)
 not_cap p c v row WrongPoints w h = w h.0 h.1 (cap_row_points p h.0 0 row h.2)
 not_cap p c v row CapTooHigh w h =
     let same : w.0 ≡ h.0 = some_is _ _ (sym w.2 ∙ h.1) in
-    not_both _ (subst (λ (x : WarriorView). beats (cap_of p x (numbers row)) v c.total c.best ≡ true) same w.3) (h.3 w.1)
+    not_both _ (subst (λ (x : WarriorView). beats (cap_of p x (listed_indices row)) v c.total c.best ≡ true) same w.3) (h.3 w.1)
 not_cap p c v row NotRefused w h = w
 not_cap p c v row Malformed w h = w
 not_cap p c v row RowCount w h = w
@@ -76,8 +74,8 @@ not_same p c v u CapTooHigh w h =
     let same : w.0 ≡ h.0 = some_is _ _ (sym w.2 ∙ h.5) in
     let rows = sym w.3 ∙ h.6 in
     let row : w.1 ≡ h.1 = cc in
-    let here = subst (λ (x : WarriorView). beats (cap_of p x (numbers w.1)) v c.total c.best ≡ true) same w.4 in
-    not_both _ (subst (λ (r : List (ℕ × ℕ)). beats (cap_of p h.0 (numbers r)) v c.total c.best ≡ true) row here) h.7
+    let here = subst (λ (x : WarriorView). beats (cap_of p x (listed_indices w.1)) v c.total c.best ≡ true) same w.4 in
+    not_both _ (subst (λ (r : List (ℕ × ℕ)). beats (cap_of p h.0 (listed_indices r)) v c.total c.best ≡ true) row here) h.7
 not_same p c v u RepeatedFight w h = w
 not_same p c v u WrongPoints w h = w
 not_same p c v u NotRefused w h = w

@@ -10,8 +10,8 @@ use Rattle.tune_cert.specs.declared.fault.ReadFault.{ReadFault}
 use Rattle.tune_cert.specs.declared.fault.ReadFault.TheVariants.{Malformed, OutOfMemory}
 
 -- A decimal of a certificate is at most 4294967295.
-abbrev pub IsNumber : ℕ → Type 0
-IsNumber n = n < 2 ^ 32
+abbrev pub FitsU32 : ℕ → Type 0
+FitsU32 n = n < 2 ^ 32
 
 -- The version of a certificate is 1 or 2.
 abbrev pub IsVersion : ℕ → Type 0
@@ -19,19 +19,19 @@ IsVersion n = (n ≡ 1) ⊎ (n ≡ 2)
 
 -- A listed fight has 0, 1 or 3 points.
 abbrev pub IsItem : ℕ × ℕ → Type 0
-IsItem item = IsNumber item.0 × ArePoints item.1
+IsItem item = FitsU32 item.0 × ArePoints item.1
 
 abbrev pub IsRow : Row → Type 0
 IsRow Refused = Unit {0}
-IsRow (Same u) = IsNumber u
+IsRow (Same u) = FitsU32 u
 IsRow (Cap fights) = All IsItem fights
 
 -- A certificate that can be written down.
 pub record IsCert (c : Cert) : Type 0 where
   pub version : IsVersion c.version
-  pub count : IsNumber c.count
-  pub best : IsNumber c.best
-  pub total : IsNumber c.total
+  pub count : FitsU32 c.count
+  pub best : FitsU32 c.best
+  pub total : FitsU32 c.total
   pub rows : All IsRow c.rows
   pub few : length c.rows ≤ 2 ^ 32
 
@@ -42,9 +42,9 @@ pub record Spells (records : List Fields) (c : Cert) : Type 0 where
 
 -- The form of each record: 0 is the count, 1 the best setting, v + 2 the row of setting v.
 abbrev pub HasForm : ℕ → Fields → Type 0
-HasForm zero fields = (version : ℕ) × (count : ℕ) × IsVersion version × IsNumber count × (fields ≡ count_fields version count)
-HasForm (suc zero) fields = (best : ℕ) × (total : ℕ) × IsNumber best × IsNumber total × (fields ≡ best_fields best total)
-HasForm (suc (suc v)) fields = (row : Row) × IsNumber v × IsRow row × (fields ≡ row_fields v row)
+HasForm zero fields = (version : ℕ) × (count : ℕ) × IsVersion version × FitsU32 count × (fields ≡ count_fields version count)
+HasForm (suc zero) fields = (best : ℕ) × (total : ℕ) × FitsU32 best × FitsU32 total × (fields ≡ best_fields best total)
+HasForm (suc (suc v)) fields = (row : Row) × FitsU32 v × IsRow row × (fields ≡ row_fields v row)
 
 -- A record is malformed if it has another form, or if it is missing and is one of the first two.
 abbrev pub IsMalformed : List Fields → ℕ → Type 0

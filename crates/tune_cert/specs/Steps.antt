@@ -1,9 +1,9 @@
 -- Words that only the contracts of private functions use: parts of certificates, checks under way,
 -- and a certificate that is being written.
-use Rattle.std.specs.Prelude.{◌≡◌, ℕ, suc, ◌+◌, ◌-◌, ◌*◌, ◌<◌, ◌≤◌, ◌^◌, List, length, slice_get, Option, Some, All, flat_map, [], ◌∷◌, ◌++◌, Bool, true, false}
+use Rattle.std.specs.Prelude.{◌≡◌, ℕ, suc, ◌+◌, ◌-◌, ◌*◌, ◌<◌, ◌≤◌, ◌^◌, List, length, slice_get, Option, Some, All, flat_map, [], ◌∷◌, Bool, true, false}
 use Rattle.mars_fight.specs.Records.{Fields}
 use Rattle.tune_cert.specs.CertText.{spaced_text, list_text, rows_fields, count_fields, best_fields}
-use Rattle.tune_cert.specs.Spelling.{IsNumber, IsVersion, IsItem, IsRow, HasForm}
+use Rattle.tune_cert.specs.Spelling.{FitsU32, IsVersion, IsItem, IsRow, HasForm}
 use Rattle.tune_problem.specs.declared.cert.Row.{Row}
 use Rattle.tune_cert.specs.declared.fault.ReadFault.{ReadFault}
 use Rattle.tune_cert.specs.declared.fault.ReadFault.TheVariants.{Malformed, OutOfMemory}
@@ -11,16 +11,14 @@ use Rattle.std.specs.List.{sum_by}
 use Rattle.rc_instr.specs.Warrior.{WarriorView}
 use Rattle.tune_problem.specs.Problem.{Problem}
 use Rattle.tune_problem.specs.Optimum.{most_besides}
-use Rattle.tune_problem.specs.Valid.{numbers, listed_total, IsValid}
+use Rattle.tune_problem.specs.Valid.{listed_indices, listed_total, IsValid}
 use Rattle.tune_cert.specs.Verdict.{IsRejected, IsRightSame, IsFirstOfCap, IsFirstOfSame, IsFirstOfCert}
 use Rattle.tune_problem.specs.declared.cert.Cert.{Cert}
 use Rattle.tune_problem.specs.declared.cert.Row.TheVariants.{Refused, Same, Cap}
 use Rattle.tune_cert.specs.declared.verdict.Reason.{Reason}
 use Rattle.tune_cert.specs.declared.verdict.Verdict.{Verdict}
 use Rattle.tune_cert.specs.declared.verdict.Verdict.TheVariants.{Accepted, Rejected}
-use Rattle.std.specs.declared.alloc.Global.{Global}
-use Rattle.std.specs.declared.vec.Vec.{Vec}
-use Rattle.csv.specs.Writing.{default_writer, writer_setup, fields_written, has_written, writer_under, writer_pending}
+use Rattle.csv.specs.Writing.{default_writer, writer_setup, fields_written, has_written}
 use Rattle.csv.specs.declared.writer.Writer.{Writer}
 
 -- A row refers to another setting.
@@ -49,13 +47,13 @@ pub record AreRows (v : ℕ) (records : List Fields) (rows : List Row) : Type 0 
 abbrev pub IsBadCount : List Fields → ReadFault → Type 0
 IsBadCount records OutOfMemory = Unit {0}
 IsBadCount records (Malformed row) =
-    (row ≡ 0) × ((version count : ℕ) → IsVersion version → IsNumber count → slice_get records 0 ≡ Some (count_fields version count) → ⊥)
+    (row ≡ 0) × ((version count : ℕ) → IsVersion version → FitsU32 count → slice_get records 0 ≡ Some (count_fields version count) → ⊥)
 
 -- Record 1, the first of these, does not spell a best setting.
 abbrev pub IsBadBest : List Fields → ReadFault → Type 0
 IsBadBest records OutOfMemory = Unit {0}
 IsBadBest records (Malformed row) =
-    (row ≡ 1) × ((best total : ℕ) → IsNumber best → IsNumber total → slice_get records 0 ≡ Some (best_fields best total) → ⊥)
+    (row ≡ 1) × ((best total : ℕ) → FitsU32 best → FitsU32 total → slice_get records 0 ≡ Some (best_fields best total) → ⊥)
 
 -- Setting v has a record of the right form.
 abbrev pub HasRow : List Fields → ℕ → Type 0
@@ -74,9 +72,9 @@ IsBadRow records OutOfMemory = Unit {0}
 IsBadRow records (Malformed row) = (2 ≤ row) × IsBadRecord records (row - 2)
 
 -- A cap row lists the fights from a to n - 1, in order.
-abbrev pub AreNumbers : ℕ → ℕ → List (ℕ × ℕ) → Type 0
-AreNumbers n a [] = a ≡ n
-AreNumbers n a (e ∷ row) = (e.0 ≡ a) × AreNumbers n (a + 1) row
+abbrev pub ListsAll : ℕ → ℕ → List (ℕ × ℕ) → Type 0
+ListsAll n a [] = a ≡ n
+ListsAll n a (e ∷ row) = (e.0 ≡ a) × ListsAll n (a + 1) row
 
 -- The most that the fights of a row can give.
 abbrev pub listed_most : Problem → List (ℕ × ℕ) → ℕ
@@ -84,7 +82,7 @@ listed_most p row = sum_by (λ e. 3 * p.weight e.0) row
 
 -- The cap of a row: the scores that it lists, and the most that the other fights can give.
 abbrev pub listed_cap : Problem → List (ℕ × ℕ) → ℕ
-listed_cap p row = listed_total p row + most_besides p (numbers row)
+listed_cap p row = listed_total p row + most_besides p (listed_indices row)
 
 -- What is checked of a refused or a cap row before each reason is right.
 abbrev pub IsFirstAlone : Problem → ℕ → Row → Reason → Type 0
@@ -122,7 +120,3 @@ pub record IsReady {W : Type 0} (writer : Writer W) : Type 0 where
   pub setup : writer_setup writer ≡ default_writer
   pub fields : fields_written writer ≡ 0
   pub wrote : has_written writer ≡ false
-
--- The text so far: what the inner writer holds, and what is still to be handed to it.
-abbrev pub so_far : Writer (Vec ℕ Global) → List ℕ
-so_far writer = (writer_under writer).items ++ writer_pending writer

@@ -4,7 +4,7 @@ use Rattle.rc_instr.specs.Warrior.{WarriorView}
 use Rattle.mars_fight.specs.Records.{Fields}
 use Rattle.tune_problem.specs.Problem.{Problem}
 use Rattle.tune_problem.specs.Optimum.{all_fights, cap_of, beats, IsOptimum, HasTotal}
-use Rattle.tune_problem.specs.Valid.{numbers, listed_total, IsVersionOf, IsValid, IsRightRow}
+use Rattle.tune_problem.specs.Valid.{listed_indices, listed_total, IsVersionOf, IsValid, IsRightRow}
 use Rattle.tune_cert.specs.Spelling.{Spells, IsMalformed, IsFirstMalformed}
 use Rattle.tune_problem.specs.declared.cert.Cert.{Cert}
 use Rattle.tune_problem.specs.declared.cert.Row.{Row}
@@ -18,7 +18,7 @@ use Rattle.tune_cert.specs.declared.verdict.Verdict.TheVariants.{Accepted, Rejec
 pub record IsBestRow (p : Problem) (c : Cert) : Type 0 where
   pub row : List (ℕ × ℕ)
   pub here : slice_get c.rows c.best ≡ Some (Cap row)
-  pub every : numbers row ≡ all_fights p
+  pub every : listed_indices row ≡ all_fights p
   pub sums : listed_total p row ≡ c.total
 
 -- The fights of a cap row rise, from a or more, so that none is listed twice.
@@ -50,7 +50,7 @@ IsWrongRefused p v _ = ⊥
 abbrev pub IsWrongCap : Problem → Cert → ℕ → List (ℕ × ℕ) → Reason → Type 0
 IsWrongCap p c v row RepeatedFight = ¬ (Rises 0 row)
 IsWrongCap p c v row WrongPoints = (w : WarriorView) → p.warrior v ≡ Some w → HavePoints p w row → ⊥
-IsWrongCap p c v row CapTooHigh = (w : WarriorView) × (v ≢ c.best) × (p.warrior v ≡ Some w) × (beats (cap_of p w (numbers row)) v c.total c.best ≡ true)
+IsWrongCap p c v row CapTooHigh = (w : WarriorView) × (v ≢ c.best) × (p.warrior v ≡ Some w) × (beats (cap_of p w (listed_indices row)) v c.total c.best ≡ true)
 IsWrongCap p c v row _ = ⊥
 
 -- What each reason says of a row that refers to setting u.
@@ -58,7 +58,7 @@ abbrev pub IsWrongSame : Problem → Cert → ℕ → ℕ → Reason → Type 0
 IsWrongSame p c v u NotSame = AreSame p c v u → ⊥
 IsWrongSame p c v u CapTooHigh =
     (w : WarriorView) × (row : List (ℕ × ℕ)) × (p.warrior u ≡ Some w) × (slice_get c.rows u ≡ Some (Cap row))
-    × (beats (cap_of p w (numbers row)) v c.total c.best ≡ true)
+    × (beats (cap_of p w (listed_indices row)) v c.total c.best ≡ true)
 IsWrongSame p c v u _ = ⊥
 
 -- What each reason says of any row.
@@ -161,11 +161,7 @@ IsFirstOfCert p c number Malformed = ⊥
 IsFirstOfCert p c number Version = Unit {0}
 IsFirstOfCert p c number RowCount = IsVersionOf p c.version
 IsFirstOfCert p c number BestRow = IsVersionOf p c.version × HasRowCount p c
-IsFirstOfCert p c number WrongPoints = IsVersionOf p c.version × HasRowCount p c × IsBestRow p c × IsFirstRow p c number WrongPoints
-IsFirstOfCert p c number RepeatedFight = IsVersionOf p c.version × HasRowCount p c × IsBestRow p c × IsFirstRow p c number RepeatedFight
-IsFirstOfCert p c number CapTooHigh = IsVersionOf p c.version × HasRowCount p c × IsBestRow p c × IsFirstRow p c number CapTooHigh
-IsFirstOfCert p c number NotSame = IsVersionOf p c.version × HasRowCount p c × IsBestRow p c × IsFirstRow p c number NotSame
-IsFirstOfCert p c number NotRefused = IsVersionOf p c.version × HasRowCount p c × IsBestRow p c × IsFirstRow p c number NotRefused
+IsFirstOfCert p c number reason = IsVersionOf p c.version × HasRowCount p c × IsBestRow p c × IsFirstRow p c number reason
 
 -- A malformed record is the first such; for any other reason the records spell a certificate.
 abbrev pub IsFirstReject : Problem → List Fields → ℕ → Reason → Type 0

@@ -112,8 +112,7 @@ fn check_rows_alone<T: Watcher>(
 }
 
 // Checks the rows that refer to other settings, in order. All other rows are right by now.
-// Assembles the setting of each such row, and once a setting to which rows refer, however many they
-// are.
+// Assembles each such row's setting, and once each setting that such rows refer to.
 fn check_rows_same<T: Watcher>(
     alloc: Global,
     inputs: &Inputs,
@@ -159,7 +158,7 @@ fn record_of(vector: u32) -> u64
     u64::from(vector) + 2
 }
 
-// Checks all rows, in an arena of their own. There is one for each setting.
+// Checks all rows, one for each setting. Makes the arena of their fights.
 fn check_rows<T: Watcher>(
     alloc: Global,
     inputs: &Inputs,
@@ -202,10 +201,7 @@ fn check_cert<T: Watcher>(
         return Ok(rejected(0, Reason::Version));
     }
     let count = inputs.count();
-    if cert.count != count {
-        return Ok(rejected(0, Reason::RowCount));
-    }
-    if cert.rows.as_slice().len() != count as usize {
+    if cert.count != count || cert.rows.as_slice().len() != count as usize {
         return Ok(rejected(0, Reason::RowCount));
     }
     if !is_best_row(inputs, cert) {

@@ -1,7 +1,7 @@
 //! The text of certificates, and the checker that judges it.
 //!
-//! What a certificate says, and which are valid, is of `tune_problem`, whose types are passed on
-//! here. In this API a setting is called a vector.
+//! `tune_problem` defines what a certificate says and which are valid; its names are re-exported.
+//! In this API a setting is called a vector.
 #![tactic(auto)]
 
 mod checker;

@@ -4,7 +4,7 @@ ghost use Rattle.csv.specs.Records.{fields_of};
 ghost use Rattle.mars_fight.specs.Records.{records_of};
 ghost use Rattle.std.specs.Fmt.{decimal};
 ghost use Rattle.tune_cert.specs.CertText.{count_fields, best_fields, kind_text, last_text, row_fields, item_text, spaced_text};
-ghost use Rattle.tune_cert.specs.Spelling.{IsNumber, IsVersion, Spells, IsRow, IsItem, IsReadRefusal};
+ghost use Rattle.tune_cert.specs.Spelling.{FitsU32, IsVersion, Spells, IsRow, IsItem, IsReadRefusal};
 ghost use Rattle.tune_cert.specs.Steps.{AreRows, IsBadCount, IsBadBest, IsBadRow, AreSpaced, AreItems};
 ghost use Rattle.tune_problem.specs.declared.cert.Row.{Row};
 ghost use Rattle.tune_problem.specs.declared.cert.Cert.{Cert};
@@ -57,7 +57,7 @@ pub fn read_cert(alloc: Global, bytes: &[u8]) -> Result<Cert, ReadFault>
 // Parses record 0: `cwcert,V,N`. Returns the version V, 1 or 2, and N, the number of settings.
 fn count_in(fields: &ByteRecord) -> Option<(u32, u32)>
     ensures found { IfSome result (λ x. IsVersion x.0 × (fields_of fields.now ≡ count_fields x.0 x.1)) }
-    ensures only { (version count : ℕ) → IsVersion version → IsNumber count → fields_of fields.now ≡ count_fields version count
+    ensures only { (version count : ℕ) → IsVersion version → FitsU32 count → fields_of fields.now ≡ count_fields version count
         → result ≡ Some (version, count) }
 {
     let (name, version, count) = three_fields(fields)?;
@@ -85,7 +85,7 @@ fn version_of(field: &[u8]) -> Option<u32>
 // Parses record 1: `best,W,T`. Returns the best setting W and its total T.
 fn best_in(fields: &ByteRecord) -> Option<(u32, u32)>
     ensures found { IfSome result (λ x. fields_of fields.now ≡ best_fields x.0 x.1) }
-    ensures only { (best total : ℕ) → IsNumber best → IsNumber total → fields_of fields.now ≡ best_fields best total
+    ensures only { (best total : ℕ) → FitsU32 best → FitsU32 total → fields_of fields.now ≡ best_fields best total
         → result ≡ Some (best, total) }
 {
     let (name, best, total) = three_fields(fields)?;
@@ -184,14 +184,8 @@ fn read_row(alloc: Global, vector: u32, fields: &ByteRecord) -> Result<Option<Ro
         return Ok(None);
     };
     match decimal_of(setting) {
-        Some(found) => {
-            if found == vector {
-                row_of(alloc, kind, last)
-            } else {
-                Ok(None)
-            }
-        }
-        None => Ok(None),
+        Some(found) if found == vector => row_of(alloc, kind, last),
+        _ => Ok(None),
     }
 }
 
@@ -266,10 +260,7 @@ fn read_items(alloc: Global, bytes: &[u8]) -> Result<Option<Vec<(u32, u8)>>, Out
     let Some((first, rest)) = item_at(bytes) else {
         return Ok(None);
     };
-    match read_others(alloc, first, rest)? {
-        Some(items) => Ok(Some(items)),
-        None => Ok(None),
-    }
+    read_others(alloc, first, rest)
 }
 
 // A comparison of its own, so that its fact is in the form that the callers need.

@@ -6,7 +6,7 @@ ghost use Rattle.mars_fight.specs.Limits.{MOST_FIGHTS, MOST_WEIGHT};
 ghost use Rattle.tune_problem.specs.Problem.{problem_of};
 ghost use Rattle.tune_problem.specs.Valid.{IsCapRow, IsRightRow, listed_total};
 ghost use Rattle.tune_cert.specs.Verdict.{Rises, HavePoints, IsWrongRefused, IsWrongCap, IsWrong, IsWrongSame, IsBestRow, IsRightAlone, IsFirstOfCap, AreRightAlone, IsRightSame, IsFirstOfSame};
-ghost use Rattle.tune_cert.specs.Steps.{IsFirstAlone, IsFirstSame, AreNumbers, AreAssembled, listed_most, listed_cap};
+ghost use Rattle.tune_cert.specs.Steps.{IsFirstAlone, IsFirstSame, ListsAll, AreAssembled, listed_most, listed_cap};
 ghost use Rattle.tune_problem.specs.declared.cert.Row.TheVariants.{Cap, Same};
 ghost use Rattle.rc_instr.specs.Warrior.{WarriorView};
 ghost use Rattle.tune_problem.specs.Optimum.{beats};
@@ -99,11 +99,11 @@ fn is_rising(listed: &[(u32, u8)]) -> bool
     ensures { IsTrue result ↔ Rises 0 listed.now }
 {
     let mut next: u64 = 0;
-    for (number, _) in listed {
-        if u64::from(*number) < next {
+    for (index, _) in listed {
+        if u64::from(*index) < next {
             return false;
         }
-        next = u64::from(*number) + 1;
+        next = u64::from(*index) + 1;
     }
     true
 }
@@ -127,11 +127,11 @@ fn have_points<T: Watcher>(
     ensures most { arena.old.fights + length listed.now < 2 ^ 64 → arena.new.fights ≤ arena.old.fights + length listed.now }
 {
     let fights = fight_count(inputs);
-    for (number, points) in listed {
-        if *number >= fights {
+    for (index, points) in listed {
+        if *index >= fights {
             return false;
         }
-        let made = fight_points(arena, inputs, warrior, *number);
+        let made = fight_points(arena, inputs, warrior, *index);
         watcher.hear(arena.fights());
         if made != *points {
             return false;
@@ -272,11 +272,11 @@ fn check_reference(
 
 // Checks whether a cap row lists each of the `fights` fights, in order.
 fn lists_all(fights: u32, listed: &[(u32, u8)]) -> bool
-    ensures { IsTrue result ↔ AreNumbers fights 0 listed.now }
+    ensures { IsTrue result ↔ ListsAll fights 0 listed.now }
 {
     let mut next: u64 = 0;
-    for (number, _) in listed {
-        if u64::from(*number) != next {
+    for (index, _) in listed {
+        if u64::from(*index) != next {
             return false;
         }
         next += 1;
@@ -302,8 +302,8 @@ fn listed_total(inputs: &Inputs, listed: &[(u32, u8)]) -> u32
     ensures small { result ≤ 255 * MOST_WEIGHT * length listed.now }
 {
     let mut total: u32 = 0;
-    for (number, points) in listed {
-        total += u32::from(*points) * fight_weight(inputs, *number);
+    for (index, points) in listed {
+        total += u32::from(*points) * fight_weight(inputs, *index);
     }
     total
 }
@@ -315,8 +315,8 @@ fn listed_most(inputs: &Inputs, listed: &[(u32, u8)]) -> u32
     ensures small { result ≤ 3 * MOST_WEIGHT * length listed.now }
 {
     let mut most: u32 = 0;
-    for (number, _) in listed {
-        most += MOST_POINTS * fight_weight(inputs, *number);
+    for (index, _) in listed {
+        most += MOST_POINTS * fight_weight(inputs, *index);
     }
     most
 }

@@ -6,7 +6,7 @@ use Rattle.std.proofs.lemmas.Bool.Decides.{leb_tells}
 use Rattle.rc_instr.specs.Warrior.{WarriorView}
 use Rattle.tune_problem.specs.Problem.{Problem, IsProblem}
 use Rattle.tune_problem.specs.Optimum.{all_fights, score_of, most_of, total_of, greatest_of, most_besides, cap_of}
-use Rattle.tune_problem.specs.Valid.{numbers, listed_score, listed_total, IsCapRow}
+use Rattle.tune_problem.specs.Valid.{listed_indices, listed_score, listed_total, IsCapRow}
 use Rattle.mars_fight.specs.Play.{ArePoints}
 
 pub few_points : (x : ℕ) → ArePoints x → x ≤ 3
@@ -46,8 +46,8 @@ cap_is p w ks = refl
 -- give at most as much; its scores and the most of the others are at least the scores of all.
 pub record IsWithin (p : Problem) (w : WarriorView) (m a : ℕ) (row : List (ℕ × ℕ)) : Type 0 where
   pub few : length row ≤ m
-  pub most : sum_by (most_of p) (numbers row) ≤ sum_by (most_of p) (range_with_len a m)
-  pub capped : sum_by (score_of p w) (range_with_len a m) + sum_by (most_of p) (numbers row) ≤ sum_by (score_of p w) (numbers row) + sum_by (most_of p) (range_with_len a m)
+  pub most : sum_by (most_of p) (listed_indices row) ≤ sum_by (most_of p) (range_with_len a m)
+  pub capped : sum_by (score_of p w) (range_with_len a m) + sum_by (most_of p) (listed_indices row) ≤ sum_by (score_of p w) (listed_indices row) + sum_by (most_of p) (range_with_len a m)
 
 pub capped : (p : Problem) → IsProblem p → (w : WarriorView) (m a : ℕ) (row : List (ℕ × ℕ)) → a + m ≡ p.fights → IsCapRow p w a row → IsWithin p w m a row
 capped p laws w zero a [] e h = record { few = omega arith; most = omega arith; capped = omega arith }
@@ -61,9 +61,9 @@ capped p laws w (suc m) a (x ∷ row) e h =
           let score : score_of p w x.0 ≡ score_of p w a = ap (score_of p w) same in
           let most : most_of p x.0 ≡ most_of p a = ap (most_of p) same in
           let scores = cons_score p w a (range_with_len (a + 1) m) in
-          let listed = cons_score p w x.0 (numbers row) in
+          let listed = cons_score p w x.0 (listed_indices row) in
           let mosts = cons_most p a (range_with_len (a + 1) m) in
-          let listed_mosts = cons_most p x.0 (numbers row) in
+          let listed_mosts = cons_most p x.0 (listed_indices row) in
           record {
             few = omega (arith, i.few);
             most = omega (arith, i.most, most, mosts, listed_mosts);
@@ -83,7 +83,7 @@ capped p laws w (suc m) a (x ∷ row) e h =
 
 -- a row of as many fights as there are has each of them
 pub whole : (p : Problem) → IsProblem p → (w : WarriorView) (m a : ℕ) (row : List (ℕ × ℕ)) → a + m ≡ p.fights → IsCapRow p w a row → length row ≡ m →
-    numbers row ≡ range_with_len a m
+    listed_indices row ≡ range_with_len a m
 whole p laws w zero a [] e h n = refl
 whole p laws w zero a (x ∷ row) e h n = absurd (omega (arith, h.0, h.1))
 whole p laws w (suc m) a [] e h n = absurd (omega arith)
@@ -92,25 +92,25 @@ whole p laws w (suc m) a (x ∷ row) e h n =
       | inl same ↦
           let rest : IsCapRow p w (a + 1) row = subst (λ (k : ℕ). IsCapRow p w (k + 1) row) same h.3 in
           let i = whole p laws w m (a + 1) row (omega arith) rest (omega arith) in
-          ap (λ k. k ∷ numbers row) same ∙ ap (λ ks. a ∷ ks) i
+          ap (λ k. k ∷ listed_indices row) same ∙ ap (λ ks. a ∷ ks) i
       | inr more ↦
           let i = capped p laws w m (a + 1) (x ∷ row) (omega arith) (more, h.1, h.2, h.3) in
           absurd (omega (arith, i.few))
     ]
 
 -- the scores listed are those of the fights
-pub row_sum : (p : Problem) (w : WarriorView) (a : ℕ) (row : List (ℕ × ℕ)) → IsCapRow p w a row → listed_total p row ≡ sum_by (score_of p w) (numbers row)
+pub row_sum : (p : Problem) (w : WarriorView) (a : ℕ) (row : List (ℕ × ℕ)) → IsCapRow p w a row → listed_total p row ≡ sum_by (score_of p w) (listed_indices row)
 row_sum p w a [] h = refl
 row_sum p w a (x ∷ row) h =
     let i = row_sum p w (x.0 + 1) row h.3 in
     let here : listed_score p x ≡ score_of p w x.0 = ap (λ n. n * p.weight x.0) h.2 in
-    sum_by-cons (listed_score p) x row ∙ ap (λ n. n + listed_total p row) here ∙ ap (λ n. score_of p w x.0 + n) i ∙ sym (cons_score p w x.0 (numbers row))
+    sum_by-cons (listed_score p) x row ∙ ap (λ n. n + listed_total p row) here ∙ ap (λ n. score_of p w x.0 + n) i ∙ sym (cons_score p w x.0 (listed_indices row))
 
-pub row_cap : (p : Problem) → IsProblem p → (w : WarriorView) (row : List (ℕ × ℕ)) → IsCapRow p w 0 row → total_of p w ≤ cap_of p w (numbers row)
+pub row_cap : (p : Problem) → IsProblem p → (w : WarriorView) (row : List (ℕ × ℕ)) → IsCapRow p w 0 row → total_of p w ≤ cap_of p w (listed_indices row)
 unfolding total_of
 row_cap p laws w row h =
     let c = capped p laws w p.fights 0 row (omega arith) h in
-    omega (arith, c.most, c.capped, cap_is p w (numbers row))
+    omega (arith, c.most, c.capped, cap_is p w (listed_indices row))
 
 -- a row has at most as many fights as there are
 pub row_few : (p : Problem) → IsProblem p → (w : WarriorView) (row : List (ℕ × ℕ)) → IsCapRow p w 0 row → length row ≤ p.fights

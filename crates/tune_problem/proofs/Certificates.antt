@@ -6,7 +6,7 @@ use Rattle.std.proofs.lemmas.Option.{slice_get_cases}
 use Rattle.rc_instr.specs.Warrior.{WarriorView}
 use Rattle.tune_problem.specs.Problem.{Problem, IsProblem}
 use Rattle.tune_problem.specs.Optimum.{total_of, cap_of, beats, IsOptimum, HasTotal}
-use Rattle.tune_problem.specs.Valid.{numbers, IsCapRow, IsNoBetter, IsRightRow, IsValid}
+use Rattle.tune_problem.specs.Valid.{listed_indices, IsCapRow, IsNoBetter, IsRightRow, IsValid}
 use Rattle.tune_problem.specs.declared.cert.Cert.{Cert}
 use Rattle.tune_problem.specs.declared.cert.Row.{Row}
 use Rattle.tune_problem.specs.declared.cert.Row.TheVariants.{Refused, Same, Cap}
@@ -57,9 +57,9 @@ module _ (p : Problem) (laws : IsProblem p) (c : Cert) (valid : IsValid p c) whe
             let it : total_of p x ≡ c.total = ap (total_of p) (sym (some_is _ _ one)) ∙ best.2 in
             record { no_more = omega arith; later = λ f. omega arith }
         | inr other ↦
-            let it : Trails (cap_of p x (numbers row)) v c.total c.best = trails _ _ _ _ (subst (λ (y : WarriorView). IsNoBetter c (cap_of p y (numbers row)) v) same (h.3 other)) in
-            let le : total_of p x ≤ cap_of p x (numbers row) = row_cap p laws x row right in
-            after_cap (total_of p x) (cap_of p x (numbers row)) v c.total c.best le it
+            let it : Trails (cap_of p x (listed_indices row)) v c.total c.best = trails _ _ _ _ (subst (λ (y : WarriorView). IsNoBetter c (cap_of p y (listed_indices row)) v) same (h.3 other)) in
+            let le : total_of p x ≤ cap_of p x (listed_indices row) = row_cap p laws x row right in
+            after_cap (total_of p x) (cap_of p x (listed_indices row)) v c.total c.best le it
       ]
   after_row v x is (Same u) at h =
       let y = h.0 in
@@ -68,7 +68,7 @@ module _ (p : Problem) (laws : IsProblem p) (c : Cert) (valid : IsValid p c) whe
       let of = valid.right u (Cap row) h.6 in
       let alike : of.0 ≡ y = some_is _ _ (sym of.1 ∙ h.5) in
       let right : IsCapRow p y 0 row = subst (λ (z : WarriorView). IsCapRow p z 0 row) alike of.2 in
-      let it : Trails (cap_of p y (numbers row)) v c.total c.best = trails _ _ _ _ h.7 in
+      let it : Trails (cap_of p y (listed_indices row)) v c.total c.best = trails _ _ _ _ h.7 in
       subst (λ (z : WarriorView). Trails (total_of p z) v c.total c.best) same (after_cap _ _ v c.total c.best (row_cap p laws y row right) it)
 
   behind : (v : ℕ) (x : WarriorView) → v < p.count → p.warrior v ≡ Some x → Trails (total_of p x) v c.total c.best

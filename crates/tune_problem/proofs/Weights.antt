@@ -4,7 +4,7 @@ use Rattle.std.specs.List.{sum_by, range_with_len, slice_get}
 use Rattle.std.proofs.lemmas.List.Sums.{sum_by-cons}
 use Rattle.std.proofs.lemmas.Option.{slice_get-get_or, slice_get_cases}
 use Rattle.mars_fight.specs.declared.fight.Fight.{Fight}
-use Rattle.mars_fight.specs.Listed.{IsPlain, greatest_points}
+use Rattle.mars_fight.specs.Listed.{IsPlain, greatest_total}
 use Rattle.tune_template.specs.Instances.{InputsView}
 use Rattle.tune_problem.specs.Problem.{CountsOnce, weight_at, fight_weight, problem_of}
 use Rattle.tune_problem.specs.Optimum.{greatest_of}
@@ -35,8 +35,8 @@ zero_plus : (j : ℕ) → 0 + j ≡ j
 zero_plus j = omega arith
 
 -- the greatest total of a schedule is that of its problem
-pub greatest_is : (i : InputsView) → greatest_points i.schedule ≡ greatest_of (problem_of i)
-unfolding greatest_points greatest_of
+pub greatest_is : (i : InputsView) → greatest_total i.schedule ≡ greatest_of (problem_of i)
+unfolding greatest_total greatest_of
 greatest_is i = most_from i.schedule i.schedule 0 (λ j. ap (slice_get i.schedule) (zero_plus j))
 
 weight_there : (schedule : List Fight) (k : ℕ) (d : Fight) → k < length schedule → fight_weight schedule k ≡ (get_or schedule k d).weight

@@ -10,8 +10,8 @@ use Rattle.tune_problem.specs.declared.cert.Row.{Row}
 use Rattle.tune_problem.specs.declared.cert.Row.TheVariants.{Refused, Same, Cap}
 
 -- The indices of the fights that a cap row lists.
-abbrev pub numbers : List (ℕ × ℕ) → List ℕ
-numbers row = map (λ e. e.0) row
+abbrev pub listed_indices : List (ℕ × ℕ) → List ℕ
+listed_indices row = map (λ e. e.0) row
 
 -- The score that a cap row lists for a fight, and the total of these.
 abbrev pub listed_score : Problem → ℕ × ℕ → ℕ
@@ -46,10 +46,10 @@ IsNoBetter c cap v = beats cap v c.total c.best ≡ false
 abbrev pub IsRightRow : Problem → Cert → ℕ → Row → Type 0
 IsRightRow p c v Refused = p.warrior v ≡ None
 IsRightRow p c v (Cap row) =
-    (w : WarriorView) × (p.warrior v ≡ Some w) × IsCapRow p w 0 row × (v ≢ c.best → IsNoBetter c (cap_of p w (numbers row)) v)
+    (w : WarriorView) × (p.warrior v ≡ Some w) × IsCapRow p w 0 row × (v ≢ c.best → IsNoBetter c (cap_of p w (listed_indices row)) v)
 IsRightRow p c v (Same u) =
     (w : WarriorView) × (row : List (ℕ × ℕ)) × (u ≢ v) × (u < p.count) × (p.warrior v ≡ Some w) × (p.warrior u ≡ Some w)
-    × (slice_get c.rows u ≡ Some (Cap row)) × IsNoBetter c (cap_of p w (numbers row)) v
+    × (slice_get c.rows u ≡ Some (Cap row)) × IsNoBetter c (cap_of p w (listed_indices row)) v
 
 -- Version 1 is for schedules in which every fight counts once. Version 2 is for any.
 abbrev pub IsVersionOf : Problem → ℕ → Type 0

@@ -24,9 +24,10 @@ pub struct Cert {
 pub enum Row {
     /// It does not assemble.
     Refused,
-    /// It makes the same warrior as the setting at this index, from 0.
+    /// It makes the same warrior as another setting, at this index from 0, whose row is a `Cap`.
     Same(u32),
-    /// It makes this many points in these fights, which is not enough to be better.
+    /// It assembles, and made these points in these fights. The row of the best setting lists every
+    /// fight; any other lists enough that its cap does not beat the best setting.
     Cap(Listing),
 }
 

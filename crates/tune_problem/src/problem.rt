@@ -18,8 +18,8 @@ use tune_template::Inputs;
 /// Assembles the template with the values of setting `vector`, which is below the count of
 /// settings of the inputs.
 ///
-/// Returns `None` if the text does not assemble with these values, or not to a warrior that keeps
-/// the rules, and `OutOfMemory` if memory runs out: that says nothing about the setting.
+/// Returns `None` if the text does not assemble with these values, or not to a warrior that fits the
+/// rules, and `OutOfMemory` if memory runs out: that says nothing about the setting.
 pub fn setting_warrior(
     alloc: Global,
     inputs: &Inputs,
@@ -44,7 +44,7 @@ pub fn setting_warrior(
 /// Plays fight `index` of the schedule and returns the warrior's points: 3 for a win, 1 for a tie,
 /// 0 for a loss (pMARS).
 ///
-/// The warrior must keep the rules of the inputs, and the arena must be blank under them. It is
+/// The warrior must fit the rules of the inputs, and the arena must be blank under them. It is
 /// blank afterwards, and has counted the fight.
 #[tactic(auto, unfolding(crate::specs::Problem::fight_points))]
 pub fn fight_points<C: Cells>(

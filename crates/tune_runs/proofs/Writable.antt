@@ -11,7 +11,7 @@ use Rattle.mars_fight.specs.Limits.{MOST_FIGHTS, MOST_TOTAL, MOST_WEIGHT}
 use Rattle.mars_fight.specs.Play.{ArePoints}
 use Rattle.mars_fight.specs.Records.{records_of}
 use Rattle.mars_fight.specs.Schedule.{header_of, fights_in, fights_under, within_limit, fights_of}
-use Rattle.mars_fight.specs.Listed.{IsFight, greatest_points}
+use Rattle.mars_fight.specs.Listed.{IsFight, greatest_total}
 use Rattle.mars_fight.proofs.Listed.{scheduled_fights}
 use Rattle.mars_fight.specs.declared.fight.Fight.{Fight}
 use Rattle.tune_template.specs.Limits.{MOST_SETTINGS}
@@ -53,8 +53,8 @@ few_fights rules opponents bytes fights e =
     (λ columns some. limited_of (fights_in rules opponents columns (drop 1 (records_of bytes))) fights some) e
 
 -- the fights of a schedule cannot give more than `MOST_TOTAL`
-pub most_points : (rules : RulesView) (opponents : ℕ) (bytes : List ℕ) (fights : List Fight) → fights_of rules opponents bytes ≡ Some fights → greatest_points fights ≤ MOST_TOTAL
-unfolding fights_of greatest_points
+pub most_points : (rules : RulesView) (opponents : ℕ) (bytes : List ℕ) (fights : List Fight) → fights_of rules opponents bytes ≡ Some fights → greatest_total fights ≤ MOST_TOTAL
+unfolding fights_of greatest_total
 most_points rules opponents bytes fights e =
     let all : All (IsFight rules opponents) fights = scheduled_fights rules opponents (records_of bytes) fights e in
     let few : length fights ≤ MOST_FIGHTS = few_fights rules opponents bytes fights e in

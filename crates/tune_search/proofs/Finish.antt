@@ -11,7 +11,7 @@ use Rattle.rc_instr.specs.Warrior.{WarriorView}
 use Rattle.tune_template.specs.Limits.{MOST_SETTINGS}
 use Rattle.tune_problem.specs.Problem.{IsProblem, Problem}
 use Rattle.tune_problem.specs.Optimum.{HasTotal, IsOptimum, all_fights, candidates_of, cap_of, total_of}
-use Rattle.tune_problem.specs.Valid.{IsOwnVersion, IsVersionOf, IsCapRow, IsRightRow, IsValid, listed_fights, listed_in, numbers}
+use Rattle.tune_problem.specs.Valid.{IsOwnVersion, IsVersionOf, IsCapRow, IsRightRow, IsValid, listed_fights, listed_in, listed_indices}
 use Rattle.tune_problem.specs.declared.cert.Row.{Row}
 use Rattle.tune_problem.specs.declared.cert.Cert.{Cert}
 use Rattle.tune_problem.specs.declared.cert.Row.TheVariants.{Cap, Refused, Same}
@@ -74,18 +74,18 @@ module _ (p : Problem) (laws : IsProblem p) (start : p.start < p.count) (version
     pub fought_row : IsCapRow p x 0 h.row
     fought_row = listed_is_row p x ks h.row (All-take p.fights (enough p x order u h.lead) order (order_below p order permutes)) h.listed
 
-    row_cap_is : cap_of p x (numbers h.row) ≡ cap_of p x ks
+    row_cap_is : cap_of p x (listed_indices h.row) ≡ cap_of p x ks
     row_cap_is = listed_cap p x ks h.row h.listed
 
-    all_cap : enough p x order u h.lead ≡ p.fights → cap_of p x (numbers h.row) ≡ total_of p x
+    all_cap : enough p x order u h.lead ≡ p.fights → cap_of p x (listed_indices h.row) ≡ total_of p x
     all_cap e = row_cap_is ∙ ap (λ j. cap_of p x (take j order)) e ∙ cap_all p x order permutes
 
-    short_behind : (l : Option Best) → IsLeadAfter p (place p.start u) l → beats_lead (cap_of p x (numbers h.row)) u l ≡ false → Trails (cap_of p x (numbers h.row)) u lead.total lead.vector
+    short_behind : (l : Option Best) → IsLeadAfter p (place p.start u) l → beats_lead (cap_of p x (listed_indices h.row)) u l ≡ false → Trails (cap_of p x (listed_indices h.row)) u lead.total lead.vector
     short_behind None is_l e = absurd (cc)
     short_behind (Some l) is_l e = chained _ _ _ _ _ _ (trails _ _ _ _ e) (lead_behind _ l is_l)
 
     -- its cap trails the best
-    pub fought_behind : Trails (cap_of p x (numbers h.row)) u lead.total lead.vector
+    pub fought_behind : Trails (cap_of p x (listed_indices h.row)) u lead.total lead.vector
     fought_behind = elim (enough_cases p x order u h.lead) [
       | inl e ↦ subst (λ (n : ℕ). Trails n u lead.total lead.vector) (sym (all_cap e)) (behind u x inside is)
       | inr n ↦ short_behind h.lead h.is_lead (ap (λ m. beats_lead m u h.lead) row_cap_is ∙ n)
@@ -99,7 +99,7 @@ module _ (p : Problem) (laws : IsProblem p) (start : p.start < p.count) (version
         absurd (omega arith)
 
     -- and so for each vector with the same warrior that is visited later
-    pub shared_behind : (v : ℕ) → v < p.count → p.warrior v ≡ Some x → place p.start u < place p.start v → Trails (cap_of p x (numbers h.row)) v lead.total lead.vector
+    pub shared_behind : (v : ℕ) → v < p.count → p.warrior v ≡ Some x → place p.start u < place p.start v → Trails (cap_of p x (listed_indices h.row)) v lead.total lead.vector
     shared_behind v l is_v before = elim (same_number u p.start) [
       | inl first ↦
           let none : h.lead ≡ None = no_lead_first h.lead first h.is_lead in
@@ -107,8 +107,8 @@ module _ (p : Problem) (laws : IsProblem p) (start : p.start < p.count) (version
           subst (λ (n : ℕ). Trails n v lead.total lead.vector) (sym (all_cap all)) (behind v x l is_v)
       | inr other ↦
           let less : u < v = lesser p.start u v before (λ e. absurd (other e)) in
-          let c : cap_of p x (numbers h.row) ≤ lead.total = fought_behind.no_more in
-          let d : cap_of p x (numbers h.row) ≡ lead.total → lead.vector ≤ u = fought_behind.later in
+          let c : cap_of p x (listed_indices h.row) ≤ lead.total = fought_behind.no_more in
+          let d : cap_of p x (listed_indices h.row) ≡ lead.total → lead.vector ≤ u = fought_behind.later in
           record { no_more = c; later = λ e. let f : lead.vector ≤ u = d e in omega arith }
     ]
 

@@ -16,7 +16,7 @@ use Rattle.tune_problem.proofs.CapRows.{cap_is}
 use Rattle.tune_search.specs.Plays.{played}
 use Rattle.tune_search.specs.Visits.{IsListed}
 use Rattle.tune_search.specs.State.{by_index}
-use Rattle.tune_problem.specs.Valid.{numbers, IsCapRow}
+use Rattle.tune_problem.specs.Valid.{listed_indices, IsCapRow}
 
 apart_tests : (a b : ℕ) → nat_eq a b ≡ false → a ≢ b
 apart_tests a b h e = grind (arith, nat_tests)
@@ -49,35 +49,35 @@ in_order : (x y : ℕ × ℕ) → is_lt (by_index y x) ≡ false → x.0 ≤ y.0
 in_order x y h = grind (arith, nat_tests)
 
 -- what is sorted and has no number twice is rising
-pub rising : (row : List (ℕ × ℕ)) → IsSorted by_index row → IsDistinct nat_eq (numbers row) → IsStrictlyIncreasing (numbers row)
+pub rising : (row : List (ℕ × ℕ)) → IsSorted by_index row → IsDistinct nat_eq (listed_indices row) → IsStrictlyIncreasing (listed_indices row)
 rising row sorted distinct = λ k l.
-    let n : length (numbers row) ≡ length row = length-map row (λ e. e.0) in
-    let x : get_or (numbers row) k 0 ≡ (get_or row k (0, 0)).0 = get_or-map (λ e. e.0) row k (0, 0) 0 (omega arith) in
-    let y : get_or (numbers row) (k + 1) 0 ≡ (get_or row (k + 1) (0, 0)).0 = get_or-map (λ e. e.0) row (k + 1) (0, 0) 0 (omega arith) in
+    let n : length (listed_indices row) ≡ length row = length-map row (λ e. e.0) in
+    let x : get_or (listed_indices row) k 0 ≡ (get_or row k (0, 0)).0 = get_or-map (λ e. e.0) row k (0, 0) 0 (omega arith) in
+    let y : get_or (listed_indices row) (k + 1) 0 ≡ (get_or row (k + 1) (0, 0)).0 = get_or-map (λ e. e.0) row (k + 1) (0, 0) 0 (omega arith) in
     let le : (get_or row k (0, 0)).0 ≤ (get_or row (k + 1) (0, 0)).0 = in_order (get_or row k (0, 0)) (get_or row (k + 1) (0, 0)) (sorted k (0, 0) (omega arith) (omega arith)) in
-    let ne : get_or (numbers row) k 0 ≢ get_or (numbers row) (k + 1) 0 = apart_tests _ _ (apart_from_distinct nat_eq (numbers row) k (k + 1) 0 distinct (omega arith) (omega arith)) in
+    let ne : get_or (listed_indices row) k 0 ≢ get_or (listed_indices row) (k + 1) 0 = apart_tests _ _ (apart_from_distinct nat_eq (listed_indices row) k (k + 1) 0 distinct (omega arith) (omega arith)) in
     omega arith
 
-pub played_numbers : (p : Problem) (w : WarriorView) (ks : List ℕ) → numbers (played p w ks) ≡ ks
+pub played_numbers : (p : Problem) (w : WarriorView) (ks : List ℕ) → listed_indices (played p w ks) ≡ ks
 played_numbers p w [] = refl
 played_numbers p w (k ∷ ks) = ap (λ l. k ∷ l) (played_numbers p w ks)
 
 pub sorted_is_listed : (p : Problem) (w : WarriorView) (ks : List ℕ) (row : List (ℕ × ℕ)) → IsDistinct nat_eq ks → IsPermutation (played p w ks) row → IsSorted by_index row → IsListed p w ks row
 sorted_is_listed p w ks row distinct same sorted =
-    let ns : IsPermutation (numbers (played p w ks)) (numbers row) = IsPermutation-map (λ e. e.0) (played p w ks) row same in
-    let ns' : IsPermutation ks (numbers row) = subst (λ (l : List ℕ). IsPermutation l (numbers row)) (played_numbers p w ks) ns in
-    record { same = same; rising = rising row sorted (IsDistinct-IsPermutation nat_eq flips ks (numbers row) ns' distinct) }
+    let ns : IsPermutation (listed_indices (played p w ks)) (listed_indices row) = IsPermutation-map (λ e. e.0) (played p w ks) row same in
+    let ns' : IsPermutation ks (listed_indices row) = subst (λ (l : List ℕ). IsPermutation l (listed_indices row)) (played_numbers p w ks) ns in
+    record { same = same; rising = rising row sorted (IsDistinct-IsPermutation nat_eq flips ks (listed_indices row) ns' distinct) }
 
-pub listed_numbers : (p : Problem) (w : WarriorView) (ks : List ℕ) (row : List (ℕ × ℕ)) → IsListed p w ks row → IsPermutation ks (numbers row)
-listed_numbers p w ks row h = subst (λ (l : List ℕ). IsPermutation l (numbers row)) (played_numbers p w ks) (IsPermutation-map (λ e. e.0) (played p w ks) row h.same)
+pub listed_numbers : (p : Problem) (w : WarriorView) (ks : List ℕ) (row : List (ℕ × ℕ)) → IsListed p w ks row → IsPermutation ks (listed_indices row)
+listed_numbers p w ks row h = subst (λ (l : List ℕ). IsPermutation l (listed_indices row)) (played_numbers p w ks) (IsPermutation-map (λ e. e.0) (played p w ks) row h.same)
 
 -- the caps are the same
-pub listed_cap : (p : Problem) (w : WarriorView) (ks : List ℕ) (row : List (ℕ × ℕ)) → IsListed p w ks row → cap_of p w (numbers row) ≡ cap_of p w ks
+pub listed_cap : (p : Problem) (w : WarriorView) (ks : List ℕ) (row : List (ℕ × ℕ)) → IsListed p w ks row → cap_of p w (listed_indices row) ≡ cap_of p w ks
 listed_cap p w ks row h =
-    let ns : IsPermutation ks (numbers row) = listed_numbers p w ks row h in
-    let a : sum_by (score_of p w) (numbers row) ≡ sum_by (score_of p w) ks = sum_by-IsPermutation (score_of p w) ks (numbers row) ns in
-    let b : sum_by (most_of p) (numbers row) ≡ sum_by (most_of p) ks = sum_by-IsPermutation (most_of p) ks (numbers row) ns in
-    omega (arith, cap_is p w (numbers row), cap_is p w ks)
+    let ns : IsPermutation ks (listed_indices row) = listed_numbers p w ks row h in
+    let a : sum_by (score_of p w) (listed_indices row) ≡ sum_by (score_of p w) ks = sum_by-IsPermutation (score_of p w) ks (listed_indices row) ns in
+    let b : sum_by (most_of p) (listed_indices row) ≡ sum_by (most_of p) ks = sum_by-IsPermutation (most_of p) ks (listed_indices row) ns in
+    omega (arith, cap_is p w (listed_indices row), cap_is p w ks)
 
 pub listed_length : (p : Problem) (w : WarriorView) (ks : List ℕ) (row : List (ℕ × ℕ)) → IsListed p w ks row → length row ≡ length ks
 listed_length p w ks row h = length_permutation (played p w ks) row h.same ∙ length-map ks (λ k. (k, p.points w k))
@@ -100,11 +100,11 @@ rises_on a ks h = (
       omega arith,
 )
 
-cap_row : (p : Problem) (w : WarriorView) (a : ℕ) (row : List (ℕ × ℕ)) → (0 < length row → a ≤ get_or (numbers row) 0 0) → IsStrictlyIncreasing (numbers row) → AllByRecursion (IsEntry p w) row → IsCapRow p w a row
+cap_row : (p : Problem) (w : WarriorView) (a : ℕ) (row : List (ℕ × ℕ)) → (0 < length row → a ≤ get_or (listed_indices row) 0 0) → IsStrictlyIncreasing (listed_indices row) → AllByRecursion (IsEntry p w) row → IsCapRow p w a row
 cap_row p w a [] first up all = tt
 cap_row p w a (e ∷ row) first up all =
-    let on = rises_on e.0 (numbers row) up in
-    (first (omega arith), all.0.0, all.0.1, cap_row p w (e.0 + 1) row (λ l. let m : 0 < length (numbers row) = omega (arith, length-map row (λ e. e.0)) in omega (arith, on.0 m)) on.1 all.1)
+    let on = rises_on e.0 (listed_indices row) up in
+    (first (omega arith), all.0.0, all.0.1, cap_row p w (e.0 + 1) row (λ l. let m : 0 < length (listed_indices row) = omega (arith, length-map row (λ e. e.0)) in omega (arith, on.0 m)) on.1 all.1)
 
 pub listed_is_row : (p : Problem) (w : WarriorView) (ks : List ℕ) (row : List (ℕ × ℕ)) → All (λ k. k < p.fights) ks → IsListed p w ks row → IsCapRow p w 0 row
 listed_is_row p w ks row below h =

@@ -6,7 +6,7 @@ use Rattle.std.proofs.lemmas.List.FromFn.{length-map-range_with_len, get_or-map-
 use Rattle.rc_instr.specs.Warrior.{WarriorView}
 use Rattle.tune_problem.specs.Problem.{Problem}
 use Rattle.tune_problem.specs.Optimum.{total_of, all_fights, cap_of, score_of}
-use Rattle.tune_problem.specs.Valid.{numbers, listed_total, IsCapRow, IsRightRow, IsVersionOf, IsOwnVersion, IsValid}
+use Rattle.tune_problem.specs.Valid.{listed_indices, listed_total, IsCapRow, IsRightRow, IsVersionOf, IsOwnVersion, IsValid}
 use Rattle.tune_problem.specs.declared.cert.Cert.{Cert}
 use Rattle.tune_problem.specs.declared.cert.Row.{Row}
 use Rattle.tune_problem.specs.declared.cert.Row.TheVariants.{Refused}
@@ -24,7 +24,7 @@ played_row : (p : Problem) (w : WarriorView) (m a : ℕ) → a + m ≡ p.fights 
 played_row p w zero a e = tt
 played_row p w (suc m) a e = (omega arith, omega arith, refl, played_row p w m (a + 1) (omega arith))
 
-numbers_played : (p : Problem) (w : WarriorView) (ks : List ℕ) → numbers (played p w ks) ≡ ks
+numbers_played : (p : Problem) (w : WarriorView) (ks : List ℕ) → listed_indices (played p w ks) ≡ ks
 numbers_played p w [] = refl
 numbers_played p w (k ∷ ks) = ap (λ l. k ∷ l) (numbers_played p w ks)
 
@@ -55,9 +55,9 @@ module _ (p : Problem) (rows : List Row) (are : rows ≡ rows_of p) where
     abbrev cert : Cert
     cert = record { version = version; count = length rows; best = w; total = t; rows = rows }
 
-    trails_best : (v : ℕ) (x : WarriorView) → v < p.count → p.warrior v ≡ Some x → Trails (cap_of p x (numbers (played p x (all_fights p)))) v t w
+    trails_best : (v : ℕ) (x : WarriorView) → v < p.count → p.warrior v ≡ Some x → Trails (cap_of p x (listed_indices (played p x (all_fights p)))) v t w
     trails_best v x l is =
-        let c : cap_of p x (numbers (played p x (all_fights p))) ≡ total_of p x = ap (cap_of p x) (numbers_played p x (all_fights p)) ∙ cap_all p x in
+        let c : cap_of p x (listed_indices (played p x (all_fights p))) ≡ total_of p x = ap (cap_of p x) (numbers_played p x (all_fights p)) ∙ cap_all p x in
         let le : total_of p x ≤ t = best.greatest v x l is in
         record { no_more = omega (arith, c, le); later = λ e. best.first v x l is (sym c ∙ e) }
 

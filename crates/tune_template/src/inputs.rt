@@ -135,36 +135,35 @@ impl Inputs {
         place_among(self.first(), self.count(), self.template.start_number())
     }
 
-    /// Returns the setting at index `number` of the part, counted from 0, which must be below
-    /// `count`.
+    /// Returns the part's setting at `index`, from 0, which must be below `count`.
     #[tactic(auto, using(crate::proofs::PartSteps::setting_found))]
-    pub fn vector(&self, number: u32) -> Vector
-        requires { number < length (settings_of self.now) }
-        ensures { slice_get (settings_of self.now) number ≡ Some result }
+    pub fn vector(&self, index: u32) -> Vector
+        requires { index < length (settings_of self.now) }
+        ensures { slice_get (settings_of self.now) index ≡ Some result }
     {
-        self.template().vector(self.number_of(number))
+        self.template().vector(self.index_in_template(index))
     }
 
-    /// Assembles the template with the values of the setting at index `number` of the part, which
-    /// must be below `count`.
+    /// Assembles the template with the values of the part's setting at `index`, which must be below
+    /// `count`.
     ///
     /// Fails as `rc_asm::assemble` does for the text with these values.
     #[tactic(auto, using(crate::proofs::PartSteps::warrior_found, crate::proofs::PartSteps::no_warrior, crate::proofs::PartSteps::warrior_fault))]
-    pub fn instance(&self, alloc: Global, number: u32) -> Result<Warrior, AsmFault>
-        requires { number < length (settings_of self.now) }
-        ensures warrior { IfOk result (λ w. warrior_of self.now number ≡ Some w) }
+    pub fn instance(&self, alloc: Global, index: u32) -> Result<Warrior, AsmFault>
+        requires { index < length (settings_of self.now) }
+        ensures warrior { IfOk result (λ w. warrior_of self.now index ≡ Some w) }
         ensures is_warrior { IfOk result IsWarrior }
         ensures fits { IfOk result (Fits self.now.rules) }
-        ensures refused { IfErr result (λ f. f.kind ≢ NoRoomToAssemble → warrior_of self.now number ≡ None) }
-        ensures fault { IfErr result (λ f. f.kind ≢ NoRoomToAssemble → (x : List ℤ) → slice_get (settings_of self.now) number ≡ Some x →
+        ensures refused { IfErr result (λ f. f.kind ≢ NoRoomToAssemble → warrior_of self.now index ≡ None) }
+        ensures fault { IfErr result (λ f. f.kind ≢ NoRoomToAssemble → (x : List ℤ) → slice_get (settings_of self.now) index ≡ Some x →
             IsAsmFault self.now.template.text (constants_of self.now.template.ranges.names x) self.now.rules f) }
         ensures memory { IfErr result (λ f. f.kind ≡ NoRoomToAssemble → f.line ≡ 0) }
     {
         self.template()
-            .instance(alloc, self.number_of(number), self.rules())
+            .instance(alloc, self.index_in_template(index), self.rules())
     }
 
-    // Returns the number of the part's first setting.
+    // Returns the index in the template of the part's first setting.
     fn first(&self) -> u32
         ensures first { result ≡ part_first self.now.part (length (vectors_of self.now.template.ranges.spans)) }
         ensures inputs { AreInputs self.now }
@@ -172,11 +171,11 @@ impl Inputs {
         self.part.first(self.template.count())
     }
 
-    // Returns the number that the setting at index `index` of the part has in the template.
+    // Returns the index in the template of the part's setting at `index`.
     #[tactic(auto, using(crate::proofs::PartSteps::setting_inside))]
-    fn number_of(&self, index: u32) -> u32
+    fn index_in_template(&self, index: u32) -> u32
         requires { index < length (settings_of self.now) }
-        ensures number { result ≡ part_first self.now.part (length (vectors_of self.now.template.ranges.spans)) + index }
+        ensures index { result ≡ part_first self.now.part (length (vectors_of self.now.template.ranges.spans)) + index }
         ensures inside { result < length (vectors_of self.now.template.ranges.spans) }
         ensures inputs { AreInputs self.now }
     {
@@ -185,14 +184,14 @@ impl Inputs {
     }
 }
 
-// Returns where `number` is among `count` numbers from `first` on, or 0 if it is none of them.
-fn place_among(first: u32, count: u32, number: u32) -> u32
+// Returns where `index` is among the `count` from `first` on, or 0 if it is none of them.
+fn place_among(first: u32, count: u32, index: u32) -> u32
     requires { 0 < count }
-    ensures place { result ≡ place_among first count number }
+    ensures place { result ≡ place_among first count index }
     ensures inside { result < count }
 {
-    if first <= number && number - first < count {
-        number - first
+    if first <= index && index - first < count {
+        index - first
     } else {
         0
     }

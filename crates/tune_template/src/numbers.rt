@@ -36,10 +36,5 @@ fn small_number(word: &[u8]) -> Option<u16>
     if word.len() > 5 {
         return None;
     }
-    let number = padded_decimal(word)?;
-    if number <= 65535 {
-        Some(number as u16)
-    } else {
-        None
-    }
+    u16::try_from(padded_decimal(word)?).ok()
 }

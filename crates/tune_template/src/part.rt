@@ -33,7 +33,7 @@ impl Part {
         1 <= self.number && self.number <= self.parts && self.parts <= count
     }
 
-    // Returns the number of the first of its settings, out of `count`.
+    // Returns the index of the first of its settings, out of `count`.
     pub(crate) fn first(self, count: u32) -> u32
         requires part { IsPart self count }
         ensures { result ≡ part_first self count }
@@ -41,7 +41,7 @@ impl Part {
         (u64::from(self.number - 1) * u64::from(count) / u64::from(self.parts)) as u32
     }
 
-    // Returns the number after the last of its settings, out of `count`.
+    // Returns the index after the last of its settings, out of `count`.
     pub(crate) fn end(self, count: u32) -> u32
         requires part { IsPart self count }
         ensures end { result ≡ part_end self count }

@@ -8,6 +8,9 @@ use crate::fault::TemplateKind;
 
 /// The values of a constant: `low`, `low + step`, .., `count` of them. A search begins with the one
 /// at index `start`.
+///
+/// In a template `low` is -65535 to 65535, `step` 1 to 65535, `count` 1 to 131071, and `start` is
+/// below `count`.
 #[derive(Clone, Copy, Debug)]
 pub struct Span {
     pub low: i32,
@@ -49,7 +52,8 @@ impl Span {
         })
     }
 
-    /// Returns the value at `index`. The least value is at 0.
+    /// Returns the value at `index`: `low + index * step`. The least value is at 0. `index` need
+    /// not be below `count`.
     pub fn value_at(&self, index: u32) -> i64
         ensures { result ≡ span_value self.now index }
     {

@@ -107,14 +107,14 @@ impl Template {
         self.count
     }
 
-    /// Returns setting `number`, counted from 0, which must be below `count`: one value for each
+    /// Returns the setting at `index`, from 0, which must be below `count`: one value for each
     /// constant. Settings are in lexicographic order, with the first constant slowest and rising
     /// values.
-    pub fn vector(&self, number: u32) -> Vector
-        requires { number < length (vectors_of self.now.ranges.spans) }
-        ensures { slice_get (vectors_of self.now.ranges.spans) number ≡ Some result }
+    pub fn vector(&self, index: u32) -> Vector
+        requires { index < length (vectors_of self.now.ranges.spans) }
+        ensures { slice_get (vectors_of self.now.ranges.spans) index ≡ Some result }
     {
-        values_of(&self.spans, self.count, number)
+        vector_at(&self.spans, self.count, index)
     }
 
     /// Returns the index of the setting of the start values.
@@ -140,21 +140,21 @@ impl Template {
         self.spans.as_slice()
     }
 
-    /// Assembles the text with the values of setting `number`, which must be below `count`.
+    /// Assembles the text with the values of the setting at `index`, which must be below `count`.
     ///
     /// Fails as `rc_asm::assemble` does for the text with these values.
-    pub fn instance(&self, alloc: Global, number: u32, rules: &Rules) -> Result<Warrior, AsmFault>
-        requires { number < length (vectors_of self.now.ranges.spans) }
-        ensures warrior { IfOk result (λ w. instance_of self.now rules.now number ≡ Some w) }
+    pub fn instance(&self, alloc: Global, index: u32, rules: &Rules) -> Result<Warrior, AsmFault>
+        requires { index < length (vectors_of self.now.ranges.spans) }
+        ensures warrior { IfOk result (λ w. instance_of self.now rules.now index ≡ Some w) }
         ensures is_warrior { IfOk result IsWarrior }
         ensures fits { IfOk result (Fits rules.now) }
-        ensures refused { IfErr result (λ f. f.kind ≢ NoRoomToAssemble → instance_of self.now rules.now number ≡ None) }
-        ensures fault { IfErr result (λ f. f.kind ≢ NoRoomToAssemble → (x : List ℤ) → slice_get (vectors_of self.now.ranges.spans) number ≡ Some x →
+        ensures refused { IfErr result (λ f. f.kind ≢ NoRoomToAssemble → instance_of self.now rules.now index ≡ None) }
+        ensures fault { IfErr result (λ f. f.kind ≢ NoRoomToAssemble → (x : List ℤ) → slice_get (vectors_of self.now.ranges.spans) index ≡ Some x →
             IsAsmFault self.now.text (constants_of self.now.ranges.names x) rules.now f) }
         ensures memory { IfErr result (λ f. f.kind ≡ NoRoomToAssemble → f.line ≡ 0) }
     {
         assembly_is_computed();
-        let vector = self.vector(number);
+        let vector = self.vector(index);
         let constants = Constants {
             names: self.names(),
             values: vector.as_slice(),
@@ -214,17 +214,17 @@ fn read_lines(alloc: Global, bytes: &[u8]) -> Result<Reading, TemplateFault>
     Ok(reading)
 }
 
-// Decodes setting `number` of `count`: one digit for each span, the first constant slowest.
-fn values_of(spans: &[Span], count: u32, number: u32) -> Vector
+// Decodes the setting at `index` of `count`: one digit for each span, the first constant slowest.
+fn vector_at(spans: &[Span], count: u32, index: u32) -> Vector
     requires few { length spans.now ≤ MOST_CONSTANTS }
     requires values { All HasValues spans.now }
     requires count { vector_count spans.now ≡ count }
-    requires inside { number < count }
-    ensures { slice_get (vectors_of spans.now) number ≡ Some result }
+    requires inside { index < count }
+    ensures { slice_get (vectors_of spans.now) index ≡ Some result }
 {
     let mut vector = Vector::new();
     let mut size = count;
-    let mut place = number;
+    let mut place = index;
     let mut rest = spans;
     while let Some((span, after)) = rest.split_first() {
         size /= span.count;
@@ -235,7 +235,7 @@ fn values_of(spans: &[Span], count: u32, number: u32) -> Vector
     vector
 }
 
-// Encodes the setting of the start values, as `values_of` decodes it.
+// Encodes the setting of the start values, as `vector_at` decodes it.
 fn start_of(spans: &[Span], count: u32) -> u32
     requires values { All HasValues spans.now }
     requires count { vector_count spans.now ≡ count }
@@ -243,13 +243,13 @@ fn start_of(spans: &[Span], count: u32) -> u32
     ensures start { slice_get (vectors_of spans.now) result ≡ Some (start_vector spans.now) }
     ensures inside { result < length (vectors_of spans.now) }
 {
-    let mut number = 0;
+    let mut index = 0;
     let mut size = count;
     let mut rest = spans;
     while let Some((span, after)) = rest.split_first() {
         size /= span.count;
-        number += span.start * size;
+        index += span.start * size;
         rest = after;
     }
-    number
+    index
 }

@@ -1,6 +1,18 @@
 use Rattle.std.proofs.Common.{◌≡◌, ◌∙◌, sym, ap, [], ◌∷◌}
+use Rattle.std.specs.Prelude.{Option, Some, None, Result, Ok, Err, IfOk, IfSome, IsSomeAnd}
 use Rattle.tune_cert.proofs.Spaced.{dash, dash_only, list_of, lists}
 use Rattle.tune_cert.proofs.read.read_items.Goals as goal
+
+-- what follows from what holds of a value holds of it, too
+some_weaker : {A E : Type 0} (r : Result (Option A) E) (P Q : A → Type 0) → ((x : A) → P x → Q x) → IfOk r (λ o. IfSome o P) → IfOk r (λ o. IfSome o Q)
+some_weaker (Ok (Some x)) P Q f h = f x h
+some_weaker (Ok None) P Q f h = h
+some_weaker (Err e) P Q f h = h
+
+is_some_weaker : {A E : Type 0} (r : Result (Option A) E) (P Q : A → Type 0) → ((x : A) → P x → Q x) → IfOk r (λ o. IsSomeAnd o P) → IfOk r (λ o. IsSomeAnd o Q)
+is_some_weaker (Ok (Some x)) P Q f h = f x h
+is_some_weaker (Ok None) P Q f h = h
+is_some_weaker (Err e) P Q f h = h
 
 pub returns-then-is_text-clause-found : goal.returns-then-is_text-clause-found
 returns-then-is_text-clause-found c =
@@ -18,24 +30,13 @@ returns-in_default-clause-only c items h =
     let l = lists c.args.bytes.now items h some in
     c.in_default.ensures.only l.first _ l.fine l.bytes_are
 
-pub returns-in-Some-2-clause-found : goal.returns-in-Some-2-clause-found
-returns-in-Some-2-clause-found c =
-    let made = rw c.in-Some-2.is at c.in_ok-items.ensures.found in
-    list_of _ _ c.in-Some.first _ _ c.in-Some.ensures.found.0 c.in-Some.ensures.found.1 made.0 made.1
+pub returns-clause-found : goal.returns-clause-found
+returns-clause-found c =
+    some_weaker c.read_others.result _ _ (λ v made. list_of _ _ c.in-Some.first _ _ c.in-Some.ensures.found.0 c.in-Some.ensures.found.1 made.0 made.1) c.read_others.ensures.found
 
-pub returns-in-Some-2-clause-only : goal.returns-in-Some-2-clause-only
-returns-in-Some-2-clause-only c items h =
+pub returns-clause-only : goal.returns-clause-only
+returns-clause-only c items h =
     let some : c.args.bytes.now ≡ 45 ∷ [] → ⊥ = λ e. cc (c.is_text.ensures.1 e) in
     let l = lists c.args.bytes.now items h some in
     let here = c.in-Some.ensures.only l.first _ l.fine l.bytes_are in
-    let all = c.in_ok-items.ensures.only l.others (rw here.1 l.spaced) in
-    let made = rw c.in-Some-2.is at all in
-    made ∙ ap (λ i. i ∷ l.others) here.0 ∙ sym l.items_are
-
-pub returns-in-None-clause-only : goal.returns-in-None-clause-only
-returns-in-None-clause-only c items h =
-    let some : c.args.bytes.now ≡ 45 ∷ [] → ⊥ = λ e. cc (c.is_text.ensures.1 e) in
-    let l = lists c.args.bytes.now items h some in
-    let here = c.in-Some.ensures.only l.first _ l.fine l.bytes_are in
-    let all = c.in_ok-items.ensures.only l.others (rw here.1 l.spaced) in
-    rw c.in-None.is at all
+    is_some_weaker c.read_others.result _ _ (λ v made. made ∙ ap (λ i. i ∷ l.others) here.0 ∙ sym l.items_are) (c.read_others.ensures.only l.others (rw here.1 l.spaced))

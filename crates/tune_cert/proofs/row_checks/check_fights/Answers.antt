@@ -2,7 +2,7 @@ use Rattle.std.proofs.Common.{◌≡◌, ◌∙◌, sym, refl, true, false, ℕ,
 use Rattle.rc_instr.specs.Warrior.{WarriorView}
 use Rattle.tune_problem.specs.Problem.{problem_of}
 use Rattle.tune_problem.specs.Optimum.{cap_of, beats}
-use Rattle.tune_problem.specs.Valid.{numbers, IsCapRow}
+use Rattle.tune_problem.specs.Valid.{listed_indices, IsCapRow}
 use Rattle.tune_cert.specs.Verdict.{HavePoints}
 use Rattle.tune_problem.proofs.Certificates.{some_is}
 use Rattle.tune_cert.proofs.RowChecks.{cap_row_of, listed_is_cap}
@@ -30,7 +30,7 @@ returns-then-is_above-clause-wrong g c =
     let p = problem_of c.args.claim.now.inputs.now in
     let w = c.args.warrior.now in
     let row : IsCapRow p w 0 c.args.listed.now = cap_row_of p w 0 c.args.listed.now c.requires.rising (c.if-not-have_points.ensures.points.0 refl) in
-    let cap : c.listed_cap.result ≡ cap_of p w (numbers c.args.listed.now) =
+    let cap : c.listed_cap.result ≡ cap_of p w (listed_indices c.args.listed.now) =
     c.listed_cap.ensures ∙ listed_is_cap p w c.args.listed.now row in (
       w,
       c.if-vector-claim.false,
@@ -43,7 +43,7 @@ returns-clause-right g c =
     let p = problem_of c.args.claim.now.inputs.now in
     let w = c.args.warrior.now in
     let row : IsCapRow p w 0 c.args.listed.now = cap_row_of p w 0 c.args.listed.now c.requires.rising (c.if-not-have_points.ensures.points.0 refl) in
-    let cap : c.listed_cap.result ≡ cap_of p w (numbers c.args.listed.now) =
+    let cap : c.listed_cap.result ≡ cap_of p w (listed_indices c.args.listed.now) =
     c.listed_cap.ensures ∙ listed_is_cap p w c.args.listed.now row in (
       w,
       c.requires.candidate,

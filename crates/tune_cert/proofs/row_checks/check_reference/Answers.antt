@@ -2,7 +2,7 @@ use Rattle.std.proofs.Common.{◌≡◌, ◌<◌, ◌∙◌, sym, ap, arith, ref
 use Rattle.std.proofs.lemmas.Option.{slice_get_within, get_or_from_slice_get}
 use Rattle.tune_problem.specs.Problem.{problem_of}
 use Rattle.tune_problem.specs.Optimum.{cap_of, beats}
-use Rattle.tune_problem.specs.Valid.{numbers}
+use Rattle.tune_problem.specs.Valid.{listed_indices}
 use Rattle.tune_problem.specs.declared.cert.Row.TheVariants.{Cap}
 use Rattle.tune_problem.proofs.Certificates.{some_is}
 use Rattle.tune_cert.proofs.RowChecks.{listed_is_cap}
@@ -18,7 +18,7 @@ pub returns-then-is_above-clause-wrong : goal.returns-then-is_above-clause-wrong
 returns-then-is_above-clause-wrong c =
     let p = problem_of c.args.inputs.now in
     let row = c.requires.alone.each c.args.other (Cap c.in-Some.listed.now) c.in-Some.ensures.some in
-    let cap : c.listed_cap.result ≡ cap_of p row.0 (numbers c.in-Some.listed.now) =
+    let cap : c.listed_cap.result ≡ cap_of p row.0 (listed_indices c.in-Some.listed.now) =
     c.listed_cap.ensures ∙ listed_is_cap p row.0 c.in-Some.listed.now row.2 in (
       row.0,
       c.in-Some.listed.now,
@@ -31,7 +31,7 @@ pub returns-clause-right : goal.returns-clause-right
 returns-clause-right c =
     let p = problem_of c.args.inputs.now in
     let row = c.requires.alone.each c.args.other (Cap c.in-Some.listed.now) c.in-Some.ensures.some in
-    let cap : c.listed_cap.result ≡ cap_of p row.0 (numbers c.in-Some.listed.now) =
+    let cap : c.listed_cap.result ≡ cap_of p row.0 (listed_indices c.in-Some.listed.now) =
     c.listed_cap.ensures ∙ listed_is_cap p row.0 c.in-Some.listed.now row.2 in
     let within : c.args.other < length c.args.cert.now.rows = slice_get_within c.args.cert.now.rows c.args.other (Cap c.in-Some.listed.now) c.in-Some.ensures.some in
     let theirs : p.warrior c.args.other ≡ Some c.in-Some-index.theirs =

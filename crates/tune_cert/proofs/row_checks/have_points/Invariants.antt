@@ -6,9 +6,9 @@ use Rattle.tune_cert.specs.Verdict.{HavePoints}
 use Rattle.tune_cert.proofs.row_checks.have_points.Given as goal
 
 -- all have their points if the rest have
-abbrev pub invariant-loop-number : goal.invariant-loop-number
-invariant-loop-number g l = record {
-  points : HavePoints (problem_of l.inputs) l.warrior (drop l.number-index l.listed) ↔ HavePoints (problem_of l.inputs) l.warrior l.listed;
+abbrev pub invariant-loop-index : goal.invariant-loop-index
+invariant-loop-index g l = record {
+  points : HavePoints (problem_of l.inputs) l.warrior (drop l.index-index l.listed) ↔ HavePoints (problem_of l.inputs) l.warrior l.listed;
   blank : IsBlank l.inputs.rules l.arena;
-  counted : l.fn.arena.fights + l.number-index < 2 ^ 64 → l.arena.fights ≡ l.fn.arena.fights + l.number-index;
+  counted : l.fn.arena.fights + l.index-index < 2 ^ 64 → l.arena.fights ≡ l.fn.arena.fights + l.index-index;
 }

@@ -5,8 +5,8 @@ use Rattle.tune_cert.specs.Steps.{listed_most}
 use Rattle.tune_cert.proofs.row_checks.listed_most.Given as goal
 
 -- the most of the fights so far, and that of the rest
-abbrev pub invariant-loop-number : goal.invariant-loop-number
-invariant-loop-number l = record {
-  sum : l.most + listed_most (problem_of l.inputs) (drop l.number-index l.listed) ≡ listed_most (problem_of l.inputs) l.listed;
-  small : l.most ≤ 3 * MOST_WEIGHT * l.number-index;
+abbrev pub invariant-loop-index : goal.invariant-loop-index
+invariant-loop-index l = record {
+  sum : l.most + listed_most (problem_of l.inputs) (drop l.index-index l.listed) ≡ listed_most (problem_of l.inputs) l.listed;
+  small : l.most ≤ 3 * MOST_WEIGHT * l.index-index;
 }

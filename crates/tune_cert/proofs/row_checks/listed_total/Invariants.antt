@@ -5,8 +5,8 @@ use Rattle.tune_problem.specs.Valid.{listed_total}
 use Rattle.tune_cert.proofs.row_checks.listed_total.Given as goal
 
 -- the scores so far, and those of the rest
-abbrev pub invariant-loop-number : goal.invariant-loop-number
-invariant-loop-number l = record {
-  sum : l.total + listed_total (problem_of l.inputs) (drop l.number-index l.listed) ≡ listed_total (problem_of l.inputs) l.listed;
-  small : l.total ≤ 255 * MOST_WEIGHT * l.number-index;
+abbrev pub invariant-loop-index : goal.invariant-loop-index
+invariant-loop-index l = record {
+  sum : l.total + listed_total (problem_of l.inputs) (drop l.index-index l.listed) ≡ listed_total (problem_of l.inputs) l.listed;
+  small : l.total ≤ 255 * MOST_WEIGHT * l.index-index;
 }

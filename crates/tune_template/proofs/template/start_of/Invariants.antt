@@ -10,4 +10,4 @@ decreases-loop-span l = length l.rest
 
 -- the index so far, and the spans that are left
 abbrev pub invariant-loop-span : goal.invariant-loop-span
-invariant-loop-span l = (start_index l.spans ≡ l.number + start_index l.rest) × (vector_count l.rest ≡ l.size) × All HasValues l.rest
+invariant-loop-span l = (start_index l.spans ≡ l.index + start_index l.rest) × (vector_count l.rest ≡ l.size) × All HasValues l.rest

@@ -10,8 +10,8 @@ use Rattle.tune_template.proofs.inputs.Inputs.instance.Goals as goal
 pub returns-clause-fault : goal.returns-clause-fault
 returns-clause-fault c =
     let i = c.args.self.now in
-    let n = c.number_of.result in
-    warrior_fault i c.number_of.ensures.inputs c.args.number n c.requires c.number_of.ensures.number c.instance.result
+    let n = c.index_in_template.result in
+    warrior_fault i c.index_in_template.ensures.inputs c.args.index n c.requires c.index_in_template.ensures.index c.instance.result
     (subst (λ t. IfErr c.instance.result (λ f. f.kind ≢ OutOfMemory → (x : List ℤ) → slice_get (vectors_of t.ranges.spans) n ≡ Some x → IsAsmFault t.text (constants_of t.ranges.names x) i.rules f)) c.template.ensures.template
     (subst (λ r. IfErr c.instance.result (λ f. f.kind ≢ OutOfMemory → (x : List ℤ) → slice_get (vectors_of c.template.result.now.ranges.spans) n ≡ Some x
     → IsAsmFault c.template.result.now.text (constants_of c.template.result.now.ranges.names x) r f)) c.rules.ensures c.instance.ensures.fault))

@@ -15,7 +15,7 @@ returns-clause-warrior c =
     let k = table_of c.names.result.now c.as_slice.result.now in
     let same : k ≡ constants_of t.ranges.names c.vector-vector.result = same_table c.names.result.now c.as_slice.result.now ∙ (ap (λ n. constants_of n c.as_slice.result.now) c.names.ensures ∙ ap (constants_of t.ranges.names) c.as_slice.ensures) in
     let text : c.deref.result.now ≡ t.text = c.deref.ensures.value ∙ ap (λ t. t.text) c.self.view_is in
-    found_instance t c.args.rules.now c.args.number c.vector-vector.result k c.vector-vector.ensures same (λ s k r w. c.assembly_is_computed.ensures s k r w) c.assemble.result
+    found_instance t c.args.rules.now c.args.index c.vector-vector.result k c.vector-vector.ensures same (λ s k r w. c.assembly_is_computed.ensures s k r w) c.assemble.result
     (subst (λ s. IfOk c.assemble.result (Assembles s k c.args.rules.now)) text c.assemble.ensures.warrior)
 
 pub returns-clause-refused : goal.returns-clause-refused
@@ -24,7 +24,7 @@ returns-clause-refused c =
     let k = table_of c.names.result.now c.as_slice.result.now in
     let same : k ≡ constants_of t.ranges.names c.vector-vector.result = same_table c.names.result.now c.as_slice.result.now ∙ (ap (λ n. constants_of n c.as_slice.result.now) c.names.ensures ∙ ap (constants_of t.ranges.names) c.as_slice.ensures) in
     let text : c.deref.result.now ≡ t.text = c.deref.ensures.value ∙ ap (λ t. t.text) c.self.view_is in
-    no_instance t c.args.rules.now c.args.number c.vector-vector.result k c.vector-vector.ensures same (λ s k r w. c.assembly_is_computed.ensures s k r w) c.assemble.result
+    no_instance t c.args.rules.now c.args.index c.vector-vector.result k c.vector-vector.ensures same (λ s k r w. c.assembly_is_computed.ensures s k r w) c.assemble.result
     (subst (λ s. IfErr c.assemble.result (λ f. f.kind ≢ OutOfMemory → (w : WarriorView) → Assembles s k c.args.rules.now w → ⊥)) text c.assemble.ensures.refused)
 
 pub returns-clause-fault : goal.returns-clause-fault
@@ -33,5 +33,5 @@ returns-clause-fault c =
     let k = table_of c.names.result.now c.as_slice.result.now in
     let same : k ≡ constants_of t.ranges.names c.vector-vector.result = same_table c.names.result.now c.as_slice.result.now ∙ (ap (λ n. constants_of n c.as_slice.result.now) c.names.ensures ∙ ap (constants_of t.ranges.names) c.as_slice.ensures) in
     let text : c.deref.result.now ≡ t.text = c.deref.ensures.value ∙ ap (λ t. t.text) c.self.view_is in
-    instance_fault t c.args.rules.now c.args.number c.vector-vector.result k c.vector-vector.ensures same c.assemble.result
+    instance_fault t c.args.rules.now c.args.index c.vector-vector.result k c.vector-vector.ensures same c.assemble.result
     (subst (λ s. IfErr c.assemble.result (λ f. f.kind ≢ OutOfMemory → IsAsmFault s k c.args.rules.now f)) text c.assemble.ensures.fault)
