@@ -18,8 +18,8 @@ use tune_template::Inputs;
 /// Assembles the template with the values of setting `vector`, which is below the count of
 /// settings of the inputs.
 ///
-/// Returns `None` if the text does not assemble with these values, or not to a warrior that fits the
-/// rules, and `OutOfMemory` if memory runs out: that says nothing about the setting.
+/// Returns `None` if the text does not assemble with these values, or not to a warrior that fits
+/// the rules, and `OutOfMemory` if memory runs out: that says nothing about the setting.
 pub fn setting_warrior(
     alloc: Global,
     inputs: &Inputs,

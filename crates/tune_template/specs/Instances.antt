@@ -47,7 +47,7 @@ pub record AreInputs (i : InputsView) : Type 0 where
 unfoldable pub settings_of : InputsView → List (List ℤ)
 settings_of i = part_of i.part (vectors_of i.template.ranges.spans)
 
--- where v is among `count` numbers from `first` on, or 0 if it is none of them
+-- where v is among the `count` indices from `first` on, or 0 if it is none of them
 abbrev pub place_among : (first count v : ℕ) → ℕ
 place_among first count v = if nat_le first v && nat_lt v (first + count) then v - first else 0
 

@@ -184,7 +184,7 @@ impl Inputs {
     }
 }
 
-// Returns where `index` is among the `count` from `first` on, or 0 if it is none of them.
+// Returns where `index` is among the `count` indices from `first` on, or 0 if it is none of them.
 fn place_among(first: u32, count: u32, index: u32) -> u32
     requires { 0 < count }
     ensures place { result ≡ place_among first count index }
