@@ -282,8 +282,8 @@ def interrupted(play):
 
 
 def limited(play):
-    """Yields checks of a tuning that may write only a few bytes to a file, and of a CERT that is a
-    link, or that has permissions of its own."""
+    """Yields checks of a tuning that may write only few bytes to a file, or open only one, and of a
+    CERT that is a link, or that has permissions of its own."""
     for most in [1, 10, len(OLD_CERT) - 1]:
         limit = lambda: resource.setrlimit(resource.RLIMIT_FSIZE, (most, most))
         play.set_cert(OLD_CERT + b"#")
@@ -295,8 +295,12 @@ def limited(play):
         yield f"a limit of {most} bytes that kills", left, came
         (play.folder / "CERT.unfinished-1").unlink()
     path = play.folder / "CERT"
+    # After the three streams one file can be opened, and its handle cannot be copied.
+    few = lambda: resource.setrlimit(resource.RLIMIT_NOFILE, (4, 4))
     for old in [OLD_CERT + b"#", None]:
         play.set_cert(old)
+        came = (*play.run(TUNE, preexec_fn=few), play.cert(), play.beside())
+        yield "a limit of four open files", (*NO_CREATE, old, []), came
         if old:
             path.chmod(0o640)
         (play.folder / "link").symlink_to("second")
@@ -313,7 +317,7 @@ def limited(play):
 
 def certificates_in_place(play):
     """Yields checks of a link in another folder, of a new CERT, of files that other runs have left
-    beside it, and of a CERT that may not be written."""
+    beside it, and of a CERT that may not be written, or not read."""
     inside = play.folder / "inside"
     inside.mkdir()
     (inside / "link").symlink_to("real")
@@ -339,6 +343,12 @@ def certificates_in_place(play):
     path.chmod(0o444)
     came = (*play.run(TUNE, **as_owner(path, play.program)), play.cert())
     yield "a CERT that may not be written", (*NO_CREATE, OLD_CERT + b"#"), came
+    play.set_cert(b"mine\n")
+    path.chmod(0o200)
+    came = play.run(TUNE, **as_owner(path, play.program))
+    path.chmod(0o600)
+    expected = (3, b"", b"failed: read CERT\n", b"mine\n")
+    yield "a CERT that may not be read", expected, (*came, play.cert())
 
 
 def as_owner(path, program):

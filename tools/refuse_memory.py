@@ -10,8 +10,10 @@ run failed.
 """
 import concurrent.futures
 import os
+import pathlib
 import sys
 import tempfile
+import tomllib
 
 import once_each
 from endings import run_tool
@@ -130,11 +132,19 @@ def with_rules(words):
     return [name, *RULES, *others]
 
 
+def version():
+    """Returns what `--version` prints, as a case has it."""
+    path = pathlib.Path(__file__).resolve().parent.parent / "cases/command-line.toml"
+    cases = tomllib.loads(path.read_text("utf-8"))["case"]
+    return next(case["out"] for case in cases if case.get("words") == "--version")
+
+
 def all_runs():
     """Returns name, words, standard input and the expected end of each run."""
     runs = [(name, [], text, (*end, OLD_CERT)) for name, text, *end in FIGHTS]
     settings = (0, "vectors 3\nconstant K 3 1\n", "", OLD_CERT)
     runs.append(("settings step.red", ["settings", "step.red"], "", settings))
+    runs.append(("--version", ["--version"], "", (0, version(), "", OLD_CERT)))
     for words, *end in ASSEMBLIES + CHECKS:
         runs.append((words, with_rules(words), "", (*end, OLD_CERT)))
     return runs + [(words, with_rules(words), "", tuple(end)) for words, *end in TUNINGS]

@@ -12,7 +12,7 @@ import concurrent.futures, os, pathlib, signal, subprocess, sys, tempfile
 from typing import NamedTuple
 
 from endings import run_tool
-from refuse_memory import FILES, OLD_CERT, all_runs
+from refuse_memory import FILES, OLD_CERT, TUNINGS, all_runs, with_rules
 from trials import library_of, program_of, tally
 
 BESIDE = "CERT.unfinished-1"
@@ -86,14 +86,26 @@ def fail_each(program, library, words, text, end):
     return count, wrong
 
 
+def explain_flush(program, library):
+    """Fails the flush of a certificate with --explain. Returns what was wrong, in a list."""
+    words, *_, cert = TUNINGS[0]
+    changes = {"LD_PRELOAD": library, "SHORT": "1", "FAIL": str(steps_of(cert) - 1)}
+    said = "failed: Write\n  CERT: Input/output error (os error 5)\n  found: best 0 total 4\n"
+    expected = End(3, "", said, {"CERT": OLD_CERT})
+    came = run(program, [*with_rules(words), "--explain"], "", OLD_CERT, changes)
+    return [] if came == expected else [f"expected {expected}, came {came}"]
+
+
 def main():
     program, runs = program_of(sys.argv[1:]), all_runs()
     with tempfile.TemporaryDirectory() as work:
         library = library_of("refuse_writes.c", work)
         with concurrent.futures.ThreadPoolExecutor(os.cpu_count()) as pool:
             came = list(pool.map(lambda one: fail_each(program, library, *one[1:]), runs))
+        explained = explain_flush(program, library)
     total = sum(steps for steps, _ in came)
     results = [(name, wrong) for (name, *_), (_, wrong) in zip(runs, came)]
+    results.append(("a flush that fails, with --explain", explained))
     return tally(results, f"{total} steps failed: ")
 
 

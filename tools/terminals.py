@@ -33,9 +33,14 @@ FILES = {
     "count.red": b"NOP\nFOR 4097\nROF\n",
     "bom.red": b"\xef\xbb\xbf;@tune K 0 1 1 0\nMOV 0, 1\n",
     "blank.red": b"MOV 0, 1\n  ;@tune K 0 1 1 0\n",
-    "capitals.red": b"MOV 0, 1 ; and\n;@TUNE K 0 1 1 0\n;@tuned\n; see ;@tune\n; on @tune\n",
+    "capitals.red": b"MOV 0, 1 ; and\n;@TUNE K 0 1 1 0\n;@tuned\n; see ;@tune\n; on @tune\n"
+                    b"; \t@Tune K 0 1 1 0\n",
+    "alone.red": b";@tune\nMOV 0, 1\n",
+    "byte.red": b";@tune K 0 1 1 0\nDAT ?\nMOV 0, K\n",
+    "small.red": b";@tune K 0 1 1 0\nMOV 0, k\n",
     "unused.red": b";@tune K 0 1 1 0\n;@tune NO 0 1 1 0\nMOV 0, K+1-K ; NO\n",
     "near.csv": b"opponent,position,first\n\n0,8,c\n0,3,c\n",
+    "ends.csv": b"opponent,position,first\r\n\r\n0,8,c\r0,8,c\r\n0,3,c\r\n",
     "third.csv": b"opponent,position,first\n2,8,c\n",
     "word.csv": b"opponent,position,first\n0,8,c\n0,8 ,c\n",
     "few.csv": b"opponent,position,first\n0,8\n",
@@ -78,6 +83,7 @@ def refused(line, *more):
 
 # Words, and the end: status, standard output, and standard error but for the progress.
 TEXTS = [
+    (["fight"], refused(b"FightText line 1")),
     (["asm", "zero.red"],
      refused(b"Asm line 2 Value DivisionByZero", b"zero.red, line 2: \tDAT 1/0",
              b"division by zero")),
@@ -86,7 +92,7 @@ TEXTS = [
                                     b"unexpected byte")),
     (["asm", "big.red"], refused(b"Asm line 0 TextTooLong", b"big.red",
                                  b"a text has at most 65536 bytes, not 65537")),
-    (["asm", "--length=4", "--distance=4", "long.red"],
+    (["asm", "--length=4", "--distance=5", "long.red"],
      refused(b"Asm line 0 Warrior TooLong", b"long.red",
              b"the most instructions of a warrior are 4")),
     (["asm", "empty.red"],
@@ -129,6 +135,8 @@ TEXTS = [
     (["asm", "--setting=0", "range.red"],
      refused(b"Template line 1 EmptyRange", b"range.red, line 1: ;@tune K 2 1 1 1",
              b"LOW is above HIGH")),
+    (["settings", "big.red"], refused(b"Template line 0 TextTooLong", b"big.red",
+                                      b"a text has at most 65536 bytes, not 65537")),
     (["settings", "words.red"],
      refused(b"Template line 1 BadLine", b"words.red, line 1: ;@tune K 0 1 1 0 why",
              b"a range line is `;@tune NAME LOW HIGH STEP START` and nothing else")),
@@ -144,6 +152,8 @@ TUNINGS = [
      refused(b"Template line 1 EmptyRange", b"range.red, line 1: ;@tune K 2 1 1 1",
              b"LOW is above HIGH")),
     (tune("two.red near.csv"), refused(b"Schedule row 2 BadPosition", b"near.csv, line 4: 0,3,c",
+                                       b"positions are 4 to 12")),
+    (tune("two.red ends.csv"), refused(b"Schedule row 3 BadPosition", b"ends.csv, line 4: 0,3,c",
                                        b"positions are 4 to 12")),
     (tune("two.red third.csv"), refused(b"Schedule row 1 NoSuchOpponent",
                                         b"third.csv, line 2: 2,8,c", b"opponents are 0 to 1")),
@@ -176,6 +186,11 @@ TUNINGS = [
     (["check", *RULES, "two.red", "both.csv", "two.cert", "dat.red", "imp.red"],
      (0, b"accepted best 0 total 4\n", b"")),
     (tune("two.red both.csv"), (0, REPORT, b"")),
+    (tune("two.red no.csv"),
+     (3, b"", b"failed: read no.csv\n  no.csv: No such file or directory (os error 2)\n")),
+    (["tune", *RULES, "two.red", "both.csv", "/dev/full", "dat.red", "imp.red"],
+     (3, b"", b"failed: Write\n  /dev/full: No space left on device (os error 28)\n"
+      b"  found: best 0 total 4\n")),
 ]
 NOTES = [
     (tune("bom.red both.csv"),
@@ -185,7 +200,8 @@ NOTES = [
      (0, ONE, b"  blank.red, line 2:   ;@tune K 0 1 1 0\n" + LOST)),
     (tune("capitals.red both.csv"),
      (0, ONE, b"  capitals.red, line 2: ;@TUNE K 0 1 1 0\n" + LOST
-      + b"  capitals.red, line 4: ; see ;@tune\n" + LOST)),
+      + b"  capitals.red, line 4: ; see ;@tune\n" + LOST
+      + b"  capitals.red, line 6: ; \t@Tune K 0 1 1 0\n" + LOST)),
     (["settings", "bom.red"],
      (0, b"vectors 1\n", BOM)),
     (["asm", "--setting=start", "blank.red"],
@@ -193,6 +209,12 @@ NOTES = [
     (["settings", "unused.red"],
      (0, b"vectors 4\nconstant K 2 0\nconstant NO 2 0\n",
       b"  no line of unused.red uses the constant NO\n")),
+    (["settings", "alone.red"],
+     refused(b"Template line 1 BadLine", b"alone.red, line 1: ;@tune",
+             b"a range line is `;@tune NAME LOW HIGH STEP START` and nothing else")),
+    (["settings", "byte.red"], (0, b"vectors 2\nconstant K 2 0\n", b"")),
+    (["settings", "small.red"], (0, b"vectors 2\nconstant K 2 0\n",
+                                 b"  no line of small.red uses the constant K\n")),
     (["check", *RULES, "two.red", "one.csv", "good.cert", "dat.red", "imp.red"],
      (1, b"rejected row 0 RowCount\n", b"  no fight names opponent 0, dat.red\n" + OTHER)),
     (["check", *RULES, "two.red", "zero.csv", "good.cert", "dat.red", "imp.red", "imp.red"],
@@ -230,15 +252,20 @@ def shown(play, words, both=False, **streams):
 
 
 def explanations(play):
-    """Yields checks of what a terminal gets, of the same with --explain, and of nothing without."""
+    """Yields checks of what a terminal gets, of the same with --explain, and of the line of a fault
+    alone without it, with --progress too."""
     for words, end in TEXTS + TUNINGS + NOTES:
         name, (status, out, err) = " ".join(words[:12]), end
         status_came, out_came, text = shown(play, words)
         text = re.sub(PROGRESS, b"", text).replace(CLEARED, b"")
         yield f"a terminal at `{name}`", end, (status_came, out_came, text)
         yield f"--explain at `{name}`", end, play.run([words[0], "--explain", *words[1:]])
-        line = b"".join(re.findall(rb"(?m)^refused.*\n", err))
+        line = b"".join(re.findall(rb"(?m)^(?:refused|failed).*\n", err))
         yield f"a pipe at `{name}`", (status, out, line), play.run(words)
+        if words[0] in ["tune", "check"]:
+            status_came, out_came, text = play.run([words[0], "--progress", *words[1:]])
+            text = re.sub(rb"(?m)^\d+% .*\n", b"", text)
+            yield f"--progress at `{name}`", (status, out, line), (status_came, out_came, text)
 
 
 def progress(play):
@@ -256,6 +283,9 @@ def progress(play):
         came = play.run([*words, "--progress"])
         yield f"--progress of {name}", (0, out, BEGUN + b"\n"), came
         yield f"no progress of {name} on a pipe", (0, out, b""), play.run(words)
+    came = play.run(tune("two.red both.csv", "--part=2/2", "--progress"))
+    expected = (0, ONE.replace(b"-", b"K=1"), b"0% 0 of 1 settings, 0 fights\n")
+    yield "--progress of a part", expected, came
     text = shown(play, tune("none.red both.csv"))[2]
     cleared = text.startswith(line + b"refused: NoCandidate\n")
     yield "the progress is cleared before a refusal", True, cleared or text
@@ -288,6 +318,10 @@ def long_runs(play):
     yield "two lines a second at most", True, 4 <= len(lines) <= 8 or lines
     wrong = [line for line in lines[1:] if not re.fullmatch(LINE, line)]
     yield "what the lines say", ([], [LONG_BEGUN]), (wrong, lines[:1])
+    # There is half a second or more from a line to the next.
+    wrong = [line for index, line in enumerate(lines[1:], 1)
+             if not index / 2 <= seconds_of(line) < 4]
+    yield "the seconds that a line counts", [], wrong
     yield "the first line within a second", True, (first or 9) < 1 or first
     (play.folder / "long.csv").write_bytes(b"opponent,position,first\n" + b"0,4000,c\n" * 10000)
     # In a core of 8009 cells no state comes back where it is looked at: each fight is played out.
@@ -310,6 +344,13 @@ def long_runs(play):
     yield "--progress prints no second line within two seconds", LONG_BEGUN + b"\n", came
 
 
+def seconds_of(line):
+    """Returns in how many seconds a line says that its fights were played, or 0."""
+    found = re.search(rb"(\d+) fights, (\d+) a second", line)
+    fights, rate = map(int, found.groups()) if found else (0, 1)
+    return fights / max(rate, 1)
+
+
 def agrees(line):
     """Returns whether the numbers of a line agree: the percent with the settings, and the time left
     with the time so far, if the settings to come take as long as those that are done."""
@@ -322,8 +363,10 @@ def agrees(line):
 
 
 def invitations(play):
-    """Yields a check that a terminal is told what is read from it."""
+    """Yields checks that a terminal is told what is read from it, if anything is."""
     terminal, program_end = pty.openpty()
+    other = shown(play, ["asm", "imp.red"], stdin=program_end)
+    yield "a terminal that is not read", (0, IMP, b""), other
     os.write(terminal, b"\x04")
     came = shown(play, [], stdin=program_end)
     os.close(program_end)
