@@ -320,7 +320,7 @@ def long_runs(play):
     yield "what the lines say", ([], [LONG_BEGUN]), (wrong, lines[:1])
     # There is half a second or more from a line to the next.
     wrong = [line for index, line in enumerate(lines[1:], 1)
-             if not index / 2 <= seconds_of(line) < 4]
+             if not index / 2 <= seconds_of(line) < 10]
     yield "the seconds that a line counts", [], wrong
     yield "the first line within a second", True, (first or 9) < 1 or first
     (play.folder / "long.csv").write_bytes(b"opponent,position,first\n" + b"0,4000,c\n" * 10000)
