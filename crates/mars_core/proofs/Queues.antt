@@ -51,4 +51,8 @@ pub none_left : (xs : List ℕ) (o : Option ℕ) → o ≡ slice_get xs 0 → ((
 none_left [] o e n = refl
 none_left (x ∷ xs) o e n = absurd (n x e)
 
+pub none_first : (xs : List ℕ) → length xs ≡ 0 → None ≡ slice_get xs 0
+none_first [] e = refl
+none_first (x ∷ xs) e = absurd (omega (arith, e))
+
 pub ruleset queues = (some_first, first_is, first_below, rest_below, appended_below)

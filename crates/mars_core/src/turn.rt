@@ -74,6 +74,7 @@ pub(crate) fn next_turn<C: Cells>(
 
 // Takes one turn of a side whose first task is `pc`, whatever its instruction is. Moves the cells
 // to a variable of its own for the call: lending the loop's would cost the loop its registers.
+#[tactic(auto, using(crate::proofs::Queues::none_first))]
 #[inline(always)]
 fn any_turn<C: Cells>(cells: &mut C, tasks: &mut Tasks, size: u32, pc: u32) -> Option<u32>
     requires core { IsCore size (C.items cells.old) }
@@ -87,29 +88,31 @@ fn any_turn<C: Cells>(cells: &mut C, tasks: &mut Tasks, size: u32, pc: u32) -> O
     ensures marks { C.marks cells.new ≤ C.marks cells.old + 3 }
 {
     let mut store = cells.take();
-    let next = turn_apart(&mut store, tasks, size, pc);
+    turn_apart(&mut store, tasks, size, pc);
     cells.put_back(store);
-    next
+    if tasks.is_empty() {
+        return None;
+    }
+    Some(tasks.first())
 }
 
 // Takes one turn of a side whose first task is `pc`, out of line, so that it takes no registers
 // from the arms.
 #[tactic(auto, using(crate::proofs::Queues::queues), unfolding(crate::specs::State::core_after, crate::specs::State::tasks_after))]
 #[inline(never)]
-fn turn_apart<C: Cells>(cells: &mut C, tasks: &mut Tasks, size: u32, pc: u32) -> Option<u32>
+fn turn_apart<C: Cells>(cells: &mut C, tasks: &mut Tasks, size: u32, pc: u32)
     requires core { IsCore size (C.items cells.old) }
     requires tasks { AreTasks size tasks.old.items }
     requires pc { Some pc ≡ slice_get tasks.old.items 0 }
     ensures cells { C.items cells.new ≡ core_after (C.items cells.old) tasks.old.items }
     ensures tasks { tasks.new ≡ queue (tasks_after tasks.old.capacity (C.items cells.old) tasks.old.items) tasks.old.capacity }
-    ensures next { result ≡ slice_get tasks.new.items 0 }
     ensures core { IsCore size (C.items cells.new) }
     ensures below { AreTasks size tasks.new.items }
     ensures marks { C.marks cells.new ≤ C.marks cells.old + 3 }
 {
     let cell = read(cells, size, pc);
     let executed = execute_any(cells, size, pc, cell);
-    requeue(tasks, size, pc, executed)
+    requeue(tasks, size, pc, executed);
 }
 
 // Executes the instruction at `pc`, which is `cell`, by its class (1994 draft). Each class has an
