@@ -27,9 +27,9 @@ use Rattle.rc_asm.specs.declared.fault.AsmKind.TheVariants.{Value, MissingOperan
 use Rattle.rc_asm.specs.declared.fault.AsmFault.{AsmFault}
 use Rattle.rc_asm.specs.Words.{opcode_at, modifier_at}
 use Rattle.rc_asm.specs.Shape.{parts, with_operands, with_modifier, after_opcode, shape_of}
-use Rattle.rc_asm.specs.Names.{stands_for}
+use Rattle.rc_asm.specs.Names.{stands_for, names_of}
 use Rattle.rc_asm.specs.Instructions.{core_number, operand_at, made, shaped, instruction_at}
-use Rattle.rc_asm.specs.Assembly.{instructions_from, holds_from, starts_from, start_value, no_starts, names_of}
+use Rattle.rc_asm.specs.Lines.{instructions_from, holds_from, starts_from, start_value, no_starts}
 use Rattle.rc_asm.specs.Faults.{at_line, lines_fault}
 
 -- the lines, each with a line feed

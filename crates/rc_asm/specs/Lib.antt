@@ -7,9 +7,9 @@ pub mod Words
 pub mod Shape
 pub mod Names
 pub mod Instructions
-pub mod Assembly
+pub mod Lines
 pub mod Faults
-pub mod Outcome
+pub mod Assembly
 pub mod Seen
 pub mod Steps
 pub mod Examples
