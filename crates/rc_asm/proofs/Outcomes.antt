@@ -24,7 +24,7 @@ use Rattle.rc_asm.specs.declared.fault.AsmFault.{AsmFault}
 use Rattle.rc_asm.specs.declared.starts.Starts.{Starts}
 use Rattle.rc_asm.specs.Limits.{MOST_BYTES}
 use Rattle.rc_asm.specs.Names.{NameValues, code_lines_after, names_of}
-use Rattle.rc_asm.specs.Results.{and_then, with_fault}
+use Rattle.rc_expand.specs.Results.{and_then, with_fault}
 use Rattle.rc_asm.specs.Lines.{line_holds, instructions_from, holds_from, starts_from, start_value, no_starts}
 use Rattle.rc_asm.specs.Faults.{at_line, value_fault, values_fault, lines_fault, IsWarriorFault, IsFaultOfLines, IsAsmFault}
 use Rattle.rc_asm.specs.Steps.{IsStarted}

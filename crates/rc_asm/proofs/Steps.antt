@@ -23,7 +23,7 @@ use Rattle.rc_asm.specs.declared.fault.AsmKind.{AsmKind}
 use Rattle.rc_asm.specs.declared.fault.AsmKind.TheVariants.{AssertFailed, Value}
 use Rattle.rc_asm.specs.declared.fault.AsmFault.{AsmFault}
 use Rattle.rc_asm.specs.declared.starts.Starts.{Starts}
-use Rattle.rc_asm.specs.Results.{and_then, with_fault}
+use Rattle.rc_expand.specs.Results.{and_then, with_fault}
 use Rattle.rc_asm.specs.Shape.{Shape, shape_of}
 use Rattle.rc_text.specs.Symbols.{name_of}
 use Rattle.rc_asm.specs.Names.{NameValues, Labels, code_lines_after, labels_from, value_at}

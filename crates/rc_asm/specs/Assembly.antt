@@ -14,7 +14,7 @@ use Rattle.rc_asm.specs.declared.fault.AsmFault.{AsmFault}
 use Rattle.rc_asm.specs.declared.starts.Starts.{Starts}
 use Rattle.rc_asm.specs.Limits.{MOST_BYTES}
 use Rattle.rc_asm.specs.Names.{NameValues, names_of}
-use Rattle.rc_asm.specs.Results.{and_then, with_fault}
+use Rattle.rc_expand.specs.Results.{and_then, with_fault}
 use Rattle.rc_asm.specs.Lines.{instructions_from, holds_from, starts_from, start_value, no_starts}
 use Rattle.rc_asm.specs.Faults.{at_line, lines_fault}
 
