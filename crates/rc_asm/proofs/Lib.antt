@@ -2,6 +2,5 @@ pub mod Entries
 pub mod Parts
 pub mod Steps
 pub mod Whole
-pub mod Computed
 pub mod LoadFile
 pub mod Outcomes

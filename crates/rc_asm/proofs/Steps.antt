@@ -23,12 +23,12 @@ use Rattle.rc_asm.specs.declared.fault.AsmKind.{AsmKind}
 use Rattle.rc_asm.specs.declared.fault.AsmKind.TheVariants.{AssertFailed, Value}
 use Rattle.rc_asm.specs.declared.fault.AsmFault.{AsmFault}
 use Rattle.rc_asm.specs.declared.starts.Starts.{Starts}
-use Rattle.rc_asm.specs.Results.{and_then, with_fault}
+use Rattle.rc_expand.specs.Results.{and_then, with_fault}
 use Rattle.rc_asm.specs.Shape.{Shape, shape_of}
 use Rattle.rc_text.specs.Symbols.{name_of}
 use Rattle.rc_asm.specs.Names.{NameValues, Labels, code_lines_after, labels_from, value_at}
 use Rattle.rc_asm.specs.Instructions.{instruction_at, shaped}
-use Rattle.rc_asm.specs.Assembly.{next_instruction, line_holds, starts_after, instructions_from, holds_from, starts_from, no_starts}
+use Rattle.rc_asm.specs.Lines.{next_instruction, line_holds, starts_after, instructions_from, holds_from, starts_from, no_starts}
 use Rattle.rc_asm.specs.Faults.{at_line, form_fault, forms_fault, value_fault, values_fault, lines_fault}
 use Rattle.rc_asm.specs.Steps.{code_after, IsLineRead, fault_at, Agree}
 

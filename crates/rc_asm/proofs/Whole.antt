@@ -17,8 +17,9 @@ use Rattle.rc_asm.specs.declared.fault.AsmKind.TheVariants.{OutOfMemory}
 use Rattle.rc_asm.specs.declared.starts.Starts.{Starts}
 use Rattle.rc_asm.specs.declared.fault.AsmFault.{AsmFault}
 use Rattle.rc_asm.specs.Limits.{MOST_BYTES}
-use Rattle.rc_asm.specs.Names.{NameValues, Labels, labels_of}
-use Rattle.rc_asm.specs.Assembly.{start_value, no_starts, starts_from, names_of, IsMadeOf, Assembles}
+use Rattle.rc_asm.specs.Names.{NameValues, Labels, labels_of, names_of}
+use Rattle.rc_asm.specs.Lines.{start_value, no_starts, starts_from}
+use Rattle.rc_asm.specs.Assembly.{IsMadeOf, Assembles}
 use Rattle.rc_asm.specs.Faults.{forms_fault, values_fault, IsWarriorFault, IsFaultOfCode, IsFaultOfLines, IsAsmFault}
 use Rattle.rc_asm.specs.Steps.{IsStarted, Agree}
 use Rattle.rc_asm.proofs.Steps.{GiveNothing, faulty}

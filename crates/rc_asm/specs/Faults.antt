@@ -22,9 +22,9 @@ use Rattle.rc_asm.specs.declared.fault.AsmFault.{AsmFault}
 use Rattle.rc_asm.specs.declared.starts.Starts.{Starts}
 use Rattle.rc_asm.specs.Limits.{MOST_BYTES}
 use Rattle.rc_asm.specs.Shape.{shape_of}
-use Rattle.rc_asm.specs.Names.{NameValues, code_lines_after, value_at}
+use Rattle.rc_asm.specs.Names.{NameValues, code_lines_after, value_at, names_of}
 use Rattle.rc_asm.specs.Instructions.{instruction_at}
-use Rattle.rc_asm.specs.Assembly.{instructions_from, starts_from, start_value, no_starts, names_of}
+use Rattle.rc_asm.specs.Lines.{instructions_from, starts_from, start_value, no_starts}
 
 abbrev pub at_line : ℕ → AsmKind → AsmFault
 at_line n k = record { line = n; kind = k }

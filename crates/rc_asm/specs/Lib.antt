@@ -2,14 +2,13 @@
 -- labels are distances, and the last ORG, or else END, gives the start. Every line is well formed,
 -- every expression has a value, every assertion holds, and the warrior fits the rules.
 pub mod Limits
-pub mod Results
 pub mod Words
 pub mod Shape
 pub mod Names
 pub mod Instructions
-pub mod Assembly
+pub mod Lines
 pub mod Faults
-pub mod Outcome
+pub mod Assembly
 pub mod Seen
 pub mod Steps
 pub mod Examples

@@ -11,7 +11,7 @@ use Rattle.rc_instr.specs.Rules.{RulesView}
 use Rattle.rc_expand.specs.declared.line.LineWord.{LineWord}
 use Rattle.rc_expand.specs.declared.line.LineWord.TheVariants.{Code}
 use Rattle.rc_expand.specs.declared.line.Line.{Line}
-use Rattle.rc_expand.specs.Names.{Table, given_names, CURLINE}
+use Rattle.rc_expand.specs.Names.{Table, entry_of, given_names, CURLINE}
 
 -- labels with their addresses
 abbrev pub Labels : Type 0
@@ -35,6 +35,10 @@ pub record NameValues : Type 0 where
   pub constants : Table
   pub rules : RulesView
   pub address : List ℕ → Option ℕ
+
+-- what gives the names of a text their values
+abbrev pub names_of : List ℕ → Table → RulesView → List Line → NameValues
+names_of source constants rules lines = record { constants = constants; rules = rules; address = entry_of (labels_of source lines) }
 
 -- the value of a name in the line at `address`: a constant, a predefined name, CURLINE, or a label,
 -- whose address is counted from `base`

@@ -11,7 +11,7 @@ use Rattle.rc_asm.specs.declared.starts.Starts.{Starts}
 use Rattle.rc_expand.specs.Names.{entry_of}
 use Rattle.rc_asm.specs.Names.{NameValues, Labels, value_at}
 use Rattle.rc_asm.specs.Instructions.{instruction_at}
-use Rattle.rc_asm.specs.Assembly.{line_holds, starts_after, instructions_from, holds_from, starts_from, no_starts, start_value}
+use Rattle.rc_asm.specs.Lines.{line_holds, starts_after, instructions_from, holds_from, starts_from, no_starts, start_value}
 use Rattle.rc_asm.specs.Faults.{value_fault, values_fault}
 
 -- the code after a line, from the code before it

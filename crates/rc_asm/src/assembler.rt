@@ -6,9 +6,10 @@ ghost use Rattle.rc_expand.specs.Expansion.{LineLies};
 ghost use Rattle.rc_instr.specs.Warrior.{IsBelow, WarriorView, IsWarrior, Fits};
 ghost use Rattle.rc_instr.specs.Rules.{IsRules};
 ghost use Rattle.rc_asm.specs.Steps.{IsStarted};
-ghost use Rattle.rc_asm.specs.Assembly.{start_value, names_of, IsMadeOf, Assembles};
+ghost use Rattle.rc_asm.specs.Names.{names_of};
+ghost use Rattle.rc_asm.specs.Lines.{start_value};
+ghost use Rattle.rc_asm.specs.Assembly.{IsMadeOf, Assembles, outcome_of};
 ghost use Rattle.rc_asm.specs.Faults.{forms_fault, IsWarriorFault, IsFaultOfLines, IsAsmFault};
-ghost use Rattle.rc_asm.specs.Outcome.{outcome_of};
 ghost use Rattle.rc_asm.specs.Seen.{seen_names};
 ghost use Rattle.rc_asm.specs.declared.fault.AsmKind.TheVariants.{OutOfMemory};
 

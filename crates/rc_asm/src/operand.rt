@@ -1,7 +1,7 @@
 //! Operands: a mode and an expression become a mode and a number.
 ghost use Rattle.std.specs.Prelude.{◌≡◌, ◌<◌, ◌≤◌, ◌^◌, All, IfSome, IfOk, option_map};
 ghost use Rattle.rc_text.specs.Symbols.{LiesIn};
-ghost use Rattle.rc_asm.specs.Results.{mapped};
+ghost use Rattle.rc_expand.specs.Results.{mapped};
 ghost use Rattle.rc_asm.specs.Names.{value_at};
 ghost use Rattle.rc_asm.specs.Instructions.{core_number, operand, operand_at};
 ghost use Rattle.rc_asm.specs.Seen.{seen_names};

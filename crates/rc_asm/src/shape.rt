@@ -2,7 +2,7 @@
 ghost use Rattle.std.specs.Prelude.{◌≡◌, ◌≢◌, ℕ, ◌∷◌, [], ◌<◌, length, take, drop, ◌+◌, option_map, List, Some, None, All, IfSome, IfNone, IfOk, IfErr};
 ghost use Rattle.rc_asm.specs.declared.fault.AsmKind.TheVariants.{OutOfMemory};
 ghost use Rattle.rc_text.specs.Symbols.{LiesIn};
-ghost use Rattle.rc_asm.specs.Results.{mapped};
+ghost use Rattle.rc_expand.specs.Results.{mapped};
 ghost use Rattle.rc_asm.specs.Shape.{parts, parts_from, no_side, one_side, two_sides, sides_of, with_operands, with_modifier, after_opcode, shape_of};
 ghost use Rattle.rc_asm.specs.Seen.{seen_sides, seen_shape, SidesLie};
 

@@ -1,6 +1,6 @@
 //! Where a warrior starts.
 ghost use Rattle.std.specs.Prelude.{◌≡◌};
-ghost use Rattle.rc_asm.specs.Assembly.{start_value, no_starts};
+ghost use Rattle.rc_asm.specs.Lines.{start_value, no_starts};
 
 // The values of the last ORG and of END, as far as they have been read.
 #[derive(Clone, Copy)]

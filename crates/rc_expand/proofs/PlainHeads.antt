@@ -1,11 +1,11 @@
 -- Texts of plain lines: each begins with an opcode word or with ORG. Their heads, from their
 -- tokens.
 use Rattle.std.proofs.Common.{◌≡◌, ℕ, suc, ◌<◌, true, false, List, [], ◌∷◌, ◌++◌, length, Some, None, refl, sym, ◌∙◌, ap, append_assoc}
-use Rattle.std.specs.Prelude.{◌&&◌, not, Option, option_map, codes, Ok}
+use Rattle.std.specs.Prelude.{◌&&◌, not, Option, codes, Result, Ok}
 use Rattle.std.proofs.lemmas.List.{append-nil}
 use Rattle.rc_text.specs.declared.token.Kind.TheVariants.{Name}
 use Rattle.rc_text.specs.declared.token.Token.{Token}
-use Rattle.rc_text.specs.declared.fault.LexFault.{LexFault}
+use Rattle.rc_text.specs.Gaps.{is_line_end}
 use Rattle.rc_text.specs.NameClasses.{class_of}
 use Rattle.rc_text.specs.Tokens.{tokens_of}
 use Rattle.rc_instr.specs.Rules.{RulesView}
@@ -15,13 +15,14 @@ use Rattle.rc_instr.specs.declared.instruction.Opcode.TheVariants as op
 use Rattle.rc_expand.specs.Limits.{MOST_TOKENS}
 use Rattle.rc_expand.specs.declared.heads.head.Head.{Head}
 use Rattle.rc_expand.specs.declared.heads.head.HeadWord.TheVariants as word
+use Rattle.rc_expand.specs.declared.fault.ExpandFault.{ExpandFault}
 use Rattle.rc_expand.specs.declared.line.Line.{Line}
 use Rattle.rc_expand.specs.declared.line.LineWord.TheVariants as line
-use Rattle.rc_expand.specs.Heads.Lines.{is_name_kind, is_line_end_kind, is_reserved_class, is_unjoined, bytes_of, is_free, word_of_name, word_of_kind, unlabelled, labelled, head_with_word, headed, head_of, line_of_tokens, line_then, lines_from, lines_read}
+use Rattle.rc_expand.specs.Heads.Lines.{is_name_kind, is_reserved_class, is_unjoined, bytes_of, is_free, word_of_name, word_of_kind, unlabelled, labelled, head_with_word, headed, head_of, line_of_tokens, lines_unless, line_then, lines_from}
 use Rattle.rc_expand.specs.Heads.Nesting.{nesting_fault}
 use Rattle.rc_expand.specs.Results.{mapped, and_then}
-use Rattle.rc_expand.specs.Heads.{equ_lines, lines_or, nested, nested_lines, equs_from, equs_of, with_equs, heads_of}
-use Rattle.rc_expand.specs.Heads.Faults.{text_fault}
+use Rattle.rc_expand.specs.Heads.{equ_lines, nested_lines, text_lines, equs_from, equs_of, with_equs, heads_of}
+use Rattle.rc_expand.proofs.Reading.TextFaults.{no_fault}
 
 -- ---- plain lines
 
@@ -45,7 +46,7 @@ pub record PlainLine : Type 0 where
 -- no line ends among them
 abbrev pub HaveNoEnd : List Token → Type 0
 HaveNoEnd [] = Unit {0}
-HaveNoEnd (t ∷ ts) = (is_line_end_kind t.kind ≡ false) × HaveNoEnd ts
+HaveNoEnd (t ∷ ts) = (is_line_end t.kind ≡ false) × HaveNoEnd ts
 
 -- the first token is the line's word
 pub record IsPlain (source : List ℕ) (p : PlainLine) : Type 0 where
@@ -53,7 +54,7 @@ pub record IsPlain (source : List ℕ) (p : PlainLine) : Type 0 where
   pub joined : p.first.joined ≡ []
   pub bytes : bytes_of source p.first ≡ text_of p.word
   pub others : HaveNoEnd p.others
-  pub end : is_line_end_kind p.end.kind ≡ true
+  pub end : is_line_end p.end.kind ≡ true
   pub short : length p.others < MOST_TOKENS
 
 -- each of the lines is plain
@@ -165,36 +166,36 @@ module _ (source : List ℕ) where
   -- ---- the heads of all
 
   -- the tokens up to a line's end are its line
-  line_there : (ending : Option LexFault) (front ts : List Token) (e : Token) (others : List Token) → HaveNoEnd ts → is_line_end_kind e.kind ≡ true
+  line_there : (ending : Option ExpandFault) (front ts : List Token) (e : Token) (others : List Token) → HaveNoEnd ts → is_line_end e.kind ≡ true
       → lines_from source ending front (ts ++ (e ∷ others)) ≡ line_then (line_of_tokens source (front ++ ts)) (lines_from source ending [] others)
   line_there ending front [] e others h k = rw k (ap (λ f. line_then (line_of_tokens source f) (lines_from source ending [] others)) (sym (append-nil front)))
   line_there ending front (t ∷ ts) e others h k =
       rw h.0 (line_there ending (front ++ (t ∷ [])) ts e others h.1 k ∙ ap (λ f. line_then (line_of_tokens source f) (lines_from source ending [] others)) (append_assoc front (t ∷ []) ts))
 
   -- the first token ends no line
-  first_no_end : (p : PlainLine) → IsPlain source p → is_line_end_kind p.first.kind ≡ false
-  first_no_end p h = ap is_line_end_kind h.kind
+  first_no_end : (p : PlainLine) → IsPlain source p → is_line_end p.first.kind ≡ false
+  first_no_end p h = ap is_line_end h.kind
 
   -- no line is the last by END
-  then_more : (p : PlainLine) (later : Option (List Head)) → line_then (plain_head p ∷ []) later ≡ option_map (λ hs. plain_head p ∷ hs) later
+  then_more : (p : PlainLine) (later : Result (List Head) ExpandFault) → line_then (plain_head p ∷ []) later ≡ mapped (λ hs. plain_head p ∷ hs) later
   then_more p later = by_word p.word where
-    by_word : (w : PlainWord) → line_then (head_by w p.first p.others ∷ []) later ≡ option_map (λ hs. head_by w p.first p.others ∷ hs) later
+    by_word : (w : PlainWord) → line_then (head_by w p.first p.others ∷ []) later ≡ mapped (λ hs. head_by w p.first p.others ∷ hs) later
     by_word (AnOpcode o) = refl
     by_word AStart = refl
 
   -- the heads of the lines from one on
-  heads_from : (ps : List PlainLine) → ArePlain source ps → lines_from source None [] (plain_tokens ps) ≡ Some (plain_heads ps)
+  heads_from : (ps : List PlainLine) → ArePlain source ps → lines_from source None [] (plain_tokens ps) ≡ Ok (plain_heads ps)
   heads_from [] a = refl
   heads_from (p ∷ ps) a =
       line_there None [] (p.first ∷ p.others) p.end (plain_tokens ps) (first_no_end p a.0, a.0.others) a.0.end
       ∙ ap (λ h. line_then (h ∷ []) (lines_from source None [] (plain_tokens ps))) (head_there p a.0)
       ∙ then_more p (lines_from source None [] (plain_tokens ps))
-      ∙ ap (option_map (λ hs. plain_head p ∷ hs)) (heads_from ps a.1)
+      ∙ ap (mapped (λ hs. plain_head p ∷ hs)) (heads_from ps a.1)
 
   -- the lines that are read
-  lines_there : (ps : List PlainLine) → ArePlain source ps → lines_read source (record { tokens = plain_tokens ps; ending = None }) ≡ Some (plain_heads ps)
-  unfolding lines_read
-  lines_there ps a = heads_from ps a
+  lines_there : (ps : List PlainLine) → ArePlain source ps → tokens_of source ≡ record { tokens = plain_tokens ps; ending = None } → text_lines source ≡ Ok (plain_heads ps)
+  lines_there ps a e =
+      ap (λ o. lines_from source o [] (tokens_of source).tokens) (no_fault source (ap (λ l. l.ending) e)) ∙ (ap (λ l. lines_from source None [] l.tokens) e ∙ heads_from ps a)
 
   -- ---- no FOR, ROF or EQU is among them
 
@@ -225,8 +226,8 @@ module _ (source : List ℕ) where
         → heads_of source [] rules ≡ Ok (record { lines = plain_heads ps; equs = [] })
     unfolding heads_of
     heads_there ps a e =
-        ap (λ o. and_then (with_equs source [] rules) (and_then nested_lines (lines_or (text_fault source) o))) (ap (lines_read source) e ∙ lines_there ps a)
-        ∙ ap (λ o. and_then (with_equs source [] rules) (nested (plain_heads ps) o)) (plain_nests ps)
+        ap (λ o. and_then (with_equs source [] rules) (and_then nested_lines o)) (lines_there ps a e)
+        ∙ ap (λ o. and_then (with_equs source [] rules) (lines_unless o (plain_heads ps))) (plain_nests ps)
         ∙ ap (mapped (λ equs. record { lines = plain_heads ps; equs = equs })) (no_equs ps)
 
 -- there is a head for each line

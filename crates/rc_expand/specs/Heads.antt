@@ -15,7 +15,7 @@ use Rattle.rc_expand.specs.declared.fault.ExpandFault.{ExpandFault}
 use Rattle.rc_expand.specs.declared.fault.ExpandKind.TheVariants.{DuplicateName, BadDirective}
 use Rattle.rc_expand.specs.Results.{at_line, mapped, and_then}
 use Rattle.rc_expand.specs.Names.{Table, entry_of, is_taken}
-use Rattle.rc_expand.specs.Heads.Lines.{lines_read, plain_token}
+use Rattle.rc_expand.specs.Heads.Lines.{lines_unless, lines_from, plain_token}
 use Rattle.rc_expand.specs.Heads.Faults.{text_fault}
 use Rattle.rc_expand.specs.Replace.{Equs}
 use Rattle.rc_expand.specs.Heads.Nesting.{nesting_fault}
@@ -36,24 +36,14 @@ pub record Heads : Type 0 where
   pub lines : List Head
   pub equs : Equs
 
--- the lines were read, or the text has a fault of its own
-abbrev pub lines_or : Option ExpandFault → Option (List Head) → Result (List Head) ExpandFault
-lines_or fault (Some hs) = Ok hs
-lines_or (Some f) None = Err f
-lines_or None None = Ok []
-
 -- the lines, unless their blocks have a fault
-abbrev pub nested : List Head → Option ExpandFault → Result (List Head) ExpandFault
-nested hs None = Ok hs
-nested hs (Some f) = Err f
-
 abbrev pub nested_lines : List Head → Result (List Head) ExpandFault
-nested_lines hs = nested hs (nesting_fault 0 0 hs)
+nested_lines hs = lines_unless (nesting_fault 0 0 hs) hs
 
 module _ (source : List ℕ) where
   -- the lines of the text up to END
   abbrev pub text_lines : Result (List Head) ExpandFault
-  text_lines = lines_or (text_fault source) (lines_read source (tokens_of source))
+  text_lines = lines_from source (text_fault source) [] (tokens_of source).tokens
 
   -- EQU needs exactly one plain name before it
   abbrev pub equ_token : List (List Token) → Option Token

@@ -1,5 +1,4 @@
--- A fault at its line; and how definitions go on from one result to the next. Each goes on with a
--- value, and gives a fault back as it is.
+-- A fault at its line; and how definitions go on from one result to the next.
 use Rattle.std.specs.Prelude.{◌≡◌, ◌≢◌, ℕ, Result, Ok, Err}
 use Rattle.rc_expand.specs.declared.fault.ExpandFault.{ExpandFault}
 use Rattle.rc_expand.specs.declared.fault.ExpandKind.{ExpandKind}
@@ -8,13 +7,19 @@ use Rattle.rc_expand.specs.declared.fault.ExpandKind.TheVariants.{OutOfMemory}
 abbrev pub at_line : ℕ → ExpandKind → ExpandFault
 at_line line kind = record { line = line; kind = kind }
 
-abbrev pub mapped : {A B : Type 0} → (A → B) → Result A ExpandFault → Result B ExpandFault
+-- a fault stays as it is
+abbrev pub mapped : {A B E : Type 0} → (A → B) → Result A E → Result B E
 mapped f (Ok x) = Ok (f x)
 mapped f (Err e) = Err e
 
-abbrev pub and_then : {A B : Type 0} → (A → Result B ExpandFault) → Result A ExpandFault → Result B ExpandFault
+abbrev pub and_then : {A B E : Type 0} → (A → Result B E) → Result A E → Result B E
 and_then f (Ok x) = f x
 and_then f (Err e) = Err e
+
+-- changes the fault and keeps the value
+abbrev pub with_fault : {A D E : Type 0} → (D → E) → Result A D → Result A E
+with_fault f (Ok x) = Ok x
+with_fault f (Err e) = Err (f e)
 
 -- a call returns what the definition gives, seen through `view`, unless memory runs out
 abbrev pub Returns : {A B : Type 0} → (A → B) → Result A ExpandFault → Result B ExpandFault → Type 0

@@ -5,7 +5,7 @@ use Rattle.rc_text.specs.Tokens.{tokens_of}
 use Rattle.rc_instr.specs.Rules.{RulesView}
 use Rattle.rc_instr.specs.Warrior.{WarriorView}
 use Rattle.rc_instr.specs.declared.instruction.Instruction.{Instruction}
-use Rattle.rc_expand.specs.Heads.Lines.{is_line_end_kind}
+use Rattle.rc_text.specs.Gaps.{is_line_end}
 use Rattle.rc_expand.specs.Expansion.{IsExpansion}
 use Rattle.rc_expand.proofs.PlainHeads.{AnOpcode, AStart, PlainLine, HaveNoEnd, IsPlain, ArePlain, plain_tokens, plain_lines}
 use Rattle.rc_expand.proofs.PlainLines.{plain_expands}
@@ -33,8 +33,8 @@ plain_print w p = plain_start p.opening ∷ plain_rows w.code p.rows
 
 -- no line ends among the tokens of a number
 number_no_end : (m n : ℕ) (ts : List Token) → AreNumber m n ts → HaveNoEnd ts
-number_no_end m n ts (Plain t e) = (ap is_line_end_kind e, tt)
-number_no_end m n ts (Below s t k e f g) = (ap is_line_end_kind e, (ap is_line_end_kind f, tt))
+number_no_end m n ts (Plain t e) = (ap is_line_end e, tt)
+number_no_end m n ts (Below s t k e f g) = (ap is_line_end e, (ap is_line_end f, tt))
 
 -- no line ends among the tokens of two parts
 both_no_end : (ts us : List Token) → HaveNoEnd ts → HaveNoEnd us → HaveNoEnd (ts ++ us)
@@ -57,8 +57,8 @@ row_plain source m i r p =
       kind = p.opcode.kind;
       joined = p.opcode.joined;
       bytes = p.opcode.bytes;
-      others = (ap is_line_end_kind p.dot, (ap is_line_end_kind p.modifier.kind, both_no_end (r.a_sign ∷ r.a_number) (r.comma ∷ r.b_sign ∷ r.b_number) (ap is_line_end_kind p.a_sign, a) (ap is_line_end_kind p.comma, (ap is_line_end_kind p.b_sign, b))));
-      end = ap is_line_end_kind p.end;
+      others = (ap is_line_end p.dot, (ap is_line_end p.modifier.kind, both_no_end (r.a_sign ∷ r.a_number) (r.comma ∷ r.b_sign ∷ r.b_number) (ap is_line_end p.a_sign, a) (ap is_line_end p.comma, (ap is_line_end p.b_sign, b))));
+      end = ap is_line_end p.end;
       short = omega (arith, la, lb, length-append (r.a_sign ∷ r.a_number) (r.comma ∷ r.b_sign ∷ r.b_number));
     }
 
@@ -70,7 +70,7 @@ rows_plain source m (i ∷ is) (r ∷ rs) p = (row_plain source m i r p.0, rows_
 
 -- the first line is plain
 start_plain : (source : List ℕ) (start : ℕ) (o : Opening) → IsStart source start o → IsPlain source (plain_start o)
-start_plain source start o h = record { kind = h.word.kind; joined = h.word.joined; bytes = h.word.bytes; others = (ap is_line_end_kind h.number, tt); end = ap is_line_end_kind h.end; short = omega arith }
+start_plain source start o h = record { kind = h.word.kind; joined = h.word.joined; bytes = h.word.bytes; others = (ap is_line_end h.number, tt); end = ap is_line_end h.end; short = omega arith }
 
 -- ---- the tokens and lines, and how many they are
 

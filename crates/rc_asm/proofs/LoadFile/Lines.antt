@@ -8,7 +8,8 @@ use Rattle.rc_instr.specs.Warrior.{IsBelow, WarriorView, IsWarrior, Fits}
 use Rattle.rc_expand.specs.declared.line.LineWord.TheVariants.{Code, Org}
 use Rattle.rc_asm.specs.declared.starts.Starts.{Starts}
 use Rattle.rc_asm.specs.Names.{NameValues, stands_for, value_at}
-use Rattle.rc_asm.specs.Assembly.{next_instruction, starts_after, no_starts, start_value, instructions_from, holds_from, starts_from, IsMadeOf}
+use Rattle.rc_asm.specs.Lines.{next_instruction, starts_after, no_starts, start_value, instructions_from, holds_from, starts_from}
+use Rattle.rc_asm.specs.Assembly.{IsMadeOf}
 use Rattle.rc_asm.proofs.LoadFile.Printed.{Row, Opening, Printed, ArePrinted, IsStart, IsPrint, code_lines, printed_lines}
 use Rattle.rc_asm.proofs.LoadFile.Instructions.{instruction_there, plain_value}
 

@@ -3,7 +3,8 @@ use Rattle.std.proofs.Common.{◌^◌, ◌<◌, ◌≤◌, [], length, arith}
 use Rattle.rc_instr.specs.Rules.{RulesView, IsRules}
 use Rattle.rc_instr.specs.Warrior.{WarriorView, IsWarrior, Fits}
 use Rattle.rc_instr.specs.LoadText.{load_text}
-use Rattle.rc_asm.specs.Assembly.{Assembles, names_of}
+use Rattle.rc_asm.specs.Names.{names_of}
+use Rattle.rc_asm.specs.Assembly.{Assembles}
 use Rattle.rc_asm.proofs.LoadFile.Printed.{printed_lines}
 use Rattle.rc_asm.proofs.LoadFile.Tokens.{load_tokens}
 use Rattle.rc_asm.proofs.LoadFile.Expansion.{print_expands}

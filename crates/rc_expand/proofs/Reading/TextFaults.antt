@@ -1,16 +1,12 @@
 -- The text's own fault, token by token.
-use Rattle.std.proofs.Common.{◌≡◌, ◌+◌, ℕ, List, [], ◌∷◌, Some, None, sym, ◌∙◌, ap}
-use Rattle.std.specs.Prelude.{Ok, Err, option_map}
+use Rattle.std.proofs.Common.{◌≡◌, ◌+◌, ℕ, List, ◌∷◌, None, sym, ◌∙◌, ap}
+use Rattle.std.specs.Prelude.{option_map}
 use Rattle.rc_text.specs.declared.token.Token.{Token}
 use Rattle.rc_text.specs.Headers.{header_of}
 use Rattle.rc_text.specs.Tokens.{tokens_of, ahead_of, line_after, Ahead}
-use Rattle.rc_expand.specs.declared.heads.head.Head.{Head}
-use Rattle.rc_expand.specs.declared.fault.ExpandFault.{ExpandFault}
 use Rattle.rc_expand.specs.declared.fault.ExpandKind.TheVariants.{Text}
 use Rattle.rc_expand.specs.Results.{at_line}
-use Rattle.rc_expand.specs.Heads.{lines_or, text_lines}
-use Rattle.rc_expand.specs.Heads.Lines.{lines_read}
-use Rattle.rc_expand.specs.Heads.Faults.{ending_line, text_fault, IsEnding}
+use Rattle.rc_expand.specs.Heads.Faults.{ending_line, text_fault}
 
 -- what lies ahead ends as the text does, and at the same line
 abbrev pub Follows : List ℕ → Ahead → Type 0
@@ -29,16 +25,6 @@ module _ (source : List ℕ) where
   after_token a b t tokens ending line f =
       (ending ∙ f.0, ap (λ n. ending_line n b.tokens) line ∙ (sym (ap (ending_line a.line) tokens) ∙ f.1))
 
-  -- the lines of a text without a fault
-  pub lines_made : (hs : List Head) → lines_read source (tokens_of source) ≡ Some hs → text_lines source ≡ Ok hs
-  lines_made hs e = ap (lines_or (text_fault source)) e
-
-  -- and its fault
-  pub fault_met : (a : Ahead) (f : ExpandFault) → Follows source a → a.tokens ≡ [] → IsEnding a f → text_fault source ≡ Some f
-  fault_met a f follows none e =
-      let at : a.line ≡ ending_line (1 + (header_of source).lines) (tokens_of source).tokens = sym (ap (ending_line a.line) none) ∙ follows.1 in
-      ap (option_map (λ fault. at_line (ending_line (1 + (header_of source).lines) (tokens_of source).tokens) (Text fault))) (sym follows.0 ∙ e.1)
-      ∙ ap Some (ap (λ n. at_line n (Text e.0)) (sym at) ∙ sym e.2)
-
-  pub lines_fault : (f : ExpandFault) → text_fault source ≡ Some f → lines_read source (tokens_of source) ≡ None → text_lines source ≡ Err f
-  lines_fault f e n = ap (λ o. lines_or o (lines_read source (tokens_of source))) e ∙ ap (lines_or (Some f)) n
+  -- a text whose tokens end with it has no fault
+  pub no_fault : (tokens_of source).ending ≡ None → text_fault source ≡ None
+  no_fault e = ap (option_map (λ fault. at_line (ending_line (1 + (header_of source).lines) (tokens_of source).tokens) (Text fault))) e

@@ -1,5 +1,5 @@
 -- The count of a block, and the labels before it.
-use Rattle.std.proofs.Common.{◌≡◌, ℕ, zero, suc, true, false, List, [], ◌∷◌, length, take, get_or, Option, None, refl, sym, ◌∙◌, ap, arith}
+use Rattle.std.proofs.Common.{◌≡◌, ℕ, zero, suc, true, false, List, [], ◌∷◌, length, take, get_or, Option, Some, None, ok_or, refl, sym, ◌∙◌, ap, arith}
 use Rattle.std.specs.Prelude.{ℤ, Result, Ok, Err, option_and_then}
 use Rattle.std.specs.Result.{result_ok}
 use Rattle.rc_text.specs.declared.token.Token.{Token}
@@ -9,18 +9,18 @@ use Rattle.rc_text.specs.Values.{Meaning}
 use Rattle.rc_text.specs.Reading.{evaluation_of}
 use Rattle.rc_expand.specs.declared.heads.head.Head.{Head}
 use Rattle.rc_expand.specs.declared.fault.ExpandFault.{ExpandFault}
-use Rattle.rc_expand.specs.declared.fault.ExpandKind.TheVariants.{BadDirective}
-use Rattle.rc_expand.specs.Results.{at_line, and_then}
+use Rattle.rc_expand.specs.declared.fault.ExpandKind.TheVariants.{BadDirective, CountRefused}
+use Rattle.rc_expand.specs.Results.{at_line, mapped, and_then}
 use Rattle.rc_expand.specs.Replace.{replaced_tokens}
 use Rattle.rc_expand.specs.Shared.{Shared}
 use Rattle.rc_expand.specs.Heads.Lines.{plain_token}
-use Rattle.rc_expand.specs.Unroll.Openings.{plain_or, counter_kind, counter_of, earlier_of, small_count, counted, counted_by, count_of, opening, counter_name}
+use Rattle.rc_expand.specs.Unroll.Openings.{counter_kind, counter_of, earlier_of, small_count, counted_by, count_of, opening, counter_name}
 use Rattle.rc_expand.specs.Names.{given_names}
 
 -- the counter is the last label
-pub counter_at : (source : List ℕ) (line : ℕ) (ls : List (List Token)) (i : ℕ) (l : List Token) → suc i ≡ length ls → l ≡ get_or ls i l → counter_of source line ls ≡ plain_or (at_line line (counter_kind l)) (plain_token source l)
+pub counter_at : (source : List ℕ) (line : ℕ) (ls : List (List Token)) (i : ℕ) (l : List Token) → suc i ≡ length ls → l ≡ get_or ls i l → counter_of source line ls ≡ mapped Some (ok_or (plain_token source l) (at_line line (counter_kind l)))
 counter_at source line [] i l h e = absurd (omega arith)
-counter_at source line (m ∷ []) zero l h e = ap (λ l. plain_or (at_line line (counter_kind l)) (plain_token source l)) (sym e)
+counter_at source line (m ∷ []) zero l h e = ap (λ l. mapped Some (ok_or (plain_token source l) (at_line line (counter_kind l)))) (sym e)
 counter_at source line (m ∷ []) (suc i) l h e = absurd (omega arith)
 counter_at source line (m ∷ n ∷ ls) zero l h e = absurd (omega arith)
 counter_at source line (m ∷ n ∷ ls) (suc i) l h e = counter_at source line (n ∷ ls) i l (omega arith) e
@@ -29,18 +29,21 @@ module _ (s : Shared) (line : ℕ) (ts : List Token) where
   abbrev names : Meaning
   names = given_names s.constants s.rules
 
+  abbrev counted : Option ℕ → Result ℕ ExpandFault
+  counted o = ok_or o (at_line line CountRefused)
+
   abbrev counted_in : List Token → Result ℕ ExpandFault
-  counted_in r = counted line (option_and_then small_count (result_ok (evaluation_of names (symbols_of s.source r))))
+  counted_in r = counted (option_and_then small_count (result_ok (evaluation_of names (symbols_of s.source r))))
 
   -- a count with a value, small or not
-  pub count_valued : (r : List Token) (x : ℤ) (o : Option ℕ) → replaced_tokens s.source s.equs line [] ts ≡ Ok r → Ok x ≡ evaluation_of names (symbols_of s.source r) → o ≡ small_count x → count_of s line ts ≡ counted line o
+  pub count_valued : (r : List Token) (x : ℤ) (o : Option ℕ) → replaced_tokens s.source s.equs line [] ts ≡ Ok r → Ok x ≡ evaluation_of names (symbols_of s.source r) → o ≡ small_count x → count_of s line ts ≡ counted o
   unfolding count_of
-  count_valued r x o e v m = ap (and_then counted_in) e ∙ (ap (λ v. counted line (option_and_then small_count (result_ok v))) (sym v) ∙ ap (counted line) (sym m))
+  count_valued r x o e v m = ap (and_then counted_in) e ∙ (ap (λ v. counted (option_and_then small_count (result_ok v))) (sym v) ∙ ap counted (sym m))
 
   -- a count without a value
-  pub count_valueless : (r : List Token) (f : EvalFault) → replaced_tokens s.source s.equs line [] ts ≡ Ok r → Err f ≡ evaluation_of names (symbols_of s.source r) → count_of s line ts ≡ counted line None
+  pub count_valueless : (r : List Token) (f : EvalFault) → replaced_tokens s.source s.equs line [] ts ≡ Ok r → Err f ≡ evaluation_of names (symbols_of s.source r) → count_of s line ts ≡ counted None
   unfolding count_of
-  count_valueless r f e v = ap (and_then counted_in) e ∙ ap (λ v. counted line (option_and_then small_count (result_ok v))) (sym v)
+  count_valueless r f e v = ap (and_then counted_in) e ∙ ap (λ v. counted (option_and_then small_count (result_ok v))) (sym v)
 
   -- a count whose EQU names cannot be replaced
   pub count_refused : (f : ExpandFault) → replaced_tokens s.source s.equs line [] ts ≡ Err f → count_of s line ts ≡ Err f

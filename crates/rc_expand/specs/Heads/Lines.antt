@@ -1,20 +1,21 @@
 -- Lines: labels, a word, and what comes after it (labels are from the 1994 draft, colons and names
 -- joined by `&` from pMARS).
-use Rattle.std.specs.Prelude.{ℕ, suc, Bool, true, false, ◌&&◌, ◌||◌, not, List, [], ◌∷◌, ◌++◌, Option, Some, None, if◌then◌else◌, option_and_then, option_map, IfSome, All, codes, slice_range}
+use Rattle.std.specs.Prelude.{ℕ, suc, Bool, true, false, ◌&&◌, ◌||◌, not, List, [], ◌∷◌, ◌++◌, Option, Some, None, if◌then◌else◌, option_and_then, Result, Ok, Err, IfSome, All, codes, slice_range}
 use Rattle.rc_text.specs.declared.token.Sign.TheVariants.{Ampersand, Colon, Dot}
 use Rattle.rc_text.specs.declared.token.Kind.{Kind}
-use Rattle.rc_text.specs.declared.token.Kind.TheVariants.{Name, Sign as SignOf, Assert, LineEnd}
+use Rattle.rc_text.specs.declared.token.Kind.TheVariants.{Name, Sign as SignOf, Assert}
 use Rattle.rc_text.specs.declared.token.Token.{Token}
-use Rattle.rc_text.specs.declared.fault.LexFault.{LexFault}
 use Rattle.rc_text.specs.declared.class.NameClass.{NameClass}
 use Rattle.rc_text.specs.declared.class.NameClass.TheVariants.{Reserved}
 use Rattle.rc_text.specs.Bytes.{is_same_word}
 use Rattle.rc_text.specs.NameClasses.{class_of, is_opcode_word}
-use Rattle.rc_text.specs.Tokens.{TokenList}
+use Rattle.rc_text.specs.Gaps.{is_line_end}
 use Rattle.rc_text.specs.Symbols.{LiesIn}
 use Rattle.rc_expand.specs.declared.heads.head.Head.{Head}
 use Rattle.rc_expand.specs.declared.heads.head.HeadWord.{HeadWord}
 use Rattle.rc_expand.specs.declared.heads.head.HeadWord.TheVariants as word
+use Rattle.rc_expand.specs.declared.fault.ExpandFault.{ExpandFault}
+use Rattle.rc_expand.specs.Results.{mapped}
 
 -- like `if`, but only the chosen branch is computed
 abbrev pub choose : {A : Type 0} → Bool → (Unit {0} → A) → (Unit {0} → A) → A
@@ -28,10 +29,6 @@ is_name_kind _ = false
 
 abbrev pub is_name_token : Token → Bool
 is_name_token t = is_name_kind t.kind
-
-abbrev pub is_line_end_kind : Kind → Bool
-is_line_end_kind LineEnd = true
-is_line_end_kind _ = false
 
 abbrev pub is_ampersand_kind : Kind → Bool
 is_ampersand_kind (SignOf Ampersand) = true
@@ -113,14 +110,14 @@ abbrev pub has_end : List Head → Bool
 has_end [] = false
 has_end (h ∷ hs) = is_end h.word || has_end hs
 
--- the tokens end with the text (None), or with a fault
-abbrev pub at_ending : Option LexFault → List Head → Option (List Head)
-at_ending None hs = Some hs
-at_ending (Some fault) hs = None
+-- the lines, unless there is a fault
+abbrev pub lines_unless : Option ExpandFault → List Head → Result (List Head) ExpandFault
+lines_unless None hs = Ok hs
+lines_unless (Some fault) hs = Err fault
 
 -- lines were read: with END they are the last
-abbrev pub line_then : List Head → Option (List Head) → Option (List Head)
-line_then hs later = if has_end hs then Some hs else option_map (λ r. hs ++ r) later
+abbrev pub line_then : List Head → Result (List Head) ExpandFault → Result (List Head) ExpandFault
+line_then hs later = if has_end hs then Ok hs else mapped (λ r. hs ++ r) later
 
 module _ (source : List ℕ) where
   -- the bytes of a token, without joined counters
@@ -198,15 +195,12 @@ module _ (source : List ℕ) where
   line_of_tokens [] = []
   line_of_tokens (t ∷ ts) = head_of t.line (t ∷ ts) ∷ []
 
-  -- the lines up to the first with END; `front` is what was read of the first line
-  abbrev pub lines_from : Option LexFault → List Token → List Token → Option (List Head)
-  lines_from ending front [] = at_ending ending (line_of_tokens front)
-  lines_from ending front (t ∷ ts) =
-      choose (is_line_end_kind t.kind) (λ i. line_then (line_of_tokens front) (lines_from ending [] ts)) (λ i. lines_from ending (front ++ (t ∷ [])) ts)
-
-  -- the lines of a text, up to the first with END
-  unfoldable pub lines_read : TokenList → Option (List Head)
-  lines_read l = lines_from l.ending [] l.tokens
+  -- the lines up to the first with END, or the `fault` that ends the tokens; `front` is what was
+  -- read of the first line
+  abbrev pub lines_from : (fault : Option ExpandFault) → (front : List Token) → List Token → Result (List Head) ExpandFault
+  lines_from fault front [] = lines_unless fault (line_of_tokens front)
+  lines_from fault front (t ∷ ts) =
+      choose (is_line_end t.kind) (λ i. line_then (line_of_tokens front) (lines_from fault [] ts)) (λ i. lines_from fault (front ++ (t ∷ [])) ts)
 
   -- the spans of the tokens of a line lie in the source
   pub record HeadLies (h : Head) : Type 0 where

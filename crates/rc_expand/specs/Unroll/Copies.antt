@@ -42,7 +42,7 @@ module _ (source : List ℕ) where
   copied_from counter k made t [] = Some (numbered counter k made t ∷ [])
   copied_from counter k made t (u ∷ []) = option_map (λ r. numbered counter k made t ∷ r) (copied_from counter k false u [])
   copied_from counter k made t (u ∷ v ∷ ts) =
-      choose (is_name_token t && (is_ampersand u && is_counter counter v)) (λ i. option_and_then (λ j. copied_from counter k true j ts) (joined k t))
+      choose (joins counter t (u ∷ v ∷ ts)) (λ i. option_and_then (λ j. copied_from counter k true j ts) (joined k t))
       (λ i. option_map (λ r. numbered counter k made t ∷ r) (copied_from counter k false u (v ∷ ts)))
 
   -- tokens in the copy for `k`, or None if a ninth counter would be joined to a name

@@ -1,6 +1,6 @@
 -- What the FOR of a block says: its counter, the labels before the counter, and the number of
 -- copies (FOR is from pMARS).
-use Rattle.std.specs.Prelude.{ℕ, max, Bool, true, false, ◌&&◌, nat_le, nat_lt, ℤ, pos, negsuc, List, [], ◌∷◌, Option, Some, None, if◌then◌else◌, option_and_then, option_map, Result, Ok, Err}
+use Rattle.std.specs.Prelude.{ℕ, max, Bool, true, false, ◌&&◌, nat_le, ℤ, pos, negsuc, List, [], ◌∷◌, Option, Some, None, if◌then◌else◌, option_and_then, option_map, ok_or, Result, Ok, Err}
 use Rattle.std.specs.Result.{result_ok}
 use Rattle.rc_text.specs.declared.token.Kind.{Kind}
 use Rattle.rc_text.specs.declared.token.Kind.TheVariants.{Number}
@@ -40,11 +40,6 @@ abbrev pub small_count : ℤ → Option ℕ
 small_count (negsuc n) = Some 0
 small_count (pos n) = if nat_le n MOST_COPIES then Some n else None
 
--- a count that is refused has no value, or one that is too large
-abbrev pub counted : (line : ℕ) → Option ℕ → Result ℕ ExpandFault
-counted line None = Err (at_line line CountRefused)
-counted line (Some n) = Ok n
-
 -- the kind of a number
 abbrev pub is_number_kind : Kind → Bool
 is_number_kind (Number n) = true
@@ -65,11 +60,6 @@ is_enclosing _ = false
 abbrev pub counter_kind : List Token → ExpandKind
 counter_kind l = if is_enclosing l then DuplicateName else BadDirective
 
--- the plain name, or the fault if there is none
-abbrev pub plain_or : ExpandFault → Option Token → Result (Option Token) ExpandFault
-plain_or fault None = Err fault
-plain_or fault (Some t) = Ok (Some t)
-
 -- a counter must not be an EQU name; the fault is told at the later of the FOR and the EQU line
 abbrev pub unless_equ : (line : ℕ) → List ℕ → Option EquText → Result (Option (List ℕ)) ExpandFault
 unless_equ line name None = Ok (Some name)
@@ -78,14 +68,14 @@ unless_equ line name (Some e) = Err (at_line (max line e.line) DuplicateName)
 -- the counter is the last label, if there are any, and must be a plain name
 abbrev pub counter_of : (source : List ℕ) (line : ℕ) → List (List Token) → Result (Option Token) ExpandFault
 counter_of source line [] = Ok None
-counter_of source line (l ∷ []) = plain_or (at_line line (counter_kind l)) (plain_token source l)
+counter_of source line (l ∷ []) = mapped Some (ok_or (plain_token source l) (at_line line (counter_kind l)))
 counter_of source line (l ∷ m ∷ ls) = counter_of source line (m ∷ ls)
 
 module _ (s : Shared) where
   -- the number of copies: the value of the tokens after FOR, with their EQU names replaced
   unfoldable pub count_of : (line : ℕ) → List Token → Result ℕ ExpandFault
   count_of line ts =
-      and_then (λ r. counted line (option_and_then small_count (result_ok (evaluation_of (given_names s.constants s.rules) (symbols_of s.source r)))))
+      and_then (λ r. ok_or (option_and_then small_count (result_ok (evaluation_of (given_names s.constants s.rules) (symbols_of s.source r)))) (at_line line CountRefused))
       (replaced_tokens s.source s.equs line [] ts)
 
   -- the name of a counter, which must be neither a constant nor a predefined name nor an EQU name

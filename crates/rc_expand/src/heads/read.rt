@@ -1,8 +1,9 @@
 //! From tokens to lines.
 ghost use Rattle.std.specs.Prelude.{◌≡◌, ◌≢◌, List, ℕ, ◌++◌, [], ◌+◌, ◌≤◌, ◌&&◌, IsTrue, length, drop, All, IfOk, IfSome, MatchResult, Ok, Err, None};
 ghost use Rattle.rc_text.specs.Tokens.{tokens_of, TakesToken};
+ghost use Rattle.rc_text.specs.Gaps.{is_line_end};
 ghost use Rattle.rc_text.specs.Symbols.{LiesIn};
-ghost use Rattle.rc_expand.specs.Heads.Lines.{HeadLies, head_of, is_free, is_ampersand, goes_on, tail_len, begins_label, labelled, is_line_end_kind, line_of_tokens, has_end, lines_read};
+ghost use Rattle.rc_expand.specs.Heads.Lines.{HeadLies, head_of, is_free, is_ampersand, goes_on, tail_len, begins_label, labelled, line_of_tokens, has_end};
 ghost use Rattle.rc_expand.specs.Results.{Returns};
 ghost use Rattle.rc_expand.specs.Heads.{text_lines};
 ghost use Rattle.rc_expand.specs.Heads.Faults.{IsEnding};
@@ -15,7 +16,6 @@ use rc_text::{Kind, Lexer, Token};
 use std::alloc::{AllocError, Global};
 
 // Reads the lines of a text, up to the first with END.
-#[tactic(auto, unfolding(crate::specs::Heads::Lines::lines_read))]
 pub(crate) fn read_lines(alloc: Global, source: &[u8]) -> Result<Vec<Head>, ExpandFault>
     ensures lines { Returns (λ v. v.items) result (text_lines source.now) }
     ensures inside { IfOk result (λ v. All (HeadLies source.now) v.items) }
@@ -182,7 +182,7 @@ fn next_token(lexer: &mut Lexer) -> Result<Option<Token>, ExpandFault>
 }
 
 fn is_line_end(token: &Token) -> bool
-    ensures { result ≡ is_line_end_kind token.now.kind }
+    ensures { result ≡ is_line_end token.now.kind }
 {
     matches!(token.kind, Kind::LineEnd)
 }

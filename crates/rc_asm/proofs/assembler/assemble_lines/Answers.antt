@@ -2,8 +2,8 @@ use Rattle.std.proofs.Common.{◌≡◌, None, subst}
 use Rattle.std.specs.Prelude.{◌≢◌}
 use Rattle.rc_expand.specs.Names.{table_in}
 use Rattle.rc_asm.specs.declared.fault.AsmKind.TheVariants.{OutOfMemory}
-use Rattle.rc_asm.specs.Names.{NameValues}
-use Rattle.rc_asm.specs.Assembly.{IsMadeOf, names_of}
+use Rattle.rc_asm.specs.Names.{NameValues, names_of}
+use Rattle.rc_asm.specs.Assembly.{IsMadeOf}
 use Rattle.rc_asm.specs.Faults.{forms_fault, IsFaultOfLines}
 use Rattle.rc_asm.proofs.Whole.{same_names, form_first}
 use Rattle.rc_asm.proofs.assembler.assemble_lines.Goals as goal

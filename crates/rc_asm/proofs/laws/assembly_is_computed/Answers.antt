@@ -1,4 +1,4 @@
-use Rattle.rc_asm.proofs.Computed.{computed, assembles}
+use Rattle.rc_asm.proofs.Outcomes.{computed, assembles}
 use Rattle.rc_asm.proofs.laws.assembly_is_computed.Goals as goal
 
 pub returns : goal.returns

@@ -10,8 +10,8 @@ use Rattle.rc_expand.proofs.heads.read.read_lines.Goals as goal
 
 pub loop-line-init : goal.loop-line-init
 loop-line-init c =
-    let P : Ahead → Type 0 = λ a. SoFar c.args.source.now [] a.ending [] a.tokens in
-    let first : SoFar c.args.source.now c.new-heads.result.items c.new-lexer.result.ending c.new-line.result.items c.new-lexer.result.tokens =
+    let P : Ahead → Type 0 = λ a. SoFar c.args.source.now [] [] a.tokens in
+    let first : SoFar c.args.source.now c.new-heads.result.items c.new-line.result.items c.new-lexer.result.tokens =
     rw (c.new-heads.ensures.items, c.new-line.ensures.items) (subst P (sym c.new-lexer.ensures.tokens) (at_first c.args.source.now)) in (
       first,
       all_inside c.args.source.now 0 c.new-lexer.result.tokens c.new-lexer.ensures.spans,
@@ -25,9 +25,9 @@ loop-line-preserved-then-is_line_end c =
     let took = rw c.in-Some.is at c.in_ok-token.ensures in
     let ended : false ≡ has_end (line_of_tokens c.args.source.now c.loop-line.line.items) =
     sym c.if-branch.false ∙ c.in_ok-push_line.ensures.ended in
-    let r = at_line c.args.source.now c.loop-line.heads.items c.loop-line.lexer.ending c.loop-line.line.items c.in-Some.token c.next_token.new.lexer.tokens c.loop-line.lexer.tokens took.0 c.if-is_line_end.ensures ended c.loop-line.invariant.0 in
-    let first : SoFar c.args.source.now c.push_line.new.heads.items c.next_token.new.lexer.ending c.clear.new.self.items c.next_token.new.lexer.tokens =
-    rw (c.in_ok-push_line.ensures.heads, took.1, c.clear.ensures.items) r in (
+    let r = at_line c.args.source.now c.loop-line.heads.items c.loop-line.line.items c.in-Some.token c.next_token.new.lexer.tokens c.loop-line.lexer.tokens took.0 c.if-is_line_end.ensures ended c.loop-line.invariant.0 in
+    let first : SoFar c.args.source.now c.push_line.new.heads.items c.clear.new.self.items c.next_token.new.lexer.tokens =
+    rw (c.in_ok-push_line.ensures.heads, c.clear.ensures.items) r in (
       first,
       All-rest (LiesIn c.args.source.now) c.in-Some.token c.next_token.new.lexer.tokens c.loop-line.lexer.tokens took.0 c.loop-line.invariant.1,
       All-same (LiesIn c.args.source.now) c.clear.new.self.items [] c.clear.ensures.items (All-nil (LiesIn c.args.source.now)),
@@ -38,9 +38,9 @@ loop-line-preserved-then-is_line_end c =
 pub loop-line-preserved : goal.loop-line-preserved
 loop-line-preserved c =
     let took = rw c.in-Some.is at c.in_ok-token.ensures in
-    let r = at_token c.args.source.now c.loop-line.heads.items c.loop-line.lexer.ending c.loop-line.line.items c.in-Some.token c.next_token.new.lexer.tokens c.loop-line.lexer.tokens took.0 c.if-is_line_end.ensures c.loop-line.invariant.0 in
-    let first : SoFar c.args.source.now c.loop-line.heads.items c.next_token.new.lexer.ending c.push.new.self.items c.next_token.new.lexer.tokens =
-    rw (c.in_ok-push.ensures.items, took.1) r in
+    let r = at_token c.args.source.now c.loop-line.heads.items c.loop-line.line.items c.in-Some.token c.next_token.new.lexer.tokens c.loop-line.lexer.tokens took.0 c.if-is_line_end.ensures c.loop-line.invariant.0 in
+    let first : SoFar c.args.source.now c.loop-line.heads.items c.push.new.self.items c.next_token.new.lexer.tokens =
+    rw (c.in_ok-push.ensures.items) r in
     let lies : LiesIn c.args.source.now c.in-Some.token =
     All-head (LiesIn c.args.source.now) c.in-Some.token c.next_token.new.lexer.tokens (All-same (LiesIn c.args.source.now) _ c.loop-line.lexer.tokens (sym took.0) c.loop-line.invariant.1) in (
       first,

@@ -8,7 +8,7 @@ use Rattle.rc_expand.proofs.heads.read.read_lines.Given as goal
 
 abbrev pub invariant-loop-line : goal.invariant-loop-line
 invariant-loop-line l =
-    SoFar l.source l.heads.items l.lexer.ending l.line.items l.lexer.tokens
+    SoFar l.source l.heads.items l.line.items l.lexer.tokens
     × All (LiesIn l.source) l.lexer.tokens × All (LiesIn l.source) l.line.items × All (HeadLies l.source) l.heads.items
     × Follows l.source l.lexer
 
