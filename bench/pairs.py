@@ -59,7 +59,7 @@ class Pair:
         return seconds, 3 * wins + ties
 
     def play(self):
-        """Plays the series by each program, which must have the same points."""
+        """Plays the series by each program. Raises WrongPoints if their points differ."""
         (mine, self.points), (theirs, others) = self.play_tune(), self.play_pmars()
         if self.points != others:
             raise WrongPoints(f"{self.name}: cwtune has {self.points} points, pMARS {others}")
@@ -90,7 +90,7 @@ def loads_of(cwtune, folder):
 
 
 def measured(warriors, programs, runs):
-    """Plays each pair of warriors once, then again, so that a slow minute is one run of each."""
+    """Plays all pairs in turn, `runs` times, so that a slow minute spoils one run of each."""
     with tempfile.TemporaryDirectory() as folder:
         pairs = [Pair(*both, programs, folder) for both in itertools.combinations(warriors, 2)]
         for _ in range(runs):

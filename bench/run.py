@@ -235,7 +235,7 @@ def print_short(players, fights, runs, folder):
 
 
 def fastest_texts(program, runs):
-    """Returns the least seconds of each text, its instructions, and those of the start.
+    """Returns the least seconds and the instructions of each text, and the start's seconds.
 
     The texts take turns, so that a busy moment affects all.
     """

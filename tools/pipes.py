@@ -295,7 +295,7 @@ def limited(play):
         yield f"a limit of {most} bytes that kills", left, came
         (play.folder / "CERT.unfinished-1").unlink()
     path = play.folder / "CERT"
-    # After the three streams one file can be opened, and its handle cannot be copied.
+    # Leaves one handle after the three streams: a file can be opened, and its handle not copied.
     few = lambda: resource.setrlimit(resource.RLIMIT_NOFILE, (4, 4))
     for old in [OLD_CERT + b"#", None]:
         play.set_cert(old)

@@ -252,8 +252,8 @@ def shown(play, words, both=False, **streams):
 
 
 def explanations(play):
-    """Yields checks of what a terminal gets, of the same with --explain, and of the line of a fault
-    alone without it, with --progress too."""
+    """Yields checks of what a terminal gets, of the same with --explain, and of the fault's line
+    alone without it, even with --progress."""
     for words, end in TEXTS + TUNINGS + NOTES:
         name, (status, out, err) = " ".join(words[:12]), end
         status_came, out_came, text = shown(play, words)
@@ -345,7 +345,7 @@ def long_runs(play):
 
 
 def seconds_of(line):
-    """Returns in how many seconds a line says that its fights were played, or 0."""
+    """Returns the fights of a line divided by its fights a second, or 0."""
     found = re.search(rb"(\d+) fights, (\d+) a second", line)
     fights, rate = map(int, found.groups()) if found else (0, 1)
     return fights / max(rate, 1)

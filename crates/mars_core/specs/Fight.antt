@@ -23,12 +23,12 @@ points_in s = if length s.opponent == 0 then 3 else if length s.candidate == 0 t
 unfoldable pub turns_of : ℕ → State → Side → ℕ → ℕ
 turns_of limit start first cycles = least (λ k. is_over (play_of limit start first k)) (2 * cycles)
 
--- From this core and these tasks so many turns are made within the cycles, whichever side has the
--- tasks `mine` and moves first.
+-- The number of turns within the cycles, from a core and the tasks of the side that moves first,
+-- `mine`, and of the other one, whichever these sides are.
 abbrev pub AreTurns : (limit : ℕ) → List Instruction → (mine theirs : List ℕ) → (cycles turns : ℕ) → Type 0
 AreTurns limit core mine theirs cycles turns = (first : Side) → turns ≡ turns_of limit (seen_from first core mine theirs) first cycles
 
--- These turns leave another core and other tasks.
+-- The core and the tasks that these turns leave.
 abbrev pub TurnsLeave : (limit : ℕ) → List Instruction → (mine theirs : List ℕ) → (turns : ℕ) → List Instruction → (my_new their_new : List ℕ) → Type 0
 TurnsLeave limit core mine theirs turns core_new my_new their_new =
     (first : Side) → seen_from first core_new my_new their_new ≡ play_of limit (seen_from first core mine theirs) first turns

@@ -156,8 +156,8 @@ impl<C: Cells> Arena<C> {
         }
     }
 
-    /// Makes the arena blank again. Returns the number of cells that it set: the marks, which are at
-    /// least the number of cells that were not empty.
+    /// Makes the arena blank again. Returns how many cells it set: the marks, at least as many as
+    /// were not empty.
     pub fn reset(&mut self) -> u32
         ensures count { result ≡ self.old.marks }
         ensures least { filled_in self.old.state.core ≤ result }
@@ -227,17 +227,17 @@ impl<C: Cells + Drop> Arena<C> {
     ghost use Rattle.rc_instr.specs.Instruction.{empty_cell};
     ghost use Rattle.mars_core.specs.Arena.{IsBlank};
 
-    // Makes a blank arena over empty cells. Its snapshot has the cells `copies`.
-    fn over(alloc: Global, cells: C, copies: C, rules: &Rules) -> Result<Arena<C>, OutOfMemory>
+    // Makes a blank arena over empty cells. Its snapshot keeps a state in `spare`.
+    fn over(alloc: Global, cells: C, spare: C, rules: &Rules) -> Result<Arena<C>, OutOfMemory>
         requires cells { C.items cells ≡ replicate rules.now.core empty_cell }
-        requires copies { C.items copies ≡ replicate rules.now.core empty_cell }
+        requires spare { C.items spare ≡ replicate rules.now.core empty_cell }
         ensures blank { IfOk result (IsBlank rules.now) }
         ensures fights { IfOk result (λ a. a.fights ≡ 0) }
         ensures marks { IfOk result (λ a. a.marks ≡ C.marks cells) }
     {
         let candidate = Tasks::with_capacity(alloc, rules.tasks() as usize)?;
         let opponent = Tasks::with_capacity(alloc, rules.tasks() as usize)?;
-        let snapshot = Snapshot::over(alloc, copies)?;
+        let snapshot = Snapshot::over(alloc, spare)?;
         Ok(Arena {
             cells,
             candidate,
@@ -263,8 +263,8 @@ impl Arena<PlainCells> {
         ensures marks { IfOk result (λ a. a.marks ≡ rules.now.core) }
     {
         let cells = PlainCells::try_new(alloc, rules.core())?;
-        let copies = PlainCells::try_new(alloc, rules.core())?;
-        Arena::over(alloc, cells, copies, rules)
+        let spare = PlainCells::try_new(alloc, rules.core())?;
+        Arena::over(alloc, cells, spare, rules)
     }
 }
 
@@ -281,7 +281,7 @@ impl Arena<PackedCells> {
         ensures marks { IfOk result (λ a. a.marks ≡ 0) }
     {
         let cells = PackedCells::try_new(alloc, rules.core())?;
-        let copies = PackedCells::try_new(alloc, rules.core())?;
-        Arena::over(alloc, cells, copies, rules)
+        let spare = PackedCells::try_new(alloc, rules.core())?;
+        Arena::over(alloc, cells, spare, rules)
     }
 }

@@ -72,8 +72,8 @@ pub trait Cell: Copy {
     fn is_same(self, other: Self) -> bool
         ensures { result ≡ same_instruction (held self) (held other) };
 
-    /// Checks whether both cells are one value to the store. Then they hold the same instruction, but
-    /// cells with one instruction may differ, in a mark or a class.
+    /// Checks whether both cells are stored alike: the same instruction and, if packed, the same
+    /// mark and class.
     fn is_identical(self, other: Self) -> bool
         ensures { result ≡ true → held self ≡ held other };
 }

@@ -91,8 +91,8 @@ pub trait Cells {
         ensures marked { marked self.new ≡ marked store }
         ensures marks { marks self.new ≡ marks store };
 
-    /// Empties every cell. Returns the number of cells that it set: the marks, which are at least the
-    /// number of cells that were not empty.
+    /// Empties every cell. Returns how many cells it set: the marks, at least as many as were not
+    /// empty.
     ///
     /// Afterwards the marks are as in a new store.
     fn restore(&mut self) -> u32

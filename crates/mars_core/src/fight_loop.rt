@@ -83,8 +83,8 @@ fn take_turns<C: Cells>(
     (cells, 2 * cycles)
 }
 
-// Does what `alternate` does, but plays no whole periods of a state that has come back: it will do
-// so for ever, so the fight is a tie.
+// Does what `alternate` does, but plays no whole periods once a state comes back: it will come back
+// again and again, so the fight is a tie.
 pub(crate) fn decide<C: Cells>(
     cells: &mut C,
     mine: &mut Tasks,

@@ -138,7 +138,7 @@ pub(crate) fn write_pairs<O: Operation, K: Cell>(
     }
 }
 
-// Puts a number into a field of a cell, which stays as it is without one.
+// Replaces the A-number or the B-number of a cell, as `N` says; `None` leaves it.
 #[inline]
 fn put_number<N: Number, K: Cell>(size: u32, number: Option<u32>, cell: K) -> K
     requires size { size ≤ 65535 }

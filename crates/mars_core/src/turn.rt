@@ -74,7 +74,7 @@ pub(crate) fn next_turn<C: Cells>(
 
 // Takes one turn of a side whose first task is `pc`, whatever its instruction is. Moves the cells
 // to a variable of its own for the call: lending the loop's would cost the loop its registers. Asks
-// the queue for the next task: as a result of the call it costs every turn 2 to 8 percent.
+// the queue for the next task: to return it from the call slows every turn, by 2 to 8 percent.
 #[tactic(auto, using(crate::proofs::Queues::none_first))]
 #[inline(always)]
 fn any_turn<C: Cells>(cells: &mut C, tasks: &mut Tasks, size: u32, pc: u32) -> Option<u32>

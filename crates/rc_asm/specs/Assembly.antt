@@ -36,7 +36,7 @@ pub record Assembles (source : List ℕ) (constants : Table) (rules : RulesView)
   pub expands : IsExpansion source constants rules lines
   pub made : IsMadeOf source (names_of source constants rules lines) lines warrior
 
--- the start is inside the code
+-- the code with its start, which must be inside it
 abbrev pub started : List Instruction → ℤ → Result WarriorView AsmFault
 started code (pos n) = if nat_lt n (length code) then Ok (warrior_view code n) else Err (at_line 0 (Warrior BadStart))
 started code (negsuc n) = Err (at_line 0 (Warrior BadStart))
@@ -62,7 +62,7 @@ lines_outcome source names lines = unless (lines_fault source names lines) (fitt
 abbrev pub expand_fault : ExpandFault → AsmFault
 expand_fault e = at_line e.line (Expand e.kind)
 
--- the length, the expansion, and what its lines make
+-- the warrior of a text, or its first fault
 unfoldable pub outcome_of : List ℕ → Table → RulesView → Result WarriorView AsmFault
 outcome_of source constants rules =
     if nat_le (length source) MOST_BYTES then and_then (λ lines. lines_outcome source (names_of source constants rules lines) lines) (with_fault expand_fault (expansion_of source constants rules))

@@ -59,7 +59,7 @@ pub fn expand(
     }
 }
 
-// Does what `expand` does. Its contract says nothing of the line of an `OutOfMemory`.
+// Does what `expand` does, but promises no line for an `OutOfMemory`.
 #[tactic(auto, unfolding(crate::specs::Expansion::expansion_of))]
 fn expand_text(
     alloc: Global,

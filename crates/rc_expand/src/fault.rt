@@ -88,8 +88,7 @@ pub(crate) fn fault(line: u64, kind: ExpandKind) -> ExpandFault
     ExpandFault { line, kind }
 }
 
-// Sets the line of an `OutOfMemory` to 0, which it is already: the contracts of the passes do not
-// say so. Any other fault stays as it is.
+// Sets the line of an `OutOfMemory` to 0. It is 0, but the contracts of the passes do not say so.
 pub(crate) fn memory_at_line_0(found: ExpandFault) -> ExpandFault
     ensures kind { result.kind ≡ found.kind }
     ensures memory { result.kind ≡ OutOfMemory → result.line ≡ 0 }

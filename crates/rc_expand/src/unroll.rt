@@ -51,8 +51,8 @@ pub(crate) fn unroll<'a>(
 // Appends lines with their blocks unrolled.
 //
 // `check_blocks` has refused each FOR without its ROF, each ROF without its FOR and each block that
-// is nested too deep. These faults are told here, in `check_line` and in `append_copy` all the
-// same, since the definition is one of any lines.
+// is nested too deep. They are refused here, in `check_line` and in `append_copy` all the same: the
+// definition is for any lines.
 #[cycle(unroll)]
 fn append_lines<'s, 'a>(
     out: &mut Unrolling<'a>,

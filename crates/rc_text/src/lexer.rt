@@ -71,7 +71,7 @@ impl<'a> Lexer<'a> {
             match lexeme_of(&self.source[self.at..], self.first) {
                 Lexeme::Trivia(len) => {
                     self.at += len;
-                    // A run of blanks is skipped at once.
+                    // Else each further blank would be a lexeme of its own.
                     self.at += blanks_len(&self.source[self.at..]);
                 }
                 Lexeme::LineFeed => {

@@ -1,6 +1,6 @@
 //! The text of certificates, and the checker that judges it.
 //!
-//! `tune_problem` defines what a certificate says and which are valid; its names are re-exported.
+//! `tune_problem` defines certificates and which of them are valid; its names are passed on below.
 //! In this API a setting is called a vector.
 #![tactic(auto)]
 

@@ -26,8 +26,8 @@ pub enum Row {
     Refused,
     /// It makes the same warrior as another setting, at this index from 0, whose row is a `Cap`.
     Same(u32),
-    /// It assembles, and made these points in these fights. The row of the best setting lists every
-    /// fight; any other lists enough that its cap does not beat the best setting.
+    /// It assembles and makes these points in these fights: every fight if it is the best setting,
+    /// else enough that its cap does not beat that setting.
     Cap(Listing),
 }
 

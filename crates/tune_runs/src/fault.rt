@@ -19,8 +19,8 @@ use tune_template::TemplateFault;
 /// `FightText`, `Rules`, `Load` and `Position` are of fights; `Asm` is of an assembly, and of the
 /// candidate's text in a fight of two texts, whose other text is `Opponent` with index 0;
 /// `TooManyOpponents` to `NoCandidate` and `Part` are of tunings, and of checks except for
-/// `NoCandidate`; `Template`, `NoSuchSetting` and `Asm` are of the assembly of a setting. A fault
-/// within another is never its `OutOfMemory`: that is `RunFault::OutOfMemory`.
+/// `NoCandidate`; `Template`, `NoSuchSetting` and `Asm` are of the assembly of a setting. No fault
+/// within another is an `OutOfMemory`: that is `RunFault::OutOfMemory`.
 #[derive(Clone, Copy, Debug, PartialEq, Eq, Error)]
 pub enum RunFault {
     /// The fight text is malformed at this line, from 1.

@@ -25,9 +25,9 @@ pub struct RawRules {
 ///
 /// # Errors
 ///
-/// The first that applies: `Core` for a core size other than 8 to 65535, `Cycles` for other than 1
-/// to 1000000, `Tasks` for other than 1 to 8000, `Length` for other than 1 to 200, `Distance` for one
-/// below the length or above half the core size.
+/// The first that applies: `Core` unless the core size is 8 to 65535, `Cycles` unless they are 1 to
+/// 1000000, `Tasks` unless they are 1 to 8000, `Length` unless it is 1 to 200, `Distance` unless it
+/// is from the length to half the core size.
 pub fn rules_of(raw: RawRules) -> Result<Rules, RulesError>
     ensures ok { IsOk result ↔ IsRules (rules_given raw) }
     ensures rules { IfOk result (λ r. r ≡ rules_given raw) }

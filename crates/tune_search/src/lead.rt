@@ -41,7 +41,7 @@ pub(crate) fn copies(start: u32, other: u32, vector: u32, lead: Option<Best>) ->
     }
 }
 
-// Returns the lead with setting `vector` in its place, and the same total.
+// Returns setting `vector` as the lead, with the total of `lead`.
 pub(crate) fn lead_with(vector: u32, lead: Option<Best>) -> Option<Best>
     ensures { result ≡ lead_taken vector lead }
 {

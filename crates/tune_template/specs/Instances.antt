@@ -48,13 +48,13 @@ unfoldable pub settings_of : InputsView → List (List ℤ)
 settings_of i = part_of i.part (vectors_of i.template.ranges.spans)
 
 -- where v is among the `count` indices from `first` on, or 0 if it is none of them
-abbrev pub place_among : (first count v : ℕ) → ℕ
-place_among first count v = if nat_le first v && nat_lt v (first + count) then v - first else 0
+abbrev pub index_among : (first count v : ℕ) → ℕ
+index_among first count v = if nat_le first v && nat_lt v (first + count) then v - first else 0
 
 -- the index of the start setting, if it is one of the part's; else the first
-unfoldable pub start_place : InputsView → ℕ
-start_place i =
-    place_among (part_first i.part (length (vectors_of i.template.ranges.spans))) (length (settings_of i)) (start_index i.template.ranges.spans)
+unfoldable pub start_index : InputsView → ℕ
+start_index i =
+    index_among (part_first i.part (length (vectors_of i.template.ranges.spans))) (length (settings_of i)) (start_index i.template.ranges.spans)
 
 -- the warrior of the setting at index v of the part, if the text assembles with its values
 unfoldable pub warrior_of : InputsView → ℕ → Option WarriorView

@@ -7,7 +7,7 @@ ghost use Rattle.mars_fight.specs.Listed.{IsFight};
 ghost use Rattle.tune_template.specs.Limits.{MOST_SETTINGS, MOST_OPPONENTS};
 ghost use Rattle.tune_template.specs.Vectors.{vectors_of};
 ghost use Rattle.tune_template.specs.Parts.{whole, IsPart, part_first};
-ghost use Rattle.tune_template.specs.Instances.{constants_of, InputsView, AreInputs, settings_of, place_among, start_place, warrior_of};
+ghost use Rattle.tune_template.specs.Instances.{constants_of, InputsView, AreInputs, settings_of, index_among, start_index, warrior_of};
 
 use crate::part::Part;
 use crate::template::Template;
@@ -129,10 +129,10 @@ impl Inputs {
     /// Returns the index of the setting of the start values, or 0 if it is not in the part.
     #[tactic(auto, using(crate::proofs::PartSteps::start_placed))]
     pub fn start_number(&self) -> u32
-        ensures index { result ≡ start_place self.now }
+        ensures index { result ≡ start_index self.now }
         ensures inside { result < length (settings_of self.now) }
     {
-        place_among(self.first(), self.count(), self.template.start_number())
+        index_among(self.first(), self.count(), self.template.start_number())
     }
 
     /// Returns the part's setting at `index`, from 0, which must be below `count`.
@@ -185,9 +185,9 @@ impl Inputs {
 }
 
 // Returns where `index` is among the `count` indices from `first` on, or 0 if it is none of them.
-fn place_among(first: u32, count: u32, index: u32) -> u32
+fn index_among(first: u32, count: u32, index: u32) -> u32
     requires { 0 < count }
-    ensures place { result ≡ place_among first count index }
+    ensures index { result ≡ index_among first count index }
     ensures inside { result < count }
 {
     if first <= index && index - first < count {

@@ -6,8 +6,8 @@ ghost use Rattle.tune_template.specs.Steps.{HasValues};
 
 use crate::fault::TemplateKind;
 
-/// The values of a constant: `low`, `low + step`, .., `count` of them. A search begins with the one
-/// at index `start`.
+/// The values of a constant: `low`, `low + step`, .., `count` of them. The start setting has the
+/// one at index `start`.
 ///
 /// In a template `low` is -65535 to 65535, `step` 1 to 65535, `count` 1 to 131071, and `start` is
 /// below `count`.

@@ -17,6 +17,6 @@ ending_line line (t ∷ ts) = ending_line (line_after t.kind t.line) ts
 abbrev pub text_fault : List ℕ → Option ExpandFault
 text_fault source = option_map (λ fault. at_line (ending_line (1 + (header_of source).lines) (tokens_of source).tokens) (Text fault)) (tokens_of source).ending
 
--- a lexer that has no token left, in this state, ends with this fault
+-- a lexer in this state, with no token left, ends with this fault
 abbrev pub IsEnding : Ahead → ExpandFault → Type 0
 IsEnding a f = (fault : LexFault) × (a.ending ≡ Some fault) × (f ≡ at_line a.line (Text fault))

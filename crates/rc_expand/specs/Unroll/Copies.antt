@@ -76,8 +76,8 @@ module _ (source : List ℕ) where
   copied_block None k hs = hs
   copied_block (Some counter) k hs = map (copied_line counter k) hs
 
--- `n` tokens are too few for a ninth counter to be joined to this one of them, in however many
--- copies: each counter that is joined takes two tokens away
+-- no ninth counter can be joined to the token, one of `n` tokens, in however many copies: each
+-- counter that is joined takes two tokens away
 abbrev pub stays_joinable : ℕ → Token → Bool
 stays_joinable n t = nat_le (2 * length t.joined + n) (2 * (MOST_JOINED + 1))
 

@@ -102,11 +102,11 @@ fn is_short(tokens: &[Token]) -> bool
     tokens.iter().all(|t| stays_joinable(t, tokens.len()))
 }
 
-// Up to this many tokens no ninth counter can be joined to a name, since each takes two of them.
+// The most tokens among which no ninth counter can be joined to a name without counters.
 const MOST_SHORT: usize = 2 * (MOST_JOINED + 1);
 
-// Checks that `len` tokens are too few for a ninth counter to be joined to this one of them: each
-// counter that is joined takes two tokens away.
+// Checks that no ninth counter can be joined to `token`, one of `len` tokens: each counter that is
+// joined takes two tokens away.
 fn stays_joinable(token: &Token, len: usize) -> bool
     ensures { result ≡ stays_joinable len token.now }
 {
