@@ -4,7 +4,7 @@ use Rattle.rc_instr.specs.Rules.{RulesView}
 use Rattle.rc_instr.specs.Warrior.{WarriorView}
 use Rattle.mars_fight.specs.declared.fight.Fight.{Fight}
 use Rattle.mars_fight.specs.Play.{points_of, ArePoints}
-use Rattle.tune_template.specs.Instances.{InputsView, settings_of, start_index, warrior_of}
+use Rattle.tune_template.specs.Instances.{InputsView, settings_of, part_start, warrior_of}
 
 pub record Problem : Type 0 where
   -- the number of settings, and of fights; both have indices from 0
@@ -56,7 +56,7 @@ abbrev pub problem_of : InputsView → Problem
 problem_of i = record {
   count = length (settings_of i);
   fights = length i.schedule;
-  start = start_index i;
+  start = part_start i;
   warrior = warrior_of i;
   points = fight_points i.rules i.opponents i.schedule;
   weight = fight_weight i.schedule;

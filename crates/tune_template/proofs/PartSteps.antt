@@ -14,7 +14,7 @@ use Rattle.rc_asm.specs.Faults.{IsAsmFault}
 use Rattle.rc_asm.specs.declared.fault.AsmFault.{AsmFault}
 use Rattle.rc_asm.specs.declared.fault.AsmKind.TheVariants.{OutOfMemory}
 use Rattle.tune_template.specs.Vectors.{vectors_of, start_index}
-use Rattle.tune_template.specs.Instances.{InputsView, AreInputs, settings_of, index_among, start_index, warrior_of, instance_of, constants_of}
+use Rattle.tune_template.specs.Instances.{InputsView, AreInputs, settings_of, index_among, part_start, warrior_of, instance_of, constants_of}
 
 -- ---- bounds of a part
 
@@ -105,8 +105,8 @@ module _ (i : InputsView) (h : AreInputs i) where
       let count = settings_len in
       omega (arith, l, end, count)
 
-  pub start_placed : (r : ℕ) → r ≡ index_among (part_first i.part (length (vectors_of i.template.ranges.spans))) (length (settings_of i)) (start_index i.template.ranges.spans) → r ≡ start_index i
-  unfolding start_index
+  pub start_placed : (r : ℕ) → r ≡ index_among (part_first i.part (length (vectors_of i.template.ranges.spans))) (length (settings_of i)) (start_index i.template.ranges.spans) → r ≡ part_start i
+  unfolding part_start
   start_placed r e = e
 
   module _ (v n : ℕ) (l : v < length (settings_of i)) (at : n ≡ part_first i.part (length (vectors_of i.template.ranges.spans)) + v) where

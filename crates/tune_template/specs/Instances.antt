@@ -52,8 +52,8 @@ abbrev pub index_among : (first count v : ℕ) → ℕ
 index_among first count v = if nat_le first v && nat_lt v (first + count) then v - first else 0
 
 -- the index of the start setting, if it is one of the part's; else the first
-unfoldable pub start_index : InputsView → ℕ
-start_index i =
+unfoldable pub part_start : InputsView → ℕ
+part_start i =
     index_among (part_first i.part (length (vectors_of i.template.ranges.spans))) (length (settings_of i)) (start_index i.template.ranges.spans)
 
 -- the warrior of the setting at index v of the part, if the text assembles with its values

@@ -7,7 +7,7 @@ ghost use Rattle.mars_fight.specs.Listed.{IsFight};
 ghost use Rattle.tune_template.specs.Limits.{MOST_SETTINGS, MOST_OPPONENTS};
 ghost use Rattle.tune_template.specs.Vectors.{vectors_of};
 ghost use Rattle.tune_template.specs.Parts.{whole, IsPart, part_first};
-ghost use Rattle.tune_template.specs.Instances.{constants_of, InputsView, AreInputs, settings_of, index_among, start_index, warrior_of};
+ghost use Rattle.tune_template.specs.Instances.{constants_of, InputsView, AreInputs, settings_of, index_among, part_start, warrior_of};
 
 use crate::part::Part;
 use crate::template::Template;
@@ -129,7 +129,7 @@ impl Inputs {
     /// Returns the index of the setting of the start values, or 0 if it is not in the part.
     #[tactic(auto, using(crate::proofs::PartSteps::start_placed))]
     pub fn start_number(&self) -> u32
-        ensures index { result ≡ start_index self.now }
+        ensures index { result ≡ part_start self.now }
         ensures inside { result < length (settings_of self.now) }
     {
         index_among(self.first(), self.count(), self.template.start_number())
