@@ -12,8 +12,11 @@ use rc_instr::{Instruction, Mode, Modifier, Opcode};
 // What the parts of a word are multiplied by: the mark, the A-number, the class and the B-number.
 // Below the mark are the modifier, the opcode and the modes (specs/Packed.antt has the table).
 const MARK: u64 = 32768;
+
 const A_NUMBER: u64 = 65536;
+
 const CLASS: u64 = 4294967296;
+
 const B_NUMBER: u64 = 281474976710656;
 
 /// A cell in one word: its instruction, its class, and the mark of a cell that was written.
