@@ -3,7 +3,7 @@
 ghost use Rattle.std.specs.Prelude.{◌≡◌, ◌<◌, ◌≤◌, IfSome};
 ghost use Rattle.rc_instr.specs.Warrior.{IsBelow};
 ghost use Rattle.rc_instr.specs.declared.instruction.Opcode.{Opcode};
-ghost use Rattle.mars_core.specs.Numbers.{ANumber, BNumber, difference_of, field_of, with_field};
+ghost use Rattle.mars_core.specs.Numbers.{difference_of, field_of, with_field};
 ghost use Rattle.mars_core.specs.Pairs.{written_value, put, pairs_of, written, counted_down, has_zero_divisor, all_are, are_equal, are_less};
 
 use crate::cell::Cell;

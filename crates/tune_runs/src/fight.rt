@@ -1,13 +1,11 @@
 //! A fight: from a fight text to a result line.
 ghost use Rattle.std.specs.Prelude.{◌≡◌, ◌≢◌, ◌↔◌, ◌⊎◌, false, IfOk, IfErr, OnOk, MatchResult, IsErrOf, IsTrue, Ok};
-ghost use Rattle.std.specs.Io.KnownBytes.{Appends};
 ghost use Rattle.rc_instr.specs.Warrior.{WarriorView, Fits};
 ghost use Rattle.mars_core.specs.State.{start_of};
 ghost use Rattle.mars_core.specs.Fight.{outcome_of};
 ghost use Rattle.mars_fight.specs.Listed.{IsPosition};
 ghost use Rattle.tune_runs.specs.FightText.{FightWords};
 ghost use Rattle.tune_runs.specs.FightRun.{Loads, NamesFight, IsRefusal, IsLoadRefusal, WritesFight, outcome_for};
-ghost use Rattle.tune_runs.specs.ResultLine.{result_line};
 
 use crate::fault::RunFault;
 use crate::fight_text::read_fight_text;
