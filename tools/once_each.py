@@ -98,6 +98,10 @@ def trials(program, library):
         # What the lines of LONG add to it, in assemblies of them.
         times = (long - short) / (alone[1] - alone[0])
         yield f"one more: {kind}", [] if 0.5 < times < 1.5 else [f"costs {times} assemblies"]
+    fight = with_rules("fight one.red one.red")
+    came = [requests(program, library, [word.replace("=20", cycles) for word in fight],
+                     {"one.red": IMP}) for cycles in ("=10000", "=40000")]
+    yield "turns take no memory", [] if came[0] == came[1] else [f"requests: {came}"]
     for words in ARENAS:
         came = [requests_of_success(program, library, with_rules(words),
                                     many(count, "", IMP, "same,{},0\n"), LARGE)

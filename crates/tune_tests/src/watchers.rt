@@ -67,6 +67,26 @@ fn after(settings: u32, count: u32, fights: u64, best: Option<Best>) -> Option<S
     })
 }
 
+// Certificates of two settings whose total is 4, and how many fights a check plays until it rejects
+// them: none after one with other points, none of a row that lists a fight twice, and none at all
+// if the best row lacks a fight.
+const WRONG: [(&[u8], u64); 3] = [
+    (b"cwcert,1,2\nbest,0,4\ncap,0,0:1 1:1\nrefused,1,-\n", 1),
+    (b"cwcert,1,2\nbest,0,4\ncap,0,0:3 1:1\ncap,1,0:3 0:3\n", 2),
+    (b"cwcert,1,2\nbest,0,4\ncap,0,0:3\ncap,1,0:3 1:1\n", 0),
+];
+
+#[test]
+fn a_check_stops_at_what_is_wrong(rt: HostRuntime) -> Result<(), Fail> {
+    let inputs = inputs_of(rt.alloc(), b";@tune K 0 1 1 0\nMOV 0, 1\nDAT K")?;
+    for &(cert, fights) in &WRONG {
+        let mut notes = Notes::new();
+        watched_check(rt.alloc(), &inputs, cert, &mut notes)?;
+        assert_eq!(rt; notes.fights, fights);
+    }
+    Ok(())
+}
+
 // Setting 1 of `THREE`, an imp with the total 4.
 const IMP: Option<Best> = Some(Best {
     vector: 1,

@@ -88,26 +88,27 @@ fn a_writer_that_takes_no_byte_has_failed(rt: HostRuntime) {
     assert_eq!(rt; outlet.into_inner().calls, 1);
 }
 
-// Writes `abcde` as a whole. Returns the result, and what the writer took.
-fn whole_write(alloc: Global, most: usize, bad_call: u32) -> (Result<(), WriteFailed>, Vec<u8>) {
+// Writes `abcde` as a whole. Returns the result, and the writer.
+fn whole_write(alloc: Global, most: usize, bad_call: u32) -> (Result<(), WriteFailed>, Fake) {
     let mut outlet = outlet(alloc, most, bad_call, Some(io::ErrorKind::BrokenPipe));
     let result = outlet.write_all(b"abcde");
-    (result, outlet.into_inner().taken)
+    (result, outlet.into_inner())
 }
 
 #[test]
 fn a_whole_text_is_written_piece_by_piece(rt: HostRuntime) {
-    for &(most, bad_call, want, taken) in &[
-        (5, 9, Ok(()), b"abcde".as_slice()),
-        (2, 9, Ok(()), b"abcde"),
-        (1, 9, Ok(()), b"abcde"),
-        (2, 3, Err(WriteFailed), b"abcd"),
-        (5, 1, Err(WriteFailed), b""),
-        (0, 9, Err(WriteFailed), b""),
+    for &(most, bad_call, want, taken, calls) in &[
+        (5, 9, Ok(()), b"abcde".as_slice(), 1),
+        (2, 9, Ok(()), b"abcde", 3),
+        (1, 9, Ok(()), b"abcde", 5),
+        (2, 3, Err(WriteFailed), b"abcd", 3),
+        (5, 1, Err(WriteFailed), b"", 1),
+        (0, 9, Err(WriteFailed), b"", 1),
     ] {
-        let (found, bytes) = whole_write(rt.alloc(), most, bad_call);
+        let (found, fake) = whole_write(rt.alloc(), most, bad_call);
         assert_eq!(rt; found, want, "{most} {bad_call}");
-        assert_eq!(rt; bytes.as_slice(), taken, "{most} {bad_call}");
+        assert_eq!(rt; fake.taken.as_slice(), taken, "{most} {bad_call}");
+        assert_eq!(rt; fake.calls, calls, "{most} {bad_call}");
     }
 }
 

@@ -9,7 +9,7 @@ use tune_runs::RunFault;
 use tune_template::{TemplateFault, TemplateKind};
 
 // Faults of runs, and their texts.
-const TEXTS: [(RunFault, &str); 14] = [
+const TEXTS: [(RunFault, &str); 17] = [
     (
         RunFault::FightText { line: 2 },
         "line 2 of the fight text is malformed",
@@ -43,6 +43,27 @@ const TEXTS: [(RunFault, &str); 14] = [
             kind: TemplateKind::EmptyRange,
         }),
         "template: line 5: LOW is above HIGH",
+    ),
+    (
+        RunFault::Template(TemplateFault {
+            line: 2,
+            kind: TemplateKind::DuplicateName,
+        }),
+        "template: line 2: duplicate constant",
+    ),
+    (
+        RunFault::Template(TemplateFault {
+            line: 9,
+            kind: TemplateKind::TooManyConstants,
+        }),
+        "template: line 9: more than 8 constants",
+    ),
+    (
+        RunFault::Template(TemplateFault {
+            line: 0,
+            kind: TemplateKind::TextTooLong,
+        }),
+        "template: line 0: text longer than 65536 bytes",
     ),
     (
         RunFault::Opponent {
