@@ -67,11 +67,11 @@ fn after(settings: u32, count: u32, fights: u64, best: Option<Best>) -> Option<S
     })
 }
 
-// Certificates of two settings whose total is 4, and how many fights a check plays until it rejects
-// them: none after one with other points, none of a row that lists a fight twice, and none at all
-// if the best row lacks a fight.
+// Wrong certificates of two settings, and how many fights a check plays until it rejects them: none
+// after one with other points, none of a row that lists a fight twice, and none at all if the best
+// row lacks a fight.
 const WRONG: [(&[u8], u64); 3] = [
-    (b"cwcert,1,2\nbest,0,4\ncap,0,0:1 1:1\nrefused,1,-\n", 1),
+    (b"cwcert,1,2\nbest,0,2\ncap,0,0:1 1:1\nrefused,1,-\n", 1),
     (b"cwcert,1,2\nbest,0,4\ncap,0,0:3 1:1\ncap,1,0:3 0:3\n", 2),
     (b"cwcert,1,2\nbest,0,4\ncap,0,0:3\ncap,1,0:3 1:1\n", 0),
 ];
