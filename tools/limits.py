@@ -57,9 +57,11 @@ RUNS = [
     ("65536 bytes", {"a": DIES + ";" * (65536 - len(DIES))}, "asm a", "ORG 0\nDAT.F $0, $0\n"),
     ("10000 fights", {"t": IMP, "s": schedule(10000), "b": DIES}, "tune t s CERT b",
      report(1, "-", "30000 of 30000", "10000 of 10000")),
-    # A search that plays each of them to its end takes minutes.
-    ("10000 ties of the most cycles", {"t": "JMP 0\n", "s": schedule(10000), "b": "JMP 0\n"},
-     "tune --cycles=1000000 t s CERT b", report(1, "-", "10000 of 30000", "10000 of 10000")),
+    # Played to their ends they would be 8 * 10^10 turns, which take minutes.
+    ("40000 ties of the most cycles", {"t": ranges("A", 4) + "JMP 0\nDAT 0, A\n",
+                                       "s": schedule(10000), "b": "JMP 0\n"},
+     "tune --cycles=1000000 t s CERT b",
+     report(4, "A=0", "10000 of 30000", "40000 of 40000")),
     ("64 opponents", {"t": IMP, "s": schedule(64, 64), "b": DIES}, f"tune t s CERT {'b ' * 64}",
      report(1, "-", "192 of 192", "64 of 64")),
     ("8 constants", {"t": ranges("ABCDEFGH", 2) + IMP, "s": schedule(1), "b": DIES},
