@@ -8,18 +8,14 @@ import math
 import os
 import pathlib
 import subprocess
-import sys
 import tempfile
+
+from author.lib.program import Rules
+from pmars.games import Game, fights_of
 
 HERE = pathlib.Path(__file__).resolve().parent
 # In each folder, each warrior fights each other one.
 FOLDERS = {"examples": HERE.parent / "examples" / "warriors", "unseen": HERE / "unseen"}
-sys.path.insert(0, str(HERE.parent / "tools"))
-
-# The folder of the tools has to be known first.
-from pmars_games import Game, fights_of  # noqa: E402
-from program import Rules  # noqa: E402
-
 # How many fights a series has, and the position of the first.
 ROUNDS, SEED = 60, 3000
 

@@ -1,7 +1,7 @@
 #!/bin/sh
 # Tunes a part of a template as one job of a Slurm job array; the array has as many jobs as parts.
 # Use: sbatch --array=1-K examples/slurm.sh TEMPLATE SCHEDULE CERT OPPONENT..
-# When all have ended, `tools/spread.py --merge K TEMPLATE SCHEDULE CERT OPPONENT..` puts the parts
+# When all have ended, `cwtune-spread --merge K TEMPLATE SCHEDULE CERT OPPONENT..` puts the parts
 # together. CWTUNE names the program, if it is not on the PATH.
 #SBATCH --output=/dev/null
 

@@ -2,7 +2,7 @@
 //! passed on as the test's error.
 //!
 //! `make test` also runs each of these tests with its first, second and so on request for memory
-//! refused (tools/refuse_growth.py). It then ends with the same results, or with the error
+//! refused (gate/refuse/growth.py). It then ends with the same results, or with the error
 //! `OutOfMemory` of the call itself, in no other variant.
 ghost use Rattle.std.specs.Prelude.{◌≤◌};
 ghost use Rattle.rc_instr.specs.Warrior.{Fits};

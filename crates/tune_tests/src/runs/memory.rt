@@ -3,7 +3,7 @@
 //! test's error. The writers have their room beforehand.
 //!
 //! `make test` also runs each of these tests with its first, second and so on request for memory
-//! refused (tools/refuse_growth.py). It then ends with the same results, or with the error
+//! refused (gate/refuse/growth.py). It then ends with the same results, or with the error
 //! `OutOfMemory` of the run itself, in no other variant, and nothing written.
 ghost use Rattle.std.specs.Prelude.{◌≡◌, ◌≤◌, false, IfOk};
 ghost use Rattle.tune_search.specs.Limits.{MOST_CAPACITY};

@@ -1,0 +1,86 @@
+"""How the commands end after a fault, write files and read numbers."""
+import argparse, contextlib, os, pathlib, shutil, signal, sys
+
+WORDS = {1: "refused", 2: "error", 3: "failed"}
+
+
+class Fault(Exception):
+    """Why a command ends. Status 1: a file is refused; 2: usage error; 3: I/O error."""
+
+    def __init__(self, message, status=1):
+        super().__init__(message)
+        self.status = status
+
+
+def run_tool(main):
+    """Runs a command, and ends it with a line and a status after a fault.
+
+    A closed pipe and Ctrl-C end it by their signals and without a word, as they end `cat`.
+    """
+    try:
+        status = main()
+        sys.stdout.flush()
+    except Fault as fault:
+        status = say(WORDS[fault.status], str(fault), fault.status)
+    except BrokenPipeError:
+        status = end_by(signal.SIGPIPE)
+    except KeyboardInterrupt:
+        status = end_by(signal.SIGINT)
+    except OSError as error:
+        name = f"{error.filename}: " if error.filename else ""
+        status = say("failed", f"{name}{error.strerror}", 3)
+    sys.exit(status)
+
+
+def say(word, message, status):
+    """Writes a line on standard error, whatever bytes a name in it has, and returns the status."""
+    sys.stderr.buffer.write(f"{word}: {message}\n".encode(errors="surrogateescape"))
+    return status
+
+
+def end_by(number):
+    """Ends this process by a signal."""
+    signal.signal(number, signal.SIG_DFL)
+    os.kill(os.getpid(), number)
+
+
+def number_from(low, high=None):
+    """Returns a reader of the numbers from `low` to `high` for argparse."""
+    limits = f"{low} or more" if high is None else f"{low} to {high}"
+
+    def read(word):
+        number = int(word)
+        if number < low or high is not None and number > high:
+            raise argparse.ArgumentTypeError(f"{word} is not {limits}")
+        return number
+
+    read.__name__ = "number"
+    return read
+
+
+@contextlib.contextmanager
+def whole_file(path, mode="w"):
+    """Opens a new file beside `path`, which replaces `path` once all is written to it.
+
+    After a fault `path` is as it was. A device or a pipe is opened itself.
+    """
+    real = pathlib.Path(os.path.realpath(path))
+    if real.exists() and not real.is_file():
+        with open(path, mode) as file:
+            yield file
+        return
+    new = real.with_name(f"{real.name}.{os.getpid()}.new")
+    try:
+        file = new.open(mode)
+    except OSError as error:
+        raise Fault(f"{path}: {error.strerror}", 3) from None
+    try:
+        with file:
+            yield file
+            file.flush()
+            os.fsync(file.fileno())
+        if real.exists():
+            shutil.copymode(real, new)
+        new.replace(real)
+    finally:
+        new.unlink(missing_ok=True)

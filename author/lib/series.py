@@ -1,0 +1,37 @@
+"""Prints the fights of `pmars -F SEED -r ROUNDS` as a schedule, so that totals can be compared."""
+import argparse
+
+from .endings import number_from
+
+
+def series(seed, rounds, core, distance):
+    """Yields position and first mover of each round, as pMARS 0.9.2 chooses them."""
+    number = seed - distance
+    for i in range(rounds):
+        yield distance + number % (core + 1 - 2 * distance), "co"[i % 2]
+        number = number * 16807 % 2147483647
+
+
+def make_parser():
+    parser = argparse.ArgumentParser(description=__doc__)
+    parser.add_argument("seed", type=number_from(1, 65535),
+                        help="the number after -F, the first position")
+    parser.add_argument("rounds", type=number_from(1, 10000), help="the number after -r")
+    parser.add_argument("opponents", type=number_from(1, 64),
+                        help="how many opponents: the series for each")
+    parser.add_argument("--core", type=number_from(8, 65535), default=8000)
+    parser.add_argument("--distance", type=number_from(1, 32767), default=100)
+    return parser
+
+
+def main():
+    parser = make_parser()
+    asked = parser.parse_args()
+    if not asked.distance <= asked.seed <= asked.core - asked.distance:
+        parser.error("pMARS takes a seed from the distance to the core size less the distance")
+    if asked.rounds * asked.opponents > 10000:
+        parser.error("a schedule has 1 to 10000 fights")
+    print("opponent,position,first")
+    for opponent in range(asked.opponents):
+        for place, first in series(asked.seed, asked.rounds, asked.core, asked.distance):
+            print(f"{opponent},{place},{first}")

@@ -1,0 +1,184 @@
+"""Reads templates, schedules (with and without weights) and certificates (of both versions).
+
+A file that is none of these is refused in a few words; what exactly is wrong with it, `cwtune`
+says.
+"""
+import argparse, csv, itertools, math, pathlib, re
+from typing import NamedTuple
+
+from .endings import Fault
+
+ABOUT = """Prints what each file is: a schedule or a certificate if its first record says so, and a
+template otherwise."""
+HEADER = ["opponent", "position", "first"]
+BLANKS = b" \t\r"
+MOST_SETTINGS = 1000000
+
+
+class Fight(NamedTuple):
+    opponent: int
+    position: int
+    first: str
+    weight: int
+
+
+class Template:
+    """The constants of a template and its settings; the first constant changes slowest."""
+
+    def __init__(self, path):
+        lines = enumerate(pathlib.Path(path).read_bytes().split(b"\n"), 1)
+        ranges = [read_range(path, *line) for line in lines if is_range_line(line[1])]
+        self.names = [name for name, _, _ in ranges]
+        self.values = [values for _, values, _ in ranges]
+        if math.prod(map(len, self.values)) > MOST_SETTINGS:
+            raise Fault(f"{path}: more than {MOST_SETTINGS} settings")
+        self.settings = list(itertools.product(*self.values))
+        self.start = self.settings.index(tuple(start for _, _, start in ranges))
+
+    def constants(self, v):
+        """Returns the values of setting v as the report says them."""
+        pairs = zip(self.names, self.settings[v])
+        return " ".join(f"{name}={value}" for name, value in pairs) or "-"
+
+
+class Certificate:
+    """The rows of a certificate. `rows[v]` is ("refused", None), ("same", u) or ("cap", points)."""
+
+    def __init__(self, path):
+        self.path = path
+        try:
+            (mark, version, count), (second, best, total), *records = read_records(path)
+            self.version, self.best, self.total = int(version), int(best), int(total)
+            self.rows = [read_row(v, record) for v, record in enumerate(records)]
+            named = [self.best] + [rest for kind, rest in self.rows if kind == "same"]
+            good = int(count) == len(records) and all(map(self.has_fights, named))
+        except (ValueError, csv.Error):
+            good = False
+        if not good or (mark, second) != ("cwcert", "best") or version not in ("1", "2"):
+            raise Fault(f"{path}: not a certificate")
+
+    def has_fights(self, v):
+        """Returns whether there is a setting v, and its row lists fights."""
+        return 0 <= v < len(self.rows) and self.rows[v][0] == "cap"
+
+    def is_of(self, fights):
+        """Returns whether the certificate can be of these fights: the best setting played them
+        all, they give it its total, and no setting played another one."""
+        points = self.points(self.best)
+        listed = [rest for kind, rest in self.rows if kind == "cap"]
+        return (sorted(points) == list(range(len(fights))) and cap(points, fights) == self.total
+                and all(fight < len(fights) for rest in listed for fight in rest))
+
+    def fights(self, schedule):
+        """Returns the fights of a schedule, which is a path. Without one each weight is 1, and the
+        fights are those of the best setting."""
+        if schedule:
+            fights = read_schedule(schedule)
+        elif self.version == 2:
+            raise Fault(f"{self.path} is of a schedule with weights: give --schedule", 2)
+        else:
+            fights = [Fight(0, 0, "c", 1)] * len(self.points(self.best))
+        if not self.is_of(fights):
+            wrong = (f" is not a certificate of the schedule {schedule}" if schedule
+                     else ": the points of the best setting do not make its total")
+            raise Fault(self.path + wrong, 2)
+        return fights
+
+    def points(self, v):
+        """Returns the points that setting v made, by fight, or None if it does not assemble."""
+        kind, rest = self.rows[self.twin(v)]
+        return rest if kind == "cap" else None
+
+    def twin(self, v):
+        """Returns the setting whose fights setting v shares, or v."""
+        kind, rest = self.rows[v]
+        return rest if kind == "same" else v
+
+
+def is_range_line(line):
+    """Returns whether a line is `;@tune`, then a blank or the end of the line."""
+    return line[:6] == b";@tune" and line[6:7] in (b"", b" ", b"\t", b"\r")
+
+
+def read_range(path, number, line):
+    """Returns the name of a constant, its values, and the one of the start setting."""
+    words = re.split(rb"[ \t\r]+", line[6:].strip(BLANKS))
+    if len(words) == 5 and all(re.fullmatch(rb"-?[0-9]{1,5}", word) for word in words[1:]):
+        low, high, step, start = map(int, words[1:])
+        values = range(low, high + 1, step) if step > 0 else ()
+        if start in values:
+            return words[0].decode("latin-1"), values, start
+    raise Fault(f"{path}: line {number} is not a range")
+
+
+def read_records(path):
+    """Returns the records of a comma-separated text; empty lines are not records."""
+    with open(path, newline="", encoding="utf-8-sig") as file:
+        return [record for record in csv.reader(file) if record]
+
+
+def read_schedule(path):
+    """Returns the fights of a schedule. Without the field `weight` each weight is 1."""
+    try:
+        header, *records = read_records(path)
+        weights = header == [*HEADER, "weight"]
+        fights = [read_fight(record if weights else [*record, "1"]) for record in records]
+    except (ValueError, csv.Error):
+        header, fights = None, []
+    if not fights or not (weights or header == HEADER):
+        raise Fault(f"{path}: not a schedule")
+    return fights
+
+
+def read_fight(record):
+    opponent, position, first, weight = record
+    return Fight(int(opponent), int(position), first, int(weight))
+
+
+def read_row(v, record):
+    """Returns the row of setting v, or raises a ValueError if the record is not one."""
+    kind, setting, rest = record
+    if kind not in ("cap", "same", "refused") or int(setting) != v:
+        raise ValueError
+    if kind == "refused":
+        return kind, None
+    if kind == "same":
+        return kind, int(rest)
+    items = [] if rest == "-" else [item.split(":") for item in rest.split(" ")]
+    return kind, {int(fight): int(points) for fight, points in items}
+
+
+def greatest(fights):
+    """Returns the total of a setting that wins all fights."""
+    return 3 * sum(fight.weight for fight in fights)
+
+
+def cap(points, fights):
+    """Returns the greatest total of a setting with these points; its total if all are listed."""
+    return greatest(fights) - sum((3 - made) * fights[i].weight for i, made in points.items())
+
+
+def describe(path):
+    """Returns a line that says what a file is."""
+    first = pathlib.Path(path).read_text("latin-1").split(",", 1)[0].lstrip("\xef\xbb\xbf\"\r\n")
+    if first == "opponent":
+        fights = read_schedule(path)
+        return f"schedule of {len(fights)} fights, greatest total {greatest(fights)}"
+    if first == "cwcert":
+        found = Certificate(path)
+        return (f"certificate, version {found.version}, of {len(found.rows)} settings: "
+                f"best {found.best} total {found.total}")
+    template = Template(path)
+    names = " ".join(template.names) or "-"
+    return f"template of {len(template.settings)} settings, constants {names}"
+
+
+def make_parser():
+    parser = argparse.ArgumentParser(description=ABOUT)
+    parser.add_argument("files", nargs="+", metavar="FILE")
+    return parser
+
+
+def main():
+    for path in make_parser().parse_args().files:
+        print(f"{path}: {describe(path)}")

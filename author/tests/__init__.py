@@ -1,0 +1,1 @@
+"""Tries the commands for authors on the examples: `python3 -m author.tests.run`."""

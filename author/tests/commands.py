@@ -1,0 +1,26 @@
+"""Runs the commands for authors, as the trials do."""
+import pathlib, re, subprocess, sys
+
+AUTHOR = pathlib.Path(__file__).resolve().parents[1]
+EXAMPLES = AUTHOR.parent / "examples"
+TUNING = EXAMPLES / "tuning"
+SECONDS = 120
+
+
+def command(name, *words, python=sys.executable):
+    """Returns the words that run a command by this Python."""
+    return [python, str(AUTHOR / name), *words]
+
+
+def run(*words, folder=TUNING, python=sys.executable):
+    """Returns the status of a command, its output, and its standard error without usage lines."""
+    done = subprocess.run(command(*words, python=python), cwd=folder, stdin=subprocess.DEVNULL,
+                          capture_output=True, encoding="utf-8", errors="surrogateescape",
+                          timeout=SECONDS)
+    return done.returncode, done.stdout, re.sub(r"(?s)^usage:.*?\n(?=\S)", "", done.stderr)
+
+
+def said(*words, **more):
+    """Returns all that a command prints, and its status if that is not 0."""
+    status, out, err = run(*words, **more)
+    return out + err + (f"status {status}\n" if status else "")

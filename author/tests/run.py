@@ -1,0 +1,203 @@
+"""Runs the commands for authors on the examples and compares with the results in expected/.
+
+Also gives them what they have to refuse, and kills `cwtune-spread` and starts it again. With
+--plain no picture is drawn, which needs matplotlib. With --store the results replace those stored;
+look at the difference before you keep them. A picture is compared by its words and numbers, and by
+how many grey marks it has. Prints what failed, and as its last line `N passed, N failed`; the exit
+status is 1 if a run failed.
+"""
+import argparse, contextlib, os, pathlib, re, signal, subprocess, sys, tempfile
+
+from author.lib.endings import Fault, run_tool
+from author.lib.program import program_of
+from gate.tally import compare, tally
+
+from . import spreading, warriors
+from .commands import AUTHOR, TUNING, command, run, said
+
+EXPECTED = pathlib.Path(__file__).resolve().parent / "expected"
+
+# The name of a result, and the words of the run; files are those of examples/tuning/.
+PLAIN = {
+    "series.csv": "cwtune-series 1234 25 5",
+    "series-small.csv": "cwtune-series 33 7 2 --core 80 --distance 20",
+    "series-near.txt": "cwtune-series 99 25 5",
+    "series-many.txt": "cwtune-series 1234 5001 2",
+    "files.txt": "cwtune-files stone.red decoy.red schedule.csv weighted.csv all-fights.cert "
+                 "weighted.cert",
+    "scores-all-fights.txt": "cwtune-scores all-fights.cert schedule.csv --template stone.red",
+    "scores-weighted.txt": "cwtune-scores weighted.cert weighted.csv --template stone.red --most 3",
+    "scores-decoy.txt": "cwtune-scores decoy.cert schedule.csv --template decoy.red --most 4",
+    "scores-alone.txt": "cwtune-scores step.cert schedule.csv",
+    "scores-other.txt": "cwtune-scores step.cert schedule.csv --template stone.red",
+    "no-weights.txt": "cwtune-landscape stone.red weighted.cert picture.svg",
+    "other-template.txt": "cwtune-landscape step.red weighted.cert picture.svg",
+}
+# Files that are refused, beside those of examples/tuning/.
+BAD = {
+    "binary": bytes(range(256)),
+    "empty": b"",
+    "six.csv": b"opponent,position,first\n0,3670,c\n0,5123,o\n1,2085,c\n1,6100,o\n",
+    "row.cert": b"cwcert,1,1\nbest,0,3\ncap,0\n",
+    "twin.cert": b"cwcert,1,2\nbest,0,3\ncap,0,0:3\nsame,1,2\n",
+    "best.cert": b"cwcert,1,1\nbest,1,3\ncap,0,0:3\n",
+    "total.cert": (TUNING / "step.cert").read_bytes().replace(b"best,3,16", b"best,3,17"),
+    "range.red": b"NOP\n;@tune K 0 5 1\n",
+    "ranges.red": b"".join(b";@tune %c 0 9999 1 0\n" % name for name in b"ABC"),
+}
+NO_FILE = "No such file or directory"
+# What the commands have to refuse: the words, the line on standard error, and the status.
+REFUSALS = [
+    ("cwtune-scores none schedule.csv", f"failed: none: {NO_FILE}", 3),
+    ("cwtune-scores step.cert none", f"failed: none: {NO_FILE}", 3),
+    ("cwtune-scores step.cert .", "failed: .: Is a directory", 3),
+    *((f"cwtune-scores {name} schedule.csv", f"refused: {name}: not a certificate", 1)
+      for name in ["binary", "empty", "row.cert", "twin.cert", "best.cert", "schedule.csv"]),
+    *((f"cwtune-scores step.cert {name}", f"refused: {name}: not a schedule", 1)
+      for name in ["binary", "empty", "step.cert"]),
+    *((f"cwtune-scores step.cert {name}",
+       f"error: step.cert is not a certificate of the schedule {name}", 2)
+      for name in ["six.csv", "weighted.csv"]),
+    ("cwtune-scores step.cert schedule.csv --template range.red",
+     "refused: range.red: line 2 is not a range", 1),
+    ("cwtune-scores step.cert schedule.csv --template ranges.red",
+     "refused: ranges.red: more than 1000000 settings", 1),
+    ("cwtune-scores step.cert schedule.csv --most -3",
+     "cwtune-scores: error: argument --most: -3 is not 1 or more", 2),
+    ("cwtune-scores step.cert schedule.csv --most x",
+     "cwtune-scores: error: argument --most: invalid number value: 'x'", 2),
+    ("cwtune-series 1234 -5 -2", "cwtune-series: error: argument rounds: -5 is not 1 to 10000", 2),
+    ("cwtune-series 1234 5 65", "cwtune-series: error: argument opponents: 65 is not 1 to 64", 2),
+    ("cwtune-series 1234 5 2 --core 70000",
+     "cwtune-series: error: argument --core: 70000 is not 8 to 65535", 2),
+    ("cwtune-series 1234 5 2 --distance 0",
+     "cwtune-series: error: argument --distance: 0 is not 1 to 32767", 2),
+    ("cwtune-files none", f"failed: none: {NO_FILE}", 3),
+    ("cwtune-landscape none step.cert x.png", f"failed: none: {NO_FILE}", 3),
+    ("cwtune-landscape step.red binary x.png", "refused: binary: not a certificate", 1),
+    ("cwtune-landscape step.red total.cert x.png",
+     "error: total.cert: the points of the best setting do not make its total", 2),
+    ("cwtune-landscape step.red step.cert x.png --schedule six.csv",
+     "error: step.cert is not a certificate of the schedule six.csv", 2),
+    *((f"cwtune-landscape step.red step.cert {name}",
+       f"cwtune-landscape: error: the picture's name has to end with .png or .svg: {name}", 2)
+      for name in ["x.jpg", "x", "png"]),
+]
+NO_FOLDER = ("cwtune-landscape step.red step.cert none/x.png", f"failed: none/x.png: {NO_FILE}", 3)
+COMMANDS = sorted(path.name for path in AUTHOR.glob("cwtune-*"))
+PICTURES = {
+    "line.txt": "cwtune-landscape step.red step.cert",
+    "map.txt": "cwtune-landscape stone.red all-fights.cert",
+    "map-weighted.txt": "cwtune-landscape stone.red weighted.cert --schedule weighted.csv",
+    "maps.txt": "cwtune-landscape decoy.red decoy.cert",
+}
+
+
+def draw(python, words):
+    """Returns the words and numbers of a picture, a line for each."""
+    with tempfile.TemporaryDirectory() as folder:
+        png, svg = pathlib.Path(folder, "picture.png"), pathlib.Path(folder, "picture.svg")
+        tool, template, cert, *rest = words.split()
+        for picture in (png, svg):
+            fault = said(tool, template, cert, str(picture), *rest, python=python)
+            if fault:
+                return fault
+        if not png.read_bytes().startswith(b"\x89PNG"):
+            return "not a PNG file\n"
+        texts = re.findall(r"<text[^>]*>([^<]*)</text>", svg.read_text("utf-8"))
+        grey = svg.read_text("utf-8").count("fill: #cccccc")
+        return "\n".join([f"{grey} grey", *texts]) + "\n"
+
+
+def with_matplotlib():
+    """Returns a Python that has matplotlib, or ends and names the package."""
+    for python in (sys.executable, "/usr/bin/python3"):
+        if pathlib.Path(python).exists():
+            done = subprocess.run([python, "-c", "import matplotlib"], capture_output=True)
+            if done.returncode == 0:
+                return python
+    raise Fault("no matplotlib; on Debian: apt-get install python3-matplotlib", 3)
+
+
+def helps():
+    """Asks each command for help. Yields names, and what was wrong."""
+    for name in COMMANDS:
+        status, out, _ = run(name, "--help")
+        yield f"{name} --help", [] if status == 0 and len(out) > 100 else ["no help"]
+
+
+def refusals(rows, python):
+    """Gives the commands what they have to refuse. Yields names, and what was wrong."""
+    with tempfile.TemporaryDirectory() as folder:
+        for path in TUNING.iterdir():
+            pathlib.Path(folder, path.name).write_bytes(path.read_bytes())
+        for name, text in BAD.items():
+            pathlib.Path(folder, name).write_bytes(text)
+        files = sorted(os.listdir(folder))
+        for words, line, status in rows:
+            came = said(*words.split(), folder=folder, python=python)
+            yield compare(words, f"{line}\nstatus {status}\n", came)
+        yield compare("refusals write no file", files, sorted(os.listdir(folder)))
+
+
+def interrupt(job):
+    """Ends a job by Ctrl-C. One that comes just before the job reads is not seen, so that another
+    has to follow."""
+    while job.poll() is None:
+        job.send_signal(signal.SIGINT)
+        with contextlib.suppress(subprocess.TimeoutExpired):
+            job.wait(5)
+
+
+def signals():
+    """Closes the pipe of a command, and interrupts commands. Yields names, and what was wrong."""
+    words = command("cwtune-scores", "step.cert", "schedule.csv")
+    closed, pipe = os.pipe()
+    os.close(closed)
+    done = subprocess.run(words, cwd=TUNING, stdout=pipe, stderr=subprocess.PIPE)
+    os.close(pipe)
+    yield compare("a closed pipe", (-signal.SIGPIPE, b""), (done.returncode, done.stderr))
+    with tempfile.TemporaryDirectory() as folder:
+        os.mkfifo(f"{folder}/pipe")
+        for tool in ["cwtune-scores pipe schedule.csv", "cwtune-landscape pipe step.cert x.svg"]:
+            job = subprocess.Popen(command(*tool.split()), cwd=folder, stderr=subprocess.PIPE)
+            with open(f"{folder}/pipe", "w"):  # which waits until the command reads it
+                interrupt(job)
+                err = job.communicate()[1]
+            yield compare(f"Ctrl-C in {tool}", (-signal.SIGINT, b""), (job.returncode, err))
+
+
+def stored(results):
+    """Compares results with those stored. Yields names, and what was wrong."""
+    for name, result in results.items():
+        path = EXPECTED / name
+        yield compare(name, path.read_text("utf-8") if path.exists() else None, result)
+
+
+def main():
+    parser = argparse.ArgumentParser(description=__doc__.split("\n\n")[0])
+    parser.add_argument("--plain", action="store_true", help="leave out the pictures")
+    parser.add_argument("--store", action="store_true", help="replace the stored results")
+    parser.add_argument("program", nargs="*", metavar="PROGRAM", help="the program cwtune")
+    asked = parser.parse_args()
+    program = program_of(asked.program)
+    # What runs in the background may be started with Ctrl-C ignored or held back.
+    signal.signal(signal.SIGINT, signal.default_int_handler)
+    signal.pthread_sigmask(signal.SIG_SETMASK, [])
+    rows = REFUSALS
+    python = sys.executable
+    results = {name: said(*words.split()) for name, words in PLAIN.items()}
+    if not asked.plain:
+        python = with_matplotlib()
+        rows = [*REFUSALS, NO_FOLDER]
+        results |= {name: draw(python, words) for name, words in PICTURES.items()}
+    if asked.store:
+        EXPECTED.mkdir(exist_ok=True)
+        for name, result in results.items():
+            (EXPECTED / name).write_text(result, "utf-8")
+    return tally([*stored(results), *helps(), *refusals(rows, python), *signals(),
+                  *warriors.trials(program), *spreading.trials(program)])
+
+
+if __name__ == "__main__":
+    run_tool(main)

@@ -1,0 +1,322 @@
+"""Plays `cwtune-spread`: kills it and starts it again, and gives it what it has to refuse.
+
+`run.py` counts what `trials` yields: names, as `cwtune-spread: two at once`, and for each a list of
+what was wrong.
+"""
+import os, pathlib, pty, random, re, signal, subprocess, tempfile, time
+
+from gate import inputs, play
+from gate.inputs import RULES
+from gate.play import shown
+from gate.tally import compare
+
+from .commands import EXAMPLES, SECONDS, command, run
+
+BENCHMARK = ["dwarf.red", "scanner.red", "core-clear.red"]
+DECOY = ["decoy.red", "schedule.csv", "CERT", *BENCHMARK]
+SMALL = [*RULES, "x.red", "both.csv", "CERT", "dat.red", "imp.red"]
+SCHEDULE = b"opponent,position,first\n0,3670,c\n1,2085,o\n2,4621,c\n"
+
+
+class Place(play.Place):
+    """A folder with inputs, in which `cwtune-spread` and the program are run."""
+
+    def __init__(self, program, folder):
+        files = inputs.files("dat.red", "imp.red", "one.red", "imps.red", "both.csv")
+        super().__init__(program, folder, files)
+        self.write("decoy.red", (EXAMPLES / "tuning/decoy.red").read_bytes())
+        self.write("schedule.csv", SCHEDULE)
+        for name in BENCHMARK:
+            self.write(name, (EXAMPLES / "warriors" / name).read_bytes())
+
+    def words(self, words):
+        return command("cwtune-spread", "--program", self.program, *words)
+
+    def spread(self, *words):
+        """Returns status, standard output and standard error, the usage lines left out."""
+        return run("cwtune-spread", "--program", self.program, *words, folder=self.folder)
+
+    def tune(self, *words):
+        """Returns status, standard output and standard error of a tuning, which leaves CERT."""
+        came = self.run(["tune", *words], keep=True)
+        return came.status, came.out.decode(), came.err.decode()
+
+    def check(self, words):
+        """Returns the status of a check of CERT."""
+        return self.run(["check", *words]).status
+
+    def done_parts(self):
+        return len(list(self.folder.glob("CERT.parts/*.done")))
+
+    def wait_for_parts(self, parts, job):
+        """Waits until so many parts are done, or the job has ended."""
+        while self.done_parts() < parts and job.poll() is None:
+            time.sleep(0.002)
+
+    def kill_at(self, parts, number, seconds, *words):
+        """Ends `cwtune-spread` by a signal, `seconds` after `parts` parts are done.
+
+        Returns what it said.
+        """
+        job = subprocess.Popen(self.words(words), cwd=self.folder, stdout=subprocess.DEVNULL,
+                               stderr=subprocess.PIPE)
+        self.wait_for_parts(parts, job)
+        time.sleep(seconds)
+        job.send_signal(number)
+        return job.communicate()[1].decode()
+
+    def unfinished(self):
+        """Leaves CERT.parts as a kill leaves it, with some of 12 parts done and no CERT."""
+        for _ in range(10):
+            self.clear()
+            said = self.kill_at(2, signal.SIGKILL, 0, "--jobs=1", "--parts=12", *DECOY)
+            if self.done_parts():
+                break
+        else:
+            raise ValueError(f"no kill left a part: {said}")
+        (self.folder / "CERT").unlink(missing_ok=True)
+
+    def clear(self):
+        for path in [self.folder / "CERT", *self.folder.glob("CERT.parts/*")]:
+            path.unlink(missing_ok=True)
+        if (self.folder / "CERT.parts").exists():
+            (self.folder / "CERT.parts").rmdir()
+
+
+def after_kills(place):
+    """Kills a tuning at ten moments, and compares what it makes with an unbroken one."""
+    unbroken = place.spread("--jobs=3", "--parts=12", *DECOY)
+    yield compare("an unbroken tuning is accepted", (0, 0), (unbroken[0], place.check(DECOY)))
+    cert = place.read("CERT")
+    place.clear()
+    moments = random.Random(45)
+    for k in range(10):
+        number = moments.choice([signal.SIGKILL, signal.SIGINT, signal.SIGTERM])
+        jobs = f"--jobs={moments.randint(1, 4)}"
+        said = place.kill_at(k, number, moments.uniform(0, 0.05), jobs, "--parts=12", *DECOY)
+        if number != signal.SIGKILL and "CERT.parts" in said:
+            yield compare("a stop says how to go on", True, bool(re.fullmatch(
+                r"stopped: \d+ of 12 parts are done, and kept in CERT.parts: repeat the command to "
+                r"run the others\n", said)))
+        # An empty file is left if it comes while `tune` looks at the inputs.
+        kept = place.read("CERT")
+        yield compare("a kill leaves no half certificate", True, kept in (None, b"", cert))
+    status, out, err = place.spread("--jobs=2", "--parts=12", *DECOY)
+    yield compare("ten kills change nothing", (*unbroken, cert),
+                  (status, out, err, place.read("CERT")))
+    yield compare("the parts are gone at the end", False, (place.folder / "CERT.parts").exists())
+
+
+def other_inputs(place):
+    """Gives a folder of parts other inputs than those that it was made of."""
+    turned = [*DECOY[:3], *reversed(BENCHMARK)]
+    place.unfinished()
+    place.write("other.red", place.read("decoy.red").replace(b"PLACE 2000", b"PLACE 2500"))
+    place.write("other.csv", SCHEDULE.replace(b"4621", b"4622"))
+    place.write("program", pathlib.Path(place.program).read_bytes() + b"\n")
+    (place.folder / "program").chmod(0o755)
+    for other, words in [
+        ("template", ["other.red", *DECOY[1:]]),
+        ("schedule", ["decoy.red", "other.csv", *DECOY[2:]]),
+        ("opponents", turned),
+        ("rules", ["--cycles=79999", *DECOY]),
+        ("cache", ["--cache=1", *DECOY]),
+        ("program", ["--program=./program", *DECOY]),
+    ]:
+        said = (f"error: the parts in CERT.parts are of other inputs ({other}): give --anew to "
+                "throw the parts away and begin again, or another CERT\n")
+        before = place.done_parts()
+        yield compare(f"parts of another {other} are refused", (2, "", said, before, None),
+                      (*place.spread(*words), place.done_parts(), place.read("CERT")))
+    yield compare("so is another number of parts", 2, place.spread("--parts=7", *DECOY)[0])
+    anew = place.spread("--anew", *turned)
+    yield compare("--anew begins again", (0, False, 0),
+                  (anew[0], (place.folder / "CERT.parts").exists(), place.check(turned)))
+
+
+def damaged_parts(place):
+    """Damages what parts have left."""
+    place.clear()
+    whole = place.spread("--jobs=1", "--parts=12", *DECOY)[1], place.read("CERT")
+    for name, kind in [("a certificate", "cert"), ("a result", "done")]:
+        place.unfinished()
+        path = min(place.folder.glob(f"CERT.parts/*.{kind}"))
+        path.write_bytes(path.read_bytes()[:-9])
+        yield compare(f"{name} that was cut is made again", whole,
+                      (place.spread("--jobs=4", *DECOY)[1], place.read("CERT")))
+    place.unfinished()
+    (place.folder / "CERT.parts/t.red").write_bytes(b"MOV 0, 1\n")
+    yield compare("a copy that was changed is refused", (
+        2, "", "error: the copies in CERT.parts were changed (template): give --anew to throw the "
+        "parts away and begin again, or another CERT\n"), place.spread(*DECOY))
+    place.clear()
+
+
+def folders(place):
+    """Puts files that `cwtune-spread` did not make at CERT.parts."""
+    place.unfinished()
+    place.write("CERT.parts/notes.txt", b"mine\n")
+    yield compare("a folder is kept for a file of somebody else", (0, b"mine\n"),
+                  (place.spread("--jobs=3", *DECOY)[0], place.read("CERT.parts/notes.txt")))
+    place.clear()
+    (place.folder / "CERT.parts").mkdir()
+    place.write("CERT.parts/precious.txt", b"mine\n")
+    said = "error: CERT.parts is not a folder of this cwtune-spread, and is not touched\n"
+    for words in [[], ["--anew"], ["--resume"]]:
+        yield compare(f"a folder that it did not make {words}", (2, "", said, b"mine\n", 1),
+                      (*place.spread(*words, *DECOY), place.read("CERT.parts/precious.txt"),
+                       len(list(place.folder.glob("CERT.parts/*")))))
+    place.clear()
+    place.write("CERT.parts", b"mine\n")
+    yield compare("a file in its place", (3, b"mine\n"),
+                  (place.spread(*DECOY)[0], place.read("CERT.parts")))
+    (place.folder / "CERT.parts").unlink()
+    job = subprocess.Popen(place.words(["--jobs=1", "--parts=12", *DECOY]), cwd=place.folder,
+                           stdout=subprocess.DEVNULL)
+    place.wait_for_parts(1, job)
+    job.send_signal(signal.SIGSTOP)
+    said = "error: another cwtune-spread is at work in CERT.parts\n"
+    yield compare("two at once", (2, "", said), place.spread(*DECOY))
+    job.send_signal(signal.SIGCONT)
+    yield compare("the first one ends as it does alone", 0, job.wait(SECONDS))
+    place.clear()
+
+
+def templates(place):
+    """Compares with `tune` on templates that another reader would take for others."""
+    for name, text in [
+        ("a CR before the name", b";@tune\rK 0 5 1 2\nMOV 0, 1\nDAT K\n"),
+        ("CRs between the words", b";@tune K\r0\r5\r1\r2\nMOV 0, 1\nDAT K\n"),
+        ("a CR in a comment", b"; old\r;@tune K 0 5 1 2\nMOV 0, 1\n"),
+        *((f"byte {byte:x} after ;@tune", b";@tune%cK 0 5 1 2\nMOV 0, 1\n" % byte)
+          for byte in (0x0B, 0x0C, 0x1C, 0x85, 0xA0)),
+        ("three ranges of 10000 values", b"".join(b";@tune %c 0 9999 1 0\n" % c for c in b"ABC")),
+        ("a bad range", b"NOP\n;@tune K 3 2 1 3\n"),
+        ("no candidate", b";@tune K 0 5 1 2\nDAT 1/0\n"),
+    ]:
+        place.write("x.red", text)
+        status, out, err = place.tune(*SMALL)
+        place.clear()
+        came = place.spread("--jobs=2", *SMALL)
+        check = place.check(SMALL) if place.read("CERT") else None
+        left = (place.folder / "CERT.parts").exists()
+        yield compare(name, (status, out.splitlines()[:5], err, False, None if status else 0),
+                      (came[0], came[1].splitlines()[:5], came[2], left, check))
+        place.clear()
+
+
+def faults(place):
+    """Compares with `tune` on words and files that it refuses."""
+    place.write("x.red", inputs.FILES["imps.red"])
+    place.write("near.csv", b"opponent,position,first\n0,3,c\n")
+    place.write("text", b"not a certificate\n")
+    for words in [
+        "none.red both.csv CERT dat.red",
+        "x.red none.csv CERT dat.red",
+        "x.red both.csv CERT dat.red none.red",
+        "x.red both.csv none/CERT dat.red",
+        "x.red both.csv text dat.red",
+        "x.red both.csv x.red dat.red",
+        "both.csv x.red CERT dat.red",
+        "x.red both.csv CERT dat.red both.csv",
+        "x.red near.csv CERT dat.red",
+        "--cache=0 x.red both.csv CERT dat.red",
+        "--tasks=8001 none.red both.csv CERT dat.red",
+    ]:
+        rules = [rule for rule in RULES if rule[:7] != words[:7]]
+        tuned = place.tune(*rules, *words.split())
+        place.clear()
+        came = place.spread(*rules, *words.split())
+        left = sorted(path.name for path in place.folder.glob("*CERT*"))
+        yield compare(f"tune {words}", (*tuned, []), (*came, left))
+        place.clear()
+    for words in ["--jobs=0", "--jobs=-1", "--parts=0", "--parts=-3"]:
+        name, number = words.split("=")
+        said = f"cwtune-spread: error: argument {name}: {number} is not 1 or more\n"
+        yield compare(words, (2, "", said), place.spread(words, *SMALL))
+
+
+def liars(place):
+    """Runs stand-ins for `cwtune` that cut a row or change a total."""
+    place.write("x.red", inputs.FILES["imps.red"])
+    came = place.spread("--check", *SMALL)
+    yield compare("--check", (0, "accepted best 0 total 4", ""),
+                  (came[0], came[1].splitlines()[-1], came[2]))
+    place.clear()
+    short = f"""{place.program} "$@"; status=$?
+for word in "$@"; do case $word in [0-9]*.cert) sed -i '$d' $word;; esac; done; exit $status
+"""
+    total = f"""set -o pipefail; {place.program} "$@" | sed 's/^total 4/total 5/'\n"""
+    for name, text, words, end in [
+        ("a row too few", short, ["--parts=1"],
+         (3, "", "failed: the certificate of part 1 has not 4 settings\n")),
+        ("another total", total, ["--check"], (1, "rejected row 1 BestRow\n",
+         "CERT is not written, and the parts stay\n")),
+    ]:
+        place.write("liar", b"#!/bin/bash\n" + text.encode())
+        (place.folder / "liar").chmod(0o755)
+        came = place.spread("--program=./liar", *words, *SMALL)
+        yield compare(name, (*end, None), (*came, place.read("CERT")))
+        place.clear()
+
+
+def merged(place):
+    """Runs the parts as jobs of a cluster do, and puts them together."""
+    unbroken = place.spread("--parts=3", *DECOY), place.read("CERT")
+    place.clear()
+    for job in "123":
+        env = {**os.environ, "CWTUNE": place.program, "SLURM_ARRAY_TASK_ID": job,
+               "SLURM_ARRAY_TASK_COUNT": "3"}
+        subprocess.run(["sh", str(EXAMPLES / "slurm.sh"), *DECOY], cwd=place.folder, env=env)
+    yield compare("--merge makes what an unbroken run makes", unbroken,
+                  (place.spread("--merge=3", *DECOY), place.read("CERT")))
+    place.clear()
+    yield compare("--merge --check", (0, "accepted"), (
+        (came := place.spread("--merge=3", "--check", *DECOY))[0], came[1].splitlines()[-1][:8]))
+    place.clear()
+    (place.folder / "CERT.2.report").write_bytes(b"")
+    yield compare("--merge without a part", (
+        3, "", "failed: no result of 1 of 3 parts: 2\n", None),
+        (*place.spread("--merge=3", *DECOY), place.read("CERT")))
+    yield compare("--merge of too many parts", 3, place.spread("--merge=4", *DECOY)[0])
+
+
+def screen_of(place, words):
+    """Returns what a run shows on a terminal."""
+    screen, terminal = pty.openpty()
+    job = subprocess.Popen(words, cwd=place.folder, stdout=subprocess.DEVNULL, stderr=terminal)
+    os.close(terminal)
+    text = shown(screen)
+    job.wait()
+    return text.decode()
+
+
+def explained(place):
+    """Compares an explanation on a terminal with that of `tune`."""
+    place.write("x.red", inputs.FILES["imps.red"])
+    place.write("near.csv", b"opponent,position,first\n0,3,c\n")
+    words = [*RULES, "x.red", "near.csv", "CERT", "dat.red"]
+    tuned = screen_of(place, [place.program, "tune", *words])
+    yield compare("the line at fault is shown", True, "near.csv, line 2: 0,3,c" in tuned)
+    place.clear()
+    yield compare("the explanation is that of tune", tuned, screen_of(place, place.words(words)))
+
+
+def progress(place):
+    """Looks at the line on a terminal."""
+    lines = screen_of(place, place.words(["--jobs=1", "--parts=12", *DECOY])).split("\r")
+    shown = re.compile(r"6 of 12 parts, 63 of 126 settings, \d+ fights, best \d+ total \d+, "
+                       r"\d+:\d\d left\x1b\[K")
+    yield compare("a line of progress", True, any(shown.fullmatch(line) for line in lines))
+    yield compare("the line is cleared", "\x1b[K", lines[-1])
+
+
+def trials(program):
+    for plays in [after_kills, other_inputs, damaged_parts, folders, templates, faults, liars,
+                  merged, explained, progress]:
+        with tempfile.TemporaryDirectory() as folder:
+            try:
+                for name, wrong in plays(Place(program, folder)):
+                    yield f"cwtune-spread: {name}", wrong
+            except (OSError, ValueError, LookupError, subprocess.TimeoutExpired) as fault:
+                yield f"cwtune-spread: {plays.__name__}", [repr(fault)]

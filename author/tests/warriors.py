@@ -1,0 +1,91 @@
+"""Plays `cwtune-warrior` and `cwtune-holdout` with the program.
+
+`run.py` counts what `trials` yields: names, and for each a list of what was wrong.
+"""
+import pathlib, subprocess, tempfile
+
+from author.lib import tuning_files, warrior
+
+from .commands import TUNING, run
+
+FIGHT = "opponent,position,first\n0,4000,c\n"
+# Templates with range lines at unusual places, and how many settings they have.
+PLACES = {
+    "in a block": (b"i FOR 2\n;@tune K 3 4 1 3\nDAT i, K\nROF\n", 2),
+    "after END": (b"MOV 0, K\nEND\n;@tune K 3 4 1 3\n", 2),
+    "before the head": (b"From: a@b\n;@tune K 3 4 1 3\n;redcode\nMOV 0, K\n", 2),
+    "after the head": (b";redcode-94\n;name N\n;@tune K 3 4 1 3\nMOV 0, K\n", 2),
+    "CR LF": (b";redcode\r\n;@tune K 3 4 1 3\r\nMOV 0, K\r\n", 2),
+    "a negative value": (b";@tune K -2 2 1 0\nMOV #-K, 7-K*K\n", 5),
+    "no constant": (b"MOV 0, 1\n", 1),
+}
+# The name K is the last of 16 EQU names in turn, and as one itself it would be the 17th.
+CHAIN = b";@tune K 3 4 1 3\n" + b"".join(b"e%d EQU e%d\n" % (n, n + 1) for n in range(1, 16)) + (
+    b"e16 EQU K\nDAT e1\n")
+
+
+def other_settings(program, text, count, folder):
+    """Returns the settings of a template of which `text_of` makes another warrior."""
+    path, made = folder / "t.red", folder / "made.red"
+    path.write_bytes(text)
+    template, wrong = tuning_files.Template(path), []
+    for setting in range(len(template.settings)):
+        made.write_bytes(warrior.text_of(text, template, setting))
+        wanted = warrior.load_of(program, "--setting", str(setting), str(path))
+        came = warrior.load_of(program, str(made))
+        if came != wanted or not wanted[0]:
+            wrong.append(f"setting {setting}: expected {wanted}, came {came}")
+    return wrong + [f"{len(template.settings)} settings"] * (len(template.settings) != count)
+
+
+def warriors(program, folder):
+    """Makes the text of every setting of the examples, and of those of `PLACES`."""
+    for name, count in [("step", 21), ("decoy", 126), ("stone", 273)]:
+        text = (TUNING / f"{name}.red").read_bytes()
+        yield f"warriors of {name}", other_settings(program, text, count, folder)
+    for name, (text, count) in PLACES.items():
+        yield f"ranges: {name}", other_settings(program, text, count, folder)
+    came = run("cwtune-warrior", "--program", program, "step.red", "step.cert")
+    found = tuning_files.Certificate(TUNING / "step.cert")
+    line = f";strategy cwtune: setting {found.best} of 21, total {found.total}\n"
+    yield "the best setting of a certificate", [] if (
+        came[0] == 0 and came[2] == "" and line in came[1]) else [repr(came)]
+    for name, text, said in [
+        ("chain.red", CHAIN, "refused: with the values as EQU lines the text does not assemble: "),
+        ("refused.red", b"DAT 1/0\n", "refused: setting 0 does not assemble: "),
+    ]:
+        (folder / name).write_bytes(text)
+        came = run("cwtune-warrior", "--program", program, name, "--setting", "0", folder=folder)
+        yield f"{name} is refused", [] if (came[:2] == (1, "") and came[2].startswith(said)
+                                           ) else [repr(came)]
+    for words, said in [
+        (["step.red"], "give a certificate, or --setting"),
+        (["stone.red", "step.cert"], "the certificate is not of that template"),
+        (["step.red", "--setting", "21"], "the template has 21 settings, from 0"),
+    ]:
+        came = run("cwtune-warrior", "--program", program, *words)
+        yield f"cwtune-warrior {' '.join(words)}", [] if (
+            came[:2] == (2, "") and came[2].endswith(f"error: {said}\n")) else [repr(came)]
+
+
+def holdouts(program, folder):
+    """Plays fresh fights of two warriors that win them all, since the other one dies at once."""
+    (folder / "t.red").write_text(";@tune K 1 2 1 1\nMOV 0, K\n")
+    (folder / "s.csv").write_text(FIGHT)
+    (folder / "dat.red").write_text("DAT 0\n")
+    subprocess.run([program, "tune", "--all", "t.red", "s.csv", "cert", "dat.red"], cwd=folder,
+                   check=True, capture_output=True)
+    words = ["--program", program, "--rounds", "20", "t.red", "cert", "dat.red"]
+    expected = "".join(f"setting {v}: tuning 3 of 3 (100.0%), fresh 60 of 60 (100.0% +- 0.0) "
+                       f"K={v + 1}\n" for v in (0, 1))
+    came = run("cwtune-holdout", *words, folder=folder)
+    yield "cwtune-holdout", [] if came == (0, expected, "") else [f"{expected!r}, came {came!r}"]
+    came = run("cwtune-holdout", *words[:-1], "none.red", folder=folder)
+    yield "cwtune-holdout with no opponent", [] if (
+        came[:2] == (3, "") and came[2].startswith("failed: read none.red")) else [repr(came)]
+
+
+def trials(program):
+    for plays in [warriors, holdouts]:
+        with tempfile.TemporaryDirectory() as folder:
+            yield from plays(program, pathlib.Path(folder))

@@ -1,0 +1,1 @@
+"""What `make test` runs beside `rt ci`. At the top: `python3 -m gate.NAME`."""

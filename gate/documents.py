@@ -1,0 +1,93 @@
+"""Types the commands of README.md and docs/ that are shown with their output, and compares it:
+python3 -m gate.documents [PROGRAM]
+
+An indented block that begins with `$ ` holds commands, each with its output; a line `..` of it
+matches any lines. Prints what failed, and as its last line `N passed, N failed`. The exit status is
+1 if a command printed something else.
+"""
+import os, pathlib, re, shutil, subprocess, sys, tempfile
+
+from author.lib.endings import run_tool
+from author.lib.program import program_of
+
+from .tally import tally
+
+ROOT = pathlib.Path(__file__).resolve().parent.parent
+# All documents share a folder: USING.md goes on with the files of README.md, which comes first.
+DOCUMENTS = [ROOT / "README.md", *sorted((ROOT / "docs").glob("*.md"), reverse=True)]
+# The folders for commands that are not typed at the top.
+FOLDERS = {"TOOLS.md": "examples/tuning"}
+BLOCK = re.compile(r"(?:^    .*\n)+", re.M)
+# What is saved: `Save this as NAME`, and the next block.
+SAVED = re.compile(r"Save this as `([^`]+)`")
+END = "end of a command"
+SECONDS = 300
+
+
+def without_margin(block):
+    return re.sub(r"^    ", "", block, flags=re.M)
+
+
+def commands_of(text):
+    """Returns the commands of a document, each with what it prints."""
+    commands = []
+    for block in BLOCK.findall(text):
+        if block.startswith("    $ "):
+            lines = without_margin(block).replace("\\\n", "")
+            parts = re.split(r"^\$ ", lines, flags=re.M)[1:]
+            commands += [part.split("\n", 1) for part in parts]
+    return commands
+
+
+def is_printed(expected, output):
+    """Checks whether a command printed what a document shows."""
+    lines = (r"(?:.*\n)*" if line.strip() == ".." else re.escape(line + "\n")
+             for line in expected.splitlines())
+    return re.fullmatch("".join(lines), output) is not None
+
+
+def save_files(text, folder):
+    """Saves the files that a document says to save."""
+    for match in SAVED.finditer(text):
+        block = BLOCK.search(text, match.end())
+        (folder / match[1]).write_text(without_margin(block[0]))
+
+
+def typed(program, document, folder):
+    """Types the commands of a document in a shell, up to one that fails. Yields each with what was
+    wrong."""
+    text = document.read_text("utf-8")
+    save_files(text, folder)
+    commands = commands_of(text)
+    shell = "".join(f"{command}\necho '{END}'\n" for command, _ in commands)
+    path = f"{pathlib.Path(program).parent}:{ROOT / 'author'}:{os.environ['PATH']}"
+    done = subprocess.run(["bash", "-e", "-c", shell], cwd=folder / FOLDERS.get(document.name, "."),
+                          env={**os.environ, "PATH": path}, stdin=subprocess.DEVNULL,
+                          stdout=subprocess.PIPE, stderr=subprocess.STDOUT, encoding="utf-8",
+                          timeout=SECONDS)
+    outputs = done.stdout.split(f"{END}\n")
+    for (command, expected), came in zip(commands, outputs):
+        right = is_printed(expected, came)
+        yield f"{document.name}: {command}", [] if right else [f"came {came!r}"]
+    if len(outputs) <= len(commands):
+        yield f"{document.name}: its commands", [f"ended after {len(outputs) - 1}"]
+
+
+def trials(program):
+    with tempfile.TemporaryDirectory() as name:
+        folder = pathlib.Path(name)
+        shutil.copytree(ROOT / "examples", folder / "examples")
+        count = 0
+        for document in DOCUMENTS:
+            for result in typed(program, document, folder):
+                count += 1
+                yield result
+        yield "commands in documents", [] if count else ["none was found"]
+
+
+def main():
+    return tally(trials(program_of(sys.argv[1:])))
+
+
+if __name__ == "__main__":
+    run_tool(main)

@@ -1,0 +1,330 @@
+"""Tries the wrong bodies in crates/*/must-fail/: the prover has to refuse each.
+
+A function's callers see its contract alone, so wrong bodies in different functions do not touch one
+another. The edits of a crate are tried in rounds, at most one for each function, or for functions
+that call one another. One check judges a round: it asks for the edited functions alone, and the
+proof of every other function is a hole, unless it calls itself or is in a cycle of calls. An edit
+is refused if a goal of the function that it changes stays open, or if one of that function's proof
+files fails, and not only because the edit took a name away.
+
+An edit is a file in the format of `rt must-fail`, with a line `function: PATH`, as a check prints
+the function. Each `old:` text occurs once in its file, in the name's line or in the body of that
+function. Each round has the crate's edit in gate/harmless/, too, which must not be refused. With
+--control each round is also checked without any edit, and then every function has to be proved.
+
+The libraries under the crates must be built. A round that was judged as it should be is kept in
+~/.cache by a checksum of all that the verdict depends on, and not tried again without --anew.
+Prints what is wrong, and as its last line `N passed, N failed`.
+"""
+import argparse, concurrent.futures, hashlib, importlib.util, os, pathlib, re, shutil, subprocess
+import sys, tempfile
+
+from author.lib.endings import Fault, number_from, run_tool
+
+from .functions import functions_of
+
+ROOT = pathlib.Path(__file__).resolve().parent.parent
+PARTS = ("src", "specs", "proofs")
+# The most memory that the check of a round has been seen to take, in kB.
+ROOM = 4_000_000
+HOLE = """use Rattle.{crate}.proofs.{module}.Statement.{{statement}}
+
+pub {name}_spec : {{M : Type 1}} → statement M
+{name}_spec 𝓤 𝓛 𝓜 𝓡 w = ?
+"""
+
+# What a check says of a function: that a goal of its own is open, that a proof file failed, or that
+# it is proved but for the holes and the functions that it calls.
+OPEN = re.compile(r"no proof: expected answers in ")
+FAILED = re.compile(r"not proved")
+CLOSED = re.compile(r"no holes|depends on a hole in")
+CALLS = re.compile(r"no proof: it calls ")
+ERROR = re.compile(r"(?m)^(?:\./)?([^\s:]+)(?::\d+:\d+)?: error(?:\[[\w-]+\])?: "
+                   r"(?:`([^`]*)`: )?(.*)")
+# Such an error says that the edit took a name away, and nothing of the contract.
+LOST_NAME = re.compile(r"is not in scope|has no field|can be named from here|was not checked")
+# Such an error is of a hole for a function that the check calls by another name.
+UNKNOWN = re.compile(r"has no function .* for this file to be the proof of")
+
+
+class Edit:
+    """A wrong body: texts of one function and what takes their place, one after the other."""
+
+    def __init__(self, source, crate):
+        self.name, self.source, self.pairs = source.stem, source, []
+        path = file = old = ""
+        for line in source.read_text("utf-8").split("\n"):
+            word, _, rest = line.partition(":")
+            rest = rest.removeprefix(" ")
+            if word == "function":
+                path = rest
+            elif word == "file":
+                file = rest
+            elif word == "old":
+                old = rest
+            elif word == "new":
+                self.pairs.append((old, rest))
+        self.function = crate.functions.get(path)
+        if not self.function or self.function.file != file:
+            raise Fault(f"{source}: no function `{path}` with a body in {file}")
+        self.applied((crate.folder / file).read_text("utf-8").split("\n"))
+
+    def applied(self, lines):
+        """Returns the lines of the function with the texts replaced, its clauses as they were."""
+        at, whole = self.function, "\n".join(lines)
+        head, clauses = lines[at.head : at.first][:1], lines[at.head + 1 : at.first]
+        parts = ["\n".join(it) for it in (head, lines[at.first : at.last + 1])]
+        for old, new in self.pairs:
+            if whole.count(old) != 1 or sum(it.count(old) for it in parts) != 1:
+                raise Fault(f"{self.source}: `{old}` does not occur once in {at.path}")
+            whole, *parts = (it.replace(old, new) for it in (whole, *parts))
+        return [*parts[0].split("\n")[: len(head)], *clauses, *parts[1].split("\n")]
+
+
+class Crate:
+    """A crate, its functions by their paths, and its edits."""
+
+    def __init__(self, kit, made):
+        self.kit, self.made, self.name = kit, made, made.name
+        self.folder = pathlib.Path(made.folder)
+        self.functions = functions_of(self.folder, self.name)
+        self.edits = [Edit(it, self) for it in sorted(self.folder.glob("must-fail/*.edit"))]
+        harmless = ROOT / "gate" / "harmless" / f"{self.name}.edit"
+        self.harmless = Edit(harmless, self) if self.edits else None
+        if any(it.function == self.harmless.function for it in self.edits):
+            raise Fault(f"{harmless}: `{self.harmless.function.path}` has an edit in must-fail/")
+
+    def rounds(self):
+        """Returns the edits in rounds, no two of one function or cycle of calls in a round."""
+        rounds = []
+        for edit in self.edits:
+            mark = edit.function.cycle or edit.function.path
+            found = next((it for it in rounds if mark not in it), None)
+            if found is None:
+                found = {}
+                rounds.append(found)
+            found[mark] = edit
+        return [[*it.values()] for it in rounds]
+
+    def command(self, edits):
+        """Returns the command that checks the functions of these edits, past holes."""
+        with open(os.devnull, "w") as self.made.out:
+            words = self.made.words(["--jobs", "1"], keeps=False)
+        only = [word for edit in edits for word in ("--only", path_below(edit.function))]
+        return [self.kit.RATTLE, "check", *words, "--allow-holes", *only]
+
+
+def path_below(function):
+    """Returns a function's path below its crate."""
+    return function.path.partition("::")[2]
+
+
+def folder_of(function):
+    """Returns the folder of a function's proof files."""
+    return "proofs/" + path_below(function).replace("::", "/")
+
+
+def write_edits(room, edits):
+    """Applies the edits to the sources in `room`, each function's last lines first."""
+    texts = {}
+    for edit in sorted(edits, key=lambda it: -it.function.head):
+        file, at = room / edit.function.file, edit.function
+        written = file.read_text("utf-8").split("\n")
+        lines = texts.setdefault(file, written[:])
+        lines[at.head : at.last + 1] = edit.applied(written)
+    for file, lines in texts.items():
+        file.write_text("\n".join(lines), "utf-8")
+
+
+def write_holes(crate, room, edits):
+    """Puts a hole in place of the proof of each function that is not edited.
+
+    Functions that call themselves or one another take no holes: their proofs stay.
+    """
+    edited = {edit.function.path for edit in edits}
+    for function in crate.functions.values():
+        if function.path in edited or function.cycle or function.calls_itself:
+            continue
+        folder, module = room / folder_of(function), path_below(function).replace("::", ".")
+        for name in ("Answers.antt", "Invariants.antt"):
+            (folder / name).unlink(missing_ok=True)
+        folder.mkdir(parents=True, exist_ok=True)
+        text = HOLE.format(crate=crate.name, module=module, name=module.rpartition(".")[2])
+        (folder / "Proof.antt").write_text(text, "utf-8")
+
+
+def check(crate, edits, changed, log=None):
+    """Checks the functions of `edits` with those in `changed` applied. Returns what it said."""
+    with tempfile.TemporaryDirectory(prefix="cwtune-edits-") as name:
+        room = pathlib.Path(name)
+        for part in PARTS:
+            if (crate.folder / part).is_dir():
+                shutil.copytree(crate.folder / part, room / part)
+        write_holes(crate, room, edits)
+        write_edits(room, changed)
+        done = subprocess.run(crate.command(edits), cwd=room, stdin=subprocess.DEVNULL,
+                              stdout=subprocess.PIPE, stderr=subprocess.STDOUT, encoding="utf-8")
+    if log:
+        log.write_text(done.stdout, "utf-8")
+    return done.stdout
+
+
+def read_check(text):
+    """Returns what a check said of each function, and the file, goal and words of each error."""
+    said = dict(re.findall(r"(?m)^fn (\S+): (.*)$", text))
+    return said, [it for it in ERROR.findall(text) if not UNKNOWN.search(it[2])]
+
+
+def words_on(edit, said):
+    return said.get(edit.function.path, "the check does not name it")
+
+
+def is_own(error, function):
+    """Returns whether an error is in a proof file of the function; in a cycle, at its goal."""
+    file, goal, _ = error
+    if not function.cycle:
+        return file.startswith(folder_of(function) + "/")
+    folder, _, name = folder_of(function).rpartition("/")
+    return file.startswith(f"{folder}/+{function.cycle}/") and goal.startswith(f"{name}-")
+
+
+def is_refused(edit, said, errors):
+    """Returns whether the prover refused an edit for a goal of its own function."""
+    words, name = words_on(edit, said), edit.function.path.rpartition("::")[2]
+    if OPEN.match(words):
+        return not edit.function.cycle or f"`{name}-" in words
+    own = [it[2] for it in errors if is_own(it, edit.function)]
+    return bool(FAILED.match(words)) and not all(LOST_NAME.search(it) for it in own)
+
+
+def faults_of(crate, edits, text):
+    """Returns what is wrong with a round by what its check said: edits, and errors beside them."""
+    said, errors = read_check(text)
+    faults = [f"{edit.name}: NOT REFUSED: {edit.function.path}: {words_on(edit, said)}"
+              for edit in edits if not is_refused(edit, said, errors)]
+    words = words_on(crate.harmless, said)
+    if not CLOSED.match(words) and not CALLS.match(words):
+        faults.append(f"{crate.harmless.function.path}: a harmless edit was refused: {words}")
+    return faults + [f"{file}: an error that no edit explains: {words}"
+                     for file, goal, words in errors
+                     if not any(is_own((file, goal, words), it.function) for it in edits)]
+
+
+def faults_without_edits(edits, text):
+    """Returns what a check without any edit says against the functions of a round."""
+    said, errors = read_check(text)
+    faults = [f"{edit.function.path}: without an edit: {words_on(edit, said)}"
+              for edit in edits if not CLOSED.match(words_on(edit, said))]
+    return faults + [f"{file}: without an edit: {words}" for file, _, words in errors]
+
+
+def sum_of(crate, edits):
+    """Returns a checksum of all that the verdict on a round depends on."""
+    rattle = os.stat(crate.kit.RATTLE)
+    made = hashlib.sha256(f"{rattle.st_size} {rattle.st_mtime_ns} ".encode())
+    files = [ROOT / "gate" / it for it in ("edits.py", "functions.py")]
+    files += [edit.source for edit in [*edits, crate.harmless]]
+    for it in [crate.made, *crate.made.below()]:
+        for part in PARTS:
+            files += sorted(pathlib.Path(it.folder, part).rglob("*.*"))
+    for file in files:
+        text = file.read_bytes()
+        made.update(f"{file.relative_to(ROOT)} {len(text)} ".encode() + text)
+    return made.hexdigest()
+
+
+def kept_at(key):
+    cache = os.environ.get("XDG_CACHE_HOME") or os.path.expanduser("~/.cache")
+    return pathlib.Path(cache, "cwtune-edits", key)
+
+
+def keep(key):
+    """Notes that a round was judged as it should be. What cannot be noted is tried again."""
+    try:
+        kept_at(key).parent.mkdir(parents=True, exist_ok=True)
+        kept_at(key).touch()
+    except OSError:
+        pass
+
+
+def judge(crate, number, edits, options):
+    """Tries a round. Returns how many edits it has, what is wrong, and its name."""
+    label, key = f"{crate.name}, round {number}: {len(edits)} edits", sum_of(crate, edits)
+    if kept_at(key).exists() and not options.anew and not options.control:
+        return len(edits) + 1, [], f"{label}, judged before"
+    faults = faults_without_edits(edits, check(crate, edits, [])) if options.control else []
+    log = options.logs and pathlib.Path(options.logs, f"{crate.name}-{number}.log")
+    every = [*edits, crate.harmless]
+    faults += faults_of(crate, edits, check(crate, every, every, log))
+    if not faults:
+        keep(key)
+    return len(edits) + 1, faults, label
+
+
+def load_kit():
+    """Returns the kit's module that knows the words of a check."""
+    rt = shutil.which("rt")
+    if not rt:
+        raise Fault("no `rt` on the PATH", 2)
+    file = pathlib.Path(rt).resolve().with_name("rtlib.py")
+    spec = importlib.util.spec_from_file_location("rtlib", file)
+    kit = importlib.util.module_from_spec(spec)
+    sys.modules["rtlib"] = kit
+    spec.loader.exec_module(kit)
+    return kit
+
+
+def crates_of(kit, names):
+    """Returns the crates with edits, those above first, since their checks take longest."""
+    every = kit.crates_below(str(ROOT))
+    unknown = set(names) - {it.name for it in every}
+    if unknown:
+        raise Fault(f"no crate is called {min(unknown)}", 2)
+    crates = [Crate(kit, it) for it in every if not names or it.name in names]
+    crates = [it for it in crates if it.edits]
+    for crate in crates:
+        unbuilt = [it.name for it in crate.made.below() if not os.path.isdir(it.rlib)]
+        if unbuilt:
+            raise Fault(f"{unbuilt[0]} is not built (`make build` builds it)", 2)
+    return crates[::-1]
+
+
+def lanes():
+    """Returns how many checks run side by side: by the processors and the free memory."""
+    with open("/proc/meminfo") as it:
+        free = next(int(line.split()[1]) for line in it if line.startswith("MemAvailable"))
+    return max(1, min(len(os.sched_getaffinity(0)), free // ROOM))
+
+
+def words():
+    parser = argparse.ArgumentParser(description=__doc__.partition("\n")[0])
+    parser.add_argument("crates", nargs="*", metavar="CRATE", help="default: every crate")
+    parser.add_argument("--anew", action="store_true", help="try what was judged before, too")
+    parser.add_argument("--control", action="store_true",
+                        help="check each round without its edits, too")
+    parser.add_argument("--jobs", type=number_from(1), default=lanes(), metavar="N",
+                        help="checks side by side (default: by processors and memory)")
+    parser.add_argument("--logs", metavar="FOLDER", help="write what each check says there")
+    return parser.parse_args()
+
+
+def main():
+    options = words()
+    os.chdir(ROOT)
+    crates = crates_of(load_kit(), options.crates)
+    if options.logs:
+        os.makedirs(options.logs, exist_ok=True)
+    rounds = [(crate, *it) for crate in crates for it in enumerate(crate.rounds(), 1)]
+    passed = failed = 0
+    with concurrent.futures.ThreadPoolExecutor(options.jobs) as pool:
+        tried = [pool.submit(judge, *it, options) for it in rounds]
+        for one in concurrent.futures.as_completed(tried):
+            count, faults, label = one.result()
+            print("\n".join([label, *(f"  {it}" for it in faults)]), flush=True)
+            passed, failed = passed + max(count - len(faults), 0), failed + len(faults)
+    print(f"{passed} passed, {failed} failed")
+    return 1 if failed or not passed else 0
+
+
+if __name__ == "__main__":
+    run_tool(main)

@@ -1,0 +1,30 @@
+#!/bin/sh
+# Tunes the template of tuning/ with an unproved build, which is ready within a minute, and prints
+# the report. Such a build checks each step while it runs and is slow, so the fights are cut short,
+# and the best setting is not the one of tune.sh. Ends with the program's status.
+# Use: gate/look.sh
+
+here=$(cd "$(dirname "$0")/../examples" && pwd)
+cycles=100
+note="not proved: a quick build for a first look; \`make demo\` proves the program and builds it"
+
+echo "$note"
+echo "building, and tuning examples/tuning/stone.red in fights of $cycles cycles .."
+cd "$here/../crates/cwtune" || exit 1
+files=
+for file in tuning/stone.red tuning/schedule.csv warriors/dwarf.red warriors/imp-ring.red \
+    warriors/scanner.red warriors/replicator.red warriors/core-clear.red; do
+    files="$files --data $(basename "$file")=$here/$file"
+done
+log=$(mktemp) || exit 1
+trap 'rm -f "$log"' EXIT
+# shellcheck disable=SC2086
+rt try --seconds 100 $files -- tune --cycles "$cycles" stone.red schedule.csv stone.cert \
+    dwarf.red imp-ring.red scanner.red replicator.red core-clear.red >"$log" 2>&1
+status=$?
+grep -E '^(vectors|candidates|best|constants|total|fights) ' "$log"
+if [ "$status" -ne 0 ]; then
+    tail -n 20 "$log" >&2
+fi
+echo "$note"
+exit "$status"

@@ -1,0 +1,331 @@
+"""Runs the program on pipes, closed streams and links, and kills it: python3 -m gate.pipes
+[PROGRAM]
+
+A reader that goes away ends a run with status 3 and the line `failed: Write`. A standard input that
+cannot be read, that is a terminal or that has no end leads to a named error or a result, in bounded
+time, and a file has at most 1 GiB. A word that is not UTF-8 is a usage error. A run that is killed,
+or that may not write as much, leaves an older certificate. CERT may be a link, and keeps its
+permissions; a new one has those that the umask leaves.
+Expected values follow from `docs/FORMATS.md`. Prints what failed, and as its last line
+`N passed, N failed`. The exit status is 1 if a check failed.
+"""
+import os, pathlib, pty, resource, shutil, signal, subprocess, sys, tempfile, threading, time
+
+from author.lib.endings import run_tool
+from author.lib.program import program_of
+
+from . import inputs
+from .inputs import RULES
+from .play import SECONDS, Place, end, ended
+from .tally import compare, tally
+
+FILES = {
+    **inputs.files("dat.red", "imp.red", "one.red", "imps.red", "both.csv", "imps.fight",
+                   "one.cert"),
+    # equal warriors, so that a long certificate takes one fight
+    "many.red": ";@tune K 0 19999 1 0\nMOV 0, 1\n",
+    # warriors that differ, so that a tuning takes long
+    "long.red": ";@tune K 0 7999 1 0\n;@tune L 0 99 1 0\nSPL 0\nMOV K, L\nJMP -1\n",
+    "far.csv": "opponent,position,first\n0,4000,c\n",
+    "typo.csv": "opponent,position,first\n0,8,x\n",
+}
+CERT = FILES["one.cert"]
+OLD = CERT + "#"
+WARRIORS = ["dat.red", "imp.red"]
+TUNE = ["tune", *RULES, "one.red", "both.csv", "CERT", *WARRIORS]
+MANY = ["tune", *RULES, "many.red", "both.csv", "CERT", *WARRIORS]
+TYPO = ["tune", *RULES, "one.red", "typo.csv", "CERT", *WARRIORS]
+CHECK = ["check", *RULES, "one.red", "both.csv", "one.cert", *WARRIORS]
+LONG = ["tune", "long.red", "far.csv", "CERT", "imp.red"]
+NOBODY = 65534
+NO_WRITE = end(3, err="failed: Write\n")
+NO_CREATE = end(3, err="failed: create CERT\n")
+NO_READ = end(3, err="failed: read -\n")
+NO_MEMORY = end(3, err="failed: OutOfMemory\n")
+NO_TEXT = end(1, err="refused: FightText line 1\n")
+TIE = end(0, "tie 1 turns 40\n")
+IMP = end(0, "ORG 0\nMOV.I $0, $1\n")
+REPORT = "vectors 1\ncandidates 1\nbest 0\nconstants -\ntotal 4 of 6\nfights 2 of 2\n"
+TUNED = end(0, REPORT, CERT=CERT)
+
+
+def tune_to(cert):
+    """Returns the words of a tuning with another name in place of CERT."""
+    return [cert if word == "CERT" else word for word in TUNE]
+
+
+def from_file(place, name, words=(), **streams):
+    """Runs with a file or a folder as the standard input."""
+    source = os.open(place.folder / name, os.O_RDONLY)
+    try:
+        return place.run(words, stdin=source, **streams)
+    finally:
+        os.close(source)
+
+
+def without(place, number, words):
+    """Runs with the standard stream of this number closed, 0, 1 or 2."""
+    return place.run(words, preexec_fn=lambda: os.close(number))
+
+
+def broken_pipe():
+    """Returns the end for writing of a pipe that nobody reads."""
+    reader, writer = os.pipe()
+    os.close(reader)
+    return writer
+
+
+def to_broken_pipe(place, words, *names):
+    """Runs with standard streams that nobody reads."""
+    writer = broken_pipe()
+    try:
+        return from_file(place, "imps.fight", words, **dict.fromkeys(names, writer))
+    finally:
+        os.close(writer)
+
+
+def readers_that_go_away(place):
+    """Yields checks of runs of which nobody reads a standard stream: name, expected end, end."""
+    for words in [[], ["asm", "imp.red"], CHECK, ["tune", "--help"], ["--help"]]:
+        name = " ".join(words[:1]) or "fight"
+        yield f"nobody reads the output of {name}", NO_WRITE, to_broken_pipe(place, words, "stdout")
+    came = to_broken_pipe(place, TUNE, "stdout")
+    yield "nobody reads a report: the certificate is whole", NO_WRITE._replace(
+        files=TUNED.files), came
+    for name, words, status in [("a refusal", TYPO, 1), ("a usage error", ["fights"], 2),
+                                ("a file that cannot be read", ["asm", "none.red"], 3)]:
+        came = to_broken_pipe(place, words, "stderr")
+        yield f"nobody reads the standard error of {name}", end(status), came
+    came = to_broken_pipe(place, [], "stdout", "stderr")
+    yield "nobody reads a result, nor the line that says so", end(3), came
+
+
+def read_slowly(path, most, text):
+    """Reads at most `most` bytes of a pipe, little by little, into the list `text`, and leaves."""
+    with open(path, "rb", buffering=0) as reader:
+        while sum(map(len, text)) < most:
+            piece = reader.read(min(1000, most))
+            if not piece:
+                return
+            text.append(piece)
+
+
+def to_named_pipe(place, most, **streams):
+    """Writes a long certificate to a named pipe. Returns how the run ended, and what came out."""
+    path, text = place.folder / "CERT", []
+    os.mkfifo(path)
+    reader = threading.Thread(target=read_slowly, args=(path, most, text), daemon=True)
+    reader.start()
+    came = place.run(MANY, **streams)
+    reader.join(SECONDS)
+    path.unlink()
+    return came, b"".join(text)
+
+
+def certificates_for_pipes(place):
+    """Yields checks of a certificate that goes to a named pipe."""
+    rows = b"".join(b"same,%d,0\n" % number for number in range(1, 20000))
+    whole = b"cwcert,1,20000\nbest,0,4\ncap,0,0:3 1:1\n" + rows
+    came, text = to_named_pipe(place, 2 * len(whole))
+    yield "a named pipe gets the whole certificate", (0, b"", whole), (came.status, came.err, text)
+    came = to_named_pipe(place, 10)
+    yield "a reader leaves amid the certificate: no report", (NO_WRITE, whole[:10]), came
+    came = to_named_pipe(place, 2 * len(whole), preexec_fn=lambda: os.close(1))
+    yield "a named pipe is not taken for a closed output", (NO_WRITE, whole), came
+
+
+def at_terminal(place, typed):
+    """Runs with a terminal as standard input, at which `typed` is typed, or None: it is hung up."""
+    terminal, program_end = pty.openpty()
+    process = place.start([], stdin=program_end)
+    os.close(program_end)
+    time.sleep(0.2)
+    if typed is None:
+        os.close(terminal)
+    else:
+        os.write(terminal, typed)
+    came = ended(process)
+    if typed is not None:
+        os.close(terminal)
+    return end(*came)
+
+
+def standard_inputs(place):
+    """Yields checks of standard inputs that are no plain file."""
+    yield "a folder as standard input", NO_READ, from_file(place, ".")
+    yield "a standard input that is closed", NO_READ, without(place, 0, [])
+    fight = FILES["imps.fight"].encode()
+    yield "a fight typed at a terminal", TIE, at_terminal(place, fight + b"\x04")
+    yield "a terminal that ends at once", NO_TEXT, at_terminal(place, b"\x04")
+    hung_up = at_terminal(place, None)
+    yield "a terminal that is hung up", True, hung_up in (NO_READ, NO_TEXT) or hung_up
+
+
+def inputs_without_end(place):
+    """Yields checks of inputs that have no end, or nearly none, and of a named pipe."""
+    yield "an endless standard input", NO_READ, from_file(place, "/dev/zero")
+    with subprocess.Popen(["yes"], stdout=subprocess.PIPE) as lines:
+        yield "endless lines from a pipe", NO_READ, place.run([], stdin=lines.stdout)
+    came = from_file(place, "/dev/zero", megabytes=512)
+    yield "an endless standard input in 512 MB", NO_MEMORY, came
+    came = place.run(["asm", "/dev/zero"])
+    yield "an endless file", end(3, err="failed: read /dev/zero\n"), came
+    (place.folder / "most").touch()
+    for size, expected in [(1 << 30, end(1, err="refused: Asm line 0 TextTooLong\n")),
+                           ((1 << 30) + 1, end(3, err="failed: read most\n"))]:
+        os.truncate(place.folder / "most", size)
+        yield f"a file of {size} bytes", expected, place.run(["asm", "most"])
+    pipe = place.folder / "pipe"
+    os.mkfifo(pipe)
+    text = FILES["imp.red"].encode()
+    threading.Thread(target=pipe.write_bytes, args=(text,), daemon=True).start()
+    yield "a text from a named pipe", IMP, place.run(["asm", "pipe"])
+
+
+def words_of_bytes(place):
+    """Yields checks of words that are not UTF-8, which no case can have."""
+    refused = end(2, err="error: a word of the command line is not UTF-8\n")
+    for words in [[b"\xff"], [b"asm", b"imp.red\xc3"]]:
+        yield f"the words {words}", refused, from_file(place, "imps.fight", words)
+
+
+def closed_streams(place):
+    """Yields checks that a closed standard stream is never a file that the run opens."""
+    for name, words in [("a load file", ["asm", "imp.red"]), ("a verdict", CHECK),
+                        ("help", ["tune", "--help"])]:
+        yield f"{name} without a standard output", NO_WRITE, without(place, 1, words)
+    came = without(place, 1, TUNE)
+    yield "a report without a standard output", NO_WRITE._replace(files=TUNED.files), came
+    yield "a refusal without a standard error", end(1), without(place, 2, TYPO)
+    yield "a tuning without a standard input", TUNED, without(place, 0, TUNE)
+
+
+def take_interrupts():
+    """Lets a run be interrupted, also if this runs in the background of a script."""
+    signal.signal(signal.SIGINT, signal.SIG_DFL)
+
+
+def interrupted(place):
+    """Yields checks that a tuning that is ended in its search leaves CERT, or none, as it was."""
+    for sign in [signal.SIGTERM, signal.SIGINT, signal.SIGKILL]:
+        for old in [OLD, None]:
+            if old:
+                place.write("CERT", old)
+            before = place.texts()
+            process = place.start(LONG, preexec_fn=take_interrupts)
+            time.sleep(1)
+            process.send_signal(sign)
+            came = (*ended(process), place.texts())
+            yield f"a tuning ended by {sign.name}", (-sign, b"", b"", before), came
+            (place.folder / "CERT").unlink(missing_ok=True)
+
+
+def limited(place):
+    """Yields checks of a tuning that may write only few bytes to a file, or open only one."""
+    place.write("CERT", OLD)
+    for most in [1, 10, len(CERT) - 1]:
+        limit = lambda: resource.setrlimit(resource.RLIMIT_FSIZE, (most, most))
+        came = place.run(TUNE, preexec_fn=limit, restore_signals=False)
+        yield f"a limit of {most} bytes", NO_WRITE, came
+        came = place.run(TUNE, preexec_fn=limit)
+        left = end(-signal.SIGXFSZ, files={"CERT.unfinished-1": CERT[:most]})
+        yield f"a limit of {most} bytes that kills", left, came
+    # Leaves one handle after the three streams: a file can be opened, and its handle not copied.
+    few = lambda: resource.setrlimit(resource.RLIMIT_NOFILE, (4, 4))
+    yield "a limit of four open files", NO_CREATE, place.run(TUNE, preexec_fn=few)
+    (place.folder / "CERT").unlink()
+    yield "a limit of four open files, no CERT", NO_CREATE, place.run(TUNE, preexec_fn=few)
+
+
+def links(place):
+    """Yields checks of a CERT that is a link, in its folder or in another one."""
+    path = place.folder / "CERT"
+    (place.folder / "link").symlink_to("second")
+    (place.folder / "second").symlink_to(path)
+    for old in [OLD, None]:
+        if old:
+            place.write("CERT", old)
+            path.chmod(0o640)
+        yield "a link as CERT", TUNED, place.run(tune_to("link"), keep=True)
+        kept = [(place.folder / name).is_symlink() for name in ("link", "second")]
+        yield "the link stays", [True, True], kept
+        if old:
+            yield "permissions stay", 0o640, path.stat().st_mode & 0o777
+        path.unlink()
+    inside = place.folder / "inside"
+    inside.mkdir()
+    (inside / "link").symlink_to("real")
+    came = place.run(tune_to("inside/link"))
+    yield "a link leads on from its own folder", end(0, REPORT, files={"inside/real": CERT}), came
+
+
+def chains(place):
+    """Yields checks of a CERT that as many links lead to as the system follows, and one more."""
+    names = ["CERT", *(f"link-{count}" for count in range(1, 42))]
+    for name, to in zip(names[1:], names):
+        (place.folder / name).symlink_to(to)
+    for count, expected in [(40, TUNED), (41, end(3, err="failed: create link-41\n"))]:
+        yield f"{count} links to CERT", expected, place.run(tune_to(names[count]))
+
+
+def certificates_in_place(place):
+    """Yields checks of a new CERT, of files that other runs have left beside it, and of a CERT that
+    may not be written, or not read."""
+    path = place.folder / "CERT"
+    came = place.run(TUNE, keep=True, preexec_fn=lambda: os.umask(0o027))
+    yield "a new file's permissions", (TUNED, 0o640), (came, path.stat().st_mode & 0o777)
+    path.unlink()
+    for number in range(1, 4):
+        place.write(f"CERT.unfinished-{number}", "")
+    yield "files that are left", TUNED, place.run(TUNE)
+    place.write("CERT", OLD)
+    path.chmod(0o444)
+    came = place.run(TUNE, **as_owner(path, place.program))
+    yield "a CERT that may not be written", NO_CREATE, came
+    path.chmod(0o644)
+    place.write("CERT", "mine\n")
+    path.chmod(0o200)
+    came = place.run(TUNE, **as_owner(path, place.program))
+    yield "a CERT that may not be read", end(3, err="failed: read CERT\n"), came
+
+
+def as_owner(path, program):
+    """Returns the arguments with which the owner of `path` runs the program in that folder.
+    Permissions do not bind root, so as root the owner becomes nobody, who may make files in the
+    folder, and runs a copy of the program there."""
+    if os.geteuid() != 0:
+        return {}
+    os.chown(path, NOBODY, NOBODY)
+    path.parent.chmod(0o777)
+    shutil.copy(program, path.with_name("program"))
+    return {"user": NOBODY, "group": NOBODY, "extra_groups": [], "executable": "./program"}
+
+
+CHECKS = [
+    readers_that_go_away,
+    certificates_for_pipes,
+    standard_inputs,
+    inputs_without_end,
+    words_of_bytes,
+    closed_streams,
+    interrupted,
+    limited,
+    links,
+    chains,
+    certificates_in_place,
+]
+
+
+def checks(program):
+    """Yields the checks, each group in a folder of its own."""
+    for group in CHECKS:
+        with tempfile.TemporaryDirectory() as folder:
+            yield from group(Place(program, pathlib.Path(folder), FILES))
+
+
+def main():
+    return tally(compare(*result) for result in checks(program_of(sys.argv[1:])))
+
+
+if __name__ == "__main__":
+    run_tool(main)

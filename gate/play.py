@@ -1,0 +1,133 @@
+"""Runs the program in a folder, and says how what came of it differs from what was expected."""
+import os, pathlib, pty, subprocess, tempfile
+from typing import NamedTuple
+
+SECONDS = 60
+# Of a longer file the size is compared, and not the text.
+LONGEST = 1 << 24
+
+
+class End(NamedTuple):
+    """How a run ends: its status, what it writes, and the files that it makes, changes or removes.
+
+    `files` has the text of each of these, None for one that is gone. A run that takes too long has
+    the status "no end".
+    """
+
+    status: object
+    out: bytes
+    err: bytes
+    files: dict
+
+
+def end(status, out="", err="", files=None, **more):
+    """Returns an `End`; texts may be `str`. `CERT="..."` is short for a file of that name."""
+    files = {name: as_bytes(text) for name, text in {**(files or {}), **more}.items()}
+    return End(status, as_bytes(out), as_bytes(err), files)
+
+
+def as_bytes(text):
+    return text.encode() if isinstance(text, str) else text
+
+
+def differences(expected, came):
+    """Returns how two ends differ, a line for each part."""
+    parts = [(name, getattr(expected, name), getattr(came, name)) for name in End._fields[:3]]
+    parts += [(f"file {name}", expected.files.get(name, "as it was"),
+               came.files.get(name, "as it was"))
+              for name in sorted({**expected.files, **came.files})]
+    return [f"{name}: expected {wanted!r}, came {given!r}"[:2000]
+            for name, wanted, given in parts if wanted != given]
+
+
+class Place:
+    """A folder with files, in which the program runs."""
+
+    def __init__(self, program, folder, files):
+        self.program, self.folder = program, pathlib.Path(folder)
+        for name, text in files.items():
+            self.write(name, text)
+
+    def write(self, name, text):
+        (self.folder / name).write_bytes(as_bytes(text))
+
+    def read(self, name):
+        """Returns the text of a file, or None if there is no such file."""
+        path = self.folder / name
+        return path.read_bytes() if path.exists() else None
+
+    def start(self, words, megabytes=None, **streams):
+        """Starts the program. Streams that are not given are an empty input and pipes."""
+        given = {"stdin": subprocess.DEVNULL, "stdout": subprocess.PIPE, "stderr": subprocess.PIPE}
+        limit = ["sh", "-c", f'ulimit -v {megabytes << 10}; exec "$0" "$@"'] if megabytes else []
+        return subprocess.Popen([*limit, self.program, *words], cwd=self.folder,
+                                **{**given, **streams})
+
+    def run(self, words, text=None, keep=False, seconds=SECONDS, terminal=False, **streams):
+        """Runs the program with `text` as its standard input. Returns its end.
+
+        With `terminal` its standard error is one, and `err` of the end is what it showed. After the
+        run all files are as before it, unless `keep`.
+        """
+        before = self.texts()
+        if text is not None:
+            streams["stdin"] = subprocess.PIPE
+        if terminal:
+            screen, streams["stderr"] = pty.openpty()
+        status, out, err = ended(self.start(words, **streams), as_bytes(text), seconds)
+        if terminal:
+            os.close(streams["stderr"])
+            err = shown(screen)
+        after = self.texts()
+        changed = {name: after.get(name) for name in {**before, **after}
+                   if before.get(name) != after.get(name)}
+        if not keep:
+            self.put_back(before, changed)
+        return End(status, out, err, changed)
+
+    def texts(self):
+        """Returns the texts of the regular files in the folder by their names."""
+        return {str(path.relative_to(self.folder)): text_of(path)
+                for path in self.folder.rglob("*") if path.is_file() and not path.is_symlink()}
+
+    def put_back(self, texts, names):
+        """Gives the files with these names the texts that they had, and removes the others."""
+        for name in names:
+            if name in texts:
+                self.write(name, texts[name])
+            else:
+                (self.folder / name).unlink()
+
+
+def ended(process, text=None, seconds=SECONDS):
+    """Waits for a process. Returns its status and what it wrote, b"" for what is not a pipe."""
+    try:
+        out, err = process.communicate(text, timeout=seconds)
+        return process.returncode, out or b"", err or b""
+    except subprocess.TimeoutExpired:
+        process.kill()
+        process.communicate()
+        return "no end", b"", b""
+
+
+def shown(screen):
+    """Returns what a terminal shows until nobody writes to it, and closes it."""
+    text = b""
+    try:
+        while piece := os.read(screen, 65536):
+            text += piece
+    except OSError:  # the other end is closed
+        pass
+    os.close(screen)
+    return text.replace(b"\r\n", b"\n")
+
+
+def text_of(path):
+    size = path.stat().st_size
+    return path.read_bytes() if size <= LONGEST else f"{size} bytes".encode()
+
+
+def play(program, words, files, **more):
+    """Runs the program in a new folder with these files. Returns its end."""
+    with tempfile.TemporaryDirectory() as folder:
+        return Place(program, folder, files).run(words, keep=True, **more)

@@ -1,0 +1,254 @@
+"""Plays cases of input and output: python3 -m gate.play_cases [PROGRAM [CASES..]]
+
+CASES are files such as `gate/cases/asm.toml`; without any, all files of `gate/cases/` are played. A
+file has `[[case]]` tables, and above them what its cases share: `files` and `folders`, which each
+case finds in its folder, and `[words]`, where `small = ".."` says what `$small` is in command
+lines. Files that the words name and nobody gave a text are those of `gate/inputs.toml`, which has
+shared words too, and the load files of `examples/warriors/`, as `dwarf.red`.
+
+A case is played in a fresh folder. It says `name`, `words` (the command line) and `status`, and
+what is not empty of `files` (name to text), `folders` (names), `stdin`, `out` and `err`. In place
+of a whole output it may say `out_begins`, `err_begins` (and a line feed ends it), `out_contains`
+(a list), or `out_is`, the name of a file of that text. `cert` is the text of the file CERT after
+the run; `accepted = true` says in its place that CERT is new, and that `check` accepts it with the
+best setting and the total of `out`. All other files have to be as before, and none may be new.
+`stdin_from` and `out_to` are paths in place of the standard streams. A run has to end within
+`seconds` (120), and with `megabytes` it gets no more memory than that.
+
+`each` is a list of tables such as `{ files."x.red" = "DAT 0", out = ".." }`: the case is played
+once for each of them, with the table merged over it: its keys replace those of the case, and its
+files are added to the files of the case. `runs` is such a list too: a case that has both is played
+once for each pair of a run and a table of `each`. With `fill.place = "Asm"`, in a
+case or in a table, `$place` stands for `Asm` in `words`, `files`, `stdin`, `out`, `err` and
+`err_begins`.
+`long` makes long files: `long."x.red" = { text = ";", times = 65537 }`, also with a `head` that
+comes once before the text, and a `tail` after it; `$n` in the text is its number, from 0.
+`each_beginning_of` is `stdin` or the name of a file of the case, which is then played once for each
+beginning of that text, except for the whole.
+With `terminal = true` a case is played at a terminal, which shows `err`, progress aside; with
+--explain in a pipe, which gets the same; in a pipe, which gets only the lines that begin with
+`refused` or `failed`; and so with --progress, if the command has it.
+
+Prints what failed, and as its last line `N passed, N failed`. The exit status is 1 if a case failed
+or there is none. A case that says anything else, or no `status`, is an error.
+"""
+import concurrent.futures, os, pathlib, re, shlex, string, sys, tempfile, tomllib
+
+from author.lib.endings import run_tool
+from author.lib.program import program_of
+
+from . import inputs
+from .play import Place, end
+from .tally import tally
+
+FILLED = ["stdin", "out", "err", "err_begins"]
+NEEDED = {"name": str, "status": int}
+OPTIONAL = {
+    "files": dict, "folders": list, "stdin": str, "stdin_from": str, "out_to": str, "cert": str,
+    "each": list, "each_beginning_of": str, "out": str, "out_begins": str, "out_contains": list,
+    "out_is": str, "err": str, "err_begins": str, "words": str, "runs": list, "fill": dict,
+    "long": dict, "accepted": bool, "terminal": bool, "seconds": int, "megabytes": int,
+}
+# what the tables of `runs` and `each` may say
+MERGED = {**OPTIONAL, "status": int, "runs": None, "each": None}
+LONG = {"head": str, "text": str, "times": int, "tail": str}
+SHARED = {"files": dict, "folders": list, "words": dict, "case": list}
+SECONDS = 120
+PROGRESS_AT_TERMINAL = rb"\r\x1b\[\?7l[^\r\n]*\x1b\[K\x1b\[\?7h|\r\x1b\[K"
+PROGRESS = rb"(?m)^\d+% .*\n"
+
+
+def check_keys(table, kinds, needed, where):
+    """Ends the program if a key of a table is not as it has to be."""
+    for key in sorted({*needed, *table}):
+        if type(table.get(key)) is not kinds.get(key):
+            sys.exit(f"{where}: `{key}` is missing or unknown, or its value is of another type")
+
+
+def variants(case, key):
+    """Returns the case, or one for each table of its list `each` or `runs`."""
+    if key not in case:
+        return [case]
+    cases = []
+    for number, table in enumerate(case[key], 1):
+        name = f"{case['name']} ({'table' if key == 'each' else 'run'} {number})"
+        check_keys(table, MERGED, [], name)
+        merged = {"name": name}
+        for part in ["files", "fill", "long"]:
+            merged[part] = case[part] | table.get(part, {})
+        cases.append(case | table | merged)
+    return cases or sys.exit(f"{case['name']}: `{key}` is empty")
+
+
+def fill(text, names):
+    """Puts in what names stand for, which may have names in turn, up to three deep."""
+    for _ in range(3 if names else 0):
+        text = string.Template(text).safe_substitute(names)
+    return text
+
+
+def long_text(long):
+    """Returns the text of a long file."""
+    middle = "".join(long["text"].replace("$n", str(n)) for n in range(long["times"]))
+    return long.get("head", "") + middle + long.get("tail", "")
+
+
+def filled(case):
+    """Returns the case with its words parted, its long files made, and names put in by `fill`."""
+    if "words" not in case:
+        sys.exit(f"{case['name']}: `words` is missing")
+    names = case["fill"]
+    words = string.Template(case["words"]).substitute(case["shared_words"] | names)
+    files = {name: fill(text, names) for name, text in case["files"].items()}
+    for name, long in case["long"].items():
+        check_keys(long, LONG, ["text", "times"], case["name"])
+        files[name] = long_text(long)
+    words = shlex.split(words)
+    shared = {name: inputs.FILES[name] for name in {*words, case.get("each_beginning_of")}
+              if name in inputs.FILES}
+    made = {key: fill(case[key], names) for key in FILLED if key in case}
+    return case | made | {"files": shared | files, "words": words}
+
+
+def beginnings(case):
+    """Returns the case, or one for each beginning of the text that it names."""
+    key = case.get("each_beginning_of")
+    if key is None:
+        return [case]
+    text = (case if key == "stdin" else case["files"])[key]
+    cases = []
+    for length in range(len(text)):
+        cut = {key: text[:length]}
+        change = cut if key == "stdin" else {"files": case["files"] | cut}
+        cases.append(case | change | {"name": f"{case['name']} ({length} characters)"})
+    return cases or sys.exit(f"{case['name']}: no beginning to play")
+
+
+def ways(case):
+    """Returns the case, or one for each way in which a case of a terminal is played."""
+    if not case.get("terminal"):
+        return [case]
+    name, words = case["name"], case["words"]
+    faults = "".join(re.findall(r"(?m)^(?:refused|failed).*\n", case.get("err", "")))
+    piped = case | {"terminal": False}
+    cases = [case | {"name": f"{name} (at a terminal)"},
+             piped | {"name": f"{name} (--explain)", "words": [words[0], "--explain", *words[1:]]},
+             piped | {"name": f"{name} (in a pipe)", "err": faults}]
+    if words[0] in ("tune", "check"):
+        cases.append(piped | {"name": f"{name} (--progress)", "err": faults,
+                              "words": [words[0], "--progress", *words[1:]]})
+    return cases
+
+
+def read_cases(path):
+    """Returns the cases of a file, each with all that the cases of the file share."""
+    try:
+        table = tomllib.loads(path.read_text("utf-8"))
+    except ValueError as error:
+        sys.exit(f"{path}: {error}")
+    check_keys(table, SHARED, ["case"], path)
+    cases = []
+    for case in table["case"]:
+        name = f"{path}: {case.get('name')}"
+        check_keys(case, NEEDED | OPTIONAL, NEEDED, name)
+        case["name"] = name
+        case["shared_words"] = inputs.WORDS | table.get("words", {})
+        case["files"] = table.get("files", {}) | case.get("files", {})
+        case["folders"] = table.get("folders", []) + case.get("folders", [])
+        case = {"fill": {}, "long": {}} | case
+        tables = [one for run in variants(case, "runs") for one in variants(run, "each")]
+        cases += [way for one in tables for cut in beginnings(filled(one)) for way in ways(cut)]
+    if len({case["name"] for case in cases}) < len(cases):
+        sys.exit(f"{path}: two cases have one name")
+    return cases
+
+
+def streams_of(case, place):
+    """Returns the streams of a case that are no pipes, opened."""
+    opened = {}
+    if "stdin_from" in case:
+        opened["stdin"] = os.open(place.folder / case["stdin_from"], os.O_RDONLY)
+    if "out_to" in case:
+        opened["stdout"] = os.open(place.folder / case["out_to"], os.O_WRONLY)
+    return opened
+
+
+def run(place, case):
+    """Runs the program as a case says. Returns its end, without the progress."""
+    opened = streams_of(case, place)
+    try:
+        came = place.run(case["words"], text=None if "stdin" in opened else case.get("stdin", ""),
+                         keep=True, seconds=case.get("seconds", SECONDS),
+                         terminal=case.get("terminal", False), megabytes=case.get("megabytes"),
+                         **opened)
+    finally:
+        for stream in opened.values():
+            os.close(stream)
+    if case.get("terminal"):
+        return came._replace(err=re.sub(PROGRESS_AT_TERMINAL, b"", came.err))
+    if "--progress" in case["words"] and "terminal" in case:
+        return came._replace(err=re.sub(PROGRESS, b"", came.err))
+    return came
+
+
+def shown(text):
+    """Decodes what came, of which any bytes can be shown."""
+    return text.decode(errors="backslashreplace")
+
+
+def text_differences(case, key, came):
+    """Returns how the output `came` differs from what the case says of it."""
+    begins, parts = case.get(f"{key}_begins", ""), case.get(f"{key}_contains", [])
+    whole = case["files"][case["out_is"]] if key == "out" and "out_is" in case else case.get(key)
+    wrong = [f"{key}: expected lines with {part!r}" for part in parts if part not in came]
+    if begins and not (came.startswith(begins) and came.endswith("\n")):
+        wrong.append(f"{key}: expected lines that begin with {begins!r}")
+    if (whole is not None or not (begins or parts)) and came != (whole or ""):
+        wrong.append(f"{key}: expected {whole or ''!r}")
+    return [f"{line}, came {came!r}"[:2000] for line in wrong]
+
+
+def check_differences(place, case):
+    """Checks CERT. Returns how that ends otherwise than the case says."""
+    lines = dict(line.split(" ", 1) for line in case["out"].splitlines())
+    words = ["check", *(word for word in case["words"][1:] if not word.startswith("--cache"))]
+    wanted = end(0, f"accepted best {lines['best']} total {lines['total'].split()[0]}\n")
+    came = place.run(words, seconds=SECONDS)
+    return [] if came == wanted else [f"its check: expected {wanted}, came {came}"[:2000]]
+
+
+def differences(program, case):
+    """Plays a case. Returns how it ended otherwise than the case says, a line for each."""
+    with tempfile.TemporaryDirectory() as folder:
+        for name in case["folders"]:
+            pathlib.Path(folder, name).mkdir()
+        place = Place(program, folder, case["files"])
+        came = run(place, case)
+        wrong = text_differences(case, "out", shown(came.out))
+        wrong += text_differences(case, "err", shown(came.err))
+        if came.status != case["status"]:
+            wrong.append(f"status: expected {case['status']}, came {came.status}")
+        files = {name: None if text is None else shown(text) for name, text in came.files.items()}
+        if case.get("accepted") and files.pop("CERT", None):
+            wrong += check_differences(place, case)
+        elif case.get("accepted"):
+            wrong.append("CERT: expected one, came none")
+    wanted = {"CERT": case["cert"]} if "cert" in case else {}
+    if wanted.get("CERT") == case["files"].get("CERT"):
+        wanted = {}
+    return wrong + [f"file {name}: expected {wanted.get(name)!r}, came {files.get(name)!r}"[:2000]
+                    for name in sorted({**wanted, **files}) if wanted.get(name) != files.get(name)]
+
+
+def main():
+    program = program_of(sys.argv[1:])
+    folder = pathlib.Path(__file__).resolve().parent / "cases"
+    paths = [pathlib.Path(name) for name in sys.argv[2:]] or sorted(folder.glob("*.toml"))
+    cases = [case for path in paths for case in read_cases(path)]
+    with concurrent.futures.ThreadPoolExecutor(os.cpu_count()) as pool:
+        played = pool.map(lambda case: differences(program, case), cases)
+        return tally((case["name"], wrong) for case, wrong in zip(cases, played))
+
+
+if __name__ == "__main__":
+    run_tool(main)

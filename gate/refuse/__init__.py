@@ -1,0 +1,1 @@
+"""Runs of the program in which a request for memory, a write or a name is refused."""

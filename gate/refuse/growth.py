@@ -1,0 +1,86 @@
+"""Runs the tests of calls that allocate, with each of their requests for memory refused in turn.
+
+The tests are those of the modules `memory` in the test programs that the gate builds. With nothing
+refused each has to pass. With a request refused it has to pass too, or to end with the error
+`OutOfMemory` of a call, at line or record 0 and in no other variant, or with an error of the test's
+own requests. Use: python3 -m gate.refuse.growth [TEST PROGRAM..]. Needs `cc` and a system with
+LD_PRELOAD. Prints what failed, and as its last line how many requests were refused, and
+`N passed, N failed`. The exit status is 1 if a test failed.
+"""
+import concurrent.futures, os, pathlib, subprocess, sys, tempfile
+
+from author.lib.endings import run_tool
+from author.lib.program import program_of
+
+from ..tally import tally
+from .runs import library_of
+
+ROOT = pathlib.Path(__file__).resolve().parents[2]
+PROGRAMS = [f"crates/{crate}/out/{crate}_tests"
+            for crate in ["rc_tests", "mars_tests", "tune_tests"]]
+MODULE = "memory::"
+
+# How a test prints that a call was out of memory.
+ERRORS = [
+    "OutOfMemory",
+    "AllocError",
+    "AllocFailed { .. }",
+    "AsmFault { line: 0, kind: OutOfMemory }",
+    "ExpandFault { line: 0, kind: OutOfMemory }",
+    "ScheduleFault { row: 0, kind: OutOfMemory }",
+    "TemplateFault { line: 0, kind: OutOfMemory }",
+]
+PASSED = (0, "")
+FAILED = "the test failed: its result gives status 1"
+REFUSED = [(101, f"error: {error}\n{FAILED}\n") for error in ERRORS]
+
+
+def tests_of(program):
+    """Returns the names of a program's tests of calls that allocate."""
+    listed = subprocess.run([program, "--list"], capture_output=True, text=True, check=True).stdout
+    names = [line.rpartition(": ")[0] for line in listed.splitlines() if line.endswith(": test")]
+    return [(program, name) for name in names if f"::{MODULE}" in f"::{name}"]
+
+
+def run(library, program, test, number, count=False):
+    """Runs a test with request `number` refused. Returns its status and standard error."""
+    env = dict(os.environ, LD_PRELOAD=library, REFUSE=str(number))
+    if count:
+        env["REFUSE_COUNT"] = "1"
+    done = subprocess.run([program, test], capture_output=True, text=True, env=env)
+    ended = done.stdout.endswith("test result: ok\n") or done.returncode != 0
+    return done.returncode if ended else -1, done.stderr
+
+
+def refuse_each(library, program, test):
+    """Refuses each request of a test in turn. Returns how many there were, and what was wrong."""
+    came = run(library, program, test, 0)
+    if came != PASSED:
+        return 0, [f"nothing refused: came {came}"]
+    requests = int(run(library, program, test, 0, count=True)[1])
+    wrong, ended = [], 0
+    for number in range(1, requests + 1):
+        came = run(library, program, test, number)
+        ended += came in REFUSED
+        if came != PASSED and came not in REFUSED:
+            wrong.append(f"request {number} refused: came {came}")
+    if ended == 0:
+        wrong.append("no refused request was told")
+    return requests, wrong
+
+
+def main():
+    given = sys.argv[1:] or [ROOT / program for program in PROGRAMS]
+    programs = [program_of([program], "rt test") for program in given]
+    tests = [test for program in programs for test in tests_of(program)]
+    with tempfile.TemporaryDirectory() as work:
+        library = library_of("memory.c", work)
+        with concurrent.futures.ThreadPoolExecutor(os.cpu_count()) as pool:
+            came = list(pool.map(lambda test: refuse_each(library, *test), tests))
+    total = sum(requests for requests, _ in came)
+    results = [(test, wrong) for (_, test), (_, wrong) in zip(tests, came)]
+    return tally(results, f"{total} requests refused: ")
+
+
+if __name__ == "__main__":
+    run_tool(main)

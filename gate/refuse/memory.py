@@ -1,0 +1,52 @@
+"""Runs the program once for each of its requests for memory, with that request refused.
+
+Each run has to end with its own result, which `runs.py` says, or with status 3, the line
+`failed: OutOfMemory`, nothing on standard output and CERT as it was. The number of requests also
+shows that no assembly is repeated (`once_each.py`).
+Use: python3 -m gate.refuse.memory [PROGRAM]. Needs `cc` and a system with LD_PRELOAD. Prints what
+failed, and as its last line how many requests were refused, and `N passed, N failed`. The exit
+status is 1 if a run failed.
+"""
+import concurrent.futures, os, sys, tempfile
+
+from author.lib.endings import run_tool
+from author.lib.program import program_of
+
+from . import once_each
+from ..play import end
+from ..tally import tally
+from .runs import FILES, all_runs, library_of
+
+REFUSED = end(3, err="failed: OutOfMemory\n")
+
+
+def refuse_each(program, library, words, text, expected):
+    """Refuses each request of a run in turn. Returns how many there were, how often it ended out of
+    memory, and what was wrong."""
+    came = once_each.run(program, library, words, FILES, text)
+    wrong = [] if came == expected else [f"nothing refused: expected {expected}, came {came}"]
+    requests = once_each.requests(program, library, words, FILES, text)
+    refused = 0
+    for number in range(1, requests + 1):
+        came = once_each.run(program, library, words, FILES, text, REFUSE=number)
+        refused += came == REFUSED
+        if came not in (REFUSED, expected):
+            wrong.append(f"request {number} refused: came {came}")
+    return requests, refused, wrong
+
+
+def main():
+    program, runs = program_of(sys.argv[1:]), all_runs()
+    with tempfile.TemporaryDirectory() as work:
+        library = library_of("memory.c", work)
+        with concurrent.futures.ThreadPoolExecutor(os.cpu_count()) as pool:
+            came = list(pool.map(lambda one: refuse_each(program, library, *one[1:]), runs))
+        again = list(once_each.trials(program, library))
+    total = sum(requests for requests, _, _ in came)
+    results = [(name, wrong + ["no refused request was told"] * (refused == 0))
+               for (name, *_), (_, refused, wrong) in zip(runs, came)]
+    return tally([*results, *again], f"{total} requests refused: ")
+
+
+if __name__ == "__main__":
+    run_tool(main)

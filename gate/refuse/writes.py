@@ -1,0 +1,90 @@
+"""Runs the program where its writes fail: python3 -m gate.refuse.writes [PROGRAM]
+
+The runs are those of `runs.py`, each with an older certificate in CERT, and with none. A step is a
+write of one byte, the flush of a certificate to the disk, or its new name. The first, the second
+and so on fails, finds no room, takes no byte, or is the last before the program is killed.
+Until a certificate has its name CERT is as it was, and nothing is on standard output. Only a kill
+leaves a file beside it. Needs `cc` and a system with LD_PRELOAD. Prints what failed, and as its
+last line how many steps failed, and `N passed, N failed`. The exit status is 1 if a run failed.
+"""
+import concurrent.futures, os, signal, sys, tempfile
+
+from author.lib.endings import run_tool
+from author.lib.program import program_of
+
+from ..play import end, play
+from ..tally import tally
+from .runs import FILES, TUNINGS, all_runs, library_of, with_rules
+
+BESIDE = "CERT.unfinished-1"
+FAILURES = ["FAIL", "FULL", "NOTHING", "KILL"]
+WITHOUT_CERT = {name: text for name, text in FILES.items() if name != "CERT"}
+
+
+def run(program, library, words, text, files, **variables):
+    """Runs with the library, which makes steps of single bytes, and its variables."""
+    env = {**os.environ, "LD_PRELOAD": library, "SHORT": "1", **variables}
+    return play(program, words, files, text=text, env=env)
+
+
+def steps_of(cert):
+    """Returns how many steps a certificate takes: its bytes, a flush and a name."""
+    return len(cert) + 2 if cert else 0
+
+
+def expected_at(how, number, wanted):
+    """Returns how a run has to end whose step `number` fails."""
+    cert = wanted.files.get("CERT")
+    first = steps_of(cert)
+    if number > first + len(wanted.out) or (how == "NOTHING" and first - 1 <= number <= first):
+        return wanted
+    done = number if how == "KILL" else number - 1
+    out = wanted.out[: max(0, done - first)]
+    left = {}
+    if cert and done >= first:
+        left = {"CERT": cert}
+    elif cert and how == "KILL":
+        left = {BESIDE: cert[:done]}
+    if how == "KILL":
+        return end(-signal.SIGKILL, out, files=left)
+    return end(3, out, "failed: Write\n", left)
+
+
+def fail_each(program, library, words, text, wanted):
+    """Fails each step of a run in turn. Returns how many there were, and what was wrong."""
+    wrong, count = [], 0
+    for files in [FILES, WITHOUT_CERT] if "CERT" in words else [FILES]:
+        for number in range(1, steps_of(wanted.files.get("CERT")) + len(wanted.out) + 2):
+            for how in FAILURES:
+                expected = expected_at(how, number, wanted)
+                came = run(program, library, words, text, files, **{how: str(number)})
+                count += expected != wanted
+                if came != expected:
+                    wrong.append(f"{how} {number}: expected {expected}, came {came}")
+    return count, wrong
+
+
+def explain_flush(program, library):
+    """Fails the flush of a certificate with --explain. Returns what was wrong, in a list."""
+    words, wanted = TUNINGS[0]
+    said = "failed: Write\n  CERT: Input/output error (os error 5)\n  found: best 0 total 4\n"
+    came = run(program, library, [*with_rules(words), "--explain"], "", FILES,
+               FAIL=str(steps_of(wanted.files["CERT"]) - 1))
+    return [] if came == end(3, err=said) else [f"expected {said!r}, came {came}"]
+
+
+def main():
+    program, runs = program_of(sys.argv[1:]), all_runs()
+    with tempfile.TemporaryDirectory() as work:
+        library = library_of("writes.c", work)
+        with concurrent.futures.ThreadPoolExecutor(os.cpu_count()) as pool:
+            came = list(pool.map(lambda one: fail_each(program, library, *one[1:]), runs))
+        explained = explain_flush(program, library)
+    total = sum(steps for steps, _ in came)
+    results = [(name, wrong) for (name, *_), (_, wrong) in zip(runs, came)]
+    results.append(("a flush that fails, with --explain", explained))
+    return tally(results, f"{total} steps failed: ")
+
+
+if __name__ == "__main__":
+    run_tool(main)

@@ -1,0 +1,185 @@
+"""Runs the program at a terminal, for what changes while it runs: python3 -m gate.terminals
+[PROGRAM]
+
+A terminal gets a progress line, with --progress a pipe a line a minute, and a terminal that is read
+is told so. What a terminal shows at the end of a run is played by `gate/cases/explanations.toml`.
+Expected values follow from `docs/FORMATS.md`. Prints what failed, and as its last line
+`N passed, N failed`. The exit status is 1 if a check failed.
+"""
+import os, pty, re, select, sys, tempfile, time
+
+from author.lib.endings import run_tool
+from author.lib.program import program_of
+
+from . import inputs, pipes
+from .inputs import RULES
+from .play import Place, end, shown
+from .tally import compare, tally
+
+FILES = {
+    **inputs.files("dat.red", "imp.red", "both.csv"),
+    **{name: pipes.FILES[name] for name in ("long.red", "far.csv")},
+    "two.red": ";@tune K 0 1 1 0\nMOV 0, K+1-K\n",
+    "none.red": ";@tune K 0 1 1 0\nMOV 0, K\nDAT 1/0\n",
+    "two.cert": "cwcert,1,2\nbest,0,4\ncap,0,0:3 1:1\nsame,1,0\n",
+    "long.csv": "opponent,position,first\n" + "0,4000,c\n" * 10000,
+    "four.csv": "opponent,position,first\n" + "0,4000,c\n" * 4,
+    "forty.red": ";@tune K 0 39 1 0\nMOV 0, 1\nDAT K\n",
+}
+REPORT = "vectors 2\ncandidates 2\nbest 0\nconstants K=0\ntotal 4 of 6\nfights 2 of 4\n"
+ONE = "vectors 1\ncandidates 1\nbest 0\nconstants K=1\ntotal 4 of 6\nfights 2 of 2\n"
+CERT = FILES["two.cert"]
+PART = "cwcert,1,1\nbest,0,4\ncap,0,0:3 1:1\n"
+BEGUN = "0% 0 of 2 settings, 0 fights"
+LONG_BEGUN = b"0% 0 of 800000 settings, 0 fights"
+PROGRESS = rb"\r\x1b\[\?7l([^\r\n]*)\x1b\[K\x1b\[\?7h"
+AT_TERMINAL = f"\r\x1b[?7l{BEGUN}\x1b[K\x1b[?7h\r\x1b[K"
+LINE = rb"\d+% \d+ of 800000 settings, [1-9]\d* fights, \d+ a second, best \d+ total \d, " \
+       rb"\d+ (s|min|h) left"
+MEANWHILE = rb"0% 0 of 1 settings, [1-9]\d* fights, \d+ a second"
+STEADY = rb"(\d+)% (\d+) of 40 settings, (\d+) fights, (\d+) a second, best 0 total \d+, " \
+         rb"(\d+) s left"
+CHECK = ["check", *RULES, "two.red", "both.csv", "two.cert", "dat.red", "imp.red"]
+SLOW = ["long.red", "far.csv", "CERT", "imp.red"]
+
+
+def tune(template, *options):
+    return ["tune", *RULES, *options, template, "both.csv", "CERT", "dat.red", "imp.red"]
+
+
+def shown_whole(place, words):
+    """Runs with a terminal as standard output, too. Returns the status and what was shown."""
+    screen, program_end = pty.openpty()
+    before = place.texts()
+    process = place.start(words, stdout=program_end, stderr=program_end)
+    os.close(program_end)
+    status, text = process.wait(), shown(screen)
+    place.put_back(before, place.texts().keys() - before.keys())
+    return status, text
+
+
+def progress(place):
+    """Yields checks of the progress of a tuning and a check that end at once."""
+    tuned, accepted = end(0, REPORT, CERT=CERT), end(0, "accepted best 0 total 4\n")
+    for name, words, expected in [("a tuning", tune("two.red"), tuned),
+                                  ("a check", CHECK, accepted)]:
+        told = expected._replace(err=AT_TERMINAL.encode())
+        yield f"the progress of {name}", told, place.run(words, terminal=True)
+        yield f"the progress of {name} is cleared before it prints", (
+            0, told.err + expected.out), shown_whole(place, words)
+        words = [*words, "--progress"]
+        yield f"--progress of {name} at a terminal", told, place.run(words, terminal=True)
+        line = expected._replace(err=f"{BEGUN}\n".encode())
+        yield f"--progress of {name}", line, place.run(words)
+        yield f"no progress of {name} on a pipe", expected, place.run(words[:-1])
+    came = place.run(tune("two.red", "--part=2/2", "--progress"))
+    yield "--progress of a part", end(0, ONE, "0% 0 of 1 settings, 0 fights\n", CERT=PART), came
+    came = place.run(tune("none.red"), terminal=True)
+    cleared = came.err.startswith(AT_TERMINAL.encode() + b"refused: NoCandidate\n")
+    yield "the progress is cleared before a refusal", True, cleared or came
+
+
+def seen_within(place, words, seconds):
+    """Runs for some seconds with a terminal as standard error. Returns the progress lines, and
+    after how many seconds the first came."""
+    terminal, program_end = pty.openpty()
+    process = place.start(words, stderr=program_end)
+    os.close(program_end)
+    began, first, text = time.monotonic(), None, b""
+    while (left := began + seconds - time.monotonic()) > 0:
+        if select.select([terminal], [], [], left)[0]:
+            piece = piece_of(terminal)
+            if not piece:
+                break
+            text += piece
+            first = first or time.monotonic() - began
+    process.kill()
+    process.communicate()
+    os.close(terminal)
+    return re.findall(PROGRESS, text), first
+
+
+def piece_of(terminal):
+    """Returns what a terminal shows next, or nothing once the program has ended."""
+    try:
+        return os.read(terminal, 4096)
+    except OSError:
+        return b""
+
+
+def long_tunings(place):
+    """Yields checks of the progress of a tuning that takes long."""
+    lines, first = seen_within(place, ["tune", *SLOW], 3.2)
+    yield "two lines a second at most", True, 4 <= len(lines) <= 8 or lines
+    wrong = [line for line in lines[1:] if not re.fullmatch(LINE, line)]
+    yield "what the lines say", ([], [LONG_BEGUN]), (wrong, lines[:1])
+    # There is half a second or more from a line to the next.
+    wrong = [line for index, line in enumerate(lines[1:], 1)
+             if not index / 2 <= seconds_of(line) < 10]
+    yield "the seconds that a line counts", [], wrong
+    yield "the first line within a second", True, (first or 9) < 1 or first
+    process = place.start(["tune", "--progress", *SLOW])
+    time.sleep(2.2)
+    process.kill()
+    came = process.communicate()[1]
+    yield "--progress prints no second line within two seconds", LONG_BEGUN + b"\n", came
+
+
+def long_settings(place):
+    """Yields checks of the progress while one setting plays many long fights."""
+    # In a core of 8009 cells no state comes back where it is looked at: each fight is played out.
+    rules = ["--core=8009", "--cycles=1000000"]
+    lines, first = seen_within(place, ["tune", *rules, "imp.red", "long.csv", "CERT", "imp.red"],
+                               2.2)
+    wrong = [line for line in lines[1:] if not re.fullmatch(MEANWHILE, line)]
+    yield "one long setting", ([], [b"0% 0 of 1 settings, 0 fights"]), (wrong, lines[:1])
+    yield "its lines while fights are played", True, 2 <= len(lines) <= 5 or lines
+    yield "its first line within a second", True, (first or 9) < 1 or first
+    words = ["tune", "--all", *rules, "forty.red", "four.csv", "CERT", "imp.red"]
+    lines, _ = seen_within(place, words, 3.2)
+    wrong = [line for line in lines if not agrees(line)]
+    yield "the numbers of a line agree", [], wrong
+
+
+def seconds_of(line):
+    """Returns the fights of a line divided by its fights a second, or 0."""
+    found = re.search(rb"(\d+) fights, (\d+) a second", line)
+    fights, rate = map(int, found.groups()) if found else (0, 1)
+    return fights / max(rate, 1)
+
+
+def agrees(line):
+    """Returns whether the numbers of a line agree: the percent with the settings, and the time left
+    with the time so far, if the settings to come take as long as those that are done."""
+    found = re.fullmatch(STEADY, line)
+    if not found:
+        return b" left" not in line
+    percent, done, fights, rate, left = map(int, found.groups())
+    wanted = fights / max(rate, 1) * (40 - done) / done
+    return percent == 100 * done // 40 and abs(left - wanted) <= 1 + wanted / 10
+
+
+def invitations(place):
+    """Yields checks that a terminal is told what is read from it, if anything is."""
+    terminal, program_end = pty.openpty()
+    other = place.run(["asm", "imp.red"], terminal=True, stdin=program_end)
+    yield "a terminal that is not read", end(0, "ORG 0\nMOV.I $0, $1\n"), other
+    os.write(terminal, b"\x04")
+    came = place.run([], terminal=True, stdin=program_end)
+    os.close(program_end)
+    os.close(terminal)
+    said = "reading a fight text, which Ctrl-D ends; `cwtune --help` tells of the commands\n"
+    yield "a fight text from a terminal", end(1, err=f"{said}refused: FightText line 1\n"), came
+
+
+def main():
+    program = program_of(sys.argv[1:])
+    with tempfile.TemporaryDirectory() as folder:
+        place = Place(program, folder, FILES)
+        return tally(compare(*result)
+                     for group in [progress, long_tunings, long_settings, invitations]
+                     for result in group(place))
+
+
+if __name__ == "__main__":
+    run_tool(main)

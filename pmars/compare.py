@@ -1,0 +1,219 @@
+"""Plays fights and assembles texts by `cwtune` and by pMARS, and compares.
+
+Warriors are random ones and those of the repository, in series of ten fights: the positions and
+first movers are those of `pmars -F`, and the wins, ties and losses have to be the same. Texts are
+random ones and those of the repository: the instructions and the start have to be those of
+`pmars -r 0`. Then each known difference (docs/MACHINE.md, docs/REDCODE.md) is shown to be one. A
+fight that differs is printed as two warriors, cut as short as they still differ, and two commands.
+The exit status is 1 if something else differs, or if a known difference no longer shows.
+
+PMARS is a server build of pMARS 0.9.2; `make pmars` builds one, and prints its path.
+"""
+import argparse, itertools, pathlib, random, sys, tempfile, time
+
+from author.lib.endings import Fault, number_from, run_tool
+from author.lib.program import Rules, add_program, program_of
+
+from .games import Game, fights_of, run
+from .known import FIGHTS, TEXTS
+from .random_warriors import Text, random_load
+
+ROOT = pathlib.Path(__file__).resolve().parent.parent
+ROUNDS = 10
+SMALL = [Rules(80, 640, 8, 12, 12), Rules(101, 500, 64, 12, 20), Rules(800, 4000, 800, 20, 20),
+         Rules(8192, 3000, 4, 12, 100)]
+WHOLE = Rules()
+
+
+class Programs:
+    """The two programs, and a folder for the files that they read."""
+
+    def __init__(self, cwtune, pmars, folder):
+        self.cwtune, self.pmars, self.folder = cwtune, pmars, pathlib.Path(folder)
+
+    def game(self, rules, candidate, opponent):
+        return Game(rules, candidate, opponent, self.folder)
+
+    def differs(self, game, position, first):
+        """Returns whether the two say different points of one fight."""
+        return (game.points(self.cwtune, [(position, first)])[0]
+                != game.round_points(self.pmars, position, first))
+
+    def assemble(self, text):
+        """Returns the load file that `cwtune asm` makes of a text, or why it refuses the text."""
+        return self.load_of(text, "text.red")
+
+    def listing(self, text):
+        """Returns the load file of what pMARS lists for a text."""
+        path = self.folder / "text.red"
+        path.write_text(text, "latin-1")
+        words = [self.pmars, "-r", "0", str(path)]
+        return self.load_of(run(words).partition("\n")[2], "listing.red")
+
+    def load_of(self, text, name):
+        path = self.folder / name
+        path.write_text(text, "latin-1")
+        try:
+            return run([self.cwtune, "asm", str(path)])
+        except Fault as fault:
+            return str(fault).partition(": ")[2]
+
+
+class Progress:
+    """A line at a terminal that says how much was compared."""
+
+    def __init__(self, end):
+        self.end, self.fights, self.texts = end, 0, 0
+
+    def show(self):
+        if sys.stderr.isatty():
+            print(f"\r{self.fights} of {self.end} fights, {self.texts} texts\x1b[K", end="",
+                  file=sys.stderr, flush=True)
+
+    def clear(self):
+        if sys.stderr.isatty():
+            print("\r\x1b[K", end="", file=sys.stderr, flush=True)
+
+
+def shorter(load):
+    """Yields the load files that lack one instruction of this one, the last first."""
+    start, *lines = load.splitlines()
+    index = int(start.split()[1])
+    for k in range(len(lines) - 1, -1, -1):
+        if k != index and len(lines) > 1:
+            rest = lines[:k] + lines[k + 1:]
+            yield "\n".join([f"ORG {index - (k < index)}", *rest, ""])
+
+
+def cut(programs, rules, warriors, position, first):
+    """Takes instructions out of both warriors while the fight differs. Returns what is left."""
+    for side in (0, 1):
+        changed = True
+        while changed:
+            changed = False
+            for load in shorter(warriors[side]):
+                tried = [load if k == side else warriors[k] for k in (0, 1)]
+                if programs.differs(programs.game(rules, *tried), position, first):
+                    warriors, changed = tried, True
+                    break
+    return warriors
+
+
+def tell_fight(programs, rules, warriors, fights):
+    """Prints the first of the fights that differs: two warriors and two commands."""
+    for position, first in fights:
+        if programs.differs(programs.game(rules, *warriors), position, first):
+            break
+    else:
+        print("a series differs, and none of its fights alone")
+        return
+    warriors = cut(programs, rules, warriors, position, first)
+    game = programs.game(rules, *warriors)
+    for name, load in zip(["a.red", "b.red"], warriors):
+        print(f"{name}:\n{load}")
+    for words in [game.fight_words(programs.cwtune, position, first),
+                  game.round_words(programs.pmars, position, first)]:
+        print(" ".join(words).replace(f"{programs.folder}/", ""))
+
+
+def is_series_alike(programs, rules, warriors, seed):
+    """Compares a series of fights, and prints a fight that differs."""
+    fights = fights_of(rules, seed, ROUNDS)
+    game = programs.game(rules, *warriors)
+    points = game.points(programs.cwtune, fights)
+    counts = tuple(points.count(made) for made in (3, 1, 0))
+    theirs = game.counts(programs.pmars, seed, ROUNDS)
+    if counts == theirs:
+        return True
+    print(f"seed {seed}: wins, ties, losses {counts} here and {theirs} there")
+    tell_fight(programs, rules, list(warriors), fights)
+    return False
+
+
+def pairs_of(dice, real):
+    """Yields rules and pairs of warriors without end: random ones, and now and then real ones."""
+    pairs = itertools.cycle(itertools.product(real, real))
+    while True:
+        for _ in range(20):
+            rules = dice.choice(SMALL)
+            yield rules, (random_load(dice, rules), random_load(dice, rules))
+        yield WHOLE, next(pairs)
+        yield WHOLE, (random_load(dice, WHOLE), dice.choice(real))
+
+
+def compare_fights(programs, dice, count, progress):
+    """Plays at least `count` fights. Returns how many series differ."""
+    real = [path.read_text("ascii") for path in sorted(ROOT.glob("examples/warriors/*.load"))]
+    wrong, pairs = 0, pairs_of(dice, real)
+    while progress.fights < count:
+        rules, warriors = next(pairs)
+        seed = dice.randint(rules.distance, rules.core - rules.distance)
+        wrong += not is_series_alike(programs, rules, warriors, seed)
+        progress.fights += ROUNDS
+        progress.show()
+    return wrong
+
+
+def compare_texts(programs, dice, count, progress):
+    """Assembles the texts of the repository and random ones. Returns how many differ."""
+    texts = [path.read_text("latin-1") for folder in ["examples/warriors", "bench/warriors"]
+             for path in sorted((ROOT / folder).glob("*.red"))]
+    wrong = 0
+    for text in [*texts, *(Text(dice).text() for _ in range(count))]:
+        here, there = programs.assemble(text), programs.listing(text)
+        if here != there:
+            wrong += 1
+            print(f"{text}\nhere:\n{here}\nthere:\n{there}")
+        progress.texts += 1
+        progress.show()
+    return wrong
+
+
+def show_known(programs):
+    """Shows the known differences. Returns how many of them came otherwise than is known."""
+    wrong = 0
+    for name, rules, warriors, position, here, there in FIGHTS:
+        game = programs.game(rules, *warriors)
+        came = (game.points(programs.cwtune, [(position, "c")])[0],
+                game.round_points(programs.pmars, position, "c"))
+        wrong += came != (here, there)
+        if came != (here, there):
+            print(f"known: {name}: expected {here} here and {there} there, came {came}")
+    for name, text, here, there in TEXTS:
+        came = programs.assemble(text), programs.listing(text)
+        wrong += came != (here, there)
+        if came != (here, there):
+            print(f"known: {name}: expected {here!r} here and {there!r} there, came {came!r}")
+    return wrong
+
+
+def main():
+    parser = argparse.ArgumentParser(description=__doc__.partition("\n\n")[0],
+                                     epilog=__doc__.partition("\n\n")[2],
+                                     formatter_class=argparse.RawDescriptionHelpFormatter)
+    parser.add_argument("--seed", type=number_from(0), default=int(time.time()), metavar="S",
+                        help="the beginning of the random numbers (default: the time)")
+    parser.add_argument("--fights", type=number_from(1), default=1000, metavar="N",
+                        help="how many fights at least (default: 1000)")
+    parser.add_argument("--texts", type=number_from(0), default=100, metavar="N",
+                        help="random texts (default: 100)")
+    add_program(parser)
+    parser.add_argument("pmars", metavar="PMARS")
+    asked = parser.parse_args()
+    pmars = program_of([asked.pmars], "make pmars")
+    dice, progress = random.Random(asked.seed), Progress(asked.fights)
+    with tempfile.TemporaryDirectory() as folder:
+        programs = Programs(program_of([asked.program]), pmars, folder)
+        try:
+            wrong = compare_fights(programs, dice, asked.fights, progress)
+            wrong += compare_texts(programs, dice, asked.texts, progress)
+        finally:
+            progress.clear()
+        wrong += show_known(programs)
+    print(f"seed {asked.seed}: {progress.fights} fights, {progress.texts} texts, "
+          f"{len(FIGHTS) + len(TEXTS)} known differences: {wrong} unexpected")
+    return 1 if wrong else 0
+
+
+if __name__ == "__main__":
+    run_tool(main)

@@ -1,0 +1,78 @@
+"""What is known to differ from pMARS 0.9.2, with a fight or a text that shows each difference.
+
+docs/MACHINE.md and docs/REDCODE.md explain them.
+"""
+from author.lib.program import Rules
+
+RULES = Rules(80, 100, 8, 12, 12)
+WAITS = "ORG 0\nJMP.B $0, $0\n"
+
+# The difference, the rules, the two warriors, the position of the second, and the points of the
+# first, which moves first: here, and there.
+FIGHTS = [
+    ("an immediate B-operand is read after the A-operand", RULES, (
+        "ORG 0\nADD.A {0, #0\nJMZ.A $2, $-1\nJMP.B $0, $0\nDAT.F $0, $0\n", WAITS), 40, 1, 0),
+    ("CMP and SEQ are one opcode", RULES, (
+        "ORG 0\nSEQ.I $3, $4\nJMP.B $0, $0\nDAT.F $0, $0\nCMP.I $1, $1\nSEQ.I $1, $1\n", WAITS),
+     40, 0, 1),
+]
+
+
+def two(operands):
+    """Returns a load file of two DAT with these operands."""
+    return "ORG 0\n" + "".join(f"DAT.F {it}\n" for it in operands)
+
+
+def one(operands):
+    """Returns a load file of one DAT with these operands."""
+    return f"ORG 0\nDAT.F {operands}\n"
+
+
+def refused(words):
+    return f"refused: Asm {words}\n"
+
+
+# The difference, the text, what comes of it here, and the load file of what pMARS lists.
+TEXTS = [
+    ("a - b*c + d", "DAT 0, 5 - 2*3 + 4\n", one("$0, $3"), one("$0, $-5")),
+    ("levels of comparisons", "DAT 0, 2 == 1 < 3\n", one("$0, $0"), one("$0, $1")),
+    ("DAT with one operand", "DAT 5\n", one("$0, $5"), one("#0, $5")),
+    ("ORG and END", "ORG 0\nDAT 0, 1\nDAT 0, 2\nEND 1\n", two(["$0, $1", "$0, $2"]),
+     "ORG 1\nDAT.F $0, $1\nDAT.F $0, $2\n"),
+    ("WARRIORS", "DAT 0, WARRIORS\n", one("$0, $2"), one("$0, $1")),
+    ("a name of one letter", "DAT 0, a\n", refused("line 1 Value UnknownName"), one("$0, $0")),
+    ("a second ;redcode", ";redcode\nDAT 0, 1\n;redcode\nDAT 0, 2\n",
+     two(["$0, $1", "$0, $2"]), one("$0, $1")),
+    ("an EQU name below its count", "i FOR n\nDAT 0, 1\nROF\nDAT 0, 2\nn EQU 1\n",
+     two(["$0, $1", "$0, $2"]), one("$0, $2")),
+    ("a label twice", "x DAT 0, 1\nx DAT 0, 2\n", refused("line 2 Expand DuplicateName"),
+     one("$0, $1")),
+    ("an EQU for an opcode", "null EQU DAT\nnull 0, 1\nnull 0, 2\n",
+     refused("line 2 Expand DuplicateName"), two(["$0, $1", "$0, $2"])),
+    ("an EQU over several lines", "both EQU DAT 0, 1\nEQU DAT 0, 2\nboth\n",
+     refused("line 2 Expand BadDirective"), two(["$0, $1", "$0, $2"])),
+    ("two names before EQU", "one two EQU 5\nDAT one, two\n",
+     refused("line 1 Expand BadDirective"), one("$5, $5")),
+    ("a counter in the text of an EQU", "next EQU i+1\ni FOR 1\nDAT next, i\nROF\n",
+     refused("line 3 Value UnknownName"), one("$2, $1")),
+    ("an inner counter joined first",
+     "i FOR 1\nj FOR 1\nx&j&i DAT 0, 1\nROF\nROF\nDAT 0, x0101\n",
+     refused("line 3 UnknownOpcode"), two(["$0, $1", "$0, $-1"])),
+    ("CURLINE in a count", "DAT 0, 1\ni FOR CURLINE\nDAT 0, 2\nROF\n",
+     refused("line 2 Expand CountRefused"), two(["$0, $1", "$0, $2"])),
+    ("a label before ROF", "i FOR 1\nDAT 0, 1\nlast ROF\nDAT 0, 2\n",
+     refused("line 3 Expand BadDirective"), two(["$0, $1", "$0, $2"])),
+    ("words after ROF", "i FOR 1\nDAT 0, 1\nROF the end\n", refused("line 3 Expand BadDirective"),
+     one("$0, $1")),
+    ("a missing ROF", "i FOR 1\nDAT 0, 1\n", refused("line 1 Expand ForWithoutRof"),
+     one("$0, $1")),
+    ("a form feed", "DAT\f0, 1\n", refused("line 1 Expand Text BadByte"), one("$0, $1")),
+    ("ORG without an operand", "ORG\nDAT 0, 1\n", refused("line 1 MissingOperand"),
+     one("$0, $1")),
+    ("a mode without a number", "DAT #, 1\n", refused("line 1 Value Syntax"), one("#0, $1")),
+    ("a number that overflows", "DAT 0, 99999999999\n",
+     refused("line 1 Expand Text NumberTooLarge"), one("$0, $-1")),
+    ("a start outside of the code", "ORG 7\nDAT 0, 1\n", refused("line 0 Warrior BadStart"),
+     one("$0, $1")),
+    ("an assignment", "DAT 0, a=5\n", refused("line 1 Expand Text BadByte"), one("$0, $5")),
+]

@@ -1,0 +1,1 @@
+"""Packs and installs the program, with manual pages and completions."""

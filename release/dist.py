@@ -1,0 +1,210 @@
+"""Packs a proved build of `cwtune` for machines without the kit, installs it, or removes it:
+python3 -m release.dist tar|deb|install|uninstall FOLDER
+
+A release has the program and the commands for authors, their manual pages and completions for bash,
+zsh and fish, examples and documents, the licences, what was proved with which kit, and checksums.
+"""
+import argparse, gzip, hashlib, io, pathlib, re, shutil, subprocess, tarfile, tempfile
+
+from author.lib.endings import Fault, run_tool, whole_file
+from author.lib.program import BUILT
+
+from . import manual
+
+ROOT = pathlib.Path(__file__).resolve().parent.parent
+KIT = pathlib.Path("/opt/rattle/rattle")
+DOC, SHARE = pathlib.Path("share/doc/cwtune"), pathlib.Path("share/cwtune")
+INSTALLED = SHARE / "installed.txt"
+# Where the files go that `manual.py` writes for a command.
+MANUAL = {"{}.1": "share/man/man1/{}.1",
+          "{}.bash": "share/bash-completion/completions/{}",
+          "_{}": "share/zsh/site-functions/_{}",
+          "{}.fish": "share/fish/vendor_completions.d/{}.fish"}
+# The rooms that are shipped. Their tests need the sources.
+ROOMS = ["author", "examples"]
+LEFT_OUT = shutil.ignore_patterns("tests", "__pycache__")
+TOP = """cwtune tunes Core War warriors. Begin with share/doc/cwtune/README.md.
+
+    sha256sum --check --quiet SHA256SUMS    checks the files
+    share/doc/cwtune/PROVED                 says what was proved, and with which kit
+"""
+CONTROL = """Package: cwtune
+Version: {version}
+Architecture: amd64
+Maintainer: the cwtune project
+Depends: libc6 (>= 2.34), python3 (>= 3.11)
+Suggests: parallel, python3-matplotlib
+Section: games
+Priority: optional
+Description: tunes Core War warriors, with a certificate of the answer
+ Finds the values of a warrior's constants that total the most points against given opponents, and
+ writes a certificate that a separate checker accepts exactly if the answer is right.
+"""
+# Python leaves this beside the commands' modules, and dpkg does not know of it.
+CACHE = SHARE / "author/lib/__pycache__"
+PRERM = f"#!/bin/sh\nrm -rf /usr/{CACHE}\n"
+
+
+def proved():
+    """Returns what was proved: the kit, and a line for each crate from its check."""
+    kit = subprocess.run(["rt", "version"], capture_output=True, text=True, check=True).stdout
+    lines = [f"Proved with {kit.strip()}", ""]
+    for line in (ROOT / "crates.txt").read_text().splitlines():
+        crate = line.partition(":")[0]
+        if line[0] == "#" or crate.endswith("_tests"):
+            continue
+        done = subprocess.run(["rt", "check"], cwd=ROOT / "crates" / crate, capture_output=True,
+                              text=True)
+        found = re.findall(r"(?m)^logic=.*$", done.stdout + done.stderr)
+        if done.returncode != 0 or not found:
+            raise Fault(f"{crate} is not proved: run `make build`", 3)
+        lines.append(f"{crate}: {found[-1]}")
+    return "\n".join(lines) + "\n"
+
+
+def licences():
+    """Returns the licences of the ported crates that are linked in."""
+    names = set(re.sub(r"#.*|:", " ", (ROOT / "crates.txt").read_text()).split())
+    texts = [f"{file.parent.name}: {file.name}\n\n{file.read_text('utf-8', 'replace')}"
+             for name in sorted(names) for file in sorted(KIT.glob(f"{name}/LICENSE*"))]
+    return f"\n{'-' * 80}\n".join(texts)
+
+
+def manual_files():
+    """Yields the names of the files that `manual.py` writes, and where each goes."""
+    for command in [manual.NAME, *manual.COMMANDS]:
+        for name, place in MANUAL.items():
+            yield name.format(command), place.format(command)
+
+
+def stage(tree):
+    """Lays out the release in a folder, as below /usr or /usr/local. Returns its version."""
+    version = manual.version_of(str(BUILT))
+    for folder in ["bin", DOC, SHARE]:
+        (tree / folder).mkdir(parents=True)
+    shutil.copy(BUILT, tree / "bin/cwtune")
+    with tempfile.TemporaryDirectory() as made:
+        manual.write(str(BUILT), pathlib.Path(made))
+        for name, place in manual_files():
+            (tree / place).parent.mkdir(parents=True, exist_ok=True)
+            shutil.copy(pathlib.Path(made, name), tree / place)
+    for room in ROOMS:
+        shutil.copytree(ROOT / room, tree / SHARE / room, ignore=LEFT_OUT)
+    for name in manual.COMMANDS:
+        (tree / "bin" / name).symlink_to(pathlib.Path("..", SHARE, "author", name))
+    shutil.copytree(ROOT / "docs", tree / DOC / "docs")
+    for name in ["README.md", "CHANGELOG.md", "LICENSE"]:
+        shutil.copy(ROOT / name, tree / DOC / name)
+    (tree / DOC / "LICENSES-of-libraries").write_text(licences())
+    (tree / DOC / "PROVED").write_text(proved())
+    return version
+
+
+def files_of(tree):
+    return sorted(path for path in tree.rglob("*") if path.is_file())
+
+
+def sums(tree):
+    """Returns the checksums of the files of a tree, as `sha256sum -c` reads them."""
+    return "".join(f"{hashlib.sha256(path.read_bytes()).hexdigest()}  {path.relative_to(tree)}\n"
+                   for path in files_of(tree))
+
+
+def pack(folder):
+    """Packs the release as a tar file, with a file of its checksum. Returns the paths."""
+    with tempfile.TemporaryDirectory() as name:
+        tree = pathlib.Path(name, "tree")
+        version = stage(tree)
+        (tree / "README").write_text(TOP)
+        (tree / "SHA256SUMS").write_text(sums(tree))
+        title = f"cwtune-{version}-linux-x86_64"
+        packed = io.BytesIO()
+        with (gzip.GzipFile(fileobj=packed, mode="wb", mtime=0) as file,
+              tarfile.open(fileobj=file, mode="w") as tar):
+            for path in files_of(tree):
+                tar.add(path, f"{title}/{path.relative_to(tree)}", filter=plain)
+    tar = folder / f"{title}.tar.gz"
+    with whole_file(tar, "wb") as file:
+        file.write(packed.getvalue())
+    said = folder / f"{title}.tar.gz.sha256"
+    with whole_file(said) as file:
+        file.write(f"{hashlib.sha256(packed.getvalue()).hexdigest()}  {tar.name}\n")
+    return [tar, said]
+
+
+def plain(entry):
+    """Leaves out of a tar file who made it and when, so that the same files make the same bytes."""
+    entry.uid = entry.gid = entry.mtime = 0
+    entry.uname = entry.gname = "root"
+    return entry
+
+
+def debian(folder):
+    """Makes a Debian package. Returns its path."""
+    with tempfile.TemporaryDirectory() as name:
+        tree = pathlib.Path(name, "tree")
+        version = stage(tree / "usr")
+        (tree / "usr" / DOC / "copyright").write_text((ROOT / "LICENSE").read_text())
+        for name in manual.COMMANDS:  # which Debian's Python runs, whatever else is on the PATH
+            command = tree / "usr" / SHARE / "author" / name
+            command.write_text(command.read_text().replace("/usr/bin/env python3",
+                                                           "/usr/bin/python3", 1))
+        (tree / "DEBIAN").mkdir()
+        (tree / "DEBIAN/control").write_text(CONTROL.format(version=version))
+        (tree / "DEBIAN/prerm").write_text(PRERM)
+        (tree / "DEBIAN/prerm").chmod(0o755)
+        package = folder / f"cwtune_{version}_amd64.deb"
+        subprocess.run(["dpkg-deb", "--root-owner-group", "--build", str(tree), str(package)],
+                       check=True, stdout=subprocess.DEVNULL)
+    return [package]
+
+
+def install(prefix):
+    """Puts the release below a folder such as /usr/local, and lists there what it put."""
+    with tempfile.TemporaryDirectory() as name:
+        tree = pathlib.Path(name, "tree")
+        stage(tree)
+        (tree / INSTALLED).write_text("")
+        placed = [path.relative_to(tree) for path in files_of(tree)]
+        (tree / INSTALLED).write_text("".join(f"{path}\n" for path in placed))
+        for path in placed:
+            (prefix / path).parent.mkdir(parents=True, exist_ok=True)
+            (prefix / path).unlink(missing_ok=True)
+            shutil.copy(tree / path, prefix / path, follow_symlinks=False)
+    return [prefix / "bin/cwtune"]
+
+
+def uninstall(prefix):
+    """Removes what `install` put below the folder, and folders of its own that are empty then."""
+    try:
+        placed = (prefix / INSTALLED).read_text().splitlines()
+    except FileNotFoundError:
+        raise Fault(f"cwtune is not installed below {prefix}") from None
+    for path in placed:
+        (prefix / path).unlink(missing_ok=True)
+    shutil.rmtree(prefix / CACHE, ignore_errors=True)
+    folders = {folder for path in placed for folder in pathlib.Path(path).parents
+               if folder.is_relative_to(DOC) or folder.is_relative_to(SHARE)}
+    for folder in sorted(folders, key=lambda it: -len(it.parts)):
+        if (prefix / folder).is_dir() and not any((prefix / folder).iterdir()):
+            (prefix / folder).rmdir()
+    return []
+
+
+def main():
+    parser = argparse.ArgumentParser(description=__doc__)
+    parser.add_argument("what", choices=["tar", "deb", "install", "uninstall"])
+    parser.add_argument("folder", type=pathlib.Path,
+                        help="where the packed files go, or below which cwtune is installed")
+    asked = parser.parse_args()
+    work = {"tar": pack, "deb": debian, "install": install, "uninstall": uninstall}[asked.what]
+    if asked.what != "uninstall":
+        if not BUILT.is_file():
+            raise Fault("the program is not built (`make build` builds it)", 2)
+        asked.folder.mkdir(parents=True, exist_ok=True)
+    for path in work(asked.folder):
+        print(path)
+
+
+if __name__ == "__main__":
+    run_tool(main)

@@ -1,0 +1,281 @@
+"""Writes manual pages and completions for bash, zsh and fish into a folder: python3 -m
+release.manual FOLDER [PROGRAM]
+
+Those of `cwtune` are made from what `cwtune --help` and `cwtune COMMAND --help` print, and those of
+the commands for authors from their parsers, so they have the commands and options that there are:
+for each name NAME.1, NAME.bash, _NAME (zsh) and NAME.fish.
+"""
+import argparse, importlib, pathlib, re
+from typing import NamedTuple
+
+from author.lib.endings import Fault, run_tool
+from author.lib.program import program_of, run_program
+
+NAME = "cwtune"
+AUTHOR = pathlib.Path(__file__).resolve().parents[1] / "author"
+# The commands for authors, and the modules of author/lib/ that they are made of.
+COMMANDS = {path.name: re.search(r"import (\w+)", path.read_text())[1]
+            for path in sorted(AUTHOR.glob(f"{NAME}-*"))}
+EXAMPLES = [
+    ("Find the best setting of a template, and write its certificate:",
+     "cwtune tune bomber.red fights.csv bomber.cert dwarf.red scanner.red"),
+    ("Check the certificate:",
+     "cwtune check bomber.red fights.csv bomber.cert dwarf.red scanner.red"),
+    ("Print the load file of setting 16, the best:",
+     "cwtune asm --setting 16 bomber.red"),
+    ("Play one fight:", "cwtune fight dwarf.red scanner.red --position 4000"),
+]
+
+
+class Item(NamedTuple):
+    """A command, a word or an option, and what help says of it."""
+
+    term: str
+    text: str
+
+    def option(self):
+        """Returns the long name of an option, or nothing."""
+        found = re.search(r"--([a-z]+)", self.term)
+        return found.group(1) if found else ""
+
+    def takes_value(self):
+        return " " in self.term.replace(", ", ",")
+
+
+class Page:
+    """What a command of `cwtune` prints with `--help`."""
+
+    def __init__(self, program, *command):
+        done = run_program(program, *command, "--help", encoding="utf-8")
+        if done.returncode != 0:
+            raise Fault(f"{program} {' '.join(command)} --help: {done.stderr.strip()}", 3)
+        head, *rest = done.stdout.strip().split("\n\n")
+        self.about, self.usage, self.after, self.parts = head, [], "", {}
+        for part in rest:
+            title, _, lines = part.partition("\n")
+            if title.startswith("Usage: "):
+                self.usage = [re.sub(r"^Usage: ", "", line).strip() for line in part.split("\n")]
+            elif title.endswith(":"):
+                self.parts[title[:-1]] = [item_of(line) for line in lines.split("\n")]
+            else:
+                self.after = part
+
+    def options(self):
+        return [item for title in ("Options", "Rules") for item in self.parts.get(title, [])]
+
+
+def item_of(line):
+    term, _, text = line.strip().partition("  ")
+    return Item(term, text.strip())
+
+
+class Program:
+    """All help pages of the program."""
+
+    def __init__(self, path):
+        self.top = Page(path)
+        self.commands = {item.term: Page(path, item.term)
+                         for item in self.top.parts["Commands"] if item.term != "help"}
+
+
+class Command:
+    """What the parser of a command for authors says."""
+
+    def __init__(self, name, module):
+        parser = importlib.import_module(f"author.lib.{module}").make_parser()
+        parser.prog = name
+        about, _, rest = parser.description.partition("\n\n")
+        self.name, self.about = name, " ".join(about.split())
+        self.rest = "\n\n".join(filter(None, [rest, parser.epilog]))
+        self.usage = " ".join(parser.format_usage().split()).removeprefix("usage: ")
+        items = [(action, described(parser, action)) for action in parser._actions]
+        self.words = [item for action, item in items if not action.option_strings]
+        self.options = [item for action, item in items if action.option_strings]
+
+
+def described(parser, action):
+    """Returns an argument of a parser as an item, with its defaults put in."""
+    formatter = parser._get_formatter()
+    term = formatter._format_action_invocation(action)
+    return Item(term, formatter._expand_help(action) if action.help else "")
+
+
+def roff(text):
+    """Returns a text as lines of a manual page."""
+    text = text.replace("\\", "\\e").replace("-", "\\-").replace("`", "\\(ga")
+    return re.sub(r"(?m)^([.'])", r"\\&\1", text)
+
+
+def roff_items(items):
+    return [line for item in items
+            for line in (".TP", f".B {roff(item.term)}", roff(item.text) + ".")]
+
+
+def roff_paragraphs(text):
+    return [line for part in text.split("\n\n") if part for line in (".PP", roff(part))]
+
+
+def see_also(name):
+    """Returns the lines that name the other pages."""
+    others = [other for other in [NAME, *COMMANDS] if other != name]
+    return [".SH SEE ALSO", ", ".join(f"\\fB{roff(other)}\\fR(1)" for other in others)]
+
+
+def manual(program, version):
+    """Returns the lines of the manual page of `cwtune`."""
+    lines = [f'.TH CWTUNE 1 "" "{NAME} {version}" "User Commands"', ".SH NAME",
+             f"{NAME} \\- tune Core War warriors, with a certificate of the answer", ".SH SYNOPSIS"]
+    for page in program.commands.values():
+        lines += [line for usage in page.usage for line in (".br", f".B {roff(usage)}")]
+    lines += [".SH DESCRIPTION", roff(program.top.about)]
+    for name, page in program.commands.items():
+        lines += [f".SS {NAME} {name}", roff(page.about) + "."]
+        lines += roff_items(page.parts.get("Arguments", []))
+        lines += roff_items(item for item in page.parts["Options"] if item.option() != "help")
+    rules = next(page.parts["Rules"] for page in program.commands.values() if "Rules" in page.parts)
+    having = [name for name, page in program.commands.items() if "Rules" in page.parts]
+    lines += [".SH RULES", f"The rules of a fight, options of {', '.join(having)}."]
+    lines += roff_items(rules)
+    lines += [".SH EXIT STATUS", roff(program.top.after.partition(": ")[2]), ".SH EXAMPLES"]
+    for what, command in EXAMPLES:
+        lines += [roff(what), ".PP", ".RS", ".nf", f".B {roff(command)}", ".fi", ".RE", ".PP"]
+    return lines + see_also(NAME)
+
+
+def manual_of_command(command, version):
+    """Returns the lines of the manual page of a command for authors."""
+    about = command.about[0].lower() + command.about[1:].rstrip(".")
+    lines = [f'.TH {command.name.upper()} 1 "" "{NAME} {version}" "User Commands"', ".SH NAME",
+             f"{roff(command.name)} \\- {roff(about)}", ".SH SYNOPSIS",
+             f".B {roff(command.usage)}", ".SH DESCRIPTION", roff(command.about)]
+    lines += roff_paragraphs(command.rest)
+    lines += roff_items(item for item in command.words if item.text)
+    lines += [".SH OPTIONS", *roff_items(command.options)]
+    return lines + see_also(command.name)
+
+
+def bash(program):
+    """Returns the lines of the completion of `cwtune` for bash."""
+    names = " ".join(program.commands)
+    lines = [f"# Completes the words of {NAME} in bash.", f"_{NAME}() {{",
+             "    local word=${COMP_WORDS[COMP_CWORD]} options=", "    COMPREPLY=()",
+             "    case ${COMP_WORDS[1]} in"]
+    lines += [f'        {name}) options="{words_of(page.options())}" ;;'
+              for name, page in program.commands.items()]
+    lines += ["    esac", "    if [[ $COMP_CWORD -eq 1 ]]; then",
+              f'        COMPREPLY=($(compgen -W "{names} --help --version" -- "$word"))',
+              "    elif [[ $word == -* ]]; then",
+              '        COMPREPLY=($(compgen -W "$options" -- "$word"))',
+              "    fi", "}", "# With nothing to choose from, bash completes names of files.",
+              f"complete -o default -F _{NAME} {NAME}"]
+    return lines
+
+
+def bash_of_command(command):
+    """Returns the lines of the completion of a command for authors for bash."""
+    function = "_" + command.name.replace("-", "_")
+    return [f"# Completes the words of {command.name} in bash.", f"{function}() {{",
+            "    local word=${COMP_WORDS[COMP_CWORD]}", "    COMPREPLY=()",
+            "    if [[ $word == -* ]]; then",
+            f'        COMPREPLY=($(compgen -W "{words_of(command.options)}" -- "$word"))',
+            "    fi", "}", f"complete -o default -F {function} {command.name}"]
+
+
+def words_of(options):
+    return " ".join(f"--{item.option()}" for item in options)
+
+
+def quoted(text):
+    """Returns a text without quotes, to stand in single quotes."""
+    return text.replace("'", "").replace("`", "")
+
+
+def for_zsh(text):
+    """Returns such a text with brackets and colons escaped, as `_arguments` wants them."""
+    return re.sub(r"[\[\]:]", lambda it: "\\" + it.group(), quoted(text))
+
+
+def zsh_options(options, margin):
+    return [f"{margin}'--{item.option()}[{for_zsh(item.text)}]"
+            f"{':value:' if item.takes_value() else ''}' \\" for item in options]
+
+
+def zsh(program):
+    """Returns the lines of the completion of `cwtune` for zsh."""
+    lines = [f"#compdef {NAME}", "# Completes the words of cwtune in zsh.", "",
+             "local -a commands=("]
+    lines += [f"    '{name}:{for_zsh(page.about)}'" for name, page in program.commands.items()]
+    lines += [")", "if (( CURRENT == 2 )); then", "    _describe command commands", "    return",
+              "fi", "local command=$words[2]", "shift words", "(( CURRENT-- ))",
+              "case $command in"]
+    for name, page in program.commands.items():
+        lines.append(f"    {name}) _arguments \\")
+        lines += zsh_options(page.options(), "        ")
+        lines.append("        '*:file:_files' ;;")
+    return [*lines, "esac"]
+
+
+def zsh_of_command(command):
+    """Returns the lines of the completion of a command for authors for zsh."""
+    return [f"#compdef {command.name}", f"# Completes the words of {command.name} in zsh.", "",
+            "_arguments \\", *zsh_options(command.options, "    "), "    '*:file:_files'"]
+
+
+def fish_options(start, options):
+    return [f"{start} -l {item.option()}{' -x' if item.takes_value() else ''} "
+            f"-d '{quoted(item.text)}'" for item in options]
+
+
+def fish(program):
+    """Returns the lines of the completion of `cwtune` for fish."""
+    first = f"complete -c {NAME} -n __fish_use_subcommand"
+    lines = ["# Completes the words of cwtune in fish."]
+    for name, page in program.commands.items():
+        lines.append(f"{first} -f -a {name} -d '{quoted(page.about)}'")
+        lines += fish_options(f"complete -c {NAME} -n '__fish_seen_subcommand_from {name}'",
+                              page.options())
+    return lines
+
+
+def fish_of_command(command):
+    """Returns the lines of the completion of a command for authors for fish."""
+    return [f"# Completes the words of {command.name} in fish.",
+            *fish_options(f"complete -c {command.name}", command.options)]
+
+
+def version_of(path):
+    """Returns the version that a program prints, as 1.0.0."""
+    done = run_program(path, "--version", encoding="utf-8")
+    found = re.match(r"cwtune (\d+\.\d+\.\d+)\b", done.stdout)
+    if not found:
+        raise Fault(f"{path} --version prints no version", 3)
+    return found.group(1)
+
+
+def write(path, folder):
+    """Writes the manual pages and the completions into a folder."""
+    program, version = Program(path), version_of(path)
+    texts = {f"{NAME}.1": manual(program, version), f"{NAME}.bash": bash(program),
+             f"_{NAME}": zsh(program), f"{NAME}.fish": fish(program)}
+    for name, module in COMMANDS.items():
+        command = Command(name, module)
+        texts |= {f"{name}.1": manual_of_command(command, version),
+                  f"{name}.bash": bash_of_command(command), f"_{name}": zsh_of_command(command),
+                  f"{name}.fish": fish_of_command(command)}
+    for name, lines in texts.items():
+        (folder / name).write_text("\n".join(lines) + "\n", "utf-8")
+
+
+def main():
+    parser = argparse.ArgumentParser(description=__doc__.partition("\n\n")[0],
+                                     epilog=__doc__.partition("\n\n")[2])
+    parser.add_argument("folder", metavar="FOLDER")
+    parser.add_argument("program", nargs="?", metavar="PROGRAM", help="the program cwtune")
+    asked = parser.parse_args()
+    path, folder = program_of([asked.program] if asked.program else []), pathlib.Path(asked.folder)
+    folder.mkdir(parents=True, exist_ok=True)
+    write(path, folder)
+
+
+if __name__ == "__main__":
+    run_tool(main)

@@ -1,0 +1,157 @@
+"""Tries the release that `dist.py` makes: python3 -m release.try_release [PROGRAM]
+
+Packs, unpacks, installs and removes it in a temporary folder, and runs the program and the commands
+of each without this checkout: nothing of it is on the PATH. What was proved is not asked for again.
+The manual pages and completions have to name each command and option. Prints what failed, and as
+its last line `N passed, N failed`; the exit status is 1 if a trial failed.
+"""
+import argparse, hashlib, pathlib, re, shutil, subprocess, tarfile, tempfile
+
+from author.lib.endings import run_tool
+from author.lib.program import program_of
+from gate.tally import compare, tally
+
+from . import dist, manual
+
+BOMBER = """;redcode-94
+;@tune HOP 3000 3090 45 3045
+        ORG   split
+bomb    DAT   >1, 0
+split   SPL   #0, 0
+throw   MOV   bomb, @aim
+        ADD   #HOP, aim
+        JMP   throw
+aim     DAT   0, 3000
+"""
+# Words of a command for authors, and the beginning of what it prints.
+COMMANDS = [("cwtune-scores a.cert fights.csv --template a.red", "best setting "),
+            ("cwtune-warrior a.red a.cert", ";redcode-94\n"),
+            ("cwtune-holdout --rounds 2 a.red a.cert dwarf.red", "setting "),
+            ("cwtune-spread --jobs 2 a.red fights.csv b.cert dwarf.red", "vectors 3\n"),
+            ("cwtune-files a.red a.cert", "a.red: template of 3 settings")]
+COMPLETIONS = [("cwtune che", "check"), ("cwtune tune --ca", "--cache"),
+               ("cwtune asm --se", "--setting"), ("cwtune check --pa", "--part"),
+               ("cwtune fight --fi", "--first"), ("cwtune-scores --te", "--template"),
+               ("cwtune-spread --me", "--merge")]
+
+
+def run(words, folder, path):
+    """Runs words with nothing but the system and `path` on the PATH. Returns status and output."""
+    env = {"PATH": f"{path}:/usr/bin:/bin", "HOME": "/nonexistent", "PYTHONDONTWRITEBYTECODE": "1"}
+    done = subprocess.run(words, cwd=folder, env=env, capture_output=True, text=True)
+    return done.returncode, done.stdout + done.stderr
+
+
+def used(prefix):
+    """Yields what is wrong with a release below a prefix: a tuning, its check, and the commands."""
+    bin = prefix / "bin"
+    with tempfile.TemporaryDirectory() as folder:
+        pathlib.Path(folder, "a.red").write_text(BOMBER)
+        shutil.copy(prefix / dist.SHARE / "examples/warriors/dwarf.red", folder)
+        status, text = run(["cwtune-series", "4321", "3", "1"], folder, bin)
+        pathlib.Path(folder, "fights.csv").write_text(text)
+        words = ["a.red", "fights.csv", "a.cert", "dwarf.red"]
+        tuned = run(["cwtune", "tune", *words], folder, bin)
+        if status or tuned[0] or not tuned[1].startswith("vectors 3\n"):
+            yield f"tune: {status} {tuned}"
+        best, total = (line.split()[1] for line in tuned[1].splitlines()[2:5:2])
+        checked = run(["cwtune", "check", *words], folder, bin)
+        if checked != (0, f"accepted best {best} total {total}\n"):
+            yield f"check: {checked}"
+        for words, start in COMMANDS:
+            came = run(words.split(), folder, bin)
+            if came[0] or not came[1].startswith(start):
+                yield f"{words}: {came}"
+    for _, place in dist.manual_files():
+        if not (prefix / place).is_file():
+            yield f"no file {place}"
+
+
+def trial_of_tar(work):
+    tar, said = dist.pack(work)
+    digest = hashlib.sha256(tar.read_bytes()).hexdigest()
+    if said.read_text() != f"{digest}  {tar.name}\n":
+        yield "its checksum is another one"
+    again, _ = dist.pack(work / "again")
+    if again.read_bytes() != tar.read_bytes():
+        yield "packed twice it has other bytes"
+    with tarfile.open(tar) as file:
+        file.extractall(work, filter="data")
+    tree = work / tar.name.removesuffix(".tar.gz")
+    summed = subprocess.run(["sha256sum", "--check", "--quiet", "SHA256SUMS"], cwd=tree,
+                            capture_output=True, text=True)
+    if summed.returncode:
+        yield summed.stdout + summed.stderr
+    yield from used(tree)
+
+
+def trial_of_install(work):
+    prefix = work / "prefix"
+    (prefix / "bin").mkdir(parents=True)
+    (prefix / "bin/other").write_text("of somebody else\n")
+    dist.install(prefix)
+    yield from used(prefix)
+    dist.uninstall(prefix)
+    left = [str(path.relative_to(prefix)) for path in dist.files_of(prefix)]
+    if left != ["bin/other"]:
+        yield f"left after uninstall: {left}"
+
+
+def trial_of_package(work):
+    if not shutil.which("dpkg-deb"):
+        return
+    [package] = dist.debian(work)
+    subprocess.run(["dpkg-deb", "--extract", package, work / "system"], check=True)
+    yield from used(work / "system/usr")
+
+
+def missing(program, folder):
+    """Returns which commands and options a manual page or a completion lacks."""
+    options = {name: [name, *(item.option() for item in page.options())]
+               for name, page in manual.Program(program).commands.items()}
+    wanted = {manual.NAME: [word for words in options.values() for word in words]}
+    for name, module in manual.COMMANDS.items():
+        wanted[name] = [item.option() for item in manual.Command(name, module).options]
+    wrong = []
+    for name, words in wanted.items():
+        for file in [f"{name}.1", f"{name}.bash", f"_{name}", f"{name}.fish"]:
+            text = (folder / file).read_text("utf-8").replace("\\-", "-")
+            wrong += [f"{file} lacks {word}" for word in words if word not in text]
+    return wrong
+
+
+def pages(program):
+    """Makes the manual pages and the completions, and completes words in bash."""
+    with tempfile.TemporaryDirectory() as name:
+        folder = pathlib.Path(name)
+        manual.write(program, folder)
+        yield "each command and option of the help", missing(program, folder)
+        for line, expected in COMPLETIONS:
+            words = line.split()
+            function = "_" + re.sub("-", "_", words[0])
+            script = (f"source ./{words[0]}.bash; COMP_WORDS=({line}); COMP_CWORD="
+                      f"{len(words) - 1}; {function}; echo ${{COMPREPLY[@]}}")
+            done = subprocess.run(["bash", "-c", script], cwd=folder, capture_output=True,
+                                  text=True)
+            yield compare(f"completing {line}", f"{expected}\n", done.stdout)
+
+
+def trials():
+    yield from pages(str(dist.BUILT))
+    for trial in [trial_of_tar, trial_of_install, trial_of_package]:
+        with tempfile.TemporaryDirectory() as folder:
+            work = pathlib.Path(folder)
+            (work / "again").mkdir()
+            yield trial.__name__.replace("_", " "), list(trial(work))
+
+
+def main():
+    parser = argparse.ArgumentParser(description=__doc__.partition("\n")[0])
+    parser.add_argument("program", nargs="*", metavar="PROGRAM", help="the program cwtune")
+    dist.BUILT = pathlib.Path(program_of(parser.parse_args().program))
+    dist.proved = lambda: "not asked for in a trial\n"
+    return tally(trials())
+
+
+if __name__ == "__main__":
+    run_tool(main)
