@@ -1,5 +1,5 @@
 """How the commands end after a fault, write files and read numbers."""
-import argparse, contextlib, os, pathlib, shutil, signal, sys
+import argparse, contextlib, io, os, pathlib, shutil, signal, sys
 
 WORDS = {1: "refused", 2: "error", 3: "failed"}
 
@@ -10,6 +10,33 @@ class Fault(Exception):
     def __init__(self, message, status=1):
         super().__init__(message)
         self.status = status
+
+
+class Closed(io.RawIOBase):
+    """A standard stream that was closed before the command began."""
+
+    def writable(self):
+        return True
+
+    def write(self, _):
+        raise Fault("no standard output", 3)
+
+
+def open_streams():
+    """Sees to it that no file that is opened later takes the number of a closed standard stream.
+
+    What is then written to standard output is a fault; to standard error, it is lost.
+    """
+    while (number := os.open(os.devnull, os.O_RDWR)) < 3:
+        pass
+    os.close(number)
+    if sys.stdout is None:
+        sys.stdout = io.TextIOWrapper(Closed(), write_through=True)
+    if sys.stderr is None:
+        sys.stderr = open(os.devnull, "w")
+
+
+open_streams()
 
 
 def run_tool(main):
@@ -27,14 +54,22 @@ def run_tool(main):
     except KeyboardInterrupt:
         status = end_by(signal.SIGINT)
     except OSError as error:
-        name = f"{error.filename}: " if error.filename else ""
-        status = say("failed", f"{name}{error.strerror}", 3)
+        # Of a copy the second file is the one that is written.
+        name = error.filename2 or error.filename or "standard output"
+        status = say("failed", f"{name}: {error.strerror}", 3)
     sys.exit(status)
 
 
 def say(word, message, status):
-    """Writes a line on standard error, whatever bytes a name in it has, and returns the status."""
-    sys.stderr.buffer.write(f"{word}: {message}\n".encode(errors="surrogateescape"))
+    """Writes a line on standard error, whatever bytes a name in it has, and returns the status.
+
+    If that cannot be written, the status tells.
+    """
+    try:
+        sys.stderr.buffer.write(f"{word}: {message}\n".encode(errors="surrogateescape"))
+        sys.stderr.flush()
+    except OSError:
+        sys.stderr = open(os.devnull, "w")
     return status
 
 
@@ -59,28 +94,35 @@ def number_from(low, high=None):
 
 
 @contextlib.contextmanager
+def naming(path):
+    """Names this file in a fault of the system, whichever file that is of."""
+    try:
+        yield
+    except OSError as error:
+        raise Fault(f"{path}: {error.strerror}", 3) from None
+
+
+@contextlib.contextmanager
 def whole_file(path, mode="w"):
     """Opens a new file beside `path`, which replaces `path` once all is written to it.
 
     After a fault `path` is as it was. A device or a pipe is opened itself.
     """
     real = pathlib.Path(os.path.realpath(path))
-    if real.exists() and not real.is_file():
-        with open(path, mode) as file:
-            yield file
-        return
-    new = real.with_name(f"{real.name}.{os.getpid()}.new")
-    try:
-        file = new.open(mode)
-    except OSError as error:
-        raise Fault(f"{path}: {error.strerror}", 3) from None
-    try:
-        with file:
-            yield file
-            file.flush()
-            os.fsync(file.fileno())
-        if real.exists():
-            shutil.copymode(real, new)
-        new.replace(real)
-    finally:
-        new.unlink(missing_ok=True)
+    with naming(path):
+        if real.exists() and not real.is_file():
+            with open(path, mode) as file:
+                yield file
+            return
+        new = real.with_name(f"{real.name}.{os.getpid()}.new")
+        try:
+            with new.open(mode) as file:
+                yield file
+                file.flush()
+                os.fsync(file.fileno())
+            if real.exists():
+                shutil.copymode(real, new)
+            new.replace(real)
+        finally:
+            with contextlib.suppress(OSError):
+                new.unlink()

@@ -1,12 +1,17 @@
-"""Plays the best settings of a certificate in fresh fights, beside what they made in the tuning.
+"""Plays the best settings of a certificate and START in fresh fights, and says what was gained.
 
-A tuning picks the setting that was best in a few fights, and part of that is luck. Here the K best
-settings among those that played all fights of the tuning play R fights against each opponent, at
-random positions, with first movers in turn. For each setting a line says its total in the tuning
-and in the fresh fights, the points as a part of the greatest total, in percent, and the standard
-error of that. Give the rules and the opponents of the tuning.
+A tuning picks the setting that was best in a few fights, and part of that is luck. Here START and
+the K best settings among those that played all fights of the tuning play R fights against each
+opponent, at random positions, with first movers in turn, all of them the same. For each setting a
+line says its total in the tuning and in the fresh fights, the points as a part of the greatest
+total, in percent, and the standard error of that; then how much more than START it makes. With
+--schedule each opponent counts in the fresh fights as much as in the tuning. Give the rules and the
+opponents of the tuning.
+
+Example: cwtune-holdout my.red my.cert dwarf.red scanner.red
 """
 import argparse, math, pathlib, random, tempfile
+from typing import NamedTuple
 
 from . import tuning_files
 from .endings import Fault, number_from
@@ -15,14 +20,38 @@ from .program import EXPLAIN, add_program, add_rules, rules_of, run_program
 MOST_FIGHTS = 10000
 
 
-def best_settings(found, fights, most):
-    """Returns the settings with the greatest totals among those that played all fights."""
-    totals = []
-    for v in range(len(found.rows)):
-        points = found.points(v)
-        if points is not None and len(points) == len(fights):
-            totals.append((tuning_files.cap(points, fights), v))
-    return sorted(totals, key=lambda it: (-it[0], it[1]))[:most]
+class Fresh(NamedTuple):
+    """The points of fresh fights, a list for each opponent, and how much each opponent counts."""
+
+    points: list
+    shares: list
+
+    def mean(self):
+        """Returns the points as a part of the greatest total, in percent."""
+        means = (sum(own) / (3 * len(own)) for own in self.points)
+        return 100 * sum(map(math.prod, zip(means, self.shares))) / sum(self.shares)
+
+    def error(self):
+        """Returns the standard error of the mean, in percent."""
+        variances = (variance(own) / len(own) for own in self.points)
+        squares = (share ** 2 for share in self.shares)
+        return 100 / 3 * math.sqrt(sum(map(math.prod, zip(variances, squares)))) / sum(self.shares)
+
+    def minus(self, other):
+        """Returns the differences of the points, fight by fight."""
+        pairs = zip(self.points, other.points)
+        return Fresh([[a - b for a, b in zip(*both)] for both in pairs], self.shares)
+
+    def __str__(self):
+        """The points and their percentage; of opponents that count unlike, the percentage alone."""
+        flat = [it for own in self.points for it in own]
+        said = f"{self.mean():.1f}% +- {self.error():.1f}"
+        return f"{sum(flat)} of {3 * len(flat)} ({said})" if len(set(self.shares)) == 1 else said
+
+
+def variance(points):
+    mean = sum(points) / len(points)
+    return sum((it - mean) ** 2 for it in points) / max(1, len(points) - 1)
 
 
 def schedule_of(asked):
@@ -31,6 +60,16 @@ def schedule_of(asked):
     records = [f"{k},{dice.randint(low, asked.core - low)},{'co'[i % 2]}\n"
                for k in range(len(asked.opponent)) for i in range(asked.rounds)]
     return "opponent,position,first\n" + "".join(records)
+
+
+def shares_of(asked, fights):
+    """Returns how much each opponent counts: by its fights' weights; without a schedule alike."""
+    if not asked.schedule:
+        return [1] * len(asked.opponent)
+    if any(fight.opponent >= len(asked.opponent) for fight in fights):
+        raise Fault(f"{asked.schedule} has fights against more opponents than were given", 2)
+    return [sum(fight.weight for fight in fights if fight.opponent == k)
+            for k in range(len(asked.opponent))]
 
 
 def run(*words):
@@ -42,36 +81,44 @@ def run(*words):
     return done.stdout
 
 
-def play(asked, rules, folder, setting):
-    """Returns the points of a setting in each of the fresh fights."""
+def play(asked, rules, shares, folder, setting):
+    """Returns what a setting makes in the fresh fights."""
     load = run(asked.program, "asm", *EXPLAIN, *rules, "--setting", str(setting), asked.template)
     template, schedule, cert = (pathlib.Path(folder, name) for name in ("t.red", "s.csv", "cert"))
     template.write_bytes(b";@tune ONE 0 0 1 0\n" + load)
     schedule.write_text(schedule_of(asked))
     run(asked.program, "tune", *EXPLAIN, *rules, template, schedule, cert, *asked.opponent)
-    return tuning_files.Certificate(cert).points(0).values()
+    made = tuning_files.Certificate(cert).points(0)
+    rounds = range(asked.rounds)
+    return Fresh([[made[k * asked.rounds + i] for i in rounds] for k in range(len(shares))], shares)
 
 
-def percent(total, greatest):
-    return f"{total} of {greatest} ({100 * total / greatest:.1f}%)"
+def print_line(name, total, greatest, fresh, constants):
+    tuned = "dropped"
+    if total is not None:
+        tuned = f"{total} of {greatest} ({100 * total / greatest:.1f}%)"
+    print(f"{name}: tuning {tuned}, fresh {fresh} {constants}", flush=True)
 
 
-def error_of(points):
-    """Returns the standard error of the mean of the points, in percent of a win."""
-    mean = sum(points) / len(points)
-    spread = sum((it - mean) ** 2 for it in points) / max(1, len(points) - 1)
-    return 100 / 3 * math.sqrt(spread / len(points))
+def print_gain(setting, more):
+    """Says in words whether a setting is better than START in the fresh fights."""
+    gain, error = more.mean(), more.error()
+    said = "no difference that these fights show"
+    if abs(gain) > 2 * error:
+        said = "a gain" if gain > 0 else "a loss"
+    print(f"over the start, setting {setting}: {gain:+.1f}% +- {error:.1f}, {said}")
 
 
 def make_parser():
-    parser = argparse.ArgumentParser(description=__doc__.partition("\n\n")[0],
-                                     epilog=__doc__.partition("\n\n")[2])
+    about, *more = __doc__.split("\n\n")
+    parser = argparse.ArgumentParser(description=about, epilog="\n\n".join(more),
+                                     formatter_class=argparse.RawDescriptionHelpFormatter)
     parser.add_argument("--top", type=number_from(1), default=5, metavar="K",
-                        help="how many settings play (default: 5)")
+                        help="how many settings play, beside START [default: 5]")
     parser.add_argument("--rounds", type=number_from(1), default=100, metavar="R",
-                        help="fights against each opponent (default: 100)")
+                        help="fights against each opponent [default: 100]")
     parser.add_argument("--seed", type=number_from(0), default=1, metavar="S",
-                        help="another number gives other positions (default: 1)")
+                        help="another number gives other positions [default: 1]")
     parser.add_argument("--schedule", metavar="FILE",
                         help="the schedule of the tuning; needed if it has weights")
     add_program(parser)
@@ -89,21 +136,30 @@ def read_words():
         parser.error(f"the opponents times --rounds are more than {MOST_FIGHTS} fights")
     if asked.distance > asked.core - asked.distance:
         parser.error("--distance is more than half of --core")
-    return parser, asked
+    return asked
 
 
 def main():
-    parser, asked = read_words()
-    template, found = tuning_files.Template(asked.template), tuning_files.Certificate(asked.cert)
-    if len(template.settings) != len(found.rows):
-        parser.error("the certificate is not of that template")
+    asked = read_words()
+    found = tuning_files.Certificate(asked.cert)
+    template = tuning_files.Template(asked.template).of(found)
     fights = found.fights(asked.schedule)
-    rules = rules_of(asked).words()
-    best = best_settings(found, fights, asked.top)
+    rules, shares = rules_of(asked).words(), shares_of(asked, fights)
+    full, dropped = found.ranked(fights)
     with tempfile.TemporaryDirectory() as folder:
-        for total, setting in best:
-            points = list(play(asked, rules, folder, setting))
-            fresh = percent(sum(points), 3 * len(points))
-            print(f"setting {setting}: tuning {percent(total, tuning_files.greatest(fights))}, "
-                  f"fresh {fresh[:-1]} +- {error_of(points):.1f}) {template.constants(setting)}",
-                  flush=True)
+        made = {}
+        for total, v in full[: asked.top]:
+            made[v] = play(asked, rules, shares, folder, v)
+            print_line(f"setting {v}", total, fights.greatest, made[v], template.constants(v))
+        start, total = template.start, found.total_of(template.start, fights)
+        if found.points(start) is not None:
+            made[start] = made.get(start) or play(asked, rules, shares, folder, start)
+            print_line(f"start {start}", total, fights.greatest, made[start],
+                       template.constants(start))
+    if start not in made:
+        print(f"start {start}: does not assemble")
+    elif start != found.best:
+        print_gain(found.best, made[found.best].minus(made[start]))
+    if dropped:
+        print(f"{dropped} settings were dropped; one of these may be better than all but setting "
+              f"{found.best} (tune --all)")

@@ -1,9 +1,13 @@
 """Draws the totals of a tuning over its constants, as an SVG or a PNG file by the name's end.
 
 One constant is a line, two are a map of colours, more are a map for each choice of the constants
-before the last two. A setting that was dropped has no total, so it is grey: a square of a map, or a
-triangle on a line, as high as its total can be at most. The best setting is a star; a setting that
-does not assemble is left white. Needs matplotlib (Debian: python3-matplotlib).
+beside the two axes. A setting that was dropped has no total, so it is grey: a square of a map,
+lighter if its total can be greater, or a triangle on a line, as high as its total can be at most.
+The best setting is a star; a setting that does not assemble is left white. A second picture shows
+for each constant the mean total of each of its values, with its standard error; it needs every
+total, so a certificate of `cwtune tune --all`. Needs matplotlib (Debian: python3-matplotlib).
+
+Example: cwtune-landscape my.red my.cert totals.png --effects effects.png
 """
 import argparse, itertools, math, sys
 
@@ -27,54 +31,74 @@ def load_pyplot():
     return matplotlib.pyplot
 
 
-def read_caps(found, fights):
-    """Returns for each setting its cap and whether it was dropped, or None if it has no warrior."""
-    caps = []
-    for v in range(len(found.rows)):
-        points = found.points(v)
-        dropped = points is not None and len(points) < len(fights)
-        caps.append(None if points is None else (tuning_files.cap(points, fights), dropped))
-    return caps
+class Table:
+    """The totals of all settings, those of dropped settings being the greatest that they may be.
+
+    `totals` and `caps` have not-a-number where a setting has none; `best` is the setting of the
+    certificate.
+    """
+
+    def __init__(self, template, found, fights, opponent):
+        self.template, self.best = template, found.best
+        self.fights = fights
+        counted = None if opponent is None else {
+            i for i, fight in enumerate(fights) if fight.opponent == opponent}
+        self.greatest = fights.greatest if counted is None else 3 * sum(
+            fights[i].weight for i in counted)
+        self.totals, self.caps = [], []
+        for v in range(len(found.rows)):
+            points = found.points(v)
+            cap = self.cap(points, counted)
+            played = points is not None and (
+                len(points) == len(fights) if counted is None else counted <= points.keys())
+            self.totals.append(cap if played else math.nan)
+            self.caps.append(math.nan if played else cap)
+
+    def cap(self, points, counted):
+        """Returns the greatest total that a setting with these points can have in these fights."""
+        if points is None:
+            return math.nan
+        if counted is None:
+            return tuning_files.cap(points, self.fights)
+        lost = sum((3 - made) * self.fights[i].weight for i, made in points.items() if i in counted)
+        return self.greatest - lost
+
+    def greys(self):
+        """Returns the scale of the greys of dropped settings, or nothing if there are none."""
+        caps = [cap for cap in self.caps if not math.isnan(cap)]
+        if not caps:
+            return {}
+        low, high = min(caps), max(caps)
+        # The least cap is a middle grey, and the greatest a light one.
+        step = max(1, high - low)
+        return {"vmin": low - 2 * step, "vmax": low + 1.3 * step, "cmap": "Greys_r"}
 
 
-def total_of(cap):
-    """Returns the total of a setting, or a number that is not drawn if it has none."""
-    return math.nan if cap is None or cap[1] else cap[0]
-
-
-def draw_line(plot, template, found, caps):
+def draw_line(plot, table):
     """Draws the totals over one constant."""
     figure, axes = plot.subplots(figsize=(8, 4.5))
-    values = template.values[0]
-    axes.plot(values, list(map(total_of, caps)), color="C0", linewidth=1, zorder=1)
-    for is_dropped, marker, colour, label in [(False, "o", "C0", "total"),
-                                              (True, "v", GREY, "dropped: at most this total")]:
-        some = [v for v, cap in enumerate(caps) if cap and cap[1] == is_dropped]
-        if some:
-            axes.scatter([values[v] for v in some], [caps[v][0] for v in some], marker=marker,
-                         color=colour, label=label, zorder=2)
-    axes.scatter([values[found.best]], [found.total], marker="*", s=220, color="C3",
-                 label=f"best: {template.constants(found.best)}", zorder=3)
-    axes.set_xlabel(template.names[0])
+    values = table.template.values[0]
+    axes.plot(values, table.totals, color="C0", linewidth=1, zorder=1)
+    for heights, marker, colour, label in [(table.totals, "o", "C0", "total"),
+                                           (table.caps, "v", GREY, "dropped: at most this total")]:
+        if not all(map(math.isnan, heights)):
+            axes.scatter(values, heights, marker=marker, color=colour, label=label, zorder=2)
+    axes.scatter([values[table.best]], [table.totals[table.best]], marker="*", s=220, color="C3",
+                 label=f"best: {table.template.constants(table.best)}", zorder=3)
+    axes.set_xlabel(table.template.names[0])
     axes.set_ylabel("points")
     axes.legend()
     return figure
 
 
-def draw_map(axes, template, caps, offset, scale):
-    """Draws one map over the last two constants, whose first setting is `offset`."""
-    from matplotlib.patches import Rectangle
-    rows, columns = (len(values) for values in template.values[-2:])
-    cells = caps[offset:offset + rows * columns]
-    colours = [list(map(total_of, cells[k * columns:][:columns])) for k in range(rows)]
-    image = axes.imshow(colours, origin="lower", aspect="auto", cmap="viridis", **scale)
-    for k, cell in enumerate(cells):
-        if cell and cell[1]:
-            corner = (k % columns - 0.5, k // columns - 0.5)
-            axes.add_patch(Rectangle(corner, 1, 1, facecolor=GREY, linewidth=0))
-    ticks(axes.set_xticks, template.values[-1])
-    ticks(axes.set_yticks, template.values[-2])
-    return image
+def squares(plot, table, x, y):
+    """Returns totals and caps as arrays whose last two dimensions are those of y and x."""
+    import numpy
+    sizes = [len(values) for values in table.template.values]
+    others = [k for k in range(len(sizes)) if k not in (x, y)]
+    arrays = (numpy.array(heights).reshape(sizes).transpose([*others, y, x])
+              for heights in (table.totals, table.caps))
+    return [array.reshape(-1, sizes[y], sizes[x]) for array in arrays], others
 
 
 def ticks(set_ticks, values):
@@ -83,59 +107,129 @@ def ticks(set_ticks, values):
     set_ticks(list(places), [str(values[place]) for place in places])
 
 
-def draw_maps(plot, template, found, caps):
-    """Draws a map for each choice of the constants before the last two."""
-    size = len(template.values[-1]) * len(template.values[-2])
-    choices = list(itertools.product(*template.values[:-2]))
-    if len(choices) > MOST_MAPS:
-        raise Fault(f"{len(choices)} maps; at most {MOST_MAPS} can be read")
-    columns = math.ceil(math.sqrt(len(choices)))
-    rows = math.ceil(len(choices) / columns)
+def grid_of(plot, count):
+    """Returns a figure with room for `count` maps, and the axes of these."""
+    if count > MOST_MAPS:
+        raise Fault(f"{count} maps; at most {MOST_MAPS} can be read")
+    columns = math.ceil(math.sqrt(count))
+    rows = math.ceil(count / columns)
     figure, grid = plot.subplots(rows, columns, squeeze=False, layout="constrained",
                                  figsize=(max(8, 3.6 * columns), max(5, 3 * rows)))
-    totals = [cap[0] for cap in caps if cap and not cap[1]]
-    scale = {"vmin": min(totals), "vmax": max(totals)}
-    for axes in grid.flat[len(choices):]:
+    for axes in grid.flat[count:]:
         axes.axis("off")
-    for number, (axes, choice) in enumerate(zip(grid.flat, choices)):
-        image = draw_map(axes, template, caps, number * size, scale)
-        axes.set_title(" ".join(f"{n}={v}" for n, v in zip(template.names, choice)), fontsize=9)
-        axes.set_xlabel(template.names[-1])
-        axes.set_ylabel(template.names[-2])
-        if found.best // size == number:
-            y, x = divmod(found.best % size, len(template.values[-1]))
-            axes.plot([x], [y], marker="*", markersize=16, color="red", markeredgecolor="white")
-    label = "total" if len(totals) == len(list(filter(None, caps))) else "total (grey: dropped)"
+    return figure, list(grid.flat[:count]), grid
+
+
+def draw_maps(plot, table, x, y):
+    """Draws a map over the constants x and y for each choice of the others."""
+    names, values = table.template.names, table.template.values
+    (totals, caps), others = squares(plot, table, x, y)
+    figure, maps, grid = grid_of(plot, len(totals))
+    numbers = [total for total in table.totals if not math.isnan(total)]
+    scale, greys = {"origin": "lower", "aspect": "auto"}, table.greys()
+    best = table.template.settings[table.best]
+    for axes, choice, own, dropped in zip(
+            maps, itertools.product(*(values[k] for k in others)), totals, caps):
+        if greys:
+            axes.imshow(dropped, **greys, **scale)
+        image = axes.imshow(own, cmap="viridis", vmin=min(numbers), vmax=max(numbers), **scale)
+        ticks(axes.set_xticks, values[x])
+        ticks(axes.set_yticks, values[y])
+        axes.set_title(" ".join(f"{names[k]}={it}" for k, it in zip(others, choice)), fontsize=9)
+        axes.set_xlabel(names[x])
+        axes.set_ylabel(names[y])
+        if all(best[k] == it for k, it in zip(others, choice)):
+            axes.plot([values[x].index(best[x])], [values[y].index(best[y])], marker="*",
+                      markersize=16, color="red", markeredgecolor="white")
+    label = "total (grey: dropped)" if greys else "total"
     figure.colorbar(image, ax=grid, label=label)
     return figure
 
 
+def draw_effects(plot, table):
+    """Draws for each constant the mean total of each of its values, with its standard error."""
+    if table.greys():
+        raise Fault("settings were dropped: the means need a certificate of `cwtune tune --all`")
+    template = table.template
+    figure, grid, _ = grid_of(plot, len(template.names))
+    for place, (axes, name) in enumerate(zip(grid, template.names)):
+        groups = {value: [] for value in template.values[place]}
+        for total, setting in zip(table.totals, template.settings):
+            if not math.isnan(total):
+                groups[setting[place]].append(total)
+        groups = {value: totals for value, totals in groups.items() if totals}
+        means = [sum(totals) / len(totals) for totals in groups.values()]
+        errors = [error_of(totals, mean) for totals, mean in zip(groups.values(), means)]
+        axes.errorbar(list(groups), means, errors, marker="o", linewidth=1, capsize=2)
+        axes.set_xlabel(name)
+        axes.set_ylabel("mean total")
+    return figure
+
+
+def error_of(totals, mean):
+    """Returns the standard error of a mean."""
+    squares = sum((total - mean) ** 2 for total in totals)
+    return math.sqrt(squares / max(1, len(totals) - 1) / len(totals))
+
+
+def axes_of(parser, asked, names):
+    """Returns the places of the constants that are the axes, from left to right and upwards."""
+    if asked.axes is None:
+        return len(names) - 1, len(names) - 2
+    wanted = asked.axes.split(",")
+    if len(wanted) != 2 or wanted[0] == wanted[1] or not set(wanted) <= set(names):
+        parser.error(f"--axes takes two of the constants {', '.join(names)}, as in A,B")
+    return names.index(wanted[0]), names.index(wanted[1])
+
+
 def make_parser():
-    parser = argparse.ArgumentParser(description=__doc__.split("\n\n")[0],
-                                     epilog=__doc__.split("\n\n")[1])
+    about, *more = __doc__.split("\n\n")
+    parser = argparse.ArgumentParser(description=about, epilog="\n\n".join(more),
+                                     formatter_class=argparse.RawDescriptionHelpFormatter)
     for name in ["template", "cert"]:
-        parser.add_argument(name)
-    parser.add_argument("picture", help="a name that ends with .png or .svg")
-    parser.add_argument("--schedule", help="the schedule; needed if it has weights")
+        parser.add_argument(name, metavar=name.upper())
+    parser.add_argument("picture", metavar="PICTURE", help="a name that ends with .png or .svg")
+    parser.add_argument("--schedule", metavar="FILE",
+                        help="the schedule; needed for --opponent, or if it has weights")
+    parser.add_argument("--axes", metavar="A,B", help="the constants from left to right and "
+                        "upwards [default: the last two, the last from left to right]")
+    parser.add_argument("--opponent", type=int, metavar="N",
+                        help="count the fights against opponent N alone")
+    parser.add_argument("--effects", metavar="PICTURE",
+                        help="draw the mean total of each value of each constant, too")
     return parser
+
+
+def save(figure, title, path):
+    """Writes a picture under its title."""
+    figure.suptitle(title, fontsize=11)
+    kind = path[-3:]
+    date = {"Date": None} if kind == "svg" else None
+    with whole_file(path, "wb") as file:
+        figure.savefig(file, format=kind, dpi=110, metadata=date)
 
 
 def main():
     parser = make_parser()
     asked = parser.parse_args()
-    kind = asked.picture[-4:]
-    if kind not in (".png", ".svg"):
-        parser.error(f"the picture's name has to end with .png or .svg: {asked.picture}")
-    template = tuning_files.Template(asked.template)
+    for picture in filter(None, [asked.picture, asked.effects]):
+        if picture[-4:] not in (".png", ".svg"):
+            parser.error(f"the picture's name has to end with .png or .svg: {picture}")
     found = tuning_files.Certificate(asked.cert)
+    template = tuning_files.Template(asked.template)
     if not template.names or len(template.settings) != len(found.rows):
         parser.error("the template has no constants, or the certificate is not of that template")
     fights = found.fights(asked.schedule)
-    plot = load_pyplot()
-    draw = draw_line if len(template.names) == 1 else draw_maps
-    figure = draw(plot, template, found, read_caps(found, fights))
-    figure.suptitle(f"best {found.best}: {template.constants(found.best)}, total {found.total} "
-                    f"of {tuning_files.greatest(fights)}", fontsize=11)
-    with whole_file(asked.picture, "wb") as file:
-        date = {"Date": None} if kind == ".svg" else None
-        figure.savefig(file, format=kind[1:], dpi=110, metadata=date)
+    if asked.opponent is not None and not (
+            asked.schedule and any(fight.opponent == asked.opponent for fight in fights)):
+        parser.error("--opponent names an opponent of --schedule, from 0")
+    table = Table(template, found, fights, asked.opponent)
+    plot, places = load_pyplot(), axes_of(parser, asked, template.names)
+    title = (f"best {found.best}: {template.constants(found.best)}, total {found.total} of "
+             f"{fights.greatest}")
+    if asked.opponent is not None:
+        title += f"\nthe fights against opponent {asked.opponent}"
+    alone = len(template.names) == 1
+    save(draw_line(plot, table) if alone else draw_maps(plot, table, *places), title, asked.picture)
+    if asked.effects:
+        save(draw_effects(plot, table), title, asked.effects)

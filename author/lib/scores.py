@@ -1,8 +1,15 @@
-"""Prints what a certificate says of each opponent, of the best settings and of the constants."""
-import argparse
+"""Prints what a certificate says of each opponent, of the best settings and of the constants.
+
+Example: cwtune-scores my.cert fights.csv --template my.red
+"""
+import argparse, concurrent.futures, contextlib, os
 
 from . import tuning_files
-from .endings import number_from
+from .endings import Fault, number_from
+from .program import add_program, add_rules, load_of, rules_of
+
+# Of more settings it is not found out which make one warrior.
+MOST_ASSEMBLED = 2000
 
 
 def print_scores(title, points, fights):
@@ -17,67 +24,99 @@ def print_scores(title, points, fights):
         score = sum(points[i] * fight.weight for i, fight in own if i in points)
         left = f", {len(own) - len(made)} not played" if len(made) < len(own) else ""
         wins, ties, losses = (made.count(kind) for kind in (3, 1, 0))
-        most = tuning_files.greatest([fight for _, fight in own])
+        most = 3 * sum(fight.weight for _, fight in own)
         print(f"    opponent {opponent}: {wins} wins {ties} ties {losses} losses, "
               f"{score} of {most}{left}")
 
 
+def print_start(found, fights, template):
+    """Prints what the start setting made, and how much less than the best."""
+    total = found.total_of(template.start, fights)
+    said = "" if total is None else f", total {total}, {found.total - total} less than the best"
+    print_scores(f"start setting {template.start}{said} {template.constants(template.start)}",
+                 found.points(template.start), fights)
+
+
 def print_best(found, fights, template, most):
     """Prints the settings with the greatest totals among those that played all fights."""
-    played = [(v, found.points(v)) for v in range(len(found.rows))]
-    totals = [(-tuning_files.cap(points, fights), v) for v, points in played
-              if points is not None and len(points) == len(fights)]
-    cut = sum(points is not None and len(points) < len(fights) for _, points in played)
-    print(f"best of {len(totals)} settings that played all fights ({cut} were dropped before)")
-    for total, v in sorted(totals)[:most]:
+    full, dropped = found.ranked(fights)
+    if dropped:
+        print(f"{len(full)} settings played all fights, {dropped} were dropped")
+        print("    one of those dropped may be better than all but the best (tune --all)")
+    else:
+        print(f"best of {len(full)} settings")
+    for total, v in full[:most]:
         constants = f" {template.constants(v)}" if template else ""
-        print(f"    setting {v}: total {-total}{constants}")
+        print(f"    setting {v}: total {total}{constants}")
 
 
-def print_idle(found, template):
-    """Prints for each constant in how many choices of the others all its values make one warrior.
+class Warriors:
+    """Which settings make one warrior: by their rows, and else by what they assemble to."""
 
-    Only `same` rows show it: equal warriors that the tuner had forgotten are not seen.
-    """
+    def __init__(self, found, asked):
+        self.found, self.loads = found, {}
+        if len(found.rows) <= MOST_ASSEMBLED:
+            words = [*rules_of(asked).words(), "--setting"]
+            alone = [v for v, row in enumerate(found.rows) if row[0] == "cap"]
+            load = lambda v: load_of(asked.program, *words, str(v), asked.template)[0]
+            with (contextlib.suppress(Fault),
+                  concurrent.futures.ThreadPoolExecutor(os.cpu_count()) as pool):
+                self.loads = dict(zip(alone, pool.map(load, alone)))
+
+    def are_one(self, settings):
+        """Returns whether these settings make one warrior, or None if that is not known."""
+        if any(self.found.rows[v][0] == "refused" for v in settings):
+            return False
+        twins = sorted({self.found.twin(v) for v in settings})
+        if len(twins) == 1:
+            return True
+        loads = {self.loads.get(v) for v in twins}
+        return None if None in loads or b"" in loads else len(loads) == 1
+
+
+def print_idle(template, warriors):
+    """Prints for each constant in how many choices of the others all its values make one
+    warrior."""
     print("choices of the other constants in which all values make one warrior")
     for place, name in enumerate(template.names):
         groups = {}
         for v, values in enumerate(template.settings):
-            others = values[:place] + values[place + 1:]
-            twin = v if found.rows[v][0] != "refused" else None
-            groups.setdefault(others, set()).add(twin if twin is None else found.twin(v))
-        one = sum(len(group) == 1 and None not in group for group in groups.values())
-        idle = len(template.values[place]) > 1
-        said = "only one value" if not idle else f"{one} of {len(groups)}"
-        print(f"    {name}: {said}" + (", changes nothing" if idle and one == len(groups) else ""))
+            groups.setdefault(values[:place] + values[place + 1:], []).append(v)
+        alike = [warriors.are_one(group) for group in groups.values()]
+        said = f"{alike.count(True)} of {len(groups)}"
+        if len(template.values[place]) == 1:
+            said = "only one value"
+        elif None in alike:
+            said += f", {alike.count(None)} not known"
+        elif all(alike):
+            said += ", changes nothing"
+        print(f"    {name}: {said}")
 
 
 def make_parser():
-    parser = argparse.ArgumentParser(description=__doc__)
-    parser.add_argument("cert")
-    parser.add_argument("schedule")
-    parser.add_argument("--template", help="names constants, and shows the start setting too")
-    parser.add_argument("--most", type=number_from(1), default=10, metavar="N",
+    parser = argparse.ArgumentParser(description=__doc__.partition("\n\n")[0],
+                                     epilog=__doc__.partition("\n\n")[2])
+    parser.add_argument("cert", metavar="CERT")
+    parser.add_argument("schedule", metavar="SCHEDULE")
+    parser.add_argument("--template", metavar="FILE",
+                        help="names constants, and shows the start setting too")
+    parser.add_argument("--top", type=number_from(1), default=10, metavar="K",
                         help="how many of the best settings [default: 10]")
+    add_program(parser)
+    add_rules(parser)
     return parser
 
 
 def main():
-    parser = make_parser()
-    asked = parser.parse_args()
+    asked = make_parser().parse_args()
     found = tuning_files.Certificate(asked.cert)
     fights = found.fights(asked.schedule)
-    template = tuning_files.Template(asked.template) if asked.template else None
-    if template and len(template.settings) != len(found.rows):
-        parser.error("the certificate is not of that template")
-    most = tuning_files.greatest(fights)
+    template = tuning_files.Template(asked.template).of(found) if asked.template else None
     constants = f" {template.constants(found.best)}" if template else ""
-    print_scores(f"best setting {found.best}, total {found.total} of {most}{constants}",
+    print_scores(f"best setting {found.best}, total {found.total} of {fights.greatest}{constants}",
                  found.points(found.best), fights)
     if template:
-        start = template.start
-        print_scores(f"start setting {start} {template.constants(start)}",
-                     found.points(start), fights)
-    print_best(found, fights, template, asked.most)
+        print_start(found, fights, template)
+    print_best(found, fights, template, asked.top)
     if template:
-        print_idle(found, template)
+        print_idle(template, Warriors(found, asked))

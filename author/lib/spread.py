@@ -11,14 +11,19 @@ inputs are refused.
 
 Exit status, as that of `cwtune`: 0 done; 1 an input is refused, or CERT rejected; 2 usage error, or
 CERT.parts is of other inputs; 3 a part has no result, or a file cannot be read or written.
+
+Example: cwtune-spread --jobs 4 my.red fights.csv my.cert dwarf.red scanner.red
 """
 import argparse, os, shutil, signal, sys, time
 
-from .endings import Fault, number_from, whole_file
+from . import tuning_files
+from .endings import Fault, naming, number_from, whole_file
 from .program import EXPLAIN, add_program, add_rules, rules_of, run_program
 from .spread_jobs import Here, Hosts
 from .spread_parts import Folder, Jobs
 
+# Seconds from a line in a log to the next.
+PAUSE = 60
 NO_SUCH_PART = b"error: --part I/K: the template has fewer than K settings\n"
 
 
@@ -38,6 +43,12 @@ def make_parser():
                         "together the K parts that jobs of a cluster wrote: CERT.1 .. CERT.K")
     parser.add_argument("--check", action="store_true",
                         help="let `cwtune check` check the certificate before it is written")
+    parser.add_argument("--all", action="store_true",
+                        help="play every fight of every setting, as `cwtune tune --all`")
+    parser.add_argument("--progress", action="store_true",
+                        help="print a line a minute on standard error, if it is not a terminal")
+    parser.add_argument("--explain", action="store_true",
+                        help="explain a refusal, and tell of START, as at a terminal")
     add_program(parser)
     parser.add_argument("--cache", type=int, default=4096, metavar="N", help="as for `cwtune`")
     add_rules(parser)
@@ -59,12 +70,21 @@ def refuse_faults(args):
     A template has at most a million settings. So if nothing else is wrong, `tune` looks at all
     inputs, says that there is no such part, and plays no fight.
     """
-    words = [f"--part=1/{2 ** 32 - 1}", *EXPLAIN, *rules_of(args).words(), f"--cache={args.cache}",
-             "--"]
-    done = run_program(args.program, "tune", *words, args.template, args.schedule, args.cert,
-                       *args.opponents)
+    done = tune_part(args, f"1/{2 ** 32 - 1}")
     if NO_SUCH_PART not in done.stderr:
         end_as(done)
+
+
+def tune_part(args, part):
+    """Runs the tuning of a part as `tune` alone does."""
+    explain = ["--explain"] if args.explain or EXPLAIN else []
+    return run_program(args.program, "tune", f"--part={part}", *explain, *options_of(args), "--",
+                       args.template, args.schedule, args.cert, *args.opponents)
+
+
+def options_of(args):
+    """Returns the rules and the method of the tuning as options of `tune`."""
+    return [*rules_of(args).words(), "--all" if args.all else f"--cache={args.cache}"]
 
 
 def count_settings(args):
@@ -76,10 +96,11 @@ def count_settings(args):
 
 
 class Progress:
-    """The parts that are done, and the line at a terminal that says how far all is."""
+    """The parts that are done, and the line that says how far all is: at a terminal, and with
+    `in_log` once a minute elsewhere."""
 
-    def __init__(self, folder):
-        self.folder, self.shown = folder, ""
+    def __init__(self, folder, in_log):
+        self.folder, self.in_log, self.shown, self.told = folder, in_log, "", -PAUSE
         self.parts = {n: folder.part(n) for n in range(1, folder.parts + 1)}
         self.todo = [n for n, part in self.parts.items() if part is None]
         self.begun, self.before = time.monotonic(), self.settings()
@@ -93,6 +114,9 @@ class Progress:
     def show(self):
         """Rewrites the line if it says something new, cut to the width of the terminal."""
         if not sys.stderr.isatty():
+            if self.in_log and time.monotonic() - self.told >= PAUSE:
+                print(self.line(), file=sys.stderr, flush=True)
+                self.told = time.monotonic()
             return
         width = os.get_terminal_size(sys.stderr.fileno()).columns or 80
         line = self.line()[:width - 1]
@@ -108,13 +132,13 @@ class Progress:
         done, settings, folder = self.done(), self.settings(), self.folder
         line = (f"{len(done)} of {folder.parts} parts, {settings} of {folder.count} settings, "
                 f"{summed(done, 'fights', 0)} fights")
-        if any(part.report for part in done):
-            best = best_of(done)
-            line += f", best {index_of(best)} total {total_of(best)}"
         if settings > self.before:
             seconds = time.monotonic() - self.begun
             left = int(seconds * (folder.count - settings) / (settings - self.before))
             line += f", {left // 60}:{left % 60:02} left"
+        if any(part.report for part in done):
+            best = best_of(done)
+            line += f", best {index_of(best)} total {total_of(best)} {best.report['constants']}"
         return line
 
 
@@ -193,8 +217,7 @@ def check(args, folder):
 
 def tune_parts(args, folder, progress):
     """Runs the parts that are not done. Returns for each its fault, or None if it has a result."""
-    options = [*rules_of(args).words(), f"--cache={args.cache}"]
-    jobs = (Hosts if args.hosts else Here)(args, folder, options, progress.todo)
+    jobs = (Hosts if args.hosts else Here)(args, folder, options_of(args), progress.todo)
     faults = {}
     try:
         progress.show()
@@ -235,14 +258,27 @@ def finish(args, folder, progress):
     """Puts the parts together, writes CERT and prints the report."""
     if not any(part.report for part in progress.done()):
         folder.end()
-        raise Fault("NoCandidate")
-    write_whole(folder, progress.parts)
+        end_as(tune_part(args, f"1/{folder.parts}"))
+    with naming(folder.told):
+        write_whole(folder, progress.parts)
     verdict = check(args, folder) if args.check else ""
     with whole_file(args.cert) as file, folder.whole().open() as whole:
         shutil.copyfileobj(whole, file)
+    tell_start(args)
     print(*report_of(progress.done(), folder.count), sep="\n")
     print(verdict, end="", flush=True)
     folder.end()
+
+
+def tell_start(args):
+    """Says on standard error what START made, if it played all fights and somebody asks."""
+    if not (args.explain or EXPLAIN):
+        return
+    found, template = tuning_files.Certificate(args.cert), tuning_files.Template(args.template)
+    total = found.total_of(template.start, tuning_files.read_schedule(args.schedule))
+    if total is not None:
+        print(f"  start {template.start} total {total} {template.constants(template.start)}",
+              file=sys.stderr)
 
 
 def main():
@@ -253,12 +289,12 @@ def main():
     count = count_settings(args)
     if args.merge:
         folder = Jobs(args, count)
-        progress = Progress(folder)
+        progress = Progress(folder, args.progress)
         say_missing(folder, progress, {})
         finish(args, folder, progress)
         return
     folder = Folder(args, count)
-    progress = Progress(folder)
+    progress = Progress(folder, args.progress)
     try:
         faults = tune_parts(args, folder, progress)
         say_missing(folder, progress, faults)

@@ -49,8 +49,8 @@ def fingerprint(args, paths):
     """Returns a value for each thing that the parts depend on. The paths are in the order of
     `names_of`."""
     program, template, schedule, *opponents = map(hash_of, paths)
-    return {"template": template, "schedule": schedule, "opponents": opponents,
-            "rules": rules_of(args)._asdict(), "cache": args.cache, "program": program}
+    return {"template": template, "schedule": schedule, "opponents": opponents, "program": program,
+            "rules": rules_of(args)._asdict(), "cache": "all" if args.all else args.cache}
 
 
 def names_of(args):

@@ -3,7 +3,7 @@
 A file that is none of these is refused in a few words; what exactly is wrong with it, `cwtune`
 says.
 """
-import argparse, csv, itertools, math, pathlib, re
+import argparse, csv, functools, itertools, math, pathlib, re
 from typing import NamedTuple
 
 from .endings import Fault
@@ -13,6 +13,7 @@ template otherwise."""
 HEADER = ["opponent", "position", "first"]
 BLANKS = b" \t\r"
 MOST_SETTINGS = 1000000
+MOST_BYTES = 65536
 
 
 class Fight(NamedTuple):
@@ -22,11 +23,23 @@ class Fight(NamedTuple):
     weight: int
 
 
+class Fights(list):
+    """The fights of a schedule, in order."""
+
+    @functools.cached_property
+    def greatest(self):
+        """The total of a setting that wins all fights."""
+        return 3 * sum(fight.weight for fight in self)
+
+
 class Template:
     """The constants of a template and its settings; the first constant changes slowest."""
 
     def __init__(self, path):
-        lines = enumerate(pathlib.Path(path).read_bytes().split(b"\n"), 1)
+        text = pathlib.Path(path).read_bytes()
+        if len(text) > MOST_BYTES or b"\0" in text or not text.strip():
+            raise Fault(f"{path}: not a template, a schedule or a certificate")
+        lines = enumerate(text.split(b"\n"), 1)
         ranges = [read_range(path, *line) for line in lines if is_range_line(line[1])]
         self.names = [name for name, _, _ in ranges]
         self.values = [values for _, values, _ in ranges]
@@ -40,6 +53,12 @@ class Template:
         pairs = zip(self.names, self.settings[v])
         return " ".join(f"{name}={value}" for name, value in pairs) or "-"
 
+    def of(self, found):
+        """Returns this template, which has to have as many settings as a certificate has rows."""
+        if len(self.settings) != len(found.rows):
+            raise Fault("the certificate is not of that template", 2)
+        return self
+
 
 class Certificate:
     """The rows of a certificate. `rows[v]` is ("refused", None), ("same", u) or ("cap", points)."""
@@ -47,11 +66,12 @@ class Certificate:
     def __init__(self, path):
         self.path = path
         try:
-            (mark, version, count), (second, best, total), *records = read_records(path)
+            records = read_records(path)
+            (mark, version, count), (second, best, total) = itertools.islice(records, 2)
             self.version, self.best, self.total = int(version), int(best), int(total)
             self.rows = [read_row(v, record) for v, record in enumerate(records)]
             named = [self.best] + [rest for kind, rest in self.rows if kind == "same"]
-            good = int(count) == len(records) and all(map(self.has_fights, named))
+            good = int(count) == len(self.rows) and all(map(self.has_fights, named))
         except (ValueError, csv.Error):
             good = False
         if not good or (mark, second) != ("cwcert", "best") or version not in ("1", "2"):
@@ -77,7 +97,7 @@ class Certificate:
         elif self.version == 2:
             raise Fault(f"{self.path} is of a schedule with weights: give --schedule", 2)
         else:
-            fights = [Fight(0, 0, "c", 1)] * len(self.points(self.best))
+            fights = Fights([Fight(0, 0, "c", 1)] * len(self.points(self.best)))
         if not self.is_of(fights):
             wrong = (f" is not a certificate of the schedule {schedule}" if schedule
                      else ": the points of the best setting do not make its total")
@@ -88,6 +108,20 @@ class Certificate:
         """Returns the points that setting v made, by fight, or None if it does not assemble."""
         kind, rest = self.rows[self.twin(v)]
         return rest if kind == "cap" else None
+
+    def total_of(self, v, fights):
+        """Returns the total of setting v, or None if it did not play all fights."""
+        points = self.points(v)
+        return cap(points, fights) if points is not None and len(points) == len(fights) else None
+
+    def ranked(self, fights):
+        """Returns total and index of the settings that played all fights, the best first, and how
+        many others that assemble were dropped."""
+        totals = [(self.total_of(v, fights), v) for v in range(len(self.rows))]
+        full = sorted((pair for pair in totals if pair[0] is not None),
+                      key=lambda pair: (-pair[0], pair[1]))
+        dropped = sum(total is None and self.points(v) is not None for total, v in totals)
+        return full, dropped
 
     def twin(self, v):
         """Returns the setting whose fights setting v shares, or v."""
@@ -112,9 +146,9 @@ def read_range(path, number, line):
 
 
 def read_records(path):
-    """Returns the records of a comma-separated text; empty lines are not records."""
+    """Yields the records of a comma-separated text; empty lines are not records."""
     with open(path, newline="", encoding="utf-8-sig") as file:
-        return [record for record in csv.reader(file) if record]
+        yield from filter(None, csv.reader(file))
 
 
 def read_schedule(path):
@@ -122,7 +156,7 @@ def read_schedule(path):
     try:
         header, *records = read_records(path)
         weights = header == [*HEADER, "weight"]
-        fights = [read_fight(record if weights else [*record, "1"]) for record in records]
+        fights = Fights(read_fight(record if weights else [*record, "1"]) for record in records)
     except (ValueError, csv.Error):
         header, fights = None, []
     if not fights or not (weights or header == HEADER):
@@ -144,18 +178,19 @@ def read_row(v, record):
         return kind, None
     if kind == "same":
         return kind, int(rest)
-    items = [] if rest == "-" else [item.split(":") for item in rest.split(" ")]
-    return kind, {int(fight): int(points) for fight, points in items}
+    return kind, read_points(rest)
 
 
-def greatest(fights):
-    """Returns the total of a setting that wins all fights."""
-    return 3 * sum(fight.weight for fight in fights)
+@functools.lru_cache(1 << 14)
+def read_points(text):
+    """Returns the points of a row by fight. Equal short lists are one, which nobody changes."""
+    items = [] if text == "-" else [item.split(":") for item in text.split(" ")]
+    return {int(fight): int(points) for fight, points in items}
 
 
 def cap(points, fights):
     """Returns the greatest total of a setting with these points; its total if all are listed."""
-    return greatest(fights) - sum((3 - made) * fights[i].weight for i, made in points.items())
+    return fights.greatest - sum((3 - made) * fights[i].weight for i, made in points.items())
 
 
 def describe(path):
@@ -163,14 +198,15 @@ def describe(path):
     first = pathlib.Path(path).read_text("latin-1").split(",", 1)[0].lstrip("\xef\xbb\xbf\"\r\n")
     if first == "opponent":
         fights = read_schedule(path)
-        return f"schedule of {len(fights)} fights, greatest total {greatest(fights)}"
+        return f"schedule of {len(fights)} fights, greatest total {fights.greatest}"
     if first == "cwcert":
         found = Certificate(path)
         return (f"certificate, version {found.version}, of {len(found.rows)} settings: "
                 f"best {found.best} total {found.total}")
     template = Template(path)
-    names = " ".join(template.names) or "-"
-    return f"template of {len(template.settings)} settings, constants {names}"
+    if not template.names:
+        return "text without a range line: a template of one setting"
+    return f"template of {len(template.settings)} settings, constants {' '.join(template.names)}"
 
 
 def make_parser():

@@ -5,14 +5,18 @@ The setting is the best one of a certificate, or the one that --setting names: i
 comment. A line `;strategy` with the setting and its total, and then the EQU lines, follow the
 `;redcode` line, or begin a text without one. The text is printed only if `cwtune asm` makes the
 same load file of it as of the setting.
+
+Example: cwtune-warrior my.red my.cert > winner.red
 """
-import argparse, sys, tempfile
+import argparse, re, sys, tempfile
 
 from . import tuning_files
 from .endings import Fault, number_from
-from .program import add_program, add_rules, rules_of, run_program
+from .program import add_program, add_rules, load_of, rules_of
 
 HEAD = b";redcode"
+# pMARS 0.9.2 reads no longer lines.
+MOST_OF_PMARS = 255
 
 
 def equ_line(name, value):
@@ -21,30 +25,29 @@ def equ_line(name, value):
     return f"{name} EQU {value}" if value >= 0 else f"{name} EQU ({value})"
 
 
-def inserted(template, setting, total):
-    """Returns the lines that say which setting it is, and what its values are."""
+def inserted(template, setting, totals):
+    """Returns the lines that say which setting it is, and what its values are.
+
+    `totals` are those of the setting and of START, each None if it is not known.
+    """
+    total, start = totals
     of = f", total {total}" if total is not None else ""
+    of += f"; START {start}" if start is not None else ""
     names = zip(template.names, template.settings[setting])
     return [f";strategy cwtune: setting {setting} of {len(template.settings)}{of}",
             *(equ_line(name, value) for name, value in names)]
 
 
-def text_of(text, template, setting, total=None):
+def text_of(text, template, setting, totals=(None, None)):
     """Returns the text of a setting: bytes of a template in, bytes out."""
     lines = [b"; " + line[1:] if tuning_files.is_range_line(line) else line
              for line in text.split(b"\n")]
     head = next((k for k, line in enumerate(lines) if line[:len(HEAD)].lower() == HEAD), -1)
     end = b"\r" if lines[0].endswith(b"\r") else b""
-    new = [line.encode("latin-1") + end for line in inserted(template, setting, total)]
+    new = [line.encode("latin-1") + end for line in inserted(template, setting, totals)]
     if head + 1 == len(lines):  # the text ends with the head
         lines.append(b"")
     return b"\n".join([*lines[:head + 1], *new, *lines[head + 1:]])
-
-
-def load_of(program, *words):
-    """Returns the load file that `cwtune asm` prints, and its fault, if any."""
-    done = run_program(program, "asm", *words)
-    return done.stdout, done.stderr.decode(errors="replace").strip()
 
 
 def refuse_another(program, rules, path, setting, text):
@@ -72,6 +75,21 @@ def setting_of(template, word):
     return setting
 
 
+def total_of_start(found, template):
+    """Returns the total of START, or None: with weights, or if it was dropped, it is not known."""
+    return found.total_of(template.start, found.fights(None)) if found.version == 1 else None
+
+
+def tell_foreign(text):
+    """Says on standard error which lines pMARS does not take, or takes otherwise."""
+    for number, line in enumerate(text.split(b"\n"), 1):
+        code = line.partition(b";")[0]
+        if len(line) > MOST_OF_PMARS:
+            print(f"note: pMARS cuts line {number} at {MOST_OF_PMARS} bytes", file=sys.stderr)
+        elif re.fullmatch(rb"(?i)(.*\s)?nop\s*", code):
+            print(f"note: pMARS refuses line {number}: NOP without an operand", file=sys.stderr)
+
+
 def make_parser():
     parser = argparse.ArgumentParser(description=__doc__.partition("\n\n")[0],
                                      epilog=__doc__.partition("\n\n")[2])
@@ -88,15 +106,15 @@ def main():
     asked = parser.parse_args()
     if (asked.cert is None) == (asked.setting is None):
         parser.error("give a certificate, or --setting")
-    template, total = tuning_files.Template(asked.template), None
+    template, totals = tuning_files.Template(asked.template), (None, None)
     if asked.cert is None:
         setting = setting_of(template, asked.setting)
     else:
         found = tuning_files.Certificate(asked.cert)
-        if len(found.rows) != len(template.settings):
-            parser.error("the certificate is not of that template")
-        setting, total = found.best, found.total
+        template.of(found)
+        setting, totals = found.best, (found.total, total_of_start(found, template))
     with open(asked.template, "rb") as file:
-        text = text_of(file.read(), template, setting, total)
+        text = text_of(file.read(), template, setting, totals)
     refuse_another(asked.program, rules_of(asked).words(), asked.template, setting, text)
+    tell_foreign(text)
     sys.stdout.buffer.write(text)

@@ -26,8 +26,8 @@ PLAIN = {
     "files.txt": "cwtune-files stone.red decoy.red schedule.csv weighted.csv all-fights.cert "
                  "weighted.cert",
     "scores-all-fights.txt": "cwtune-scores all-fights.cert schedule.csv --template stone.red",
-    "scores-weighted.txt": "cwtune-scores weighted.cert weighted.csv --template stone.red --most 3",
-    "scores-decoy.txt": "cwtune-scores decoy.cert schedule.csv --template decoy.red --most 4",
+    "scores-weighted.txt": "cwtune-scores weighted.cert weighted.csv --template stone.red --top 3",
+    "scores-decoy.txt": "cwtune-scores decoy.cert schedule.csv --template decoy.red --top 4",
     "scores-alone.txt": "cwtune-scores step.cert schedule.csv",
     "scores-other.txt": "cwtune-scores step.cert schedule.csv --template stone.red",
     "no-weights.txt": "cwtune-landscape stone.red weighted.cert picture.svg",
@@ -37,6 +37,7 @@ PLAIN = {
 BAD = {
     "binary": bytes(range(256)),
     "empty": b"",
+    "long": b";" * 65537,
     "six.csv": b"opponent,position,first\n0,3670,c\n0,5123,o\n1,2085,c\n1,6100,o\n",
     "row.cert": b"cwcert,1,1\nbest,0,3\ncap,0\n",
     "twin.cert": b"cwcert,1,2\nbest,0,3\ncap,0,0:3\nsame,1,2\n",
@@ -62,10 +63,10 @@ REFUSALS = [
      "refused: range.red: line 2 is not a range", 1),
     ("cwtune-scores step.cert schedule.csv --template ranges.red",
      "refused: ranges.red: more than 1000000 settings", 1),
-    ("cwtune-scores step.cert schedule.csv --most -3",
-     "cwtune-scores: error: argument --most: -3 is not 1 or more", 2),
-    ("cwtune-scores step.cert schedule.csv --most x",
-     "cwtune-scores: error: argument --most: invalid number value: 'x'", 2),
+    ("cwtune-scores step.cert schedule.csv --top -3",
+     "cwtune-scores: error: argument --top: -3 is not 1 or more", 2),
+    ("cwtune-scores step.cert schedule.csv --top x",
+     "cwtune-scores: error: argument --top: invalid number value: 'x'", 2),
     ("cwtune-series 1234 -5 -2", "cwtune-series: error: argument rounds: -5 is not 1 to 10000", 2),
     ("cwtune-series 1234 5 65", "cwtune-series: error: argument opponents: 65 is not 1 to 64", 2),
     ("cwtune-series 1234 5 2 --core 70000",
@@ -73,6 +74,14 @@ REFUSALS = [
     ("cwtune-series 1234 5 2 --distance 0",
      "cwtune-series: error: argument --distance: 0 is not 1 to 32767", 2),
     ("cwtune-files none", f"failed: none: {NO_FILE}", 3),
+    *((f"cwtune-files {name}", f"refused: {name}: not a template, a schedule or a certificate", 1)
+      for name in ["binary", "empty", "long"]),
+    ("cwtune-landscape stone.red all-fights.cert x.png --axes STEP,STEP",
+     "cwtune-landscape: error: --axes takes two of the constants STEP, FIRST, as in A,B", 2),
+    ("cwtune-landscape stone.red all-fights.cert x.png --opponent 1",
+     "cwtune-landscape: error: --opponent names an opponent of --schedule, from 0", 2),
+    ("cwtune-landscape stone.red all-fights.cert x.png --schedule schedule.csv --opponent 5",
+     "cwtune-landscape: error: --opponent names an opponent of --schedule, from 0", 2),
     ("cwtune-landscape none step.cert x.png", f"failed: none: {NO_FILE}", 3),
     ("cwtune-landscape step.red binary x.png", "refused: binary: not a certificate", 1),
     ("cwtune-landscape step.red total.cert x.png",
@@ -90,6 +99,9 @@ PICTURES = {
     "map.txt": "cwtune-landscape stone.red all-fights.cert",
     "map-weighted.txt": "cwtune-landscape stone.red weighted.cert --schedule weighted.csv",
     "maps.txt": "cwtune-landscape decoy.red decoy.cert",
+    "maps-axes.txt": "cwtune-landscape decoy.red decoy.cert --axes PLACE,DECOY",
+    "map-opponent.txt": "cwtune-landscape stone.red all-fights.cert --schedule schedule.csv "
+                        "--opponent 3",
 }
 
 
@@ -106,7 +118,8 @@ def draw(python, words):
             return "not a PNG file\n"
         texts = re.findall(r"<text[^>]*>([^<]*)</text>", svg.read_text("utf-8"))
         grey = svg.read_text("utf-8").count("fill: #cccccc")
-        return "\n".join([f"{grey} grey", *texts]) + "\n"
+        images = svg.read_text("utf-8").count("<image ")
+        return "\n".join([f"{grey} grey, {images} images", *texts]) + "\n"
 
 
 def with_matplotlib():
@@ -124,6 +137,15 @@ def helps():
     for name in COMMANDS:
         status, out, _ = run(name, "--help")
         yield f"{name} --help", [] if status == 0 and len(out) > 100 else ["no help"]
+
+
+def closed():
+    """Closes the standard output of each command. Yields names, and what was wrong."""
+    for name in COMMANDS:
+        done = subprocess.run(command(name, "--help"), stderr=subprocess.PIPE, text=True,
+                              preexec_fn=lambda: os.close(1))
+        yield compare(f"{name} without a standard output", (3, "failed: no standard output\n"),
+                      (done.returncode, done.stderr))
 
 
 def refusals(rows, python):
@@ -195,7 +217,7 @@ def main():
         EXPECTED.mkdir(exist_ok=True)
         for name, result in results.items():
             (EXPECTED / name).write_text(result, "utf-8")
-    return tally([*stored(results), *helps(), *refusals(rows, python), *signals(),
+    return tally([*stored(results), *helps(), *closed(), *refusals(rows, python), *signals(),
                   *warriors.trials(program), *spreading.trials(program)])
 
 

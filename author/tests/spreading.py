@@ -236,6 +236,27 @@ def faults(place):
         yield compare(words, (2, "", said), place.spread(words, *SMALL))
 
 
+def methods(place):
+    """Plays every fight, tells a log how far it is, and explains."""
+    place.tune("--all", *DECOY)
+    cert = place.read("CERT")
+    place.clear()
+    status, _, err = place.spread("--all", "--jobs=2", "--progress", *DECOY)
+    yield compare("--all makes the certificate of tune --all", (0, cert),
+                  (status, place.read("CERT")))
+    yield compare("--progress begins with a line", "0 of 4 parts, 0 of 126 settings, 0 fights\n",
+                  err)
+    place.clear()
+    yield compare("--explain tells of START", 1, place.spread("--explain", *DECOY)[2].count(
+        "  start 94 total "))
+    place.clear()
+    place.write("x.red", ";@tune K 0 5 1 2\nDAT 1/0\n")
+    tuned = place.tune("--explain", *SMALL)
+    yield compare("--explain says why there is no candidate", (1, True, tuned[2]),
+                  ((came := place.spread("--explain", *SMALL))[0], "line 2" in came[2], came[2]))
+    place.clear()
+
+
 def liars(place):
     """Runs stand-ins for `cwtune` that cut a row or change a total."""
     place.write("x.red", inputs.FILES["imps.red"])
@@ -305,15 +326,15 @@ def explained(place):
 def progress(place):
     """Looks at the line on a terminal."""
     lines = screen_of(place, place.words(["--jobs=1", "--parts=12", *DECOY])).split("\r")
-    shown = re.compile(r"6 of 12 parts, 63 of 126 settings, \d+ fights, best \d+ total \d+, "
-                       r"\d+:\d\d left\x1b\[K")
+    shown = re.compile(r"6 of 12 parts, 63 of 126 settings, \d+ fights, \d+:\d\d left, best \d+ "
+                       r"total \d+ DECOY.*\x1b\[K")
     yield compare("a line of progress", True, any(shown.fullmatch(line) for line in lines))
     yield compare("the line is cleared", "\x1b[K", lines[-1])
 
 
 def trials(program):
-    for plays in [after_kills, other_inputs, damaged_parts, folders, templates, faults, liars,
-                  merged, explained, progress]:
+    for plays in [after_kills, other_inputs, damaged_parts, folders, templates, faults, methods,
+                  liars, merged, explained, progress]:
         with tempfile.TemporaryDirectory() as folder:
             try:
                 for name, wrong in plays(Place(program, folder)):

@@ -5,6 +5,7 @@
 import pathlib, subprocess, tempfile
 
 from author.lib import tuning_files, warrior
+from gate.tally import compare
 
 from .commands import TUNING, run
 
@@ -47,7 +48,8 @@ def warriors(program, folder):
         yield f"ranges: {name}", other_settings(program, text, count, folder)
     came = run("cwtune-warrior", "--program", program, "step.red", "step.cert")
     found = tuning_files.Certificate(TUNING / "step.cert")
-    line = f";strategy cwtune: setting {found.best} of 21, total {found.total}\n"
+    start = found.total_of(tuning_files.Template(TUNING / "step.red").start, found.fights(None))
+    line = f";strategy cwtune: setting {found.best} of 21, total {found.total}; START {start}\n"
     yield "the best setting of a certificate", [] if (
         came[0] == 0 and came[2] == "" and line in came[1]) else [repr(came)]
     for name, text, said in [
@@ -68,6 +70,43 @@ def warriors(program, folder):
             came[:2] == (2, "") and came[2].endswith(f"error: {said}\n")) else [repr(came)]
 
 
+def foreign(program, folder):
+    """Makes texts with lines that pMARS does not take."""
+    for name, text, said in [
+        ("nop.red", b"DAT 0\nx: nop\n", "note: pMARS refuses line 3: NOP without an operand\n"),
+        ("wide.red", b"DAT 0\nDAT 1" + b" " * 250 + b"\n",
+         "note: pMARS cuts line 3 at 255 bytes\n"),
+    ]:
+        (folder / name).write_bytes(text)
+        came = run("cwtune-warrior", "--program", program, name, "--setting", "0", folder=folder)
+        yield compare(name, (0, said), (came[0], came[2]))
+
+
+def gains(program, folder):
+    """Plays fresh fights of a setting that lives, and of START, which dies against an imp."""
+    for name, text in [("t.red", ";@tune K 0 1 1 0\nJMP 1-K\n"), ("dat.red", "DAT 0\n"),
+                       ("imp.red", "MOV 0, 1\n"), ("one.csv", FIGHT),
+                       ("two.csv", "opponent,position,first,weight\n0,4000,c,5\n1,4000,c,1\n")]:
+        (folder / name).write_text(text)
+    for schedule, opponents, expected in [
+        ("one.csv", ["imp.red"],
+         "setting 1: tuning 1 of 3 (33.3%), fresh 20 of 60 (33.3% +- 0.0) K=1\n"
+         "setting 0: tuning 0 of 3 (0.0%), fresh 0 of 60 (0.0% +- 0.0) K=0\n"
+         "start 0: tuning 0 of 3 (0.0%), fresh 0 of 60 (0.0% +- 0.0) K=0\n"
+         "over the start, setting 1: +33.3% +- 0.0, a gain\n"),
+        ("two.csv", ["dat.red", "imp.red"],
+         "setting 1: tuning 16 of 18 (88.9%), fresh 88.9% +- 0.0 K=1\n"
+         "setting 0: tuning 15 of 18 (83.3%), fresh 83.3% +- 0.0 K=0\n"
+         "start 0: tuning 15 of 18 (83.3%), fresh 83.3% +- 0.0 K=0\n"
+         "over the start, setting 1: +5.6% +- 0.0, a gain\n"),
+    ]:
+        subprocess.run([program, "tune", "--all", "t.red", schedule, "cert", *opponents],
+                       cwd=folder, check=True, capture_output=True)
+        words = ["--schedule", schedule, "--rounds", "20", "t.red", "cert", *opponents]
+        came = run("cwtune-holdout", "--program", program, *words, folder=folder)
+        yield compare(f"a gain by {schedule}", (0, expected, ""), came)
+
+
 def holdouts(program, folder):
     """Plays fresh fights of two warriors that win them all, since the other one dies at once."""
     (folder / "t.red").write_text(";@tune K 1 2 1 1\nMOV 0, K\n")
@@ -78,6 +117,7 @@ def holdouts(program, folder):
     words = ["--program", program, "--rounds", "20", "t.red", "cert", "dat.red"]
     expected = "".join(f"setting {v}: tuning 3 of 3 (100.0%), fresh 60 of 60 (100.0% +- 0.0) "
                        f"K={v + 1}\n" for v in (0, 1))
+    expected += expected.splitlines(True)[0].replace("setting", "start")
     came = run("cwtune-holdout", *words, folder=folder)
     yield "cwtune-holdout", [] if came == (0, expected, "") else [f"{expected!r}, came {came!r}"]
     came = run("cwtune-holdout", *words[:-1], "none.red", folder=folder)
@@ -86,6 +126,6 @@ def holdouts(program, folder):
 
 
 def trials(program):
-    for plays in [warriors, holdouts]:
+    for plays in [warriors, foreign, holdouts, gains]:
         with tempfile.TemporaryDirectory() as folder:
             yield from plays(program, pathlib.Path(folder))

@@ -381,4 +381,8 @@ def main():
 
 
 if __name__ == "__main__":
-    main()
+    try:
+        main()
+    except OSError as error:
+        print(f"failed: {error.filename or 'standard output'}: {error.strerror}", file=sys.stderr)
+        sys.exit(3)
