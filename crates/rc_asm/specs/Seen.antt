@@ -1,6 +1,5 @@
 -- The values that contracts of private functions see of borrowed types.
-use Rattle.std.specs.Prelude.{ℕ, List, option_map, IfSome, All}
-use Rattle.rc_text.specs.Symbols.{LiesIn}
+use Rattle.std.specs.Prelude.{option_map}
 use Rattle.rc_expand.specs.Names.{table_in, entry_of}
 use Rattle.rc_asm.specs.declared.shape.Sides.{Sides as Borrowed}
 use Rattle.rc_asm.specs.declared.shape.Shape.{Shape as BorrowedShape}
@@ -13,11 +12,6 @@ seen_sides s = sides (option_map (λ p. p.now) s.a) (option_map (λ p. p.now) s.
 
 abbrev pub seen_shape : BorrowedShape → Shape
 seen_shape s = shape s.opcode s.modifier (seen_sides s.sides)
-
--- every token of the operands lies in the source
-pub record SidesLie (source : List ℕ) (s : Borrowed) : Type 0 where
-  pub a : IfSome s.a (λ p. All (LiesIn source) p.now)
-  pub b : IfSome s.b (λ p. All (LiesIn source) p.now)
 
 abbrev pub seen_names : Context → NameValues
 seen_names k = record { constants = table_in k.constants.now; rules = k.rules.now; address = entry_of k.labels.now }

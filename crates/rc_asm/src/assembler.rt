@@ -2,7 +2,6 @@
 ghost use Rattle.std.specs.Prelude.{◌≡◌, ◌≢◌, ◌↔◌, ◌<◌, ◌^◌, ◌-◌, ℕ, pos, All, IfErr, IfOk, MatchResult, Some, None, Ok, Err};
 ghost use Rattle.std.specs.Option.{option_or};
 ghost use Rattle.rc_expand.specs.Names.{table_in};
-ghost use Rattle.rc_expand.specs.Expansion.{LineLies};
 ghost use Rattle.rc_instr.specs.Warrior.{IsBelow, WarriorView, IsWarrior, Fits};
 ghost use Rattle.rc_instr.specs.Rules.{IsRules};
 ghost use Rattle.rc_asm.specs.Steps.{IsStarted};
@@ -116,7 +115,6 @@ fn assemble_with(
     context: &Context,
     lines: &[Line],
 ) -> Result<Warrior, AsmFault>
-    requires lines { All (LineLies source.now) lines.now }
     ensures made { IfOk result (IsMadeOf source.now (seen_names context.now) lines.now) }
     ensures warrior { IfOk result IsWarrior }
     ensures fits { IfOk result (Fits context.now.rules.now) }
@@ -136,7 +134,6 @@ fn assemble_with(
 
 // Returns the fault of the first line that is malformed, or else `found`.
 fn first_fault(source: &[u8], lines: &[Line], found: AsmFault) -> AsmFault
-    requires lines { All (LineLies source.now) lines.now }
     ensures fault { Some result ≡ option_or (forms_fault source.now lines.now) (Some found) }
     ensures memory { (found.kind ≡ OutOfMemory → found.line ≡ 0) → result.kind ≡ OutOfMemory → result.line ≡ 0 }
 {
@@ -155,7 +152,6 @@ fn assemble_lines(
     rules: &Rules,
     lines: &[Line],
 ) -> Result<Warrior, AsmFault>
-    requires lines { All (LineLies source.now) lines.now }
     ensures made { IfOk result (IsMadeOf source.now (names_of source.now (table_in constants.now) rules.now lines.now) lines.now) }
     ensures warrior { IfOk result IsWarrior }
     ensures fits { IfOk result (Fits rules.now) }

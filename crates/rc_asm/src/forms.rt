@@ -3,7 +3,6 @@
 ghost use Rattle.std.specs.Prelude.{◌≡◌, ◌≢◌, All, IfErr};
 ghost use Rattle.rc_asm.specs.declared.fault.AsmKind.TheVariants.{OutOfMemory};
 ghost use Rattle.std.specs.Result.{result_err};
-ghost use Rattle.rc_expand.specs.Expansion.{LineLies};
 ghost use Rattle.rc_asm.specs.Faults.{form_fault, forms_fault};
 
 use crate::fault::{AsmFault, AsmKind};
@@ -12,7 +11,6 @@ use rc_expand::{Line, LineWord};
 
 // Refuses the first line that is malformed.
 pub(crate) fn check_forms(source: &[u8], lines: &[Line]) -> Result<(), AsmFault>
-    requires { All (LineLies source.now) lines.now }
     ensures forms { result_err result ≡ forms_fault source.now lines.now }
     ensures other { IfErr result (λ f. f.kind ≢ OutOfMemory) }
 {
@@ -32,7 +30,6 @@ pub(crate) fn check_forms(source: &[u8], lines: &[Line]) -> Result<(), AsmFault>
 
 // Lines of code must parse, and ORG needs an expression. Other lines have no form to check.
 fn check_form(source: &[u8], line: &Line) -> Result<(), AsmKind>
-    requires { LineLies source.now line.now }
     ensures form { result_err result ≡ form_fault source.now line.now.word line.now.tokens }
     ensures other { IfErr result (λ e. e ≢ OutOfMemory) }
 {

@@ -1,9 +1,8 @@
 //! From the tokens of a line of code to its instruction.
 ghost use Rattle.std.specs.Prelude.{◌≡◌, ℕ, ◌<◌, ◌^◌, All, IfOk};
-ghost use Rattle.rc_text.specs.Symbols.{LiesIn};
 ghost use Rattle.rc_instr.specs.Warrior.{IsBelow};
 ghost use Rattle.rc_asm.specs.Instructions.{made, shaped, instruction_at};
-ghost use Rattle.rc_asm.specs.Seen.{seen_names, seen_shape, SidesLie};
+ghost use Rattle.rc_asm.specs.Seen.{seen_names, seen_shape};
 
 use crate::fault::AsmKind;
 use crate::operand::{Operand, operand_at};
@@ -20,7 +19,6 @@ pub(crate) fn instruction_at(
     address: usize,
     tokens: &[Token],
 ) -> Result<Instruction, AsmKind>
-    requires tokens { All (LiesIn source.now) tokens.now }
     requires small { address < 2 ^ 63 }
     requires core { 0 < context.now.rules.now.core }
     ensures instruction { result ≡ instruction_at source.now (seen_names context.now) address tokens.now }
@@ -57,7 +55,6 @@ fn shaped(
     address: usize,
     shape: &Shape,
 ) -> Result<Instruction, EvalFault>
-    requires sides { SidesLie source.now shape.now.sides }
     requires small { address < 2 ^ 63 }
     requires core { 0 < context.now.rules.now.core }
     ensures instruction { result ≡ shaped source.now (seen_names context.now) address (seen_shape shape.now) }

@@ -1,9 +1,8 @@
 //! Labels and their addresses.
 ghost use Rattle.std.specs.Prelude.{◌≡◌, ◌<◌, ◌≤◌, ◌+◌, ◌^◌, [], List, ℕ, length, All, IfOk, IfSome, OnOk, Some};
-ghost use Rattle.rc_text.specs.Symbols.{LiesIn, name_of};
+ghost use Rattle.rc_text.specs.Symbols.{name_of};
 ghost use Rattle.rc_expand.specs.Names.{entry_of};
 ghost use Rattle.rc_expand.specs.Heads.NameTables.{with_name};
-ghost use Rattle.rc_expand.specs.Expansion.{LineLies};
 ghost use Rattle.rc_asm.specs.Names.{code_lines_after, labels_from, labels_of};
 
 use rc_expand::{Line, LineWord, NameTable};
@@ -46,8 +45,7 @@ impl<'a> Labels<'a> {
         tokens: &[Token],
         address: usize,
     ) -> Result<(), AllocError>
-        requires tokens { All (LiesIn source.now) tokens.now }
-        requires small { address < 2 ^ 63 }
+        requires { address < 2 ^ 63 }
         ensures { OnOk result ((rest : LabelList) → Agree (self.new ++ rest) (self.old ++ (map (λ t. (name_of source.now t, address)) tokens.now ++ rest))) }
     {
         let mut rest = tokens;
@@ -64,7 +62,6 @@ impl<'a> Labels<'a> {
         source: &'a [u8],
         lines: &[Line],
     ) -> Result<Self, AllocError>
-        requires { All (LineLies source.now) lines.now }
         ensures { IfOk result (λ labels. Agree labels (labels_of source.now lines.now)) }
     {
         let mut labels = Labels {
@@ -81,7 +78,6 @@ impl<'a> Labels<'a> {
     }
 
     pub(crate) fn address_of(&self, source: &[u8], token: &Token) -> Option<usize>
-        requires { LiesIn source.now token.now }
         ensures address { result ≡ entry_of self.now (name_of source.now token.now) }
         ensures small { IfSome result (λ address. address < 2 ^ 63) }
     {

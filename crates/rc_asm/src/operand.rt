@@ -1,6 +1,5 @@
 //! Operands: a mode and an expression become a mode and a number.
 ghost use Rattle.std.specs.Prelude.{◌≡◌, ◌<◌, ◌≤◌, ◌^◌, All, IfSome, IfOk, option_map};
-ghost use Rattle.rc_text.specs.Symbols.{LiesIn};
 ghost use Rattle.rc_expand.specs.Results.{mapped};
 ghost use Rattle.rc_asm.specs.Names.{value_at};
 ghost use Rattle.rc_asm.specs.Instructions.{core_number, operand, operand_at};
@@ -26,7 +25,6 @@ pub(crate) fn operand_at(
     address: usize,
     part: Option<&[Token]>,
 ) -> Result<Operand, EvalFault>
-    requires part { IfSome part (λ p. All (LiesIn source.now) p.now) }
     requires small { address < 2 ^ 63 }
     requires core { 0 < context.now.rules.now.core }
     ensures operand { result ≡ operand_at source.now (seen_names context.now) address (option_map (λ p. p.now) part.entry) }
@@ -66,8 +64,7 @@ fn with_value(
     mode: Mode,
     tokens: &[Token],
 ) -> Result<Operand, EvalFault>
-    requires tokens { All (LiesIn source.now) tokens.now }
-    requires small { address < 2 ^ 63 }
+    requires { address < 2 ^ 63 }
     ensures operand { result ≡ mapped (operand context.now.rules.now.core mode) (value_at source.now (seen_names context.now) address address tokens.now) }
     ensures below { IfOk result (λ o. o.number < context.now.rules.now.core) }
 {

@@ -1,8 +1,6 @@
 //! The values of the lines, in order.
 ghost use Rattle.std.specs.Prelude.{◌≡◌, ◌≢◌, ◌<◌, ◌^◌, All, IfErr, IfOk, Some, None, length};
 ghost use Rattle.std.specs.Result.{result_err};
-ghost use Rattle.rc_text.specs.Symbols.{LiesIn};
-ghost use Rattle.rc_expand.specs.Expansion.{LineLies};
 ghost use Rattle.rc_instr.specs.Warrior.{IsBelow};
 ghost use Rattle.rc_asm.specs.Steps.{IsLineRead, AreLinesRead, fault_at};
 ghost use Rattle.rc_asm.specs.Faults.{assertion_fault, values_fault};
@@ -33,8 +31,7 @@ pub(crate) fn read_lines(
     context: &Context,
     lines: &[Line],
 ) -> Result<Reading, AsmFault>
-    requires lines { All (LineLies source.now) lines.now }
-    requires core { 0 < context.now.rules.now.core }
+    requires { 0 < context.now.rules.now.core }
     ensures read { IfOk result (λ r. AreLinesRead source.now (seen_names context.now) lines.now r.code.items r.starts) }
     ensures refused { IfErr result (λ f. f.kind ≢ OutOfMemory → values_fault source.now (seen_names context.now) 0 lines.now ≡ Some f) }
     ensures memory { IfErr result (λ f. f.kind ≡ OutOfMemory → f.line ≡ 0) }
@@ -61,8 +58,7 @@ fn check_assertion(
     address: usize,
     tokens: &[Token],
 ) -> Result<(), AsmKind>
-    requires tokens { All (LiesIn source.now) tokens.now }
-    requires small { address < 2 ^ 63 }
+    requires { address < 2 ^ 63 }
     ensures { result_err result ≡ assertion_fault (value_at source.now (seen_names context.now) address 0 tokens.now) }
 {
     let value = value_at(source, context, address, 0, tokens)?;
@@ -78,8 +74,7 @@ fn read_line(
     line: &Line,
     reading: &mut Reading,
 ) -> Result<(), AsmKind>
-    requires line { LineLies source.now line.now }
-    requires core { 0 < context.now.rules.now.core }
+    requires { 0 < context.now.rules.now.core }
     ensures read { IfOk result (λ _. IsLineRead source.now (seen_names context.now) line.now reading.old.code.items reading.old.starts reading.new.code.items reading.new.starts) }
     ensures faultless { IfOk result (λ _. fault_at source.now (seen_names context.now) (length reading.old.code.items) line.now ≡ None) }
     ensures below { IfOk result (λ _. All (IsBelow context.now.rules.now.core) reading.old.code.items → All (IsBelow context.now.rules.now.core) reading.new.code.items) }

@@ -1,6 +1,5 @@
 //! The values of names.
 ghost use Rattle.std.specs.Prelude.{◌≡◌, ◌<◌, ◌^◌, All};
-ghost use Rattle.rc_text.specs.Symbols.{LiesIn};
 ghost use Rattle.rc_asm.specs.Names.{stands_for, value_at};
 ghost use Rattle.rc_asm.specs.Seen.{seen_names};
 
@@ -57,8 +56,7 @@ pub(crate) fn value_at(
     base: usize,
     tokens: &[Token],
 ) -> Result<i64, EvalFault>
-    requires tokens { All (LiesIn source.now) tokens.now }
-    requires small { (address < 2 ^ 63) × (base < 2 ^ 63) }
+    requires { (address < 2 ^ 63) × (base < 2 ^ 63) }
     ensures { result ≡ value_at source.now (seen_names context.now) address base tokens.now }
 {
     let scope = Scope {

@@ -1,10 +1,9 @@
 //! The form of a line of code: opcode, modifier, operands.
 ghost use Rattle.std.specs.Prelude.{◌≡◌, ◌≢◌, ℕ, ◌∷◌, [], ◌<◌, length, take, drop, ◌+◌, option_map, List, Some, None, All, IfSome, IfNone, IfOk, IfErr};
 ghost use Rattle.rc_asm.specs.declared.fault.AsmKind.TheVariants.{OutOfMemory};
-ghost use Rattle.rc_text.specs.Symbols.{LiesIn};
 ghost use Rattle.rc_expand.specs.Results.{mapped};
 ghost use Rattle.rc_asm.specs.Shape.{parts, parts_from, no_side, one_side, two_sides, sides_of, with_operands, with_modifier, after_opcode, shape_of};
-ghost use Rattle.rc_asm.specs.Seen.{seen_sides, seen_shape, SidesLie};
+ghost use Rattle.rc_asm.specs.Seen.{seen_sides, seen_shape};
 
 use crate::fault::AsmKind;
 use crate::word::{is_comma, is_dot, modifier_at, opcode_at};
@@ -29,9 +28,7 @@ pub(crate) struct Shape<'a> {
 // Parses the tokens of a line of code.
 #[tactic(auto, unfolding(crate::specs::Shape::shape_of))]
 pub(crate) fn shape_of<'a>(source: &[u8], tokens: &'a [Token]) -> Result<Shape<'a>, AsmKind>
-    requires { All (LiesIn source.now) tokens.now }
     ensures shape { mapped seen_shape result ≡ shape_of source.now tokens.now }
-    ensures inside { IfOk result (λ s. SidesLie source.now s.sides) }
     ensures other { IfErr result (λ e. e ≢ OutOfMemory) }
 {
     match tokens {
@@ -51,8 +48,7 @@ fn first_comma(tokens: &[Token]) -> Option<usize>
 }
 
 fn no_side(opcode: Opcode) -> Option<Sides<'static>>
-    ensures sides { option_map seen_sides result ≡ no_side opcode }
-    ensures inside { (source : List ℕ) → IfSome result (SidesLie source) }
+    ensures { option_map seen_sides result ≡ no_side opcode }
 {
     match opcode {
         Opcode::Dat | Opcode::Nop => Some(Sides { a: None, b: None }),
@@ -62,8 +58,7 @@ fn no_side(opcode: Opcode) -> Option<Sides<'static>>
 
 // Only DAT takes a single operand as its B-operand.
 fn one_side(opcode: Opcode, part: &[Token]) -> Option<Sides<'_>>
-    ensures sides { option_map seen_sides result ≡ one_side opcode part.now }
-    ensures inside { (source : List ℕ) → All (LiesIn source) part.now → IfSome result (SidesLie source) }
+    ensures { option_map seen_sides result ≡ one_side opcode part.now }
 {
     match opcode {
         Opcode::Dat => Some(Sides {
@@ -80,8 +75,7 @@ fn one_side(opcode: Opcode, part: &[Token]) -> Option<Sides<'_>>
 
 // Refuses an empty operand beside a comma.
 fn two_sides<'a>(first: &'a [Token], second: &'a [Token]) -> Option<Sides<'a>>
-    ensures sides { option_map seen_sides result ≡ two_sides first.now second.now }
-    ensures inside { (source : List ℕ) → All (LiesIn source) first.now → All (LiesIn source) second.now → IfSome result (SidesLie source) }
+    ensures { option_map seen_sides result ≡ two_sides first.now second.now }
 {
     if first.is_empty() || second.is_empty() {
         return None;
@@ -95,7 +89,6 @@ fn two_sides<'a>(first: &'a [Token], second: &'a [Token]) -> Option<Sides<'a>>
 #[tactic(auto, unfolding(crate::specs::Shape::parts))]
 fn sides_of(opcode: Opcode, tokens: &[Token]) -> Result<Sides<'_>, AsmKind>
     ensures sides { mapped seen_sides result ≡ sides_of opcode (parts tokens.now) }
-    ensures inside { (source : List ℕ) → All (LiesIn source) tokens.now → IfOk result (SidesLie source) }
     ensures other { IfErr result (λ e. e ≢ OutOfMemory) }
 {
     if tokens.is_empty() {
@@ -120,7 +113,6 @@ fn with_operands(
     tokens: &[Token],
 ) -> Result<Shape<'_>, AsmKind>
     ensures shape { mapped seen_shape result ≡ with_operands opcode modifier tokens.now }
-    ensures inside { (source : List ℕ) → All (LiesIn source) tokens.now → IfOk result (λ s. SidesLie source s.sides) }
     ensures other { IfErr result (λ e. e ≢ OutOfMemory) }
 {
     let sides = sides_of(opcode, tokens)?;
@@ -138,9 +130,7 @@ fn with_modifier<'a>(
     opcode: Opcode,
     tokens: &'a [Token],
 ) -> Result<Shape<'a>, AsmKind>
-    requires { All (LiesIn source.now) tokens.now }
     ensures shape { mapped seen_shape result ≡ with_modifier source.now opcode tokens.now }
-    ensures inside { IfOk result (λ s. SidesLie source.now s.sides) }
     ensures other { IfErr result (λ e. e ≢ OutOfMemory) }
 {
     match tokens {
@@ -159,9 +149,7 @@ fn after_opcode<'a>(
     opcode: Opcode,
     tokens: &'a [Token],
 ) -> Result<Shape<'a>, AsmKind>
-    requires { All (LiesIn source.now) tokens.now }
     ensures shape { mapped seen_shape result ≡ after_opcode source.now opcode tokens.now }
-    ensures inside { IfOk result (λ s. SidesLie source.now s.sides) }
     ensures other { IfErr result (λ e. e ≢ OutOfMemory) }
 {
     match tokens {

@@ -1,21 +1,19 @@
 //! The words and signs of a line of code: opcodes, modifiers, modes.
 ghost use Rattle.std.specs.Prelude.{◌≡◌, ◌∷◌, [], map, ◌&&◌, option_map, None};
 ghost use Rattle.std.specs.Char.{to_ascii_lowercase};
-ghost use Rattle.rc_text.specs.Symbols.{LiesIn};
 ghost use Rattle.rc_expand.specs.Names.{entry_of};
 ghost use Rattle.rc_expand.specs.Heads.Lines.{is_dot, bytes_of};
 ghost use Rattle.rc_asm.specs.Words.{named, opcodes, modifiers, mode_at, is_comma, is_plain, opcode_at, modifier_at};
 
 use rc_instr::{Mode, Modifier, Opcode};
-use rc_text::{Kind, Sign, Token};
+use rc_text::{Kind, Sign, Token, text_of};
 
 #[tactic(auto, unfolding(crate::specs::Words::opcode_at))]
 pub(crate) fn opcode_at(source: &[u8], token: &Token) -> Option<Opcode>
-    requires { LiesIn source.now token.now }
     ensures { result ≡ opcode_at source.now token.now }
 {
     if is_plain(token) {
-        opcode_named(&source[token.lo..token.hi])
+        opcode_named(text_of(source, token))
     } else {
         None
     }
@@ -23,11 +21,10 @@ pub(crate) fn opcode_at(source: &[u8], token: &Token) -> Option<Opcode>
 
 #[tactic(auto, unfolding(crate::specs::Words::modifier_at))]
 pub(crate) fn modifier_at(source: &[u8], token: &Token) -> Option<Modifier>
-    requires { LiesIn source.now token.now }
     ensures { result ≡ modifier_at source.now token.now }
 {
     if is_plain(token) {
-        modifier_named(&source[token.lo..token.hi])
+        modifier_named(text_of(source, token))
     } else {
         None
     }

@@ -6,3 +6,4 @@ pub mod PlainLines
 pub mod Reading
 pub mod Unrolling
 pub mod Replacing
+pub mod Spans

@@ -1,8 +1,8 @@
 -- The tokens of a line with EQU names replaced by their own (EQU is from pMARS).
 pub mod Lines
-use Rattle.std.specs.Prelude.{Result, Ok, Err, All, ℕ, zero, suc, ◌+◌, nat_lt, List, [], ◌∷◌, ◌++◌, length, take, drop, Option, Some, None, option_map, if◌then◌else◌}
+use Rattle.std.specs.Prelude.{Result, Ok, Err, ℕ, zero, suc, ◌+◌, nat_lt, List, [], ◌∷◌, ◌++◌, length, take, drop, Option, Some, None, option_map, if◌then◌else◌}
 use Rattle.rc_text.specs.declared.token.Token.{Token}
-use Rattle.rc_text.specs.Symbols.{name_of, LiesIn}
+use Rattle.rc_text.specs.Symbols.{name_of}
 use Rattle.rc_expand.specs.declared.fault.ExpandFault.{ExpandFault}
 use Rattle.rc_expand.specs.declared.fault.ExpandKind.TheVariants.{EquTooDeep, TooManyTokens}
 use Rattle.rc_expand.specs.declared.replace.Replacing.{Replacing}
@@ -21,10 +21,6 @@ pub record EquText : Type 0 where
 -- the EQU names with their tokens
 abbrev pub Equs : Type 0
 Equs = List (List ℕ × EquText)
-
--- the spans of their tokens lie in the source
-abbrev pub EqusLie : List ℕ → Equs → Type 0
-EqusLie source equs = All (λ e. All (LiesIn source) e.1.tokens) equs
 
 -- the tokens of a line so far, its number, and how many EQU names were replaced in it
 pub record Replaced : Type 0 where

@@ -1,5 +1,4 @@
 //! What the second and the third pass of the expansion share.
-ghost use Rattle.rc_expand.specs.Replace.{EqusLie};
 ghost use Rattle.rc_expand.specs.Heads.NameTables.{AreLinks};
 
 use crate::heads::equs::Equ;
@@ -7,9 +6,8 @@ use crate::heads::table::NameTable;
 use crate::names::GivenNames;
 use std::alloc::Global;
 
-// The source, the names given from outside of it, and its EQU names. The spans of the EQU names'
-// tokens lie in the source. For each EQU name the links say which of its tokens are EQU names
-// themselves.
+// The source, the names given from outside of it, and its EQU names. For each EQU name the links
+// say which of its tokens are EQU names themselves.
 #[derive(Drop)]
 pub(crate) struct Context<'a> {
     pub(crate) alloc: Global,
@@ -17,6 +15,5 @@ pub(crate) struct Context<'a> {
     pub(crate) names: &'a GivenNames<'a>,
     pub(crate) equs: &'a NameTable<'static, Equ>,
     pub(crate) links: &'a [Vec<Option<usize>>],
-    ghost lies: { EqusLie source.now equs.now },
     ghost linked: { AreLinks source.now equs.now links.now },
 }

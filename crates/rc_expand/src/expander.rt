@@ -3,7 +3,7 @@ ghost use Rattle.std.specs.Prelude.{◌≡◌, ◌≢◌, All, IfOk, IfErr, Ok, 
 ghost use Rattle.rc_expand.specs.declared.fault.ExpandKind.TheVariants.{OutOfMemory};
 ghost use Rattle.rc_expand.specs.Results.{Returns};
 ghost use Rattle.rc_expand.specs.Names.{table_in};
-ghost use Rattle.rc_expand.specs.Expansion.{LineLies, expansion_of};
+ghost use Rattle.rc_expand.specs.Expansion.{expansion_of};
 
 use crate::constants::Constants;
 use crate::context::Context;
@@ -50,7 +50,6 @@ pub fn expand(
     rules: &Rules,
 ) -> Result<Expanded, ExpandFault>
     ensures expansion { Returns (λ e. e.lines) result (expansion_of source.now (table_in constants.now) rules.now) }
-    ensures spans { IfOk result (λ e. All (LineLies source.now) e.lines) }
     ensures memory { IfErr result (λ f. f.kind ≡ OutOfMemory → f.line ≡ 0) }
 {
     match expand_text(alloc, source, constants, rules) {
@@ -67,8 +66,7 @@ fn expand_text(
     constants: &Constants,
     rules: &Rules,
 ) -> Result<Expanded, ExpandFault>
-    ensures expansion { Returns (λ e. e.lines) result (expansion_of source.now (table_in constants.now) rules.now) }
-    ensures spans { IfOk result (λ e. All (LineLies source.now) e.lines) }
+    ensures { Returns (λ e. e.lines) result (expansion_of source.now (table_in constants.now) rules.now) }
 {
     let names = GivenNames { constants, rules };
     let (heads, equs) = read_heads(alloc, source, &names)?;

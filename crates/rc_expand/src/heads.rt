@@ -5,8 +5,6 @@ ghost use Rattle.std.specs.Prelude.{◌≡◌, ◌≢◌, All, IfOk, Ok, Err};
 ghost use Rattle.rc_expand.specs.Results.{Returns};
 ghost use Rattle.rc_expand.specs.Shared.{constants_of};
 ghost use Rattle.rc_expand.specs.Heads.{heads_of};
-ghost use Rattle.rc_expand.specs.Heads.Lines.{HeadLies};
-ghost use Rattle.rc_expand.specs.Replace.{EqusLie};
 
 pub(crate) mod blocks;
 pub(crate) mod equs;
@@ -32,9 +30,7 @@ pub(crate) fn read_heads(
     source: &[u8],
     names: &GivenNames,
 ) -> Result<(Vec<Head>, NameTable<'static, Equ>), ExpandFault>
-    ensures heads { Returns (λ p. record { lines = p.0.items; equs = p.1 }) result (heads_of source.now (constants_of names.now) names.now.rules.now) }
-    ensures lines { IfOk result (λ p. All (HeadLies source.now) p.0.items) }
-    ensures equs { IfOk result (λ p. EqusLie source.now p.1) }
+    ensures { Returns (λ p. record { lines = p.0.items; equs = p.1 }) result (heads_of source.now (constants_of names.now) names.now.rules.now) }
 {
     let heads = read_lines(alloc, source)?;
     check_blocks(&heads)?;

@@ -1,5 +1,5 @@
 //! Laws of the definitions.
-ghost use Rattle.std.specs.Prelude.{◌≡◌, ◌↔◌, ◌∷◌, ◌++◌, List, ℕ, Bool, Option, Some, false, flat_map};
+ghost use Rattle.std.specs.Prelude.{◌≡◌, ◌↔◌, ◌∷◌, ◌++◌, List, ℕ, Bool, Option, Some, false, flat_map, All};
 ghost use Rattle.rc_text.specs.declared.token.Token.{Token};
 ghost use Rattle.rc_instr.specs.Rules.{RulesView};
 ghost use Rattle.rc_expand.specs.declared.line.Line.{Line};
@@ -7,7 +7,7 @@ ghost use Rattle.rc_expand.specs.declared.fault.ExpandFault.{ExpandFault};
 ghost use Rattle.rc_expand.specs.Results.{and_then};
 ghost use Rattle.rc_expand.specs.declared.heads.head.Head.{Head};
 ghost use Rattle.rc_expand.specs.Names.{Table};
-ghost use Rattle.rc_expand.specs.Expansion.{IsExpansion};
+ghost use Rattle.rc_expand.specs.Expansion.{IsExpansion, LineLies};
 ghost use Rattle.rc_expand.specs.declared.heads.head.HeadWord.TheVariants as word;
 ghost use Rattle.rc_expand.specs.Heads.Lines.{labelled};
 ghost use Rattle.rc_expand.specs.Heads.Nesting.{nesting_fault, AreNested, Closed, closed_lines, opens_or_closes, IsClosed};
@@ -17,6 +17,11 @@ ghost use Rattle.rc_expand.specs.Unroll.{Unrolled, Deeper, one_line, block_of, o
 /// A text has at most one expansion.
 pub fn one_expansion()
     ensures { (source : List ℕ) (constants : Table) (rules : RulesView) (a b : List Line) → IsExpansion source constants rules a → IsExpansion source constants rules b → a ≡ b }
+{}
+
+/// The span of each token of an expansion lies in the text.
+pub fn tokens_lie_in_the_text()
+    ensures { (source : List ℕ) (constants : Table) (rules : RulesView) (lines : List Line) → IsExpansion source constants rules lines → All (LineLies source) lines }
 {}
 
 /// Blocks have no fault exactly if all are closed and at most 8 are nested. Otherwise the fault is

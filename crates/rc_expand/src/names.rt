@@ -3,13 +3,13 @@ ghost use Rattle.std.specs.Prelude.{◌≡◌, ◌≢◌, List, ℕ, ◌++◌, M
 ghost use Rattle.std.specs.Str.{bytes_eq};
 ghost use Rattle.rc_expand.specs.Names.{entry_of, predefined, table_in, is_taken};
 ghost use Rattle.rc_expand.specs.Shared.{constants_of};
-ghost use Rattle.rc_text.specs.Symbols.{LiesIn, name_of, counter_text};
+ghost use Rattle.rc_text.specs.Symbols.{name_of, counter_text};
 ghost use Rattle.rc_expand.specs.Heads.NameTables.{joined_name};
 
 use crate::constants::Constants;
 use itoa::Buffer;
 use rc_instr::Rules;
-use rc_text::{Names, Token};
+use rc_text::{Names, Token, text_of};
 use std::alloc::{AllocError, Global};
 
 /// The names given from outside of a text: the constants, and the predefined names but `CURLINE`.
@@ -36,22 +36,18 @@ impl<'a> Names for GivenNames<'a> {
     }
 }
 
-/// Compares the name of a token, joined counters included, with `name`. The token's span must lie
-/// in `source`.
+/// Compares the name of a token, joined counters included, with `name`.
 pub fn spells(source: &[u8], token: &Token, name: &[u8]) -> bool
-    requires { LiesIn source.now token.now }
     ensures { result ≡ bytes_eq (name_of source.now token.now) name.now }
 {
-    is_joined_name(&source[token.lo..token.hi], token.joined.as_slice(), name)
+    is_joined_name(text_of(source, token), token.joined.as_slice(), name)
 }
 
-/// Returns the bytes of a token's name, joined counters included. The token's span must lie in
-/// `source`. Fails only if out of memory.
+/// Returns the bytes of a token's name, joined counters included. Fails only if out of memory.
 pub fn name_of(alloc: Global, source: &[u8], token: &Token) -> Result<Vec<u8>, AllocError>
-    requires { LiesIn source.now token.now }
     ensures { IfOk result (λ name. name.items ≡ name_of source.now token.now) }
 {
-    let mut name = Vec::from_slice(alloc, &source[token.lo..token.hi])?;
+    let mut name = Vec::from_slice(alloc, text_of(source, token))?;
     let mut buffer = Buffer::new();
     for counter in token.joined.as_slice() {
         name.extend_from_slice(counter_text(&mut buffer, *counter))?;
@@ -79,7 +75,6 @@ pub(crate) fn is_joined_name(bytes: &[u8], counters: &[u16], name: &[u8]) -> boo
 // Checks for a constant or a predefined name, CURLINE included.
 #[tactic(auto, unfolding(crate::specs::Names::is_taken))]
 pub(crate) fn is_taken(names: &GivenNames, source: &[u8], token: &Token) -> bool
-    requires { LiesIn source.now token.now }
     ensures { result ≡ is_taken (constants_of names.now) names.now.rules.now (name_of source.now token.now) }
 {
     names.value(source, token).is_some() || spells(source, token, b"CURLINE")
@@ -114,7 +109,6 @@ fn after_bytes<'a>(front: &[u8], bytes: &'a [u8]) -> Option<&'a [u8]>
 // Looks up a constant.
 #[tactic(auto, using(crate::proofs::TableSteps::found_ends, crate::proofs::TableSteps::found_passed))]
 fn constant_value(constants: &Constants, source: &[u8], token: &Token) -> Option<i64>
-    requires { LiesIn source.now token.now }
     ensures { result ≡ entry_of (table_in constants.now) (name_of source.now token.now) }
 {
     for i in 0..constants.names.len() {
@@ -131,7 +125,6 @@ fn constant_value(constants: &Constants, source: &[u8], token: &Token) -> Option
 // Compares a name with each predefined one but CURLINE, which has no value before lines are
 // counted.
 fn predefined_value(rules: &Rules, source: &[u8], token: &Token) -> Option<i64>
-    requires { LiesIn source.now token.now }
     ensures { result ≡ entry_of (predefined rules.now) (name_of source.now token.now) }
 {
     if spells(source, token, b"CORESIZE") {

@@ -2,7 +2,6 @@
 //! its tokens, in which EQU names give way to their own. EQU lines are dropped. The replacement of
 //! tokens is here, since the count of a FOR needs it too.
 ghost use Rattle.std.specs.Prelude.{◌≡◌, ◌≢◌, ℕ, List, [], ◌∷◌, ◌++◌, ◌+◌, ◌≤◌, length, MatchResult, Ok, Err, Some, None, option_map, All, IfSome, IfOk, OnOk};
-ghost use Rattle.rc_text.specs.Symbols.{LiesIn};
 ghost use Rattle.rc_expand.specs.Results.{Returns};
 ghost use Rattle.rc_expand.specs.Heads.NameTables.{at_index, AreIndices};
 ghost use Rattle.rc_expand.specs.Replace.{replaced_so_far, with_token, one, equ_in, equ_at, inner_at, replaced_within, replaced_tokens};
@@ -36,10 +35,7 @@ pub(crate) fn replace_tokens(
     front: Vec<Token>,
     tokens: &[Token],
 ) -> Result<Tokens, ExpandFault>
-    requires front { All (LiesIn context.now.source.now) front.items }
-    requires inside { All (LiesIn context.now.source.now) tokens.now }
-    ensures inside { IfOk result (All (LiesIn context.now.source.now)) }
-    ensures tokens { Returns (λ t. t) result (replaced_tokens context.now.source.now context.now.equs.now line front.items tokens.now) }
+    ensures { Returns (λ t. t) result (replaced_tokens context.now.source.now context.now.equs.now line front.items tokens.now) }
 {
     let indices = link_tokens(context.alloc, context.source, tokens, context.equs)?;
     let mut out = Replacing {
@@ -58,7 +54,6 @@ fn body_at<'a>(
 ) -> Option<(&'a [Token], &'a [Option<usize>])>
     ensures tokens { option_map (λ p. p.0.now) result ≡ option_map (λ e. e.tokens) (at_index context.now.equs.now index) }
     ensures indices { IfSome result (λ p. AreIndices context.now.source.now context.now.equs.now p.0.now p.1.now) }
-    ensures inside { IfSome result (λ p. All (LiesIn context.now.source.now) p.0.now) }
 {
     let i = index?;
     let equ = context.equs.at(i)?;
@@ -66,11 +61,8 @@ fn body_at<'a>(
 }
 
 // Appends a token that is not an EQU name.
-fn push_token(out: &mut Replacing, source: &[u8], token: &Token) -> Result<(), ExpandFault>
-    requires inside { LiesIn source.now token.now }
-    requires before { All (LiesIn source.now) out.old.tokens.items }
-    ensures after { OnOk result (All (LiesIn source.now) out.new.tokens.items) }
-    ensures adds { Returns (λ u. replaced_so_far out.new) result (with_token token.now (replaced_so_far out.old)) }
+fn push_token(out: &mut Replacing, token: &Token) -> Result<(), ExpandFault>
+    ensures { Returns (λ u. replaced_so_far out.new) result (with_token token.now (replaced_so_far out.old)) }
 {
     if out.tokens.len() >= MOST_TOKENS {
         return Err(fault(out.line, ExpandKind::TooManyTokens));
@@ -88,15 +80,12 @@ fn append_one(
     index: Option<usize>,
     levels: u8,
 ) -> Result<(), ExpandFault>
-    requires inside { LiesIn context.now.source.now token.now }
-    requires index { at_index context.now.equs.now index ≡ equ_in context.now.source.now context.now.equs.now token.now }
-    requires before { All (LiesIn context.now.source.now) out.old.tokens.items }
-    ensures after { OnOk result (All (LiesIn context.now.source.now) out.new.tokens.items) }
-    ensures adds { Returns (λ u. replaced_so_far out.new) result
+    requires { at_index context.now.equs.now index ≡ equ_in context.now.source.now context.now.equs.now token.now }
+    ensures { Returns (λ u. replaced_so_far out.new) result
         (one (inner_at context.now.source.now context.now.equs.now levels) token.now (equ_at context.now.source.now context.now.equs.now token.now) (replaced_so_far out.old)) }
 {
     match body_at(context, index) {
-        None => push_token(out, context.source, token),
+        None => push_token(out, token),
         Some((body, indices)) => {
             if levels == 0 {
                 return Err(fault(out.line, ExpandKind::EquTooDeep));
@@ -119,11 +108,8 @@ fn append_replaced(
     indices: &[Option<usize>],
     levels: u8,
 ) -> Result<(), ExpandFault>
-    requires inside { All (LiesIn context.now.source.now) tokens.now }
-    requires indices { AreIndices context.now.source.now context.now.equs.now tokens.now indices.now }
-    requires before { All (LiesIn context.now.source.now) out.old.tokens.items }
-    ensures after { OnOk result (All (LiesIn context.now.source.now) out.new.tokens.items) }
-    ensures adds { Returns (λ u. replaced_so_far out.new) result
+    requires { AreIndices context.now.source.now context.now.equs.now tokens.now indices.now }
+    ensures { Returns (λ u. replaced_so_far out.new) result
         (replaced_within context.now.source.now context.now.equs.now levels tokens.now (replaced_so_far out.old)) }
 {
     for i in 0..tokens.len() {

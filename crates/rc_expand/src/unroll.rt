@@ -4,11 +4,10 @@
 ghost use Rattle.std.specs.Prelude.{◌≡◌, ◌≢◌, ◌+◌, ◌<◌, ◌≤◌, length, All, IfOk, IfSome, OnOk, MatchOption, option_map, Some, None, Ok, Err};
 ghost use Rattle.rc_expand.specs.Results.{Returns};
 ghost use Rattle.rc_expand.specs.Shared.{shared};
-ghost use Rattle.rc_expand.specs.Heads.Lines.{HeadLies};
 ghost use Rattle.rc_expand.specs.Unroll.{with_line, with_earlier, line_checked, checked_line, one_line, copies_from, copy_of, block_of, deeper_at, unrolled_by, unrolled};
 ghost use Rattle.rc_expand.specs.Unroll.Openings.{earlier_of};
 ghost use Rattle.rc_expand.specs.Unroll.Cuts.{Cut, cut};
-ghost use Rattle.rc_expand.specs.Unroll.Reached.{line_in, lines_in, reached_part, reached_lines, unrolled_so_far, ReachedLies};
+ghost use Rattle.rc_expand.specs.Unroll.Reached.{line_in, lines_in, reached_part, reached_lines, unrolled_so_far};
 
 pub(crate) mod copy;
 pub(crate) mod opening;
@@ -31,9 +30,7 @@ pub(crate) fn unroll<'a>(
     context: &Context<'a>,
     heads: &'a [Head],
 ) -> Result<Vec<Reached<'a>>, ExpandFault>
-    requires lies { All (HeadLies context.now.source.now) heads.now }
-    ensures lines { Returns (λ v. reached_lines context.now.source.now v.items) result (unrolled (shared context.now) heads.now) }
-    ensures inside { IfOk result (λ v. All (ReachedLies context.now.source.now) v.items) }
+    ensures { Returns (λ v. reached_lines context.now.source.now v.items) result (unrolled (shared context.now) heads.now) }
 {
     let mut out = Unrolling {
         lines: Vec::new(context.alloc),
@@ -60,17 +57,14 @@ fn append_lines<'s, 'a>(
     scope: &Scope<'s, 'a>,
     heads: &'a [Head],
 ) -> Result<(), ExpandFault>
-    requires lies { All (HeadLies context.now.source.now) heads.now }
-    requires before { All (ReachedLies context.now.source.now) out.old.lines.items }
-    ensures adds { Returns (λ u. unrolled_so_far context.now.source.now out.new) result
+    ensures { Returns (λ u. unrolled_so_far context.now.source.now out.new) result
         (unrolled_by (shared context.now) scope.now.in_block scope.now.levels (lines_in context.now.source.now scope.now.copies.now heads.now)
         (unrolled_so_far context.now.source.now out.old)) }
-    ensures after { OnOk result (All (ReachedLies context.now.source.now) out.new.lines.items) }
 {
     let mut rest = heads;
     while let Some((head, after)) = rest.split_first() {
         match head.word {
-            HeadWord::For => match cut_block(context.source, after) {
+            HeadWord::For => match cut_block(after) {
                 None => return Err(fault(head.number, ExpandKind::ForWithoutRof)),
                 Some(block) => {
                     append_block(out, context, scope, head, &block)?;
@@ -87,11 +81,7 @@ fn append_lines<'s, 'a>(
 }
 
 // Cuts the lines after a FOR at its ROF, or returns `None` without one.
-fn cut_block<'a>(source: &[u8], lines: &'a [Head]) -> Option<CutBlock<'a>>
-    requires { All (HeadLies source.now) lines.now }
-    ensures lines { IfSome result (λ p. All (HeadLies source.now) p.lines.now) }
-    ensures rof { IfSome result (λ p. HeadLies source.now p.rof.now) }
-    ensures after { IfSome result (λ p. All (HeadLies source.now) p.after.now) }
+fn cut_block<'a>(lines: &'a [Head]) -> Option<CutBlock<'a>>
     ensures cut { MatchOption result (cut 0 lines.now ≡ None)
         (λ p. cut 0 lines.now ≡ Some (record { block = p.lines.now; rof = p.rof.now; after = p.after.now })) }
     ensures shorter { IfSome result (λ p. length p.after.now < length lines.now) }
@@ -124,11 +114,8 @@ fn append<'a>(
     head: &'a Head,
     is_earlier: bool,
 ) -> Result<(), ExpandFault>
-    requires head { HeadLies context.now.source.now head.now }
-    requires before { All (ReachedLies context.now.source.now) out.old.lines.items }
-    ensures adds { Returns (λ u. unrolled_so_far context.now.source.now out.new) result
+    ensures { Returns (λ u. unrolled_so_far context.now.source.now out.new) result
         (with_line (reached_part context.now.source.now is_earlier (line_in context.now.source.now copies.now head.now)) (unrolled_so_far context.now.source.now out.old)) }
-    ensures after { OnOk result (All (ReachedLies context.now.source.now) out.new.lines.items) }
 {
     if out.lines.len() + out.copy_count >= MOST_LINES {
         return Err(fault(head.number, ExpandKind::TooManyLines));
@@ -168,7 +155,6 @@ fn check_copied_line(
     head: &Head,
     in_block: bool,
 ) -> Result<(), ExpandFault>
-    requires { HeadLies context.now.source.now head.now }
     ensures { Returns (λ u. u) result (checked_line in_block (line_in context.now.source.now copies.now head.now)) }
 {
     if copies.is_empty() || is_short_line(head) {
@@ -185,11 +171,8 @@ fn append_line<'s, 'a>(
     scope: &Scope<'s, 'a>,
     head: &'a Head,
 ) -> Result<(), ExpandFault>
-    requires head { HeadLies context.now.source.now head.now }
-    requires before { All (ReachedLies context.now.source.now) out.old.lines.items }
-    ensures adds { Returns (λ u. unrolled_so_far context.now.source.now out.new) result
+    ensures { Returns (λ u. unrolled_so_far context.now.source.now out.new) result
         (one_line scope.now.in_block (line_in context.now.source.now scope.now.copies.now head.now) (unrolled_so_far context.now.source.now out.old)) }
-    ensures after { OnOk result (All (ReachedLies context.now.source.now) out.new.lines.items) }
 {
     check_copied_line(context, scope.copies, head, scope.in_block)?;
     append(out, context, scope.copies, head, false)
@@ -205,12 +188,9 @@ fn append_earlier<'a>(
     head: &'a Head,
     made: &Head,
 ) -> Result<(), ExpandFault>
-    requires head { HeadLies context.now.source.now head.now }
-    requires made { made.now ≡ line_in context.now.source.now copies.now head.now }
-    requires before { All (ReachedLies context.now.source.now) out.old.lines.items }
-    ensures adds { Returns (λ u. unrolled_so_far context.now.source.now out.new) result
+    requires { made.now ≡ line_in context.now.source.now copies.now head.now }
+    ensures { Returns (λ u. unrolled_so_far context.now.source.now out.new) result
         (with_earlier head.now.number (earlier_of made.now.labels) (unrolled_so_far context.now.source.now out.old)) }
-    ensures after { OnOk result (All (ReachedLies context.now.source.now) out.new.lines.items) }
 {
     if made.labels.as_slice().len() < 2 {
         return Ok(());
@@ -227,12 +207,9 @@ fn append_copy<'s, 'a>(
     block: &Block<'a>,
     number: u16,
 ) -> Result<(), ExpandFault>
-    requires block { All (HeadLies context.now.source.now) block.now.lines.now }
-    requires before { All (ReachedLies context.now.source.now) out.old.lines.items }
-    ensures adds { Returns (λ u. unrolled_so_far context.now.source.now out.new) result
+    ensures { Returns (λ u. unrolled_so_far context.now.source.now out.new) result
         (copy_of (shared context.now) (deeper_at (shared context.now) scope.now.levels) block.now.line (option_map (λ b. b.now) block.now.counter)
         (lines_in context.now.source.now scope.now.copies.now block.now.lines.now) number (unrolled_so_far context.now.source.now out.old)) }
-    ensures after { OnOk result (All (ReachedLies context.now.source.now) out.new.lines.items) }
 {
     if out.lines.len() + out.copy_count >= MOST_LINES {
         return Err(fault(block.line, ExpandKind::TooManyLines));
@@ -258,12 +235,9 @@ fn append_copies<'s, 'a>(
     scope: &Scope<'s, 'a>,
     block: &Block<'a>,
 ) -> Result<(), ExpandFault>
-    requires block { All (HeadLies context.now.source.now) block.now.lines.now }
-    requires before { All (ReachedLies context.now.source.now) out.old.lines.items }
-    ensures adds { Returns (λ u. unrolled_so_far context.now.source.now out.new) result
+    ensures { Returns (λ u. unrolled_so_far context.now.source.now out.new) result
         (copies_from (copy_of (shared context.now) (deeper_at (shared context.now) scope.now.levels) block.now.line (option_map (λ b. b.now) block.now.counter)
         (lines_in context.now.source.now scope.now.copies.now block.now.lines.now)) block.now.count 1 (unrolled_so_far context.now.source.now out.old)) }
-    ensures after { OnOk result (All (ReachedLies context.now.source.now) out.new.lines.items) }
 {
     for done in 0..block.count {
         append_copy(out, context, scope, block, done + 1)?;
@@ -281,15 +255,10 @@ fn append_block<'s, 'a>(
     head: &'a Head,
     cut: &CutBlock<'a>,
 ) -> Result<(), ExpandFault>
-    requires head { HeadLies context.now.source.now head.now }
-    requires lines { All (HeadLies context.now.source.now) cut.now.lines.now }
-    requires rof { HeadLies context.now.source.now cut.now.rof.now }
-    requires before { All (ReachedLies context.now.source.now) out.old.lines.items }
-    ensures adds { Returns (λ u. unrolled_so_far context.now.source.now out.new) result
+    ensures { Returns (λ u. unrolled_so_far context.now.source.now out.new) result
         (block_of (shared context.now) (deeper_at (shared context.now) scope.now.levels) (line_in context.now.source.now scope.now.copies.now head.now)
         (lines_in context.now.source.now scope.now.copies.now cut.now.lines.now) (line_in context.now.source.now scope.now.copies.now cut.now.rof.now)
         (unrolled_so_far context.now.source.now out.old)) }
-    ensures after { OnOk result (All (ReachedLies context.now.source.now) out.new.lines.items) }
 {
     let made = make_line(context.alloc, context.source, scope.copies, head)?;
     let made_rof = make_line(context.alloc, context.source, scope.copies, cut.rof)?;

@@ -1,6 +1,6 @@
 -- Between the tokens of a text there are only gaps.
 use Rattle.std.proofs.Common.{◌≡◌, ◌≢◌, ℕ, suc, zero, ◌+◌, ◌-◌, ◌≤◌, ◌<◌, Bool, true, false, List, [], ◌∷◌, get_or, take, drop, drop-drop, length-drop, length, refl, sym, subst, arith, ap, ◌∙◌, inl, inr}
-use Rattle.std.specs.Prelude.{Option, Some, None, if◌then◌else◌, ◌&&◌, ◌||◌, ◌==◌, ◌⊎◌, ◌^◌, nat_lt, not, codes, unwrap_or}
+use Rattle.std.specs.Prelude.{All, Option, Some, None, if◌then◌else◌, ◌&&◌, ◌||◌, ◌==◌, ◌⊎◌, ◌^◌, nat_lt, not, codes, unwrap_or}
 use Rattle.std.specs.Char.{is_ascii_digit}
 use Rattle.std.specs.List.{prefix_len}
 use Rattle.std.proofs.lemmas.Bool.Decides.{nat_tests}
@@ -16,12 +16,13 @@ use Rattle.rc_text.specs.Bytes.{is_blank, LINE_FEED, SEMICOLON, begins_name, dec
 use Rattle.rc_text.specs.Signs.{long_sign, short_sign}
 use Rattle.rc_text.specs.Headers.{extent, preceded, header_from, header_of}
 use Rattle.rc_text.specs.Tokens.{lexeme_of, sign_lexeme, is_assert, comment_len, tokens_from, tokens_of, TokenList, InOrder}
+use Rattle.rc_text.specs.Symbols.{LiesIn}
 use Rattle.rc_text.specs.TokenTexts.{is_number, is_one_token}
 use Rattle.rc_text.specs.Gaps.{IsComment, IsGap, EndsAt, is_line_end, OnlyGapsBetween}
 use Rattle.rc_text.proofs.LexemeSteps.{FitsIn, lexeme_fits, LiesAhead, lies_ahead, if_both}
 use Rattle.rc_text.proofs.LongestTokens.{no_sign, no_token, longer_other}
 use Rattle.rc_text.proofs.SpelledTokens.{number_taken}
-use Rattle.rc_text.proofs.Spans.{in_order_at}
+use Rattle.rc_text.proofs.Spans.{in_order_at, all_inside}
 
 -- what a lexeme says of the bytes at the front, where it is passed over or ends the tokens
 abbrev Says : List ℕ → Bool → Lexeme → Type 0
@@ -248,6 +249,10 @@ header_inside text = header_of_fits text (header_from text true false) (header_f
 -- the spans of the tokens follow one another after the header
 pub in_order_after_header : (text : List ℕ) → InOrder (header_of text).bytes (length text) (tokens_of text).tokens
 in_order_after_header text = in_order_at text true (header_of text).bytes (1 + (header_of text).lines) (header_inside text)
+
+-- so they lie in the text
+pub lie_in_the_text : (text : List ℕ) → All (LiesIn text) (tokens_of text).tokens
+lie_in_the_text text = all_inside text (header_of text).bytes (tokens_of text).tokens (in_order_after_header text)
 
 -- the tokens of a text have only gaps between them
 pub only_gaps : (text : List ℕ) → OnlyGapsBetween text true (header_of text).bytes (tokens_of text).tokens (tokens_of text).ending

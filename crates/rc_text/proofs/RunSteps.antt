@@ -1,10 +1,8 @@
 -- A run of signs before an operand.
 use Rattle.std.proofs.Common.{◌≡◌, ℕ, zero, suc, ◌+◌, ◌≤◌, Bool, true, false, cond, List, [], ◌∷◌, ◌++◌, drop, length, refl, ◌∙◌, ap, arith}
 use Rattle.std.proofs.Math.Numerals.{one-add}
-use Rattle.std.specs.Prelude.{All}
 use Rattle.std.specs.List.{prefix_len}
 use Rattle.std.proofs.lemmas.List.Sums.{prefix_len-le-length}
-use Rattle.std.proofs.lemmas.List.Elements.{All-tail}
 use Rattle.rc_text.specs.declared.token.Sign.{Sign}
 use Rattle.rc_text.specs.declared.token.Kind.TheVariants.{Sign as SignOf}
 use Rattle.rc_text.specs.Grammar.{is_prefix}
@@ -15,12 +13,6 @@ use Rattle.rc_text.specs.Reading.{is_prefix_kind, signed_by, signed_outcome}
 -- the run ends within the tokens
 pub within : (ts : List Token) (n : ℕ) → n ≡ prefix_len (λ t. is_prefix_kind t.kind) ts → n ≤ length ts
 within ts n e = rw e (prefix_len-le-length (λ t. is_prefix_kind t.kind) ts)
-
--- what holds of all tokens holds of those after the run
-pub rest_inside : (P : Token → Type 0) (n : ℕ) (ts : List Token) → All P ts → All P (drop n ts)
-rest_inside P zero ts h = h
-rest_inside P (suc n) [] h = h
-rest_inside P (suc n) (t ∷ ts) h = rest_inside P n ts (All-tail P t ts h)
 
 -- one token more
 unsigned_step : (t : Token) (ts : List Token) (n : ℕ) (b : Bool) → is_prefix_kind t.kind ≡ b → prefix_len (λ t. is_prefix_kind t.kind) (drop n ts) ≡ 0 → prefix_len (λ t. is_prefix_kind t.kind) (drop (cond b (1 + n) 0) (t ∷ ts)) ≡ 0

@@ -41,10 +41,6 @@ from_in_order (b ∷ bs) zero first at line h =
 pub in_order_at : (source : List ℕ) (first : Bool) (at line : ℕ) → at ≤ length source → InOrder at (length source) (tokens_from (drop at source) 0 first at line).tokens
 in_order_at source first at line h = moved _ _ _ _ _ (omega arith) (omega (arith, length-drop at source)) (from_in_order (drop at source) 0 first at line (omega arith))
 
--- the same, from the beginning
-pub in_order_from : (source : List ℕ) (first : Bool) (at line : ℕ) → at ≤ length source → InOrder 0 (length source) (tokens_from (drop at source) 0 first at line).tokens
-in_order_from source first at line h = from_lower 0 at (length source) _ (omega arith) (in_order_at source first at line h)
-
 -- spans in order lie in the source
 pub all_inside : (source : List ℕ) (l : ℕ) (ts : List Token) → InOrder l (length source) ts → All (LiesIn source) ts
 all_inside source l [] h = λ k d lt. absurd (omega arith)

@@ -1,5 +1,5 @@
--- How an expression is read from the left, for any meaning of its parts. For contracts of private
--- functions and for laws; Grammar and Values say what an expression means.
+-- How an expression is read from the left, for any meaning of its parts. What `eval` returns is
+-- defined here; laws say that this is the value or the first fault of Grammar and Values.
 use Rattle.std.specs.Prelude.{◌≡◌, ℕ, suc, ◌≤◌, ◌<◌, Bool, true, false, nat_lt, nat_le, List, [], ◌∷◌, Result, Ok, Err, if◌then◌else◌, pos}
 use Rattle.std.specs.Result.{result_flatten}
 use Rattle.rc_text.specs.declared.token.Sign.{Sign}

@@ -1,9 +1,8 @@
 //! Evaluation of expressions, by precedence climbing.
 ghost use Rattle.std.specs.Prelude.{true, ◌≡◌, ℤ, ◌<◌, ◌≤◌, [], ◌∷◌, length, IfOk, IfErr, IfSome, IfNone, All, MatchResult, Result};
 ghost use Rattle.std.specs.List.{prefix_len};
-ghost use Rattle.rc_text.specs.declared.fault.EvalFault.{EvalFault};
-ghost use Rattle.rc_text.specs.Values.{IsValue, IsEvalFault, HasOutcome, DEEPEST};
-ghost use Rattle.rc_text.specs.Symbols.{LiesIn, symbol_of, symbols_of, Mark};
+ghost use Rattle.rc_text.specs.Values.{DEEPEST};
+ghost use Rattle.rc_text.specs.Symbols.{symbol_of, symbols_of, Mark};
 ghost use Rattle.rc_text.specs.Reading.{ReadsOperand, RefusesOperand, Stops, is_prefix_kind, signed_by, signed_outcome, evaluation_of};
 
 use crate::fault::EvalFault;
@@ -15,8 +14,7 @@ use crate::operator::{
 };
 use crate::token::{Kind, Sign, Token};
 
-/// Evaluates an expression, which has to be all of `tokens`. Each token's span must lie in
-/// `source`.
+/// Evaluates an expression, which has to be all of `tokens`.
 ///
 /// Unary `+`, `-` and `!` bind tightest, then from tight to loose `*` `/` `%`; `+` `-`; `<` `>`
 /// `<=` `>=`; `==` `!=`; `&&`; `||`, each level from the left (the operators of pMARS). Every
@@ -28,14 +26,8 @@ use crate::token::{Kind, Sign, Token};
 /// whichever comes first from the left. In an expression it then refuses the first from the left of
 /// a name without a value (`UnknownName`), a zero divisor (`DivisionByZero`) and a result that does
 /// not fit (`Overflow`).
-#[tactic(auto, using(crate::proofs::Evaluation::is_its_value, crate::proofs::Evaluation::is_its_fault, crate::proofs::Evaluation::is_its_only))]
 pub fn eval<N: Names>(source: &[u8], tokens: &[Token], names: &N) -> Result<i64, EvalFault>
-    requires { All (LiesIn source.now) tokens.now }
-    ensures value { IfOk result (IsValue (N.meaning names.now) (symbols_of source.now tokens.now)) }
-    ensures fault { IfErr result (IsEvalFault (N.meaning names.now) (symbols_of source.now tokens.now)) }
-    ensures only { (r : Result ℤ EvalFault) →
-        HasOutcome (N.meaning names.now) (symbols_of source.now tokens.now) r → result ≡ r }
-    ensures reading { result ≡ evaluation_of (N.meaning names.now) (symbols_of source.now tokens.now) }
+    ensures { result ≡ evaluation_of (N.meaning names.now) (symbols_of source.now tokens.now) }
 {
     match tokens {
         [token] => eval_token(source, token, names),
@@ -46,7 +38,6 @@ pub fn eval<N: Names>(source: &[u8], tokens: &[Token], names: &N) -> Result<i64,
 // Evaluates an expression of one token: most have no more.
 #[tactic(auto, unfolding(crate::specs::Reading::before_operand, crate::specs::Reading::after_operand))]
 fn eval_token<N: Names>(source: &[u8], token: &Token, names: &N) -> Outcome
-    requires { LiesIn source.now token.now }
     ensures { result ≡ evaluation_of (N.meaning names.now) (symbol_of source.now token.now ∷ []) }
 {
     match token.kind {
@@ -58,7 +49,6 @@ fn eval_token<N: Names>(source: &[u8], token: &Token, names: &N) -> Outcome
 
 // Climbs all of the tokens. One that is left over is a `Syntax` fault.
 fn climb_all<N: Names>(source: &[u8], tokens: &[Token], names: &N) -> Outcome
-    requires { All (LiesIn source.now) tokens.now }
     ensures { result ≡ evaluation_of (N.meaning names.now) (symbols_of source.now tokens.now) }
 {
     let (outcome, rest) = climb(source, tokens, names, 1, 0)?;
@@ -101,13 +91,11 @@ fn group<'a, N: Names>(
     names: &N,
     depth: u8,
 ) -> Result<(Outcome, &'a [Token]), EvalFault>
-    requires inside { All (LiesIn source.now) tokens.now }
     requires room { depth ≤ DEEPEST }
     ensures read { MatchResult result
         (λ r. ReadsOperand (N.meaning names.now) 8 depth
         (Mark Sign.Open ∷ symbols_of source.now tokens.now) r.0 (symbols_of source.now r.1.now))
         (RefusesOperand (N.meaning names.now) 8 depth (Mark Sign.Open ∷ symbols_of source.now tokens.now)) }
-    ensures inside { IfOk result (λ r. All (LiesIn source.now) r.1.now) }
     ensures shorter { IfOk result (λ r. length r.1.now < length tokens.now) }
 {
     if depth == limits::DEEPEST {
@@ -128,14 +116,12 @@ fn primary<'a, N: Names>(
     names: &N,
     depth: u8,
 ) -> Result<(Outcome, &'a [Token]), EvalFault>
-    requires inside { All (LiesIn source.now) tokens.now }
     requires room { depth ≤ DEEPEST }
     requires unsigned { prefix_len (λ t. is_prefix_kind t.kind) tokens.now ≡ 0 }
     ensures read { MatchResult result
         (λ r. ReadsOperand (N.meaning names.now) 8 depth
         (symbols_of source.now tokens.now) r.0 (symbols_of source.now r.1.now))
         (RefusesOperand (N.meaning names.now) 8 depth (symbols_of source.now tokens.now)) }
-    ensures inside { IfOk result (λ r. All (LiesIn source.now) r.1.now) }
     ensures shorter { IfOk result (λ r. length r.1.now < length tokens.now) }
 {
     match first_of(source, tokens) {
@@ -160,13 +146,11 @@ fn operand<'a, N: Names>(
     names: &N,
     depth: u8,
 ) -> Result<(Outcome, &'a [Token]), EvalFault>
-    requires inside { All (LiesIn source.now) tokens.now }
     requires room { depth ≤ DEEPEST }
     ensures read { MatchResult result
         (λ r. ReadsOperand (N.meaning names.now) 8 depth
         (symbols_of source.now tokens.now) r.0 (symbols_of source.now r.1.now))
         (RefusesOperand (N.meaning names.now) 8 depth (symbols_of source.now tokens.now)) }
-    ensures inside { IfOk result (λ r. All (LiesIn source.now) r.1.now) }
     ensures shorter { IfOk result (λ r. length r.1.now < length tokens.now) }
 {
     let (signs, unsigned) = split_signs(source, tokens);
@@ -183,7 +167,6 @@ fn climb<'a, N: Names>(
     level: u8,
     depth: u8,
 ) -> Result<(Outcome, &'a [Token]), EvalFault>
-    requires inside { All (LiesIn source.now) tokens.now }
     requires room { depth ≤ DEEPEST }
     requires level { 0 < level }
     requires tightest { level ≤ 7 }
@@ -192,7 +175,6 @@ fn climb<'a, N: Names>(
         (symbols_of source.now tokens.now) r.0 (symbols_of source.now r.1.now))
         (RefusesOperand (N.meaning names.now) level depth (symbols_of source.now tokens.now)) }
     ensures stops { IfOk result (λ r. Stops level (symbols_of source.now r.1.now)) }
-    ensures inside { IfOk result (λ r. All (LiesIn source.now) r.1.now) }
     ensures shorter { IfOk result (λ r. length r.1.now < length tokens.now) }
 {
     let (mut left, mut rest) = operand(source, tokens, names, depth)?;

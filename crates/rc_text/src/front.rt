@@ -1,8 +1,8 @@
 //! The first tokens of an expression.
-ghost use Rattle.std.specs.Prelude.{◌≡◌, ◌<◌, ◌≤◌, [], ◌∷◌, length, take, drop, IfSome, IfNone, All};
+ghost use Rattle.std.specs.Prelude.{◌≡◌, ◌<◌, ◌≤◌, [], ◌∷◌, length, take, drop, IfSome, IfNone};
 ghost use Rattle.std.specs.List.{prefix_len};
 ghost use Rattle.rc_text.specs.Grammar.{level_of};
-ghost use Rattle.rc_text.specs.Symbols.{LiesIn, symbol_of, symbols_of, Mark};
+ghost use Rattle.rc_text.specs.Symbols.{symbol_of, symbols_of, Mark};
 ghost use Rattle.rc_text.specs.Reading.{Stops, BeginsWithoutClose, is_prefix_kind};
 
 use crate::operator::{is_prefix, level_of};
@@ -10,12 +10,9 @@ use crate::token::{Kind, Sign, Token};
 
 // Splits off the first token.
 pub(crate) fn first_of<'a>(source: &[u8], tokens: &'a [Token]) -> Option<(&'a Token, &'a [Token])>
-    requires { All (LiesIn source.now) tokens.now }
     ensures tokens { IfSome result (λ p. tokens.now ≡ p.0.now ∷ p.1.now) }
     ensures symbols { IfSome result (λ p.
         symbols_of source.now tokens.now ≡ symbol_of source.now p.0.now ∷ symbols_of source.now p.1.now) }
-    ensures first { IfSome result (λ p. LiesIn source.now p.0.now) }
-    ensures inside { IfSome result (λ p. All (LiesIn source.now) p.1.now) }
     ensures shorter { IfSome result (λ p. length p.1.now < length tokens.now) }
     ensures none { IfNone result (symbols_of source.now tokens.now ≡ []) }
 {
@@ -28,11 +25,9 @@ pub(crate) fn operator<'a>(
     tokens: &'a [Token],
     level: u8,
 ) -> Option<(Sign, &'a [Token])>
-    requires inside { All (LiesIn source.now) tokens.now }
     requires level { 0 < level }
     ensures symbols { IfSome result (λ p.
         symbols_of source.now tokens.now ≡ Mark p.0 ∷ symbols_of source.now p.1.now) }
-    ensures inside { IfSome result (λ p. All (LiesIn source.now) p.1.now) }
     ensures shorter { IfSome result (λ p. length p.1.now < length tokens.now) }
     ensures tight { IfSome result (λ p. level ≤ level_of p.0) }
     ensures stops { IfNone result (Stops level (symbols_of source.now tokens.now)) }
@@ -46,10 +41,8 @@ pub(crate) fn operator<'a>(
 
 // Returns the tokens after a closing parenthesis, if one comes first.
 pub(crate) fn after_close<'a>(source: &[u8], tokens: &'a [Token]) -> Option<&'a [Token]>
-    requires { All (LiesIn source.now) tokens.now }
     ensures symbols { IfSome result (λ rest.
         symbols_of source.now tokens.now ≡ Mark Sign.Close ∷ symbols_of source.now rest.now) }
-    ensures inside { IfSome result (λ rest. All (LiesIn source.now) rest.now) }
     ensures shorter { IfSome result (λ rest. length rest.now < length tokens.now) }
     ensures none { IfNone result (BeginsWithoutClose (symbols_of source.now tokens.now)) }
 {
@@ -61,13 +54,11 @@ pub(crate) fn after_close<'a>(source: &[u8], tokens: &'a [Token]) -> Option<&'a 
 }
 
 // Splits `tokens` after the prefix operators that they begin with.
-#[tactic(auto, using(crate::proofs::RunSteps::within, crate::proofs::RunSteps::rest_inside, crate::proofs::RunSteps::unsigned))]
+#[tactic(auto, using(crate::proofs::RunSteps::within, crate::proofs::RunSteps::unsigned))]
 pub(crate) fn split_signs<'a>(source: &[u8], tokens: &'a [Token]) -> (&'a [Token], &'a [Token])
-    requires { All (LiesIn source.now) tokens.now }
     ensures signs { result.0.now ≡ take (prefix_len (λ t. is_prefix_kind t.kind) tokens.now) tokens.now }
     ensures rest { result.1.now ≡ drop (prefix_len (λ t. is_prefix_kind t.kind) tokens.now) tokens.now }
     ensures unsigned { prefix_len (λ t. is_prefix_kind t.kind) result.1.now ≡ 0 }
-    ensures inside { All (LiesIn source.now) result.1.now }
     ensures shorter { length result.1.now ≤ length tokens.now }
 {
     tokens.split_at(sign_count(tokens))

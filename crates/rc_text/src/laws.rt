@@ -5,9 +5,9 @@ ghost use Rattle.rc_text.specs.TokenTexts.{StandsIn};
 ghost use Rattle.rc_text.specs.Gaps.{OnlyGapsBetween};
 ghost use Rattle.rc_text.specs.Headers.{header_of};
 ghost use Rattle.rc_text.specs.Tokens.{tokens_of, InOrder};
-ghost use Rattle.rc_text.specs.Symbols.{Symbol};
+ghost use Rattle.rc_text.specs.Symbols.{LiesIn, Symbol};
 ghost use Rattle.rc_text.specs.Grammar.{Tree, IsGrammatical, spelling_of};
-ghost use Rattle.rc_text.specs.Values.{Meaning, IsValue, IsEvalFault};
+ghost use Rattle.rc_text.specs.Values.{Meaning, Outcome, IsValue, IsEvalFault, HasOutcome};
 ghost use Rattle.rc_text.specs.Reading.{evaluation_of};
 
 /// Each token of a text is spelled by its bytes and is the longest at its place. Its line is 1 plus
@@ -21,6 +21,11 @@ pub fn tokens_stand_in_the_text()
 pub fn tokens_skip_blanks_and_comments()
     ensures order { (text : List ℕ) → InOrder (header_of text).bytes (length text) (tokens_of text).tokens }
     ensures gaps { (text : List ℕ) → OnlyGapsBetween text true (header_of text).bytes (tokens_of text).tokens (tokens_of text).ending }
+{}
+
+/// The span of each token of a text lies in the text.
+pub fn tokens_lie_in_the_text()
+    ensures { (text : List ℕ) → All (LiesIn text) (tokens_of text).tokens }
 {}
 
 /// The grammar is unambiguous: no two of its trees have the same symbols.
@@ -39,4 +44,11 @@ pub fn reading_finds_the_value()
 pub fn reading_finds_a_fault()
     ensures { (names : Meaning) (symbols : List Symbol) (fault : EvalFault) →
         evaluation_of names symbols ≡ Err fault → IsEvalFault names symbols fault }
+{}
+
+/// Reading from the left finds the outcome of an expression that has one, value or fault, so that
+/// it has no other.
+pub fn reading_finds_every_outcome()
+    ensures { (names : Meaning) (symbols : List Symbol) (outcome : Outcome) →
+        HasOutcome names symbols outcome → evaluation_of names symbols ≡ outcome }
 {}

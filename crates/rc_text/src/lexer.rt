@@ -34,13 +34,11 @@ impl<'a> Model for Lexer<'a> {
 }
 
 impl<'a> Lexer<'a> {
-    ghost use Rattle.rc_text.specs.Tokens.{ahead_of, InOrder, TakesToken};
+    ghost use Rattle.rc_text.specs.Tokens.{ahead_of, TakesToken};
 
     /// Creates a lexer before the first token of `source`.
-    #[tactic(auto, using(crate::proofs::Spans::in_order_from))]
     pub fn new(source: &'a [u8]) -> Self
-        ensures tokens { result ≡ ahead_of source.now }
-        ensures spans { InOrder 0 (length source.now) result.tokens }
+        ensures { result ≡ ahead_of source.now }
     {
         let header = header_of(source);
         Lexer {

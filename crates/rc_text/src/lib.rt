@@ -24,4 +24,4 @@ pub use expression::eval;
 pub use fault::{EvalFault, LexFault};
 pub use lexer::Lexer;
 pub use names::Names;
-pub use token::{Joined, Kind, Sign, Token};
+pub use token::{Joined, Kind, Sign, Token, text_of};

@@ -1,6 +1,6 @@
 //! The values of names in an expression.
 ghost use Rattle.std.specs.Prelude.{◌≡◌, List, ℕ, ℤ, Option};
-ghost use Rattle.rc_text.specs.Symbols.{LiesIn, name_of};
+ghost use Rattle.rc_text.specs.Symbols.{name_of};
 
 use crate::token::Token;
 
@@ -8,9 +8,7 @@ use crate::token::Token;
 pub trait Names {
     ghost meaning: { Self → List ℕ → Option ℤ };
 
-    /// Returns the value of the name that a token spells, joined counters included, or `None`. The
-    /// token's span must lie in `source`.
+    /// Returns the value of the name that a token spells, joined counters included, or `None`.
     fn value(&self, source: &[u8], name: &Token) -> Option<i64>
-        requires { LiesIn source.now name.now }
         ensures { result ≡ meaning self.now (name_of source.now name.now) };
 }

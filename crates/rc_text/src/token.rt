@@ -1,5 +1,5 @@
 //! Tokens, their kinds, and the counters joined to them.
-ghost use Rattle.std.specs.Prelude.{◌≡◌, ◌↔◌, ◌<◌, ◌≤◌, ◌++◌, ◌∷◌, [], length, IsTrue};
+ghost use Rattle.std.specs.Prelude.{◌≡◌, ◌↔◌, ◌<◌, ◌≤◌, ◌++◌, ◌∷◌, [], length, IsTrue, slice_range};
 
 use arrayvec::ArrayVec;
 use std::marker::Model;
@@ -142,4 +142,13 @@ pub struct Token {
     pub line: u64,
     /// The counters that the expansion joined to its name; always empty from a lexer.
     pub joined: Joined,
+}
+
+/// Returns the bytes of a token's span. What of the span is not in `source` is left out.
+pub fn text_of<'a>(source: &'a [u8], token: &Token) -> &'a [u8]
+    ensures { result.now ≡ slice_range source.now token.now.lo token.now.hi }
+{
+    let hi = token.hi.min(source.len());
+    let lo = token.lo.min(hi);
+    &source[lo..hi]
 }

@@ -1,12 +1,10 @@
 -- Places in a table of names.
 use Rattle.std.proofs.Common.{◌≡◌, ℕ, zero, suc, ◌+◌, ◌<◌, false, List, [], ◌∷◌, ◌++◌, map, Option, None, Some, drop, get_or, length, refl, sym, ◌∙◌, ap, append_assoc, add-one, arith}
-use Rattle.std.specs.Prelude.{is_some, slice_get, IfSome, All}
+use Rattle.std.specs.Prelude.{is_some, slice_get, IfSome}
 use Rattle.std.specs.Global.{Vec}
 use Rattle.std.proofs.lemmas.List.{append-nil, map-append}
-use Rattle.std.proofs.lemmas.List.Elements.{All-same}
 use Rattle.rc_text.specs.declared.token.Token.{Token}
-use Rattle.rc_text.specs.Symbols.{LiesIn}
-use Rattle.rc_expand.specs.Replace.{EquText, Equs, EqusLie, equ_in}
+use Rattle.rc_expand.specs.Replace.{EquText, Equs, equ_in}
 use Rattle.rc_expand.specs.Heads.NameTables.{at_index, AreIndices, AreLinks}
 
 module _ {A : Type 0} where
@@ -104,9 +102,3 @@ module _ (source : List ℕ) (equs : Equs) where
       ap (map (at_index equs)) (p ∙ ap (λ (v : Vec (Option ℕ)). v.items) e)
       ∙ (same_at (λ (v : Vec (Option ℕ)). map (at_index equs) v.items) (λ x. map (equ_in source equs) x.1.tokens) links equs i l d a (index_inside equs i body h)
       ∙ ap (map (equ_in source equs)) (ap (λ (e : EquText). e.tokens) (value_is equs i body d h) ∙ sym t))
-
-  -- and lie in the source
-  pub body_lies : (i : ℕ) (body : EquText) (tokens : List Token) → EqusLie source equs → Some body ≡ at_index equs (Some i) → tokens ≡ body.tokens → All (LiesIn source) tokens
-  body_lies i body tokens a h t =
-      let d : List ℕ × EquText = ([], body) in
-      All-same (LiesIn source) tokens (get_or equs i d).1.tokens (t ∙ sym (ap (λ (e : EquText). e.tokens) (value_is equs i body d h))) (a i d (index_inside equs i body h))

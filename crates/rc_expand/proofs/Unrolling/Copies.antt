@@ -1,10 +1,9 @@
 -- Steps of the copies.
 use Rattle.std.proofs.Common.{◌≡◌, ℕ, ◌+◌, ◌≤◌, ◌<◌, Bool, true, false, List, [], ◌∷◌, ◌++◌, get_or, take, drop, drop-cons, length, length-drop, refl, arith, sym, ◌∙◌, ap, add-one, Option, Some, subst}
-use Rattle.std.specs.Prelude.{◌&&◌, option_map, option_and_then, nat_lt, All}
+use Rattle.std.specs.Prelude.{◌&&◌, option_map, option_and_then, nat_lt}
 use Rattle.std.proofs.lemmas.List.{drop-drop}
 use Rattle.std.proofs.lemmas.Bool.Decides.{nat_tests}
 use Rattle.rc_text.specs.declared.token.Token.{Token}
-use Rattle.rc_text.specs.Symbols.{LiesIn}
 use Rattle.rc_expand.specs.Limits.{MOST_JOINED}
 use Rattle.rc_expand.specs.Heads.Lines.{is_name_token, is_ampersand, has_modifier}
 use Rattle.rc_expand.specs.Unroll.Copies.{is_counter, numbered, joins, joined, copied_from, copied_tokens, copied_code}
@@ -19,10 +18,6 @@ split_two : (ts : List Token) (i : ℕ) (u v : Token) → i + 1 < length ts → 
 split_two ts i u v h e f =
     let n : i + 1 + 1 ≡ i + 2 = omega arith in
     split_at ts i u (omega arith) e ∙ ap (λ r. u ∷ r) (split_at ts (i + 1) v h f ∙ ap (λ k. v ∷ drop k ts) n)
-
--- a name keeps its span when a counter is joined to it
-pub joined_lies : (source : List ℕ) (t : Token) (ks : List ℕ) → LiesIn source t → LiesIn source (record t { joined = ks })
-joined_lies source t ks h = record { order = h.order; inside = h.inside }
 
 module _ (source : List ℕ) (counter : List ℕ) where
   joins_short_list : (t : Token) (ts : List Token) → length ts ≤ 1 → joins source counter t ts ≡ false
@@ -102,10 +97,6 @@ module _ (source : List ℕ) (counter : List ℕ) where
 -- an equal item
 pub same_read : {A : Type 0} (xs : List A) (i : ℕ) (x y : A) → x ≡ y → y ≡ get_or xs i y → x ≡ get_or xs i x
 same_read xs i x y e h = subst (λ z. z ≡ get_or xs i z) (sym e) h
-
--- a token of a list lies where all do
-pub item_lies : (source : List ℕ) (ts : List Token) (i : ℕ) (t : Token) → i < length ts → t ≡ get_or ts i t → All (LiesIn source) ts → LiesIn source t
-item_lies source ts i t h e all = subst (LiesIn source) (sym e) (all i t h)
 
 -- after an opcode word and a dot the modifier is left alone
 module _ (source : List ℕ) (counter : List ℕ) (k : ℕ) where

@@ -1,6 +1,6 @@
 -- Lines: labels, a word, and what comes after it (labels are from the 1994 draft, colons and names
 -- joined by `&` from pMARS).
-use Rattle.std.specs.Prelude.{ℕ, suc, Bool, true, false, ◌&&◌, ◌||◌, not, List, [], ◌∷◌, ◌++◌, Option, Some, None, if◌then◌else◌, option_and_then, Result, Ok, Err, IfSome, All, codes, slice_range}
+use Rattle.std.specs.Prelude.{ℕ, suc, Bool, true, false, ◌&&◌, ◌||◌, not, List, [], ◌∷◌, ◌++◌, Option, Some, None, if◌then◌else◌, option_and_then, Result, Ok, Err, codes, slice_range}
 use Rattle.rc_text.specs.declared.token.Sign.TheVariants.{Ampersand, Colon, Dot}
 use Rattle.rc_text.specs.declared.token.Kind.{Kind}
 use Rattle.rc_text.specs.declared.token.Kind.TheVariants.{Name, Sign as SignOf, Assert}
@@ -10,7 +10,6 @@ use Rattle.rc_text.specs.declared.class.NameClass.TheVariants.{Reserved}
 use Rattle.rc_text.specs.Bytes.{is_same_word}
 use Rattle.rc_text.specs.NameClasses.{class_of, is_opcode_word}
 use Rattle.rc_text.specs.Gaps.{is_line_end}
-use Rattle.rc_text.specs.Symbols.{LiesIn}
 use Rattle.rc_expand.specs.declared.heads.head.Head.{Head}
 use Rattle.rc_expand.specs.declared.heads.head.HeadWord.{HeadWord}
 use Rattle.rc_expand.specs.declared.heads.head.HeadWord.TheVariants as word
@@ -201,9 +200,3 @@ module _ (source : List ℕ) where
   lines_from fault front [] = lines_unless fault (line_of_tokens front)
   lines_from fault front (t ∷ ts) =
       choose (is_line_end t.kind) (λ i. line_then (line_of_tokens front) (lines_from fault [] ts)) (λ i. lines_from fault (front ++ (t ∷ [])) ts)
-
-  -- the spans of the tokens of a line lie in the source
-  pub record HeadLies (h : Head) : Type 0 where
-    pub labels : All (All (LiesIn source)) h.labels
-    pub directive : IfSome h.directive (LiesIn source)
-    pub rest : All (LiesIn source) h.rest

@@ -4,7 +4,7 @@ use Rattle.rc_expand.specs.declared.heads.head.Head.{Head}
 use Rattle.rc_expand.specs.declared.unroll.reached.Copying.{Copying}
 use Rattle.rc_expand.specs.declared.unroll.reached.Reached.{Reached}
 use Rattle.rc_expand.specs.declared.unroll.unrolling.Unrolling.{Unrolling}
-use Rattle.rc_expand.specs.Heads.Lines.{bare_line, HeadLies}
+use Rattle.rc_expand.specs.Heads.Lines.{bare_line}
 use Rattle.rc_expand.specs.Unroll.{Unrolled}
 use Rattle.rc_expand.specs.Unroll.Copies.{copied_line}
 use Rattle.rc_expand.specs.Unroll.Openings.{earlier_of}
@@ -35,7 +35,3 @@ module _ (source : List ℕ) where
   -- the lines that were reached so far, and the number of copies made for them
   abbrev pub unrolled_so_far : Unrolling → Unrolled
   unrolled_so_far u = record { lines = reached_lines u.lines.items; copies = u.copy_count }
-
-  -- the spans of the tokens of its line in the text lie in the source
-  abbrev pub ReachedLies : Reached → Type 0
-  ReachedLies r = HeadLies source r.head.now

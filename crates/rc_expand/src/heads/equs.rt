@@ -1,13 +1,11 @@
 //! EQU lines: the table of EQU names and their tokens.
 ghost use Rattle.std.specs.Prelude.{◌≡◌, ◌≢◌, [], ◌∷◌, ◌++◌, false, is_some, option_map, All, IfOk, MatchResult, Some, None, Ok, Err};
 ghost use Rattle.rc_expand.specs.declared.fault.ExpandKind.TheVariants.{BadDirective};
-ghost use Rattle.rc_text.specs.Symbols.{LiesIn, name_of};
+ghost use Rattle.rc_text.specs.Symbols.{name_of};
 ghost use Rattle.rc_expand.specs.Results.{Returns, at_line};
-ghost use Rattle.rc_expand.specs.Heads.Lines.{HeadLies};
 ghost use Rattle.rc_expand.specs.Heads.{equ_token, equs_of, with_equ};
 ghost use Rattle.rc_expand.specs.Shared.{constants_of};
 ghost use Rattle.rc_expand.specs.Names.{entry_of};
-ghost use Rattle.rc_expand.specs.Replace.{EqusLie};
 
 use crate::fault::{ExpandFault, ExpandKind, fault};
 use crate::heads::head::{Head, HeadWord};
@@ -53,9 +51,7 @@ pub(crate) fn collect_equs(
     names: &GivenNames,
     heads: &[Head],
 ) -> Result<NameTable<'static, Equ>, ExpandFault>
-    requires { All (HeadLies source.now) heads.now }
-    ensures equs { Returns (λ t. t) result (equs_of source.now (constants_of names.now) names.now.rules.now heads.now) }
-    ensures inside { IfOk result (EqusLie source.now) }
+    ensures { Returns (λ t. t) result (equs_of source.now (constants_of names.now) names.now.rules.now heads.now) }
 {
     let mut open_blocks: usize = 0;
     let mut equs = NameTable::new(alloc);
@@ -77,9 +73,7 @@ pub(crate) fn collect_equs(
 
 // Returns the name before EQU. `BadDirective` unless it is the only label, written without `&`.
 fn equ_token<'a>(source: &[u8], head: &'a Head) -> Result<&'a Token, ExpandFault>
-    requires { HeadLies source.now head.now }
     ensures token { MatchResult result (λ t. equ_token source.now head.now.labels ≡ Some t.now) (λ e. (equ_token source.now head.now.labels ≡ None) × (e ≡ at_line head.now.number BadDirective)) }
-    ensures inside { IfOk result (λ t. LiesIn source.now t.now) }
     ensures written { IfOk result (λ t. t.now.joined ≡ []) }
 {
     let plain = match head.labels.as_slice() {
@@ -100,10 +94,8 @@ fn read_equ(
     equs: &NameTable<Equ>,
     head: &Head,
 ) -> Result<(KeptName<'static>, Equ), ExpandFault>
-    requires head { HeadLies source.now head.now }
     ensures equ { Returns (λ e. equs.now ++ (e ∷ [])) result (with_equ source.now (constants_of names.now) names.now.rules.now head.now equs.now (equ_token source.now head.now.labels)) }
     ensures new { IfOk result (λ e. is_some (entry_of equs.now e.0) ≡ false) }
-    ensures inside { IfOk result (λ e. All (LiesIn source.now) e.1.tokens) }
 {
     let token = equ_token(source, head)?;
     if is_taken(names, source, token) || equ_line(equs, source, token).is_some() {
@@ -117,7 +109,6 @@ fn read_equ(
 
 // Returns the line that defines the EQU name that a token is.
 pub(crate) fn equ_line(equs: &NameTable<Equ>, source: &[u8], token: &Token) -> Option<u64>
-    requires { LiesIn source.now token.now }
     ensures { result ≡ option_map (λ e. e.line) (entry_of equs.now (name_of source.now token.now)) }
 {
     let equ = equs.get(source, token)?;

@@ -1,6 +1,5 @@
 //! Labels that are a single name.
 ghost use Rattle.std.specs.Prelude.{◌≡◌, [], All, IfSome, option_map};
-ghost use Rattle.rc_text.specs.Symbols.{LiesIn};
 ghost use Rattle.rc_expand.specs.Heads.Lines.{label_token, plain_token};
 
 use crate::heads::words::{is_colon, is_free, is_unjoined};
@@ -8,9 +7,7 @@ use rc_text::Token;
 
 // Returns the name of a label that is a single name, with or without its colon.
 pub(crate) fn label_token<'a>(source: &[u8], label: &'a [Token]) -> Option<&'a Token>
-    requires { All (LiesIn source.now) label.now }
-    ensures token { option_map (λ t. t.now) result ≡ label_token source.now label.now }
-    ensures inside { IfSome result (λ t. LiesIn source.now t.now) }
+    ensures { option_map (λ t. t.now) result ≡ label_token source.now label.now }
 {
     match label {
         [token] => if is_free(source, token) {
@@ -29,9 +26,7 @@ pub(crate) fn label_token<'a>(source: &[u8], label: &'a [Token]) -> Option<&'a T
 
 // Returns the name of a label that is a single name written without `&`.
 pub(crate) fn plain_token<'a>(source: &[u8], label: &'a [Token]) -> Option<&'a Token>
-    requires { All (LiesIn source.now) label.now }
     ensures token { option_map (λ t. t.now) result ≡ plain_token source.now label.now }
-    ensures inside { IfSome result (λ t. LiesIn source.now t.now) }
     ensures written { IfSome result (λ t. t.now.joined ≡ []) }
 {
     let name = label_token(source, label)?;

@@ -2,8 +2,7 @@
 ghost use Rattle.std.specs.Prelude.{◌≡◌, ◌≢◌, List, ℕ, ◌++◌, [], ◌+◌, ◌≤◌, ◌&&◌, IsTrue, length, drop, All, IfOk, IfSome, MatchResult, Ok, Err, None};
 ghost use Rattle.rc_text.specs.Tokens.{tokens_of, TakesToken};
 ghost use Rattle.rc_text.specs.Gaps.{is_line_end};
-ghost use Rattle.rc_text.specs.Symbols.{LiesIn};
-ghost use Rattle.rc_expand.specs.Heads.Lines.{HeadLies, head_of, is_free, is_ampersand, goes_on, tail_len, begins_label, labelled, line_of_tokens, has_end};
+ghost use Rattle.rc_expand.specs.Heads.Lines.{head_of, is_free, is_ampersand, goes_on, tail_len, begins_label, labelled, line_of_tokens, has_end};
 ghost use Rattle.rc_expand.specs.Results.{Returns};
 ghost use Rattle.rc_expand.specs.Heads.{text_lines};
 ghost use Rattle.rc_expand.specs.Heads.Faults.{IsEnding};
@@ -17,8 +16,7 @@ use std::alloc::{AllocError, Global};
 
 // Reads the lines of a text, up to the first with END.
 pub(crate) fn read_lines(alloc: Global, source: &[u8]) -> Result<Vec<Head>, ExpandFault>
-    ensures lines { Returns (λ v. v.items) result (text_lines source.now) }
-    ensures inside { IfOk result (λ v. All (HeadLies source.now) v.items) }
+    ensures { Returns (λ v. v.items) result (text_lines source.now) }
 {
     let mut lexer = Lexer::new(source);
     let mut heads = Vec::new(alloc);
@@ -39,7 +37,6 @@ pub(crate) fn read_lines(alloc: Global, source: &[u8]) -> Result<Vec<Head>, Expa
 
 // Checks for `&` and a name.
 fn is_link(source: &[u8], sign: &Token, name: &Token) -> bool
-    requires { LiesIn source.now name.now }
     ensures { result ≡ (is_ampersand sign.now && is_free source.now name.now) }
 {
     is_ampersand(sign) && is_free(source, name)
@@ -48,8 +45,7 @@ fn is_link(source: &[u8], sign: &Token, name: &Token) -> bool
 // Checks whether a label goes on at index `at` with `&` and a name.
 #[tactic(auto, using(crate::proofs::Reading::HeadSteps::goes_on_at, crate::proofs::Reading::HeadSteps::goes_on_short))]
 fn goes_on(source: &[u8], tokens: &[Token], at: usize) -> bool
-    requires inside { All (LiesIn source.now) tokens.now }
-    requires index { at ≤ length tokens.now }
+    requires { at ≤ length tokens.now }
     ensures result { result ≡ goes_on source.now (drop at tokens.now) }
     ensures room { IsTrue result → at + 2 ≤ length tokens.now }
 {
@@ -59,8 +55,7 @@ fn goes_on(source: &[u8], tokens: &[Token], at: usize) -> bool
 // Returns the index after a label. Its first name is the token before `from`.
 #[tactic(auto, using(crate::proofs::Reading::HeadSteps::tail_more, crate::proofs::Reading::HeadSteps::tail_colon, crate::proofs::Reading::HeadSteps::tail_none, crate::proofs::Reading::HeadSteps::tail_end))]
 fn label_end(source: &[u8], tokens: &[Token], from: usize) -> usize
-    requires inside { All (LiesIn source.now) tokens.now }
-    requires index { from ≤ length tokens.now }
+    requires { from ≤ length tokens.now }
     ensures end { result ≡ from + tail_len source.now (drop from tokens.now) }
     ensures low { from ≤ result }
     ensures high { result ≤ length tokens.now }
@@ -78,7 +73,6 @@ fn label_end(source: &[u8], tokens: &[Token], from: usize) -> usize
 // Checks whether a label begins at index `at`.
 #[tactic(auto, using(crate::proofs::Reading::HeadSteps::begins_at, crate::proofs::Reading::HeadSteps::begins_none))]
 fn begins_label(source: &[u8], tokens: &[Token], at: usize) -> bool
-    requires { All (LiesIn source.now) tokens.now }
     ensures result { result ≡ begins_label source.now (drop at tokens.now) }
     ensures room { IsTrue result → at + 1 ≤ length tokens.now }
 {
@@ -91,11 +85,9 @@ fn read_labels(
     source: &[u8],
     tokens: &[Token],
 ) -> Result<(Labels, usize), AllocError>
-    requires { All (LiesIn source.now) tokens.now }
     ensures labels { IfOk result (λ p. p.0 ≡ (labelled source.now tokens.now).labels) }
     ensures rest { IfOk result (λ p. drop p.1 tokens.now ≡ (labelled source.now tokens.now).after) }
     ensures index { IfOk result (λ p. p.1 ≤ length tokens.now) }
-    ensures inside { IfOk result (λ p. All (All (LiesIn source.now)) p.0) }
 {
     let mut labels = Labels::none(alloc);
     let mut at = 0;
@@ -116,9 +108,7 @@ fn read_head(
     number: u64,
     tokens: &mut Vec<Token>,
 ) -> Result<Head, AllocError>
-    requires { All (LiesIn source.now) tokens.old.items }
-    ensures head { IfOk result (λ h. h ≡ head_of source.now number tokens.old.items) }
-    ensures inside { IfOk result (HeadLies source.now) }
+    ensures { IfOk result (λ h. h ≡ head_of source.now number tokens.old.items) }
 {
     let (labels, at) = read_labels(alloc, source, tokens.as_slice())?;
     if at == tokens.len() {
@@ -156,11 +146,8 @@ fn push_line(
     heads: &mut Vec<Head>,
     line: &mut Vec<Token>,
 ) -> Result<bool, AllocError>
-    requires line { All (LiesIn source.now) line.old.items }
-    requires before { All (HeadLies source.now) heads.old.items }
     ensures heads { IfOk result (λ ended. heads.new.items ≡ heads.old.items ++ line_of_tokens source.now line.old.items) }
     ensures ended { IfOk result (λ ended. ended ≡ has_end (line_of_tokens source.now line.old.items)) }
-    ensures after { IfOk result (λ ended. All (HeadLies source.now) heads.new.items) }
 {
     if line.is_empty() {
         return Ok(false);

@@ -2,14 +2,14 @@
 ghost use Rattle.std.specs.Prelude.{◌≡◌, List, ℕ, true, [], Some, None, not, is_some, option_map, fold, flat_map, IfOk, OnOk, OnErr};
 ghost use Rattle.std.specs.Hash as fed;
 ghost use Rattle.std.specs.Str.{bytes_eq};
-ghost use Rattle.rc_text.specs.Symbols.{LiesIn, name_of, counter_text};
+ghost use Rattle.rc_text.specs.Symbols.{name_of, counter_text};
 ghost use Rattle.rc_expand.specs.Names.{entry_of};
 ghost use Rattle.rc_expand.specs.Heads.NameTables.{joined_name, with_name, at_index};
 
 use crate::names::{counter_text, is_joined_name, name_of};
 use indexmap::{Equivalent, IndexMap};
 use itoa::Buffer;
-use rc_text::Token;
+use rc_text::{Token, text_of};
 use std::alloc::{AllocError, Global};
 use std::hash::{Hash, Hasher};
 use std::marker::Model;
@@ -162,7 +162,7 @@ impl<'a, V: Drop> NameTable<'a, V> {
 
     /// Adds the name that a token spells, joined counters included, with its value, unless the name
     /// is in the table already: then the table stays as it is, and `value` is dropped. Returns
-    /// whether the name is new. The token's span must lie in `source`.
+    /// whether the name is new.
     ///
     /// Fails only if out of memory; the table then stays as it is.
     pub fn add(
@@ -172,7 +172,6 @@ impl<'a, V: Drop> NameTable<'a, V> {
         token: &Token,
         value: V,
     ) -> Result<bool, AllocError>
-        requires { LiesIn source.now token.now }
         ensures added { IfOk result (λ added. added ≡ not (is_some (entry_of self.old (name_of source.now token.now)))) }
         ensures table { OnOk result (self.new ≡ with_name self.old (name_of source.now token.now) value) }
         ensures refused { OnErr result (self.new ≡ self.old) }
@@ -192,18 +191,15 @@ impl<'a, V: Drop> NameTable<'a, V> {
         Ok(self.entries.len() > before)
     }
 
-    /// Returns the value of the name that a token spells, joined counters included. The token's
-    /// span must lie in `source`.
+    /// Returns the value of the name that a token spells, joined counters included.
     pub fn get(&self, source: &[u8], token: &Token) -> Option<&V>
-        requires { LiesIn source.now token.now }
         ensures { option_map (λ v. v.now) result ≡ entry_of self.now (name_of source.now token.now) }
     {
         self.entries.get(spelled(source, token))
     }
 
-    // Returns the index of the name that a token spells. The token's span must lie in `source`.
+    // Returns the index of the name that a token spells.
     pub(crate) fn index_of(&self, source: &[u8], token: &Token) -> Option<usize>
-        requires { LiesIn source.now token.now }
         ensures { at_index self.now result ≡ entry_of self.now (name_of source.now token.now) }
     {
         self.entries.get_index_of(spelled(source, token))
@@ -238,7 +234,6 @@ pub(crate) fn copied_name(
     source: &[u8],
     token: &Token,
 ) -> Result<KeptName<'static>, AllocError>
-    requires { LiesIn source.now token.now }
     ensures { IfOk result (λ name. name ≡ name_of source.now token.now) }
 {
     let bytes = name_of(alloc, source, token)?;
@@ -253,11 +248,10 @@ pub(crate) fn kept_name<'a>(
     source: &'a [u8],
     token: &Token,
 ) -> Result<KeptName<'a>, AllocError>
-    requires { LiesIn source.now token.now }
     ensures { IfOk result (λ name. name ≡ name_of source.now token.now) }
 {
     let spelling = if token.joined.is_empty() {
-        Spelling::Written(&source[token.lo..token.hi])
+        Spelling::Written(text_of(source, token))
     } else {
         Spelling::Copied(name_of(alloc, source, token)?)
     };
@@ -266,11 +260,10 @@ pub(crate) fn kept_name<'a>(
 
 // Returns the name that a token spells.
 fn spelled<'a>(source: &'a [u8], token: &'a Token) -> JoinedName<'a>
-    requires { LiesIn source.now token.now }
     ensures { joined_name result.bytes.now result.counters.now ≡ name_of source.now token.now }
 {
     JoinedName {
-        bytes: &source[token.lo..token.hi],
+        bytes: text_of(source, token),
         counters: token.joined.as_slice(),
     }
 }

@@ -3,12 +3,11 @@ ghost use Rattle.std.specs.Prelude.{◌≡◌, ◌++◌, map, ◌&&◌, ◌<◌,
 ghost use Rattle.std.specs.Str.{bytes_eq};
 ghost use Rattle.rc_text.specs.Bytes.{is_same_word};
 ghost use Rattle.rc_text.specs.NameClasses.{class_of};
-ghost use Rattle.rc_text.specs.Symbols.{LiesIn};
 ghost use Rattle.rc_expand.specs.Heads.Lines.{is_reserved_class, is_name_token, is_ampersand, is_colon, is_dot, is_unjoined, is_free, is_opcode, has_modifier, word_of_name, word_of};
 
 use crate::heads::head::HeadWord;
 use crate::line::Tokens;
-use rc_text::{Kind, Sign, Token, is_opcode_word, is_reserved_name, is_same_word};
+use rc_text::{Kind, Sign, Token, is_opcode_word, is_reserved_name, is_same_word, text_of};
 use std::alloc::{AllocError, Global};
 
 pub(crate) fn clone_token(token: &Token) -> Result<Token, AllocError>
@@ -78,24 +77,21 @@ pub(crate) fn is_unjoined(token: &Token) -> bool
 // Checks for a name that is not reserved. A name with joined counters is never reserved.
 #[tactic(auto, unfolding(crate::specs::Heads::Lines::is_free))]
 pub(crate) fn is_free(source: &[u8], token: &Token) -> bool
-    requires { LiesIn source.now token.now }
     ensures { result ≡ is_free source.now token.now }
 {
-    is_name_token(token) && !(is_unjoined(token) && is_reserved(&source[token.lo..token.hi]))
+    is_name_token(token) && !(is_unjoined(token) && is_reserved(text_of(source, token)))
 }
 
 // Checks for an opcode.
 #[tactic(auto, unfolding(crate::specs::Heads::Lines::is_opcode))]
 pub(crate) fn is_opcode(source: &[u8], token: &Token) -> bool
-    requires { LiesIn source.now token.now }
     ensures { result ≡ is_opcode source.now token.now }
 {
-    is_name_token(token) && is_unjoined(token) && is_opcode_word(&source[token.lo..token.hi])
+    is_name_token(token) && is_unjoined(token) && is_opcode_word(text_of(source, token))
 }
 
 // Checks for an opcode, a dot and a modifier.
 pub(crate) fn has_modifier(source: &[u8], opcode: &Token, dot: &Token, modifier: &Token) -> bool
-    requires { LiesIn source.now opcode.now }
     ensures { result ≡ has_modifier source.now opcode.now dot.now modifier.now }
 {
     is_opcode(source, opcode) && is_dot(dot) && is_name_token(modifier)
@@ -103,11 +99,10 @@ pub(crate) fn has_modifier(source: &[u8], opcode: &Token, dot: &Token, modifier:
 
 // Returns the word of a line by its first token after the labels.
 pub(crate) fn word_of(source: &[u8], token: &Token) -> HeadWord
-    requires { LiesIn source.now token.now }
     ensures { result ≡ word_of source.now token.now }
 {
     match token.kind {
-        Kind::Name => word_of_name(&source[token.lo..token.hi]),
+        Kind::Name => word_of_name(text_of(source, token)),
         Kind::Assert => HeadWord::Assert,
         _ => HeadWord::Code,
     }

@@ -1,11 +1,8 @@
 //! From an unrolled line to a line of the expansion.
 ghost use Rattle.std.specs.Prelude.{◌≡◌, ◌≢◌, ◌++◌, ◌≤◌, length, option_to_list, flat_map, All, IfOk, IfSome, OnOk, Ok, Err};
-ghost use Rattle.rc_text.specs.Symbols.{LiesIn};
 ghost use Rattle.rc_expand.specs.Results.{Returns};
-ghost use Rattle.rc_expand.specs.Heads.Lines.{HeadLies};
 ghost use Rattle.rc_expand.specs.Replace.{exempt_len_of_code, exempt_len, line_tokens};
 ghost use Rattle.rc_expand.specs.Replace.Lines.{line_word, own_labels, other_labels, made_line, line_of};
-ghost use Rattle.rc_expand.specs.Expansion.{LineLies};
 
 use crate::context::Context;
 use crate::fault::ExpandFault;
@@ -24,11 +21,8 @@ pub(crate) fn split_labels<'a>(
     source: &[u8],
     labels: &'a [Tokens],
 ) -> Result<(Tokens, &'a [Tokens]), AllocError>
-    requires { All (All (LiesIn source.now)) labels.now }
     ensures own { IfOk result (λ p. p.0 ≡ own_labels source.now labels.now) }
     ensures others { IfOk result (λ p. p.1.now ≡ other_labels source.now labels.now) }
-    ensures own_inside { IfOk result (λ p. All (LiesIn source.now) p.0) }
-    ensures others_inside { IfOk result (λ p. All (All (LiesIn source.now)) p.1.now) }
 {
     let mut own = Vec::new(alloc);
     let mut rest = labels;
@@ -50,32 +44,19 @@ pub(crate) fn line_of(
     labels: Tokens,
     others: &[Tokens],
 ) -> Result<Line, ExpandFault>
-    requires head { HeadLies context.now.source.now head.now }
     requires labels { labels ≡ own_labels context.now.source.now head.now.labels }
-    requires labels_inside { All (LiesIn context.now.source.now) labels }
     requires others { others.now ≡ other_labels context.now.source.now head.now.labels }
-    requires others_inside { All (All (LiesIn context.now.source.now)) others.now }
-    ensures line { Returns (λ l. l) result (line_of context.now.source.now context.now.equs.now head.now) }
-    ensures inside { IfOk result (LineLies context.now.source.now) }
+    ensures { Returns (λ l. l) result (line_of context.now.source.now context.now.equs.now head.now) }
 {
     if others.is_empty() {
         return make_line(context, head, labels, head.word, head.rest.as_slice());
     }
-    let tokens = as_code_tokens(
-        context.alloc,
-        context.source,
-        others,
-        &head.directive,
-        head.rest.as_slice(),
-    )?;
+    let tokens = as_code_tokens(context.alloc, others, &head.directive, head.rest.as_slice())?;
     make_line(context, head, labels, HeadWord::Code, &tokens)
 }
 
-fn push_tokens(all: &mut Vec<Token>, source: &[u8], tokens: &[Token]) -> Result<(), AllocError>
-    requires before { All (LiesIn source.now) all.old.items }
-    requires inside { All (LiesIn source.now) tokens.now }
-    ensures tokens { OnOk result (all.new.items ≡ all.old.items ++ tokens.now) }
-    ensures after { OnOk result (All (LiesIn source.now) all.new.items) }
+fn push_tokens(all: &mut Vec<Token>, tokens: &[Token]) -> Result<(), AllocError>
+    ensures { OnOk result (all.new.items ≡ all.old.items ++ tokens.now) }
 {
     for token in tokens {
         all.push(clone_token(token)?)?;
@@ -83,15 +64,8 @@ fn push_tokens(all: &mut Vec<Token>, source: &[u8], tokens: &[Token]) -> Result<
     Ok(())
 }
 
-fn push_directive(
-    all: &mut Vec<Token>,
-    source: &[u8],
-    directive: &Option<Token>,
-) -> Result<(), AllocError>
-    requires before { All (LiesIn source.now) all.old.items }
-    requires inside { IfSome directive.now (LiesIn source.now) }
-    ensures tokens { OnOk result (all.new.items ≡ all.old.items ++ option_to_list directive.now) }
-    ensures after { OnOk result (All (LiesIn source.now) all.new.items) }
+fn push_directive(all: &mut Vec<Token>, directive: &Option<Token>) -> Result<(), AllocError>
+    ensures { OnOk result (all.new.items ≡ all.old.items ++ option_to_list directive.now) }
 {
     if let Some(token) = directive {
         all.push(clone_token(token)?)?;
@@ -102,30 +76,24 @@ fn push_directive(
 // Turns would-be labels back into tokens: theirs, then the directive, then the rest.
 fn as_code_tokens(
     alloc: Global,
-    source: &[u8],
     others: &[Tokens],
     directive: &Option<Token>,
     rest: &[Token],
 ) -> Result<Vec<Token>, AllocError>
-    requires others { All (All (LiesIn source.now)) others.now }
-    requires directive { IfSome directive.now (LiesIn source.now) }
-    requires rest { All (LiesIn source.now) rest.now }
-    ensures inside { IfOk result (λ v. All (LiesIn source.now) v.items) }
-    ensures tokens { IfOk result (λ v. v.items ≡ flat_map (λ x. x) others.now ++ (option_to_list directive.now ++ rest.now)) }
+    ensures { IfOk result (λ v. v.items ≡ flat_map (λ x. x) others.now ++ (option_to_list directive.now ++ rest.now)) }
 {
     let mut all = Vec::new(alloc);
     for label in others {
-        push_tokens(&mut all, source, label.as_slice())?;
+        push_tokens(&mut all, label.as_slice())?;
     }
-    push_directive(&mut all, source, directive)?;
-    push_tokens(&mut all, source, rest)?;
+    push_directive(&mut all, directive)?;
+    push_tokens(&mut all, rest)?;
     Ok(all)
 }
 
 // Counts the tokens that EQU names do not replace at the front of a line of code: its first one,
 // and the modifier after an opcode and a dot.
 fn exempt_len_of_code(source: &[u8], tokens: &[Token]) -> usize
-    requires { All (LiesIn source.now) tokens.now }
     ensures exempt { result ≡ exempt_len_of_code source.now tokens.now }
     ensures room { result ≤ length tokens.now }
 {
@@ -142,7 +110,6 @@ fn exempt_len_of_code(source: &[u8], tokens: &[Token]) -> usize
 
 // Counts the tokens that EQU names do not replace at the front of a line.
 fn exempt_len(source: &[u8], word: HeadWord, tokens: &[Token]) -> usize
-    requires { All (LiesIn source.now) tokens.now }
     ensures exempt { result ≡ exempt_len source.now word tokens.now }
     ensures room { result ≤ length tokens.now }
 {
@@ -159,13 +126,11 @@ fn line_tokens(
     word: HeadWord,
     tokens: &[Token],
 ) -> Result<Tokens, ExpandFault>
-    requires inside { All (LiesIn context.now.source.now) tokens.now }
-    ensures tokens { Returns (λ t. t) result (line_tokens context.now.source.now context.now.equs.now line word tokens.now) }
-    ensures inside { IfOk result (All (LiesIn context.now.source.now)) }
+    ensures { Returns (λ t. t) result (line_tokens context.now.source.now context.now.equs.now line word tokens.now) }
 {
     let (front, back) = tokens.split_at(exempt_len(context.source, word, tokens));
     let mut kept = Vec::new(context.alloc);
-    push_tokens(&mut kept, context.source, front)?;
+    push_tokens(&mut kept, front)?;
     replace_tokens(context, line, kept, back)
 }
 
@@ -190,11 +155,8 @@ fn make_line(
     word: HeadWord,
     tokens: &[Token],
 ) -> Result<Line, ExpandFault>
-    requires labels { labels ≡ own_labels context.now.source.now head.now.labels }
-    requires labels_inside { All (LiesIn context.now.source.now) labels }
-    requires inside { All (LiesIn context.now.source.now) tokens.now }
-    ensures line { Returns (λ l. l) result (made_line context.now.source.now context.now.equs.now head.now word tokens.now) }
-    ensures inside { IfOk result (LineLies context.now.source.now) }
+    requires { labels ≡ own_labels context.now.source.now head.now.labels }
+    ensures { Returns (λ l. l) result (made_line context.now.source.now context.now.equs.now head.now word tokens.now) }
 {
     let tokens = line_tokens(context, head.number, word, tokens)?;
     Ok(Line {

@@ -1,13 +1,11 @@
 //! The third pass, line by line.
 ghost use Rattle.std.specs.Prelude.{◌≡◌, ◌≢◌, ◌++◌, ◌∷◌, [], ◌||◌, List, ℕ, map, All, IfOk, OnOk, Ok, Err};
-ghost use Rattle.rc_text.specs.Symbols.{LiesIn, name_of};
+ghost use Rattle.rc_text.specs.Symbols.{name_of};
 ghost use Rattle.rc_expand.specs.Results.{Returns};
-ghost use Rattle.rc_expand.specs.Heads.Lines.{HeadLies};
 ghost use Rattle.rc_expand.specs.Shared.{shared};
 ghost use Rattle.rc_expand.specs.Heads.NameTables.{names_in};
-ghost use Rattle.rc_expand.specs.Unroll.Reached.{reached_lines, ReachedLies};
+ghost use Rattle.rc_expand.specs.Unroll.Reached.{reached_lines};
 ghost use Rattle.rc_expand.specs.Replace.Lines.{lines_so_far, defined, line_replaced, replaced};
-ghost use Rattle.rc_expand.specs.Expansion.{LineLies};
 
 use crate::context::Context;
 use crate::fault::{ExpandFault, ExpandKind, fault};
@@ -32,9 +30,7 @@ pub(crate) fn replace_lines(
     context: &Context,
     reached: &[Reached],
 ) -> Result<Vec<Line>, ExpandFault>
-    requires lies { All (ReachedLies context.now.source.now) reached.now }
-    ensures lines { Returns (λ v. v.items) result (replaced (shared context.now) (reached_lines context.now.source.now reached.now)) }
-    ensures inside { IfOk result (λ v. All (LineLies context.now.source.now) v.items) }
+    ensures { Returns (λ v. v.items) result (replaced (shared context.now) (reached_lines context.now.source.now reached.now)) }
 {
     let mut out = Replacements {
         names: NameTable::new(context.alloc),
@@ -54,10 +50,7 @@ fn replace_line<'a>(
     context: &Context<'a>,
     head: &Head,
 ) -> Result<(), ExpandFault>
-    requires head { HeadLies context.now.source.now head.now }
-    requires before { All (LineLies context.now.source.now) out.old.lines.items }
-    ensures line { Returns (λ u. lines_so_far out.new) result (line_replaced (shared context.now) head.now (lines_so_far out.old)) }
-    ensures after { OnOk result (All (LineLies context.now.source.now) out.new.lines.items) }
+    ensures { Returns (λ u. lines_so_far out.new) result (line_replaced (shared context.now) head.now (lines_so_far out.old)) }
 {
     let (labels, others) = split_labels(context.alloc, context.source, head.labels.as_slice())?;
     define_names(&mut out.names, context, labels.as_slice(), head.number)?;
@@ -78,7 +71,6 @@ fn define_names<'a>(
     labels: &[Token],
     line: u64,
 ) -> Result<(), ExpandFault>
-    requires { All (LiesIn context.now.source.now) labels.now }
     ensures { Returns (λ u. names_in names.new) result (defined (shared context.now) line (map (name_of context.now.source.now) labels.now) (names_in names.old)) }
 {
     let mut rest = labels;
@@ -97,7 +89,6 @@ fn define_name<'a>(
     label: &Token,
     line: u64,
 ) -> Result<(), ExpandFault>
-    requires { LiesIn context.now.source.now label.now }
     ensures { Returns (λ u. names_in names.new) result (defined (shared context.now) line (name_of context.now.source.now label.now ∷ []) (names_in names.old)) }
 {
     if is_taken(context.names, context.source, label) {

@@ -1,8 +1,7 @@
 //! For each EQU body: which of its tokens are EQU names themselves. Looked up once, since a name
 //! may be as long as the text.
 ghost use Rattle.std.specs.Prelude.{◌≡◌, All, IfOk, IfSome, option_map, map};
-ghost use Rattle.rc_text.specs.Symbols.{LiesIn};
-ghost use Rattle.rc_expand.specs.Replace.{EqusLie, equ_in};
+ghost use Rattle.rc_expand.specs.Replace.{equ_in};
 ghost use Rattle.rc_expand.specs.Heads.NameTables.{at_index, AreIndices, AreLinks};
 
 use crate::heads::equs::Equ;
@@ -18,7 +17,6 @@ pub(crate) fn link_tokens(
     tokens: &[Token],
     equs: &NameTable<Equ>,
 ) -> Result<Vec<Option<usize>>, AllocError>
-    requires { All (LiesIn source.now) tokens.now }
     ensures { IfOk result (λ v. AreIndices source.now equs.now tokens.now v.items) }
 {
     let mut indices = Vec::with_capacity(alloc, tokens.len())?;
@@ -34,7 +32,6 @@ pub(crate) fn link_equs(
     source: &[u8],
     equs: &NameTable<Equ>,
 ) -> Result<Vec<Vec<Option<usize>>>, AllocError>
-    requires { EqusLie source.now equs.now }
     ensures { IfOk result (λ v. AreLinks source.now equs.now v.items) }
 {
     let mut links = Vec::new(alloc);
@@ -48,7 +45,6 @@ pub(crate) fn link_equs(
 
 // Returns the index of the EQU name that a token is.
 fn equ_index(source: &[u8], token: &Token, equs: &NameTable<Equ>) -> Option<usize>
-    requires { LiesIn source.now token.now }
     ensures { at_index equs.now result ≡ equ_in source.now equs.now token.now }
 {
     if is_name_token(token) {

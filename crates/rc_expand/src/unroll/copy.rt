@@ -1,7 +1,6 @@
 //! Copying the lines of a block, with the number of its counter put in.
 ghost use Rattle.std.specs.Prelude.{◌≡◌, List, ℕ, ◌++◌, ◌∷◌, ◌+◌, ◌<◌, ◌≤◌, ◌^◌, ◌&&◌, length, drop, map, option_map, option_and_then, IsTrue, All, IfOk, IfSome};
-ghost use Rattle.rc_text.specs.Symbols.{LiesIn};
-ghost use Rattle.rc_expand.specs.Heads.Lines.{HeadLies, is_name_token, is_ampersand};
+ghost use Rattle.rc_expand.specs.Heads.Lines.{is_name_token, is_ampersand};
 ghost use Rattle.rc_expand.specs.Unroll.Copies.{is_counter, numbered, joins, copied_tokens, copied_code, copied_rest, copied_line, all_of};
 
 use crate::heads::head::{Head, HeadWord, Labels};
@@ -23,9 +22,7 @@ pub(crate) fn copy_tokens(
     number: u16,
     tokens: &[Token],
 ) -> Result<Option<Tokens>, AllocError>
-    requires { All (LiesIn source.now) tokens.now }
-    ensures copied { IfOk result (λ o. o ≡ copied_tokens source.now counter.now number tokens.now) }
-    ensures inside { IfOk result (λ o. IfSome o (All (LiesIn source.now))) }
+    ensures { IfOk result (λ o. o ≡ copied_tokens source.now counter.now number tokens.now) }
 {
     let mut copied = Vec::with_capacity(alloc, tokens.len())?;
     let mut at = 0;
@@ -57,11 +54,9 @@ fn copy_name(
     tokens: &[Token],
     at: usize,
 ) -> Result<Option<(Token, usize)>, AllocError>
-    requires inside { All (LiesIn source.now) tokens.now }
-    requires index { at < length tokens.now }
+    requires { at < length tokens.now }
     ensures copied { IfOk result (λ o. copied_tokens source.now counter.now number (drop at tokens.now)
         ≡ option_and_then (λ p. option_map (λ r. p.0 ∷ r) (copied_tokens source.now counter.now number (drop p.1 tokens.now))) o) }
-    ensures inside { IfOk result (λ o. IfSome o (λ p. LiesIn source.now p.0)) }
     ensures after { IfOk result (λ o. IfSome o (λ p. (at < p.1) × (p.1 ≤ length tokens.now))) }
 {
     let mut name = clone_token(&tokens[at])?;
@@ -90,9 +85,7 @@ pub(crate) fn copy_line(
     number: u16,
     head: &Head,
 ) -> Result<Head, AllocError>
-    requires { HeadLies source.now head.now }
-    ensures copied { IfOk result (λ h. h ≡ copied_line source.now counter.now number head.now) }
-    ensures inside { IfOk result (λ h. HeadLies source.now h) }
+    ensures { IfOk result (λ h. h ≡ copied_line source.now counter.now number head.now) }
 {
     let directive = clone_directive(&head.directive)?;
     let labels = copy_labels(alloc, source, counter, number, &head.labels)?;
@@ -145,7 +138,6 @@ pub(crate) fn clone_head(alloc: Global, head: &Head) -> Result<Head, AllocError>
 
 // Checks whether a token is the name of the counter.
 fn is_counter(source: &[u8], counter: &[u8], token: &Token) -> bool
-    requires { LiesIn source.now token.now }
     ensures { result ≡ is_counter source.now counter.now token.now }
 {
     is_name_token(token) && spells(source, token, counter)
@@ -154,7 +146,6 @@ fn is_counter(source: &[u8], counter: &[u8], token: &Token) -> bool
 // Puts `number` in place of the counter's name, unless this copy `made` that name by joining. Any
 // other token stays as it is.
 fn put_number(source: &[u8], counter: &[u8], number: u16, made: bool, token: &mut Token)
-    requires { LiesIn source.now token.old }
     ensures { token.new ≡ numbered source.now counter.now number made token.old }
 {
     if !made && is_counter(source, counter, token) {
@@ -164,7 +155,6 @@ fn put_number(source: &[u8], counter: &[u8], number: u16, made: bool, token: &mu
 
 // Checks for a name, `&` and the counter.
 fn is_join(source: &[u8], counter: &[u8], name: &Token, sign: &Token, used: &Token) -> bool
-    requires { LiesIn source.now used.now }
     ensures { result ≡ (is_name_token name.now && (is_ampersand sign.now && is_counter source.now counter.now used.now)) }
 {
     is_name_token(name) && is_ampersand(sign) && is_counter(source, counter, used)
@@ -173,8 +163,7 @@ fn is_join(source: &[u8], counter: &[u8], name: &Token, sign: &Token, used: &Tok
 // Checks whether `&` and the counter come after `name`, at index `at` of `tokens`.
 #[tactic(auto, using(crate::proofs::Unrolling::Copies::joins_at, crate::proofs::Unrolling::Copies::joins_short))]
 fn joins(source: &[u8], counter: &[u8], name: &Token, tokens: &[Token], at: usize) -> bool
-    requires inside { All (LiesIn source.now) tokens.now }
-    requires index { at < length tokens.now }
+    requires { at < length tokens.now }
     ensures result { result ≡ joins source.now counter.now name.now (drop at tokens.now) }
     ensures room { IsTrue result → at + 2 ≤ length tokens.now }
 {
@@ -191,9 +180,7 @@ fn copy_code(
     number: u16,
     tokens: &[Token],
 ) -> Result<Option<Tokens>, AllocError>
-    requires { All (LiesIn source.now) tokens.now }
-    ensures copied { IfOk result (λ o. o ≡ copied_code source.now counter.now number tokens.now) }
-    ensures inside { IfOk result (λ o. IfSome o (All (LiesIn source.now))) }
+    ensures { IfOk result (λ o. o ≡ copied_code source.now counter.now number tokens.now) }
 {
     if tokens.len() < 3 || !has_modifier(source, &tokens[0], &tokens[1], &tokens[2]) {
         return copy_tokens(alloc, source, counter, number, tokens);
@@ -212,9 +199,7 @@ fn copy_rest(
     number: u16,
     head: &Head,
 ) -> Result<Option<Tokens>, AllocError>
-    requires { All (LiesIn source.now) head.now.rest }
-    ensures copied { IfOk result (λ o. o ≡ copied_rest source.now counter.now number head.now.word head.now.rest) }
-    ensures inside { IfOk result (λ o. IfSome o (All (LiesIn source.now))) }
+    ensures { IfOk result (λ o. o ≡ copied_rest source.now counter.now number head.now.word head.now.rest) }
 {
     match head.word {
         HeadWord::Code => copy_code(alloc, source, counter, number, head.rest.as_slice()),
@@ -230,9 +215,7 @@ fn copy_labels(
     number: u16,
     labels: &Labels,
 ) -> Result<Option<Labels>, AllocError>
-    requires { All (All (LiesIn source.now)) labels.now }
-    ensures copied { IfOk result (λ o. o ≡ all_of (copied_tokens source.now counter.now number) labels.now) }
-    ensures inside { IfOk result (λ o. IfSome o (All (All (LiesIn source.now)))) }
+    ensures { IfOk result (λ o. o ≡ all_of (copied_tokens source.now counter.now number) labels.now) }
 {
     let mut copied = Labels::none(alloc);
     for label in labels.as_slice() {

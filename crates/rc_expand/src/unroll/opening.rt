@@ -1,9 +1,8 @@
 //! What the FOR of a block says: its counter, the labels before it, and its count; and its ROF.
 ghost use Rattle.std.specs.Prelude.{◌≡◌, ◌≢◌, [], true, false, Some, None, Ok, Err, All, IfOk, IfSome, option_map};
-ghost use Rattle.rc_text.specs.Symbols.{LiesIn, name_of};
+ghost use Rattle.rc_text.specs.Symbols.{name_of};
 ghost use Rattle.rc_expand.specs.Results.{Returns, at_line};
 ghost use Rattle.rc_expand.specs.Shared.{shared};
-ghost use Rattle.rc_expand.specs.Heads.Lines.{HeadLies};
 ghost use Rattle.rc_expand.specs.Unroll.{Unrolled, is_bare_rof, at_rof};
 ghost use Rattle.rc_expand.specs.Unroll.Openings.{is_plain_number, is_enclosing, counter_kind, counter_of, small_count, earlier_of, seen_start, opening, count_of, counter_name};
 
@@ -18,7 +17,7 @@ use crate::line::Tokens;
 use crate::names::is_taken;
 use crate::replace::replace_tokens;
 use crate::unroll::copy::clone_labels;
-use rc_text::{Kind, Token, eval};
+use rc_text::{Kind, Token, eval, text_of};
 use std::alloc::{AllocError, Global};
 
 // What the FOR of a block says: its counter, as the text spells it, and the number of copies.
@@ -34,7 +33,6 @@ pub(crate) fn begin_block<'a>(
     context: &Context<'a>,
     head: &Head,
 ) -> Result<BlockStart<'a>, ExpandFault>
-    requires head { HeadLies context.now.source.now head.now }
     ensures { Returns (seen_start head.now) result (opening (shared context.now) head.now) }
 {
     if head.spoiled {
@@ -81,9 +79,7 @@ fn counter_fault(line: u64, label: &[Token]) -> ExpandFault
 
 // Returns the counter, which is the last label before FOR.
 fn counter_token<'a>(source: &[u8], head: &'a Head) -> Result<Option<&'a Token>, ExpandFault>
-    requires { HeadLies source.now head.now }
     ensures token { Returns (λ o. option_map (λ t. t.now) o) result (counter_of source.now head.now.number head.now.labels) }
-    ensures inside { IfOk result (λ o. IfSome o (λ t. LiesIn source.now t.now)) }
     ensures written { IfOk result (λ o. IfSome o (λ t. t.now.joined ≡ [])) }
 {
     let labels = head.labels.as_slice();
@@ -115,7 +111,6 @@ fn small_count(value: i64) -> Option<u16>
 // Evaluates the count of a block, after replacing its EQU names.
 #[tactic(auto, unfolding(crate::specs::Unroll::Openings::count_of))]
 fn count_of(context: &Context, head: &Head) -> Result<u16, ExpandFault>
-    requires head { HeadLies context.now.source.now head.now }
     ensures { Returns (λ n. n) result (count_of (shared context.now) head.now.number head.now.rest) }
 {
     let front = Vec::new(context.alloc);
@@ -153,22 +148,20 @@ fn counter_name<'a>(
     counter: Option<&Token>,
     line: u64,
 ) -> Result<Option<&'a [u8]>, ExpandFault>
-    requires inside { IfSome counter (λ t. LiesIn context.now.source.now t.now) }
-    requires written { IfSome counter (λ t. t.now.joined ≡ []) }
+    requires { IfSome counter (λ t. t.now.joined ≡ []) }
     ensures { Returns (λ o. option_map (λ b. b.now) o) result (counter_name (shared context.now) line (option_map (λ t. t.now) counter.entry)) }
 {
     match counter {
         None => Ok(None),
         Some(token) => {
             check_counter(context, token, line)?;
-            Ok(Some(&context.source[token.lo..token.hi]))
+            Ok(Some(text_of(context.source, token)))
         }
     }
 }
 
 // Refuses a counter that is a constant, a predefined name or an EQU name.
 fn check_counter(context: &Context, token: &Token, line: u64) -> Result<(), ExpandFault>
-    requires { LiesIn context.now.source.now token.now }
     ensures { Returns (λ u. Some (name_of context.now.source.now token.now)) result (counter_name (shared context.now) line (Some token.now)) }
 {
     if is_taken(context.names, context.source, token) {
@@ -181,14 +174,8 @@ fn check_counter(context: &Context, token: &Token, line: u64) -> Result<(), Expa
 }
 
 // Copies all labels but the last.
-pub(crate) fn earlier_labels(
-    alloc: Global,
-    source: &[u8],
-    labels: &[Tokens],
-) -> Result<Labels, AllocError>
-    requires { All (All (LiesIn source.now)) labels.now }
-    ensures earlier { IfOk result (λ l. l ≡ earlier_of labels.now) }
-    ensures inside { IfOk result (All (All (LiesIn source.now))) }
+pub(crate) fn earlier_labels(alloc: Global, labels: &[Tokens]) -> Result<Labels, AllocError>
+    ensures { IfOk result (λ l. l ≡ earlier_of labels.now) }
 {
     if labels.len() == 0 {
         return Ok(Labels::none(alloc));

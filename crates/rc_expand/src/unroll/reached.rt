@@ -1,6 +1,6 @@
 //! Lines that the unrolling has reached. Each is made when it is needed, and none before.
 ghost use Rattle.std.specs.Prelude.{◌≡◌, List, ℕ, option_map, true, [], IfOk};
-ghost use Rattle.rc_expand.specs.Heads.Lines.{HeadLies, bare_line};
+ghost use Rattle.rc_expand.specs.Heads.Lines.{bare_line};
 ghost use Rattle.rc_expand.specs.declared.heads.head.Head.{Head};
 ghost use Rattle.rc_expand.specs.Unroll.Copies.{copied_block, stays_joinable, is_short, is_short_line};
 ghost use Rattle.rc_expand.specs.Unroll.Openings.{earlier_of};
@@ -38,9 +38,7 @@ pub(crate) fn make_line(
     copies: &[Copying],
     head: &Head,
 ) -> Result<Head, AllocError>
-    requires { HeadLies source.now head.now }
-    ensures made { IfOk result (λ h. h ≡ line_in source.now copies.now head.now) }
-    ensures inside { IfOk result (HeadLies source.now) }
+    ensures { IfOk result (λ h. h ≡ line_in source.now copies.now head.now) }
 {
     let mut made = clone_head(alloc, head)?;
     for i in 0..copies.len() {
@@ -116,24 +114,20 @@ fn stays_joinable(token: &Token, len: usize) -> bool
 impl<'a> Reached<'a> {
     // Makes the line.
     pub(crate) fn make(&self, alloc: Global, source: &[u8]) -> Result<Head, AllocError>
-        requires { HeadLies source.now self.now.head.now }
-        ensures made { IfOk result (λ h. h ≡ reached_line source.now self.now) }
-        ensures inside { IfOk result (HeadLies source.now) }
+        ensures { IfOk result (λ h. h ≡ reached_line source.now self.now) }
     {
         let made = make_line(alloc, source, &self.copies, self.head)?;
         if !self.is_earlier {
             return Ok(made);
         }
-        earlier_line(alloc, source, &made)
+        earlier_line(alloc, &made)
     }
 }
 
 // Makes the line of the labels before a counter.
-fn earlier_line(alloc: Global, source: &[u8], head: &Head) -> Result<Head, AllocError>
-    requires { HeadLies source.now head.now }
-    ensures made { IfOk result (λ h. h ≡ bare_line head.now.number (earlier_of head.now.labels)) }
-    ensures inside { IfOk result (HeadLies source.now) }
+fn earlier_line(alloc: Global, head: &Head) -> Result<Head, AllocError>
+    ensures { IfOk result (λ h. h ≡ bare_line head.now.number (earlier_of head.now.labels)) }
 {
-    let labels = earlier_labels(alloc, source, head.labels.as_slice())?;
+    let labels = earlier_labels(alloc, head.labels.as_slice())?;
     Ok(Head::bare(alloc, head.number, labels))
 }

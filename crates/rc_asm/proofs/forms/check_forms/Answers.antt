@@ -1,11 +1,6 @@
 use Rattle.std.proofs.Common.{◌∙◌, sym}
-use Rattle.std.proofs.lemmas.List.Elements.{All-rest}
-use Rattle.rc_expand.specs.Expansion.{LineLies}
 use Rattle.rc_asm.proofs.Steps.{form_passed}
 use Rattle.rc_asm.proofs.forms.check_forms.Goals as goal
 
 pub loop-line-preserved : goal.loop-line-preserved
-loop-line-preserved c = (
-  c.loop-line.invariant.0 ∙ form_passed c.args.source.now c.loop-line.rest.now c.in-Some.after.now c.in-Some.line.now c.in-Some.ensures.cases.0 (sym c.in-Ok.ensures.form),
-  All-rest (LineLies c.args.source.now) c.in-Some.line.now c.in-Some.after.now c.loop-line.rest.now c.in-Some.ensures.cases.0 c.loop-line.invariant.1,
-)
+loop-line-preserved c = c.loop-line.invariant ∙ form_passed c.args.source.now c.loop-line.rest.now c.in-Some.after.now c.in-Some.line.now c.in-Some.ensures.cases.0 (sym c.in-Ok.ensures.form)

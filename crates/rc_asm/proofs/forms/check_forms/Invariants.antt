@@ -1,6 +1,4 @@
 use Rattle.std.proofs.Common.{◌≡◌, length}
-use Rattle.std.specs.Prelude.{All}
-use Rattle.rc_expand.specs.Expansion.{LineLies}
 use Rattle.rc_asm.specs.Faults.{forms_fault}
 use Rattle.rc_asm.proofs.forms.check_forms.Given as goal
 
@@ -9,4 +7,4 @@ decreases-loop-line l = length l.rest
 
 -- the lines that are left decide
 abbrev pub invariant-loop-line : goal.invariant-loop-line
-invariant-loop-line l = (forms_fault l.source l.lines ≡ forms_fault l.source l.rest) × All (LineLies l.source) l.rest
+invariant-loop-line l = forms_fault l.source l.lines ≡ forms_fault l.source l.rest

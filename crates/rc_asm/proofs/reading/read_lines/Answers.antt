@@ -1,11 +1,7 @@
-use Rattle.std.proofs.lemmas.List.Elements.{All-rest}
-use Rattle.rc_expand.specs.Expansion.{LineLies}
 use Rattle.rc_asm.specs.Seen.{seen_names}
 use Rattle.rc_asm.proofs.Steps.{progress_next}
 use Rattle.rc_asm.proofs.reading.read_lines.Goals as goal
 
 pub loop-line-preserved : goal.loop-line-preserved
-loop-line-preserved c = (
-  progress_next c.args.source.now (seen_names c.args.context.now) c.args.lines.now c.loop-line.rest.now c.in-Some.after.now c.in-Some.line.now _ _ _ _ c.in-Some.ensures.cases.0 c.in-Ok.ensures.read c.in-Ok.ensures.faultless (c.in-Ok.ensures.below c.loop-line.invariant.0.below) c.loop-line.invariant.0,
-  All-rest (LineLies c.args.source.now) c.in-Some.line.now c.in-Some.after.now c.loop-line.rest.now c.in-Some.ensures.cases.0 c.loop-line.invariant.1,
-)
+loop-line-preserved c =
+    progress_next c.args.source.now (seen_names c.args.context.now) c.args.lines.now c.loop-line.rest.now c.in-Some.after.now c.in-Some.line.now _ _ _ _ c.in-Some.ensures.cases.0 c.in-Ok.ensures.read c.in-Ok.ensures.faultless (c.in-Ok.ensures.below c.loop-line.invariant.below) c.loop-line.invariant

@@ -1,6 +1,4 @@
 use Rattle.std.proofs.Common.{◌≡◌, ◌+◌, ◌*◌, drop}
-use Rattle.std.specs.Prelude.{All}
-use Rattle.rc_text.specs.Symbols.{LiesIn}
 use Rattle.rc_expand.specs.Replace.{replaced_within, replaced_so_far}
 use Rattle.rc_expand.proofs.replace.+replace.Given as goal
 
@@ -13,6 +11,5 @@ decreases-append_one l = 2 * l.levels
 -- the tokens that are left make the whole
 abbrev pub invariant-append_replaced-loop-i : goal.invariant-append_replaced-loop-i
 invariant-append_replaced-loop-i l =
-    (replaced_within l.context.source.now l.context.equs.now l.levels l.tokens (replaced_so_far l.fn.out)
-    ≡ replaced_within l.context.source.now l.context.equs.now l.levels (drop l.i l.tokens) (replaced_so_far l.out))
-    × All (LiesIn l.context.source.now) l.out.tokens.items
+    replaced_within l.context.source.now l.context.equs.now l.levels l.tokens (replaced_so_far l.fn.out)
+    ≡ replaced_within l.context.source.now l.context.equs.now l.levels (drop l.i l.tokens) (replaced_so_far l.out)

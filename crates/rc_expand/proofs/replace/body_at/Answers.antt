@@ -1,12 +1,8 @@
 use Rattle.std.proofs.Common.{sym, ◌∙◌, ap, ℕ, Option}
 use Rattle.std.specs.Global.{Vec}
-use Rattle.rc_expand.proofs.Reading.TableIndices.{body_linked, body_lies}
+use Rattle.rc_expand.proofs.Reading.TableIndices.{body_linked}
 use Rattle.rc_expand.proofs.replace.body_at.Goals as goal
 
 pub returns-clause-indices : goal.returns-clause-indices
 returns-clause-indices c =
     body_linked c.args.context.now.source.now c.args.context.now.equs.now c.args.context.now.links.now c.in_ok-i.i c.in_ok-equ.equ.now c.tokens.result.now c.index-context-i.result c.as_slice.result.now c.args.context.now.linked c.in_ok-equ.ensures c.tokens.ensures c.index-context-i.is (c.as_slice.ensures.value ∙ ap (λ (v : Vec (Option ℕ)). v.items) (sym c.index-context-i.is))
-
-pub returns-clause-inside : goal.returns-clause-inside
-returns-clause-inside c =
-    body_lies c.args.context.now.source.now c.args.context.now.equs.now c.in_ok-i.i c.in_ok-equ.equ.now c.tokens.result.now c.args.context.now.lies c.in_ok-equ.ensures c.tokens.ensures

@@ -7,12 +7,12 @@ use Rattle.rc_expand.specs.Unroll.Reached.{line_in, unrolled_so_far}
 use Rattle.rc_expand.proofs.Unrolling.Reaching.{number_in, some_earlier}
 use Rattle.rc_expand.proofs.unroll.append_earlier.Goals as goal
 
-pub returns-clause-adds : goal.returns-clause-adds
-returns-clause-adds c =
+pub returns : goal.returns
+returns c =
     let s = c.args.context.now.source.now in
     let f = c.args.head.now in
     let u = unrolled_so_far s c.args.out.now in
     let same = ap (λ n. with_line (bare_line n (earlier_of (line_in s c.args.copies.now f).labels)) u) (number_in s c.args.copies.now f)
-    ∙ (ap (λ h. with_line (bare_line f.number (earlier_of h.labels)) u) (sym c.requires.made)
+    ∙ (ap (λ h. with_line (bare_line f.number (earlier_of h.labels)) u) (sym c.requires)
     ∙ sym (some_earlier f.number c.args.made.now.labels u (omega (arith, ap length c.as_slice.ensures)))) in
-    subst (λ r. Returns (λ i. unrolled_so_far s c.append.new.out) c.append.result r) same c.append.ensures.adds
+    subst (λ r. Returns (λ i. unrolled_so_far s c.append.new.out) c.append.result r) same c.append.ensures

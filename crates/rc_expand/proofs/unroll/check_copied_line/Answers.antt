@@ -22,4 +22,4 @@ returns-then-is_empty c =
     subst (λ r. Returns (λ u. u) c.check_line.result r) (checked_in s cs c.args.in_block h same) c.check_line.ensures
 
 pub returns : goal.returns
-returns c = subst (λ h. Returns (λ u. u) c.check_line-2.result (checked_line c.args.in_block h)) c.in_ok-made.ensures.made c.check_line-2.ensures
+returns c = subst (λ h. Returns (λ u. u) c.check_line-2.result (checked_line c.args.in_block h)) c.in_ok-made.ensures c.check_line-2.ensures

@@ -13,7 +13,7 @@ climb-returns-in_err-right-clause-read g t c =
 pub climb-loop-sign-preserved : goal.climb-loop-sign-preserved
 climb-loop-sign-preserved g t c =
     let r = more_read (g.N.Names.meaning c.args.names.now) c.args.depth c.args.level c.level_of.result _ _ _ _ c.in-Some.sign c.in-Some.ensures.symbols c.level_of.ensures.value c.requires.level c.in-Some.ensures.tight c.loop-sign.invariant.0 _ _ c.in_ok-right.ensures.read c.in_ok-right.ensures.stops in
-    (outcome_same (g.N.Names.meaning c.args.names.now) c.args.level c.args.depth _ _ _ _ c.infix_outcome-left.ensures r, c.in_ok-right.ensures.inside, omega (arith, c.in_ok-right.ensures.shorter, c.in-Some.ensures.shorter, c.loop-sign.invariant.2))
+    (outcome_same (g.N.Names.meaning c.args.names.now) c.args.level c.args.depth _ _ _ _ c.infix_outcome-left.ensures r, omega (arith, c.in_ok-right.ensures.shorter, c.in-Some.ensures.shorter, c.loop-sign.invariant.1))
 
 pub group-returns-then-depth-eq-DEEPEST-clause-read : goal.group-returns-then-depth-eq-DEEPEST-clause-read
 group-returns-then-depth-eq-DEEPEST-clause-read g t c = group_full (g.N.Names.meaning c.args.names.now) c.args.depth _ c.if-depth-eq-DEEPEST.true
@@ -52,7 +52,7 @@ primary-returns-in-Name-clause-read g t c =
 
 pub primary-returns-in_default : goal.primary-returns-in_default
 primary-returns-in_default g t c =
-    record { read = refused_same (g.N.Names.meaning c.args.names.now) 8 c.args.depth _ _ _ (first_symbol _ c.in-Some.token.now _ _ _ c.in-Some.ensures.symbols c.in-Sign.is) (sign_refused (g.N.Names.meaning c.args.names.now) c.args.depth c.in-Sign.sign _ c.in_default.not-Open (not_prefix _ _ c.in-Some.token.now c.in-Sign.sign c.in-Some.ensures.tokens c.in-Sign.is c.requires.unsigned)); inside = tt; shorter = tt }
+    record { read = refused_same (g.N.Names.meaning c.args.names.now) 8 c.args.depth _ _ _ (first_symbol _ c.in-Some.token.now _ _ _ c.in-Some.ensures.symbols c.in-Sign.is) (sign_refused (g.N.Names.meaning c.args.names.now) c.args.depth c.in-Sign.sign _ c.in_default.not-Open (not_prefix _ _ c.in-Some.token.now c.in-Sign.sign c.in-Some.ensures.tokens c.in-Sign.is c.requires.unsigned)); shorter = tt }
 
 pub primary-returns-in-Assert-clause-read : goal.primary-returns-in-Assert-clause-read
 primary-returns-in-Assert-clause-read g t c =

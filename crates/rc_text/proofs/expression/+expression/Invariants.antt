@@ -1,6 +1,5 @@
 use Rattle.std.proofs.Common.{◌+◌, ◌*◌, ◌<◌, length}
-use Rattle.std.specs.Prelude.{All}
-use Rattle.rc_text.specs.Symbols.{LiesIn, symbols_of}
+use Rattle.rc_text.specs.Symbols.{symbols_of}
 use Rattle.rc_text.specs.Reading.{ReadsOperand}
 use Rattle.rc_text.proofs.expression.+expression.Given as goal
 
@@ -19,7 +18,6 @@ decreases-group g l = 4 * length l.tokens.now + 3
 abbrev pub invariant-climb-loop-sign : goal.invariant-climb-loop-sign
 invariant-climb-loop-sign g l =
     ReadsOperand (g.N.Names.meaning l.names) l.level l.depth (symbols_of l.source l.tokens) l.left (symbols_of l.source l.rest)
-    × All (LiesIn l.source) l.rest
     × (length l.rest < length l.tokens)
 
 abbrev pub decreases-climb-loop-sign : goal.decreases-climb-loop-sign

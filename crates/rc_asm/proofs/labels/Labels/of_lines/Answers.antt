@@ -1,8 +1,6 @@
 use Rattle.std.proofs.Common.{arith, ap, length, ◌∙◌, ◌++◌, map}
-use Rattle.std.proofs.lemmas.List.Elements.{All-rest}
 use Rattle.rc_text.specs.Symbols.{name_of}
 use Rattle.rc_expand.specs.Names.{entry_of}
-use Rattle.rc_expand.specs.Expansion.{LineLies}
 use Rattle.rc_asm.proofs.Steps.{after_most, labels_next}
 use Rattle.rc_asm.proofs.labels.Labels.of_lines.Goals as goal
 
@@ -12,5 +10,4 @@ loop-line-preserved c =
       omega (arith, most, c.loop-line.invariant.0, ap length c.in-Some.ensures.cases.0),
       labels_next c.args.source.now c.loop-line.rest.now c.in-Some.after.now c.in-Some.line.now c.loop-line.labels _ _ c.loop-line.address _ c.in-Some.ensures.cases.0
           (λ r name. c.in_ok-insert_all.ensures r name ∙ ap (λ ts. entry_of (c.loop-line.labels ++ (map (λ t. (name_of c.args.source.now t, c.loop-line.address)) ts ++ r)) name) c.as_slice.ensures) c.code_lines_after-address.ensures c.loop-line.invariant.1,
-      All-rest (LineLies c.args.source.now) c.in-Some.line.now c.in-Some.after.now c.loop-line.rest.now c.in-Some.ensures.cases.0 c.loop-line.invariant.2,
     )

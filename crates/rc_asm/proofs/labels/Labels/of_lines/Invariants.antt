@@ -1,6 +1,4 @@
 use Rattle.std.proofs.Common.{◌≤◌, ◌+◌, ◌++◌, length}
-use Rattle.std.specs.Prelude.{All}
-use Rattle.rc_expand.specs.Expansion.{LineLies}
 use Rattle.rc_asm.specs.Names.{labels_from, labels_of}
 use Rattle.rc_asm.specs.Steps.{Agree}
 use Rattle.rc_asm.proofs.labels.Labels.of_lines.Given as goal
@@ -10,4 +8,4 @@ decreases-loop-line l = length l.rest
 
 -- the lines that are left make the labels whole
 abbrev pub invariant-loop-line : goal.invariant-loop-line
-invariant-loop-line l = (l.address + length l.rest ≤ length l.lines) × Agree (l.labels ++ labels_from l.source l.address l.rest) (labels_of l.source l.lines) × All (LineLies l.source) l.rest
+invariant-loop-line l = (l.address + length l.rest ≤ length l.lines) × Agree (l.labels ++ labels_from l.source l.address l.rest) (labels_of l.source l.lines)

@@ -1,12 +1,9 @@
 use Rattle.std.proofs.Common.{◌≡◌, refl, ◌∙◌, sym, ap, arith, length, List, [], ◌∷◌, ◌++◌, ℕ}
-use Rattle.std.proofs.lemmas.List.Elements.{All-rest, All-push, All-same, All-nil}
 use Rattle.std.proofs.lemmas.Result.{err_from_is_err_and}
-use Rattle.std.specs.Prelude.{All, Ok}
-use Rattle.rc_text.specs.Symbols.{LiesIn}
+use Rattle.std.specs.Prelude.{Ok}
 use Rattle.rc_instr.specs.Rules.{RulesView}
 use Rattle.rc_expand.specs.Results.{and_then}
 use Rattle.rc_expand.specs.Names.{Table, table_in}
-use Rattle.rc_expand.specs.Heads.Lines.{HeadLies}
 use Rattle.rc_expand.specs.Heads.{equ_lines, equs_from}
 use Rattle.rc_expand.specs.Replace.{EquText}
 use Rattle.rc_expand.proofs.Reading.TableFound.{name_pushed}
@@ -18,7 +15,7 @@ loop-head-init c =
     let t : Table = table_in c.args.names.now.constants.now in
     let r : RulesView = c.args.names.now.rules.now in
     let s = c.args.source.now in
-    rw c.new-equs.ensures (equs_start s t r c.args.heads.now, omega arith, c.requires, All-nil (λ e. All (LiesIn s) e.1.tokens))
+    rw c.new-equs.ensures (equs_start s t r c.args.heads.now, omega arith)
 
 pub loop-head-preserved-in-For : goal.loop-head-preserved-in-For
 loop-head-preserved-in-For c =
@@ -27,8 +24,6 @@ loop-head-preserved-in-For c =
     let s = c.args.source.now in (
       c.loop-head.invariant.0 ∙ ap (λ hs. equs_from s t r hs c.loop-head.equs) (at_for c.loop-head.rest.now c.in-Some.head.now c.in-Some.after.now c.loop-head.open_blocks c.in-Some.ensures.cases.0 c.in-For.is),
       omega (arith, c.loop-head.invariant.1, ap length c.in-Some.ensures.cases.0),
-      All-rest (HeadLies s) c.in-Some.head.now c.in-Some.after.now c.loop-head.rest.now c.in-Some.ensures.cases.0 c.loop-head.invariant.2,
-      c.loop-head.invariant.3,
     )
 
 pub loop-head-preserved-in-Rof : goal.loop-head-preserved-in-Rof
@@ -38,8 +33,6 @@ loop-head-preserved-in-Rof c =
     let s = c.args.source.now in (
       c.loop-head.invariant.0 ∙ ap (λ hs. equs_from s t r hs c.loop-head.equs) (at_rof c.loop-head.rest.now c.in-Some.head.now c.in-Some.after.now c.loop-head.open_blocks c.saturating_sub-open_blocks.result c.in-Some.ensures.cases.0 c.in-Rof.is (omega (arith, c.saturating_sub-open_blocks.ensures))),
       omega (arith, c.loop-head.invariant.1, ap length c.in-Some.ensures.cases.0, c.saturating_sub-open_blocks.ensures),
-      All-rest (HeadLies s) c.in-Some.head.now c.in-Some.after.now c.loop-head.rest.now c.in-Some.ensures.cases.0 c.loop-head.invariant.2,
-      c.loop-head.invariant.3,
     )
 
 pub loop-head-preserved-in_ok-insert-in-Equ : goal.loop-head-preserved-in_ok-insert-in-Equ
@@ -53,8 +46,6 @@ loop-head-preserved-in_ok-insert-in-Equ c =
           ∙ (ap (λ hs. equs_from s t r hs c.loop-head.equs) (at_equ c.loop-head.rest.now c.in-Some.head.now c.in-Some.after.now c.loop-head.open_blocks c.in-Some.ensures.cases.0 c.in-Equ.is (omega (arith, c.if-open_blocks-eq0.true)))
           ∙ ap (and_then (equs_from s t r (equ_lines c.loop-head.open_blocks c.in-Some.after.now))) (c.in_ok-name-in-Equ.ensures.equ ∙ ap Ok (sym pushed))),
       omega (arith, c.loop-head.invariant.1, ap length c.in-Some.ensures.cases.0),
-      All-rest (HeadLies s) c.in-Some.head.now c.in-Some.after.now c.loop-head.rest.now c.in-Some.ensures.cases.0 c.loop-head.invariant.2,
-      All-same (λ e. All (LiesIn s) e.1.tokens) c.insert.new.self _ pushed (All-push (λ e. All (LiesIn s) e.1.tokens) c.loop-head.equs e c.loop-head.invariant.3 c.in_ok-name-in-Equ.ensures.inside),
     )
 
 pub loop-head-preserved-else-open_blocks-eq0 : goal.loop-head-preserved-else-open_blocks-eq0
@@ -64,8 +55,6 @@ loop-head-preserved-else-open_blocks-eq0 c =
     let s = c.args.source.now in (
       c.loop-head.invariant.0 ∙ ap (λ hs. equs_from s t r hs c.loop-head.equs) (at_inner_equ c.loop-head.rest.now c.in-Some.head.now c.in-Some.after.now c.loop-head.open_blocks c.in-Some.ensures.cases.0 c.in-Equ.is (omega (arith, c.if-open_blocks-eq0.false))),
       omega (arith, c.loop-head.invariant.1, ap length c.in-Some.ensures.cases.0),
-      All-rest (HeadLies s) c.in-Some.head.now c.in-Some.after.now c.loop-head.rest.now c.in-Some.ensures.cases.0 c.loop-head.invariant.2,
-      c.loop-head.invariant.3,
     )
 
 pub loop-head-preserved : goal.loop-head-preserved
@@ -75,12 +64,10 @@ loop-head-preserved c =
     let s = c.args.source.now in (
       c.loop-head.invariant.0 ∙ ap (λ hs. equs_from s t r hs c.loop-head.equs) (at_other c.loop-head.rest.now c.in-Some.head.now c.in-Some.after.now c.loop-head.open_blocks c.in-Some.ensures.cases.0 c.in_default-word.not-Equ c.in_default-word.not-For c.in_default-word.not-Rof),
       omega (arith, c.loop-head.invariant.1, ap length c.in-Some.ensures.cases.0),
-      All-rest (HeadLies s) c.in-Some.head.now c.in-Some.after.now c.loop-head.rest.now c.in-Some.ensures.cases.0 c.loop-head.invariant.2,
-      c.loop-head.invariant.3,
     )
 
-pub returns-in_err-name-in-Equ-clause-equs : goal.returns-in_err-name-in-Equ-clause-equs
-returns-in_err-name-in-Equ-clause-equs c =
+pub returns-in_err-name-in-Equ : goal.returns-in_err-name-in-Equ
+returns-in_err-name-in-Equ c =
     let t : Table = table_in c.args.names.now.constants.now in
     let r : RulesView = c.args.names.now.rules.now in
     let s = c.args.source.now in
@@ -89,8 +76,8 @@ returns-in_err-name-in-Equ-clause-equs c =
     ∙ (ap (λ hs. equs_from s t r hs c.loop-head.equs) (at_equ c.loop-head.rest.now c.in-Some.head.now c.in-Some.after.now c.loop-head.open_blocks c.in-Some.ensures.cases.0 c.in-Equ.is (omega (arith, c.if-open_blocks-eq0.true)))
     ∙ ap (and_then (equs_from s t r (equ_lines c.loop-head.open_blocks c.in-Some.after.now))) (c.in_err-name-in-Equ.ensures.equ h)))
 
-pub returns-clause-equs : goal.returns-clause-equs
-returns-clause-equs c =
+pub returns : goal.returns
+returns c =
     let t : Table = table_in c.args.names.now.constants.now in
     let r : RulesView = c.args.names.now.rules.now in
     let s = c.args.source.now in

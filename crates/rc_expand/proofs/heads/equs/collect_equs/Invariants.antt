@@ -1,8 +1,5 @@
 use Rattle.std.proofs.Common.{◌≡◌, ◌≤◌, ◌+◌, length}
-use Rattle.std.specs.Prelude.{All}
 use Rattle.rc_expand.specs.Names.{table_in}
-use Rattle.rc_expand.specs.Heads.Lines.{HeadLies}
-use Rattle.rc_expand.specs.Replace.{EqusLie}
 use Rattle.rc_expand.specs.Heads.{equs_of, equs_from, equ_lines}
 use Rattle.rc_expand.proofs.heads.equs.collect_equs.Given as goal
 
@@ -14,4 +11,4 @@ abbrev pub invariant-loop-head : goal.invariant-loop-head
 invariant-loop-head l =
     (equs_of l.source (table_in l.names.constants.now) l.names.rules.now l.heads
     ≡ equs_from l.source (table_in l.names.constants.now) l.names.rules.now (equ_lines l.open_blocks l.rest) l.equs)
-    × (l.open_blocks + length l.rest ≤ length l.heads) × All (HeadLies l.source) l.rest × EqusLie l.source l.equs
+    × (l.open_blocks + length l.rest ≤ length l.heads)

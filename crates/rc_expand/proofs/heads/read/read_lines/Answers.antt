@@ -1,9 +1,6 @@
 use Rattle.std.proofs.Common.{◌≡◌, sym, ◌∙◌, subst, false, []}
-use Rattle.std.proofs.lemmas.List.Elements.{All-rest, All-nil, All-same, All-head, All-push}
 use Rattle.rc_text.specs.Tokens.{Ahead}
-use Rattle.rc_text.specs.Symbols.{LiesIn}
-use Rattle.rc_text.proofs.Spans.{all_inside}
-use Rattle.rc_expand.specs.Heads.Lines.{HeadLies, has_end, line_of_tokens}
+use Rattle.rc_expand.specs.Heads.Lines.{has_end, line_of_tokens}
 use Rattle.rc_expand.proofs.Reading.ReadSteps.{SoFar, at_first, at_token, at_line}
 use Rattle.rc_expand.proofs.Reading.TextFaults.{at_beginning, after_token}
 use Rattle.rc_expand.proofs.heads.read.read_lines.Goals as goal
@@ -12,12 +9,9 @@ pub loop-line-init : goal.loop-line-init
 loop-line-init c =
     let P : Ahead → Type 0 = λ a. SoFar c.args.source.now [] [] a.tokens in
     let first : SoFar c.args.source.now c.new-heads.result.items c.new-line.result.items c.new-lexer.result.tokens =
-    rw (c.new-heads.ensures.items, c.new-line.ensures.items) (subst P (sym c.new-lexer.ensures.tokens) (at_first c.args.source.now)) in (
+    rw (c.new-heads.ensures.items, c.new-line.ensures.items) (subst P (sym c.new-lexer.ensures) (at_first c.args.source.now)) in (
       first,
-      all_inside c.args.source.now 0 c.new-lexer.result.tokens c.new-lexer.ensures.spans,
-      All-same (LiesIn c.args.source.now) c.new-line.result.items [] c.new-line.ensures.items (All-nil (LiesIn c.args.source.now)),
-      All-same (HeadLies c.args.source.now) c.new-heads.result.items [] c.new-heads.ensures.items (All-nil (HeadLies c.args.source.now)),
-      at_beginning c.args.source.now c.new-lexer.result c.new-lexer.ensures.tokens,
+      at_beginning c.args.source.now c.new-lexer.result c.new-lexer.ensures,
     )
 
 pub loop-line-preserved-then-is_line_end : goal.loop-line-preserved-then-is_line_end
@@ -29,10 +23,7 @@ loop-line-preserved-then-is_line_end c =
     let first : SoFar c.args.source.now c.push_line.new.heads.items c.clear.new.self.items c.next_token.new.lexer.tokens =
     rw (c.in_ok-push_line.ensures.heads, c.clear.ensures.items) r in (
       first,
-      All-rest (LiesIn c.args.source.now) c.in-Some.token c.next_token.new.lexer.tokens c.loop-line.lexer.tokens took.0 c.loop-line.invariant.1,
-      All-same (LiesIn c.args.source.now) c.clear.new.self.items [] c.clear.ensures.items (All-nil (LiesIn c.args.source.now)),
-      c.in_ok-push_line.ensures.after,
-      after_token c.args.source.now c.loop-line.lexer c.next_token.new.lexer c.in-Some.token took.0 took.1 took.3 c.loop-line.invariant.4,
+      after_token c.args.source.now c.loop-line.lexer c.next_token.new.lexer c.in-Some.token took.0 took.1 took.3 c.loop-line.invariant.1,
     )
 
 pub loop-line-preserved : goal.loop-line-preserved
@@ -40,12 +31,7 @@ loop-line-preserved c =
     let took = rw c.in-Some.is at c.in_ok-token.ensures in
     let r = at_token c.args.source.now c.loop-line.heads.items c.loop-line.line.items c.in-Some.token c.next_token.new.lexer.tokens c.loop-line.lexer.tokens took.0 c.if-is_line_end.ensures c.loop-line.invariant.0 in
     let first : SoFar c.args.source.now c.loop-line.heads.items c.push.new.self.items c.next_token.new.lexer.tokens =
-    rw (c.in_ok-push.ensures.items) r in
-    let lies : LiesIn c.args.source.now c.in-Some.token =
-    All-head (LiesIn c.args.source.now) c.in-Some.token c.next_token.new.lexer.tokens (All-same (LiesIn c.args.source.now) _ c.loop-line.lexer.tokens (sym took.0) c.loop-line.invariant.1) in (
+    rw (c.in_ok-push.ensures.items) r in (
       first,
-      All-rest (LiesIn c.args.source.now) c.in-Some.token c.next_token.new.lexer.tokens c.loop-line.lexer.tokens took.0 c.loop-line.invariant.1,
-      All-same (LiesIn c.args.source.now) c.push.new.self.items _ c.in_ok-push.ensures.items (All-push (LiesIn c.args.source.now) c.loop-line.line.items c.in-Some.token c.loop-line.invariant.2 lies),
-      c.loop-line.invariant.3,
-      after_token c.args.source.now c.loop-line.lexer c.next_token.new.lexer c.in-Some.token took.0 took.1 took.3 c.loop-line.invariant.4,
+      after_token c.args.source.now c.loop-line.lexer c.next_token.new.lexer c.in-Some.token took.0 took.1 took.3 c.loop-line.invariant.1,
     )

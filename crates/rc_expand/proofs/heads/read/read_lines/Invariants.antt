@@ -1,7 +1,4 @@
 use Rattle.std.proofs.Common.{length}
-use Rattle.std.specs.Prelude.{All}
-use Rattle.rc_text.specs.Symbols.{LiesIn}
-use Rattle.rc_expand.specs.Heads.Lines.{HeadLies}
 use Rattle.rc_expand.proofs.Reading.ReadSteps.{SoFar}
 use Rattle.rc_expand.proofs.Reading.TextFaults.{Follows}
 use Rattle.rc_expand.proofs.heads.read.read_lines.Given as goal
@@ -9,7 +6,6 @@ use Rattle.rc_expand.proofs.heads.read.read_lines.Given as goal
 abbrev pub invariant-loop-line : goal.invariant-loop-line
 invariant-loop-line l =
     SoFar l.source l.heads.items l.line.items l.lexer.tokens
-    × All (LiesIn l.source) l.lexer.tokens × All (LiesIn l.source) l.line.items × All (HeadLies l.source) l.heads.items
     × Follows l.source l.lexer
 
 abbrev pub decreases-loop-line : goal.decreases-loop-line

@@ -1,7 +1,5 @@
 use Rattle.std.proofs.Common.{◌≡◌, ◌++◌, take}
-use Rattle.std.specs.Prelude.{All}
-use Rattle.rc_text.specs.Symbols.{LiesIn}
 use Rattle.rc_expand.proofs.replace.finish.push_tokens.Given as goal
 
 abbrev pub invariant-loop-token : goal.invariant-loop-token
-invariant-loop-token l = (l.all.items ≡ l.fn.all.items ++ take l.token-index l.tokens) × All (LiesIn l.source) l.all.items
+invariant-loop-token l = l.all.items ≡ l.fn.all.items ++ take l.token-index l.tokens

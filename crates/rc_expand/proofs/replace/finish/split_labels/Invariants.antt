@@ -1,6 +1,4 @@
 use Rattle.std.proofs.Common.{◌≡◌, ◌++◌, length}
-use Rattle.std.specs.Prelude.{All}
-use Rattle.rc_text.specs.Symbols.{LiesIn}
 use Rattle.rc_expand.specs.Replace.Lines.{own_labels, other_labels}
 use Rattle.rc_expand.proofs.replace.finish.split_labels.Given as goal
 
@@ -11,4 +9,3 @@ decreases-loop-label l = length l.rest
 abbrev pub invariant-loop-label : goal.invariant-loop-label
 invariant-loop-label l =
     (own_labels l.source l.labels ≡ l.own.items ++ own_labels l.source l.rest) × (other_labels l.source l.labels ≡ other_labels l.source l.rest)
-    × All (LiesIn l.source) l.own.items × All (All (LiesIn l.source)) l.rest

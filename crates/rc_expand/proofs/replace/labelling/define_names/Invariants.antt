@@ -1,6 +1,5 @@
 use Rattle.std.proofs.Common.{◌≡◌, length, map}
-use Rattle.std.specs.Prelude.{All}
-use Rattle.rc_text.specs.Symbols.{LiesIn, name_of}
+use Rattle.rc_text.specs.Symbols.{name_of}
 use Rattle.rc_expand.specs.Shared.{shared}
 use Rattle.rc_expand.specs.Heads.NameTables.{names_in}
 use Rattle.rc_expand.specs.Replace.Lines.{defined}
@@ -12,6 +11,5 @@ decreases-loop-label l = length l.rest
 -- the names that are left make the whole
 abbrev pub invariant-loop-label : goal.invariant-loop-label
 invariant-loop-label l =
-    (defined (shared l.context) l.line (map (name_of l.context.source.now) l.labels) (names_in l.fn.names)
-    ≡ defined (shared l.context) l.line (map (name_of l.context.source.now) l.rest) (names_in l.names))
-    × All (LiesIn l.context.source.now) l.rest
+    defined (shared l.context) l.line (map (name_of l.context.source.now) l.labels) (names_in l.fn.names)
+    ≡ defined (shared l.context) l.line (map (name_of l.context.source.now) l.rest) (names_in l.names)

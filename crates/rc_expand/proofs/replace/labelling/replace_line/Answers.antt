@@ -1,9 +1,7 @@
 use Rattle.std.proofs.Common.{◌≡◌, sym, ◌∙◌, ap, map}
-use Rattle.std.proofs.lemmas.List.Elements.{All-push}
 use Rattle.rc_text.specs.Symbols.{name_of}
 use Rattle.rc_expand.specs.Shared.{shared}
 use Rattle.rc_expand.specs.Heads.NameTables.{names_in}
-use Rattle.rc_expand.specs.Expansion.{LineLies}
 use Rattle.rc_expand.specs.Replace.Lines.{own_labels, defined, lines_so_far}
 use Rattle.rc_expand.proofs.Replacing.LineSteps.{line_made}
 use Rattle.rc_expand.proofs.replace.labelling.replace_line.Goals as goal
@@ -15,7 +13,4 @@ returns-in_ok-push-in_default c =
     let h = c.args.head.now in
     let own : c.as_slice-2.result.now ≡ own_labels s h.labels = c.as_slice-2.ensures ∙ (c.in_ok-labels.ensures.own ∙ ap (own_labels s) c.as_slice.ensures) in
     let names = ap (λ ts. defined k h.number (map (name_of s) ts) (names_in c.args.out.now.names)) (sym own) ∙ c.in_ok-define_names.ensures in
-    record {
-      line = line_made k h (lines_so_far c.args.out.now) (names_in c.define_names.new.names) c.in_ok-line-in_default.line c.push.new.self.items names c.in_default.not-Equ c.in_ok-line-in_default.ensures.line c.in_ok-push-in_default.ensures.items;
-      after = rw c.in_ok-push-in_default.ensures.items (All-push (LineLies s) c.args.out.now.lines.items c.in_ok-line-in_default.line c.requires.before c.in_ok-line-in_default.ensures.inside);
-    }
+    line_made k h (lines_so_far c.args.out.now) (names_in c.define_names.new.names) c.in_ok-line-in_default.line c.push.new.self.items names c.in_default.not-Equ c.in_ok-line-in_default.ensures c.in_ok-push-in_default.ensures.items

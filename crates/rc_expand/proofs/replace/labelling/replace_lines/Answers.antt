@@ -8,26 +8,24 @@ use Rattle.rc_expand.proofs.replace.labelling.replace_lines.Goals as goal
 
 pub loop-i-preserved : goal.loop-i-preserved
 loop-i-preserved c =
-    let k = shared c.args.context.now in (
-      c.loop-i.invariant.0
-          ∙ line_next k c.args.reached.now c.loop-i.i (lines_so_far c.loop-i.out) c.index-reached-i.result c.in_ok-head.head c.loop-i-test.true c.index-reached-i.is c.in_ok-head.ensures.made
-          (lines_so_far c.replace_line.new.out) c.in_ok-replace_line.ensures.line,
-      c.in_ok-replace_line.ensures.after,
-    )
+    let k = shared c.args.context.now in
+    c.loop-i.invariant
+    ∙ line_next k c.args.reached.now c.loop-i.i (lines_so_far c.loop-i.out) c.index-reached-i.result c.in_ok-head.head c.loop-i-test.true c.index-reached-i.is c.in_ok-head.ensures
+    (lines_so_far c.replace_line.new.out) c.in_ok-replace_line.ensures
 
-pub returns-in_err-replace_line-clause-lines : goal.returns-in_err-replace_line-clause-lines
-returns-in_err-replace_line-clause-lines c =
+pub returns-in_err-replace_line : goal.returns-in_err-replace_line
+returns-in_err-replace_line c =
     let k = shared c.args.context.now in
     let p = err_from_is_err_and c.from_residual-in_err-replace_line.result c.from_residual-in_err-replace_line.ensures.1 in
     rw (p.1, p.2) (λ h. all_replaced k (reached_lines k.source c.args.reached.now) _ _
-    (c.loop-i.invariant.0
-    ∙ line_fails k c.args.reached.now c.loop-i.i (lines_so_far c.loop-i.out) c.index-reached-i.result c.in_ok-head.head c.loop-i-test.true c.index-reached-i.is c.in_ok-head.ensures.made
-    c.in_err-replace_line.field-0.0 (c.in_err-replace_line.ensures.line h))
+    (c.loop-i.invariant
+    ∙ line_fails k c.args.reached.now c.loop-i.i (lines_so_far c.loop-i.out) c.index-reached-i.result c.in_ok-head.head c.loop-i-test.true c.index-reached-i.is c.in_ok-head.ensures
+    c.in_err-replace_line.field-0.0 (c.in_err-replace_line.ensures h))
     refl)
 
-pub returns-clause-lines : goal.returns-clause-lines
-returns-clause-lines c =
+pub returns : goal.returns
+returns c =
     let k = shared c.args.context.now in
     all_replaced k (reached_lines k.source c.args.reached.now) _ _
-    (c.loop-i.invariant.0 ∙ lines_end k c.args.reached.now c.loop-i.i (lines_so_far c.loop-i.out) (omega (arith, c.loop-i-test.false)))
+    (c.loop-i.invariant ∙ lines_end k c.args.reached.now c.loop-i.i (lines_so_far c.loop-i.out) (omega (arith, c.loop-i-test.false)))
     refl

@@ -1,8 +1,5 @@
 use Rattle.std.proofs.Common.{◌≡◌, sym, ◌∙◌, ap, subst, Option, Some, List}
-use Rattle.std.specs.Prelude.{All, IfSome}
-use Rattle.std.proofs.lemmas.List.Elements.{All-push}
 use Rattle.rc_text.specs.declared.token.Token.{Token}
-use Rattle.rc_text.specs.Symbols.{LiesIn}
 use Rattle.rc_expand.specs.Unroll.Copies.{copied_tokens}
 use Rattle.rc_expand.proofs.Each.{so_far_more}
 use Rattle.rc_expand.proofs.unroll.copy.copy_labels.Goals as goal
@@ -10,9 +7,5 @@ use Rattle.rc_expand.proofs.unroll.copy.copy_labels.Goals as goal
 pub loop-label-preserved : goal.loop-label-preserved
 loop-label-preserved c =
     let f : List Token → Option (List Token) = copied_tokens c.args.source.now c.args.counter.now c.args.number in
-    let made : Some c.in-Some.tokens ≡ f c.label-item.result = sym c.in-Some.is ∙ (c.in_ok-copy_tokens.ensures.copied ∙ ap f c.as_slice.ensures) in
-    let lies : IfSome (Some c.in-Some.tokens) (All (LiesIn c.args.source.now)) = subst (λ o. IfSome o (All (LiesIn c.args.source.now))) c.in-Some.is c.in_ok-copy_tokens.ensures.inside in
-    rw c.in_ok-push-in-Some.ensures (
-      so_far_more f c.as_slice-label-items.result.now c.loop-label.copied c.label-item.result c.in-Some.tokens c.loop-label.label-index c.loop-label-test.true c.label-item.is made c.loop-label.invariant.0,
-      All-push (All (LiesIn c.args.source.now)) c.loop-label.copied c.in-Some.tokens c.loop-label.invariant.1 lies,
-    )
+    let made : Some c.in-Some.tokens ≡ f c.label-item.result = sym c.in-Some.is ∙ (c.in_ok-copy_tokens.ensures ∙ ap f c.as_slice.ensures) in
+    rw c.in_ok-push-in-Some.ensures (so_far_more f c.as_slice-label-items.result.now c.loop-label.copied c.label-item.result c.in-Some.tokens c.loop-label.label-index c.loop-label-test.true c.label-item.is made c.loop-label.invariant)

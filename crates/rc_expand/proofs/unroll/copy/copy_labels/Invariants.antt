@@ -1,8 +1,6 @@
-use Rattle.std.specs.Prelude.{All}
-use Rattle.rc_text.specs.Symbols.{LiesIn}
 use Rattle.rc_expand.specs.Unroll.Copies.{copied_tokens}
 use Rattle.rc_expand.proofs.Each.{SoFar}
 use Rattle.rc_expand.proofs.unroll.copy.copy_labels.Given as goal
 
 abbrev pub invariant-loop-label : goal.invariant-loop-label
-invariant-loop-label l = SoFar (copied_tokens l.source l.counter l.number) l.label-items l.copied l.label-index × All (All (LiesIn l.source)) l.copied
+invariant-loop-label l = SoFar (copied_tokens l.source l.counter l.number) l.label-items l.copied l.label-index

@@ -2,14 +2,13 @@ use Rattle.std.proofs.Common.{◌≡◌, sym, ◌∙◌, ap, arith, ◌∷◌, d
 use Rattle.std.specs.Prelude.{option_map}
 use Rattle.rc_text.specs.declared.token.Token.{Token}
 use Rattle.rc_expand.specs.Unroll.Copies.{joins, copied_tokens}
-use Rattle.rc_expand.proofs.Unrolling.Copies.{name_joined, joined_lies, no_more_joined, joins_short}
+use Rattle.rc_expand.proofs.Unrolling.Copies.{name_joined, no_more_joined, joins_short}
 use Rattle.rc_expand.proofs.unroll.copy.copy_name.Goals.{then-loop-after-test+else-joins, else-loop-after-test}
 use Rattle.rc_expand.proofs.unroll.copy.copy_name.Goals as goal
 
 pub loop-after-preserved : goal.loop-after-preserved
 loop-after-preserved c = rw c.push.ensures (
   c.loop-after.invariant.0 ∙ name_joined c.args.source.now c.args.counter.now c.args.number c.loop-after.made c.loop-after.name c.args.tokens.now c.loop-after.after (omega arith) c.if-joins.ensures.result,
-  joined_lies c.args.source.now c.loop-after.name _ c.loop-after.invariant.1,
   omega arith,
   omega arith,
 )

@@ -1,5 +1,4 @@
 use Rattle.std.proofs.Common.{◌≡◌, ◌-◌, ◌<◌, ◌≤◌, length, drop}
-use Rattle.rc_text.specs.Symbols.{LiesIn}
 use Rattle.rc_expand.specs.Unroll.Copies.{copied_tokens, copied_from}
 use Rattle.rc_expand.proofs.unroll.copy.copy_name.Given as goal
 
@@ -7,7 +6,7 @@ use Rattle.rc_expand.proofs.unroll.copy.copy_name.Given as goal
 abbrev pub invariant-loop-after : goal.invariant-loop-after
 invariant-loop-after l =
     (copied_tokens l.source l.counter l.number (drop l.at l.tokens) ≡ copied_from l.source l.counter l.number l.made l.name (drop l.after l.tokens))
-    × LiesIn l.source l.name × (l.at < l.after) × (l.after ≤ length l.tokens)
+    × (l.at < l.after) × (l.after ≤ length l.tokens)
 
 abbrev pub decreases-loop-after : goal.decreases-loop-after
 decreases-loop-after l = length l.tokens - l.after

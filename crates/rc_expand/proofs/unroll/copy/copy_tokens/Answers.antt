@@ -1,12 +1,10 @@
 use Rattle.std.proofs.Common.{◌≡◌, sym, ◌∙◌, ap, subst, ◌+◌, ◌++◌, ◌∷◌, drop, List, ℕ, Option, get_or}
-use Rattle.std.specs.Prelude.{option_map, option_and_then, IfSome}
-use Rattle.std.proofs.lemmas.List.Elements.{All-push}
+use Rattle.std.specs.Prelude.{option_map, option_and_then}
 use Rattle.rc_text.specs.declared.token.Token.{Token}
-use Rattle.rc_text.specs.Symbols.{LiesIn}
 use Rattle.rc_expand.specs.Heads.Lines.{is_name_token}
 use Rattle.rc_expand.specs.Unroll.Copies.{copied_tokens}
 use Rattle.rc_expand.proofs.Each.{more}
-use Rattle.rc_expand.proofs.Unrolling.Copies.{kept_at, same_read, item_lies}
+use Rattle.rc_expand.proofs.Unrolling.Copies.{kept_at, same_read}
 use Rattle.rc_expand.proofs.unroll.copy.copy_tokens.Goals as goal
 
 pub loop-at-preserved-in-Some : goal.loop-at-preserved-in-Some
@@ -14,13 +12,9 @@ loop-at-preserved-in-Some c =
     let s = c.args.source.now in
     let f : List Token → Option (List Token) = copied_tokens s c.args.counter.now c.args.number in
     let made = c.in_ok-copy_name.ensures.copied ∙ ap (option_and_then (λ (p : Token × ℕ). option_map (λ r. p.0 ∷ r) (f (drop p.1 c.args.tokens.now)))) c.in-Some.is in
-    let lies = subst (λ o. IfSome o (λ p. LiesIn s p.0)) c.in-Some.is c.in_ok-copy_name.ensures.inside in
-    rw c.in_ok-push-in-Some.ensures.items (
-      c.loop-at.invariant.0
-          ∙ (ap (option_map (λ r. c.loop-at.copied.items ++ r)) made
-          ∙ more c.loop-at.copied.items c.in-Some.name (f (drop c.in-Some.after c.args.tokens.now))),
-      All-push (LiesIn s) c.loop-at.copied.items c.in-Some.name c.loop-at.invariant.1 lies,
-    )
+    rw c.in_ok-push-in-Some.ensures.items (c.loop-at.invariant
+    ∙ (ap (option_map (λ r. c.loop-at.copied.items ++ r)) made
+    ∙ more c.loop-at.copied.items c.in-Some.name (f (drop c.in-Some.after c.args.tokens.now))))
 
 pub loop-at-preserved : goal.loop-at-preserved
 loop-at-preserved c =
@@ -29,9 +23,6 @@ loop-at-preserved c =
     let t = c.in_ok-clone_token.field-0 in
     let is : t ≡ get_or ts c.loop-at.at t = same_read ts c.loop-at.at t c.index-tokens-at.result c.in_ok-clone_token.ensures c.index-tokens-at.is in
     let made = kept_at s c.args.counter.now c.args.number ts c.loop-at.at t c.loop-at-test.true is (ap is_name_token c.in_ok-clone_token.ensures ∙ sym c.if-is_name_token.ensures) in
-    rw c.in_ok-push.ensures.items (
-      c.loop-at.invariant.0
-          ∙ (ap (option_map (λ r. c.loop-at.copied.items ++ r)) made
-          ∙ more c.loop-at.copied.items t (copied_tokens s c.args.counter.now c.args.number (drop (c.loop-at.at + 1) ts))),
-      All-push (LiesIn s) c.loop-at.copied.items t c.loop-at.invariant.1 (item_lies s ts c.loop-at.at t c.loop-at-test.true is c.requires),
-    )
+    rw c.in_ok-push.ensures.items (c.loop-at.invariant
+    ∙ (ap (option_map (λ r. c.loop-at.copied.items ++ r)) made
+    ∙ more c.loop-at.copied.items t (copied_tokens s c.args.counter.now c.args.number (drop (c.loop-at.at + 1) ts))))

@@ -8,10 +8,8 @@ use Rattle.rc_expand.proofs.unroll.reached.make_line.Goals as goal
 pub loop-i-preserved : goal.loop-i-preserved
 loop-i-preserved c =
     let s = c.args.source.now in
-    let i = c.loop-i.i in (
-      c.in_ok-made-2.ensures.copied
-          ∙ (ap (copied_line s _ _) c.loop-i.invariant.0
-          ∙ (sym (line_more s (take i c.args.copies.now) (get_or c.args.copies.now i _) c.args.head.now)
-          ∙ ap (λ cs. line_in s cs c.args.head.now) (sym (take_more c.args.copies.now i _ c.loop-i-test.true)))),
-      c.in_ok-made-2.ensures.inside,
-    )
+    let i = c.loop-i.i in
+    c.in_ok-made-2.ensures
+    ∙ (ap (copied_line s _ _) c.loop-i.invariant
+    ∙ (sym (line_more s (take i c.args.copies.now) (get_or c.args.copies.now i _) c.args.head.now)
+    ∙ ap (λ cs. line_in s cs c.args.head.now) (sym (take_more c.args.copies.now i _ c.loop-i-test.true))))

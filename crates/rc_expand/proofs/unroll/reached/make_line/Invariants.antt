@@ -1,8 +1,7 @@
 use Rattle.std.proofs.Common.{◌≡◌, take}
-use Rattle.rc_expand.specs.Heads.Lines.{HeadLies}
 use Rattle.rc_expand.specs.Unroll.Reached.{line_in}
 use Rattle.rc_expand.proofs.unroll.reached.make_line.Given as goal
 
 -- the line as it stands in the copies so far
 abbrev pub invariant-loop-i : goal.invariant-loop-i
-invariant-loop-i l = (l.made ≡ line_in l.source (take l.i l.copies) l.head) × HeadLies l.source l.made
+invariant-loop-i l = l.made ≡ line_in l.source (take l.i l.copies) l.head

@@ -1,0 +1,443 @@
+-- The tokens of an expansion have spans of the text, pass by pass.
+use Rattle.std.proofs.Common.{◌≡◌, ℕ, zero, suc, ◌+◌, Bool, true, false, List, [], ◌∷◌, ◌++◌, length, take, drop, Option, Some, None, sym, subst}
+use Rattle.std.specs.Prelude.{Result, Ok, Err, ◌&&◌, ◌||◌, not, nat_lt, pred, All, IfOk, IfSome, if◌then◌else◌, flat_map, option_map, option_and_then, option_to_list, is_some}
+use Rattle.std.specs.Str.{bytes_eq}
+use Rattle.std.specs.List.{AllByRecursion as ByRecursion}
+use Rattle.std.proofs.lemmas.List.Elements.{All-from_recursion, recursion_from_All, All-take, All-drop}
+use Rattle.rc_text.specs.declared.token.Token.{Token}
+use Rattle.rc_text.specs.Gaps.{is_line_end}
+use Rattle.rc_text.specs.Symbols.{LiesIn, name_of}
+use Rattle.rc_text.specs.Tokens.{tokens_of}
+use Rattle.rc_text.proofs.GapSteps.{lie_in_the_text}
+use Rattle.rc_instr.specs.Rules.{RulesView}
+use Rattle.rc_expand.specs.declared.heads.head.Head.{Head}
+use Rattle.rc_expand.specs.declared.heads.head.HeadWord.{HeadWord}
+use Rattle.rc_expand.specs.declared.heads.head.HeadWord.TheVariants as word
+use Rattle.rc_expand.specs.declared.fault.ExpandFault.{ExpandFault}
+use Rattle.rc_expand.specs.declared.line.Line.{Line}
+use Rattle.rc_expand.specs.Limits.{MOST_JOINED, MOST_TOKENS, MOST_REPLACEMENTS, DEEPEST_BLOCK, DEEPEST_EQU}
+use Rattle.rc_expand.specs.Results.{mapped, and_then}
+use Rattle.rc_expand.specs.Names.{Table, entry_of, is_taken}
+use Rattle.rc_expand.specs.Shared.{Shared}
+use Rattle.rc_expand.specs.Heads.{Heads, equ_lines_by, equ_lines, nested_lines, text_lines, equ_token, with_equ, equs_from, equs_of, with_equs, heads_of}
+use Rattle.rc_expand.specs.Heads.Faults.{text_fault}
+use Rattle.rc_expand.specs.Heads.Nesting.{nesting_fault}
+use Rattle.rc_expand.specs.Heads.Lines.{choose, is_free, is_colon, has_modifier, label_token, labelled, head_with_word, headed, head_of, word_of, line_of_tokens, has_end, line_then, lines_unless, lines_from, bare_line, is_name_token}
+use Rattle.rc_expand.specs.Unroll.{Unrolled, Step, Deeper, nothing, has_room, with_line, with_copy, copies_from, with_earlier, is_bare_rof, at_rof, checked_line, one_line, line_outside, line_inside, copy_of, opened, block_of, outside, inside, deeper_at, unrolled}
+use Rattle.rc_expand.specs.Unroll.Copies.{all_of, is_counter, numbered, joined, joins, copied_from, copied_tokens, copied_code, copied_rest, or_spoiled, copied_line, copied_block}
+use Rattle.rc_expand.specs.Unroll.Openings.{Opening, earlier_of, counted_by, count_of, counter_name, counter_of, opening}
+use Rattle.rc_expand.specs.Replace.{EquText, Equs, Replaced, Inner, with_token, with_replacement, one, exempt_len, equ_in, equ_at, spread, inner_at, replaced_within, replaced_tokens, line_tokens}
+use Rattle.rc_expand.specs.Replace.Lines.{own_step, own_labels, other_step, other_labels, finished, made_line, line_with_labels, line_of, names_of, Replacement, no_lines, with_line as with_new, defined, line_added, line_replaced, lines_replaced, replaced}
+use Rattle.rc_expand.specs.Expansion.{LineLies, shared_by, expansion_by, expansion_of, IsExpansion}
+use Rattle.rc_expand.proofs.Reading.LabelLaws.{labels_and_rest}
+
+-- either branch
+either : {A : Type 0} (P : A → Type 0) (b : Bool) (x y : A) → P x → P y → P (if b then x else y)
+either P true x y h i = h
+either P false x y h i = i
+
+chosen : {A : Type 0} (P : A → Type 0) (b : Bool) (f g : Unit {0} → A) → P (f tt) → P (g tt) → P (choose b f g)
+chosen P true f g h i = h
+chosen P false f g h i = i
+
+-- one step after another
+after : {A B E : Type 0} (P : A → Type 0) (Q : B → Type 0) (f : A → Result B E) (r : Result A E) → IfOk r P → ((x : A) → P x → IfOk (f x) Q) → IfOk (and_then f r) Q
+after P Q f (Ok x) h g = g x h
+after P Q f (Err e) h g = tt
+
+after_any : {A B E : Type 0} (Q : B → Type 0) (f : A → Result B E) (r : Result A E) → ((x : A) → IfOk (f x) Q) → IfOk (and_then f r) Q
+after_any Q f (Ok x) g = g x
+after_any Q f (Err e) g = tt
+
+over : {A B E : Type 0} (P : A → Type 0) (Q : B → Type 0) (f : A → B) (r : Result A E) → IfOk r P → ((x : A) → P x → Q (f x)) → IfOk (mapped f r) Q
+over P Q f (Ok x) h g = g x h
+over P Q f (Err e) h g = tt
+
+over_any : {A B E : Type 0} (Q : B → Type 0) (f : A → B) (r : Result A E) → ((x : A) → Q (f x)) → IfOk (mapped f r) Q
+over_any Q f (Ok x) g = g x
+over_any Q f (Err e) g = tt
+
+some_after : {A B : Type 0} (P : A → Type 0) (Q : B → Type 0) (f : A → Option B) (o : Option A) → IfSome o P → ((x : A) → P x → IfSome (f x) Q) → IfSome (option_and_then f o) Q
+some_after P Q f (Some x) h g = g x h
+some_after P Q f None h g = tt
+
+some_over : {A B : Type 0} (P : A → Type 0) (Q : B → Type 0) (f : A → B) (o : Option A) → IfSome o P → ((x : A) → P x → Q (f x)) → IfSome (option_map f o) Q
+some_over P Q f (Some x) h g = g x h
+some_over P Q f None h g = tt
+
+-- parts of lists
+rest_of : {A : Type 0} (P : A → Type 0) (x : A) (xs : List A) → ByRecursion P (x ∷ xs) → ByRecursion P xs
+rest_of P x xs h = h.1
+
+both : {A : Type 0} (P : A → Type 0) (xs ys : List A) → ByRecursion P xs → ByRecursion P ys → ByRecursion P (xs ++ ys)
+both P [] ys h i = i
+both P (x ∷ xs) ys h i = (h.0, both P xs ys h.1 i)
+
+parts : {A : Type 0} (P : A → Type 0) (xs ys : List A) → ByRecursion P (xs ++ ys) → ByRecursion P xs × ByRecursion P ys
+parts P [] ys h = (tt, h)
+parts P (x ∷ xs) ys h = let r = parts P xs ys h.1 in ((h.0, r.0), r.1)
+
+module _ (source : List ℕ) where
+  -- the tokens, the labels and the lines with spans of the source
+  abbrev Ls : List Token → Type 0
+  Ls = ByRecursion (LiesIn source)
+
+  abbrev Labels : List (List Token) → Type 0
+  Labels = ByRecursion Ls
+
+  record IsIn (h : Head) : Type 0 where
+    labels : Labels h.labels
+    directive : IfSome h.directive (LiesIn source)
+    rest : Ls h.rest
+
+  abbrev AreIn : List Head → Type 0
+  AreIn = ByRecursion IsIn
+
+  flat : (ls : List (List Token)) → Ls (flat_map (λ x. x) ls) → Labels ls
+  flat [] h = tt
+  flat (l ∷ ls) h = let r = parts (LiesIn source) l (flat_map (λ x. x) ls) h in (r.0, flat ls r.1)
+
+  joined_up : (ls : List (List Token)) → Labels ls → Ls (flat_map (λ x. x) ls)
+  joined_up [] h = tt
+  joined_up (l ∷ ls) h = both (LiesIn source) l (flat_map (λ x. x) ls) h.0 (joined_up ls h.1)
+
+  -- lines are made of tokens
+  with_word : (w : HeadWord) (n : ℕ) (ls : List (List Token)) (t : Token) (ts : List Token) → Labels ls → LiesIn source t → Ls ts → IsIn (head_with_word w n ls t ts)
+  with_word word.Code n ls t ts h i j = record { labels = h; directive = tt; rest = (i, j) }
+  with_word _ n ls t ts h i j = record { labels = h; directive = i; rest = j }
+
+  after_labels : (n : ℕ) (ls : List (List Token)) (ts : List Token) → Labels ls → Ls ts → IsIn (headed source n ls ts)
+  after_labels n ls [] h j = record { labels = h; directive = tt; rest = tt }
+  after_labels n ls (t ∷ ts) h j = with_word (word_of source t) n ls t ts h j.0 j.1
+
+  head_in : (n : ℕ) (ts : List Token) → Ls ts → IsIn (head_of source n ts)
+  unfolding head_of
+  head_in n ts h =
+      let l = labelled source ts in
+      let r = parts (LiesIn source) (flat_map (λ x. x) l.labels) l.after (subst Ls (sym (labels_and_rest source ts)) h) in
+      after_labels n l.labels l.after (flat l.labels r.0) r.1
+
+  tokens_in_line : (ts : List Token) → Ls ts → AreIn (line_of_tokens source ts)
+  tokens_in_line [] h = tt
+  tokens_in_line (t ∷ ts) h = (head_in t.line (t ∷ ts) h, tt)
+
+  then_lines : (hs : List Head) (later : Result (List Head) ExpandFault) → AreIn hs → IfOk later AreIn → IfOk (line_then hs later) AreIn
+  then_lines hs later h i = either (λ r. IfOk r AreIn) (has_end hs) (Ok hs) (mapped (λ r. hs ++ r) later) h (over AreIn AreIn (λ r. hs ++ r) later i (λ r j. both IsIn hs r h j))
+
+  unless_fault : (o : Option ExpandFault) (hs : List Head) → AreIn hs → IfOk (lines_unless o hs) AreIn
+  unless_fault None hs h = h
+  unless_fault (Some f) hs h = tt
+
+  lines_in : (fault : Option ExpandFault) (front ts : List Token) → Ls front → Ls ts → IfOk (lines_from source fault front ts) AreIn
+  lines_in fault front [] h i = unless_fault fault (line_of_tokens source front) (tokens_in_line front h)
+  lines_in fault front (t ∷ ts) h i =
+      chosen (λ r. IfOk r AreIn) (is_line_end t.kind) _ _ (then_lines (line_of_tokens source front) (lines_from source fault [] ts) (tokens_in_line front h) (lines_in fault [] ts tt i.1))
+      (lines_in fault (front ++ (t ∷ [])) ts (both (LiesIn source) front (t ∷ []) h (i.0, tt)) i.1)
+
+  -- EQU names have tokens of these lines
+  abbrev Bodies : Equs → Type 0
+  Bodies = ByRecursion (λ e. Ls e.1.tokens)
+
+  kept : (w : HeadWord) (n : ℕ) (h : Head) (next : ℕ → List Head) → IsIn h → ((m : ℕ) → AreIn (next m)) → AreIn (equ_lines_by w n h next)
+  kept word.For n h next i j = j (suc n)
+  kept word.Rof n h next i j = j (pred n)
+  kept word.Equ zero h next i j = (i, j zero)
+  kept word.Equ (suc n) h next i j = j (suc n)
+  kept _ n h next i j = j n
+
+  equ_lines_in : (n : ℕ) (hs : List Head) → AreIn hs → AreIn (equ_lines n hs)
+  equ_lines_in n [] h = tt
+  equ_lines_in n (h ∷ hs) i = kept h.word n h (λ m. equ_lines m hs) i.0 (λ m. equ_lines_in m hs i.1)
+
+  module _ (constants : Table) (rules : RulesView) where
+    one_equ : (h : Head) (equs : Equs) (o : Option Token) → IsIn h → Bodies equs → IfOk (with_equ source constants rules h equs o) Bodies
+    one_equ h equs None i j = tt
+    one_equ h equs (Some t) i j =
+        either (λ r. IfOk r Bodies) (is_taken constants rules (name_of source t) || is_some (entry_of equs (name_of source t))) _ _ tt (both (λ e. Ls e.1.tokens) equs _ j (i.rest, tt))
+
+    equs_in : (hs : List Head) (equs : Equs) → AreIn hs → Bodies equs → IfOk (equs_from source constants rules hs equs) Bodies
+    equs_in [] equs h j = j
+    equs_in (h ∷ hs) equs i j = after Bodies Bodies (equs_from source constants rules hs) (with_equ source constants rules h equs (equ_token source h.labels)) (one_equ h equs (equ_token source h.labels) i.0 j) (λ e k. equs_in hs e i.1 k)
+
+    heads_in : IfOk (heads_of source constants rules) (λ r. AreIn r.lines × Bodies r.equs)
+    unfolding heads_of equs_of
+    heads_in =
+        let lines = lines_in (text_fault source) [] (tokens_of source).tokens tt (recursion_from_All (LiesIn source) (tokens_of source).tokens (lie_in_the_text source)) in
+        let nested = after AreIn AreIn nested_lines (text_lines source) lines (λ hs h. unless_fault (nesting_fault 0 0 hs) hs h) in
+        after AreIn (λ r. AreIn r.lines × Bodies r.equs) (with_equs source constants rules) (and_then nested_lines (text_lines source)) nested
+        (λ hs h. over Bodies (λ r. AreIn r.lines × Bodies r.equs) (λ equs. record { lines = hs; equs = equs }) (equs_of source constants rules hs) (equs_in (equ_lines 0 hs) [] (equ_lines_in 0 hs h) tt) (λ equs j. (h, j)))
+
+  -- a copy changes no span
+  join_in : (k : ℕ) (t : Token) → LiesIn source t → IfSome (joined source k t) (LiesIn source)
+  join_in k t h = either (λ o. IfSome o (LiesIn source)) (nat_lt (length t.joined) MOST_JOINED) _ _ (record { order = h.order; inside = h.inside }) tt
+
+  module _ (counter : List ℕ) (k : ℕ) where
+    numbered_in : (made : Bool) (t : Token) → LiesIn source t → LiesIn source (numbered source counter k made t)
+    numbered_in made t h = either (LiesIn source) (not made && is_counter source counter t) _ _ (record { order = h.order; inside = h.inside }) h
+
+    from_in : (made : Bool) (t : Token) (ts : List Token) → LiesIn source t → Ls ts → IfSome (copied_from source counter k made t ts) Ls
+    from_in made t [] h i = (numbered_in made t h, tt)
+    from_in made t (u ∷ []) h i = some_over Ls Ls (λ r. numbered source counter k made t ∷ r) (copied_from source counter k false u []) (from_in false u [] i.0 tt) (λ r j. (numbered_in made t h, j))
+    from_in made t (u ∷ v ∷ ts) h i =
+        let more = rest_of (LiesIn source) u (v ∷ ts) i in
+        chosen (λ o. IfSome o Ls) (joins source counter t (u ∷ v ∷ ts)) _ _
+        (some_after (LiesIn source) Ls (λ j. copied_from source counter k true j ts) (joined source k t) (join_in k t h) (λ j p. from_in true j ts p (rest_of (LiesIn source) v ts more)))
+        (some_over Ls Ls (λ r. numbered source counter k made t ∷ r) (copied_from source counter k false u (v ∷ ts)) (from_in false u (v ∷ ts) i.0 more) (λ r j. (numbered_in made t h, j)))
+
+    tokens_in : (ts : List Token) → Ls ts → IfSome (copied_tokens source counter k ts) Ls
+    tokens_in [] h = tt
+    tokens_in (t ∷ ts) h = from_in false t ts h.0 h.1
+
+    code_in : (ts : List Token) → Ls ts → IfSome (copied_code source counter k ts) Ls
+    code_in [] h = tokens_in [] h
+    code_in (t ∷ []) h = tokens_in (t ∷ []) h
+    code_in (t ∷ u ∷ []) h = tokens_in (t ∷ u ∷ []) h
+    code_in (t ∷ u ∷ v ∷ ts) h =
+        let p = rest_of (LiesIn source) t (u ∷ v ∷ ts) h in
+        let q = rest_of (LiesIn source) u (v ∷ ts) p in
+        chosen (λ o. IfSome o Ls) (has_modifier source t u v) _ _
+        (some_over Ls Ls (λ r. t ∷ u ∷ v ∷ r) (copied_tokens source counter k ts) (tokens_in ts (rest_of (LiesIn source) v ts q)) (λ r j. (h.0, (p.0, (q.0, j)))))
+        (tokens_in (t ∷ u ∷ v ∷ ts) h)
+
+    rest_in : (w : HeadWord) (ts : List Token) → Ls ts → IfSome (copied_rest source counter k w ts) Ls
+    rest_in word.Code ts h = code_in ts h
+    rest_in _ ts h = tokens_in ts h
+
+    labels_in : (ls : List (List Token)) → Labels ls → IfSome (all_of (copied_tokens source counter k) ls) Labels
+    labels_in [] h = tt
+    labels_in (l ∷ ls) h =
+        some_after Ls Labels (λ y. option_map (λ ys. y ∷ ys) (all_of (copied_tokens source counter k) ls)) (copied_tokens source counter k l) (tokens_in l h.0)
+        (λ y p. some_over Labels Labels (λ ys. y ∷ ys) (all_of (copied_tokens source counter k) ls) (labels_in ls h.1) (λ ys q. (p, q)))
+
+    or_spoiled_in : (h : Head) (a : Option (List (List Token))) (b : Option (List Token)) → IsIn h → IfSome a Labels → IfSome b Ls → IsIn (or_spoiled source h a b)
+    or_spoiled_in h (Some a) (Some b) i p q = record { labels = p; directive = i.directive; rest = q }
+    or_spoiled_in h (Some a) None i p q = record { labels = tt; directive = i.directive; rest = tt }
+    or_spoiled_in h None b i p q = record { labels = tt; directive = i.directive; rest = tt }
+
+    copy_in : (h : Head) → IsIn h → IsIn (copied_line source counter k h)
+    unfolding copied_line
+    copy_in h i = or_spoiled_in h (all_of (copied_tokens source counter k) h.labels) (copied_rest source counter k h.word h.rest) i (labels_in h.labels i.labels) (rest_in h.word h.rest i.rest)
+
+  block_in : (counter : Option (List ℕ)) (k : ℕ) (hs : List Head) → AreIn hs → AreIn (copied_block source counter k hs)
+  block_in None k hs h = h
+  block_in (Some counter) k [] h = tt
+  block_in (Some counter) k (x ∷ xs) h = (copy_in counter k x h.0, block_in (Some counter) k xs h.1)
+
+  -- what is unrolled so far has such lines, and each step keeps them
+  abbrev SoFar : Unrolled → Type 0
+  SoFar u = AreIn u.lines
+
+  abbrev Keeps : Step → Type 0
+  Keeps step = (u : Unrolled) → SoFar u → IfOk (step u) SoFar
+
+  line_kept : (h : Head) → IsIn h → Keeps (with_line h)
+  line_kept h i u j = either (λ r. IfOk r SoFar) (has_room u) _ _ (both IsIn u.lines (h ∷ []) j (i, tt)) tt
+
+  copy_kept : (line : ℕ) → Keeps (with_copy line)
+  copy_kept line u j = either (λ r. IfOk r SoFar) (has_room u) _ _ j tt
+
+  copies_kept : (f : ℕ → Step) → ((k : ℕ) → Keeps (f k)) → (n k : ℕ) → Keeps (copies_from f n k)
+  copies_kept f g zero k u j = j
+  copies_kept f g (suc n) k u j = after SoFar SoFar (copies_from f n (k + 1)) (f k u) (g k u j) (λ v i. copies_kept f g n (k + 1) v i)
+
+  earlier_kept : (line : ℕ) (ls : List (List Token)) → Labels ls → Keeps (with_earlier line ls)
+  earlier_kept line [] h u j = j
+  earlier_kept line (l ∷ ls) h u j = line_kept (bare_line line (l ∷ ls)) (record { labels = h; directive = tt; rest = tt }) u j
+
+  rof_kept : (rof : Head) → Keeps (at_rof rof)
+  rof_kept rof u j = either (λ r. IfOk r SoFar) (is_bare_rof rof) _ _ j tt
+
+  one_kept : (b : Bool) (h : Head) → IsIn h → Keeps (one_line b h)
+  one_kept b h i u j = after_any SoFar (λ i. with_line h u) (checked_line b h) (λ _. line_kept h i u j)
+
+  earlier_in : (ls : List (List Token)) → Labels ls → Labels (earlier_of ls)
+  earlier_in [] h = tt
+  earlier_in (l ∷ []) h = tt
+  earlier_in (l ∷ m ∷ ls) h = (h.0, earlier_in (m ∷ ls) (rest_of Ls l (m ∷ ls) h))
+
+  out_line : (w : HeadWord) (begins goes_on : Unit {0} → Result Unrolled ExpandFault) → IfOk (begins tt) SoFar → IfOk (goes_on tt) SoFar → IfOk (line_outside w begins goes_on) SoFar
+  out_line word.For begins goes_on h i = h
+  out_line _ begins goes_on h i = i
+
+  in_line : (w : HeadWord) (n : ℕ) (goes_on : ℕ → Result Unrolled ExpandFault) (ends : Unit {0} → Result Unrolled ExpandFault) → ((m : ℕ) → IfOk (goes_on m) SoFar) → IfOk (ends tt) SoFar → IfOk (line_inside w n goes_on ends) SoFar
+  in_line word.For n goes_on ends h i = h (suc n)
+  in_line word.Rof zero goes_on ends h i = i
+  in_line word.Rof (suc n) goes_on ends h i = h n
+  in_line _ n goes_on ends h i = h n
+
+  -- names of one label
+  label_in : (l : List Token) → Ls l → IfSome (label_token source l) (LiesIn source)
+  label_in [] h = tt
+  label_in (t ∷ []) h = either (λ o. IfSome o (LiesIn source)) (is_free source t) _ _ h.0 tt
+  label_in (t ∷ u ∷ []) h = either (λ o. IfSome o (LiesIn source)) (is_free source t && is_colon u) _ _ h.0 tt
+  label_in (t ∷ u ∷ v ∷ ts) h = tt
+
+  own_stepped : (o : Option Token) (ts : List Token) → IfSome o (LiesIn source) → Ls ts → Ls (own_step source o ts)
+  own_stepped None ts h i = tt
+  own_stepped (Some t) ts h i = (h, i)
+
+  own_in : (ls : List (List Token)) → Labels ls → Ls (own_labels source ls)
+  own_in [] h = tt
+  own_in (l ∷ ls) h = own_stepped (label_token source l) (own_labels source ls) (label_in l h.0) (own_in ls h.1)
+
+  other_stepped : (o : Option Token) (here later : List (List Token)) → Labels here → Labels later → Labels (other_step source o here later)
+  other_stepped None here later h i = h
+  other_stepped (Some t) here later h i = i
+
+  others_in : (ls : List (List Token)) → Labels ls → Labels (other_labels source ls)
+  others_in [] h = tt
+  others_in (l ∷ ls) h = other_stepped (label_token source l) (l ∷ ls) (other_labels source ls) h (others_in ls h.1)
+
+  option_in : (o : Option Token) → IfSome o (LiesIn source) → Ls (option_to_list o)
+  option_in None h = tt
+  option_in (Some t) h = (h, tt)
+
+  -- EQU names give way to tokens of EQU names
+  module _ (equs : Equs) (bodies : Bodies equs) where
+    abbrev Tokens : Replaced → Type 0
+    Tokens r = Ls r.tokens
+
+    entry_in : (table : Equs) → Bodies table → (name : List ℕ) → IfSome (entry_of table name) (λ e. Ls e.tokens)
+    entry_in [] h name = tt
+    entry_in (e ∷ table) h name = either (λ o. IfSome o (λ e. Ls e.tokens)) (bytes_eq name e.0) _ _ h.0 (entry_in table h.1 name)
+
+    body_in : (t : Token) → IfSome (equ_at source equs t) Ls
+    body_in t = some_over (λ e. Ls e.tokens) Ls (λ e. e.tokens) (equ_in source equs t)
+        (either (λ o. IfSome o (λ e. Ls e.tokens)) (is_name_token t) _ _ (entry_in equs bodies (name_of source t)) tt) (λ e h. h)
+
+    token_kept : (t : Token) → LiesIn source t → (r : Replaced) → Tokens r → IfOk (with_token t r) Tokens
+    token_kept t i r j = either (λ x. IfOk x Tokens) (nat_lt (length r.tokens) MOST_TOKENS) _ _ (both (LiesIn source) r.tokens (t ∷ []) j (i, tt)) tt
+
+    replacement_kept : (r : Replaced) → Tokens r → IfOk (with_replacement r) Tokens
+    replacement_kept r j = either (λ x. IfOk x Tokens) (nat_lt r.replacements MOST_REPLACEMENTS) _ _ j tt
+
+    abbrev InnerKeeps : Inner → Type 0
+    InnerKeeps inner = (body : List Token) → Ls body → (r : Replaced) → Tokens r → IfOk (inner body r) Tokens
+
+    token_replaced : (inner : Inner) → InnerKeeps inner → (t : Token) (o : Option (List Token)) → LiesIn source t → IfSome o Ls → (r : Replaced) → Tokens r → IfOk (one inner t o r) Tokens
+    token_replaced inner g t None i h r j = token_kept t i r j
+    token_replaced inner g t (Some body) i h r j = g body h r j
+
+    spread_kept : (inner : Inner) → InnerKeeps inner → (ts : List Token) → Ls ts → (r : Replaced) → Tokens r → IfOk (spread source equs inner ts r) Tokens
+    spread_kept inner g [] h r j = j
+    spread_kept inner g (t ∷ ts) h r j =
+        after Tokens Tokens (spread source equs inner ts) (one inner t (equ_at source equs t) r) (token_replaced inner g t (equ_at source equs t) h.0 (body_in t) r j) (λ x i. spread_kept inner g ts h.1 x i)
+
+    inner_kept : (levels : ℕ) → InnerKeeps (inner_at source equs levels)
+    inner_kept zero body h r j = tt
+    inner_kept (suc n) body h r j =
+        after Tokens Tokens (spread source equs (inner_at source equs n) body) (with_replacement r) (replacement_kept r j) (λ x i. spread_kept (inner_at source equs n) (inner_kept n) body h x i)
+
+    replaced_in : (line : ℕ) (front ts : List Token) → Ls front → Ls ts → IfOk (replaced_tokens source equs line front ts) Ls
+    unfolding replaced_tokens
+    replaced_in line front ts h i =
+        let start : Replaced = record { line = line; tokens = front; replacements = 0 } in
+        over Tokens Ls (λ r. r.tokens) (replaced_within source equs DEEPEST_EQU ts start) (spread_kept (inner_at source equs DEEPEST_EQU) (inner_kept DEEPEST_EQU) ts i start h) (λ r j. j)
+
+    line_tokens_in : (line : ℕ) (w : HeadWord) (ts : List Token) → Ls ts → IfOk (line_tokens source equs line w ts) Ls
+    line_tokens_in line w ts h =
+        let n = exempt_len source w ts in
+        let all = All-from_recursion (LiesIn source) ts h in
+        replaced_in line (take n ts) (drop n ts) (recursion_from_All (LiesIn source) (take n ts) (All-take (LiesIn source) n ts all)) (recursion_from_All (LiesIn source) (drop n ts) (All-drop (LiesIn source) n ts all))
+
+    made_in : (h : Head) (w : HeadWord) (ts : List Token) → IsIn h → Ls ts → IfOk (made_line source equs h w ts) (LineLies source)
+    made_in h w ts i j =
+        over Ls (LineLies source) (finished source h w) (line_tokens source equs h.number w ts) (line_tokens_in h.number w ts j)
+        (λ r k. record { labels = All-from_recursion (LiesIn source) (own_labels source h.labels) (own_in h.labels i.labels); tokens = All-from_recursion (LiesIn source) r k })
+
+    with_labels_in : (h : Head) (others : List (List Token)) → IsIn h → Labels others → IfOk (line_with_labels source equs h others) (LineLies source)
+    with_labels_in h [] i j = made_in h h.word h.rest i i.rest
+    with_labels_in h (l ∷ ls) i j =
+        made_in h word.Code (flat_map (λ x. x) (l ∷ ls) ++ (option_to_list h.directive ++ h.rest)) i
+        (both (LiesIn source) (flat_map (λ x. x) (l ∷ ls)) (option_to_list h.directive ++ h.rest) (joined_up (l ∷ ls) j) (both (LiesIn source) (option_to_list h.directive) h.rest (option_in h.directive i.directive) i.rest))
+
+    line_of_in : (h : Head) → IsIn h → IfOk (line_of source equs h) (LineLies source)
+    unfolding line_of
+    line_of_in h i = with_labels_in h (other_labels source h.labels) i (others_in h.labels i.labels)
+
+module _ (s : Shared) where
+  opening_in : (f : Head) → IsIn s.source f → IfOk (opening s f) (λ o. Labels s.source o.earlier)
+  unfolding opening
+  opening_in f i =
+      either (λ (r : Result Opening ExpandFault). IfOk r (λ o. Labels s.source o.earlier)) f.spoiled _ _ tt
+      (after_any (λ o. Labels s.source o.earlier) (counted_by s f) (and_then (counter_name s f.number) (counter_of s.source f.number f.labels))
+      (λ name. over_any (λ o. Labels s.source o.earlier) (λ n. record { counter = name; earlier = earlier_of f.labels; count = n }) (count_of s f.number f.rest) (λ n. earlier_in s.source f.labels i.labels)))
+
+  -- the lines of a block, and then those after it
+  abbrev KeepsDeeper : Deeper → Type 0
+  KeepsDeeper deeper = (line : ℕ) (hs : List Head) → AreIn s.source hs → Keeps s.source (deeper line hs)
+
+  module _ (deeper : Deeper) (d : KeepsDeeper deeper) where
+    abbrev Kept : Unrolled → Type 0
+    Kept u = SoFar s.source u
+
+    copy_of_kept : (line : ℕ) (counter : Option (List ℕ)) (block : List Head) → AreIn s.source block → (k : ℕ) → Keeps s.source (copy_of s deeper line counter block k)
+    copy_of_kept line counter block h k u j =
+        after Kept Kept (deeper line (copied_block s.source counter k block)) (with_copy line u) (copy_kept s.source line u j) (λ v i. d line (copied_block s.source counter k block) (block_in s.source counter k block h) v i)
+
+    opened_kept : (f : Head) (block : List Head) (o : Opening) → AreIn s.source block → Labels s.source o.earlier → (u : Unrolled) → Kept u → IfOk (opened s deeper f block u o) Kept
+    opened_kept f block o h i u j =
+        after Kept Kept (copies_from (copy_of s deeper f.number o.counter block) o.count 1) (with_earlier f.number o.earlier u) (earlier_kept s.source f.number o.earlier i u j)
+        (λ v k. copies_kept s.source (copy_of s deeper f.number o.counter block) (copy_of_kept f.number o.counter block h) o.count 1 v k)
+
+    block_kept : (f : Head) (block : List Head) (rof : Head) → IsIn s.source f → AreIn s.source block → Keeps s.source (block_of s deeper f block rof)
+    block_kept f block rof i h u j =
+        after Kept Kept (at_rof rof) (and_then (opened s deeper f block u) (opening s f))
+        (after (λ o. Labels s.source o.earlier) Kept (opened s deeper f block u) (opening s f) (opening_in f i) (λ o k. opened_kept f block o h k u j)) (λ v k. rof_kept s.source rof v k)
+
+    module _ (b : Bool) where
+      mutual
+        outside_kept : (hs : List Head) → AreIn s.source hs → Keeps s.source (outside s b deeper hs)
+        outside_kept [] i u j = j
+        outside_kept (h ∷ hs) i u j =
+            out_line s.source h.word _ _ (inside_kept h 0 [] hs i.0 tt i.1 u j)
+            (after Kept Kept (outside s b deeper hs) (one_line b h u) (one_kept s.source b h i.0 u j) (λ v k. outside_kept hs i.1 v k))
+
+        inside_kept : (f : Head) (n : ℕ) (block hs : List Head) → IsIn s.source f → AreIn s.source block → AreIn s.source hs → Keeps s.source (inside s b deeper f n block hs)
+        inside_kept f n block [] p q i u j = tt
+        inside_kept f n block (h ∷ hs) p q i u j =
+            in_line s.source h.word n _ _ (λ m. inside_kept f m (block ++ (h ∷ [])) hs p (both (IsIn s.source) block (h ∷ []) q (i.0, tt)) i.1 u j)
+            (after Kept Kept (outside s b deeper hs) (block_of s deeper f block h u) (block_kept f block h p q u j) (λ v k. outside_kept hs i.1 v k))
+
+  deeper_kept : (levels : ℕ) → KeepsDeeper (deeper_at s levels)
+  deeper_kept zero line hs h u j = tt
+  deeper_kept (suc n) line hs h u j = outside_kept (deeper_at s n) (deeper_kept n) true hs h u j
+
+  unrolled_in : (hs : List Head) → AreIn s.source hs → IfOk (unrolled s hs) (AreIn s.source)
+  unfolding unrolled
+  unrolled_in hs h = over (SoFar s.source) (AreIn s.source) (λ u. u.lines) (outside s false (deeper_at s DEEPEST_BLOCK) hs nothing) (outside_kept (deeper_at s DEEPEST_BLOCK) (deeper_kept DEEPEST_BLOCK) false hs h nothing tt) (λ u i. i)
+
+  -- the lines of the expansion
+  abbrev Made : Replacement → Type 0
+  Made r = ByRecursion (LineLies s.source) r.lines
+
+  module _ (bodies : Bodies s.source s.equs) where
+    made_and_added : (h : Head) (lines : List Line) (names : List (List ℕ)) → IsIn s.source h → ByRecursion (LineLies s.source) lines → IfOk (mapped (with_new lines names) (line_of s.source s.equs h)) Made
+    made_and_added h lines names i j =
+        over (LineLies s.source) Made (with_new lines names) (line_of s.source s.equs h) (line_of_in s.source s.equs bodies h i) (λ l k. both (LineLies s.source) lines (l ∷ []) j (k, tt))
+
+    added : (w : HeadWord) (h : Head) (lines : List Line) (names : List (List ℕ)) → IsIn s.source h → ByRecursion (LineLies s.source) lines → IfOk (line_added s w h lines names) Made
+    added word.Equ h lines names i j = j
+    added _ h lines names i j = made_and_added h lines names i j
+
+    lines_made : (hs : List Head) → AreIn s.source hs → (r : Replacement) → Made r → IfOk (lines_replaced s hs r) Made
+    lines_made [] h r j = j
+    lines_made (h ∷ hs) i r j =
+        after Made Made (lines_replaced s hs) (line_replaced s h r)
+        (after_any Made (line_added s h.word h r.lines) (defined s h.number (names_of s.source h) r.names) (λ names. added h.word h r.lines names i.0 j)) (λ x k. lines_made hs i.1 x k)
+
+    replaced_lines_in : (hs : List Head) → AreIn s.source hs → IfOk (replaced s hs) (ByRecursion (LineLies s.source))
+    unfolding replaced
+    replaced_lines_in hs h = over Made (ByRecursion (LineLies s.source)) (λ r. r.lines) (lines_replaced s hs no_lines) (lines_made hs h no_lines tt) (λ r k. k)
+
+-- all passes
+expansion_in : (source : List ℕ) (constants : Table) (rules : RulesView) → IfOk (expansion_of source constants rules) (ByRecursion (LineLies source))
+unfolding expansion_of
+expansion_in source constants rules =
+    after (λ r. AreIn source r.lines × Bodies source r.equs) (ByRecursion (LineLies source)) (expansion_by source constants rules) (heads_of source constants rules) (heads_in source constants rules)
+    (λ r h. let s = shared_by source constants rules r in
+    after (AreIn source) (ByRecursion (LineLies source)) (replaced s) (unrolled s r.lines) (unrolled_in s r.lines h.0) (λ hs i. replaced_lines_in s h.1 hs i))
+
+pub expansion_lies : (source : List ℕ) (constants : Table) (rules : RulesView) (lines : List Line) → IsExpansion source constants rules lines → All (LineLies source) lines
+expansion_lies source constants rules lines e =
+    All-from_recursion (LineLies source) lines (subst (λ r. IfOk r (ByRecursion (LineLies source))) e (expansion_in source constants rules))
