@@ -10,12 +10,13 @@ opponents of the tuning.
 
 Example: cwtune-holdout my.red my.cert dwarf.red scanner.red
 """
-import argparse, math, pathlib, random, tempfile
+import math, pathlib, random, tempfile
 from typing import NamedTuple
 
 from . import tuning_files
 from .endings import Fault, number_from
-from .program import EXPLAIN, add_program, add_rules, rules_of, run_program
+from .program import (EXPLAIN, add_program, add_rules, add_words, command_parser, rules_of,
+                      run_program)
 
 MOST_FIGHTS = 10000
 
@@ -110,9 +111,7 @@ def print_gain(setting, more):
 
 
 def make_parser():
-    about, *more = __doc__.split("\n\n")
-    parser = argparse.ArgumentParser(description=about, epilog="\n\n".join(more),
-                                     formatter_class=argparse.RawDescriptionHelpFormatter)
+    parser = command_parser(__doc__)
     parser.add_argument("--top", type=number_from(1), default=5, metavar="K",
                         help="how many settings play, beside START [default: 5]")
     parser.add_argument("--rounds", type=number_from(1), default=100, metavar="R",
@@ -123,9 +122,7 @@ def make_parser():
                         help="the schedule of the tuning; needed if it has weights")
     add_program(parser)
     add_rules(parser)
-    for name in ["template", "cert"]:
-        parser.add_argument(name, metavar=name.upper())
-    parser.add_argument("opponent", nargs="+", metavar="OPPONENT")
+    add_words(parser, "template", "cert", "opponent")
     return parser
 
 

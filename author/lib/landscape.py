@@ -9,10 +9,11 @@ total, so a certificate of `cwtune tune --all`. Needs matplotlib (Debian: python
 
 Example: cwtune-landscape my.red my.cert totals.png --effects effects.png
 """
-import argparse, itertools, math, sys
+import itertools, math, sys
 
 from . import tuning_files
 from .endings import Fault, whole_file
+from .program import add_words, command_parser
 
 MOST_MAPS = 36
 GREY = "#cccccc"
@@ -183,11 +184,8 @@ def axes_of(parser, asked, names):
 
 
 def make_parser():
-    about, *more = __doc__.split("\n\n")
-    parser = argparse.ArgumentParser(description=about, epilog="\n\n".join(more),
-                                     formatter_class=argparse.RawDescriptionHelpFormatter)
-    for name in ["template", "cert"]:
-        parser.add_argument(name, metavar=name.upper())
+    parser = command_parser(__doc__)
+    add_words(parser, "template", "cert")
     parser.add_argument("picture", metavar="PICTURE", help="a name that ends with .png or .svg")
     parser.add_argument("--schedule", metavar="FILE",
                         help="the schedule; needed for --opponent, or if it has weights")
@@ -215,16 +213,16 @@ def main():
     for picture in filter(None, [asked.picture, asked.effects]):
         if picture[-4:] not in (".png", ".svg"):
             parser.error(f"the picture's name has to end with .png or .svg: {picture}")
-    found = tuning_files.Certificate(asked.cert)
     template = tuning_files.Template(asked.template)
+    found = tuning_files.Certificate(asked.cert)
     if not template.names or len(template.settings) != len(found.rows):
         parser.error("the template has no constants, or the certificate is not of that template")
     fights = found.fights(asked.schedule)
     if asked.opponent is not None and not (
             asked.schedule and any(fight.opponent == asked.opponent for fight in fights)):
         parser.error("--opponent names an opponent of --schedule, from 0")
-    table = Table(template, found, fights, asked.opponent)
-    plot, places = load_pyplot(), axes_of(parser, asked, template.names)
+    places = axes_of(parser, asked, template.names)
+    table, plot = Table(template, found, fights, asked.opponent), load_pyplot()
     title = (f"best {found.best}: {template.constants(found.best)}, total {found.total} of "
              f"{fights.greatest}")
     if asked.opponent is not None:

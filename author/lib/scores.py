@@ -2,11 +2,11 @@
 
 Example: cwtune-scores my.cert fights.csv --template my.red
 """
-import argparse, concurrent.futures, contextlib, os
+import concurrent.futures, contextlib, os
 
 from . import tuning_files
 from .endings import Fault, number_from
-from .program import add_program, add_rules, load_of, rules_of
+from .program import add_program, add_rules, add_words, command_parser, load_of, rules_of
 
 # Of more settings it is not found out which make one warrior.
 MOST_ASSEMBLED = 2000
@@ -94,10 +94,8 @@ def print_idle(template, warriors):
 
 
 def make_parser():
-    parser = argparse.ArgumentParser(description=__doc__.partition("\n\n")[0],
-                                     epilog=__doc__.partition("\n\n")[2])
-    parser.add_argument("cert", metavar="CERT")
-    parser.add_argument("schedule", metavar="SCHEDULE")
+    parser = command_parser(__doc__)
+    add_words(parser, "cert", "schedule")
     parser.add_argument("--template", metavar="FILE",
                         help="names constants, and shows the start setting too")
     parser.add_argument("--top", type=number_from(1), default=10, metavar="K",

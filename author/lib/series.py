@@ -1,7 +1,9 @@
-"""Prints the fights of `pmars -F SEED -r ROUNDS` as a schedule, so that totals can be compared."""
-import argparse
+"""Prints the fights of `pmars -F SEED -r ROUNDS` as a schedule, so that totals can be compared.
 
+Example: cwtune-series 4321 20 3 > fights.csv
+"""
 from .endings import number_from
+from .program import MEANING, command_parser
 
 
 def series(seed, rounds, core, distance):
@@ -13,14 +15,16 @@ def series(seed, rounds, core, distance):
 
 
 def make_parser():
-    parser = argparse.ArgumentParser(description=__doc__)
-    parser.add_argument("seed", type=number_from(1, 65535),
+    parser = command_parser(__doc__)
+    parser.add_argument("seed", metavar="SEED", type=number_from(1, 65535),
                         help="the number after -F, the first position")
-    parser.add_argument("rounds", type=number_from(1, 10000), help="the number after -r")
-    parser.add_argument("opponents", type=number_from(1, 64),
+    parser.add_argument("rounds", metavar="ROUNDS", type=number_from(1, 10000),
+                        help="the number after -r")
+    parser.add_argument("opponents", metavar="OPPONENTS", type=number_from(1, 64),
                         help="how many opponents: the series for each")
-    parser.add_argument("--core", type=number_from(8, 65535), default=8000)
-    parser.add_argument("--distance", type=number_from(1, 32767), default=100)
+    for name, default, low, high in [("core", 8000, 8, 65535), ("distance", 100, 1, 32767)]:
+        parser.add_argument(f"--{name}", type=number_from(low, high), default=default, metavar="N",
+                            help=f"{MEANING[name]} [default: {default}]")
     return parser
 
 

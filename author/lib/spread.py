@@ -14,11 +14,12 @@ CERT.parts is of other inputs; 3 a part has no result, or a file cannot be read 
 
 Example: cwtune-spread --jobs 4 my.red fights.csv my.cert dwarf.red scanner.red
 """
-import argparse, os, shutil, signal, sys, time
+import os, shutil, signal, sys, time
 
 from . import tuning_files
 from .endings import Fault, naming, number_from, whole_file
-from .program import EXPLAIN, add_program, add_rules, rules_of, run_program
+from .program import (EXPLAIN, add_program, add_rules, add_words, command_parser, rules_of,
+                      run_program)
 from .spread_jobs import Here, Hosts
 from .spread_parts import Folder, Jobs
 
@@ -28,8 +29,7 @@ NO_SUCH_PART = b"error: --part I/K: the template has fewer than K settings\n"
 
 
 def make_parser():
-    parser = argparse.ArgumentParser(description=__doc__, allow_abbrev=False,
-                                     formatter_class=argparse.RawDescriptionHelpFormatter)
+    parser = command_parser(__doc__)
     parser.add_argument("--jobs", type=number_from(1), default=os.cpu_count(), metavar="N",
                         help="parts that run side by side, on each host "
                         "[default: the processors of this one]")
@@ -50,11 +50,10 @@ def make_parser():
     parser.add_argument("--explain", action="store_true",
                         help="explain a refusal, and tell of START, as at a terminal")
     add_program(parser)
-    parser.add_argument("--cache", type=int, default=4096, metavar="N", help="as for `cwtune`")
+    parser.add_argument("--cache", type=int, default=4096, metavar="N",
+                        help="how many settings are remembered in each part [default: 4096]")
     add_rules(parser)
-    for name in ["template", "schedule", "cert"]:
-        parser.add_argument(name, metavar=name.upper())
-    parser.add_argument("opponents", nargs="+", metavar="OPPONENT")
+    add_words(parser, "template", "schedule", "cert", "opponent")
     return parser
 
 
@@ -79,7 +78,7 @@ def tune_part(args, part):
     """Runs the tuning of a part as `tune` alone does."""
     explain = ["--explain"] if args.explain or EXPLAIN else []
     return run_program(args.program, "tune", f"--part={part}", *explain, *options_of(args), "--",
-                       args.template, args.schedule, args.cert, *args.opponents)
+                       args.template, args.schedule, args.cert, *args.opponent)
 
 
 def options_of(args):

@@ -55,7 +55,7 @@ def fingerprint(args, paths):
 
 def names_of(args):
     """Returns the names of the copies, which need no quoting."""
-    return ["cwtune", "t.red", "s.csv"] + [f"o{k}.red" for k in range(len(args.opponents))]
+    return ["cwtune", "t.red", "s.csv"] + [f"o{k}.red" for k in range(len(args.opponent))]
 
 
 class Jobs:
@@ -89,7 +89,7 @@ class Jobs:
 
     def check_words(self):
         args = self.args
-        return [args.program, args.template, args.schedule, self.whole(), *args.opponents], None
+        return [args.program, args.template, args.schedule, self.whole(), *args.opponent], None
 
     def end(self):
         """Leaves the files of the jobs where they are."""
@@ -110,7 +110,7 @@ class Folder:
         except BlockingIOError:
             raise Fault(f"another cwtune-spread is at work in {self.told}", 2) from None
         made = self.read_mark()
-        sources = [args.program, args.template, args.schedule, *args.opponents]
+        sources = [args.program, args.template, args.schedule, *args.opponent]
         copies = [self.path / name for name in self.names]
         if args.anew or "of" not in made:
             self.remove(OWN)

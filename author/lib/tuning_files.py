@@ -3,13 +3,16 @@
 A file that is none of these is refused in a few words; what exactly is wrong with it, `cwtune`
 says.
 """
-import argparse, csv, functools, itertools, math, pathlib, re
+import csv, functools, itertools, math, pathlib, re
 from typing import NamedTuple
 
 from .endings import Fault
+from .program import command_parser
 
-ABOUT = """Prints what each file is: a schedule or a certificate if its first record says so, and a
-template otherwise."""
+ABOUT = """Prints what each file is: a template, a schedule or a certificate.
+
+Example: cwtune-files my.red fights.csv my.cert
+"""
 HEADER = ["opponent", "position", "first"]
 BLANKS = b" \t\r"
 MOST_SETTINGS = 1000000
@@ -210,7 +213,7 @@ def describe(path):
 
 
 def make_parser():
-    parser = argparse.ArgumentParser(description=ABOUT)
+    parser = command_parser(ABOUT)
     parser.add_argument("files", nargs="+", metavar="FILE")
     return parser
 

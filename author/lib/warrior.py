@@ -8,11 +8,11 @@ same load file of it as of the setting.
 
 Example: cwtune-warrior my.red my.cert > winner.red
 """
-import argparse, re, sys, tempfile
+import re, sys, tempfile
 
 from . import tuning_files
 from .endings import Fault, number_from
-from .program import add_program, add_rules, load_of, rules_of
+from .program import (WORDS, add_program, add_rules, add_words, command_parser, load_of, rules_of)
 
 HEAD = b";redcode"
 # pMARS 0.9.2 reads no longer lines.
@@ -91,13 +91,12 @@ def tell_foreign(text):
 
 
 def make_parser():
-    parser = argparse.ArgumentParser(description=__doc__.partition("\n\n")[0],
-                                     epilog=__doc__.partition("\n\n")[2])
+    parser = command_parser(__doc__)
     parser.add_argument("--setting", metavar="W", help="the index of a setting, or `start`")
     add_program(parser)
     add_rules(parser)
-    parser.add_argument("template", metavar="TEMPLATE")
-    parser.add_argument("cert", metavar="CERT", nargs="?")
+    add_words(parser, "template")
+    parser.add_argument("cert", metavar="CERT", nargs="?", help=WORDS["cert"])
     return parser
 
 

@@ -6,7 +6,7 @@ look at the difference before you keep them. A picture is compared by its words 
 how many grey marks it has. Prints what failed, and as its last line `N passed, N failed`; the exit
 status is 1 if a run failed.
 """
-import argparse, contextlib, os, pathlib, re, signal, subprocess, sys, tempfile
+import argparse, contextlib, os, pathlib, re, signal, subprocess, sys, tempfile, time
 
 from author.lib.endings import Fault, run_tool
 from author.lib.program import program_of
@@ -67,8 +67,8 @@ REFUSALS = [
      "cwtune-scores: error: argument --top: -3 is not 1 or more", 2),
     ("cwtune-scores step.cert schedule.csv --top x",
      "cwtune-scores: error: argument --top: invalid number value: 'x'", 2),
-    ("cwtune-series 1234 -5 -2", "cwtune-series: error: argument rounds: -5 is not 1 to 10000", 2),
-    ("cwtune-series 1234 5 65", "cwtune-series: error: argument opponents: 65 is not 1 to 64", 2),
+    ("cwtune-series 1234 -5 -2", "cwtune-series: error: argument ROUNDS: -5 is not 1 to 10000", 2),
+    ("cwtune-series 1234 5 65", "cwtune-series: error: argument OPPONENTS: 65 is not 1 to 64", 2),
     ("cwtune-series 1234 5 2 --core 70000",
      "cwtune-series: error: argument --core: 70000 is not 8 to 65535", 2),
     ("cwtune-series 1234 5 2 --distance 0",
@@ -171,6 +171,17 @@ def interrupt(job):
             job.wait(5)
 
 
+def writer_of(pipe, job):
+    """Opens a named pipe for writing once a job reads it, or has ended."""
+    while True:
+        try:
+            return os.open(pipe, os.O_WRONLY | os.O_NONBLOCK)
+        except OSError:
+            if job.poll() is not None:
+                return os.open(os.devnull, os.O_WRONLY)
+            time.sleep(0.01)
+
+
 def signals():
     """Closes the pipe of a command, and interrupts commands. Yields names, and what was wrong."""
     words = command("cwtune-scores", "step.cert", "schedule.csv")
@@ -183,9 +194,10 @@ def signals():
         os.mkfifo(f"{folder}/pipe")
         for tool in ["cwtune-scores pipe schedule.csv", "cwtune-landscape pipe step.cert x.svg"]:
             job = subprocess.Popen(command(*tool.split()), cwd=folder, stderr=subprocess.PIPE)
-            with open(f"{folder}/pipe", "w"):  # which waits until the command reads it
-                interrupt(job)
-                err = job.communicate()[1]
+            writer = writer_of(f"{folder}/pipe", job)
+            interrupt(job)
+            err = job.communicate()[1]
+            os.close(writer)
             yield compare(f"Ctrl-C in {tool}", (-signal.SIGINT, b""), (job.returncode, err))
 
 
