@@ -104,8 +104,8 @@ def filled(case):
         check_keys(long, LONG, ["text", "times"], case["name"])
         files[name] = long_text(long)
     words = shlex.split(words)
-    shared = {name: inputs.FILES[name] for name in {*words, case.get("each_beginning_of")}
-              if name in inputs.FILES}
+    named = [*words, case.get("each_beginning_of", ""), case.get("stdin_from", "")]
+    shared = inputs.files(*{os.path.normpath(word) for word in named} & inputs.FILES.keys())
     made = {key: fill(case[key], names) for key in FILLED if key in case}
     return case | made | {"files": shared | files, "words": words}
 

@@ -107,7 +107,7 @@ def trial_of_package(work):
 
 def missing(program, folder):
     """Returns which commands and options a manual page or a completion lacks."""
-    options = {name: [name, *(item.option() for item in page.options())]
+    options = {name: [name, *(item.option() for item in page.options() if item.option() != "help")]
                for name, page in manual.Program(program).commands.items()}
     wanted = {manual.NAME: [word for words in options.values() for word in words]}
     for name, module in manual.COMMANDS.items():

@@ -215,6 +215,8 @@ def main():
     parser.add_argument("program", nargs="*", metavar="PROGRAM", help="the program cwtune")
     asked = parser.parse_args()
     program = program_of(asked.program)
+    # The commands find it there, if none is built here.
+    os.environ["PATH"] = f"{pathlib.Path(program).parent}:{os.environ['PATH']}"
     # What runs in the background may be started with Ctrl-C ignored or held back.
     signal.signal(signal.SIGINT, signal.default_int_handler)
     signal.pthread_sigmask(signal.SIG_SETMASK, [])

@@ -5,6 +5,7 @@ what was wrong.
 """
 import os, pathlib, pty, random, re, signal, subprocess, tempfile, time
 
+from author.lib import tuning_files
 from gate import inputs, play
 from gate.inputs import RULES
 from gate.play import shown
@@ -162,7 +163,7 @@ def folders(place):
     (place.folder / "CERT.parts").mkdir()
     place.write("CERT.parts/precious.txt", b"mine\n")
     said = "error: CERT.parts is not a folder of this cwtune-spread, and is not touched\n"
-    for words in [[], ["--anew"], ["--resume"]]:
+    for words in [[], ["--anew"]]:
         yield compare(f"a folder that it did not make {words}", (2, "", said, b"mine\n", 1),
                       (*place.spread(*words, *DECOY), place.read("CERT.parts/precious.txt"),
                        len(list(place.folder.glob("CERT.parts/*")))))
@@ -323,13 +324,21 @@ def explained(place):
     yield compare("the explanation is that of tune", tuned, screen_of(place, place.words(words)))
 
 
+def total_of_start(place):
+    """Returns the total of START by the certificate of the decoy."""
+    found = tuning_files.Certificate(place.folder / "CERT")
+    fights = tuning_files.read_schedule(place.folder / "schedule.csv")
+    return found.total_of(94, fights)
+
+
 def progress(place):
     """Looks at the line on a terminal."""
     lines = screen_of(place, place.words(["--jobs=1", "--parts=12", *DECOY])).split("\r")
     shown = re.compile(r"6 of 12 parts, 63 of 126 settings, \d+ fights, \d+:\d\d left, best \d+ "
                        r"total \d+ DECOY.*\x1b\[K")
     yield compare("a line of progress", True, any(shown.fullmatch(line) for line in lines))
-    yield compare("the line is cleared", "\x1b[K", lines[-1])
+    told = f"\x1b[K  start 94 total {total_of_start(place)} DECOY=1 PLACE=4000 STEP=3045\n"
+    yield compare("the line is cleared, and START is told", told, lines[-1])
 
 
 def trials(program):
