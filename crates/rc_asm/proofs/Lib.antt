@@ -5,3 +5,4 @@ pub mod Whole
 pub mod LoadFile
 pub mod Outcomes
 pub mod FormFaults
+pub mod OpcodeWords
