@@ -5,7 +5,7 @@ ghost use Rattle.rc_text.specs.Symbols.{name_of};
 ghost use Rattle.rc_expand.specs.Results.{Returns};
 ghost use Rattle.rc_expand.specs.Shared.{shared};
 ghost use Rattle.rc_expand.specs.NameTables.{names_in};
-ghost use Rattle.rc_expand.specs.Unroll.Reached.{reached_lines};
+ghost use Rattle.rc_expand.specs.Unroll.Reached.{reached_line, reached_lines};
 ghost use Rattle.rc_expand.specs.Replace.Lines.{lines_so_far, with_names, line_replaced, replaced};
 
 pub(crate) mod finish;
@@ -40,10 +40,25 @@ pub(crate) fn replace_lines(
         lines: Vec::new(context.alloc),
     };
     for i in 0..reached.len() {
-        let head = reached[i].make(context.alloc, context.source)?;
-        replace_line(&mut out, context, &head)?;
+        replace_reached(&mut out, context, &reached[i])?;
     }
     Ok(out.lines)
+}
+
+// Adds a line that was reached. If it is as the text has it, it is not copied.
+fn replace_reached<'a>(
+    out: &mut Replacements<'a>,
+    context: &Context<'a>,
+    reached: &Reached,
+) -> Result<(), ExpandFault>
+    ensures { Returns (λ u. lines_so_far out.new) result
+        (line_replaced (shared context.now) (reached_line context.now.source.now reached.now) (lines_so_far out.old)) }
+{
+    if reached.is_as_written() {
+        return replace_line(out, context, reached.head);
+    }
+    let head = reached.make(context.alloc, context.source)?;
+    replace_line(out, context, &head)
 }
 
 // Defines the names of a line, and adds the line with its EQU names replaced, unless it is an EQU

@@ -88,19 +88,17 @@ module _ (s : Shared) where
       by_word _ w = refl
 
   module _ (reached : List Reached) (i : ℕ) (r : Replacement) where
-    module _ (one : Reached) (head : Head) (some : i < length reached) (is : one ≡ get_or reached i one) (made : head ≡ reached_line s.source one) where
+    module _ (one : Reached) (some : i < length reached) (is : one ≡ get_or reached i one) where
       -- one line, and the lines after it
       line_step : lines_replaced s (reached_lines s.source (drop i reached)) r
-          ≡ and_then (lines_replaced s (reached_lines s.source (drop (i + 1) reached))) (line_replaced s head r)
-      line_step =
-          ap (λ rs. lines_replaced s (reached_lines s.source rs) r) (split_at reached i one some is)
-          ∙ ap (λ h. and_then (lines_replaced s (reached_lines s.source (drop (i + 1) reached))) (line_replaced s h r)) (sym made)
+          ≡ and_then (lines_replaced s (reached_lines s.source (drop (i + 1) reached))) (line_replaced s (reached_line s.source one) r)
+      line_step = ap (λ rs. lines_replaced s (reached_lines s.source rs) r) (split_at reached i one some is)
 
-      pub line_next : (new : Replacement) → line_replaced s head r ≡ Ok new
+      pub line_next : (new : Replacement) → line_replaced s (reached_line s.source one) r ≡ Ok new
           → lines_replaced s (reached_lines s.source (drop i reached)) r ≡ lines_replaced s (reached_lines s.source (drop (i + 1) reached)) new
       line_next new h = line_step ∙ ap (and_then (lines_replaced s (reached_lines s.source (drop (i + 1) reached)))) h
 
-      pub line_fails : (f : ExpandFault) → line_replaced s head r ≡ Err f → lines_replaced s (reached_lines s.source (drop i reached)) r ≡ Err f
+      pub line_fails : (f : ExpandFault) → line_replaced s (reached_line s.source one) r ≡ Err f → lines_replaced s (reached_lines s.source (drop i reached)) r ≡ Err f
       line_fails f h = line_step ∙ ap (and_then (lines_replaced s (reached_lines s.source (drop (i + 1) reached)))) h
 
     -- no line is left

@@ -10,17 +10,17 @@ pub loop-i-preserved : goal.loop-i-preserved
 loop-i-preserved c =
     let k = shared c.args.context.now in
     c.loop-i.invariant
-    ∙ line_next k c.args.reached.now c.loop-i.i (lines_so_far c.loop-i.out) c.index-reached-i.result c.in_ok-head.head c.loop-i-test.true c.index-reached-i.is c.in_ok-head.ensures
-    (lines_so_far c.replace_line.new.out) c.in_ok-replace_line.ensures
+    ∙ line_next k c.args.reached.now c.loop-i.i (lines_so_far c.loop-i.out) c.index-reached-i.result c.loop-i-test.true c.index-reached-i.is
+    (lines_so_far c.replace_reached.new.out) c.in_ok-replace_reached.ensures
 
-pub returns-in_err-replace_line : goal.returns-in_err-replace_line
-returns-in_err-replace_line c =
+pub returns-in_err-replace_reached : goal.returns-in_err-replace_reached
+returns-in_err-replace_reached c =
     let k = shared c.args.context.now in
-    let p = err_from_is_err_and c.from_residual-in_err-replace_line.result c.from_residual-in_err-replace_line.ensures.1 in
+    let p = err_from_is_err_and c.from_residual.result c.from_residual.ensures.1 in
     rw (p.1, p.2) (λ h. all_replaced k (reached_lines k.source c.args.reached.now) _ _
     (c.loop-i.invariant
-    ∙ line_fails k c.args.reached.now c.loop-i.i (lines_so_far c.loop-i.out) c.index-reached-i.result c.in_ok-head.head c.loop-i-test.true c.index-reached-i.is c.in_ok-head.ensures
-    c.in_err-replace_line.field-0.0 (c.in_err-replace_line.ensures h))
+    ∙ line_fails k c.args.reached.now c.loop-i.i (lines_so_far c.loop-i.out) c.index-reached-i.result c.loop-i-test.true c.index-reached-i.is
+    c.in_err-replace_reached.field-0.0 (c.in_err-replace_reached.ensures h))
     refl)
 
 pub returns : goal.returns
