@@ -7,7 +7,7 @@ use Rattle.std.proofs.lemmas.Bool.{ne_eqb, and_parts, both_ways}
 use Rattle.std.proofs.lemmas.List.{length-map}
 use Rattle.std.proofs.lemmas.Slice.Eq.{bytes_eq-Decides}
 use Rattle.rc_expand.specs.Names.{entry_of}
-use Rattle.rc_asm.specs.Words.{named, opcodes}
+use Rattle.rc_asm.specs.Words.{entry_in_any_case, opcodes}
 
 not_true : (b : Bool) → (b ≡ true → ⊥) → b ≡ false
 not_true true h = absurd (h refl)
@@ -30,6 +30,6 @@ entry_none test (e ∷ es) w k h =
 abbrev has_three : List ℕ → Bool
 has_three w = length w == 3
 
-pub no_opcode : (name : List ℕ) → (length name ≡ 3 → ⊥) → None ≡ named opcodes name
+pub no_opcode : (name : List ℕ) → (length name ≡ 3 → ⊥) → None ≡ entry_in_any_case opcodes name
 no_opcode name h =
     sym (entry_none has_three opcodes (map to_ascii_lowercase name) refl (ne_eqb (length (map to_ascii_lowercase name)) 3 (λ e. h (sym (length-map name to_ascii_lowercase) ∙ e))))

@@ -4,3 +4,5 @@ pub mod Steps
 pub mod Whole
 pub mod LoadFile
 pub mod Outcomes
+pub mod FormFaults
+pub mod OpcodeWords

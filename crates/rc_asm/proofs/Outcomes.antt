@@ -28,17 +28,17 @@ use Rattle.rc_expand.specs.Results.{and_then, with_fault}
 use Rattle.rc_asm.specs.Lines.{line_holds, instructions_from, holds_from, starts_from, start_value, no_starts}
 use Rattle.rc_asm.specs.Faults.{at_line, value_fault, values_fault, lines_fault, IsWarriorFault, IsFaultOfLines, IsAsmFault}
 use Rattle.rc_asm.specs.Steps.{IsStarted}
-use Rattle.rc_asm.specs.Assembly.{IsMadeOf, Assembles, started, fitted, fitted_by, unless, lines_outcome, expand_fault, outcome_of, assembled}
+use Rattle.rc_asm.specs.Assembly.{IsMadeOf, Assembles, with_start, warrior_of_code, warrior_of_lines, unless, lines_outcome, expand_fault, outcome_of, assembled}
 use Rattle.rc_asm.proofs.Whole.{map_some, lines_stop}
 
 -- a start that is not inside the code
-late : (code : List Instruction) (z : ℤ) → ((k : ℕ) → z ≡ pos k → length code ≤ k) → started code z ≡ Err (at_line 0 (Warrior BadStart))
+late : (code : List Instruction) (z : ℤ) → ((k : ℕ) → z ≡ pos k → length code ≤ k) → with_start code z ≡ Err (at_line 0 (Warrior BadStart))
 late code (negsuc n) h = refl
 late code (pos n) h = let f : nat_lt n (length code) ≡ false = le-ltb n (length code) (h n refl) in rw f refl
 
 -- why code and start are not a warrior
-unfit : (e : WarriorError) (rules : RulesView) (code : List Instruction) (s : Starts) → IsWarriorFault e rules code s → fitted rules code (start_value s) ≡ Err (at_line 0 (Warrior e))
-unfit Empty rules code s h = ap (λ c. fitted rules c (start_value s)) h
+unfit : (e : WarriorError) (rules : RulesView) (code : List Instruction) (s : Starts) → IsWarriorFault e rules code s → warrior_of_code rules code (start_value s) ≡ Err (at_line 0 (Warrior e))
+unfit Empty rules code s h = ap (λ c. warrior_of_code rules c (start_value s)) h
 unfit TooLong rules [] s h = absurd (omega (arith, h))
 unfit TooLong rules (i ∷ is) s h = let f : nat_lt rules.length (length (i ∷ is)) ≡ true = lt-ltb rules.length (length (i ∷ is)) h in rw f refl
 unfit BadStart rules [] s h = absurd (omega (arith, h.0))
@@ -46,7 +46,7 @@ unfit BadStart rules (i ∷ is) s h = let f : nat_lt rules.length (length (i ∷
 unfit NumberTooLarge rules code s h = absurd h
 
 -- and why they are
-fit : (rules : RulesView) (code : List Instruction) (n : ℕ) → 0 < length code → length code ≤ rules.length → n < length code → fitted rules code (pos n) ≡ Ok (warrior_view code n)
+fit : (rules : RulesView) (code : List Instruction) (n : ℕ) → 0 < length code → length code ≤ rules.length → n < length code → warrior_of_code rules code (pos n) ≡ Ok (warrior_view code n)
 fit rules [] n some within inside = absurd (omega (arith, some))
 fit rules (i ∷ is) n some within inside =
     let f : nat_lt rules.length (length (i ∷ is)) ≡ false = le-ltb rules.length (length (i ∷ is)) within in
@@ -55,15 +55,15 @@ fit rules (i ∷ is) n some within inside =
 
 module _ (source : List ℕ) (names : NameValues) (lines : List Line) where
   abbrev fits_by : Option (List Instruction) → Option Starts → Result WarriorView AsmFault
-  fits_by code s = unless (lines_fault source names lines) (fitted_by names.rules code s)
+  fits_by code s = unless (lines_fault source names lines) (warrior_of_lines names.rules code s)
 
   -- the lines have this fault
   lines_refuse : (f : AsmFault) → IsFaultOfLines source names lines f → lines_outcome source names lines ≡ Err f
-  lines_refuse f (inl h) = ap (λ o. unless o (fitted_by names.rules (instructions_from source names 0 lines) (starts_from source names 0 no_starts lines))) h
+  lines_refuse f (inl h) = ap (λ o. unless o (warrior_of_lines names.rules (instructions_from source names 0 lines) (starts_from source names 0 no_starts lines))) h
   lines_refuse f (inr h) =
-      ap (λ o. unless o (fitted_by names.rules (instructions_from source names 0 lines) (starts_from source names 0 no_starts lines))) h.faultless
-      ∙ (ap (λ c. fitted_by names.rules c (starts_from source names 0 no_starts lines)) h.made
-      ∙ (ap (fitted_by names.rules (Some h.code)) h.started
+      ap (λ o. unless o (warrior_of_lines names.rules (instructions_from source names 0 lines) (starts_from source names 0 no_starts lines))) h.faultless
+      ∙ (ap (λ c. warrior_of_lines names.rules c (starts_from source names 0 no_starts lines)) h.made
+      ∙ (ap (warrior_of_lines names.rules (Some h.code)) h.started
       ∙ (unfit h.error names.rules h.code h.starts h.reason ∙ ap Err (sym h.is))))
 
   faultless : (w : WarriorView) → IsMadeOf source names lines w → (o : Option AsmFault) → lines_fault source names lines ≡ o → lines_fault source names lines ≡ None
@@ -74,10 +74,10 @@ module _ (source : List ℕ) (names : NameValues) (lines : List Line) where
   lines_make : (w : WarriorView) → IsMadeOf source names lines w → lines_outcome source names lines ≡ Ok w
   lines_make w m =
       let t = map_some start_value (starts_from source names 0 no_starts lines) (pos w.start) m.start in
-      ap (λ o. unless o (fitted_by names.rules (instructions_from source names 0 lines) (starts_from source names 0 no_starts lines))) (faultless w m (lines_fault source names lines) refl)
-      ∙ (ap (λ c. fitted_by names.rules c (starts_from source names 0 no_starts lines)) m.code
-      ∙ (ap (fitted_by names.rules (Some w.code)) t.1
-      ∙ (ap (fitted names.rules w.code) t.2
+      ap (λ o. unless o (warrior_of_lines names.rules (instructions_from source names 0 lines) (starts_from source names 0 no_starts lines))) (faultless w m (lines_fault source names lines) refl)
+      ∙ (ap (λ c. warrior_of_lines names.rules c (starts_from source names 0 no_starts lines)) m.code
+      ∙ (ap (warrior_of_lines names.rules (Some w.code)) t.1
+      ∙ (ap (warrior_of_code names.rules w.code) t.2
       ∙ fit names.rules w.code w.start m.some m.within m.inside)))
 
 module _ (source : List ℕ) (constants : Table) (rules : RulesView) where
@@ -125,10 +125,10 @@ no_second None b h = h
 no_second (Some x) b h = absurd (cc)
 
 -- code and start that fit
-fits_of : (rules : RulesView) (code : List Instruction) (s : Starts) (z : ℤ) (w : WarriorView) → start_value s ≡ z → result_ok (fitted rules code z) ≡ Some w → IsStarted rules code s w
+fits_of : (rules : RulesView) (code : List Instruction) (s : Starts) (z : ℤ) (w : WarriorView) → start_value s ≡ z → result_ok (warrior_of_code rules code z) ≡ Some w → IsStarted rules code s w
 fits_of rules [] s z w e h = absurd (cc)
-fits_of rules (i ∷ is) s z w e h = let p = if_not (nat_lt rules.length (length (i ∷ is))) (started (i ∷ is) z) _ w h in by_start z e p.1 (ltb-false rules.length (length (i ∷ is)) p.0) where
-  by_start : (z : ℤ) → start_value s ≡ z → result_ok (started (i ∷ is) z) ≡ Some w → length (i ∷ is) ≤ rules.length → IsStarted rules (i ∷ is) s w
+fits_of rules (i ∷ is) s z w e h = let p = if_not (nat_lt rules.length (length (i ∷ is))) (with_start (i ∷ is) z) _ w h in by_start z e p.1 (ltb-false rules.length (length (i ∷ is)) p.0) where
+  by_start : (z : ℤ) → start_value s ≡ z → result_ok (with_start (i ∷ is) z) ≡ Some w → length (i ∷ is) ≤ rules.length → IsStarted rules (i ∷ is) s w
   by_start (negsuc n) e h within = absurd (cc)
   by_start (pos n) e h within =
       let p = if_ok (nat_lt n (length (i ∷ is))) (Ok (warrior_view (i ∷ is) n)) _ w h in
@@ -157,7 +157,7 @@ module _ (source : List ℕ) (names : NameValues) where
   lines_fine (l ∷ ls) address h = let p = no_first _ _ _ h in and_from _ _ (line_fine l.word l.tokens _ _ p.0) (lines_fine ls (code_lines_after l.word address) p.1)
 
   made_fits : (lines : List Line) (w : WarriorView) (f : Option AsmFault) (c : Option (List Instruction)) (s : Option Starts) → lines_fault source names lines ≡ f → instructions_from source names 0 lines ≡ c → starts_from source names 0 no_starts lines ≡ s
-      → result_ok (unless f (fitted_by names.rules c s)) ≡ Some w → IsMadeOf source names lines w
+      → result_ok (unless f (warrior_of_lines names.rules c s)) ≡ Some w → IsMadeOf source names lines w
   made_fits lines w None (Some code) (Some s) ef ec es h =
       let f = fits_of names.rules code s (start_value s) w refl h in
       record { code = ec ∙ ap Some f.code; holds = lines_fine lines 0 (no_second _ _ ef); start = ap (option_map start_value) es ∙ ap Some f.start; some = f.some; within = f.within; inside = f.inside }

@@ -16,7 +16,7 @@ use Rattle.rc_expand.specs.declared.line.LineWord.{LineWord}
 use Rattle.rc_expand.specs.declared.line.LineWord.TheVariants.{Bare, Code, Org, End, Assert}
 use Rattle.rc_expand.specs.declared.line.Line.{Line}
 use Rattle.rc_expand.specs.Names.{entry_of}
-use Rattle.rc_expand.specs.Heads.NameTables.{with_name}
+use Rattle.rc_expand.specs.NameTables.{with_name}
 use Rattle.std.specs.Str.{bytes_eq}
 use Rattle.std.proofs.lemmas.Slice.Eq.{bytes_eq-Decides}
 use Rattle.rc_asm.specs.declared.fault.AsmKind.{AsmKind}
@@ -27,7 +27,7 @@ use Rattle.rc_expand.specs.Results.{and_then, with_fault}
 use Rattle.rc_asm.specs.Shape.{Shape, shape_of}
 use Rattle.rc_text.specs.Symbols.{name_of}
 use Rattle.rc_asm.specs.Names.{NameValues, Labels, code_lines_after, labels_from, value_at}
-use Rattle.rc_asm.specs.Instructions.{instruction_at, shaped}
+use Rattle.rc_asm.specs.Instructions.{instruction_at, instruction_of_shape}
 use Rattle.rc_asm.specs.Lines.{next_instruction, line_holds, starts_after, instructions_from, holds_from, starts_from, no_starts}
 use Rattle.rc_asm.specs.Faults.{at_line, form_fault, forms_fault, value_fault, values_fault, lines_fault}
 use Rattle.rc_asm.specs.Steps.{code_after, IsLineRead, fault_at, Agree}
@@ -155,7 +155,7 @@ module _ (source : List ℕ) (names : NameValues) where
   unfolding before_operand
   no_value address = refl
 
-  no_shape : (address : ℕ) (ts : List Token) (k : AsmKind) (r : Result Shape AsmKind) → shape_of source ts ≡ r → result_err r ≡ Some k → result_err (and_then (λ s. with_fault Value (shaped source names address s)) r) ≡ Some k
+  no_shape : (address : ℕ) (ts : List Token) (k : AsmKind) (r : Result Shape AsmKind) → shape_of source ts ≡ r → result_err r ≡ Some k → result_err (and_then (λ s. with_fault Value (instruction_of_shape source names address s)) r) ≡ Some k
   no_shape address ts k (Ok x) e h = absurd (cc)
   no_shape address ts k (Err d) e h = h
 

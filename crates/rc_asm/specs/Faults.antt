@@ -29,28 +29,28 @@ use Rattle.rc_asm.specs.Lines.{instructions_from, starts_from, start_value, no_s
 abbrev pub at_line : ℕ → AsmKind → AsmFault
 at_line n k = record { line = n; kind = k }
 
--- the first pass: a line of code that does not parse, or ORG without an expression
+-- The first pass: a line of code that does not parse, or ORG without an expression.
 abbrev pub form_fault : List ℕ → LineWord → List Token → Option AsmKind
 form_fault source Code ts = result_err (shape_of source ts)
 form_fault source Org [] = Some MissingOperand
 form_fault source _ ts = None
 
--- the first line with such a fault
+-- The first line with such a fault.
 abbrev pub forms_fault : List ℕ → List Line → Option AsmFault
 forms_fault source [] = None
 forms_fault source (l ∷ ls) = option_or (option_map (at_line l.number) (form_fault source l.word l.tokens)) (forms_fault source ls)
 
--- an assertion without a value, or with the value 0
+-- An assertion without a value, or with the value 0.
 abbrev pub assertion_fault : Result ℤ EvalFault → Option AsmKind
 assertion_fault (Ok v) = if is_zero v then Some AssertFailed else None
 assertion_fault (Err e) = Some (Value e)
 
--- END needs no expression
+-- END needs no expression.
 abbrev pub end_fault : List Token → Result ℤ EvalFault → Option AsmKind
 end_fault [] v = None
 end_fault (t ∷ ts) v = option_map Value (result_err v)
 
--- the second pass: an expression without a value, or an assertion that fails
+-- The second pass: an expression without a value, or an assertion that fails.
 abbrev pub value_fault : LineWord → List Token → Result Instruction AsmKind → Result ℤ EvalFault → Option AsmKind
 value_fault Code ts i v = result_err i
 value_fault Org ts i v = option_map Value (result_err v)
@@ -59,25 +59,25 @@ value_fault Assert ts i v = assertion_fault v
 value_fault _ ts i v = None
 
 module _ (source : List ℕ) (names : NameValues) where
-  -- the first line with such a fault; the first of the lines is at `address`
+  -- The first line with such a fault; the first of the lines is at `address`.
   abbrev pub values_fault : ℕ → List Line → Option AsmFault
   values_fault address [] = None
   values_fault address (l ∷ ls) =
       option_or (option_map (at_line l.number) (value_fault l.word l.tokens (instruction_at source names address l.tokens) (value_at source names address 0 l.tokens)))
       (values_fault (code_lines_after l.word address) ls)
 
-  -- the first fault of the lines, if there is one
+  -- The first fault of the lines, if there is one.
   abbrev pub lines_fault : List Line → Option AsmFault
   lines_fault lines = option_or (forms_fault source lines) (values_fault 0 lines)
 
--- the last check: no instruction, too many, or a start outside the code
+-- The last check: no instruction, too many, or a start outside the code.
 abbrev pub IsWarriorFault : WarriorError → RulesView → List Instruction → Starts → Type 0
 IsWarriorFault warrior.Empty rules code s = code ≡ []
 IsWarriorFault warrior.TooLong rules code s = rules.length < length code
 IsWarriorFault warrior.BadStart rules code s = (0 < length code) × (length code ≤ rules.length) × ((k : ℕ) → start_value s ≡ pos k → length code ≤ k)
 IsWarriorFault warrior.NumberTooLarge rules code s = ⊥
 
--- every line is fine, but code and start are not a warrior under the rules
+-- Every line is fine, but code and start are not a warrior under the rules.
 pub record IsFaultOfCode (source : List ℕ) (names : NameValues) (lines : List Line) (f : AsmFault) : Type 0 where
   pub faultless : lines_fault source names lines ≡ None
   pub code : List Instruction
@@ -88,12 +88,12 @@ pub record IsFaultOfCode (source : List ℕ) (names : NameValues) (lines : List 
   pub reason : IsWarriorFault error names.rules code starts
   pub is : f ≡ at_line 0 (Warrior error)
 
--- the first fault of an expanded text
+-- The first fault of an expanded text.
 abbrev pub IsFaultOfLines : List ℕ → NameValues → List Line → AsmFault → Type 0
 IsFaultOfLines source names lines f = (lines_fault source names lines ≡ Some f) ⊎ IsFaultOfCode source names lines f
 
--- the first fault of a text: too long; or that of its expansion; or the first fault of the lines to
--- which it expands
+-- The first fault of a text: too long; or that of its expansion; or the first fault of the lines to
+-- which it expands.
 abbrev pub IsAsmFault : List ℕ → Table → RulesView → AsmFault → Type 0
 IsAsmFault source constants rules f =
     ((MOST_BYTES < length source) × (f ≡ at_line 0 TextTooLong))

@@ -11,26 +11,26 @@ use Rattle.rc_instr.specs.DefaultModifier.{default_modifier_of}
 use Rattle.rc_asm.specs.declared.fault.AsmKind.{AsmKind}
 use Rattle.rc_asm.specs.declared.fault.AsmKind.TheVariants.{Value}
 use Rattle.rc_asm.specs.declared.operand.Operand.{Operand}
-use Rattle.rc_expand.specs.Results.{mapped, and_then, with_fault}
+use Rattle.rc_expand.specs.Results.{mapped, with_fault, ◌>>=◌}
 use Rattle.rc_asm.specs.Words.{mode_at}
 use Rattle.rc_asm.specs.Names.{NameValues, value_at}
 use Rattle.rc_asm.specs.Shape.{Shape, shape_of}
 
--- an integer that is not negative, as a natural number
+-- An integer that is not negative, as a natural number.
 abbrev pub natural : ℤ → ℕ
 natural (pos n) = n
 natural (negsuc n) = 0
 
--- the remainder of a value in a core of m cells: 0 to m - 1
+-- The remainder of a value in a core of m cells: 0 to m - 1.
 unfoldable pub core_number : ℕ → ℤ → ℕ
 core_number m z = natural (int_rem_euclid z (pos m))
 
 abbrev pub operand : ℕ → Mode → ℤ → Operand
 operand m mode z = record { mode = mode; number = core_number m z }
 
--- the instruction of a line and its operands; a modifier that is not written is the default one
-unfoldable pub made : Shape → Operand → Operand → Instruction
-made s a b = record {
+-- The instruction of a line and its operands; a modifier that is not written is the default one.
+unfoldable pub instruction_of_parts : Shape → Operand → Operand → Instruction
+instruction_of_parts s a b = record {
   opcode = s.opcode;
   modifier = unwrap_or s.modifier (default_modifier_of s.opcode a.mode b.mode);
   a_mode = a.mode;
@@ -40,21 +40,25 @@ made s a b = record {
 }
 
 module _ (source : List ℕ) (names : NameValues) (address : ℕ) where
-  -- after the mode, everything is the expression; without a mode it is direct
+  -- After the mode, everything is the expression; without a mode it is direct.
   abbrev pub operand_after : Option Mode → Token → List Token → Result Operand EvalFault
   operand_after (Some mode) t ts = mapped (operand names.rules.core mode) (value_at source names address address ts)
   operand_after None t ts = mapped (operand names.rules.core Direct) (value_at source names address address (t ∷ ts))
 
-  -- an operand that is not written is `$0`
+  -- An operand that is not written is `$0`.
   unfoldable pub operand_at : Option (List Token) → Result Operand EvalFault
   operand_at None = Ok (record { mode = Direct; number = 0 })
   operand_at (Some []) = Err Syntax
   operand_at (Some (t ∷ ts)) = operand_after (mode_at t) t ts
 
-  -- a fault of the A-operand comes before one of the B-operand
-  unfoldable pub shaped : Shape → Result Instruction EvalFault
-  shaped s = and_then (λ a. mapped (made s a) (operand_at s.sides.b)) (operand_at s.sides.a)
+  -- A fault of the A-operand comes before one of the B-operand.
+  unfoldable pub instruction_of_shape : Shape → Result Instruction EvalFault
+  instruction_of_shape s = do
+    a ← operand_at s.sides.a
+    mapped (instruction_of_parts s a) (operand_at s.sides.b)
 
-  -- the instruction that the tokens spell, or the first fault
+  -- The instruction that the tokens spell, or the first fault.
   unfoldable pub instruction_at : List Token → Result Instruction AsmKind
-  instruction_at tokens = and_then (λ s. with_fault Value (shaped s)) (shape_of source tokens)
+  instruction_at tokens = do
+    s ← shape_of source tokens
+    with_fault Value (instruction_of_shape s)

@@ -1,6 +1,6 @@
 -- The limit of a text.
 use Rattle.std.specs.Prelude.{ℕ}
 
--- the bytes of a text
+-- The bytes of a text.
 abbrev pub MOST_BYTES : ℕ
 MOST_BYTES = 65536

@@ -14,18 +14,18 @@ use Rattle.rc_asm.specs.declared.starts.Starts.{Starts}
 use Rattle.rc_asm.specs.Names.{NameValues, code_lines_after, value_at}
 use Rattle.rc_asm.specs.Instructions.{instruction_at}
 
--- a line of code puts its instruction before the later instructions
+-- A line of code puts its instruction before the later instructions.
 abbrev pub next_instruction : LineWord → Result Instruction AsmKind → Option (List Instruction) → Option (List Instruction)
 next_instruction Code (Ok i) rest = option_map (λ is. i ∷ is) rest
 next_instruction Code (Err e) rest = None
 next_instruction _ i rest = rest
 
--- the value is there and is not 0
+-- The value is there and is not 0.
 abbrev pub is_true : Result ℤ EvalFault → Bool
 is_true (Ok v) = not (is_zero v)
 is_true (Err e) = false
 
--- an assertion has a value other than 0
+-- An assertion has a value other than 0.
 abbrev pub line_holds : LineWord → Result ℤ EvalFault → Bool
 line_holds Assert v = is_true v
 line_holds _ v = true
@@ -33,7 +33,7 @@ line_holds _ v = true
 abbrev pub no_starts : Starts
 no_starts = record { org = None; end = None }
 
--- the value of the last ORG; without ORG, the value after END; without either, 0
+-- The value of the last ORG; without ORG, the value after END; without either, 0.
 abbrev pub start_value : Starts → ℤ
 start_value s = unwrap_or (option_or s.org s.end) (pos 0)
 
@@ -47,17 +47,17 @@ starts_after End (t ∷ ts) (Err e) s = None
 starts_after _ ts v s = Some s
 
 module _ (source : List ℕ) (names : NameValues) where
-  -- the instructions of the lines; the first line is at `address`
+  -- The instructions of the lines; the first line is at `address`.
   abbrev pub instructions_from : ℕ → List Line → Option (List Instruction)
   instructions_from address [] = Some []
   instructions_from address (l ∷ ls) = next_instruction l.word (instruction_at source names address l.tokens) (instructions_from (code_lines_after l.word address) ls)
 
-  -- every assertion holds. A label has its address as its value.
+  -- Every assertion holds. A label has its address as its value.
   abbrev pub holds_from : ℕ → List Line → Bool
   holds_from address [] = true
   holds_from address (l ∷ ls) = line_holds l.word (value_at source names address 0 l.tokens) && holds_from (code_lines_after l.word address) ls
 
-  -- the values of the last ORG and of END after the lines. A label has its address as its value.
+  -- The values of the last ORG and of END after the lines. A label has its address as its value.
   abbrev pub starts_from : ℕ → Starts → List Line → Option Starts
   starts_from address s [] = Some s
   starts_from address s (l ∷ ls) = option_and_then (λ r. starts_from (code_lines_after l.word address) r ls) (starts_after l.word l.tokens (value_at source names address 0 l.tokens) s)

@@ -13,16 +13,16 @@ use Rattle.rc_expand.specs.declared.line.LineWord.TheVariants.{Code}
 use Rattle.rc_expand.specs.declared.line.Line.{Line}
 use Rattle.rc_expand.specs.Names.{Table, entry_of, given_names, CURLINE}
 
--- labels with their addresses
+-- Labels with their addresses.
 abbrev pub Labels : Type 0
 Labels = List (List ℕ × ℕ)
 
--- the address after a line at `address`
+-- The address after a line at `address`.
 abbrev pub code_lines_after : LineWord → ℕ → ℕ
 code_lines_after Code address = address + 1
 code_lines_after _ address = address
 
--- each label of the lines with its address; the first line is at `address`
+-- Each label of the lines with its address; the first line is at `address`.
 abbrev pub labels_from : List ℕ → ℕ → List Line → Labels
 labels_from source address [] = []
 labels_from source address (l ∷ ls) = map (λ t. (name_of source t, address)) l.labels ++ labels_from source (code_lines_after l.word address) ls
@@ -30,23 +30,23 @@ labels_from source address (l ∷ ls) = map (λ t. (name_of source t, address)) 
 abbrev pub labels_of : List ℕ → List Line → Labels
 labels_of source lines = labels_from source 0 lines
 
--- what gives names their values: the constants, the rules, and the addresses of labels
+-- What gives names their values: the constants, the rules, and the addresses of labels.
 pub record NameValues : Type 0 where
   pub constants : Table
   pub rules : RulesView
   pub address : List ℕ → Option ℕ
 
--- what gives the names of a text their values
+-- What gives the names of a text their values.
 abbrev pub names_of : List ℕ → Table → RulesView → List Line → NameValues
 names_of source constants rules lines = record { constants = constants; rules = rules; address = entry_of (labels_of source lines) }
 
--- the value of a name in the line at `address`: a constant, a predefined name, CURLINE, or a label,
--- whose address is counted from `base`
+-- The value of a name in the line at `address`: a constant, a predefined name, CURLINE, or a label,
+-- whose address is counted from `base`.
 unfoldable pub stands_for : NameValues → (address base : ℕ) → List ℕ → Option ℤ
 stands_for names address base name =
     option_or (given_names names.constants names.rules name)
     (if bytes_eq name CURLINE then Some (pos address) else option_map (λ a. pos a -ℤ pos base) (names.address name))
 
--- the value of an expression in such a line, or its first fault
+-- The value of an expression in such a line, or its first fault.
 abbrev pub value_at : List ℕ → NameValues → (address base : ℕ) → List Token → Result ℤ EvalFault
 value_at source names address base tokens = evaluation_of (stands_for names address base) (symbols_of source tokens)

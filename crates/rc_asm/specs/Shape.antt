@@ -9,20 +9,20 @@ use Rattle.rc_instr.specs.declared.instruction.Opcode.TheVariants.{Dat, Jmp, Spl
 use Rattle.rc_instr.specs.declared.instruction.Modifier.{Modifier}
 use Rattle.rc_asm.specs.declared.fault.AsmKind.{AsmKind}
 use Rattle.rc_asm.specs.declared.fault.AsmKind.TheVariants.{UnknownOpcode, MissingOperand, ExtraText}
-use Rattle.rc_expand.specs.Results.{mapped, and_then}
+use Rattle.rc_expand.specs.Results.{mapped, ◌>>=◌}
 use Rattle.rc_asm.specs.Words.{is_comma, opcode_at, modifier_at}
 
--- the parts between commas; there is at least one
+-- The parts between commas; there is at least one.
 abbrev pub parts_from : List Token → List (List Token)
 parts_from [] = [] ∷ []
 parts_from (t ∷ ts) = if is_comma t then [] ∷ parts_from ts else into_first t (parts_from ts)
 
--- the parts between commas; no tokens have no parts
+-- The parts between commas; no tokens have no parts.
 unfoldable pub parts : List Token → List (List Token)
 parts [] = []
 parts (t ∷ ts) = parts_from (t ∷ ts)
 
--- the tokens of the operands; None for one that is not written
+-- The tokens of the operands; None for one that is not written.
 pub record Sides : Type 0 where
   pub a : Option (List Token)
   pub b : Option (List Token)
@@ -30,13 +30,13 @@ pub record Sides : Type 0 where
 abbrev pub sides : Option (List Token) → Option (List Token) → Sides
 sides a b = record { a = a; b = b }
 
--- DAT and NOP need no operand
+-- DAT and NOP need no operand.
 abbrev pub no_side : Opcode → Option Sides
 no_side Dat = Some (sides None None)
 no_side Nop = Some (sides None None)
 no_side _ = None
 
--- DAT takes one operand as its B-operand; JMP, SPL and NOP take it as their A-operand
+-- DAT takes one operand as its B-operand; JMP, SPL and NOP take it as their A-operand.
 abbrev pub one_side : Opcode → List Token → Option Sides
 one_side Dat p = Some (sides None (Some p))
 one_side Jmp p = Some (sides (Some p) None)
@@ -44,20 +44,20 @@ one_side Spl p = Some (sides (Some p) None)
 one_side Nop p = Some (sides (Some p) None)
 one_side _ p = None
 
--- neither side of the comma is empty
+-- Neither side of the comma is empty.
 abbrev pub two_sides : List Token → List Token → Option Sides
 two_sides [] b = None
 two_sides (t ∷ a) [] = None
 two_sides (t ∷ a) (u ∷ b) = Some (sides (Some (t ∷ a)) (Some (u ∷ b)))
 
--- the operands of an opcode; two commas are too many
+-- The operands of an opcode; two commas are too many.
 abbrev pub sides_of : Opcode → List (List Token) → Result Sides AsmKind
 sides_of o [] = ok_or (no_side o) MissingOperand
 sides_of o (p ∷ []) = ok_or (one_side o p) MissingOperand
 sides_of o (p ∷ q ∷ []) = ok_or (two_sides p q) MissingOperand
 sides_of o (p ∷ q ∷ r ∷ ps) = Err ExtraText
 
--- a line of code in its parts; the modifier is None if it is not written
+-- A line of code in its parts; the modifier is None if it is not written.
 pub record Shape : Type 0 where
   pub opcode : Opcode
   pub modifier : Option Modifier
@@ -69,17 +69,21 @@ shape o m s = record { opcode = o; modifier = m; sides = s }
 unfoldable pub with_operands : Opcode → Option Modifier → List Token → Result Shape AsmKind
 with_operands o m ts = mapped (shape o m) (sides_of o (parts ts))
 
--- what follows the opcode and a dot
+-- What follows the opcode and a dot.
 unfoldable pub with_modifier : List ℕ → Opcode → List Token → Result Shape AsmKind
 with_modifier source o [] = Err UnknownOpcode
-with_modifier source o (t ∷ ts) = and_then (λ m. with_operands o (Some m) ts) (ok_or (modifier_at source t) UnknownOpcode)
+with_modifier source o (t ∷ ts) = do
+  m ← ok_or (modifier_at source t) UnknownOpcode
+  with_operands o (Some m) ts
 
--- what follows the opcode
+-- What follows the opcode.
 unfoldable pub after_opcode : List ℕ → Opcode → List Token → Result Shape AsmKind
 after_opcode source o [] = with_operands o None []
 after_opcode source o (t ∷ ts) = if is_dot t then with_modifier source o ts else with_operands o None (t ∷ ts)
 
--- the parts of a line of code, or what is wrong with its form
+-- The parts of a line of code, or what is wrong with its form.
 unfoldable pub shape_of : List ℕ → List Token → Result Shape AsmKind
 shape_of source [] = Err UnknownOpcode
-shape_of source (t ∷ ts) = and_then (λ o. after_opcode source o ts) (ok_or (opcode_at source t) UnknownOpcode)
+shape_of source (t ∷ ts) = do
+  o ← ok_or (opcode_at source t) UnknownOpcode
+  after_opcode source o ts

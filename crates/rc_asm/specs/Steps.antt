@@ -14,23 +14,23 @@ use Rattle.rc_asm.specs.Instructions.{instruction_at}
 use Rattle.rc_asm.specs.Lines.{line_holds, starts_after, instructions_from, holds_from, starts_from, no_starts, start_value}
 use Rattle.rc_asm.specs.Faults.{value_fault, values_fault}
 
--- the code after a line, from the code before it
+-- The code after a line, from the code before it.
 abbrev pub code_after : LineWord → Result Instruction AsmKind → List Instruction → Option (List Instruction)
 code_after Code (Ok i) code = Some (code ++ (i ∷ []))
 code_after Code (Err e) code = None
 code_after _ i code = Some code
 
--- a line was read: it took `before` and `s` to `after` and `r`
+-- A line was read: it took `before` and `s` to `after` and `r`.
 pub record IsLineRead (source : List ℕ) (names : NameValues) (l : Line) (before : List Instruction) (s : Starts) (after : List Instruction) (r : Starts) : Type 0 where
   pub code : code_after l.word (instruction_at source names (length before) l.tokens) before ≡ Some after
   pub holds : line_holds l.word (value_at source names (length before) 0 l.tokens) ≡ true
   pub starts : starts_after l.word l.tokens (value_at source names (length before) 0 l.tokens) s ≡ Some r
 
--- the fault of a line at `address`
+-- The fault of a line at `address`.
 abbrev pub fault_at : List ℕ → NameValues → ℕ → Line → Option AsmKind
 fault_at source names address l = value_fault l.word l.tokens (instruction_at source names address l.tokens) (value_at source names address 0 l.tokens)
 
--- all lines were read, without a fault
+-- All lines were read, without a fault.
 pub record AreLinesRead (source : List ℕ) (names : NameValues) (lines : List Line) (all : List Instruction) (s : Starts) : Type 0 where
   pub code : instructions_from source names 0 lines ≡ Some all
   pub holds : holds_from source names 0 lines ≡ true
@@ -38,7 +38,7 @@ pub record AreLinesRead (source : List ℕ) (names : NameValues) (lines : List L
   pub faultless : values_fault source names 0 lines ≡ None
   pub below : All (IsBelow names.rules.core) all
 
--- the code and the start make this warrior under the rules
+-- The code and the start make this warrior under the rules.
 pub record IsStarted (rules : RulesView) (all : List Instruction) (s : Starts) (warrior : WarriorView) : Type 0 where
   pub code : all ≡ warrior.code
   pub start : start_value s ≡ pos warrior.start
@@ -46,6 +46,6 @@ pub record IsStarted (rules : RulesView) (all : List Instruction) (s : Starts) (
   pub within : length warrior.code ≤ rules.length
   pub inside : warrior.start < length warrior.code
 
--- both lists give every name the same address
+-- Both lists give every name the same address.
 abbrev pub Agree : Labels → Labels → Type 0
 Agree a b = (name : List ℕ) → entry_of a name ≡ entry_of b name

@@ -16,11 +16,11 @@ use Rattle.rc_instr.specs.declared.instruction.Modifier.TheVariants as mod'
 use Rattle.rc_instr.specs.declared.instruction.Mode.{Mode}
 use Rattle.rc_instr.specs.declared.instruction.Mode.TheVariants as mode
 
--- looks up a name in either case; the words of the table are lower case
-abbrev pub named : {A : Type 0} → List (List ℕ × A) → List ℕ → Option A
-named table name = entry_of table (map to_ascii_lowercase name)
+-- Looks up a name in either case; the words of the table are lower case.
+abbrev pub entry_in_any_case : {A : Type 0} → List (List ℕ × A) → List ℕ → Option A
+entry_in_any_case table name = entry_of table (map to_ascii_lowercase name)
 
--- CMP is another spelling of SEQ
+-- CMP is another spelling of SEQ.
 abbrev pub opcodes : List (List ℕ × Opcode)
 opcodes =
     (codes "dat", op.Dat) ∷ (codes "mov", op.Mov) ∷ (codes "add", op.Add) ∷ (codes "sub", op.Sub) ∷ (codes "mul", op.Mul) ∷ (codes "div", op.Div)
@@ -56,12 +56,12 @@ is_comma_kind _ = false
 abbrev pub is_comma : Token → Bool
 is_comma t = is_comma_kind t.kind
 
--- a name without a joined counter. One with a counter ends with a digit, so it is in no table.
+-- A name without a joined counter. One with a counter ends with a digit, so it is in no table.
 abbrev pub is_plain : Token → Bool
 is_plain t = is_name_token t && is_unjoined t.joined
 
 unfoldable pub opcode_at : List ℕ → Token → Option Opcode
-opcode_at source t = if is_plain t then named opcodes (bytes_of source t) else None
+opcode_at source t = if is_plain t then entry_in_any_case opcodes (bytes_of source t) else None
 
 unfoldable pub modifier_at : List ℕ → Token → Option Modifier
-modifier_at source t = if is_plain t then named modifiers (bytes_of source t) else None
+modifier_at source t = if is_plain t then entry_in_any_case modifiers (bytes_of source t) else None

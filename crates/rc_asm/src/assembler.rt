@@ -7,7 +7,7 @@ ghost use Rattle.rc_instr.specs.Rules.{IsRules};
 ghost use Rattle.rc_asm.specs.Steps.{IsStarted};
 ghost use Rattle.rc_asm.specs.Names.{names_of};
 ghost use Rattle.rc_asm.specs.Lines.{start_value};
-ghost use Rattle.rc_asm.specs.Assembly.{IsMadeOf, Assembles, outcome_of};
+ghost use Rattle.rc_asm.specs.Assembly.{IsMadeOf, Assembles, IsOutcome, outcome_of};
 ghost use Rattle.rc_asm.specs.Faults.{forms_fault, IsWarriorFault, IsFaultOfLines, IsAsmFault};
 ghost use Rattle.rc_asm.specs.Seen.{seen_names};
 ghost use Rattle.rc_asm.specs.declared.fault.AsmKind.TheVariants.{OutOfMemory};
@@ -59,8 +59,7 @@ pub fn assemble(
     rules: &Rules,
 ) -> Result<Warrior, AsmFault>
     // Unless memory runs out, the result is the warrior of the definition, or the first fault.
-    ensures outcome { MatchResult result (λ w. outcome_of source.now (table_in constants.now) rules.now ≡ Ok w)
-        (λ f. f.kind ≢ OutOfMemory → outcome_of source.now (table_in constants.now) rules.now ≡ Err f) }
+    ensures outcome { IsOutcome (outcome_of source.now (table_in constants.now) rules.now) result }
     ensures warrior { IfOk result (Assembles source.now (table_in constants.now) rules.now) }
     ensures is_warrior { IfOk result IsWarrior }
     ensures fits { IfOk result (Fits rules.now) }

@@ -1,7 +1,7 @@
 //! From the tokens of a line of code to its instruction.
 ghost use Rattle.std.specs.Prelude.{◌≡◌, ℕ, ◌<◌, ◌^◌, All, IfOk};
 ghost use Rattle.rc_instr.specs.Warrior.{IsBelow};
-ghost use Rattle.rc_asm.specs.Instructions.{made, shaped, instruction_at};
+ghost use Rattle.rc_asm.specs.Instructions.{instruction_of_parts, instruction_of_shape, instruction_at};
 ghost use Rattle.rc_asm.specs.Seen.{seen_names, seen_shape};
 
 use crate::fault::AsmKind;
@@ -25,13 +25,13 @@ pub(crate) fn instruction_at(
     ensures below { IfOk result (IsBelow context.now.rules.now.core) }
 {
     let shape = shape_of(source, tokens)?;
-    let instruction = shaped(source, context, address, &shape)?;
+    let instruction = instruction_of_shape(source, context, address, &shape)?;
     Ok(instruction)
 }
 
-#[tactic(auto, unfolding(crate::specs::Instructions::made))]
-fn made(shape: &Shape, a: Operand, b: Operand) -> Instruction
-    ensures instruction { result ≡ made (seen_shape shape.now) a b }
+#[tactic(auto, unfolding(crate::specs::Instructions::instruction_of_parts))]
+fn instruction_of_parts(shape: &Shape, a: Operand, b: Operand) -> Instruction
+    ensures instruction { result ≡ instruction_of_parts (seen_shape shape.now) a b }
     ensures below { (m : ℕ) → a.number < m → b.number < m → IsBelow m result }
 {
     Instruction {
@@ -48,8 +48,8 @@ fn made(shape: &Shape, a: Operand, b: Operand) -> Instruction
 }
 
 // Evaluates the A-operand first: its fault comes before the B-operand's.
-#[tactic(auto, unfolding(crate::specs::Instructions::shaped))]
-fn shaped(
+#[tactic(auto, unfolding(crate::specs::Instructions::instruction_of_shape))]
+fn instruction_of_shape(
     source: &[u8],
     context: &Context,
     address: usize,
@@ -57,10 +57,10 @@ fn shaped(
 ) -> Result<Instruction, EvalFault>
     requires small { address < 2 ^ 63 }
     requires core { 0 < context.now.rules.now.core }
-    ensures instruction { result ≡ shaped source.now (seen_names context.now) address (seen_shape shape.now) }
+    ensures instruction { result ≡ instruction_of_shape source.now (seen_names context.now) address (seen_shape shape.now) }
     ensures below { IfOk result (IsBelow context.now.rules.now.core) }
 {
     let a = operand_at(source, context, address, shape.sides.a)?;
     let b = operand_at(source, context, address, shape.sides.b)?;
-    Ok(made(shape, a, b))
+    Ok(instruction_of_parts(shape, a, b))
 }

@@ -2,7 +2,7 @@
 ghost use Rattle.std.specs.Prelude.{◌≡◌, ◌<◌, ◌≤◌, ◌+◌, ◌^◌, [], List, ℕ, length, All, IfOk, IfSome, OnOk, Some};
 ghost use Rattle.rc_text.specs.Symbols.{name_of};
 ghost use Rattle.rc_expand.specs.Names.{entry_of};
-ghost use Rattle.rc_expand.specs.Heads.NameTables.{with_name};
+ghost use Rattle.rc_expand.specs.NameTables.{with_name};
 ghost use Rattle.rc_asm.specs.Names.{code_lines_after, labels_from, labels_of};
 
 use rc_expand::{Line, LineWord, NameTable};

@@ -88,8 +88,7 @@ fn two_sides<'a>(first: &'a [Token], second: &'a [Token]) -> Option<Sides<'a>>
 
 #[tactic(auto, unfolding(crate::specs::Shape::parts))]
 fn sides_of(opcode: Opcode, tokens: &[Token]) -> Result<Sides<'_>, AsmKind>
-    ensures sides { mapped seen_sides result ≡ sides_of opcode (parts tokens.now) }
-    ensures other { IfErr result (λ e. e ≢ OutOfMemory) }
+    ensures { mapped seen_sides result ≡ sides_of opcode (parts tokens.now) }
 {
     if tokens.is_empty() {
         return no_side(opcode).ok_or(AsmKind::MissingOperand);
@@ -112,8 +111,7 @@ fn with_operands(
     modifier: Option<Modifier>,
     tokens: &[Token],
 ) -> Result<Shape<'_>, AsmKind>
-    ensures shape { mapped seen_shape result ≡ with_operands opcode modifier tokens.now }
-    ensures other { IfErr result (λ e. e ≢ OutOfMemory) }
+    ensures { mapped seen_shape result ≡ with_operands opcode modifier tokens.now }
 {
     let sides = sides_of(opcode, tokens)?;
     Ok(Shape {
@@ -130,8 +128,7 @@ fn with_modifier<'a>(
     opcode: Opcode,
     tokens: &'a [Token],
 ) -> Result<Shape<'a>, AsmKind>
-    ensures shape { mapped seen_shape result ≡ with_modifier source.now opcode tokens.now }
-    ensures other { IfErr result (λ e. e ≢ OutOfMemory) }
+    ensures { mapped seen_shape result ≡ with_modifier source.now opcode tokens.now }
 {
     match tokens {
         [] => Err(AsmKind::UnknownOpcode),
@@ -149,8 +146,7 @@ fn after_opcode<'a>(
     opcode: Opcode,
     tokens: &'a [Token],
 ) -> Result<Shape<'a>, AsmKind>
-    ensures shape { mapped seen_shape result ≡ after_opcode source.now opcode tokens.now }
-    ensures other { IfErr result (λ e. e ≢ OutOfMemory) }
+    ensures { mapped seen_shape result ≡ after_opcode source.now opcode tokens.now }
 {
     match tokens {
         [first, rest @ ..] if is_dot(first) => with_modifier(source, opcode, rest),

@@ -3,7 +3,7 @@ ghost use Rattle.std.specs.Prelude.{◌≡◌, ◌∷◌, [], map, ◌&&◌, opt
 ghost use Rattle.std.specs.Char.{to_ascii_lowercase};
 ghost use Rattle.rc_expand.specs.Names.{entry_of};
 ghost use Rattle.rc_expand.specs.Heads.Lines.{is_dot, bytes_of};
-ghost use Rattle.rc_asm.specs.Words.{named, opcodes, modifiers, mode_at, is_comma, is_plain, opcode_at, modifier_at};
+ghost use Rattle.rc_asm.specs.Words.{entry_in_any_case, opcodes, modifiers, mode_at, is_comma, is_plain, opcode_at, modifier_at};
 
 use rc_instr::{Mode, Modifier, Opcode};
 use rc_text::{Kind, Sign, Token, text_of};
@@ -86,7 +86,7 @@ fn opcode_of(first: u8, second: u8, third: u8) -> Option<Opcode>
 
 // Looks up `name` in either case.
 fn opcode_named(name: &[u8]) -> Option<Opcode>
-    ensures { result ≡ named opcodes name.now }
+    ensures { result ≡ entry_in_any_case opcodes name.now }
 {
     match name {
         [first, second, third] => opcode_of(
@@ -125,7 +125,7 @@ fn two_letters(first: u8, second: u8) -> Option<Modifier>
 
 // Looks up `name` in either case.
 fn modifier_named(name: &[u8]) -> Option<Modifier>
-    ensures { result ≡ named modifiers name.now }
+    ensures { result ≡ entry_in_any_case modifiers name.now }
 {
     match name {
         [letter] => one_letter(letter.to_ascii_lowercase()),

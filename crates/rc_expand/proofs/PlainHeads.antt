@@ -18,7 +18,7 @@ use Rattle.rc_expand.specs.declared.heads.head.HeadWord.TheVariants as word
 use Rattle.rc_expand.specs.declared.fault.ExpandFault.{ExpandFault}
 use Rattle.rc_expand.specs.declared.line.Line.{Line}
 use Rattle.rc_expand.specs.declared.line.LineWord.TheVariants as line
-use Rattle.rc_expand.specs.Heads.Lines.{is_name_kind, is_reserved_class, is_unjoined, bytes_of, is_free, word_of_name, word_of_kind, unlabelled, labelled, head_with_word, headed, head_of, line_of_tokens, lines_unless, line_then, lines_from}
+use Rattle.rc_expand.specs.Heads.Lines.{is_name_kind, is_reserved_class, is_unjoined, bytes_of, is_free, word_of_name, word_of_kind, no_labels, label_split, head_with_word, head_after_labels, head_of, line_of_tokens, lines_unless, line_then, lines_from}
 use Rattle.rc_expand.specs.Heads.Nesting.{nesting_fault}
 use Rattle.rc_expand.specs.Results.{mapped, and_then}
 use Rattle.rc_expand.specs.Heads.{equ_lines, nested_lines, text_lines, equs_from, equs_of, with_equs, heads_of}
@@ -150,7 +150,7 @@ module _ (source : List ℕ) where
   not_free p h = (λ x. is_name_kind (h.kind x) && not (is_unjoined (h.joined x) && is_reserved_class (class_of (h.bytes x)))) ∙ ap not (text_reserved p.word)
 
   -- and so no label comes before it
-  no_label : (t : Token) (ts : List Token) → is_free source t ≡ false → labelled source (t ∷ ts) ≡ unlabelled (t ∷ ts)
+  no_label : (t : Token) (ts : List Token) → is_free source t ≡ false → label_split source (t ∷ ts) ≡ no_labels (t ∷ ts)
   no_label t [] f = rw f refl
   no_label t (u ∷ []) f = rw f refl
   no_label t (u ∷ v ∷ ts) f = rw f refl
@@ -159,7 +159,7 @@ module _ (source : List ℕ) where
   head_there : (p : PlainLine) → IsPlain source p → head_of source p.first.line (p.first ∷ p.others) ≡ plain_head p
   unfolding head_of
   head_there p h =
-      ap (λ l. headed source p.first.line l.labels l.after) (no_label p.first p.others (not_free p h))
+      ap (λ l. head_after_labels source p.first.line l.labels l.after) (no_label p.first p.others (not_free p h))
       ∙ (λ x. head_with_word (word_of_kind (h.kind x) (h.bytes x)) p.first.line [] p.first p.others)
       ∙ head_is p.word p.first p.others
 

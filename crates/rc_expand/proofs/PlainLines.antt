@@ -13,9 +13,9 @@ use Rattle.rc_expand.specs.declared.heads.head.HeadWord.{HeadWord}
 use Rattle.rc_expand.specs.declared.heads.head.HeadWord.TheVariants as word
 use Rattle.rc_expand.specs.Shared.{Shared}
 use Rattle.rc_expand.specs.Heads.Lines.{is_name_token}
-use Rattle.rc_expand.specs.Replace.{EquText, Replaced, Inner, one, spread, inner_at, replaced_tokens, exempt_len, line_tokens}
+use Rattle.rc_expand.specs.Replace.{EquText, Replaced, Inner, token_or_body, with_tokens, inner_at, replaced_tokens, exempt_len, line_tokens}
 use Rattle.rc_expand.specs.Unroll.{Unrolled, nothing, with_line as with_head, Deeper, outside, deeper_at, unrolled}
-use Rattle.rc_expand.specs.Replace.Lines.{finished, line_of, Replacement, with_line, line_replaced, lines_replaced, no_lines, replaced}
+use Rattle.rc_expand.specs.Replace.Lines.{expanded_line, line_of, Replacement, with_line, line_replaced, lines_replaced, no_lines, replaced}
 use Rattle.rc_expand.specs.Expansion.{expansion_by, expansion_of, IsExpansion}
 use Rattle.rc_expand.proofs.PlainHeads.{PlainWord, AnOpcode, AStart, PlainLine, ArePlain, plain_tokens, head_by, plain_head, plain_heads, plain_line_by, plain_line, plain_lines, heads_there}
 
@@ -28,15 +28,15 @@ no_body false o h = refl
 
 module _ (source : List ℕ) where
   -- each token stays, where they are not too many
-  same_spread : (inner : Inner) (ts : List Token) (r : Replaced) → length r.tokens + length ts ≤ MOST_TOKENS → spread source [] inner ts r ≡ Ok (record r { tokens = r.tokens ++ ts })
+  same_spread : (inner : Inner) (ts : List Token) (r : Replaced) → length r.tokens + length ts ≤ MOST_TOKENS → with_tokens source [] inner ts r ≡ Ok (record r { tokens = r.tokens ++ ts })
   same_spread inner [] r h = let e : r.tokens ≡ r.tokens ++ [] = sym (append-nil r.tokens) in (λ x. Ok (record { line = r.line; tokens = e x; replacements = r.replacements }))
   same_spread inner (t ∷ ts) r h =
       let few : nat_lt (length r.tokens) MOST_TOKENS ≡ true = lt-ltb (length r.tokens) MOST_TOKENS (omega (arith, h)) in
       let more : Replaced = record r { tokens = r.tokens ++ (t ∷ []) } in
-      let pushed : one inner t None r ≡ Ok more = rw few refl in
+      let pushed : token_or_body inner t None r ≡ Ok more = rw few refl in
       let all : (r.tokens ++ (t ∷ [])) ++ ts ≡ r.tokens ++ (t ∷ ts) = append_assoc r.tokens (t ∷ []) ts in
-      ap (λ o. and_then (spread source [] inner ts) (one inner t (option_map (λ (e : EquText). e.tokens) o) r)) (no_body (is_name_token t) None refl)
-      ∙ ap (and_then (spread source [] inner ts)) pushed
+      ap (λ o. and_then (with_tokens source [] inner ts) (token_or_body inner t (option_map (λ (e : EquText). e.tokens) o) r)) (no_body (is_name_token t) None refl)
+      ∙ ap (and_then (with_tokens source [] inner ts)) pushed
       ∙ same_spread inner ts more (omega (arith, h, length-append r.tokens (t ∷ [])))
       ∙ (λ x. Ok (record { line = r.line; tokens = all x; replacements = r.replacements }))
 
@@ -54,10 +54,10 @@ module _ (source : List ℕ) where
   unfolding line_of
   line_there (AnOpcode o) t ts h =
       let g = head_by (AnOpcode o) t ts in
-      ap (mapped (finished source g word.Code)) (same_line g.number word.Code (t ∷ ts) (omega (arith, h)))
+      ap (mapped (expanded_line source g word.Code)) (same_line g.number word.Code (t ∷ ts) (omega (arith, h)))
   line_there AStart t ts h =
       let g = head_by AStart t ts in
-      ap (mapped (finished source g word.Org)) (same_line g.number word.Org ts (omega (arith, h)))
+      ap (mapped (expanded_line source g word.Org)) (same_line g.number word.Org ts (omega (arith, h)))
 
   module _ (rules : RulesView) where
     -- without constants and EQU names

@@ -1,5 +1,5 @@
 -- The tokens of an expansion have spans of the text, pass by pass.
-use Rattle.std.proofs.Common.{◌≡◌, ℕ, zero, suc, ◌+◌, Bool, true, false, List, [], ◌∷◌, ◌++◌, length, take, drop, Option, Some, None, sym, subst}
+use Rattle.std.proofs.Common.{ℕ, zero, suc, ◌+◌, Bool, true, false, List, [], ◌∷◌, ◌++◌, length, take, drop, Option, Some, None, sym, subst}
 use Rattle.std.specs.Prelude.{Result, Ok, Err, ◌&&◌, ◌||◌, not, nat_lt, pred, All, IfOk, IfSome, if◌then◌else◌, flat_map, option_map, option_and_then, option_to_list, is_some}
 use Rattle.std.specs.Str.{bytes_eq}
 use Rattle.std.specs.List.{AllByRecursion as ByRecursion}
@@ -19,15 +19,15 @@ use Rattle.rc_expand.specs.Limits.{MOST_JOINED, MOST_TOKENS, MOST_REPLACEMENTS, 
 use Rattle.rc_expand.specs.Results.{mapped, and_then}
 use Rattle.rc_expand.specs.Names.{Table, entry_of, is_taken}
 use Rattle.rc_expand.specs.Shared.{Shared}
-use Rattle.rc_expand.specs.Heads.{Heads, equ_lines_by, equ_lines, nested_lines, text_lines, equ_token, with_equ, equs_from, equs_of, with_equs, heads_of}
+use Rattle.rc_expand.specs.Heads.{equ_lines_by, equ_lines, nested_lines, text_lines, equ_token, with_equ, equs_from, equs_of, with_equs, heads_of}
 use Rattle.rc_expand.specs.Heads.Faults.{text_fault}
 use Rattle.rc_expand.specs.Heads.Nesting.{nesting_fault}
-use Rattle.rc_expand.specs.Heads.Lines.{choose, is_free, is_colon, has_modifier, label_token, labelled, head_with_word, headed, head_of, word_of, line_of_tokens, has_end, line_then, lines_unless, lines_from, bare_line, is_name_token}
-use Rattle.rc_expand.specs.Unroll.{Unrolled, Step, Deeper, nothing, has_room, with_line, with_copy, copies_from, with_earlier, is_bare_rof, at_rof, checked_line, one_line, line_outside, line_inside, copy_of, opened, block_of, outside, inside, deeper_at, unrolled}
-use Rattle.rc_expand.specs.Unroll.Copies.{all_of, is_counter, numbered, joined, joins, copied_from, copied_tokens, copied_code, copied_rest, or_spoiled, copied_line, copied_block}
+use Rattle.rc_expand.specs.Heads.Lines.{choose, is_free, is_colon, has_modifier, label_token, label_split, head_with_word, head_after_labels, head_of, word_of, line_of_tokens, has_end, line_then, lines_unless, lines_from, bare_line, is_name_token}
+use Rattle.rc_expand.specs.Unroll.{Unrolled, Step, Deeper, nothing, has_room, with_line, with_copy, copies_from, with_earlier, is_bare_rof, at_rof, checked_line, one_line, line_outside, line_inside, copy_of, with_opening, block_of, outside, inside, deeper_at, unrolled}
+use Rattle.rc_expand.specs.Unroll.Copies.{all_of, is_counter, with_number, with_counter, joins, copied_from, copied_tokens, copied_code, copied_rest, or_spoiled, copied_line, copied_block}
 use Rattle.rc_expand.specs.Unroll.Openings.{Opening, earlier_of, counted_by, count_of, counter_name, counter_of, opening}
-use Rattle.rc_expand.specs.Replace.{EquText, Equs, Replaced, Inner, with_token, with_replacement, one, exempt_len, equ_in, equ_at, spread, inner_at, replaced_within, replaced_tokens, line_tokens}
-use Rattle.rc_expand.specs.Replace.Lines.{own_step, own_labels, other_step, other_labels, finished, made_line, line_with_labels, line_of, names_of, Replacement, no_lines, with_line as with_new, defined, line_added, line_replaced, lines_replaced, replaced}
+use Rattle.rc_expand.specs.Replace.{Equs, Replaced, Inner, with_token, with_replacement, token_or_body, exempt_len, equ_in, equ_at, with_tokens, inner_at, replaced_within, replaced_tokens, line_tokens}
+use Rattle.rc_expand.specs.Replace.Lines.{own_step, own_labels, other_step, other_labels, expanded_line, made_line, line_with_labels, line_of, names_of, Replacement, no_lines, with_line as with_new, with_names, line_added, line_replaced, lines_replaced, replaced}
 use Rattle.rc_expand.specs.Expansion.{LineLies, shared_by, expansion_by, expansion_of, IsExpansion}
 use Rattle.rc_expand.proofs.Reading.LabelLaws.{labels_and_rest}
 
@@ -106,14 +106,14 @@ module _ (source : List ℕ) where
   with_word word.Code n ls t ts h i j = record { labels = h; directive = tt; rest = (i, j) }
   with_word _ n ls t ts h i j = record { labels = h; directive = i; rest = j }
 
-  after_labels : (n : ℕ) (ls : List (List Token)) (ts : List Token) → Labels ls → Ls ts → IsIn (headed source n ls ts)
+  after_labels : (n : ℕ) (ls : List (List Token)) (ts : List Token) → Labels ls → Ls ts → IsIn (head_after_labels source n ls ts)
   after_labels n ls [] h j = record { labels = h; directive = tt; rest = tt }
   after_labels n ls (t ∷ ts) h j = with_word (word_of source t) n ls t ts h j.0 j.1
 
   head_in : (n : ℕ) (ts : List Token) → Ls ts → IsIn (head_of source n ts)
   unfolding head_of
   head_in n ts h =
-      let l = labelled source ts in
+      let l = label_split source ts in
       let r = parts (LiesIn source) (flat_map (λ x. x) l.labels) l.after (subst Ls (sym (labels_and_rest source ts)) h) in
       after_labels n l.labels l.after (flat l.labels r.0) r.1
 
@@ -168,21 +168,21 @@ module _ (source : List ℕ) where
         (λ hs h. over Bodies (λ r. AreIn r.lines × Bodies r.equs) (λ equs. record { lines = hs; equs = equs }) (equs_of source constants rules hs) (equs_in (equ_lines 0 hs) [] (equ_lines_in 0 hs h) tt) (λ equs j. (h, j)))
 
   -- a copy changes no span
-  join_in : (k : ℕ) (t : Token) → LiesIn source t → IfSome (joined source k t) (LiesIn source)
+  join_in : (k : ℕ) (t : Token) → LiesIn source t → IfSome (with_counter source k t) (LiesIn source)
   join_in k t h = either (λ o. IfSome o (LiesIn source)) (nat_lt (length t.joined) MOST_JOINED) _ _ (record { order = h.order; inside = h.inside }) tt
 
   module _ (counter : List ℕ) (k : ℕ) where
-    numbered_in : (made : Bool) (t : Token) → LiesIn source t → LiesIn source (numbered source counter k made t)
+    numbered_in : (made : Bool) (t : Token) → LiesIn source t → LiesIn source (with_number source counter k made t)
     numbered_in made t h = either (LiesIn source) (not made && is_counter source counter t) _ _ (record { order = h.order; inside = h.inside }) h
 
     from_in : (made : Bool) (t : Token) (ts : List Token) → LiesIn source t → Ls ts → IfSome (copied_from source counter k made t ts) Ls
     from_in made t [] h i = (numbered_in made t h, tt)
-    from_in made t (u ∷ []) h i = some_over Ls Ls (λ r. numbered source counter k made t ∷ r) (copied_from source counter k false u []) (from_in false u [] i.0 tt) (λ r j. (numbered_in made t h, j))
+    from_in made t (u ∷ []) h i = some_over Ls Ls (λ r. with_number source counter k made t ∷ r) (copied_from source counter k false u []) (from_in false u [] i.0 tt) (λ r j. (numbered_in made t h, j))
     from_in made t (u ∷ v ∷ ts) h i =
         let more = rest_of (LiesIn source) u (v ∷ ts) i in
         chosen (λ o. IfSome o Ls) (joins source counter t (u ∷ v ∷ ts)) _ _
-        (some_after (LiesIn source) Ls (λ j. copied_from source counter k true j ts) (joined source k t) (join_in k t h) (λ j p. from_in true j ts p (rest_of (LiesIn source) v ts more)))
-        (some_over Ls Ls (λ r. numbered source counter k made t ∷ r) (copied_from source counter k false u (v ∷ ts)) (from_in false u (v ∷ ts) i.0 more) (λ r j. (numbered_in made t h, j)))
+        (some_after (LiesIn source) Ls (λ j. copied_from source counter k true j ts) (with_counter source k t) (join_in k t h) (λ j p. from_in true j ts p (rest_of (LiesIn source) v ts more)))
+        (some_over Ls Ls (λ r. with_number source counter k made t ∷ r) (copied_from source counter k false u (v ∷ ts)) (from_in false u (v ∷ ts) i.0 more) (λ r j. (numbered_in made t h, j)))
 
     tokens_in : (ts : List Token) → Ls ts → IfSome (copied_tokens source counter k ts) Ls
     tokens_in [] h = tt
@@ -314,19 +314,19 @@ module _ (source : List ℕ) where
     abbrev InnerKeeps : Inner → Type 0
     InnerKeeps inner = (body : List Token) → Ls body → (r : Replaced) → Tokens r → IfOk (inner body r) Tokens
 
-    token_replaced : (inner : Inner) → InnerKeeps inner → (t : Token) (o : Option (List Token)) → LiesIn source t → IfSome o Ls → (r : Replaced) → Tokens r → IfOk (one inner t o r) Tokens
+    token_replaced : (inner : Inner) → InnerKeeps inner → (t : Token) (o : Option (List Token)) → LiesIn source t → IfSome o Ls → (r : Replaced) → Tokens r → IfOk (token_or_body inner t o r) Tokens
     token_replaced inner g t None i h r j = token_kept t i r j
     token_replaced inner g t (Some body) i h r j = g body h r j
 
-    spread_kept : (inner : Inner) → InnerKeeps inner → (ts : List Token) → Ls ts → (r : Replaced) → Tokens r → IfOk (spread source equs inner ts r) Tokens
+    spread_kept : (inner : Inner) → InnerKeeps inner → (ts : List Token) → Ls ts → (r : Replaced) → Tokens r → IfOk (with_tokens source equs inner ts r) Tokens
     spread_kept inner g [] h r j = j
     spread_kept inner g (t ∷ ts) h r j =
-        after Tokens Tokens (spread source equs inner ts) (one inner t (equ_at source equs t) r) (token_replaced inner g t (equ_at source equs t) h.0 (body_in t) r j) (λ x i. spread_kept inner g ts h.1 x i)
+        after Tokens Tokens (with_tokens source equs inner ts) (token_or_body inner t (equ_at source equs t) r) (token_replaced inner g t (equ_at source equs t) h.0 (body_in t) r j) (λ x i. spread_kept inner g ts h.1 x i)
 
     inner_kept : (levels : ℕ) → InnerKeeps (inner_at source equs levels)
     inner_kept zero body h r j = tt
     inner_kept (suc n) body h r j =
-        after Tokens Tokens (spread source equs (inner_at source equs n) body) (with_replacement r) (replacement_kept r j) (λ x i. spread_kept (inner_at source equs n) (inner_kept n) body h x i)
+        after Tokens Tokens (with_tokens source equs (inner_at source equs n) body) (with_replacement r) (replacement_kept r j) (λ x i. spread_kept (inner_at source equs n) (inner_kept n) body h x i)
 
     replaced_in : (line : ℕ) (front ts : List Token) → Ls front → Ls ts → IfOk (replaced_tokens source equs line front ts) Ls
     unfolding replaced_tokens
@@ -342,7 +342,7 @@ module _ (source : List ℕ) where
 
     made_in : (h : Head) (w : HeadWord) (ts : List Token) → IsIn h → Ls ts → IfOk (made_line source equs h w ts) (LineLies source)
     made_in h w ts i j =
-        over Ls (LineLies source) (finished source h w) (line_tokens source equs h.number w ts) (line_tokens_in h.number w ts j)
+        over Ls (LineLies source) (expanded_line source h w) (line_tokens source equs h.number w ts) (line_tokens_in h.number w ts j)
         (λ r k. record { labels = All-from_recursion (LiesIn source) (own_labels source h.labels) (own_in h.labels i.labels); tokens = All-from_recursion (LiesIn source) r k })
 
     with_labels_in : (h : Head) (others : List (List Token)) → IsIn h → Labels others → IfOk (line_with_labels source equs h others) (LineLies source)
@@ -375,15 +375,15 @@ module _ (s : Shared) where
     copy_of_kept line counter block h k u j =
         after Kept Kept (deeper line (copied_block s.source counter k block)) (with_copy line u) (copy_kept s.source line u j) (λ v i. d line (copied_block s.source counter k block) (block_in s.source counter k block h) v i)
 
-    opened_kept : (f : Head) (block : List Head) (o : Opening) → AreIn s.source block → Labels s.source o.earlier → (u : Unrolled) → Kept u → IfOk (opened s deeper f block u o) Kept
+    opened_kept : (f : Head) (block : List Head) (o : Opening) → AreIn s.source block → Labels s.source o.earlier → (u : Unrolled) → Kept u → IfOk (with_opening s deeper f block u o) Kept
     opened_kept f block o h i u j =
         after Kept Kept (copies_from (copy_of s deeper f.number o.counter block) o.count 1) (with_earlier f.number o.earlier u) (earlier_kept s.source f.number o.earlier i u j)
         (λ v k. copies_kept s.source (copy_of s deeper f.number o.counter block) (copy_of_kept f.number o.counter block h) o.count 1 v k)
 
     block_kept : (f : Head) (block : List Head) (rof : Head) → IsIn s.source f → AreIn s.source block → Keeps s.source (block_of s deeper f block rof)
     block_kept f block rof i h u j =
-        after Kept Kept (at_rof rof) (and_then (opened s deeper f block u) (opening s f))
-        (after (λ o. Labels s.source o.earlier) Kept (opened s deeper f block u) (opening s f) (opening_in f i) (λ o k. opened_kept f block o h k u j)) (λ v k. rof_kept s.source rof v k)
+        after Kept Kept (at_rof rof) (and_then (with_opening s deeper f block u) (opening s f))
+        (after (λ o. Labels s.source o.earlier) Kept (with_opening s deeper f block u) (opening s f) (opening_in f i) (λ o k. opened_kept f block o h k u j)) (λ v k. rof_kept s.source rof v k)
 
     module _ (b : Bool) where
       mutual
@@ -424,7 +424,7 @@ module _ (s : Shared) where
     lines_made [] h r j = j
     lines_made (h ∷ hs) i r j =
         after Made Made (lines_replaced s hs) (line_replaced s h r)
-        (after_any Made (line_added s h.word h r.lines) (defined s h.number (names_of s.source h) r.names) (λ names. added h.word h r.lines names i.0 j)) (λ x k. lines_made hs i.1 x k)
+        (after_any Made (line_added s h.word h r.lines) (with_names s h.number (names_of s.source h) r.names) (λ names. added h.word h r.lines names i.0 j)) (λ x k. lines_made hs i.1 x k)
 
     replaced_lines_in : (hs : List Head) → AreIn s.source hs → IfOk (replaced s hs) (ByRecursion (LineLies s.source))
     unfolding replaced

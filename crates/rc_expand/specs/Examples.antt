@@ -20,12 +20,12 @@ use Rattle.rc_expand.specs.Expansion.{expansion_of}
 abbrev lines_of : List ℕ → Option (List Line)
 lines_of text = result_ok (expansion_of text [] (rules_view 16 20 4 4 4))
 
--- lines, each with a line feed after it
+-- Lines, each with a line feed after it.
 abbrev text_of : List (List ℕ) → List ℕ
 text_of [] = []
 text_of (l ∷ ls) = l ++ (10 ∷ text_of ls)
 
--- the labels of a line as names, and its tokens as symbols
+-- The labels of a line as names, and its tokens as symbols.
 abbrev Shown : Type 0
 Shown = List (List ℕ) × List Symbol
 
@@ -41,7 +41,7 @@ label_names_of ls = option_map (map (λ l. map (name_of (text_of ls)) l.labels))
 abbrev has_lines : List (List ℕ) → Bool
 has_lines ls = is_some (lines_of (text_of ls))
 
--- a counter is joined to a name, and becomes a number elsewhere
+-- A counter is joined to a name, and becomes a number elsewhere.
 copies_of_a_line : shown_lines (codes "i FOR 2" ∷ codes "x&i DAT #i" ∷ codes "ROF" ∷ codes "JMP x01" ∷ [])
     ≡ Some (
     shown (codes "x01" ∷ []) (Identifier (codes "DAT") ∷ Mark Hash ∷ Numeral 1 ∷ [])
@@ -50,33 +50,33 @@ copies_of_a_line : shown_lines (codes "i FOR 2" ∷ codes "x&i DAT #i" ∷ codes
 unfolding expansion_of heads_of equs_of line_of replaced unrolled given_names is_taken count_of opening copied_line replaced_tokens is_free is_opcode word_of_name head_of is_opcode_word before_operand after_operand
 copies_of_a_line = refl
 
--- an EQU name stands for tokens, not for a value
+-- An EQU name stands for tokens, not for a value.
 tokens_in_place : shown_lines (codes "s EQU 2+3" ∷ codes "DAT #0, #s*2" ∷ [])
     ≡ Some (shown [] (Identifier (codes "DAT") ∷ Mark Hash ∷ Numeral 0 ∷ Mark Comma ∷ Mark Hash ∷ Numeral 2 ∷ Mark Plus ∷ Numeral 3 ∷ Mark Star ∷ Numeral 2 ∷ []) ∷ [])
 unfolding expansion_of heads_of equs_of line_of replaced unrolled given_names is_taken count_of opening copied_line replaced_tokens is_free is_opcode word_of_name head_of is_opcode_word before_operand after_operand
 tokens_in_place = refl
 
--- two nested blocks, a dropped one, and END before the end
+-- Two nested blocks, a dropped one, and END before the end.
 nested_blocks : label_names_of (codes "a FOR 2" ∷ codes "b FOR a" ∷ codes "x&a&b NOP a,b ; c" ∷ codes "ROF" ∷ codes "ROF" ∷ codes "FOR 0" ∷ codes "junk EQU 5" ∷ codes "ROF" ∷ codes "END x0101" ∷ codes "= =" ∷ [])
     ≡ Some ((codes "x0101" ∷ []) ∷ (codes "x0201" ∷ []) ∷ (codes "x0202" ∷ []) ∷ [] ∷ [])
 unfolding expansion_of heads_of equs_of line_of replaced unrolled given_names is_taken count_of opening copied_line replaced_tokens is_free is_opcode word_of_name head_of is_opcode_word before_operand after_operand
 nested_blocks = refl
 
--- a joined name that spells the counter of an inner block is that counter
+-- A joined name that spells the counter of an inner block is that counter.
 joined_counter : shown_lines (codes "i FOR 1" ∷ codes "x01 FOR 2" ∷ codes "DAT x&i" ∷ codes "ROF" ∷ codes "ROF" ∷ [])
     ≡ Some (shown [] (Identifier (codes "DAT") ∷ Numeral 1 ∷ []) ∷ shown [] (Identifier (codes "DAT") ∷ Numeral 2 ∷ []) ∷ [])
 unfolding expansion_of heads_of equs_of line_of replaced unrolled given_names is_taken count_of opening copied_line replaced_tokens is_free is_opcode word_of_name head_of is_opcode_word before_operand after_operand
 joined_counter = refl
 
--- a FOR alone, the counter of an enclosing block, a counter written with `&`, an EQU in a block, a
--- label before ROF, a ninth counter
+-- A FOR alone, the counter of an enclosing block, a counter written with `&`, an EQU in a block, a
+-- label before ROF, a ninth counter.
 refused_texts : map has_lines ((codes "FOR 3" ∷ []) ∷ (codes "i FOR 2" ∷ codes "i FOR 2" ∷ codes "ROF" ∷ codes "ROF" ∷ []) ∷ (codes "i FOR 2" ∷ codes "x&i FOR 2" ∷ codes "ROF" ∷ codes "ROF" ∷ [])
     ∷ (codes "FOR 1" ∷ codes "s EQU 2" ∷ codes "ROF" ∷ []) ∷ (codes "FOR 0" ∷ codes "a ROF" ∷ []) ∷ (codes "i FOR 1" ∷ codes "x&i&i&i&i&i&i&i&i&i NOP" ∷ codes "ROF" ∷ []) ∷ [])
     ≡ false ∷ false ∷ false ∷ false ∷ false ∷ false ∷ []
 unfolding expansion_of heads_of equs_of line_of replaced unrolled given_names is_taken count_of opening copied_line replaced_tokens is_free is_opcode word_of_name head_of is_opcode_word before_operand after_operand
 refused_texts = refl
 
--- in a dropped block only FOR, ROF and END count
+-- In a dropped block only FOR, ROF and END count.
 dropped_lines : map has_lines ((codes "FOR 0" ∷ codes "FOR 0" ∷ codes "a ROF 3" ∷ codes "CORESIZE EQU" ∷ codes "x FOR" ∷ codes "ROF" ∷ codes "ROF" ∷ codes "NOP" ∷ [])
     ∷ (codes "i FOR 1" ∷ codes "FOR 0" ∷ codes "x&i&i&i&i&i&i&i&i&i NOP" ∷ codes "ROF" ∷ codes "ROF" ∷ []) ∷ [])
     ≡ true ∷ true ∷ []

@@ -4,14 +4,14 @@ use Rattle.rc_text.specs.Symbols.{LiesIn}
 use Rattle.rc_instr.specs.Rules.{RulesView}
 use Rattle.rc_expand.specs.declared.fault.ExpandFault.{ExpandFault}
 use Rattle.rc_expand.specs.declared.line.Line.{Line}
-use Rattle.rc_expand.specs.Results.{and_then}
+use Rattle.rc_expand.specs.Results.{◌>>=◌}
 use Rattle.rc_expand.specs.Names.{Table}
 use Rattle.rc_expand.specs.Shared.{Shared}
 use Rattle.rc_expand.specs.Unroll.{unrolled}
 use Rattle.rc_expand.specs.Heads.{Heads, heads_of}
 use Rattle.rc_expand.specs.Replace.Lines.{replaced}
 
--- the spans of the tokens of a line lie in the source
+-- The spans of the tokens of a line lie in the source.
 pub record LineLies (source : List ℕ) (l : Line) : Type 0 where
   pub labels : All (LiesIn source) l.labels
   pub tokens : All (LiesIn source) l.tokens
@@ -21,12 +21,12 @@ module _ (source : List ℕ) (constants : Table) (rules : RulesView) where
   shared_by r = record { source = source; constants = constants; rules = rules; equs = r.equs }
 
   abbrev pub expansion_by : Heads → Result (List Line) ExpandFault
-  expansion_by r = and_then (replaced (shared_by r)) (unrolled (shared_by r) r.lines)
+  expansion_by r = unrolled (shared_by r) r.lines >>= replaced (shared_by r)
 
-  -- the lines of the expansion; or the fault that the passes meet first, at its line
+  -- The lines of the expansion; or the fault that the passes meet first, at its line.
   unfoldable pub expansion_of : Result (List Line) ExpandFault
-  expansion_of = and_then expansion_by (heads_of source constants rules)
+  expansion_of = heads_of source constants rules >>= expansion_by
 
--- the text expands to these lines
+-- The text expands to these lines.
 abbrev pub IsExpansion : List ℕ → Table → RulesView → List Line → Type 0
 IsExpansion source constants rules lines = expansion_of source constants rules ≡ Ok lines

@@ -5,6 +5,7 @@ pub mod Limits
 pub mod Results
 pub mod Names
 pub mod Shared
+pub mod NameTables
 pub mod Heads
 pub mod Unroll
 pub mod Replace

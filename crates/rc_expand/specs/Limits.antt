@@ -1,30 +1,30 @@
 -- The limits of an expansion.
 use Rattle.std.specs.Prelude.{ℕ}
 
--- unrolled lines and copies of blocks, counted together
+-- Unrolled lines and copies of blocks, counted together.
 abbrev pub MOST_LINES : ℕ
 MOST_LINES = 4096
 
--- the tokens of a line, or of a count, after replacement
+-- The tokens of a line, or of a count, after replacement.
 abbrev pub MOST_TOKENS : ℕ
 MOST_TOKENS = 4096
 
--- the EQU names replaced in a line, or in a count
+-- The EQU names replaced in a line, or in a count.
 abbrev pub MOST_REPLACEMENTS : ℕ
 MOST_REPLACEMENTS = 4096
 
--- the count of a FOR
+-- The count of a FOR.
 abbrev pub MOST_COPIES : ℕ
 MOST_COPIES = 4096
 
--- FOR blocks inside one another
+-- FOR blocks inside one another.
 abbrev pub DEEPEST_BLOCK : ℕ
 DEEPEST_BLOCK = 8
 
--- EQU names inside one another
+-- EQU names inside one another.
 abbrev pub DEEPEST_EQU : ℕ
 DEEPEST_EQU = 16
 
--- counters joined to a name
+-- Counters joined to a name.
 abbrev pub MOST_JOINED : ℕ
 MOST_JOINED = 8

@@ -10,35 +10,35 @@ use Rattle.rc_expand.specs.declared.constants.Constants.{Constants}
 abbrev pub is_among : List (List ℕ) → List ℕ → Bool
 is_among names name = list_any (λ n. bytes_eq n name) names
 
--- names with values
+-- Names with values.
 abbrev pub Table : Type 0
 Table = List (List ℕ × ℤ)
 
--- pairs each name with its value
+-- Pairs each name with its value.
 abbrev pub table_of : List (Vec ℕ) → List ℤ → Table
 table_of (n ∷ names) (v ∷ values) = (n.items, v) ∷ table_of names values
 table_of _ _ = []
 
--- the constants, by name
+-- The constants, by name.
 abbrev pub table_in : Constants → Table
 table_in c = table_of c.names.now c.values.now
 
--- the predefined names (pMARS) but for CURLINE, which has no value before lines are counted
+-- The predefined names (pMARS) but for CURLINE, which has no value before lines are counted.
 abbrev pub predefined : RulesView → Table
 predefined r = (codes "CORESIZE", pos r.core) ∷ (codes "MAXPROCESSES", pos r.tasks) ∷ (codes "MAXCYCLES", pos r.cycles) ∷ (codes "MAXLENGTH", pos r.length) ∷ (codes "MINDISTANCE", pos r.distance) ∷ (codes "WARRIORS", pos 2) ∷ (codes "VERSION", pos 92) ∷ []
 
 abbrev pub CURLINE : List ℕ
 CURLINE = codes "CURLINE"
 
--- the value of the first entry with this name
+-- The value of the first entry with this name.
 abbrev pub entry_of : {A : Type 0} → List (List ℕ × A) → List ℕ → Option A
 entry_of [] name = None
 entry_of (e ∷ table) name = if bytes_eq name e.0 then Some e.1 else entry_of table name
 
--- the value of a name in a count: a constant or a predefined name
+-- The value of a name in a count: a constant or a predefined name.
 unfoldable pub given_names : Table → RulesView → List ℕ → Option ℤ
 given_names constants rules name = option_or (entry_of constants name) (entry_of (predefined rules) name)
 
--- a constant or a predefined name, CURLINE included
+-- A constant or a predefined name, CURLINE included.
 unfoldable pub is_taken : Table → RulesView → List ℕ → Bool
 is_taken constants rules name = is_some (given_names constants rules name) || bytes_eq name CURLINE

@@ -7,7 +7,7 @@ use Rattle.rc_expand.specs.declared.fault.ExpandKind.TheVariants.{OutOfMemory}
 abbrev pub at_line : ℕ → ExpandKind → ExpandFault
 at_line line kind = record { line = line; kind = kind }
 
--- a fault stays as it is
+-- A fault stays as it is.
 abbrev pub mapped : {A B E : Type 0} → (A → B) → Result A E → Result B E
 mapped f (Ok x) = Ok (f x)
 mapped f (Err e) = Err e
@@ -16,12 +16,17 @@ abbrev pub and_then : {A B E : Type 0} → (A → Result B E) → Result A E →
 and_then f (Ok x) = f x
 and_then f (Err e) = Err e
 
--- changes the fault and keeps the value
+-- The same from left to right, and in `do` what `?` is in code.
+infixl 10 ◌>>=◌
+abbrev pub ◌>>=◌ : {A B E : Type 0} → Result A E → (A → Result B E) → Result B E
+r >>= f = and_then f r
+
+-- Changes the fault and keeps the value.
 abbrev pub with_fault : {A D E : Type 0} → (D → E) → Result A D → Result A E
 with_fault f (Ok x) = Ok x
 with_fault f (Err e) = Err (f e)
 
--- a call returns what the definition gives, seen through `view`, unless memory runs out
+-- A call returns what the definition gives, seen through `view`, unless memory runs out.
 abbrev pub Returns : {A B : Type 0} → (A → B) → Result A ExpandFault → Result B ExpandFault → Type 0
 Returns view (Ok x) r = r ≡ Ok (view x)
 Returns view (Err e) r = (e.kind ≢ OutOfMemory) → r ≡ Err e

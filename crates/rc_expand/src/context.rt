@@ -1,8 +1,8 @@
 //! What the second and the third pass of the expansion share.
-ghost use Rattle.rc_expand.specs.Heads.NameTables.{AreLinks};
+ghost use Rattle.rc_expand.specs.NameTables.{AreLinks};
 
 use crate::heads::equs::Equ;
-use crate::heads::table::NameTable;
+use crate::name_table::NameTable;
 use crate::names::GivenNames;
 use std::alloc::Global;
 

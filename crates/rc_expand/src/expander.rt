@@ -7,12 +7,12 @@ ghost use Rattle.rc_expand.specs.Expansion.{expansion_of};
 
 use crate::constants::Constants;
 use crate::context::Context;
+use crate::equ_tokens::links::link_equs;
 use crate::fault::{ExpandFault, memory_at_line_0};
 use crate::heads::read_heads;
 use crate::line::{Expanded, Lines};
 use crate::names::GivenNames;
-use crate::replace::labelling::replace_lines;
-use crate::replace::links::link_equs;
+use crate::replace::replace_lines;
 use crate::unroll::unroll;
 use rc_instr::Rules;
 use std::alloc::Global;

@@ -11,7 +11,6 @@ pub(crate) mod equs;
 pub(crate) mod head;
 pub(crate) mod labels;
 pub(crate) mod read;
-pub(crate) mod table;
 pub(crate) mod words;
 
 use crate::fault::ExpandFault;
@@ -19,7 +18,7 @@ use crate::heads::blocks::check_blocks;
 use crate::heads::equs::{Equ, collect_equs};
 use crate::heads::head::Head;
 use crate::heads::read::read_lines;
-use crate::heads::table::NameTable;
+use crate::name_table::NameTable;
 use crate::names::GivenNames;
 use std::alloc::Global;
 

@@ -4,15 +4,14 @@ ghost use Rattle.rc_text.specs.declared.token.Token.{Token};
 ghost use Rattle.rc_instr.specs.Rules.{RulesView};
 ghost use Rattle.rc_expand.specs.declared.line.Line.{Line};
 ghost use Rattle.rc_expand.specs.declared.fault.ExpandFault.{ExpandFault};
-ghost use Rattle.rc_expand.specs.Results.{and_then};
 ghost use Rattle.rc_expand.specs.declared.heads.head.Head.{Head};
 ghost use Rattle.rc_expand.specs.Names.{Table};
 ghost use Rattle.rc_expand.specs.Expansion.{IsExpansion, LineLies};
-ghost use Rattle.rc_expand.specs.declared.heads.head.HeadWord.TheVariants as word;
-ghost use Rattle.rc_expand.specs.Heads.Lines.{labelled};
-ghost use Rattle.rc_expand.specs.Heads.Nesting.{nesting_fault, AreNested, Closed, closed_lines, opens_or_closes, IsClosed};
+ghost use Rattle.rc_expand.specs.Heads.Lines.{label_split};
+ghost use Rattle.rc_expand.specs.Heads.Nesting.{nesting_fault, AreNested};
 ghost use Rattle.rc_expand.specs.Shared.{Shared};
-ghost use Rattle.rc_expand.specs.Unroll.{Unrolled, Deeper, one_line, block_of, outside};
+ghost use Rattle.rc_expand.specs.Unroll.{Deeper};
+ghost use Rattle.rc_expand.specs.Unroll.Places.{LinesUnrollAlone, BlocksUnrollWhole, PartsUnrollAlone};
 
 /// A text has at most one expansion.
 pub fn one_expansion()
@@ -35,7 +34,7 @@ pub fn blocks_are_closed_or_have_a_fault()
 /// The labels of a line and the tokens after them are its tokens, in order.
 #[tactic(auto, using(crate::proofs::Reading::LabelLaws::labels_and_rest))]
 pub fn labels_come_before_the_rest()
-    ensures { (source : List ℕ) (ts : List Token) → flat_map (λ x. x) (labelled source ts).labels ++ (labelled source ts).after ≡ ts }
+    ensures { (source : List ℕ) (ts : List Token) → flat_map (λ x. x) (label_split source ts).labels ++ (label_split source ts).after ≡ ts }
 {}
 
 /// What lines unroll to, after the lines so far. A line that is neither FOR nor ROF is taken by
@@ -45,13 +44,7 @@ pub fn labels_come_before_the_rest()
 /// `deeper` unrolls the lines of a block.
 #[tactic(auto, using(crate::proofs::Unrolling::Equation::out_line, crate::proofs::Unrolling::Equation::out_block, crate::proofs::Unrolling::Equation::out_then))]
 pub fn blocks_unroll_in_place()
-    ensures line { (s : Shared) (b : Bool) (deeper : Deeper) (h : Head) (after : List Head) (u : Unrolled)
-        → opens_or_closes h.word ≡ false
-        → outside s b deeper (h ∷ after) u ≡ and_then (outside s b deeper after) (one_line b h u) }
-    ensures block { (s : Shared) (b : Bool) (deeper : Deeper) (n : ℕ) (c : Closed) (f r : Head) (after : List Head) (u : Unrolled)
-        → IsClosed n c → f.word ≡ word.For → r.word ≡ word.Rof
-        → outside s b deeper (f ∷ (closed_lines c ++ (r ∷ after))) u ≡ and_then (outside s b deeper after) (block_of s deeper f (closed_lines c) r u) }
-    ensures parts { (s : Shared) (b : Bool) (deeper : Deeper) (n : ℕ) (c : Closed) (after : List Head) (u : Unrolled)
-        → IsClosed n c
-        → outside s b deeper (closed_lines c ++ after) u ≡ and_then (outside s b deeper after) (outside s b deeper (closed_lines c) u) }
+    ensures line { (s : Shared) (b : Bool) (deeper : Deeper) → LinesUnrollAlone s b deeper }
+    ensures block { (s : Shared) (b : Bool) (deeper : Deeper) → BlocksUnrollWhole s b deeper }
+    ensures parts { (s : Shared) (b : Bool) (deeper : Deeper) → PartsUnrollAlone s b deeper }
 {}

@@ -6,12 +6,14 @@
 
 mod constants;
 mod context;
+mod equ_tokens;
 mod expander;
 mod fault;
 mod heads;
 pub mod laws;
 mod limits;
 mod line;
+mod name_table;
 mod names;
 mod replace;
 mod unroll;
@@ -19,6 +21,6 @@ mod unroll;
 pub use constants::Constants;
 pub use expander::expand;
 pub use fault::{ExpandFault, ExpandKind};
-pub use heads::table::NameTable;
 pub use line::{Expanded, Line, LineWord, Lines, Tokens};
+pub use name_table::NameTable;
 pub use names::{GivenNames, name_of, spells};

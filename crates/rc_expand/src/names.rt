@@ -4,7 +4,7 @@ ghost use Rattle.std.specs.Str.{bytes_eq};
 ghost use Rattle.rc_expand.specs.Names.{entry_of, predefined, table_in, is_taken};
 ghost use Rattle.rc_expand.specs.Shared.{constants_of};
 ghost use Rattle.rc_text.specs.Symbols.{name_of, counter_text};
-ghost use Rattle.rc_expand.specs.Heads.NameTables.{joined_name};
+ghost use Rattle.rc_expand.specs.NameTables.{joined_name};
 
 use crate::constants::Constants;
 use itoa::Buffer;

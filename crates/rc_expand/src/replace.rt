@@ -1,119 +1,120 @@
 //! The third pass: each line of the unrolled text in turn, first the names that it defines, then
-//! its tokens, in which EQU names give way to their own. EQU lines are dropped. The replacement of
-//! tokens is here, since the count of a FOR needs it too.
-ghost use Rattle.std.specs.Prelude.{◌≡◌, ◌≢◌, ℕ, List, [], ◌∷◌, ◌++◌, ◌+◌, ◌≤◌, length, MatchResult, Ok, Err, Some, None, option_map, All, IfSome, IfOk, OnOk};
+//! its tokens, in which EQU names give way to their own. EQU lines are dropped.
+ghost use Rattle.std.specs.Prelude.{◌≡◌, ◌≢◌, ◌++◌, ◌∷◌, [], ◌||◌, List, ℕ, map, All, IfOk, OnOk, Ok, Err};
+ghost use Rattle.rc_text.specs.Symbols.{name_of};
 ghost use Rattle.rc_expand.specs.Results.{Returns};
-ghost use Rattle.rc_expand.specs.Heads.NameTables.{at_index, AreIndices};
-ghost use Rattle.rc_expand.specs.Replace.{replaced_so_far, with_token, one, equ_in, equ_at, inner_at, replaced_within, replaced_tokens};
+ghost use Rattle.rc_expand.specs.Shared.{shared};
+ghost use Rattle.rc_expand.specs.NameTables.{names_in};
+ghost use Rattle.rc_expand.specs.Unroll.Reached.{reached_line, reached_lines};
+ghost use Rattle.rc_expand.specs.Replace.Lines.{lines_so_far, with_names, line_replaced, replaced};
 
 pub(crate) mod finish;
-pub(crate) mod labelling;
-pub(crate) mod links;
 
 use crate::context::Context;
 use crate::fault::{ExpandFault, ExpandKind, fault};
-use crate::heads::words::clone_token;
-use crate::limits::{DEEPEST_EQU, MOST_REPLACEMENTS, MOST_TOKENS};
-use crate::line::Tokens;
-use crate::replace::links::link_tokens;
+use crate::heads::head::{Head, HeadWord};
+use crate::line::Line;
+use crate::name_table::NameTable;
+use crate::names::is_taken;
+use crate::replace::finish::{line_of, split_labels};
+use crate::unroll::reached::Reached;
 use rc_text::Token;
 
-// The tokens of a line so far, its number, and how many EQU names were replaced in it.
+// The names defined so far, and the lines of the expansion.
 #[derive(Drop)]
-pub(crate) struct Replacing {
-    line: u64,
-    tokens: Vec<Token>,
-    replacements: u32,
+pub(crate) struct Replacements<'a> {
+    names: NameTable<'a, ()>,
+    lines: Vec<Line>,
 }
 
-// Replaces the EQU names of `tokens`, at most `DEEPEST_EQU` deep. `front` are the tokens before
-// them in the line, which are left alone but count.
-#[tactic(auto, unfolding(crate::specs::Replace::replaced_tokens))]
-pub(crate) fn replace_tokens(
+// Makes the lines of the expansion.
+#[tactic(auto, unfolding(crate::specs::Replace::Lines::replaced))]
+pub(crate) fn replace_lines(
     context: &Context,
-    line: u64,
-    front: Vec<Token>,
-    tokens: &[Token],
-) -> Result<Tokens, ExpandFault>
-    ensures { Returns (λ t. t) result (replaced_tokens context.now.source.now context.now.equs.now line front.items tokens.now) }
+    reached: &[Reached],
+) -> Result<Vec<Line>, ExpandFault>
+    ensures { Returns (λ v. v.items) result (replaced (shared context.now) (reached_lines context.now.source.now reached.now)) }
 {
-    let indices = link_tokens(context.alloc, context.source, tokens, context.equs)?;
-    let mut out = Replacing {
-        line,
-        tokens: front,
-        replacements: 0,
+    let mut out = Replacements {
+        names: NameTable::new(context.alloc),
+        lines: Vec::new(context.alloc),
     };
-    append_replaced(&mut out, context, tokens, indices.as_slice(), DEEPEST_EQU)?;
-    Ok(Tokens::from_vec(out.tokens))
-}
-
-// Returns the tokens of the EQU name at an index of the table, and their links.
-fn body_at<'a>(
-    context: &Context<'a>,
-    index: Option<usize>,
-) -> Option<(&'a [Token], &'a [Option<usize>])>
-    ensures tokens { option_map (λ p. p.0.now) result ≡ option_map (λ e. e.tokens) (at_index context.now.equs.now index) }
-    ensures indices { IfSome result (λ p. AreIndices context.now.source.now context.now.equs.now p.0.now p.1.now) }
-{
-    let i = index?;
-    let equ = context.equs.at(i)?;
-    Some((equ.tokens(), context.links[i].as_slice()))
-}
-
-// Appends a token that is not an EQU name.
-fn push_token(out: &mut Replacing, token: &Token) -> Result<(), ExpandFault>
-    ensures { Returns (λ u. replaced_so_far out.new) result (with_token token.now (replaced_so_far out.old)) }
-{
-    if out.tokens.len() >= MOST_TOKENS {
-        return Err(fault(out.line, ExpandKind::TooManyTokens));
+    for i in 0..reached.len() {
+        replace_reached(&mut out, context, &reached[i])?;
     }
-    out.tokens.push(clone_token(token)?)?;
-    Ok(())
+    Ok(out.lines)
 }
 
-// Appends a token, or the tokens of the EQU name that it is.
-#[cycle(replace)]
-fn append_one(
-    out: &mut Replacing,
-    context: &Context,
-    token: &Token,
-    index: Option<usize>,
-    levels: u8,
+// Adds a line that was reached. If it is as the text has it, it is not copied.
+fn replace_reached<'a>(
+    out: &mut Replacements<'a>,
+    context: &Context<'a>,
+    reached: &Reached,
 ) -> Result<(), ExpandFault>
-    requires { at_index context.now.equs.now index ≡ equ_in context.now.source.now context.now.equs.now token.now }
-    ensures { Returns (λ u. replaced_so_far out.new) result
-        (one (inner_at context.now.source.now context.now.equs.now levels) token.now (equ_at context.now.source.now context.now.equs.now token.now) (replaced_so_far out.old)) }
+    ensures { Returns (λ u. lines_so_far out.new) result
+        (line_replaced (shared context.now) (reached_line context.now.source.now reached.now) (lines_so_far out.old)) }
 {
-    match body_at(context, index) {
-        None => push_token(out, token),
-        Some((body, indices)) => {
-            if levels == 0 {
-                return Err(fault(out.line, ExpandKind::EquTooDeep));
-            }
-            if out.replacements >= MOST_REPLACEMENTS {
-                return Err(fault(out.line, ExpandKind::TooManyTokens));
-            }
-            out.replacements += 1;
-            append_replaced(out, context, body, indices, levels - 1)
+    if reached.is_as_written() {
+        return replace_line(out, context, reached.head);
+    }
+    let head = reached.make(context.alloc, context.source)?;
+    replace_line(out, context, &head)
+}
+
+// Defines the names of a line, and adds the line with its EQU names replaced, unless it is an EQU
+// line.
+fn replace_line<'a>(
+    out: &mut Replacements<'a>,
+    context: &Context<'a>,
+    head: &Head,
+) -> Result<(), ExpandFault>
+    ensures { Returns (λ u. lines_so_far out.new) result (line_replaced (shared context.now) head.now (lines_so_far out.old)) }
+{
+    let (labels, others) = split_labels(context.alloc, context.source, head.labels.as_slice())?;
+    define_names(&mut out.names, context, labels.as_slice(), head.number)?;
+    match head.word {
+        HeadWord::Equ => Ok(()),
+        _ => {
+            let line = line_of(context, head, labels, others)?;
+            out.lines.push(line)?;
+            Ok(())
         }
     }
 }
 
-// Appends tokens with their EQU names replaced, at most `levels` deep.
-#[cycle(replace)]
-fn append_replaced(
-    out: &mut Replacing,
-    context: &Context,
-    tokens: &[Token],
-    indices: &[Option<usize>],
-    levels: u8,
+// Defines the names of tokens, one after the other.
+fn define_names<'a>(
+    names: &mut NameTable<'a, ()>,
+    context: &Context<'a>,
+    labels: &[Token],
+    line: u64,
 ) -> Result<(), ExpandFault>
-    requires { AreIndices context.now.source.now context.now.equs.now tokens.now indices.now }
-    ensures { Returns (λ u. replaced_so_far out.new) result
-        (replaced_within context.now.source.now context.now.equs.now levels tokens.now (replaced_so_far out.old)) }
+    ensures { Returns (λ u. names_in names.new) result (with_names (shared context.now) line (map (name_of context.now.source.now) labels.now) (names_in names.old)) }
 {
-    for i in 0..tokens.len() {
-        append_one(out, context, &tokens[i], indices[i], levels)?;
+    let mut rest = labels;
+    while let Some((label, after)) = rest.split_first() {
+        define_name(names, context, label, line)?;
+        rest = after;
     }
     Ok(())
+}
+
+// Defines the name of a token. `DuplicateName` if it is a constant, a predefined name or defined
+// already.
+fn define_name<'a>(
+    names: &mut NameTable<'a, ()>,
+    context: &Context<'a>,
+    label: &Token,
+    line: u64,
+) -> Result<(), ExpandFault>
+    ensures { Returns (λ u. names_in names.new) result (with_names (shared context.now) line (name_of context.now.source.now label.now ∷ []) (names_in names.old)) }
+{
+    if is_taken(context.names, context.source, label) {
+        return Err(fault(line, ExpandKind::DuplicateName));
+    }
+    if names.add(context.alloc, context.source, label, ())? {
+        Ok(())
+    } else {
+        Err(fault(line, ExpandKind::DuplicateName))
+    }
 }

@@ -4,10 +4,11 @@
 ghost use Rattle.std.specs.Prelude.{◌≡◌, ◌≢◌, ◌+◌, ◌<◌, ◌≤◌, length, All, IfOk, IfSome, OnOk, MatchOption, option_map, Some, None, Ok, Err};
 ghost use Rattle.rc_expand.specs.Results.{Returns};
 ghost use Rattle.rc_expand.specs.Shared.{shared};
-ghost use Rattle.rc_expand.specs.Unroll.{with_line, with_earlier, line_checked, checked_line, one_line, copies_from, copy_of, block_of, deeper_at, unrolled_by, unrolled};
+ghost use Rattle.rc_expand.specs.Unroll.{with_line, with_earlier, line_checked, checked_line, unrolled};
 ghost use Rattle.rc_expand.specs.Unroll.Openings.{earlier_of};
 ghost use Rattle.rc_expand.specs.Unroll.Cuts.{Cut, cut};
-ghost use Rattle.rc_expand.specs.Unroll.Reached.{line_in, lines_in, reached_part, reached_lines, unrolled_so_far};
+ghost use Rattle.rc_expand.specs.Unroll.Reached.{line_in, reached_part, reached_lines};
+ghost use Rattle.rc_expand.specs.Unroll.Scopes.{Adds, step_of_lines, step_of_line, step_of_copy, step_of_copies, step_of_block};
 
 pub(crate) mod copy;
 pub(crate) mod opening;
@@ -57,9 +58,7 @@ fn append_lines<'s, 'a>(
     scope: &Scope<'s, 'a>,
     heads: &'a [Head],
 ) -> Result<(), ExpandFault>
-    ensures { Returns (λ u. unrolled_so_far context.now.source.now out.new) result
-        (unrolled_by (shared context.now) scope.now.in_block scope.now.levels (lines_in context.now.source.now scope.now.copies.now heads.now)
-        (unrolled_so_far context.now.source.now out.old)) }
+    ensures { Adds context.now out.old (step_of_lines context.now scope.now heads.now) result out.new }
 {
     let mut rest = heads;
     while let Some((head, after)) = rest.split_first() {
@@ -114,8 +113,8 @@ fn append<'a>(
     head: &'a Head,
     is_earlier: bool,
 ) -> Result<(), ExpandFault>
-    ensures { Returns (λ u. unrolled_so_far context.now.source.now out.new) result
-        (with_line (reached_part context.now.source.now is_earlier (line_in context.now.source.now copies.now head.now)) (unrolled_so_far context.now.source.now out.old)) }
+    ensures { Adds context.now out.old
+        (with_line (reached_part context.now.source.now is_earlier (line_in context.now.source.now copies.now head.now))) result out.new }
 {
     if out.lines.len() + out.copy_count >= MOST_LINES {
         return Err(fault(head.number, ExpandKind::TooManyLines));
@@ -171,8 +170,7 @@ fn append_line<'s, 'a>(
     scope: &Scope<'s, 'a>,
     head: &'a Head,
 ) -> Result<(), ExpandFault>
-    ensures { Returns (λ u. unrolled_so_far context.now.source.now out.new) result
-        (one_line scope.now.in_block (line_in context.now.source.now scope.now.copies.now head.now) (unrolled_so_far context.now.source.now out.old)) }
+    ensures { Adds context.now out.old (step_of_line context.now scope.now head.now) result out.new }
 {
     check_copied_line(context, scope.copies, head, scope.in_block)?;
     append(out, context, scope.copies, head, false)
@@ -189,8 +187,7 @@ fn append_earlier<'a>(
     made: &Head,
 ) -> Result<(), ExpandFault>
     requires { made.now ≡ line_in context.now.source.now copies.now head.now }
-    ensures { Returns (λ u. unrolled_so_far context.now.source.now out.new) result
-        (with_earlier head.now.number (earlier_of made.now.labels) (unrolled_so_far context.now.source.now out.old)) }
+    ensures { Adds context.now out.old (with_earlier head.now.number (earlier_of made.now.labels)) result out.new }
 {
     if made.labels.as_slice().len() < 2 {
         return Ok(());
@@ -207,9 +204,7 @@ fn append_copy<'s, 'a>(
     block: &Block<'a>,
     number: u16,
 ) -> Result<(), ExpandFault>
-    ensures { Returns (λ u. unrolled_so_far context.now.source.now out.new) result
-        (copy_of (shared context.now) (deeper_at (shared context.now) scope.now.levels) block.now.line (option_map (λ b. b.now) block.now.counter)
-        (lines_in context.now.source.now scope.now.copies.now block.now.lines.now) number (unrolled_so_far context.now.source.now out.old)) }
+    ensures { Adds context.now out.old (step_of_copy context.now scope.now block.now number) result out.new }
 {
     if out.lines.len() + out.copy_count >= MOST_LINES {
         return Err(fault(block.line, ExpandKind::TooManyLines));
@@ -235,9 +230,7 @@ fn append_copies<'s, 'a>(
     scope: &Scope<'s, 'a>,
     block: &Block<'a>,
 ) -> Result<(), ExpandFault>
-    ensures { Returns (λ u. unrolled_so_far context.now.source.now out.new) result
-        (copies_from (copy_of (shared context.now) (deeper_at (shared context.now) scope.now.levels) block.now.line (option_map (λ b. b.now) block.now.counter)
-        (lines_in context.now.source.now scope.now.copies.now block.now.lines.now)) block.now.count 1 (unrolled_so_far context.now.source.now out.old)) }
+    ensures { Adds context.now out.old (step_of_copies context.now scope.now block.now) result out.new }
 {
     for done in 0..block.count {
         append_copy(out, context, scope, block, done + 1)?;
@@ -255,10 +248,7 @@ fn append_block<'s, 'a>(
     head: &'a Head,
     cut: &CutBlock<'a>,
 ) -> Result<(), ExpandFault>
-    ensures { Returns (λ u. unrolled_so_far context.now.source.now out.new) result
-        (block_of (shared context.now) (deeper_at (shared context.now) scope.now.levels) (line_in context.now.source.now scope.now.copies.now head.now)
-        (lines_in context.now.source.now scope.now.copies.now cut.now.lines.now) (line_in context.now.source.now scope.now.copies.now cut.now.rof.now)
-        (unrolled_so_far context.now.source.now out.old)) }
+    ensures { Adds context.now out.old (step_of_block context.now scope.now head.now cut.now) result out.new }
 {
     let made = make_line(context.alloc, context.source, scope.copies, head)?;
     let made_rof = make_line(context.alloc, context.source, scope.copies, cut.rof)?;

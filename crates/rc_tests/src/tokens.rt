@@ -1,11 +1,8 @@
 //! Tests of `rc_text`: the tokens, values and names of concrete texts.
-ghost use Rattle.std.specs.Prelude.{◌≡◌, IfOk, All};
-ghost use Rattle.rc_text.specs.Symbols.{LiesIn};
-ghost use Rattle.rc_text.specs.Tokens.{ahead_of};
 
 use rc_text::{
     EvalFault, Joined, Kind, LexFault, Lexer, NameClass, Names, Token, eval, is_blank,
-    is_opcode_word, is_reserved_name, is_same_word, name_class,
+    is_opcode_word, is_reserved_name, is_same_word, name_class, text_of,
 };
 use std::alloc::Global;
 use std::test::Fail;
@@ -24,10 +21,7 @@ impl Names for OneValue {
     }
 }
 
-fn tokens_of(alloc: Global, text: &[u8]) -> Result<Vec<Token>, Fail>
-    ensures tokens { IfOk result (λ v. v.items ≡ (ahead_of text.now).tokens) }
-    ensures inside { IfOk result (λ v. All (LiesIn text.now) v.items) }
-{
+fn tokens_of(alloc: Global, text: &[u8]) -> Result<Vec<Token>, Fail> {
     let mut lexer = Lexer::new(text);
     let mut tokens = Vec::new(alloc);
     while let Some(token) = lexer.next_token()? {
@@ -75,6 +69,38 @@ fn tokens_have_spans_and_lines(rt: HostRuntime) {
     ] {
         assert_eq!(rt; next_of(&mut lexer), want);
         assert_eq!(rt; lexer.line(), line);
+    }
+}
+
+#[test]
+fn tokens_have_texts(rt: HostRuntime) -> Result<(), Fail> {
+    let source = b" MOV.ab 12".as_slice();
+    let mut texts = Vec::new(rt.alloc());
+    for token in &tokens_of(rt.alloc(), source)? {
+        texts.extend_from_slice(text_of(source, token))?;
+        texts.push(b' ')?;
+    }
+    assert_eq!(rt; texts.as_slice(), b"MOV . ab 12 ".as_slice());
+    Ok(())
+}
+
+#[test]
+fn a_span_is_clipped_to_the_text(rt: HostRuntime) {
+    for &(lo, hi, want) in &[
+        (1, 3, b"ov".as_slice()),
+        (1, 9, b"ov"),
+        (3, 9, b""),
+        (7, 9, b""),
+        (2, 1, b""),
+    ] {
+        let token = Token {
+            kind: Kind::Name,
+            lo,
+            hi,
+            line: 1,
+            joined: Joined::new(),
+        };
+        assert_eq!(rt; text_of(b"mov", &token), want);
     }
 }
 

@@ -14,7 +14,7 @@ use Rattle.rc_text.specs.declared.lexeme.Lexeme.{Lexeme}
 use Rattle.rc_text.specs.declared.lexeme.Lexeme.TheVariants.{Trivia, LineFeed, Word, Fault}
 use Rattle.rc_text.specs.Bytes.{is_blank, LINE_FEED, SEMICOLON, begins_name, decimal_value, begins_with_word}
 use Rattle.rc_text.specs.Signs.{long_sign, short_sign}
-use Rattle.rc_text.specs.Headers.{extent, preceded, header_from, header_of}
+use Rattle.rc_text.specs.Headers.{extent, further_on, header_from, header_of}
 use Rattle.rc_text.specs.Tokens.{lexeme_of, sign_lexeme, is_assert, comment_len, tokens_from, tokens_of, TokenList, InOrder}
 use Rattle.rc_text.specs.Symbols.{LiesIn}
 use Rattle.rc_text.specs.TokenTexts.{is_number, is_one_token}
@@ -221,7 +221,7 @@ FitsHeader text None = Unit {0}
 FitsHeader text (Some e) = e.bytes ≤ length text
 
 -- one byte more
-fits_more : (b : ℕ) (rest : List ℕ) (n : ℕ) (o : Option Extent) → FitsHeader rest o → FitsHeader (b ∷ rest) (preceded 1 n o)
+fits_more : (b : ℕ) (rest : List ℕ) (n : ℕ) (o : Option Extent) → FitsHeader rest o → FitsHeader (b ∷ rest) (further_on 1 n o)
 fits_more b rest n None h = tt
 fits_more b rest n (Some e) h = omega arith
 
@@ -232,7 +232,7 @@ header_fits [] begins true = omega arith
 header_fits (b ∷ rest) begins found =
     by_byte (b == LINE_FEED) (found || (begins && begins_with_word (codes ";redcode") (b ∷ rest))) (header_fits rest true false) (header_fits rest false) where
       by_byte : (feed here : Bool) → FitsHeader rest (header_from rest true false) → ((f : Bool) → FitsHeader rest (header_from rest false f))
-          → FitsHeader (b ∷ rest) (if feed then (if here then Some (extent 1 1) else preceded 1 1 (header_from rest true false)) else preceded 1 0 (header_from rest false here))
+          → FitsHeader (b ∷ rest) (if feed then (if here then Some (extent 1 1) else further_on 1 1 (header_from rest true false)) else further_on 1 0 (header_from rest false here))
       by_byte true true h k = omega arith
       by_byte true false h k = fits_more b rest 1 (header_from rest true false) h
       by_byte false here h k = fits_more b rest 0 (header_from rest false here) (k here)

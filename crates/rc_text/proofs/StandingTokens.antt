@@ -13,7 +13,7 @@ use Rattle.rc_text.specs.declared.header.Extent.{Extent}
 use Rattle.rc_text.specs.declared.lexeme.Lexeme.{Lexeme}
 use Rattle.rc_text.specs.declared.lexeme.Lexeme.TheVariants.{Trivia, LineFeed, Word, Fault}
 use Rattle.rc_text.specs.Bytes.{LINE_FEED, begins_with_word}
-use Rattle.rc_text.specs.Headers.{extent, preceded, header_from, header_of}
+use Rattle.rc_text.specs.Headers.{extent, further_on, header_from, header_of}
 use Rattle.rc_text.specs.Tokens.{lexeme_of, token_of, tokens_after, tokens_from, tokens_of, Onward}
 use Rattle.rc_text.specs.TokenTexts.{is_one_token, SpellsToken, line_feed_count, StandsIn}
 use Rattle.rc_text.proofs.LexemeSteps.{FitsIn, lexeme_fits, and_left, and_right}
@@ -115,7 +115,7 @@ CountsLines bs None = Unit {0}
 CountsLines bs (Some e) = e.lines ≡ line_feed_count (take e.bytes bs)
 
 -- one byte more
-counts_more : (b : ℕ) (rest : List ℕ) (n : ℕ) (o : Option Extent) → line_feed_count (b ∷ []) ≡ n → CountsLines rest o → CountsLines (b ∷ rest) (preceded 1 n o)
+counts_more : (b : ℕ) (rest : List ℕ) (n : ℕ) (o : Option Extent) → line_feed_count (b ∷ []) ≡ n → CountsLines rest o → CountsLines (b ∷ rest) (further_on 1 n o)
 counts_more b rest n None e h = tt
 counts_more b rest n (Some x) e h = rw one-add (omega (arith, line_feed_count-append (b ∷ []) (take x.bytes rest), h, e))
 
@@ -126,7 +126,7 @@ header_counts [] begins true = refl
 header_counts (b ∷ rest) begins found =
     by_byte (b == LINE_FEED) refl (found || (begins && begins_with_word (codes ";redcode") (b ∷ rest))) (header_counts rest true false) (header_counts rest false) where
       by_byte : (feed : Bool) → b == LINE_FEED ≡ feed → (here : Bool) → CountsLines rest (header_from rest true false) → ((f : Bool) → CountsLines rest (header_from rest false f))
-          → CountsLines (b ∷ rest) (if feed then (if here then Some (extent 1 1) else preceded 1 1 (header_from rest true false)) else preceded 1 0 (header_from rest false here))
+          → CountsLines (b ∷ rest) (if feed then (if here then Some (extent 1 1) else further_on 1 1 (header_from rest true false)) else further_on 1 0 (header_from rest false here))
       by_byte true e true h k = rw e refl
       by_byte true e false h k = counts_more b rest 1 (header_from rest true false) (rw e refl) h
       by_byte false e here h k = counts_more b rest 0 (header_from rest false here) (rw e refl) (k here)

@@ -13,15 +13,15 @@ use Rattle.rc_text.specs.NameClasses.{class_of}
 kinds_of_a_line : map (λ t. t.kind) (tokens_of (codes "MOV.I a1, 12<=3 ;x")).tokens ≡ Name ∷ SignOf Dot ∷ Name ∷ Name ∷ SignOf Comma ∷ Number 12 ∷ SignOf LessEqual ∷ Number 3 ∷ []
 kinds_of_a_line = refl
 
--- `=` alone ends the tokens
+-- `=` alone ends the tokens.
 ending_at_a_bad_byte : (tokens_of (codes "x = 1")).ending ≡ Some BadByte
 ending_at_a_bad_byte = refl
 
--- everything up to and with the line of `;redcode` is ignored
+-- Everything up to and with the line of `;redcode` is ignored.
 places_after_a_header : map (λ t. t.lo) (tokens_of (codes "hello ?" ++ 10 ∷ codes ";Redcode-94" ++ 10 ∷ codes "  ;assert 1" ++ 10 ∷ [])).tokens ≡ 22 ∷ 30 ∷ 31 ∷ []
 places_after_a_header = refl
 
--- levels: 2+3*4 is 14
+-- Levels: 2+3*4 is 14.
 value_by_levels : evaluation_of (λ _. None) (symbols_of (codes "2+3*4") (tokens_of (codes "2+3*4")).tokens) ≡ Ok (pos 14)
 unfolding before_operand after_operand
 value_by_levels = refl
@@ -30,7 +30,7 @@ value_with_groups : evaluation_of (λ _. None) (symbols_of (codes "(1<2)+!0-7/-2
 unfolding before_operand after_operand
 value_with_groups = refl
 
--- a fault of the grammar comes before one of a value
+-- A fault of the grammar comes before one of a value.
 fault_of_the_grammar : evaluation_of (λ _. None) (symbols_of (codes "1/0+") (tokens_of (codes "1/0+")).tokens) ≡ Err Syntax
 unfolding before_operand after_operand
 fault_of_the_grammar = refl

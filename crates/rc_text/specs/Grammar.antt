@@ -4,8 +4,8 @@ use Rattle.rc_text.specs.declared.token.Sign.{Sign}
 use Rattle.rc_text.specs.declared.token.Sign.TheVariants.{Open, Close, Plus, Minus, Star, Slash, Percent, Bang, Less, Greater, LessEqual, GreaterEqual, Equal, NotEqual, And, Or}
 use Rattle.rc_text.specs.Symbols.{Symbol, Numeral, Identifier, Mark}
 
--- a number, a name, an expression in parentheses, a prefix operator before an operand, or an infix
--- operator between two
+-- A number, a name, an expression in parentheses, a prefix operator before an operand, or an infix
+-- operator between two.
 pub data Tree : Type 0 where
   Literal : (n : ℕ) → Tree
   Named : (name : List ℕ) → Tree
@@ -13,7 +13,7 @@ pub data Tree : Type 0 where
   Prefix : (s : Sign) → (operand : Tree) → Tree
   Infix : (left : Tree) → (s : Sign) → (right : Tree) → Tree
 
--- the symbols of a tree, from the left
+-- The symbols of a tree, from the left.
 abbrev pub spelling_of : Tree → List Symbol
 spelling_of (Literal n) = Numeral n ∷ []
 spelling_of (Named name) = Identifier name ∷ []
@@ -21,7 +21,7 @@ spelling_of (Group t) = Mark Open ∷ (spelling_of t ++ Mark Close ∷ [])
 spelling_of (Prefix s t) = Mark s ∷ spelling_of t
 spelling_of (Infix a s b) = spelling_of a ++ (Mark s ∷ spelling_of b)
 
--- the level of an operator, from 1 (loosest) to 6 (tightest), or 0 for any other sign
+-- The level of an operator, from 1 (loosest) to 6 (tightest), or 0 for any other sign.
 abbrev pub level_of : Sign → ℕ
 level_of Or = 1
 level_of And = 2
@@ -38,15 +38,15 @@ level_of Slash = 6
 level_of Percent = 6
 level_of _ = 0
 
--- the prefix operators
+-- The prefix operators.
 abbrev pub is_prefix : Sign → Bool
 is_prefix Plus = true
 is_prefix Minus = true
 is_prefix Bang = true
 is_prefix _ = false
 
--- how tightly a tree binds: by its operator, 7 for a prefix operator, and 8 for a number, a name or
--- parentheses
+-- How tightly a tree binds: by its operator, 7 for a prefix operator, and 8 for a number, a name or
+-- parentheses.
 abbrev pub tightness : Tree → ℕ
 tightness (Literal n) = 8
 tightness (Named name) = 8
@@ -54,8 +54,8 @@ tightness (Group t) = 8
 tightness (Prefix s t) = 7
 tightness (Infix a s b) = level_of s
 
--- each operand binds tightly enough: at least as tightly as its operator on the left, and more
--- tightly on the right, so that each level groups to the left
+-- Each operand binds tightly enough: at least as tightly as its operator on the left, and more
+-- tightly on the right, so that each level groups to the left.
 abbrev pub IsGrammatical : Tree → Type 0
 IsGrammatical (Literal n) = Unit {0}
 IsGrammatical (Named name) = Unit {0}
@@ -63,7 +63,7 @@ IsGrammatical (Group t) = IsGrammatical t
 IsGrammatical (Prefix s t) = IsTrue (is_prefix s) × (7 ≤ tightness t) × IsGrammatical t
 IsGrammatical (Infix a s b) = (0 < level_of s) × (level_of s ≤ tightness a) × (level_of s < tightness b) × IsGrammatical a × IsGrammatical b
 
--- the most parentheses that are open at once
+-- The most parentheses that are open at once.
 abbrev pub depth_of : Tree → ℕ
 depth_of (Literal n) = 0
 depth_of (Named name) = 0

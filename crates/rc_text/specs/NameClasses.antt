@@ -7,48 +7,48 @@ use Rattle.rc_text.specs.declared.class.NameClass.{NameClass}
 use Rattle.rc_text.specs.declared.class.NameClass.TheVariants.{NoName, Reserved, Predefined, Free}
 use Rattle.rc_text.specs.Bytes.{begins_name, continues_name, is_same_word}
 
--- a letter or an underscore, then letters, digits and underscores
+-- A letter or an underscore, then letters, digits and underscores.
 abbrev pub is_name : List ℕ → Bool
 is_name [] = false
 is_name (b ∷ rest) = begins_name b && list_all continues_name rest
 
--- the opcodes of the 1994 draft
+-- The opcodes of the 1994 draft.
 abbrev pub draft_opcodes : List (List ℕ)
 draft_opcodes = codes "DAT" ∷ codes "MOV" ∷ codes "ADD" ∷ codes "SUB" ∷ codes "MUL" ∷ codes "DIV" ∷ codes "MOD" ∷ codes "JMP" ∷ codes "JMZ" ∷ codes "JMN" ∷ codes "DJN" ∷ codes "CMP" ∷ codes "SLT" ∷ codes "SPL" ∷ []
 
--- the opcodes that pMARS adds
+-- The opcodes that pMARS adds.
 abbrev pub added_opcodes : List (List ℕ)
 added_opcodes = codes "SEQ" ∷ codes "SNE" ∷ codes "NOP" ∷ []
 
--- the directives: ORG and END of the 1994 draft, EQU, FOR and ROF of pMARS
+-- The directives: ORG and END of the 1994 draft, EQU, FOR and ROF of pMARS.
 abbrev pub directives : List (List ℕ)
 directives = codes "ORG" ∷ codes "END" ∷ codes "EQU" ∷ codes "FOR" ∷ codes "ROF" ∷ []
 
--- one of the words, in any case
+-- One of the words, in any case.
 abbrev pub is_one_of : List (List ℕ) → List ℕ → Bool
 is_one_of words name = list_any (λ word. is_same_word word name) words
 
--- one of the words, which is written in lower case here
+-- One of the words, which is written in lower case here.
 abbrev pub is_lower_of : List (List ℕ) → List ℕ → Bool
 is_lower_of words name = list_any (λ word. bytes_eq (map to_ascii_lowercase word) name) words
 
--- an opcode of the 1994 draft or of pMARS, in any case
+-- An opcode of the 1994 draft or of pMARS, in any case.
 unfoldable pub is_opcode_word : List ℕ → Bool
 is_opcode_word name = is_one_of draft_opcodes name || is_one_of added_opcodes name
 
--- an opcode or a directive, in any case
+-- An opcode or a directive, in any case.
 abbrev pub is_reserved : List ℕ → Bool
 is_reserved name = is_one_of draft_opcodes name || (is_one_of added_opcodes name || is_one_of directives name)
 
--- the predefined names, in capitals (pMARS)
+-- The predefined names, in capitals (pMARS).
 abbrev pub predefined_names : List (List ℕ)
 predefined_names = codes "CORESIZE" ∷ codes "MAXPROCESSES" ∷ codes "MAXCYCLES" ∷ codes "MAXLENGTH" ∷ codes "MINDISTANCE" ∷ codes "WARRIORS" ∷ codes "VERSION" ∷ codes "CURLINE" ∷ []
 
--- one of the predefined names, case included
+-- One of the predefined names, case included.
 abbrev pub is_predefined : List ℕ → Bool
 is_predefined name = list_any (λ word. bytes_eq name word) predefined_names
 
--- a name is reserved before it is predefined, and free otherwise
+-- A name is reserved before it is predefined, and free otherwise.
 abbrev pub class_of : List ℕ → NameClass
 class_of bytes =
     if is_name bytes then (if is_reserved bytes then Reserved else if is_predefined bytes then Predefined else Free)

@@ -1,6 +1,7 @@
 -- How an expression is read from the left, for any meaning of its parts. What `eval` returns is
 -- defined here; laws say that this is the value or the first fault of Grammar and Values.
-use Rattle.std.specs.Prelude.{◌≡◌, ℕ, suc, ◌≤◌, ◌<◌, Bool, true, false, nat_lt, nat_le, List, [], ◌∷◌, Result, Ok, Err, if◌then◌else◌, pos}
+use Rattle.std.specs.Prelude.{◌≡◌, ℕ, suc, ◌≤◌, ◌<◌, Bool, true, false, nat_lt, nat_le, List, [], ◌∷◌, Result, Ok, Err, if◌then◌else◌, pos, MatchResult}
+use Rattle.std.specs.Borrow.{Bor}
 use Rattle.std.specs.Result.{result_flatten}
 use Rattle.rc_text.specs.declared.token.Sign.{Sign}
 use Rattle.rc_text.specs.declared.token.Sign.TheVariants.{Open, Close}
@@ -9,11 +10,11 @@ use Rattle.rc_text.specs.declared.token.Kind.TheVariants.{Sign as SignOf}
 use Rattle.rc_text.specs.declared.token.Token.{Token}
 use Rattle.rc_text.specs.declared.fault.EvalFault.{EvalFault}
 use Rattle.rc_text.specs.declared.fault.EvalFault.TheVariants.{Syntax, TooDeep}
-use Rattle.rc_text.specs.Symbols.{Symbol, Numeral, Identifier, Mark, Foreign}
+use Rattle.rc_text.specs.Symbols.{Symbol, Numeral, Identifier, Mark, Foreign, symbols_of}
 use Rattle.rc_text.specs.Grammar.{level_of, is_prefix}
 use Rattle.rc_text.specs.Values.{Meaning, Outcome, name_outcome, prefix_outcome, infix_outcome, DEEPEST}
 
--- the meaning of the parts of an expression, and the most parentheses that may be open
+-- The meaning of the parts of an expression, and the most parentheses that may be open.
 pub record Algebra (A : Type 0) : Type 0 where
   pub limit : ℕ
   pub literal : ℕ → A
@@ -22,41 +23,41 @@ pub record Algebra (A : Type 0) : Type 0 where
   pub prefix : Sign → A → A
   pub infix' : A → Sign → A → A
 
--- what waits for an operand: an open parenthesis, a prefix operator, or a left side and its
--- operator
+-- What waits for an operand: an open parenthesis, a prefix operator, or a left side and its
+-- operator.
 pub data Frame (A : Type 0) : Type 0 where
   Paren : Frame A
   Before : (s : Sign) → Frame A
   Left : (left : A) → (s : Sign) → Frame A
 
--- the number of open parentheses
+-- The number of open parentheses.
 abbrev pub open_count : {A : Type 0} → List (Frame A) → ℕ
 open_count [] = 0
 open_count (Paren ∷ frames) = suc (open_count frames)
 open_count (Before s ∷ frames) = open_count frames
 open_count (Left x s ∷ frames) = open_count frames
 
--- the result of reading, or the fault that ends it: Syntax or TooDeep
+-- The result of reading, or the fault that ends it: Syntax or TooDeep.
 abbrev pub Read : Type 0 → Type 0
 Read A = Result A EvalFault
 
--- what to do with an operand and the frames that wait for it
+-- What to do with an operand and the frames that wait for it.
 abbrev pub Continuation : Type 0 → Type 0
 Continuation A = A → List (Frame A) → Read A
 
--- the operand takes in every frame up to the first that is looser than `level`
+-- The operand takes in every frame up to the first that is looser than `level`.
 abbrev pub reduction : {A : Type 0} → Algebra A → ℕ → Continuation A → Continuation A
 reduction m level next x [] = next x []
 reduction m level next x (Paren ∷ frames) = next x (Paren ∷ frames)
 reduction m level next x (Before s ∷ frames) = reduction m level next (m.prefix s x) frames
 reduction m level next x (Left l s ∷ frames) = if nat_le level (level_of s) then reduction m level next (m.infix' l s x) frames else next x (Left l s ∷ frames)
 
--- at the end no frame may be left
+-- At the end no frame may be left.
 abbrev pub at_bottom : {A : Type 0} → Continuation A
 at_bottom x [] = Ok x
 at_bottom x (f ∷ frames) = Err Syntax
 
--- a closing parenthesis needs an open one
+-- A closing parenthesis needs an open one.
 abbrev pub at_paren : {A : Type 0} → Algebra A → Continuation A → Continuation A
 at_paren m next x [] = Err Syntax
 at_paren m next x (Paren ∷ frames) = next (m.group x) frames
@@ -71,7 +72,7 @@ abbrev pub is_open : Sign → Bool
 is_open Open = true
 is_open _ = false
 
--- reading the symbols, in two states: before an operand and after one
+-- Reading the symbols, in two states: before an operand and after one.
 unfoldable mutual
   pub before_operand : {A : Type 0} → Algebra A → List Symbol → List (Frame A) → Read A
   before_operand m [] frames = Err Syntax
@@ -89,7 +90,7 @@ unfoldable mutual
       if nat_lt 0 (level_of s) then reduction m (level_of s) (λ y others. before_operand m rest (Left y s ∷ others)) x frames else Err Syntax
   after_operand m (_ ∷ rest) x frames = Err Syntax
 
--- the parts mean their values
+-- The parts mean their values.
 abbrev pub values : Meaning → ℕ → Algebra Outcome
 values names limit = record {
   limit = limit;
@@ -100,36 +101,42 @@ values names limit = record {
   infix' = infix_outcome;
 }
 
--- the value of an expression, or its first fault; a fault of the grammar comes before one of a
--- value
+-- The value of an expression, or its first fault; a fault of the grammar comes before one of a
+-- value.
 abbrev pub evaluation_of : Meaning → List Symbol → Outcome
 evaluation_of names symbols = result_flatten (before_operand (values names DEEPEST) symbols [])
 
--- an operand of tightness `n` may come on these frames
+-- An operand of tightness `n` may come on these frames.
 abbrev pub FitsFrames : {A : Type 0} → ℕ → List (Frame A) → Type 0
 FitsFrames n [] = Unit {0}
 FitsFrames n (Paren ∷ frames) = Unit {0}
 FitsFrames n (Before s ∷ frames) = 7 ≤ n
 FitsFrames n (Left x s ∷ frames) = level_of s < n
 
--- the next symbol is not an operator of level `n` or tighter
+-- The next symbol is not an operator of level `n` or tighter.
 abbrev pub Stops : ℕ → List Symbol → Type 0
 Stops n [] = Unit {0}
 Stops n (Mark s ∷ rest) = level_of s < n
 Stops n (_ ∷ rest) = Unit {0}
 
--- an operand is read from `symbols` up to `rest` and means `x`, on any frames that fit `level` and
--- have `depth` parentheses open
+-- An operand is read from `symbols` up to `rest` and means `x`, on any frames that fit `level` and
+-- have `depth` parentheses open.
 abbrev pub ReadsOperand : Meaning → (level depth : ℕ) → List Symbol → Outcome → List Symbol → Type 0
 ReadsOperand names level depth symbols x rest = (frames : List (Frame Outcome)) → FitsFrames level frames → open_count frames ≡ depth
     → before_operand (values names DEEPEST) symbols frames ≡ after_operand (values names DEEPEST) rest x frames
 
--- on all such frames, reading an operand ends with the fault `e`
+-- On all such frames, reading an operand ends with the fault `e`.
 abbrev pub RefusesOperand : Meaning → (level depth : ℕ) → List Symbol → EvalFault → Type 0
 RefusesOperand names level depth symbols e = (frames : List (Frame Outcome)) → FitsFrames level frames → open_count frames ≡ depth
     → before_operand (values names DEEPEST) symbols frames ≡ Err e
 
--- the next symbol is not a closing parenthesis
+-- A call reads an operand from the symbols: it returns the operand's outcome and the tokens that are
+-- left, or the fault that ends the reading.
+abbrev pub Reads : Meaning → (level depth : ℕ) → (source : List ℕ) → List Symbol → Result (Outcome × Bor (List Token)) EvalFault → Type 0
+Reads names level depth source symbols result =
+    MatchResult result (λ r. ReadsOperand names level depth symbols r.0 (symbols_of source r.1.now)) (RefusesOperand names level depth symbols)
+
+-- The next symbol is not a closing parenthesis.
 abbrev pub BeginsWithoutClose : List Symbol → Type 0
 BeginsWithoutClose [] = Unit {0}
 BeginsWithoutClose (Mark s ∷ rest) = is_close s ≡ false
@@ -139,7 +146,7 @@ abbrev pub is_prefix_kind : Kind → Bool
 is_prefix_kind (SignOf s) = is_prefix s
 is_prefix_kind _ = false
 
--- a prefix operator applied to an operand
+-- A prefix operator applied to an operand.
 abbrev pub signed_by : Kind → Outcome → Outcome
 signed_by (SignOf s) x = prefix_outcome s x
 signed_by _ x = x

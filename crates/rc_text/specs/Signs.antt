@@ -4,7 +4,7 @@ use Rattle.std.specs.Prelude.{ℕ, ◌&&◌, ◌==◌, Option, Some, None, if◌
 use Rattle.rc_text.specs.declared.token.Sign.{Sign}
 use Rattle.rc_text.specs.declared.token.Sign.TheVariants.{Dot, Comma, Colon, Ampersand, Hash, Dollar, At, OpenBrace, CloseBrace, Open, Close, Plus, Minus, Star, Slash, Percent, Bang, Less, Greater, LessEqual, GreaterEqual, Equal, NotEqual, And, Or}
 
--- the signs of two bytes: <= >= == != && ||
+-- The signs of two bytes: <= >= == != && ||.
 abbrev pub long_sign : ℕ → ℕ → Option Sign
 long_sign a b =
     if a == 60 && b == 61 then Some LessEqual else
@@ -15,7 +15,7 @@ long_sign a b =
     if a == 124 && b == 124 then Some Or else
     None
 
--- the signs of one byte: . , : & # $ @ { } ( ) + - * / % ! < >
+-- The signs of one byte: . , : & # $ @ { } ( ) + - * / % ! < >.
 abbrev pub short_sign : ℕ → Option Sign
 short_sign a =
     if a == 46 then Some Dot else

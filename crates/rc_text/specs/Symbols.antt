@@ -6,18 +6,18 @@ use Rattle.rc_text.specs.declared.token.Kind.{Kind}
 use Rattle.rc_text.specs.declared.token.Kind.TheVariants.{Name, Number, Sign as SignOf, Assert, LineEnd}
 use Rattle.rc_text.specs.declared.token.Token.{Token}
 
--- a number, a name by its bytes, a sign, or what an expression never has: `;assert` or a line end
+-- A number, a name by its bytes, a sign, or what an expression never has: `;assert` or a line end.
 pub data Symbol : Type 0 where
   Numeral : (n : ℕ) → Symbol
   Identifier : (name : List ℕ) → Symbol
   Mark : (s : Sign) → Symbol
   Foreign : Symbol
 
--- a counter as it is joined to a name: in decimal, with at least two digits
+-- A counter as it is joined to a name: in decimal, with at least two digits.
 abbrev pub counter_text : ℕ → List ℕ
 counter_text n = if nat_lt n 10 then 48 ∷ ((48 + n) ∷ []) else map (λ d. 48 + d) (digits_of 10 n)
 
--- the bytes of a token, then the counters joined to it
+-- The bytes of a token, then the counters joined to it.
 abbrev pub name_of : List ℕ → Token → List ℕ
 name_of source t = slice_range source t.lo t.hi ++ flat_map counter_text t.joined
 
@@ -34,7 +34,7 @@ symbol_of source t = symbol_of_kind t.kind (name_of source t)
 abbrev pub symbols_of : List ℕ → List Token → List Symbol
 symbols_of source tokens = map (symbol_of source) tokens
 
--- the span of the token lies in the source
+-- The span of the token lies in the source.
 pub record LiesIn (source : List ℕ) (t : Token) : Type 0 where
   pub order : t.lo ≤ t.hi
   pub inside : t.hi ≤ length source

@@ -10,23 +10,23 @@ use Rattle.rc_text.specs.Bytes.{LINE_FEED, is_same_word, decimal_value}
 use Rattle.rc_text.specs.Signs.{long_sign, short_sign}
 use Rattle.rc_text.specs.NameClasses.{is_name}
 
--- decimal digits, at least one
+-- Decimal digits, at least one.
 abbrev pub is_number : List ℕ → Bool
 is_number [] = false
 is_number (b ∷ rest) = list_all is_ascii_digit (b ∷ rest)
 
--- the sign that exactly these bytes spell
+-- The sign that exactly these bytes spell.
 abbrev pub sign_of : List ℕ → Option Sign
 sign_of [] = None
 sign_of (a ∷ []) = short_sign a
 sign_of (a ∷ b ∷ []) = long_sign a b
 sign_of (a ∷ b ∷ c ∷ rest) = None
 
--- exactly one name, number or sign
+-- Exactly one name, number or sign.
 abbrev pub is_one_token : List ℕ → Bool
 is_one_token bytes = is_name bytes || (is_number bytes || is_some (sign_of bytes))
 
--- the bytes spell a token of this kind
+-- The bytes spell a token of this kind.
 abbrev pub SpellsToken : List ℕ → Kind → Type 0
 SpellsToken bytes Name = is_name bytes ≡ true
 SpellsToken bytes (Number n) = (is_number bytes ≡ true) × (decimal_value bytes ≡ n)
@@ -34,13 +34,13 @@ SpellsToken bytes (SignOf s) = sign_of bytes ≡ Some s
 SpellsToken bytes Assert = is_same_word bytes (codes ";assert") ≡ true
 SpellsToken bytes LineEnd = bytes ≡ LINE_FEED ∷ []
 
--- the number of line feeds
+-- The number of line feeds.
 abbrev pub line_feed_count : List ℕ → ℕ
 line_feed_count [] = 0
 line_feed_count (b ∷ rest) = if b == LINE_FEED then suc (line_feed_count rest) else line_feed_count rest
 
--- the bytes of the span spell the token; no longer span from its first byte is a name, a number or
--- a sign; its line is 1 plus the line feeds before it; and no counter is joined to it
+-- The bytes of the span spell the token; no longer span from its first byte is a name, a number or
+-- a sign; its line is 1 plus the line feeds before it; and no counter is joined to it.
 pub record StandsIn (text : List ℕ) (t : Token) : Type 0 where
   pub spelled : SpellsToken (slice_range text t.lo t.hi) t.kind
   pub longest : (end : ℕ) → t.hi < end → end ≤ length text → is_one_token (slice_range text t.lo end) ≡ false

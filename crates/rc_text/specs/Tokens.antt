@@ -14,26 +14,26 @@ use Rattle.rc_text.specs.Bytes.{LINE_FEED, SEMICOLON, is_blank, begins_name, con
 use Rattle.rc_text.specs.Signs.{long_sign, short_sign}
 use Rattle.rc_text.specs.Headers.{header_of}
 
--- a sign of two bytes if there is one, else a sign of one byte
+-- A sign of two bytes if there is one, else a sign of one byte.
 abbrev pub sign_lexeme : Option Sign → Option Sign → Lexeme
 sign_lexeme (Some s) short = Word 2 (SignOf s)
 sign_lexeme None (Some s) = Word 1 (SignOf s)
 sign_lexeme None None = Fault BadByte
 
--- a number of `len` digits has to be below 2 ^ 32
+-- A number of `len` digits has to be below 2 ^ 32.
 abbrev pub number_lexeme : ℕ → ℕ → Lexeme
 number_lexeme len value = if nat_lt value (2 ^ 32) then Word len (Number value) else Fault NumberTooLarge
 
--- `;assert` in any case, with a blank after it
+-- `;assert` in any case, with a blank after it.
 abbrev pub is_assert : List ℕ → Bool
 is_assert text = begins_with_word (codes ";assert") text && is_blank (slice_index text 7)
 
--- a comment goes on up to the line feed or the end of the text
+-- A comment goes on up to the line feed or the end of the text.
 abbrev pub comment_len : List ℕ → ℕ
 comment_len text = prefix_len (λ b. not (b == LINE_FEED)) text
 
--- what a text begins with, unless it is empty; `first` says that only blanks come before it on its
--- line
+-- What a text begins with, unless it is empty; `first` says that only blanks come before it on its
+-- line.
 abbrev pub lexeme_of : Bool → List ℕ → Lexeme
 lexeme_of first text =
     let b = slice_index text 0 in
@@ -44,20 +44,20 @@ lexeme_of first text =
     if is_ascii_digit b then number_lexeme (prefix_len is_ascii_digit text) (decimal_value (take (prefix_len is_ascii_digit text) text)) else
     sign_lexeme (long_sign b (slice_index text 1)) (short_sign b)
 
--- the tokens of a text, and what ends them: the end of the text (None), or a fault
+-- The tokens of a text, and what ends them: the end of the text (None), or a fault.
 pub record TokenList : Type 0 where
   pub tokens : List Token
   pub ending : Option LexFault
 
--- a token from the text, without counters
+-- A token from the text, without counters.
 abbrev pub token_of : Kind → ℕ → ℕ → ℕ → Token
 token_of kind lo len line = record { kind = kind; lo = lo; hi = lo + len; line = line; joined = [] }
 
 abbrev pub with_token : Token → TokenList → TokenList
 with_token t l = record { tokens = t ∷ l.tokens; ending = l.ending }
 
--- the tokens that follow, by the number of bytes that the last token still covers, whether only
--- blanks came before on the line, the index of the next byte, and its line
+-- The tokens that follow, by the number of bytes that the last token still covers, whether only
+-- blanks came before on the line, the index of the next byte, and its line.
 abbrev pub Onward : Type 0
 Onward = ℕ → Bool → ℕ → ℕ → TokenList
 
@@ -67,17 +67,17 @@ tokens_after LineFeed next first at line = with_token (token_of LineEnd at 1 lin
 tokens_after (Word len kind) next first at line = with_token (token_of kind at len line) (next (len - 1) false (at + 1) line)
 tokens_after (Fault fault) next first at line = record { tokens = []; ending = Some fault }
 
--- the tokens of the rest of a text, byte by byte
+-- The tokens of the rest of a text, byte by byte.
 abbrev pub tokens_from : List ℕ → Onward
 tokens_from [] inside first at line = record { tokens = []; ending = None }
 tokens_from (b ∷ rest) (suc inside) first at line = tokens_from rest inside first (at + 1) line
 tokens_from (b ∷ rest) zero first at line = tokens_after (lexeme_of first (b ∷ rest)) (tokens_from rest) first at line
 
--- the tokens of a text after its header; lines count from 1, those of the header included
+-- The tokens of a text after its header; lines count from 1, those of the header included.
 abbrev pub tokens_of : List ℕ → TokenList
 tokens_of text = let h = header_of text in tokens_from (drop h.bytes text) 0 true h.bytes (1 + h.lines)
 
--- the state of a lexer: the tokens still to come, what ends them, and the current line
+-- The state of a lexer: the tokens still to come, what ends them, and the current line.
 pub record Ahead : Type 0 where
   pub tokens : List Token
   pub ending : Option LexFault
@@ -86,27 +86,27 @@ pub record Ahead : Type 0 where
 abbrev pub ahead : TokenList → ℕ → Ahead
 ahead l line = record { tokens = l.tokens; ending = l.ending; line = line }
 
--- the state at a given index of a text
+-- The state at a given index of a text.
 abbrev pub ahead_at : List ℕ → Bool → ℕ → ℕ → Ahead
 ahead_at text first at line = ahead (tokens_from (drop at text) 0 first at line) line
 
--- the state at the beginning of a text
+-- The state at the beginning of a text.
 abbrev pub ahead_of : List ℕ → Ahead
 ahead_of text = ahead (tokens_of text) (1 + (header_of text).lines)
 
--- a line end moves on to the next line
+-- A line end moves on to the next line.
 abbrev pub line_after : Kind → ℕ → ℕ
 line_after LineEnd line = line + 1
 line_after _ line = line
 
--- the first token is taken and the others stay; if none is left, the result is what ends the
--- tokens, and nothing changes
+-- The first token is taken and the others stay; if none is left, the result is what ends the
+-- tokens, and nothing changes.
 abbrev pub TakesToken : Ahead → Result (Option Token) LexFault → Ahead → Type 0
 TakesToken old (Ok (Some t)) new = (old.tokens ≡ t ∷ new.tokens) × (new.ending ≡ old.ending) × (t.line ≡ old.line) × (new.line ≡ line_after t.kind t.line)
 TakesToken old (Ok None) new = (old.tokens ≡ []) × (old.ending ≡ None) × (new ≡ old)
 TakesToken old (Err f) new = (old.tokens ≡ []) × (old.ending ≡ Some f) × (new ≡ old)
 
--- the spans are in order from `lo` to `end`, none of them is empty, and no two overlap
+-- The spans are in order from `lo` to `end`, none of them is empty, and no two overlap.
 abbrev pub InOrder : (lo end : ℕ) → List Token → Type 0
 InOrder lo end [] = lo ≤ end
 InOrder lo end (t ∷ ts) = (lo ≤ t.lo) × (t.lo < t.hi) × InOrder t.hi end ts

@@ -3,7 +3,7 @@ ghost use Rattle.std.specs.Prelude.{true, ◌≡◌, ℤ, ◌<◌, ◌≤◌, []
 ghost use Rattle.std.specs.List.{prefix_len};
 ghost use Rattle.rc_text.specs.Values.{DEEPEST};
 ghost use Rattle.rc_text.specs.Symbols.{symbol_of, symbols_of, Mark};
-ghost use Rattle.rc_text.specs.Reading.{ReadsOperand, RefusesOperand, Stops, is_prefix_kind, signed_by, signed_outcome, evaluation_of};
+ghost use Rattle.rc_text.specs.Reading.{Reads, Stops, is_prefix_kind, signed_by, signed_outcome, evaluation_of};
 
 use crate::fault::EvalFault;
 use crate::front::{after_close, first_of, operator, split_signs};
@@ -92,10 +92,7 @@ fn group<'a, N: Names>(
     depth: u8,
 ) -> Result<(Outcome, &'a [Token]), EvalFault>
     requires room { depth ≤ DEEPEST }
-    ensures read { MatchResult result
-        (λ r. ReadsOperand (N.meaning names.now) 8 depth
-        (Mark Sign.Open ∷ symbols_of source.now tokens.now) r.0 (symbols_of source.now r.1.now))
-        (RefusesOperand (N.meaning names.now) 8 depth (Mark Sign.Open ∷ symbols_of source.now tokens.now)) }
+    ensures read { Reads (N.meaning names.now) 8 depth source.now (Mark Sign.Open ∷ symbols_of source.now tokens.now) result }
     ensures shorter { IfOk result (λ r. length r.1.now < length tokens.now) }
 {
     if depth == limits::DEEPEST {
@@ -118,10 +115,7 @@ fn primary<'a, N: Names>(
 ) -> Result<(Outcome, &'a [Token]), EvalFault>
     requires room { depth ≤ DEEPEST }
     requires unsigned { prefix_len (λ t. is_prefix_kind t.kind) tokens.now ≡ 0 }
-    ensures read { MatchResult result
-        (λ r. ReadsOperand (N.meaning names.now) 8 depth
-        (symbols_of source.now tokens.now) r.0 (symbols_of source.now r.1.now))
-        (RefusesOperand (N.meaning names.now) 8 depth (symbols_of source.now tokens.now)) }
+    ensures read { Reads (N.meaning names.now) 8 depth source.now (symbols_of source.now tokens.now) result }
     ensures shorter { IfOk result (λ r. length r.1.now < length tokens.now) }
 {
     match first_of(source, tokens) {
@@ -147,13 +141,10 @@ fn operand<'a, N: Names>(
     depth: u8,
 ) -> Result<(Outcome, &'a [Token]), EvalFault>
     requires room { depth ≤ DEEPEST }
-    ensures read { MatchResult result
-        (λ r. ReadsOperand (N.meaning names.now) 8 depth
-        (symbols_of source.now tokens.now) r.0 (symbols_of source.now r.1.now))
-        (RefusesOperand (N.meaning names.now) 8 depth (symbols_of source.now tokens.now)) }
+    ensures read { Reads (N.meaning names.now) 8 depth source.now (symbols_of source.now tokens.now) result }
     ensures shorter { IfOk result (λ r. length r.1.now < length tokens.now) }
 {
-    let (signs, unsigned) = split_signs(source, tokens);
+    let (signs, unsigned) = split_signs(tokens);
     let (outcome, rest) = primary(source, unsigned, names, depth)?;
     Ok((signed_outcome(signs, outcome), rest))
 }
@@ -170,10 +161,7 @@ fn climb<'a, N: Names>(
     requires room { depth ≤ DEEPEST }
     requires level { 0 < level }
     requires tightest { level ≤ 7 }
-    ensures read { MatchResult result
-        (λ r. ReadsOperand (N.meaning names.now) level depth
-        (symbols_of source.now tokens.now) r.0 (symbols_of source.now r.1.now))
-        (RefusesOperand (N.meaning names.now) level depth (symbols_of source.now tokens.now)) }
+    ensures read { Reads (N.meaning names.now) level depth source.now (symbols_of source.now tokens.now) result }
     ensures stops { IfOk result (λ r. Stops level (symbols_of source.now r.1.now)) }
     ensures shorter { IfOk result (λ r. length r.1.now < length tokens.now) }
 {

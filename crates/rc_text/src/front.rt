@@ -55,7 +55,7 @@ pub(crate) fn after_close<'a>(source: &[u8], tokens: &'a [Token]) -> Option<&'a 
 
 // Splits `tokens` after the prefix operators that they begin with.
 #[tactic(auto, using(crate::proofs::RunSteps::within, crate::proofs::RunSteps::unsigned))]
-pub(crate) fn split_signs<'a>(source: &[u8], tokens: &'a [Token]) -> (&'a [Token], &'a [Token])
+pub(crate) fn split_signs<'a>(tokens: &'a [Token]) -> (&'a [Token], &'a [Token])
     ensures signs { result.0.now ≡ take (prefix_len (λ t. is_prefix_kind t.kind) tokens.now) tokens.now }
     ensures rest { result.1.now ≡ drop (prefix_len (λ t. is_prefix_kind t.kind) tokens.now) tokens.now }
     ensures unsigned { prefix_len (λ t. is_prefix_kind t.kind) result.1.now ≡ 0 }

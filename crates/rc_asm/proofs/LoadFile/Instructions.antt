@@ -24,16 +24,16 @@ use Rattle.rc_instr.specs.declared.instruction.Instruction.{Instruction}
 use Rattle.rc_asm.specs.declared.fault.AsmKind.TheVariants.{UnknownOpcode, Value}
 use Rattle.rc_asm.specs.declared.operand.Operand.{Operand}
 use Rattle.rc_expand.specs.Results.{mapped, and_then, with_fault}
-use Rattle.rc_asm.specs.Words.{named, opcodes, modifiers, is_plain, opcode_at, modifier_at, mode_of, mode_of_kind, mode_at, is_comma, is_comma_kind}
+use Rattle.rc_asm.specs.Words.{entry_in_any_case, opcodes, modifiers, is_plain, opcode_at, modifier_at, mode_of, mode_of_kind, mode_at, is_comma, is_comma_kind}
 use Rattle.rc_asm.specs.Shape.{parts_from, parts, sides, sides_of, Shape, shape, with_operands, with_modifier, after_opcode, shape_of}
 use Rattle.rc_asm.specs.Names.{NameValues, stands_for}
-use Rattle.rc_asm.specs.Instructions.{natural, core_number, operand, operand_after, operand_at, made, shaped, instruction_at}
+use Rattle.rc_asm.specs.Instructions.{natural, core_number, operand, operand_after, operand_at, instruction_of_parts, instruction_of_shape, instruction_at}
 use Rattle.rc_asm.proofs.LoadFile.Printed.{mode_sign, IsWord, AreNumber, Plain, Below, Row, a_tokens, b_tokens, row_tokens, IsPrinted}
 
 -- ---- words
 
 -- the text of an opcode names it
-opcode_back : (o : Opcode) → named opcodes (opcode_text o) ≡ Some o
+opcode_back : (o : Opcode) → entry_in_any_case opcodes (opcode_text o) ≡ Some o
 opcode_back op.Dat = refl
 opcode_back op.Mov = refl
 opcode_back op.Add = refl
@@ -52,7 +52,7 @@ opcode_back op.Spl = refl
 opcode_back op.Nop = refl
 
 -- the text of a modifier names it
-modifier_back : (m : Modifier) → named modifiers (modifier_text m) ≡ Some m
+modifier_back : (m : Modifier) → entry_in_any_case modifiers (modifier_text m) ≡ Some m
 modifier_back mod'.A = refl
 modifier_back mod'.B = refl
 modifier_back mod'.AB = refl
@@ -80,13 +80,13 @@ word_plain source text t w = (λ x. is_name_kind (w.kind x) && is_unjoined (w.jo
 opcode_there : (source : List ℕ) (t : Token) (o : Opcode) → IsWord source (opcode_text o) t → opcode_at source t ≡ Some o
 unfolding opcode_at
 opcode_there source t o w =
-    ap (λ b. if b then named opcodes (bytes_of source t) else None) (word_plain source (opcode_text o) t w) ∙ ap (named opcodes) w.bytes ∙ opcode_back o
+    ap (λ b. if b then entry_in_any_case opcodes (bytes_of source t) else None) (word_plain source (opcode_text o) t w) ∙ ap (entry_in_any_case opcodes) w.bytes ∙ opcode_back o
 
 -- the token of a modifier's text names the modifier
 modifier_there : (source : List ℕ) (t : Token) (m : Modifier) → IsWord source (modifier_text m) t → modifier_at source t ≡ Some m
 unfolding modifier_at
 modifier_there source t m w =
-    ap (λ b. if b then named modifiers (bytes_of source t) else None) (word_plain source (modifier_text m) t w) ∙ ap (named modifiers) w.bytes ∙ modifier_back m
+    ap (λ b. if b then entry_in_any_case modifiers (bytes_of source t) else None) (word_plain source (modifier_text m) t w) ∙ ap (entry_in_any_case modifiers) w.bytes ∙ modifier_back m
 
 -- the token of a mode's sign means the mode
 mode_there : (t : Token) (m : Mode) → t.kind ≡ SignOf (mode_sign m) → mode_at t ≡ Some m
@@ -214,10 +214,10 @@ module _ (source : List ℕ) (names : NameValues) (address : ℕ) (i : Instructi
 
   -- the tokens of a printed instruction spell it
   pub instruction_there : names.rules.core ≤ 65535 → i.a_number < names.rules.core → i.b_number < names.rules.core → instruction_at source names address (row_tokens r) ≡ Ok i
-  unfolding instruction_at shaped made
+  unfolding instruction_at instruction_of_shape instruction_of_parts
   instruction_there l a b =
       let s = printed_shape in
       let x : Operand = record { mode = i.a_mode; number = i.a_number } in
-      ap (and_then (λ s. with_fault Value (shaped source names address s))) shape_there
-      ∙ ap (λ v. with_fault Value (and_then (λ o. mapped (made s o) (operand_at source names address (Some (b_tokens r)))) v)) (operand_there source names address i.a_number i.a_mode r.a_sign r.a_number a l p.a_sign p.a_number)
-      ∙ ap (λ v. with_fault Value (mapped (made s x) v)) (operand_there source names address i.b_number i.b_mode r.b_sign r.b_number b l p.b_sign p.b_number)
+      ap (and_then (λ s. with_fault Value (instruction_of_shape source names address s))) shape_there
+      ∙ ap (λ v. with_fault Value (and_then (λ o. mapped (instruction_of_parts s o) (operand_at source names address (Some (b_tokens r)))) v)) (operand_there source names address i.a_number i.a_mode r.a_sign r.a_number a l p.a_sign p.a_number)
+      ∙ ap (λ v. with_fault Value (mapped (instruction_of_parts s x) v)) (operand_there source names address i.b_number i.b_mode r.b_sign r.b_number b l p.b_sign p.b_number)

@@ -8,7 +8,7 @@ use Rattle.std.proofs.lemmas.Bool.{cases_Bool, and_parts, and_from, ltb-false, n
 use Rattle.std.proofs.lemmas.List.Concat.{flat_map-cons}
 use Rattle.rc_text.specs.declared.header.Extent.{Extent}
 use Rattle.rc_text.specs.Bytes.{LINE_FEED, begins_with_word}
-use Rattle.rc_text.specs.Headers.{extent, preceded, header_from}
+use Rattle.rc_text.specs.Headers.{extent, further_on, header_from}
 use Rattle.rc_text.specs.Tokens.{TokenList, tokens_of, tokens_from}
 use Rattle.rc_instr.specs.LoadText.{opcode_text, modifier_text, mode_text, number_text, operand_text, line_text, start_text, load_text}
 use Rattle.rc_instr.specs.Warrior.{IsBelow, WarriorView}
@@ -57,7 +57,7 @@ small_semicolon b h = ⊎_elim
     (cases_Bool (nat_lt b 65))
 
 -- a byte before no header makes none
-either_none : (t : Bool) → (if t then None else preceded 1 0 None) ≡ None
+either_none : (t : Bool) → (if t then None else further_on 1 0 None) ≡ None
 either_none true = refl
 either_none false = refl
 
@@ -69,9 +69,9 @@ no_header (b ∷ bs) begins q =
     let s : (to_ascii_lowercase b == 59) ≡ false = small_semicolon b (not_false (b == 59) p.0) in
     let n : begins_with_word (codes ";redcode") (b ∷ bs) ≡ false = ap (λ t. t && begins_with_word (codes "redcode") bs) s in
     let here : (begins && begins_with_word (codes ";redcode") (b ∷ bs)) ≡ false = and_no begins _ n in
-    ap (λ t. if b == LINE_FEED then (if t then Some (extent 1 1) else preceded 1 1 (header_from bs true false)) else preceded 1 0 (header_from bs false t)) here
-    ∙ ap (λ o. if b == LINE_FEED then preceded 1 1 o else preceded 1 0 (header_from bs false false)) (no_header bs true p.1)
-    ∙ ap (λ o. if b == LINE_FEED then None else preceded 1 0 o) (no_header bs false p.1)
+    ap (λ t. if b == LINE_FEED then (if t then Some (extent 1 1) else further_on 1 1 (header_from bs true false)) else further_on 1 0 (header_from bs false t)) here
+    ∙ ap (λ o. if b == LINE_FEED then further_on 1 1 o else further_on 1 0 (header_from bs false false)) (no_header bs true p.1)
+    ∙ ap (λ o. if b == LINE_FEED then None else further_on 1 0 o) (no_header bs false p.1)
     ∙ either_none (b == LINE_FEED)
 
 -- two texts without semicolons have none together

@@ -5,7 +5,7 @@ use Rattle.std.proofs.lemmas.List.{drop_all, drop-drop, append-nil}
 use Rattle.rc_text.specs.declared.token.Token.{Token}
 use Rattle.rc_text.specs.declared.class.NameClass.TheVariants.{NoName, Reserved, Predefined, Free}
 use Rattle.rc_text.specs.NameClasses.{is_name, is_reserved, is_predefined, class_of}
-use Rattle.rc_expand.specs.Heads.Lines.{is_reserved_class, is_ampersand, is_colon, is_free, goes_on, tail_len, begins_label, Labelled, labelled, unlabelled}
+use Rattle.rc_expand.specs.Heads.Lines.{is_reserved_class, is_ampersand, is_colon, is_free, goes_on, tail_len, begins_label, LabelSplit, label_split, no_labels}
 use Rattle.rc_expand.proofs.Each.{split_at}
 
 split_two : (ts : List Token) (i : ℕ) (u v : Token) → i + 1 < length ts → u ≡ get_or ts i u → v ≡ get_or ts (i + 1) v → drop i ts ≡ u ∷ v ∷ drop (i + 2) ts
@@ -91,38 +91,38 @@ module _ (source : List ℕ) where
   pub begins_none : (ts : List Token) (i : ℕ) → length ts ≤ i → begins_label source (drop i ts) ≡ false
   begins_none ts i h = ap (begins_label source) (drop_all i ts h)
 
-  abbrev pub behind : List (List Token) → Labelled → Labelled
+  abbrev pub behind : List (List Token) → LabelSplit → LabelSplit
   behind ls l = record { labels = ls ++ l.labels; after = l.after }
 
-  no_label : (ts : List Token) → begins_label source ts ≡ false → labelled source ts ≡ unlabelled ts
+  no_label : (ts : List Token) → begins_label source ts ≡ false → label_split source ts ≡ no_labels ts
   no_label [] e = refl
   no_label (t ∷ []) e = rw e
   no_label (t ∷ u ∷ []) e = rw e
   no_label (t ∷ u ∷ v ∷ ts) e = rw e
 
-  first_label : (t : Token) (ts : List Token) → is_free source t ≡ true → labelled source (t ∷ ts) ≡ record { labels = (t ∷ take (tail_len source ts) ts) ∷ (labelled source (drop (tail_len source ts) ts)).labels; after = (labelled source (drop (tail_len source ts) ts)).after }
+  first_label : (t : Token) (ts : List Token) → is_free source t ≡ true → label_split source (t ∷ ts) ≡ record { labels = (t ∷ take (tail_len source ts) ts) ∷ (label_split source (drop (tail_len source ts) ts)).labels; after = (label_split source (drop (tail_len source ts) ts)).after }
   first_label t [] e = rw e
   first_label t (u ∷ []) e = by_colon (is_colon u) refl where
-    by_colon : (b : Bool) → is_colon u ≡ b → labelled source (t ∷ u ∷ []) ≡ record { labels = (t ∷ take (tail_len source (u ∷ [])) (u ∷ [])) ∷ (labelled source (drop (tail_len source (u ∷ [])) (u ∷ []))).labels; after = (labelled source (drop (tail_len source (u ∷ [])) (u ∷ []))).after }
+    by_colon : (b : Bool) → is_colon u ≡ b → label_split source (t ∷ u ∷ []) ≡ record { labels = (t ∷ take (tail_len source (u ∷ [])) (u ∷ [])) ∷ (label_split source (drop (tail_len source (u ∷ [])) (u ∷ []))).labels; after = (label_split source (drop (tail_len source (u ∷ [])) (u ∷ []))).after }
     by_colon true c = rw (e, c)
     by_colon false c = rw (e, c)
   first_label t (u ∷ v ∷ ts) e = by_link (is_ampersand u && is_free source v) refl (first_label v ts) where
-    by_colon : (b : Bool) → is_ampersand u && is_free source v ≡ false → is_colon u ≡ b → labelled source (t ∷ u ∷ v ∷ ts) ≡ record { labels = (t ∷ take (tail_len source (u ∷ v ∷ ts)) (u ∷ v ∷ ts)) ∷ (labelled source (drop (tail_len source (u ∷ v ∷ ts)) (u ∷ v ∷ ts))).labels; after = (labelled source (drop (tail_len source (u ∷ v ∷ ts)) (u ∷ v ∷ ts))).after }
+    by_colon : (b : Bool) → is_ampersand u && is_free source v ≡ false → is_colon u ≡ b → label_split source (t ∷ u ∷ v ∷ ts) ≡ record { labels = (t ∷ take (tail_len source (u ∷ v ∷ ts)) (u ∷ v ∷ ts)) ∷ (label_split source (drop (tail_len source (u ∷ v ∷ ts)) (u ∷ v ∷ ts))).labels; after = (label_split source (drop (tail_len source (u ∷ v ∷ ts)) (u ∷ v ∷ ts))).after }
     by_colon true l c = rw (e, l, c)
     by_colon false l c = rw (e, l, c)
 
     by_link : (b : Bool) → is_ampersand u && is_free source v ≡ b
-        → (is_free source v ≡ true → labelled source (v ∷ ts) ≡ record { labels = (v ∷ take (tail_len source ts) ts) ∷ (labelled source (drop (tail_len source ts) ts)).labels; after = (labelled source (drop (tail_len source ts) ts)).after })
-        → labelled source (t ∷ u ∷ v ∷ ts) ≡ record { labels = (t ∷ take (tail_len source (u ∷ v ∷ ts)) (u ∷ v ∷ ts)) ∷ (labelled source (drop (tail_len source (u ∷ v ∷ ts)) (u ∷ v ∷ ts))).labels; after = (labelled source (drop (tail_len source (u ∷ v ∷ ts)) (u ∷ v ∷ ts))).after }
+        → (is_free source v ≡ true → label_split source (v ∷ ts) ≡ record { labels = (v ∷ take (tail_len source ts) ts) ∷ (label_split source (drop (tail_len source ts) ts)).labels; after = (label_split source (drop (tail_len source ts) ts)).after })
+        → label_split source (t ∷ u ∷ v ∷ ts) ≡ record { labels = (t ∷ take (tail_len source (u ∷ v ∷ ts)) (u ∷ v ∷ ts)) ∷ (label_split source (drop (tail_len source (u ∷ v ∷ ts)) (u ∷ v ∷ ts))).labels; after = (label_split source (drop (tail_len source (u ∷ v ∷ ts)) (u ∷ v ∷ ts))).after }
     by_link true l ih = rw (e, l, ih (both_true (is_ampersand u) (is_free source v) l))
     by_link false l ih = by_colon (is_colon u) l refl
 
   label_step : (ts : List Token) → true ≡ begins_label source ts
-      → labelled source ts ≡ record { labels = take (suc (tail_len source (drop 1 ts))) ts ∷ (labelled source (drop (tail_len source (drop 1 ts)) (drop 1 ts))).labels; after = (labelled source (drop (tail_len source (drop 1 ts)) (drop 1 ts))).after }
+      → label_split source ts ≡ record { labels = take (suc (tail_len source (drop 1 ts))) ts ∷ (label_split source (drop (tail_len source (drop 1 ts)) (drop 1 ts))).labels; after = (label_split source (drop (tail_len source (drop 1 ts)) (drop 1 ts))).after }
   label_step [] b = cc
   label_step (t ∷ ts) b = first_label t ts (sym b)
 
-  after_more : (labels : List (List Token)) (x label : List Token) (l m : Labelled) → l ≡ m → x ≡ label → behind labels (record { labels = x ∷ l.labels; after = l.after }) ≡ behind (labels ++ (label ∷ [])) m
+  after_more : (labels : List (List Token)) (x label : List Token) (l m : LabelSplit) → l ≡ m → x ≡ label → behind labels (record { labels = x ∷ l.labels; after = l.after }) ≡ behind (labels ++ (label ∷ [])) m
   after_more labels x label l m e f =
       ap (λ l. behind labels (record { labels = x ∷ l.labels; after = l.after })) e
       ∙ (ap (λ x. behind labels (record { labels = x ∷ m.labels; after = m.after })) f
@@ -130,7 +130,7 @@ module _ (source : List ℕ) where
 
   -- one more label of the line
   pub label_more : (tokens : List Token) (labels : List (List Token)) (at end : ℕ) (label : List Token) → true ≡ begins_label source (drop at tokens) → end ≡ at + 1 + tail_len source (drop (at + 1) tokens)
-      → label ≡ take (end - at) (drop at tokens) → labelled source tokens ≡ behind labels (labelled source (drop at tokens)) → labelled source tokens ≡ behind (labels ++ (label ∷ [])) (labelled source (drop end tokens))
+      → label ≡ take (end - at) (drop at tokens) → label_split source tokens ≡ behind labels (label_split source (drop at tokens)) → label_split source tokens ≡ behind (labels ++ (label ∷ [])) (label_split source (drop end tokens))
   label_more tokens labels at end label b e l r =
       let d : drop 1 (drop at tokens) ≡ drop (at + 1) tokens = drop-drop 1 at tokens in
       let n : ℕ = tail_len source (drop 1 (drop at tokens)) in
@@ -141,16 +141,16 @@ module _ (source : List ℕ) where
       ap (drop (tail_len source (drop 1 (drop at tokens)))) d ∙ (drop-drop (tail_len source (drop 1 (drop at tokens))) (at + 1) tokens ∙ ap (λ i. drop i tokens) p) in
       let front : take (suc (tail_len source (drop 1 (drop at tokens)))) (drop at tokens) ≡ label =
       ap (λ i. take i (drop at tokens)) (sym q) ∙ sym l in
-      r ∙ (ap (behind labels) (label_step (drop at tokens) b) ∙ after_more labels (take (suc (tail_len source (drop 1 (drop at tokens)))) (drop at tokens)) label _ (labelled source (drop end tokens)) (ap (labelled source) tail) front)
+      r ∙ (ap (behind labels) (label_step (drop at tokens) b) ∙ after_more labels (take (suc (tail_len source (drop 1 (drop at tokens)))) (drop at tokens)) label _ (label_split source (drop end tokens)) (ap (label_split source) tail) front)
 
   -- no label begins here
-  pub labels_done : (tokens : List Token) (labels : List (List Token)) (at : ℕ) → false ≡ begins_label source (drop at tokens) → labelled source tokens ≡ behind labels (labelled source (drop at tokens))
-      → labelled source tokens ≡ record { labels = labels; after = drop at tokens }
+  pub labels_done : (tokens : List Token) (labels : List (List Token)) (at : ℕ) → false ≡ begins_label source (drop at tokens) → label_split source tokens ≡ behind labels (label_split source (drop at tokens))
+      → label_split source tokens ≡ record { labels = labels; after = drop at tokens }
   labels_done tokens labels at b r = r ∙ (ap (behind labels) (no_label (drop at tokens) (sym b)) ∙ ap (λ ls. record { labels = ls; after = drop at tokens }) (append-nil labels))
 
   -- if no label begins after the first, the line has one label
   pub single_label : (tokens : List Token) (end : ℕ) (label : List Token) → true ≡ begins_label source tokens → end ≡ 1 + tail_len source (drop 1 tokens) → label ≡ take end tokens → false ≡ begins_label source (drop end tokens)
-      → labelled source tokens ≡ record { labels = label ∷ []; after = drop end tokens }
+      → label_split source tokens ≡ record { labels = label ∷ []; after = drop end tokens }
   single_label tokens end label b e l d =
       let z : end - 0 ≡ end = omega arith in
       labels_done tokens (label ∷ []) end d (label_more tokens [] 0 end label b e (l ∙ ap (λ n. take n tokens) (sym z)) refl)

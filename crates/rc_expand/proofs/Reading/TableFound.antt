@@ -7,7 +7,7 @@ use Rattle.std.specs.Map.{lookup}
 use Rattle.std.proofs.lemmas.Bool.{le-ltb, lt-ltb}
 use Rattle.indexmap.specs.IndexMap.{insert_entry}
 use Rattle.rc_expand.specs.Names.{entry_of, is_among}
-use Rattle.rc_expand.specs.Heads.NameTables.{with_name, names_in}
+use Rattle.rc_expand.specs.NameTables.{with_name, names_in}
 
 none_there : {A : Type 0} (o : Option A) → is_some o ≡ false → o ≡ None
 none_there None h = refl

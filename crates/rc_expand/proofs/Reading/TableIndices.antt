@@ -5,7 +5,7 @@ use Rattle.std.specs.Global.{Vec}
 use Rattle.std.proofs.lemmas.List.{append-nil, map-append}
 use Rattle.rc_text.specs.declared.token.Token.{Token}
 use Rattle.rc_expand.specs.Replace.{EquText, Equs, equ_in}
-use Rattle.rc_expand.specs.Heads.NameTables.{at_index, AreIndices, AreLinks}
+use Rattle.rc_expand.specs.NameTables.{at_index, AreIndices, AreLinks}
 
 module _ {A : Type 0} where
   value_at : (table : List (List ℕ × A)) (i : ℕ) → slice_get (map (λ e. e.1) table) i ≡ at_index table (Some i)

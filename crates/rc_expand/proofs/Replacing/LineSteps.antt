@@ -14,10 +14,10 @@ use Rattle.rc_expand.specs.declared.unroll.reached.Reached.{Reached}
 use Rattle.rc_expand.specs.Results.{at_line, mapped, and_then}
 use Rattle.rc_expand.specs.Shared.{Shared}
 use Rattle.rc_expand.specs.Names.{entry_of, is_among, is_taken}
-use Rattle.rc_expand.specs.Heads.NameTables.{with_name, names_in}
+use Rattle.rc_expand.specs.NameTables.{with_name, names_in}
 use Rattle.rc_expand.specs.Heads.Lines.{label_token}
 use Rattle.rc_expand.specs.Unroll.Reached.{reached_line, reached_lines}
-use Rattle.rc_expand.specs.Replace.Lines.{own_labels, own_step, other_labels, other_step, line_of, names_of, defined, Replacement, with_line, line_added, line_replaced, lines_replaced, no_lines, replaced}
+use Rattle.rc_expand.specs.Replace.Lines.{own_labels, own_step, other_labels, other_step, line_of, names_of, with_names, Replacement, with_line, line_added, line_replaced, lines_replaced, no_lines, replaced}
 use Rattle.rc_expand.proofs.Each.{split_at}
 use Rattle.rc_expand.proofs.Reading.TableFound.{seen_found, name_new as is_pushed}
 
@@ -35,19 +35,19 @@ module _ (source : List ℕ) where
 
 module _ (s : Shared) (number : ℕ) (rest : List Token) (t : Token) (after : List Token) (e : rest ≡ t ∷ after) (before : List (List ℕ)) where
   -- one name, and the names after it
-  names_step : defined s number (map (name_of s.source) rest) before ≡ and_then (defined s number (map (name_of s.source) after)) (defined s number (name_of s.source t ∷ []) before)
-  names_step = ap (λ ts. defined s number (map (name_of s.source) ts) before) e ∙ by_test (is_taken s.constants s.rules (name_of s.source t) || is_among before (name_of s.source t)) where
-    by_test : (b : Bool) → (if b then Err (at_line number DuplicateName) else defined s number (map (name_of s.source) after) (before ++ (name_of s.source t ∷ [])))
-        ≡ and_then (defined s number (map (name_of s.source) after)) (if b then Err (at_line number DuplicateName) else Ok (before ++ (name_of s.source t ∷ [])))
+  names_step : with_names s number (map (name_of s.source) rest) before ≡ and_then (with_names s number (map (name_of s.source) after)) (with_names s number (name_of s.source t ∷ []) before)
+  names_step = ap (λ ts. with_names s number (map (name_of s.source) ts) before) e ∙ by_test (is_taken s.constants s.rules (name_of s.source t) || is_among before (name_of s.source t)) where
+    by_test : (b : Bool) → (if b then Err (at_line number DuplicateName) else with_names s number (map (name_of s.source) after) (before ++ (name_of s.source t ∷ [])))
+        ≡ and_then (with_names s number (map (name_of s.source) after)) (if b then Err (at_line number DuplicateName) else Ok (before ++ (name_of s.source t ∷ [])))
     by_test true = refl
     by_test false = refl
 
-  pub name_next : (now : List (List ℕ)) → defined s number (name_of s.source t ∷ []) before ≡ Ok now
-      → defined s number (map (name_of s.source) rest) before ≡ defined s number (map (name_of s.source) after) now
-  name_next now h = names_step ∙ ap (and_then (defined s number (map (name_of s.source) after))) h
+  pub name_next : (now : List (List ℕ)) → with_names s number (name_of s.source t ∷ []) before ≡ Ok now
+      → with_names s number (map (name_of s.source) rest) before ≡ with_names s number (map (name_of s.source) after) now
+  name_next now h = names_step ∙ ap (and_then (with_names s number (map (name_of s.source) after))) h
 
-  pub name_fails : (f : ExpandFault) → defined s number (name_of s.source t ∷ []) before ≡ Err f → defined s number (map (name_of s.source) rest) before ≡ Err f
-  name_fails f h = names_step ∙ ap (and_then (defined s number (map (name_of s.source) after))) h
+  pub name_fails : (f : ExpandFault) → with_names s number (name_of s.source t ∷ []) before ≡ Err f → with_names s number (map (name_of s.source) rest) before ≡ Err f
+  name_fails f h = names_step ∙ ap (and_then (with_names s number (map (name_of s.source) after))) h
 
 not_true : (b : Bool) → not b ≡ true → b ≡ false
 not_true false h = refl
@@ -59,14 +59,14 @@ not_false false h = cc
 
 -- one name, by whether it is taken or defined already
 module _ {A : Type 0} (s : Shared) (number : ℕ) (name : List ℕ) (table : List (List ℕ × A)) where
-  pub name_taken : is_taken s.constants s.rules name ≡ true → defined s number (name ∷ []) (names_in table) ≡ Err (at_line number DuplicateName)
+  pub name_taken : is_taken s.constants s.rules name ≡ true → with_names s number (name ∷ []) (names_in table) ≡ Err (at_line number DuplicateName)
   name_taken h = rw h
 
-  pub name_there : (added : Bool) → is_taken s.constants s.rules name ≡ false → added ≡ false → added ≡ not (is_some (entry_of table name)) → defined s number (name ∷ []) (names_in table) ≡ Err (at_line number DuplicateName)
+  pub name_there : (added : Bool) → is_taken s.constants s.rules name ≡ false → added ≡ false → added ≡ not (is_some (entry_of table name)) → with_names s number (name ∷ []) (names_in table) ≡ Err (at_line number DuplicateName)
   name_there added h k e = let m : is_among (names_in table) name ≡ true = sym (seen_found name table) ∙ not_false (is_some (entry_of table name)) (sym e ∙ k) in rw (h, m)
 
   pub name_new : (added : Bool) (value : A) (new : List (List ℕ × A)) → is_taken s.constants s.rules name ≡ false → added ≡ true → added ≡ not (is_some (entry_of table name)) → new ≡ with_name table name value
-      → defined s number (name ∷ []) (names_in table) ≡ Ok (names_in new)
+      → with_names s number (name ∷ []) (names_in table) ≡ Ok (names_in new)
   name_new added value new h k e w =
       let f : is_some (entry_of table name) ≡ false = not_true (is_some (entry_of table name)) (sym e ∙ k) in
       let m : is_among (names_in table) name ≡ false = sym (seen_found name table) ∙ f in
@@ -75,7 +75,7 @@ module _ {A : Type 0} (s : Shared) (number : ℕ) (name : List ℕ) (table : Lis
 
 module _ (s : Shared) where
   -- the names of a line are new, and the line is made
-  pub line_made : (h : Head) (r : Replacement) (names : List (List ℕ)) (l : Line) (lines : List Line) → defined s h.number (names_of s.source h) r.names ≡ Ok names → h.word ≢ word.Equ → line_of s.source s.equs h ≡ Ok l
+  pub line_made : (h : Head) (r : Replacement) (names : List (List ℕ)) (l : Line) (lines : List Line) → with_names s h.number (names_of s.source h) r.names ≡ Ok names → h.word ≢ word.Equ → line_of s.source s.equs h ≡ Ok l
       → lines ≡ r.lines ++ (l ∷ []) → line_replaced s h r ≡ Ok (record { names = names; lines = lines })
   line_made h r names l lines d w e p =
       ap (and_then (line_added s h.word h r.lines)) d
@@ -88,19 +88,17 @@ module _ (s : Shared) where
       by_word _ w = refl
 
   module _ (reached : List Reached) (i : ℕ) (r : Replacement) where
-    module _ (one : Reached) (head : Head) (some : i < length reached) (is : one ≡ get_or reached i one) (made : head ≡ reached_line s.source one) where
+    module _ (one : Reached) (some : i < length reached) (is : one ≡ get_or reached i one) where
       -- one line, and the lines after it
       line_step : lines_replaced s (reached_lines s.source (drop i reached)) r
-          ≡ and_then (lines_replaced s (reached_lines s.source (drop (i + 1) reached))) (line_replaced s head r)
-      line_step =
-          ap (λ rs. lines_replaced s (reached_lines s.source rs) r) (split_at reached i one some is)
-          ∙ ap (λ h. and_then (lines_replaced s (reached_lines s.source (drop (i + 1) reached))) (line_replaced s h r)) (sym made)
+          ≡ and_then (lines_replaced s (reached_lines s.source (drop (i + 1) reached))) (line_replaced s (reached_line s.source one) r)
+      line_step = ap (λ rs. lines_replaced s (reached_lines s.source rs) r) (split_at reached i one some is)
 
-      pub line_next : (new : Replacement) → line_replaced s head r ≡ Ok new
+      pub line_next : (new : Replacement) → line_replaced s (reached_line s.source one) r ≡ Ok new
           → lines_replaced s (reached_lines s.source (drop i reached)) r ≡ lines_replaced s (reached_lines s.source (drop (i + 1) reached)) new
       line_next new h = line_step ∙ ap (and_then (lines_replaced s (reached_lines s.source (drop (i + 1) reached)))) h
 
-      pub line_fails : (f : ExpandFault) → line_replaced s head r ≡ Err f → lines_replaced s (reached_lines s.source (drop i reached)) r ≡ Err f
+      pub line_fails : (f : ExpandFault) → line_replaced s (reached_line s.source one) r ≡ Err f → lines_replaced s (reached_lines s.source (drop i reached)) r ≡ Err f
       line_fails f h = line_step ∙ ap (and_then (lines_replaced s (reached_lines s.source (drop (i + 1) reached)))) h
 
     -- no line is left

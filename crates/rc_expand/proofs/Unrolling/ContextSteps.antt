@@ -10,7 +10,7 @@ use Rattle.rc_expand.specs.declared.fault.ExpandKind.TheVariants.{ForWithoutRof}
 use Rattle.rc_expand.specs.declared.unroll.reached.Copying.{Copying}
 use Rattle.rc_expand.specs.Results.{at_line, mapped, and_then}
 use Rattle.rc_expand.specs.Shared.{Shared}
-use Rattle.rc_expand.specs.Unroll.{Unrolled, nothing, has_room, with_copy, with_earlier, one_line, opened, at_rof, unrolled, deeper_at, unrolled_by, block_of, copy_of, copies_from}
+use Rattle.rc_expand.specs.Unroll.{Unrolled, nothing, has_room, with_copy, with_earlier, one_line, with_opening, at_rof, unrolled, deeper_at, unrolled_by, block_of, copy_of, copies_from}
 use Rattle.rc_expand.specs.Unroll.Reached.{line_in, lines_in}
 use Rattle.rc_expand.specs.Unroll.Copies.{copied_block}
 use Rattle.rc_expand.specs.Unroll.Openings.{Opening, opening}
@@ -31,12 +31,12 @@ module _ (s : Shared) (levels : ℕ) where
   module _ (f : Head) (block : List Head) (rof : Head) (u : Unrolled) where
     -- a block that opens nothing
     pub block_refused : (e : ExpandFault) → opening s f ≡ Err e → block_of s (deeper_at s levels) f block rof u ≡ Err e
-    block_refused e h = ap (λ r. and_then (at_rof rof) (and_then (opened s (deeper_at s levels) f block u) r)) h
+    block_refused e h = ap (λ r. and_then (at_rof rof) (and_then (with_opening s (deeper_at s levels) f block u) r)) h
 
     module _ (o : Opening) (is : opening s f ≡ Ok o) (line : ℕ) (same : f.number ≡ line) where
       block_opened : block_of s (deeper_at s levels) f block rof u ≡ and_then (at_rof rof) (and_then (copies_from (copy_of s (deeper_at s levels) line o.counter block) o.count 1) (with_earlier line o.earlier u))
       block_opened =
-          ap (λ r. and_then (at_rof rof) (and_then (opened s (deeper_at s levels) f block u) r)) is
+          ap (λ r. and_then (at_rof rof) (and_then (with_opening s (deeper_at s levels) f block u) r)) is
           ∙ ap (λ n. and_then (at_rof rof) (and_then (copies_from (copy_of s (deeper_at s levels) n o.counter block) o.count 1) (with_earlier n o.earlier u))) same
 
       -- the labels before the counter cannot be added

@@ -6,7 +6,7 @@ use Rattle.std.proofs.lemmas.Bool.Decides.{nat_tests}
 use Rattle.rc_text.specs.declared.token.Token.{Token}
 use Rattle.rc_expand.specs.Limits.{MOST_JOINED}
 use Rattle.rc_expand.specs.Heads.Lines.{is_name_token, is_ampersand, has_modifier}
-use Rattle.rc_expand.specs.Unroll.Copies.{is_counter, numbered, joins, joined, copied_from, copied_tokens, copied_code}
+use Rattle.rc_expand.specs.Unroll.Copies.{is_counter, with_number, joins, with_counter, copied_from, copied_tokens, copied_code}
 
 -- an item and what follows it
 pub split_at : {A : Type 0} (xs : List A) (i : ℕ) (x : A) → i < length xs → x ≡ get_or xs i x → drop i xs ≡ x ∷ drop (i + 1) xs
@@ -35,14 +35,14 @@ module _ (source : List ℕ) (counter : List ℕ) where
   joins_at t ts i u v h e f = ap (joins source counter t) (split_two ts i u v h e f)
 
   module _ (k : ℕ) where
-    pub from_list : (m : Bool) (t : Token) (ts : List Token) → joins source counter t ts ≡ true → copied_from source counter k m t ts ≡ option_and_then (λ j. copied_from source counter k true j (drop 2 ts)) (joined source k t)
+    pub from_list : (m : Bool) (t : Token) (ts : List Token) → joins source counter t ts ≡ true → copied_from source counter k m t ts ≡ option_and_then (λ j. copied_from source counter k true j (drop 2 ts)) (with_counter source k t)
     from_list m t [] h = cc
     from_list m t (u ∷ []) h = cc
     from_list m t (u ∷ v ∷ ts) h = rw h
 
     -- a name that is joined no more
     pub passed_list : (m : Bool) (t u : Token) (ts : List Token) → joins source counter t (u ∷ ts) ≡ false
-        → copied_from source counter k m t (u ∷ ts) ≡ option_map (λ r. numbered source counter k m t ∷ r) (copied_from source counter k false u ts)
+        → copied_from source counter k m t (u ∷ ts) ≡ option_map (λ r. with_number source counter k m t ∷ r) (copied_from source counter k false u ts)
     passed_list m t u [] h = refl
     passed_list m t u (v ∷ ts) h = rw h
 
@@ -54,10 +54,10 @@ module _ (source : List ℕ) (counter : List ℕ) where
     drop_two ts i = drop-drop 2 i ts
 
     joined_at : (m : Bool) (t : Token) (ts : List Token) (i : ℕ) → true ≡ joins source counter t (drop i ts)
-        → copied_from source counter k m t (drop i ts) ≡ option_and_then (λ j. copied_from source counter k true j (drop (i + 2) ts)) (joined source k t)
-    joined_at m t ts i j = from_list m t (drop i ts) (sym j) ∙ ap (λ r. option_and_then (λ n. copied_from source counter k true n r) (joined source k t)) (drop_two ts i)
+        → copied_from source counter k m t (drop i ts) ≡ option_and_then (λ j. copied_from source counter k true j (drop (i + 2) ts)) (with_counter source k t)
+    joined_at m t ts i j = from_list m t (drop i ts) (sym j) ∙ ap (λ r. option_and_then (λ n. copied_from source counter k true n r) (with_counter source k t)) (drop_two ts i)
 
-    room : (t : Token) → length t.joined < MOST_JOINED → joined source k t ≡ Some (record t { joined = t.joined ++ (k ∷ []) })
+    room : (t : Token) → length t.joined < MOST_JOINED → with_counter source k t ≡ Some (record t { joined = t.joined ++ (k ∷ []) })
     room t h = let e : nat_lt (length t.joined) MOST_JOINED ≡ true = grind (arith, nat_tests) in rw e
 
     -- the copy goes on after a counter that is joined
@@ -67,7 +67,7 @@ module _ (source : List ℕ) (counter : List ℕ) where
 
     -- if no counter is joined to a token, its copy comes before those of the rest
     pub no_more_joined : (m : Bool) (t : Token) (ts : List Token) → joins source counter t ts ≡ false
-        → copied_from source counter k m t ts ≡ option_map (λ r. numbered source counter k m t ∷ r) (copied_tokens source counter k ts)
+        → copied_from source counter k m t ts ≡ option_map (λ r. with_number source counter k m t ∷ r) (copied_tokens source counter k ts)
     no_more_joined m t [] h = refl
     no_more_joined m t (u ∷ ts) h = passed_list m t u ts h
 
@@ -83,7 +83,7 @@ module _ (source : List ℕ) (counter : List ℕ) where
     joins_none t (u ∷ v ∷ ts) h = rw h
 
     -- and it is not the counter
-    stays_as_it_is : (t : Token) → is_name_token t ≡ false → numbered source counter k false t ≡ t
+    stays_as_it_is : (t : Token) → is_name_token t ≡ false → with_number source counter k false t ≡ t
     stays_as_it_is t h = rw h
 
     -- a token that is not a name is copied unchanged

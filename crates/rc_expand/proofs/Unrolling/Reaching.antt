@@ -16,7 +16,7 @@ use Rattle.rc_expand.specs.Unroll.{line_checked, checked_line, Unrolled, with_li
 use Rattle.rc_expand.specs.Unroll.Reached.{line_in, lines_in, reached_part, reached_lines}
 use Rattle.rc_expand.specs.Unroll.Copies.{or_spoiled, copied_line, all_of, copied_tokens, copied_rest}
 use Rattle.rc_expand.specs.Unroll.Openings.{earlier_of}
-use Rattle.rc_expand.specs.Unroll.Cuts.{Cut, longer, cut_by, cut}
+use Rattle.rc_expand.specs.Unroll.Cuts.{Cut, with_lines_before, cut_by, cut}
 
 module _ (source : List ℕ) where
   spoiled_word : (h : Head) (a : Option (List (List Token))) (b : Option (List Token)) → (or_spoiled source h a b).word ≡ h.word
@@ -72,19 +72,19 @@ module _ (source : List ℕ) where
   abbrev pub cut_in : List Copying → Cut → Cut
   cut_in cs c = record { block = lines_in source cs c.block; rof = line_in source cs c.rof; after = lines_in source cs c.after }
 
-  longer_in : (cs : List Copying) (h : Head) (o : Option Cut) → option_map (longer (line_in source cs h ∷ [])) (option_map (cut_in cs) o) ≡ option_map (cut_in cs) (option_map (longer (h ∷ [])) o)
+  longer_in : (cs : List Copying) (h : Head) (o : Option Cut) → option_map (with_lines_before (line_in source cs h ∷ [])) (option_map (cut_in cs) o) ≡ option_map (cut_in cs) (option_map (with_lines_before (h ∷ [])) o)
   longer_in cs h None = refl
   longer_in cs h (Some c) = refl
 
   pub cut_is : (cs : List Copying) (n : ℕ) (hs : List Head) → cut n (lines_in source cs hs) ≡ option_map (cut_in cs) (cut n hs)
   cut_is cs n [] = refl
   cut_is cs n (h ∷ hs) =
-      ap (λ w. cut_by w n (λ m. option_map (longer (line_in source cs h ∷ [])) (cut m (lines_in source cs hs))) (record { block = []; rof = line_in source cs h; after = lines_in source cs hs })) (word_in cs h)
-      ∙ by_word h.word n (λ m. ap (option_map (longer (line_in source cs h ∷ []))) (cut_is cs m hs) ∙ longer_in cs h (cut m hs))
+      ap (λ w. cut_by w n (λ m. option_map (with_lines_before (line_in source cs h ∷ [])) (cut m (lines_in source cs hs))) (record { block = []; rof = line_in source cs h; after = lines_in source cs hs })) (word_in cs h)
+      ∙ by_word h.word n (λ m. ap (option_map (with_lines_before (line_in source cs h ∷ []))) (cut_is cs m hs) ∙ longer_in cs h (cut m hs))
     where
-      by_word : (w : HeadWord) (n : ℕ) → ((m : ℕ) → option_map (longer (line_in source cs h ∷ [])) (cut m (lines_in source cs hs)) ≡ option_map (cut_in cs) (option_map (longer (h ∷ [])) (cut m hs)))
-          → cut_by w n (λ m. option_map (longer (line_in source cs h ∷ [])) (cut m (lines_in source cs hs))) (record { block = []; rof = line_in source cs h; after = lines_in source cs hs })
-          ≡ option_map (cut_in cs) (cut_by w n (λ m. option_map (longer (h ∷ [])) (cut m hs)) (record { block = []; rof = h; after = hs }))
+      by_word : (w : HeadWord) (n : ℕ) → ((m : ℕ) → option_map (with_lines_before (line_in source cs h ∷ [])) (cut m (lines_in source cs hs)) ≡ option_map (cut_in cs) (option_map (with_lines_before (h ∷ [])) (cut m hs)))
+          → cut_by w n (λ m. option_map (with_lines_before (line_in source cs h ∷ [])) (cut m (lines_in source cs hs))) (record { block = []; rof = line_in source cs h; after = lines_in source cs hs })
+          ≡ option_map (cut_in cs) (cut_by w n (λ m. option_map (with_lines_before (h ∷ [])) (cut m hs)) (record { block = []; rof = h; after = hs }))
       by_word word.For n ih = ih (suc n)
       by_word word.Rof zero ih = refl
       by_word word.Rof (suc n) ih = ih n

@@ -11,7 +11,7 @@ use Rattle.rc_expand.specs.declared.heads.head.HeadWord.{HeadWord}
 use Rattle.rc_expand.specs.declared.heads.head.HeadWord.TheVariants as word
 use Rattle.rc_expand.specs.declared.unroll.reached.Copying.{Copying}
 use Rattle.rc_expand.specs.Heads.Lines.{has_modifier}
-use Rattle.rc_expand.specs.Unroll.Copies.{is_counter, numbered, joins, joined, copied_from, copied_tokens, copied_code, copied_rest, copied_line, or_spoiled, all_of, stays_joinable, is_short, is_short_line}
+use Rattle.rc_expand.specs.Unroll.Copies.{is_counter, with_number, joins, with_counter, copied_from, copied_tokens, copied_code, copied_rest, copied_line, or_spoiled, all_of, stays_joinable, is_short, is_short_line}
 use Rattle.rc_expand.specs.Unroll.Reached.{line_in}
 use Rattle.rc_expand.proofs.Unrolling.Copies.{from_list, passed_list}
 
@@ -40,7 +40,7 @@ if_joined true k t = refl
 if_joined false k t = refl
 
 module _ (source counter : List ℕ) (k : ℕ) where
-  same_joined : (m : Bool) (t : Token) → (numbered source counter k m t).joined ≡ t.joined
+  same_joined : (m : Bool) (t : Token) → (with_number source counter k m t).joined ≡ t.joined
   same_joined m t = if_joined (not m && is_counter source counter t) k t
 
   -- the tokens after `n` others in a copy
@@ -51,22 +51,22 @@ module _ (source counter : List ℕ) (k : ℕ) where
     pub room : all_have_room (n + length tokens) tokens ≡ true
 
   -- a token that is passed, and the copy of those after it
-  passed : (n limit : ℕ) (m : Bool) (t : Token) (o : Option (List Token)) → 2 * length t.joined + (n + suc limit) ≤ 18 → Copied (suc n) limit o → Copied n (suc limit) (option_map (λ r. numbered source counter k m t ∷ r) o)
+  passed : (n limit : ℕ) (m : Bool) (t : Token) (o : Option (List Token)) → 2 * length t.joined + (n + suc limit) ≤ 18 → Copied (suc n) limit o → Copied n (suc limit) (option_map (λ r. with_number source counter k m t ∷ r) o)
   passed n limit m t o h c = record {
-    tokens = numbered source counter k m t ∷ c.tokens;
-    is = ap (option_map (λ r. numbered source counter k m t ∷ r)) c.is;
+    tokens = with_number source counter k m t ∷ c.tokens;
+    is = ap (option_map (λ r. with_number source counter k m t ∷ r)) c.is;
     shorter = omega (arith, c.shorter);
     room =
-        let j : length (numbered source counter k m t).joined ≡ length t.joined = ap length (same_joined m t) in
+        let j : length (with_number source counter k m t).joined ≡ length t.joined = ap length (same_joined m t) in
         let e : n + suc (length c.tokens) ≡ suc n + length c.tokens = omega arith in
-        both_have (n + suc (length c.tokens)) (numbered source counter k m t) c.tokens (omega (arith, h, j, c.shorter)) (ap (λ x. all_have_room x c.tokens) e ∙ c.room);
+        both_have (n + suc (length c.tokens)) (with_number source counter k m t) c.tokens (omega (arith, h, j, c.shorter)) (ap (λ x. all_have_room x c.tokens) e ∙ c.room);
   }
 
   -- a counter is joined, which takes two tokens away
   at_join : (n : ℕ) (t : Token) (us : List Token)
       → ((j : Token) (vs : List Token) → suc (length vs) ≤ length us → all_have_room (n + suc (length vs)) (j ∷ vs) ≡ true → Copied n (suc (length vs)) (copied_from source counter k true j vs))
       → joins source counter t us ≡ true → all_have_room (n + suc (length us)) (t ∷ us) ≡ true
-      → Copied n (suc (length us)) (option_and_then (λ j. copied_from source counter k true j (drop 2 us)) (joined source k t))
+      → Copied n (suc (length us)) (option_and_then (λ j. copied_from source counter k true j (drop 2 us)) (with_counter source k t))
   at_join n t [] ih e h = cc
   at_join n t (x ∷ []) ih e h = cc
   at_join n t (x ∷ y ∷ vs) ih e h =
@@ -77,7 +77,7 @@ module _ (source counter : List ℕ) (k : ℕ) where
       let j : Token = record t { joined = t.joined ++ (k ∷ []) } in
       let l : length j.joined ≡ length t.joined + 1 = length-append t.joined (k ∷ []) in
       let few : nat_lt (length t.joined) MOST_JOINED ≡ true = lt-ltb (length t.joined) MOST_JOINED (omega (arith, b)) in
-      let is : joined source k t ≡ Some j = rw few refl in
+      let is : with_counter source k t ≡ Some j = rw few refl in
       let c = ih j vs (omega arith) (both_have (n + suc (length vs)) j vs (omega (arith, b, l)) (more_room (n + suc (suc (suc (length vs)))) (n + suc (length vs)) vs (omega arith) r.1)) in
       record {
         tokens = c.tokens;
@@ -90,12 +90,12 @@ module _ (source counter : List ℕ) (k : ℕ) where
   fits_from : (fuel n : ℕ) (m : Bool) (t : Token) (ts : List Token) → length ts ≤ fuel → all_have_room (n + suc (length ts)) (t ∷ ts) ≡ true → Copied n (suc (length ts)) (copied_from source counter k m t ts)
   fits_from fuel n m t [] f h =
       let p = and_parts (stays_joinable (n + 1) t) true h in
-      let j : length (numbered source counter k m t).joined ≡ length t.joined = ap length (same_joined m t) in
+      let j : length (with_number source counter k m t).joined ≡ length t.joined = ap length (same_joined m t) in
       record {
-        tokens = numbered source counter k m t ∷ [];
+        tokens = with_number source counter k m t ∷ [];
         is = refl;
         shorter = omega arith;
-        room = both_have (n + 1) (numbered source counter k m t) [] (omega (arith, room_of (n + 1) t p.0, j)) refl;
+        room = both_have (n + 1) (with_number source counter k m t) [] (omega (arith, room_of (n + 1) t p.0, j)) refl;
       }
   fits_from zero n m t (u ∷ ts) f h = absurd (omega arith)
   fits_from (suc fuel) n m t (u ∷ ts) f h =

@@ -10,7 +10,7 @@ use Rattle.rc_expand.specs.declared.fault.ExpandKind.TheVariants.{ForWithoutRof}
 use Rattle.rc_expand.specs.Results.{at_line, and_then}
 use Rattle.rc_expand.specs.Shared.{Shared}
 use Rattle.rc_expand.specs.Unroll.{Unrolled, Step, copies_from, Deeper, block_of, one_line, outside, inside, line_inside, line_outside}
-use Rattle.rc_expand.specs.Unroll.Cuts.{Cut, longer, cut_by, cut}
+use Rattle.rc_expand.specs.Unroll.Cuts.{Cut, with_lines_before, cut_by, cut}
 
 -- a FOR, by where its block ends
 module _ (s : Shared) (b : Bool) (deeper : Deeper) (f : Head) (u : Unrolled) where
@@ -18,7 +18,7 @@ module _ (s : Shared) (b : Bool) (deeper : Deeper) (f : Head) (u : Unrolled) whe
   finished front None = Err (at_line f.number ForWithoutRof)
   finished front (Some c) = and_then (outside s b deeper c.after) (block_of s deeper f (front ++ c.block) c.rof u)
 
-  finished_more : (front : List Head) (h : Head) (o : Option Cut) → finished (front ++ (h ∷ [])) o ≡ finished front (option_map (longer (h ∷ [])) o)
+  finished_more : (front : List Head) (h : Head) (o : Option Cut) → finished (front ++ (h ∷ [])) o ≡ finished front (option_map (with_lines_before (h ∷ [])) o)
   finished_more front h None = refl
   finished_more front h (Some c) = ap (λ bs. and_then (outside s b deeper c.after) (block_of s deeper f bs c.rof u)) (append_assoc front (h ∷ []) c.block)
 
@@ -26,9 +26,9 @@ module _ (s : Shared) (b : Bool) (deeper : Deeper) (f : Head) (u : Unrolled) whe
   pub inside_is : (n : ℕ) (front hs : List Head) → inside s b deeper f n front hs u ≡ finished front (cut n hs)
   inside_is n front [] = refl
   inside_is n front (h ∷ hs) = by_word h.word n (λ m. inside_is m (front ++ (h ∷ [])) hs ∙ finished_more front h (cut m hs)) where
-    by_word : (w : HeadWord) (n : ℕ) → ((m : ℕ) → inside s b deeper f m (front ++ (h ∷ [])) hs u ≡ finished front (option_map (longer (h ∷ [])) (cut m hs)))
+    by_word : (w : HeadWord) (n : ℕ) → ((m : ℕ) → inside s b deeper f m (front ++ (h ∷ [])) hs u ≡ finished front (option_map (with_lines_before (h ∷ [])) (cut m hs)))
         → line_inside w n (λ m. inside s b deeper f m (front ++ (h ∷ [])) hs u) (λ i. and_then (outside s b deeper hs) (block_of s deeper f front h u))
-        ≡ finished front (cut_by w n (λ m. option_map (longer (h ∷ [])) (cut m hs)) (record { block = []; rof = h; after = hs }))
+        ≡ finished front (cut_by w n (λ m. option_map (with_lines_before (h ∷ [])) (cut m hs)) (record { block = []; rof = h; after = hs }))
     by_word word.For n ih = ih (suc n)
     by_word word.Rof zero ih = ap (λ bs. and_then (outside s b deeper hs) (block_of s deeper f bs h u)) (sym (append-nil front))
     by_word word.Rof (suc n) ih = ih n

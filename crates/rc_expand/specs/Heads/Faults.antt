@@ -8,15 +8,15 @@ use Rattle.rc_expand.specs.declared.fault.ExpandFault.{ExpandFault}
 use Rattle.rc_expand.specs.declared.fault.ExpandKind.TheVariants.{Text}
 use Rattle.rc_expand.specs.Results.{at_line}
 
--- the line after tokens, the first of which is at `line`
+-- The line after tokens, the first of which is at `line`.
 abbrev pub ending_line : ℕ → List Token → ℕ
 ending_line line [] = line
 ending_line line (t ∷ ts) = ending_line (line_after t.kind t.line) ts
 
--- what ends the tokens of a text, at the line where they end
+-- What ends the tokens of a text, at the line where they end.
 abbrev pub text_fault : List ℕ → Option ExpandFault
 text_fault source = option_map (λ fault. at_line (ending_line (1 + (header_of source).lines) (tokens_of source).tokens) (Text fault)) (tokens_of source).ending
 
--- a lexer in this state, with no token left, ends with this fault
+-- A lexer in this state, with no token left, ends with this fault.
 abbrev pub IsEnding : Ahead → ExpandFault → Type 0
 IsEnding a f = (fault : LexFault) × (a.ending ≡ Some fault) × (f ≡ at_line a.line (Text fault))

@@ -16,12 +16,12 @@ use Rattle.rc_expand.specs.declared.heads.head.HeadWord.TheVariants as word
 use Rattle.rc_expand.specs.declared.fault.ExpandFault.{ExpandFault}
 use Rattle.rc_expand.specs.Results.{mapped}
 
--- like `if`, but only the chosen branch is computed
+-- Like `if`, but only the chosen branch is computed.
 abbrev pub choose : {A : Type 0} → Bool → (Unit {0} → A) → (Unit {0} → A) → A
 choose true f g = f tt
 choose false f g = g tt
 
--- kinds of tokens
+-- Kinds of tokens.
 abbrev pub is_name_kind : Kind → Bool
 is_name_kind Name = true
 is_name_kind _ = false
@@ -50,7 +50,7 @@ is_dot_kind _ = false
 abbrev pub is_dot : Token → Bool
 is_dot t = is_dot_kind t.kind
 
--- reserved: an opcode or a directive, in any case
+-- Reserved: an opcode or a directive, in any case.
 abbrev pub is_reserved_class : NameClass → Bool
 is_reserved_class Reserved = true
 is_reserved_class _ = false
@@ -59,27 +59,27 @@ abbrev pub is_unjoined : List ℕ → Bool
 is_unjoined [] = true
 is_unjoined (k ∷ ks) = false
 
--- the labels that a line begins with, and the tokens after them
-pub record Labelled : Type 0 where
+-- The labels that a line begins with, and the tokens after them.
+pub record LabelSplit : Type 0 where
   pub labels : List (List Token)
   pub after : List Token
 
-abbrev pub unlabelled : List Token → Labelled
-unlabelled ts = record { labels = []; after = ts }
+abbrev pub no_labels : List Token → LabelSplit
+no_labels ts = record { labels = []; after = ts }
 
--- a token begins a label: it is its only token, or `into_label` puts more before it
-abbrev pub begin_label : Token → Labelled → Labelled
+-- A token begins a label: it is its only token, or `into_label` puts more before it.
+abbrev pub begin_label : Token → LabelSplit → LabelSplit
 begin_label t l = record { labels = (t ∷ []) ∷ l.labels; after = l.after }
 
 abbrev pub into_first : Token → List (List Token) → List (List Token)
 into_first t [] = (t ∷ []) ∷ []
 into_first t (l ∷ ls) = (t ∷ l) ∷ ls
 
--- a token goes to the front of the first label
-abbrev pub into_label : Token → Labelled → Labelled
+-- A token goes to the front of the first label.
+abbrev pub into_label : Token → LabelSplit → LabelSplit
 into_label t l = record { labels = into_first t l.labels; after = l.after }
 
--- the directive that a name spells, in any case; any other name is code
+-- The directive that a name spells, in any case; any other name is code.
 unfoldable pub word_of_name : List ℕ → HeadWord
 word_of_name name =
     if is_same_word (codes "ORG") name then word.Org else
@@ -109,47 +109,47 @@ abbrev pub has_end : List Head → Bool
 has_end [] = false
 has_end (h ∷ hs) = is_end h.word || has_end hs
 
--- the lines, unless there is a fault
+-- The lines, unless there is a fault.
 abbrev pub lines_unless : Option ExpandFault → List Head → Result (List Head) ExpandFault
 lines_unless None hs = Ok hs
 lines_unless (Some fault) hs = Err fault
 
--- lines were read: with END they are the last
+-- Lines were read: with END they are the last.
 abbrev pub line_then : List Head → Result (List Head) ExpandFault → Result (List Head) ExpandFault
 line_then hs later = if has_end hs then Ok hs else mapped (λ r. hs ++ r) later
 
 module _ (source : List ℕ) where
-  -- the bytes of a token, without joined counters
+  -- The bytes of a token, without joined counters.
   abbrev pub bytes_of : Token → List ℕ
   bytes_of t = slice_range source t.lo t.hi
 
-  -- a name that is not reserved; with joined counters it ends with a digit, as no reserved word
-  -- does
+  -- A name that is not reserved; with joined counters it ends with a digit, as no reserved word
+  -- does.
   unfoldable pub is_free : Token → Bool
   is_free t = is_name_token t && not (is_unjoined t.joined && is_reserved_class (class_of (bytes_of t)))
 
   unfoldable pub is_opcode : Token → Bool
   is_opcode t = is_name_token t && (is_unjoined t.joined && is_opcode_word (bytes_of t))
 
-  -- an opcode, a dot and a modifier
+  -- An opcode, a dot and a modifier.
   abbrev pub has_modifier : Token → Token → Token → Bool
   has_modifier t u v = is_opcode t && (is_dot u && is_name_token v)
 
-  -- a label is a free name, or free names joined by `&`, with an optional colon
-  abbrev pub labelled : List Token → Labelled
-  labelled [] = unlabelled []
-  labelled (t ∷ []) = choose (is_free t) (λ i. begin_label t (unlabelled [])) (λ i. unlabelled (t ∷ []))
-  labelled (t ∷ u ∷ []) =
+  -- A label is a free name, or free names joined by `&`, with an optional colon.
+  abbrev pub label_split : List Token → LabelSplit
+  label_split [] = no_labels []
+  label_split (t ∷ []) = choose (is_free t) (λ i. begin_label t (no_labels [])) (λ i. no_labels (t ∷ []))
+  label_split (t ∷ u ∷ []) =
       choose (is_free t)
-      (λ i. choose (is_colon u) (λ j. into_label t (begin_label u (unlabelled []))) (λ j. begin_label t (labelled (u ∷ []))))
-      (λ i. unlabelled (t ∷ u ∷ []))
-  labelled (t ∷ u ∷ v ∷ ts) =
+      (λ i. choose (is_colon u) (λ j. into_label t (begin_label u (no_labels []))) (λ j. begin_label t (label_split (u ∷ []))))
+      (λ i. no_labels (t ∷ u ∷ []))
+  label_split (t ∷ u ∷ v ∷ ts) =
       choose (is_free t)
-      (λ i. choose (is_ampersand u && is_free v) (λ j. into_label t (into_label u (labelled (v ∷ ts))))
-      (λ j. choose (is_colon u) (λ k. into_label t (begin_label u (labelled (v ∷ ts)))) (λ k. begin_label t (labelled (u ∷ v ∷ ts)))))
-      (λ i. unlabelled (t ∷ u ∷ v ∷ ts))
+      (λ i. choose (is_ampersand u && is_free v) (λ j. into_label t (into_label u (label_split (v ∷ ts))))
+      (λ j. choose (is_colon u) (λ k. into_label t (begin_label u (label_split (v ∷ ts)))) (λ k. begin_label t (label_split (u ∷ v ∷ ts)))))
+      (λ i. no_labels (t ∷ u ∷ v ∷ ts))
 
-  -- the number of tokens that belong to a label after its first name
+  -- The number of tokens that belong to a label after its first name.
   abbrev pub tail_len : List Token → ℕ
   tail_len [] = 0
   tail_len (u ∷ []) = if is_colon u then 1 else 0
@@ -159,12 +159,12 @@ module _ (source : List ℕ) where
   begins_label [] = false
   begins_label (t ∷ ts) = is_free t
 
-  -- a label goes on with `&` and a name
+  -- A label goes on with `&` and a name.
   abbrev pub goes_on : List Token → Bool
   goes_on (u ∷ v ∷ ts) = is_ampersand u && is_free v
   goes_on _ = false
 
-  -- the name of a label that is a single name, with or without its colon
+  -- The name of a label that is a single name, with or without its colon.
   abbrev pub label_token : List Token → Option Token
   label_token (t ∷ []) = if is_free t then Some t else None
   label_token (t ∷ u ∷ []) = if is_free t && is_colon u then Some t else None
@@ -173,29 +173,29 @@ module _ (source : List ℕ) where
   abbrev pub if_unjoined : Token → Option Token
   if_unjoined t = if is_unjoined t.joined then Some t else None
 
-  -- the same, if the name is written without `&`
+  -- The same, if the name is written without `&`.
   abbrev pub plain_token : List Token → Option Token
   plain_token l = option_and_then if_unjoined (label_token l)
 
-  -- the word of a line whose first token after the labels is `t`
+  -- The word of a line whose first token after the labels is `t`.
   abbrev pub word_of : Token → HeadWord
   word_of t = word_of_kind t.kind (bytes_of t)
 
-  abbrev pub headed : ℕ → List (List Token) → List Token → Head
-  headed number labels [] = bare_line number labels
-  headed number labels (t ∷ ts) = head_with_word (word_of t) number labels t ts
+  abbrev pub head_after_labels : ℕ → List (List Token) → List Token → Head
+  head_after_labels number labels [] = bare_line number labels
+  head_after_labels number labels (t ∷ ts) = head_with_word (word_of t) number labels t ts
 
-  -- a line, by its number and its tokens
+  -- A line, by its number and its tokens.
   unfoldable pub head_of : ℕ → List Token → Head
-  head_of number ts = headed number (labelled ts).labels (labelled ts).after
+  head_of number ts = head_after_labels number (label_split ts).labels (label_split ts).after
 
-  -- an empty line is left out
+  -- An empty line is left out.
   abbrev pub line_of_tokens : List Token → List Head
   line_of_tokens [] = []
   line_of_tokens (t ∷ ts) = head_of t.line (t ∷ ts) ∷ []
 
-  -- the lines up to the first with END, or the `fault` that ends the tokens; `front` is what was
-  -- read of the first line
+  -- The lines up to the first with END, or the `fault` that ends the tokens; `front` is what was
+  -- read of the first line.
   abbrev pub lines_from : (fault : Option ExpandFault) → (front : List Token) → List Token → Result (List Head) ExpandFault
   lines_from fault front [] = lines_unless fault (line_of_tokens front)
   lines_from fault front (t ∷ ts) =

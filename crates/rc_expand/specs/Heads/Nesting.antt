@@ -9,7 +9,7 @@ use Rattle.rc_expand.specs.declared.fault.ExpandKind.TheVariants.{ForWithoutRof,
 use Rattle.rc_expand.specs.Limits.{DEEPEST_BLOCK}
 use Rattle.rc_expand.specs.Results.{at_line}
 
--- one line; `opened` blocks are open before it, the outermost since line `outermost`
+-- One line; `opened` blocks are open before it, the outermost since line `outermost`.
 abbrev pub nesting_by : HeadWord → (line opened outermost : ℕ) → (ℕ → ℕ → Option ExpandFault) → Option ExpandFault
 nesting_by word.For line zero outermost next = next 1 line
 nesting_by word.For line (suc n) outermost next = if nat_lt (suc n) DEEPEST_BLOCK then next (suc (suc n)) outermost else Some (at_line line ForTooDeep)
@@ -17,14 +17,14 @@ nesting_by word.Rof line zero outermost next = Some (at_line line RofWithoutFor)
 nesting_by word.Rof line (suc n) outermost next = next n outermost
 nesting_by _ line n outermost next = next n outermost
 
--- the first FOR inside as many open blocks as may be open, or ROF outside of all; else the
--- outermost FOR that is still open at the end
+-- The first FOR inside as many open blocks as may be open, or ROF outside of all; else the
+-- outermost FOR that is still open at the end.
 abbrev pub nesting_fault : (opened outermost : ℕ) → List Head → Option ExpandFault
 nesting_fault n outermost [] = if n == 0 then None else Some (at_line outermost ForWithoutRof)
 nesting_fault n outermost (h ∷ hs) = nesting_by h.word h.number n outermost (λ m line. nesting_fault m line hs)
 
--- lines whose blocks are all closed: no lines, closed lines and one that is neither FOR nor ROF, or
--- closed lines and a block
+-- Lines whose blocks are all closed: no lines, closed lines and one that is neither FOR nor ROF, or
+-- closed lines and a block.
 pub data Closed : Type 0 where
   NoLine : Closed
   OneMore : (before : Closed) → (h : Head) → Closed
@@ -40,15 +40,15 @@ opens_or_closes word.For = true
 opens_or_closes word.Rof = true
 opens_or_closes _ = false
 
--- the tree describes its lines, and at most `n` blocks are nested
+-- The tree describes its lines, and at most `n` blocks are nested.
 abbrev pub IsClosed : ℕ → Closed → Type 0
 IsClosed n NoLine = Unit {0}
 IsClosed n (OneMore c h) = IsClosed n c × (opens_or_closes h.word ≡ false)
 IsClosed zero (Block c f inside r) = ⊥
 IsClosed (suc n) (Block c f inside r) = IsClosed (suc n) c × (f.word ≡ word.For) × IsClosed n inside × (r.word ≡ word.Rof)
 
--- lines with blocks that may still be open: closed lines, then any number of times a FOR and closed
--- lines
+-- Lines with blocks that may still be open: closed lines, then any number of times a FOR and closed
+-- lines.
 pub data Opened : Type 0 where
   Outside : (c : Closed) → Opened
   Within : (outer : Opened) → (opens : Head) → (inside : Closed) → Opened
@@ -57,17 +57,17 @@ abbrev pub opened_lines : Opened → List Head
 opened_lines (Outside c) = closed_lines c
 opened_lines (Within o f c) = opened_lines o ++ (f ∷ closed_lines c)
 
--- the tree describes its lines, and `n` more blocks may be opened, of `DEEPEST_BLOCK` in all
+-- The tree describes its lines, and `n` more blocks may be opened, of `DEEPEST_BLOCK` in all.
 abbrev pub IsOpened : ℕ → Opened → Type 0
 IsOpened n (Outside c) = (n ≡ DEEPEST_BLOCK) × IsClosed n c
 IsOpened n (Within o f c) = IsOpened (suc n) o × (f.word ≡ word.For) × IsClosed n c
 
--- the line of the outermost open FOR, or `line` without one
+-- The line of the outermost open FOR, or `line` without one.
 abbrev pub outermost_or : Opened → ℕ → ℕ
 outermost_or (Outside c) line = line
 outermost_or (Within o f c) line = outermost_or o f.number
 
--- a ROF outside of all blocks
+-- A ROF outside of all blocks.
 pub record IsRofAlone (hs : List Head) (f : ExpandFault) : Type 0 where
   pub before : Closed
   pub rof : Head
@@ -77,7 +77,7 @@ pub record IsRofAlone (hs : List Head) (f : ExpandFault) : Type 0 where
   pub lines : hs ≡ closed_lines before ++ (rof ∷ after)
   pub fault : f ≡ at_line rof.number RofWithoutFor
 
--- a FOR inside as many open blocks as may be open
+-- A FOR inside as many open blocks as may be open.
 pub record IsNinth (hs : List Head) (f : ExpandFault) : Type 0 where
   pub before : Opened
   pub ninth : Head
@@ -87,7 +87,7 @@ pub record IsNinth (hs : List Head) (f : ExpandFault) : Type 0 where
   pub lines : hs ≡ opened_lines before ++ (ninth ∷ after)
   pub fault : f ≡ at_line ninth.number ForTooDeep
 
--- blocks that are open at the end; the fault is at the outermost FOR
+-- Blocks that are open at the end; the fault is at the outermost FOR.
 pub record IsLeftOpen (hs : List Head) (f : ExpandFault) : Type 0 where
   pub outer : Opened
   pub opens : Head
@@ -97,7 +97,7 @@ pub record IsLeftOpen (hs : List Head) (f : ExpandFault) : Type 0 where
   pub lines : hs ≡ opened_lines (Within outer opens inside)
   pub fault : f ≡ at_line (outermost_or outer opens.number) ForWithoutRof
 
--- lines without a fault are closed blocks, and each fault means what its kind says
+-- Lines without a fault are closed blocks, and each fault means what its kind says.
 abbrev pub AreNested : List Head → Option ExpandFault → Type 0
 AreNested hs None = (c : Closed) × IsClosed DEEPEST_BLOCK c × (hs ≡ closed_lines c)
 AreNested hs (Some f) = IsRofAlone hs f ⊎ IsNinth hs f ⊎ IsLeftOpen hs f

@@ -11,12 +11,12 @@ use Rattle.rc_expand.specs.declared.line.LineWord.{LineWord}
 use Rattle.rc_expand.specs.declared.line.LineWord.TheVariants as line
 use Rattle.rc_expand.specs.declared.fault.ExpandFault.{ExpandFault}
 use Rattle.rc_expand.specs.declared.fault.ExpandKind.TheVariants.{DuplicateName}
-use Rattle.rc_expand.specs.declared.replace.labelling.Replacements.{Replacements}
-use Rattle.rc_expand.specs.Results.{mapped, and_then, at_line}
+use Rattle.rc_expand.specs.declared.replace.Replacements.{Replacements}
+use Rattle.rc_expand.specs.Results.{mapped, at_line, ◌>>=◌}
 use Rattle.rc_expand.specs.Shared.{Shared}
 use Rattle.rc_expand.specs.Names.{is_among, is_taken}
 use Rattle.rc_expand.specs.Heads.Lines.{label_token}
-use Rattle.rc_expand.specs.Heads.NameTables.{names_in}
+use Rattle.rc_expand.specs.NameTables.{names_in}
 use Rattle.rc_expand.specs.Replace.{Equs, line_tokens}
 
 abbrev pub line_word : HeadWord → LineWord
@@ -31,7 +31,7 @@ module _ (source : List ℕ) where
   own_step None ts = []
   own_step (Some t) ts = t ∷ ts
 
-  -- the labels of a line: those before the first that is not a single name
+  -- The labels of a line: those before the first that is not a single name.
   abbrev pub own_labels : List (List Token) → List Token
   own_labels [] = []
   own_labels (l ∷ ls) = own_step (label_token source l) (own_labels ls)
@@ -40,31 +40,31 @@ module _ (source : List ℕ) where
   other_step None here later = here
   other_step (Some t) here later = later
 
-  -- the would-be labels from there on, which are tokens instead
+  -- The would-be labels from there on, which are tokens instead.
   abbrev pub other_labels : List (List Token) → List (List Token)
   other_labels [] = []
   other_labels (l ∷ ls) = other_step (label_token source l) (l ∷ ls) (other_labels ls)
 
-  abbrev pub finished : Head → HeadWord → List Token → Line
-  finished h w tokens = record { number = h.number; labels = own_labels h.labels; word = line_word w; tokens = tokens }
+  abbrev pub expanded_line : Head → HeadWord → List Token → Line
+  expanded_line h w tokens = record { number = h.number; labels = own_labels h.labels; word = line_word w; tokens = tokens }
 
   abbrev pub made_line : Equs → Head → HeadWord → List Token → Result Line ExpandFault
-  made_line equs h w tokens = mapped (finished h w) (line_tokens source equs h.number w tokens)
+  made_line equs h w tokens = mapped (expanded_line h w) (line_tokens source equs h.number w tokens)
 
-  -- a would-be label that is not a single name makes its line code and begins its tokens
+  -- A would-be label that is not a single name makes its line code and begins its tokens.
   abbrev pub line_with_labels : Equs → Head → List (List Token) → Result Line ExpandFault
   line_with_labels equs h [] = made_line equs h h.word h.rest
   line_with_labels equs h (l ∷ ls) = made_line equs h word.Code (flat_map (λ x. x) (l ∷ ls) ++ (option_to_list h.directive ++ h.rest))
 
-  -- a line with its EQU names replaced
+  -- A line with its EQU names replaced.
   unfoldable pub line_of : Equs → Head → Result Line ExpandFault
   line_of equs h = line_with_labels equs h (other_labels h.labels)
 
-  -- the names that a line defines: its labels, or its EQU name
+  -- The names that a line defines: its labels, or its EQU name.
   abbrev pub names_of : Head → List (List ℕ)
   names_of h = map (name_of source) (own_labels h.labels)
 
--- the names defined so far, and the lines of the expansion
+-- The names defined so far, and the lines of the expansion.
 pub record Replacement : Type 0 where
   pub names : List (List ℕ)
   pub lines : List Line
@@ -72,7 +72,7 @@ pub record Replacement : Type 0 where
 abbrev pub no_lines : Replacement
 no_lines = record { names = []; lines = [] }
 
--- the names and lines that the code has so far
+-- The names and lines that the code has so far.
 abbrev pub lines_so_far : Replacements → Replacement
 lines_so_far r = record { names = names_in r.names; lines = r.lines.items }
 
@@ -80,26 +80,30 @@ abbrev pub with_line : List Line → List (List ℕ) → Line → Replacement
 with_line lines names l = record { names = names; lines = lines ++ (l ∷ []) }
 
 module _ (s : Shared) where
-  -- names are defined one after the other. None may be a constant, a predefined name or defined
+  -- Names are defined one after the other. None may be a constant, a predefined name or defined
   -- before.
-  abbrev pub defined : (number : ℕ) → List (List ℕ) → (before : List (List ℕ)) → Result (List (List ℕ)) ExpandFault
-  defined number [] before = Ok before
-  defined number (n ∷ ns) before =
-      if is_taken s.constants s.rules n || is_among before n then Err (at_line number DuplicateName) else defined number ns (before ++ (n ∷ []))
+  abbrev pub with_names : (number : ℕ) → List (List ℕ) → (before : List (List ℕ)) → Result (List (List ℕ)) ExpandFault
+  with_names number [] before = Ok before
+  with_names number (n ∷ ns) before =
+      if is_taken s.constants s.rules n || is_among before n then Err (at_line number DuplicateName) else with_names number ns (before ++ (n ∷ []))
 
-  -- an EQU line is dropped, and any other is added
+  -- An EQU line is dropped, and any other is added.
   abbrev pub line_added : HeadWord → Head → List Line → List (List ℕ) → Result Replacement ExpandFault
   line_added word.Equ h lines names = Ok (record { names = names; lines = lines })
   line_added _ h lines names = mapped (with_line lines names) (line_of s.source s.equs h)
 
-  -- one more line: its names, then its tokens
+  -- One more line: its names, then its tokens.
   abbrev pub line_replaced : Head → Replacement → Result Replacement ExpandFault
-  line_replaced h r = and_then (line_added h.word h r.lines) (defined h.number (names_of s.source h) r.names)
+  line_replaced h r = do
+    names ← with_names h.number (names_of s.source h) r.names
+    line_added h.word h r.lines names
 
   abbrev pub lines_replaced : List Head → Replacement → Result Replacement ExpandFault
   lines_replaced [] r = Ok r
-  lines_replaced (h ∷ hs) r = and_then (lines_replaced hs) (line_replaced h r)
+  lines_replaced (h ∷ hs) r = do
+    next ← line_replaced h r
+    lines_replaced hs next
 
-  -- the third pass
+  -- The third pass.
   unfoldable pub replaced : List Head → Result (List Line) ExpandFault
   replaced hs = mapped (λ r. r.lines) (lines_replaced hs no_lines)

@@ -1,6 +1,6 @@
 -- A line in one copy of a block. The counter of the block becomes its number, or is joined to the
 -- name before it by `&` (pMARS).
-use Rattle.std.specs.Prelude.{ℕ, Bool, true, false, ◌&&◌, not, ◌+◌, ◌*◌, nat_le, nat_lt, List, [], ◌∷◌, ◌++◌, length, map, Option, Some, None, if◌then◌else◌, option_and_then, option_map}
+use Rattle.std.specs.Prelude.{◌≡◌, ℕ, drop, Bool, true, false, ◌&&◌, not, ◌+◌, ◌*◌, nat_le, nat_lt, List, [], ◌∷◌, ◌++◌, length, map, Option, Some, None, if◌then◌else◌, option_and_then, option_map}
 use Rattle.std.specs.List.{list_all}
 use Rattle.std.specs.Str.{bytes_eq}
 use Rattle.rc_text.specs.declared.token.Kind.TheVariants.{Number}
@@ -12,79 +12,85 @@ use Rattle.rc_expand.specs.declared.heads.head.HeadWord.TheVariants as word
 use Rattle.rc_expand.specs.Limits.{MOST_JOINED}
 use Rattle.rc_expand.specs.Heads.Lines.{choose, is_name_token, is_ampersand, has_modifier}
 
--- the results of `f` for all items, or None if `f` gives None for one of them
+-- The results of `f` for all items, or None if `f` gives None for one of them.
 abbrev pub all_of : {A B : Type 0} → (A → Option B) → List A → Option (List B)
 all_of f [] = Some []
 all_of f (x ∷ xs) = option_and_then (λ y. option_map (λ ys. y ∷ ys) (all_of f xs)) (f x)
 
 module _ (source : List ℕ) where
-  -- the token is a name, and spells `counter`
+  -- The token is a name, and spells `counter`.
   abbrev pub is_counter : List ℕ → Token → Bool
   is_counter counter t = is_name_token t && bytes_eq (name_of source t) counter
 
-  -- the counter's name becomes the number `k`; a name that this copy `made` by joining stays a
-  -- name, even if it spells the counter
-  abbrev pub numbered : List ℕ → ℕ → (made : Bool) → Token → Token
-  numbered counter k made t = if not made && is_counter counter t then record t { kind = Number k } else t
+  -- The counter's name becomes the number `k`; a name that this copy `made` by joining stays a
+  -- name, even if it spells the counter.
+  abbrev pub with_number : List ℕ → ℕ → (made : Bool) → Token → Token
+  with_number counter k made t = if not made && is_counter counter t then record t { kind = Number k } else t
 
-  -- one more counter is joined to a name, unless `MOST_JOINED` are joined to it already
-  abbrev pub joined : ℕ → Token → Option Token
-  joined k t = if nat_lt (length t.joined) MOST_JOINED then Some (record t { joined = t.joined ++ (k ∷ []) }) else None
+  -- One more counter is joined to a name, unless `MOST_JOINED` are joined to it already.
+  abbrev pub with_counter : ℕ → Token → Option Token
+  with_counter k t = if nat_lt (length t.joined) MOST_JOINED then Some (record t { joined = t.joined ++ (k ∷ []) }) else None
 
-  -- `t` is a name, and `&` and the counter come after it
+  -- `t` is a name, and `&` and the counter come after it.
   abbrev pub joins : List ℕ → Token → List Token → Bool
   joins counter t (u ∷ v ∷ ts) = is_name_token t && (is_ampersand u && is_counter counter v)
   joins counter t _ = false
 
-  -- the copy of `t` and the tokens after it; `made` says whether this copy has joined its number
-  -- to `t` already
+  -- The copy of `t` and the tokens after it; `made` says whether this copy has joined its number to
+  -- `t` already.
   abbrev pub copied_from : List ℕ → ℕ → (made : Bool) → Token → List Token → Option (List Token)
-  copied_from counter k made t [] = Some (numbered counter k made t ∷ [])
-  copied_from counter k made t (u ∷ []) = option_map (λ r. numbered counter k made t ∷ r) (copied_from counter k false u [])
+  copied_from counter k made t [] = Some (with_number counter k made t ∷ [])
+  copied_from counter k made t (u ∷ []) = option_map (λ r. with_number counter k made t ∷ r) (copied_from counter k false u [])
   copied_from counter k made t (u ∷ v ∷ ts) =
-      choose (joins counter t (u ∷ v ∷ ts)) (λ i. option_and_then (λ j. copied_from counter k true j ts) (joined k t))
-      (λ i. option_map (λ r. numbered counter k made t ∷ r) (copied_from counter k false u (v ∷ ts)))
+      choose (joins counter t (u ∷ v ∷ ts)) (λ i. option_and_then (λ j. copied_from counter k true j ts) (with_counter k t))
+      (λ i. option_map (λ r. with_number counter k made t ∷ r) (copied_from counter k false u (v ∷ ts)))
 
-  -- tokens in the copy for `k`, or None if a ninth counter would be joined to a name
+  -- Tokens in the copy for `k`, or None if a ninth counter would be joined to a name.
   abbrev pub copied_tokens : List ℕ → ℕ → List Token → Option (List Token)
   copied_tokens counter k [] = Some []
   copied_tokens counter k (t ∷ ts) = copied_from counter k false t ts
 
-  -- in a line of code the modifier after an opcode and a dot is no name, so these three stay
+  -- The copy of the tokens from `at` on begins with this name, and goes on at this index; or, with
+  -- None, a ninth counter would be joined to a name.
+  abbrev pub BeginsCopy : List ℕ → ℕ → List Token → (at : ℕ) → Option (Token × ℕ) → Type 0
+  BeginsCopy counter k ts at o =
+      copied_tokens counter k (drop at ts) ≡ option_and_then (λ p. option_map (λ r. p.0 ∷ r) (copied_tokens counter k (drop p.1 ts))) o
+
+  -- In a line of code the modifier after an opcode and a dot is no name, so these three stay.
   abbrev pub copied_code : List ℕ → ℕ → List Token → Option (List Token)
   copied_code counter k (t ∷ u ∷ v ∷ ts) =
       choose (has_modifier source t u v) (λ i. option_map (λ r. t ∷ u ∷ v ∷ r) (copied_tokens counter k ts)) (λ i. copied_tokens counter k (t ∷ u ∷ v ∷ ts))
   copied_code counter k ts = copied_tokens counter k ts
 
-  -- what comes after the labels, by the word of the line
+  -- What comes after the labels, by the word of the line.
   abbrev pub copied_rest : List ℕ → ℕ → HeadWord → List Token → Option (List Token)
   copied_rest counter k word.Code ts = copied_code counter k ts
   copied_rest counter k _ ts = copied_tokens counter k ts
 
-  -- if a ninth counter would be joined to a name, the line is spoiled: its labels and what comes
-  -- after them are dropped
+  -- If a ninth counter would be joined to a name, the line is spoiled: its labels and what comes
+  -- after them are dropped.
   abbrev pub or_spoiled : Head → Option (List (List Token)) → Option (List Token) → Head
   or_spoiled h (Some labels) (Some rest) = record h { labels = labels; rest = rest }
   or_spoiled h _ _ = record h { labels = []; rest = []; spoiled = true }
 
-  -- a line in the copy for `k`
+  -- A line in the copy for `k`.
   unfoldable pub copied_line : List ℕ → ℕ → Head → Head
   copied_line counter k h = or_spoiled h (all_of (copied_tokens counter k) h.labels) (copied_rest counter k h.word h.rest)
 
-  -- the lines of a block in the copy for `k`; without a counter they stay as they are
+  -- The lines of a block in the copy for `k`; without a counter they stay as they are.
   abbrev pub copied_block : Option (List ℕ) → ℕ → List Head → List Head
   copied_block None k hs = hs
   copied_block (Some counter) k hs = map (copied_line counter k) hs
 
--- no ninth counter can be joined to the token, one of `n` tokens, in however many copies: each
--- counter that is joined takes two tokens away
+-- No ninth counter can be joined to the token, one of `n` tokens, in however many copies: each
+-- counter that is joined takes two tokens away.
 abbrev pub stays_joinable : ℕ → Token → Bool
 stays_joinable n t = nat_le (2 * length t.joined + n) (2 * (MOST_JOINED + 1))
 
--- all of the tokens stay joinable
+-- All of the tokens stay joinable.
 abbrev pub is_short : List Token → Bool
 is_short ts = list_all (stays_joinable (length ts)) ts
 
--- the line is too short for a ninth counter to be joined to a name of it
+-- The line is too short for a ninth counter to be joined to a name of it.
 abbrev pub is_short_line : Head → Bool
 is_short_line h = list_all is_short h.labels && is_short h.rest

@@ -2,7 +2,7 @@
 ghost use Rattle.std.specs.Prelude.{◌≡◌, ◌≢◌, List, ℕ, ◌++◌, [], ◌+◌, ◌≤◌, ◌&&◌, IsTrue, length, drop, All, IfOk, IfSome, MatchResult, Ok, Err, None};
 ghost use Rattle.rc_text.specs.Tokens.{tokens_of, TakesToken};
 ghost use Rattle.rc_text.specs.Gaps.{is_line_end};
-ghost use Rattle.rc_expand.specs.Heads.Lines.{head_of, is_free, is_ampersand, goes_on, tail_len, begins_label, labelled, line_of_tokens, has_end};
+ghost use Rattle.rc_expand.specs.Heads.Lines.{head_of, is_free, is_ampersand, goes_on, tail_len, begins_label, label_split, line_of_tokens, has_end};
 ghost use Rattle.rc_expand.specs.Results.{Returns};
 ghost use Rattle.rc_expand.specs.Heads.{text_lines};
 ghost use Rattle.rc_expand.specs.Heads.Faults.{IsEnding};
@@ -85,8 +85,8 @@ fn read_labels(
     source: &[u8],
     tokens: &[Token],
 ) -> Result<(Labels, usize), AllocError>
-    ensures labels { IfOk result (λ p. p.0 ≡ (labelled source.now tokens.now).labels) }
-    ensures rest { IfOk result (λ p. drop p.1 tokens.now ≡ (labelled source.now tokens.now).after) }
+    ensures labels { IfOk result (λ p. p.0 ≡ (label_split source.now tokens.now).labels) }
+    ensures rest { IfOk result (λ p. drop p.1 tokens.now ≡ (label_split source.now tokens.now).after) }
     ensures index { IfOk result (λ p. p.1 ≤ length tokens.now) }
 {
     let mut labels = Labels::none(alloc);

@@ -5,12 +5,12 @@ ghost use Rattle.rc_expand.specs.Replace.{exempt_len_of_code, exempt_len, line_t
 ghost use Rattle.rc_expand.specs.Replace.Lines.{line_word, own_labels, other_labels, made_line, line_of};
 
 use crate::context::Context;
+use crate::equ_tokens::replace_tokens;
 use crate::fault::ExpandFault;
 use crate::heads::head::{Head, HeadWord};
 use crate::heads::labels::label_token;
 use crate::heads::words::{clone_token, has_modifier};
 use crate::line::{Line, LineWord, Tokens};
-use crate::replace::replace_tokens;
 use rc_text::Token;
 use std::alloc::{AllocError, Global};
 

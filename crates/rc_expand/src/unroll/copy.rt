@@ -1,7 +1,7 @@
 //! Copying the lines of a block, with the number of its counter put in.
 ghost use Rattle.std.specs.Prelude.{◌≡◌, List, ℕ, ◌++◌, ◌∷◌, ◌+◌, ◌<◌, ◌≤◌, ◌^◌, ◌&&◌, length, drop, map, option_map, option_and_then, IsTrue, All, IfOk, IfSome};
 ghost use Rattle.rc_expand.specs.Heads.Lines.{is_name_token, is_ampersand};
-ghost use Rattle.rc_expand.specs.Unroll.Copies.{is_counter, numbered, joins, copied_tokens, copied_code, copied_rest, copied_line, all_of};
+ghost use Rattle.rc_expand.specs.Unroll.Copies.{is_counter, with_number, joins, copied_tokens, BeginsCopy, copied_code, copied_rest, copied_line, all_of};
 
 use crate::heads::head::{Head, HeadWord, Labels};
 use crate::heads::words::{
@@ -55,8 +55,7 @@ fn copy_name(
     at: usize,
 ) -> Result<Option<(Token, usize)>, AllocError>
     requires { at < length tokens.now }
-    ensures copied { IfOk result (λ o. copied_tokens source.now counter.now number (drop at tokens.now)
-        ≡ option_and_then (λ p. option_map (λ r. p.0 ∷ r) (copied_tokens source.now counter.now number (drop p.1 tokens.now))) o) }
+    ensures copied { IfOk result (BeginsCopy source.now counter.now number tokens.now at) }
     ensures after { IfOk result (λ o. IfSome o (λ p. (at < p.1) × (p.1 ≤ length tokens.now))) }
 {
     let mut name = clone_token(&tokens[at])?;
@@ -146,7 +145,7 @@ fn is_counter(source: &[u8], counter: &[u8], token: &Token) -> bool
 // Puts `number` in place of the counter's name, unless this copy `made` that name by joining. Any
 // other token stays as it is.
 fn put_number(source: &[u8], counter: &[u8], number: u16, made: bool, token: &mut Token)
-    ensures { token.new ≡ numbered source.now counter.now number made token.old }
+    ensures { token.new ≡ with_number source.now counter.now number made token.old }
 {
     if !made && is_counter(source, counter, token) {
         token.kind = Kind::Number(u32::from(number));

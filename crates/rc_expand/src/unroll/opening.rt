@@ -7,6 +7,7 @@ ghost use Rattle.rc_expand.specs.Unroll.{Unrolled, is_bare_rof, at_rof};
 ghost use Rattle.rc_expand.specs.Unroll.Openings.{is_plain_number, is_enclosing, counter_kind, counter_of, small_count, earlier_of, seen_start, opening, count_of, counter_name};
 
 use crate::context::Context;
+use crate::equ_tokens::replace_tokens;
 use crate::fault::{ExpandFault, ExpandKind, fault};
 use crate::heads::equs::equ_line;
 use crate::heads::head::{Head, Labels};
@@ -15,7 +16,6 @@ use crate::heads::words::{is_colon, is_unjoined};
 use crate::limits::MOST_COPIES;
 use crate::line::Tokens;
 use crate::names::is_taken;
-use crate::replace::replace_tokens;
 use crate::unroll::copy::clone_labels;
 use rc_text::{Kind, Token, eval, text_of};
 use std::alloc::{AllocError, Global};

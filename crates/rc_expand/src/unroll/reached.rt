@@ -112,6 +112,13 @@ fn stays_joinable(token: &Token, len: usize) -> bool
 }
 
 impl<'a> Reached<'a> {
+    // Checks for a line that is as the text has it: in no copy, and not of earlier labels alone.
+    pub(crate) fn is_as_written(&self) -> bool
+        ensures { (source : List ℕ) → result ≡ true → reached_line source self.now ≡ self.now.head.now }
+    {
+        self.copies.is_empty() && !self.is_earlier
+    }
+
     // Makes the line.
     pub(crate) fn make(&self, alloc: Global, source: &[u8]) -> Result<Head, AllocError>
         ensures { IfOk result (λ h. h ≡ reached_line source.now self.now) }

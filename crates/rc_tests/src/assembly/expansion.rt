@@ -1,7 +1,4 @@
 //! Texts, and the lines that they expand to or their faults.
-ghost use Rattle.std.specs.Prelude.{All};
-ghost use Rattle.rc_text.specs.Symbols.{LiesIn};
-ghost use Rattle.rc_expand.specs.Expansion.{LineLies};
 
 use crate::assembly::push_times;
 use rc_expand::{Constants, ExpandFault, ExpandKind, Line, LineWord, expand, name_of};
@@ -16,9 +13,7 @@ fn push_tokens(
     out: &mut Vec<u8>,
     source: &[u8],
     tokens: &[Token],
-) -> Result<(), Fail>
-    requires { All (LiesIn source.now) tokens.now }
-{
+) -> Result<(), Fail> {
     for token in tokens {
         out.push(b' ')?;
         match token.kind {
@@ -43,9 +38,7 @@ fn word_text(word: LineWord) -> &'static [u8] {
 }
 
 // Appends a line: its number, its labels, a colon, its word, and its tokens.
-fn push_line(alloc: Global, out: &mut Vec<u8>, source: &[u8], line: &Line) -> Result<(), Fail>
-    requires { LineLies source.now line.now }
-{
+fn push_line(alloc: Global, out: &mut Vec<u8>, source: &[u8], line: &Line) -> Result<(), Fail> {
     out.extend_from_slice(format!(in alloc; "{}", line.number)?.as_bytes())?;
     push_tokens(alloc, out, source, line.labels.as_slice())?;
     out.push(b':')?;
@@ -55,9 +48,7 @@ fn push_line(alloc: Global, out: &mut Vec<u8>, source: &[u8], line: &Line) -> Re
     Ok(())
 }
 
-fn text_of(alloc: Global, source: &[u8], lines: &[Line]) -> Result<Vec<u8>, Fail>
-    requires { All (LineLies source.now) lines.now }
-{
+fn text_of(alloc: Global, source: &[u8], lines: &[Line]) -> Result<Vec<u8>, Fail> {
     let mut out = Vec::new(alloc);
     for line in lines {
         push_line(alloc, &mut out, source, line)?;

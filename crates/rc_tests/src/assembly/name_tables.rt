@@ -1,17 +1,12 @@
 //! Name tables, looked up by tokens.
-ghost use Rattle.std.specs.Prelude.{◌≤◌, length};
-ghost use Rattle.rc_text.specs.Symbols.{LiesIn};
 
 use rc_expand::NameTable;
 use rc_text::{Joined, Kind, Token};
 use std::alloc::Global;
 use std::test::Fail;
 
-// Returns the token of the first `hi` bytes of `source`, with no counter.
-fn name_token(source: &[u8], hi: usize) -> Token
-    requires { hi ≤ length source.now }
-    ensures { LiesIn source.now result }
-{
+// Returns the token of the first `hi` bytes of a text, with no counter.
+fn name_token(hi: usize) -> Token {
     Token {
         kind: Kind::Name,
         lo: 0,
@@ -22,10 +17,7 @@ fn name_token(source: &[u8], hi: usize) -> Token
 }
 
 // Joins one more counter to `token`, if there is room.
-fn joined(source: &[u8], token: Token, counter: u16) -> Token
-    requires { LiesIn source.now token }
-    ensures { LiesIn source.now result }
-{
+fn joined(token: Token, counter: u16) -> Token {
     let mut token = token;
     if token.joined.len() < 8 {
         token.joined.push(counter);
@@ -40,15 +32,11 @@ fn add_front<'a>(
     source: &'a [u8],
     hi: usize,
     value: u64,
-) -> Result<bool, Fail>
-    requires { hi ≤ length source.now }
-{
-    Ok(table.add(alloc, source, &name_token(source, hi), value)?)
+) -> Result<bool, Fail> {
+    Ok(table.add(alloc, source, &name_token(hi), value)?)
 }
 
-fn value_of(table: &NameTable<'_, u64>, source: &[u8], token: &Token) -> Option<u64>
-    requires { LiesIn source.now token.now }
-{
+fn value_of(table: &NameTable<'_, u64>, source: &[u8], token: &Token) -> Option<u64> {
     table.get(source, token).copied()
 }
 
@@ -62,17 +50,17 @@ fn names_are_found_by_their_tokens(rt: HostRuntime) -> Result<(), Fail> {
     add_front(rt.alloc(), &mut table, names, 7, 9)?;
     let source = b"x01y".as_slice();
     let fronts = [
-        value_of(&table, source, &name_token(source, 1)),
-        value_of(&table, source, &name_token(source, 2)),
-        value_of(&table, source, &name_token(source, 3)),
-        value_of(&table, source, &name_token(source, 4)),
+        value_of(&table, source, &name_token(1)),
+        value_of(&table, source, &name_token(2)),
+        value_of(&table, source, &name_token(3)),
+        value_of(&table, source, &name_token(4)),
     ];
     assert_eq!(rt; fronts, [Some(7), None, Some(8), None]);
-    let token = joined(source, name_token(source, 1), 1);
+    let token = joined(name_token(1), 1);
     let one = value_of(&table, source, &token);
-    let token = joined(source, token, 4096);
+    let token = joined(token, 4096);
     let two = value_of(&table, source, &token);
-    let token = joined(source, token, 0);
+    let token = joined(token, 0);
     let three = value_of(&table, source, &token);
     assert_eq!(rt; [one, two, three], [Some(8), Some(9), None]);
     Ok(())
@@ -82,7 +70,7 @@ fn names_are_found_by_their_tokens(rt: HostRuntime) -> Result<(), Fail> {
 fn a_name_keeps_its_first_value(rt: HostRuntime) -> Result<(), Fail> {
     let mut table = NameTable::new(rt.alloc());
     let source = b"step".as_slice();
-    let token = name_token(source, 4);
+    let token = name_token(4);
     assert_eq!(rt; value_of(&table, source, &token), None);
     assert!(rt; add_front(rt.alloc(), &mut table, source, 4, 1)?);
     assert!(rt; add_front(rt.alloc(), &mut table, b"Step", 4, 2)?);
@@ -96,11 +84,11 @@ fn many_names_are_found(rt: HostRuntime) -> Result<(), Fail> {
     let mut table = NameTable::new(rt.alloc());
     let source = b"x".as_slice();
     for i in 0..1000_u16 {
-        let token = joined(source, name_token(source, 1), i);
+        let token = joined(name_token(1), i);
         assert!(rt; table.add(rt.alloc(), source, &token, u64::from(i))?);
     }
     for i in 0..1000_u16 {
-        let token = joined(source, name_token(source, 1), i);
+        let token = joined(name_token(1), i);
         assert_eq!(rt; value_of(&table, source, &token), Some(u64::from(i)));
     }
     Ok(())

@@ -2,7 +2,7 @@ use Rattle.std.proofs.Common.{◌≡◌, drop}
 use Rattle.std.specs.Prelude.{flat_map}
 use Rattle.std.specs.Str.{bytes_eq}
 use Rattle.rc_text.specs.Symbols.{counter_text}
-use Rattle.rc_expand.specs.Heads.NameTables.{joined_name}
+use Rattle.rc_expand.specs.NameTables.{joined_name}
 use Rattle.rc_expand.proofs.names.is_joined_name.Given as goal
 
 abbrev pub invariant-loop-counter : goal.invariant-loop-counter

@@ -1,4 +1,4 @@
-use Rattle.std.proofs.Common.{◌≡◌, sym, ap, ◌-◌, drop}
+use Rattle.std.proofs.Common.{sym, ap}
 use Rattle.rc_expand.proofs.Reading.HeadSteps.{label_more, labels_done}
 use Rattle.rc_expand.proofs.heads.read.read_labels.Goals as goal
 

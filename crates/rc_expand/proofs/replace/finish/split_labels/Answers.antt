@@ -1,4 +1,4 @@
-use Rattle.std.proofs.Common.{◌≡◌, sym, ◌∙◌, ap}
+use Rattle.std.proofs.Common.{◌≡◌, ◌∙◌, ap}
 use Rattle.std.specs.Prelude.{Some}
 use Rattle.rc_expand.specs.Heads.Lines.{label_token}
 use Rattle.rc_expand.proofs.Replacing.LineSteps.{own_more, other_more}

@@ -1,4 +1,4 @@
-use Rattle.std.proofs.Common.{◌≡◌, sym, ◌∙◌, ap, Option, Some, List, drop, take, arith, length, subst, ◌≤◌, ◌++◌, ◌-◌}
+use Rattle.std.proofs.Common.{◌≡◌, sym, ◌∙◌, ap, Option, Some, List, drop, take, arith, length, ◌≤◌, ◌++◌, ◌-◌}
 use Rattle.std.specs.Prelude.{option_map}
 use Rattle.std.proofs.lemmas.Slice.{between_to_end}
 use Rattle.rc_text.specs.declared.token.Token.{Token}

@@ -1,4 +1,4 @@
-use Rattle.std.proofs.Common.{◌≡◌, sym, ◌∙◌, ap, subst, ◌+◌, ◌++◌, ◌∷◌, drop, List, ℕ, Option, get_or}
+use Rattle.std.proofs.Common.{◌≡◌, sym, ◌∙◌, ap, ◌+◌, ◌++◌, ◌∷◌, drop, List, ℕ, Option, get_or}
 use Rattle.std.specs.Prelude.{option_map, option_and_then}
 use Rattle.rc_text.specs.declared.token.Token.{Token}
 use Rattle.rc_expand.specs.Heads.Lines.{is_name_token}

@@ -1,9 +1,0 @@
-use Rattle.std.proofs.Common.{◌≡◌, ◌++◌, map, drop}
-use Rattle.rc_expand.specs.Replace.{equ_in}
-use Rattle.rc_expand.specs.Heads.NameTables.{at_index}
-use Rattle.rc_expand.proofs.replace.links.link_tokens.Given as goal
-
--- the tokens that are left make the whole
-abbrev pub invariant-loop-token : goal.invariant-loop-token
-invariant-loop-token l =
-    map (at_index l.equs) l.indices.items ++ map (equ_in l.source l.equs) (drop l.token-index l.tokens) ≡ map (equ_in l.source l.equs) l.tokens

@@ -1,0 +1,115 @@
+//! Tokens in which EQU names give way to their own. The second pass replaces those of the count of
+//! a FOR, and the third those of each line.
+ghost use Rattle.std.specs.Prelude.{◌≡◌, ◌≢◌, ℕ, List, [], ◌∷◌, ◌++◌, ◌+◌, ◌≤◌, length, MatchResult, Ok, Err, Some, None, option_map, All, IfSome, IfOk, OnOk};
+ghost use Rattle.rc_expand.specs.Results.{Returns};
+ghost use Rattle.rc_expand.specs.NameTables.{at_index, AreIndices};
+ghost use Rattle.rc_expand.specs.Replace.{with_token, equ_in, replaced_tokens};
+ghost use Rattle.rc_expand.specs.Shared.{Replaces, step_of_token, step_of_tokens};
+
+pub(crate) mod links;
+
+use crate::context::Context;
+use crate::equ_tokens::links::link_tokens;
+use crate::fault::{ExpandFault, ExpandKind, fault};
+use crate::heads::words::clone_token;
+use crate::limits::{DEEPEST_EQU, MOST_REPLACEMENTS, MOST_TOKENS};
+use crate::line::Tokens;
+use rc_text::Token;
+
+// The tokens of a line so far, its number, and how many EQU names were replaced in it.
+#[derive(Drop)]
+pub(crate) struct Replacing {
+    line: u64,
+    tokens: Vec<Token>,
+    replacements: u32,
+}
+
+// Replaces the EQU names of `tokens`, at most `DEEPEST_EQU` deep. `front` are the tokens before
+// them in the line, which are left alone but count.
+#[tactic(auto, unfolding(crate::specs::Replace::replaced_tokens))]
+pub(crate) fn replace_tokens(
+    context: &Context,
+    line: u64,
+    front: Vec<Token>,
+    tokens: &[Token],
+) -> Result<Tokens, ExpandFault>
+    ensures { Returns (λ t. t) result (replaced_tokens context.now.source.now context.now.equs.now line front.items tokens.now) }
+{
+    let indices = link_tokens(context.alloc, context.source, tokens, context.equs)?;
+    let mut out = Replacing {
+        line,
+        tokens: front,
+        replacements: 0,
+    };
+    append_replaced(&mut out, context, tokens, indices.as_slice(), DEEPEST_EQU)?;
+    Ok(Tokens::from_vec(out.tokens))
+}
+
+// Returns the tokens of the EQU name at an index of the table, and their links.
+fn body_at<'a>(
+    context: &Context<'a>,
+    index: Option<usize>,
+) -> Option<(&'a [Token], &'a [Option<usize>])>
+    ensures tokens { option_map (λ p. p.0.now) result ≡ option_map (λ e. e.tokens) (at_index context.now.equs.now index) }
+    ensures indices { IfSome result (λ p. AreIndices context.now.source.now context.now.equs.now p.0.now p.1.now) }
+{
+    let i = index?;
+    let equ = context.equs.at(i)?;
+    Some((equ.tokens(), context.links[i].as_slice()))
+}
+
+// Appends a token that is not an EQU name.
+fn push_token(out: &mut Replacing, token: &Token) -> Result<(), ExpandFault>
+    ensures { Replaces out.old (with_token token.now) result out.new }
+{
+    if out.tokens.len() >= MOST_TOKENS {
+        return Err(fault(out.line, ExpandKind::TooManyTokens));
+    }
+    out.tokens.push(clone_token(token)?)?;
+    Ok(())
+}
+
+// Appends a token, or the tokens of the EQU name that it is.
+#[cycle(replace)]
+fn append_one(
+    out: &mut Replacing,
+    context: &Context,
+    token: &Token,
+    index: Option<usize>,
+    levels: u8,
+) -> Result<(), ExpandFault>
+    requires { at_index context.now.equs.now index ≡ equ_in context.now.source.now context.now.equs.now token.now }
+    ensures { Replaces out.old (step_of_token context.now levels token.now) result out.new }
+{
+    match body_at(context, index) {
+        None => push_token(out, token),
+        Some((body, indices)) => {
+            if levels == 0 {
+                return Err(fault(out.line, ExpandKind::EquTooDeep));
+            }
+            if out.replacements >= MOST_REPLACEMENTS {
+                return Err(fault(out.line, ExpandKind::TooManyTokens));
+            }
+            out.replacements += 1;
+            append_replaced(out, context, body, indices, levels - 1)
+        }
+    }
+}
+
+// Appends tokens with their EQU names replaced, at most `levels` deep.
+#[cycle(replace)]
+fn append_replaced(
+    out: &mut Replacing,
+    context: &Context,
+    tokens: &[Token],
+    indices: &[Option<usize>],
+    levels: u8,
+) -> Result<(), ExpandFault>
+    requires { AreIndices context.now.source.now context.now.equs.now tokens.now indices.now }
+    ensures { Replaces out.old (step_of_tokens context.now levels tokens.now) result out.new }
+{
+    for i in 0..tokens.len() {
+        append_one(out, context, &tokens[i], indices[i], levels)?;
+    }
+    Ok(())
+}
