@@ -1,4 +1,5 @@
 pub mod Below
+pub mod Keys
 pub mod Packing
 pub mod Classes
 pub mod Stores

@@ -4,7 +4,7 @@ ghost use Rattle.rc_instr.specs.Warrior.{IsBelow};
 ghost use Rattle.mars_core.specs.Core.{cell_at, changed_at, IsCore};
 ghost use Rattle.mars_core.specs.Numbers.{sum_of, difference_of, field_of};
 ghost use Rattle.mars_core.specs.Operand.{operand_of};
-ghost use Rattle.mars_core.specs.Evaluated.{located, located_from, a_operand, b_operand};
+ghost use Rattle.mars_core.specs.Evaluated.{located, located_from};
 
 use crate::cell::Cell;
 use crate::cells::{Cells, read, write};
@@ -19,31 +19,7 @@ pub(crate) struct Evaluated<K> {
 }
 
 // Both operands of an instruction.
-type Operands<K> = (Evaluated<K>, Evaluated<K>);
-
-// Evaluates the A-operand of `cell`, which is at `pc`, and then its B-operand (1994 draft).
-#[inline(always)]
-pub(crate) fn operands<C: Cells>(
-    cells: &mut C,
-    size: u32,
-    pc: u32,
-    cell: C::Kept,
-) -> Operands<C::Kept>
-    requires core { IsCore size (C.items cells.old) }
-    requires pc { pc < size }
-    requires below { IsBelow size (C.Kept.held cell) }
-    ensures a { (result.0.address ≡ sum_of size pc (a_operand size (C.items cells.old) pc (C.Kept.held cell)).pointer)
-        × (C.Kept.held result.0.copy ≡ (a_operand size (C.items cells.old) pc (C.Kept.held cell)).copy) }
-    ensures b { located result.1.address (C.Kept.held result.1.copy) (C.items cells.new) ≡ located_from size pc (b_operand size (C.items cells.old) pc (C.Kept.held cell)) }
-    ensures a_below { (result.0.address < size) × IsBelow size (C.Kept.held result.0.copy) }
-    ensures b_below { (result.1.address < size) × IsBelow size (C.Kept.held result.1.copy) }
-    ensures core { IsCore size (C.items cells.new) }
-    ensures marks { C.marks cells.new ≤ C.marks cells.old + 2 }
-{
-    let a = evaluate(cells, size, pc, cell.a_mode(), cell.a_number());
-    let b = evaluate(cells, size, pc, cell.b_mode(), cell.b_number());
-    (a, b)
-}
+pub(crate) type Operands<K> = (Evaluated<K>, Evaluated<K>);
 
 // Evaluates an operand of the task at `pc`. Lowers the number that it goes through before its use
 // with a predecrement mode, and raises it after the copy is taken with a postincrement mode.

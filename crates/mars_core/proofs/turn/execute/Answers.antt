@@ -1,197 +1,201 @@
-use Rattle.std.proofs.Common.{arith}
-use Rattle.mars_core.proofs.Classes.{coded_1, coded_2, coded_3, coded_4, coded_5, coded_6, coded_7, coded_8, coded_9, coded_10, coded_11, coded_12, coded_13, coded_14, coded_15, coded_16, coded_17, coded_18, coded_19, coded_20, coded_21, coded_22, coded_23, coded_24, coded_25, coded_26, coded_27, coded_28, coded_29, coded_30, coded_31, coded_32, coded_33, coded_34, coded_35, coded_36, coded_37, coded_38, coded_39, coded_40, coded_41, coded_42, coded_43, coded_44, coded_45, coded_46, coded_47, coded_48, coded_49, coded_50, coded_51, coded_52, coded_53, coded_54, coded_55, coded_56, coded_57, coded_58, coded_59, coded_60, coded_61, coded_62, coded_63, coded_64, class_most}
+use Rattle.std.proofs.Common.{arith, refl}
+use Rattle.mars_core.proofs.Classes.{coded}
 use Rattle.mars_core.proofs.turn.execute.Goals as goal
 
+-- table of classes
 pub arm-requires-clause-coded : goal.arm-requires-clause-coded
-arm-requires-clause-coded g c = coded_1 _ _ (λ _. c.requires.class) c.in-1.is
+arm-requires-clause-coded g c = coded _ _ 0 1 6 1 1 c.requires.class c.in-0.is (omega arith) refl (omega arith) (omega arith) (omega arith) (omega arith)
+
+pub arm-requires-in-1-clause-coded : goal.arm-requires-in-1-clause-coded
+arm-requires-in-1-clause-coded g c = coded _ _ 1 7 1 1 1 c.requires.class c.in-1.is (omega arith) refl (omega arith) (omega arith) (omega arith) (omega arith)
 
 pub arm-requires-in-2-clause-coded : goal.arm-requires-in-2-clause-coded
-arm-requires-in-2-clause-coded g c = coded_2 _ _ (λ _. c.requires.class) c.in-2.is
+arm-requires-in-2-clause-coded g c = coded _ _ 2 1 6 1 3 c.requires.class c.in-2.is (omega arith) refl (omega arith) (omega arith) (omega arith) (omega arith)
 
 pub arm-requires-in-3-clause-coded : goal.arm-requires-in-3-clause-coded
-arm-requires-in-3-clause-coded g c = coded_3 _ _ (λ _. c.requires.class) c.in-3.is
+arm-requires-in-3-clause-coded g c = coded _ _ 3 2 2 0 1 c.requires.class c.in-3.is (omega arith) refl (omega arith) (omega arith) (omega arith) (omega arith)
 
 pub arm-requires-in-4-clause-coded : goal.arm-requires-in-4-clause-coded
-arm-requires-in-4-clause-coded g c = coded_4 _ _ (λ _. c.requires.class) c.in-4.is
+arm-requires-in-4-clause-coded g c = coded _ _ 4 14 1 0 1 c.requires.class c.in-4.is (omega arith) refl (omega arith) (omega arith) (omega arith) (omega arith)
 
 pub arm-requires-in-5-clause-coded : goal.arm-requires-in-5-clause-coded
-arm-requires-in-5-clause-coded g c = coded_5 _ _ (λ _. c.requires.class) c.in-5.is
+arm-requires-in-5-clause-coded g c = coded _ _ 5 7 1 1 5 c.requires.class c.in-5.is (omega arith) refl (omega arith) (omega arith) (omega arith) (omega arith)
 
 pub arm-requires-in-6-clause-coded : goal.arm-requires-in-6-clause-coded
-arm-requires-in-6-clause-coded g c = coded_6 _ _ (λ _. c.requires.class) c.in-6.is
+arm-requires-in-6-clause-coded g c = coded _ _ 6 14 1 3 1 c.requires.class c.in-6.is (omega arith) refl (omega arith) (omega arith) (omega arith) (omega arith)
 
 pub arm-requires-in-7-clause-coded : goal.arm-requires-in-7-clause-coded
-arm-requires-in-7-clause-coded g c = coded_7 _ _ (λ _. c.requires.class) c.in-7.is
+arm-requires-in-7-clause-coded g c = coded _ _ 7 1 6 6 7 c.requires.class c.in-7.is (omega arith) refl (omega arith) (omega arith) (omega arith) (omega arith)
 
 pub arm-requires-in-8-clause-coded : goal.arm-requires-in-8-clause-coded
-arm-requires-in-8-clause-coded g c = coded_8 _ _ (λ _. c.requires.class) c.in-8.is
+arm-requires-in-8-clause-coded g c = coded _ _ 8 7 1 1 4 c.requires.class c.in-8.is (omega arith) refl (omega arith) (omega arith) (omega arith) (omega arith)
 
 pub arm-requires-in-9-clause-coded : goal.arm-requires-in-9-clause-coded
-arm-requires-in-9-clause-coded g c = coded_9 _ _ (λ _. c.requires.class) c.in-9.is
+arm-requires-in-9-clause-coded g c = coded _ _ 9 2 4 1 1 c.requires.class c.in-9.is (omega arith) refl (omega arith) (omega arith) (omega arith) (omega arith)
 
 pub arm-requires-in-10-clause-coded : goal.arm-requires-in-10-clause-coded
-arm-requires-in-10-clause-coded g c = coded_10 _ _ (λ _. c.requires.class) c.in-10.is
+arm-requires-in-10-clause-coded g c = coded _ _ 10 12 6 1 1 c.requires.class c.in-10.is (omega arith) refl (omega arith) (omega arith) (omega arith) (omega arith)
 
 pub arm-requires-in-11-clause-coded : goal.arm-requires-in-11-clause-coded
-arm-requires-in-11-clause-coded g c = coded_11 _ _ (λ _. c.requires.class) c.in-11.is
+arm-requires-in-11-clause-coded g c = coded _ _ 11 1 6 1 7 c.requires.class c.in-11.is (omega arith) refl (omega arith) (omega arith) (omega arith) (omega arith)
 
 pub arm-requires-in-12-clause-coded : goal.arm-requires-in-12-clause-coded
-arm-requires-in-12-clause-coded g c = coded_12 _ _ (λ _. c.requires.class) c.in-12.is
+arm-requires-in-12-clause-coded g c = coded _ _ 12 3 2 0 1 c.requires.class c.in-12.is (omega arith) refl (omega arith) (omega arith) (omega arith) (omega arith)
 
 pub arm-requires-in-13-clause-coded : goal.arm-requires-in-13-clause-coded
-arm-requires-in-13-clause-coded g c = coded_13 _ _ (λ _. c.requires.class) c.in-13.is
+arm-requires-in-13-clause-coded g c = coded _ _ 13 10 4 1 5 c.requires.class c.in-13.is (omega arith) refl (omega arith) (omega arith) (omega arith) (omega arith)
 
 pub arm-requires-in-14-clause-coded : goal.arm-requires-in-14-clause-coded
-arm-requires-in-14-clause-coded g c = coded_14 _ _ (λ _. c.requires.class) c.in-14.is
+arm-requires-in-14-clause-coded g c = coded _ _ 14 14 1 1 1 c.requires.class c.in-14.is (omega arith) refl (omega arith) (omega arith) (omega arith) (omega arith)
 
 pub arm-requires-in-15-clause-coded : goal.arm-requires-in-15-clause-coded
-arm-requires-in-15-clause-coded g c = coded_15 _ _ (λ _. c.requires.class) c.in-15.is
+arm-requires-in-15-clause-coded g c = coded _ _ 15 1 6 1 5 c.requires.class c.in-15.is (omega arith) refl (omega arith) (omega arith) (omega arith) (omega arith)
 
 pub arm-requires-in-16-clause-coded : goal.arm-requires-in-16-clause-coded
-arm-requires-in-16-clause-coded g c = coded_16 _ _ (λ _. c.requires.class) c.in-16.is
+arm-requires-in-16-clause-coded g c = coded _ _ 16 3 4 1 1 c.requires.class c.in-16.is (omega arith) refl (omega arith) (omega arith) (omega arith) (omega arith)
 
 pub arm-requires-in-17-clause-coded : goal.arm-requires-in-17-clause-coded
-arm-requires-in-17-clause-coded g c = coded_17 _ _ (λ _. c.requires.class) c.in-17.is
+arm-requires-in-17-clause-coded g c = coded _ _ 17 11 6 1 1 c.requires.class c.in-17.is (omega arith) refl (omega arith) (omega arith) (omega arith) (omega arith)
 
 pub arm-requires-in-18-clause-coded : goal.arm-requires-in-18-clause-coded
-arm-requires-in-18-clause-coded g c = coded_18 _ _ (λ _. c.requires.class) c.in-18.is
+arm-requires-in-18-clause-coded g c = coded _ _ 18 10 4 1 7 c.requires.class c.in-18.is (omega arith) refl (omega arith) (omega arith) (omega arith) (omega arith)
 
 pub arm-requires-in-19-clause-coded : goal.arm-requires-in-19-clause-coded
-arm-requires-in-19-clause-coded g c = coded_19 _ _ (λ _. c.requires.class) c.in-19.is
+arm-requires-in-19-clause-coded g c = coded _ _ 19 1 6 4 5 c.requires.class c.in-19.is (omega arith) refl (omega arith) (omega arith) (omega arith) (omega arith)
 
 pub arm-requires-in-20-clause-coded : goal.arm-requires-in-20-clause-coded
-arm-requires-in-20-clause-coded g c = coded_20 _ _ (λ _. c.requires.class) c.in-20.is
+arm-requires-in-20-clause-coded g c = coded _ _ 20 14 1 0 7 c.requires.class c.in-20.is (omega arith) refl (omega arith) (omega arith) (omega arith) (omega arith)
 
 pub arm-requires-in-21-clause-coded : goal.arm-requires-in-21-clause-coded
-arm-requires-in-21-clause-coded g c = coded_21 _ _ (λ _. c.requires.class) c.in-21.is
+arm-requires-in-21-clause-coded g c = coded _ _ 21 1 6 5 5 c.requires.class c.in-21.is (omega arith) refl (omega arith) (omega arith) (omega arith) (omega arith)
 
 pub arm-requires-in-22-clause-coded : goal.arm-requires-in-22-clause-coded
-arm-requires-in-22-clause-coded g c = coded_22 _ _ (λ _. c.requires.class) c.in-22.is
+arm-requires-in-22-clause-coded g c = coded _ _ 22 1 6 1 2 c.requires.class c.in-22.is (omega arith) refl (omega arith) (omega arith) (omega arith) (omega arith)
 
 pub arm-requires-in-23-clause-coded : goal.arm-requires-in-23-clause-coded
-arm-requires-in-23-clause-coded g c = coded_23 _ _ (λ _. c.requires.class) c.in-23.is
+arm-requires-in-23-clause-coded g c = coded _ _ 23 0 4 1 1 c.requires.class c.in-23.is (omega arith) refl (omega arith) (omega arith) (omega arith) (omega arith)
 
 pub arm-requires-in-24-clause-coded : goal.arm-requires-in-24-clause-coded
-arm-requires-in-24-clause-coded g c = coded_24 _ _ (λ _. c.requires.class) c.in-24.is
+arm-requires-in-24-clause-coded g c = coded _ _ 24 7 1 3 1 c.requires.class c.in-24.is (omega arith) refl (omega arith) (omega arith) (omega arith) (omega arith)
 
 pub arm-requires-in-25-clause-coded : goal.arm-requires-in-25-clause-coded
-arm-requires-in-25-clause-coded g c = coded_25 _ _ (λ _. c.requires.class) c.in-25.is
+arm-requires-in-25-clause-coded g c = coded _ _ 25 1 6 5 1 c.requires.class c.in-25.is (omega arith) refl (omega arith) (omega arith) (omega arith) (omega arith)
 
 pub arm-requires-in-26-clause-coded : goal.arm-requires-in-26-clause-coded
-arm-requires-in-26-clause-coded g c = coded_26 _ _ (λ _. c.requires.class) c.in-26.is
+arm-requires-in-26-clause-coded g c = coded _ _ 26 1 2 0 1 c.requires.class c.in-26.is (omega arith) refl (omega arith) (omega arith) (omega arith) (omega arith)
 
 pub arm-requires-in-27-clause-coded : goal.arm-requires-in-27-clause-coded
-arm-requires-in-27-clause-coded g c = coded_27 _ _ (λ _. c.requires.class) c.in-27.is
+arm-requires-in-27-clause-coded g c = coded _ _ 27 10 1 1 0 c.requires.class c.in-27.is (omega arith) refl (omega arith) (omega arith) (omega arith) (omega arith)
 
 pub arm-requires-in-28-clause-coded : goal.arm-requires-in-28-clause-coded
-arm-requires-in-28-clause-coded g c = coded_28 _ _ (λ _. c.requires.class) c.in-28.is
+arm-requires-in-28-clause-coded g c = coded _ _ 28 8 1 1 1 c.requires.class c.in-28.is (omega arith) refl (omega arith) (omega arith) (omega arith) (omega arith)
 
 pub arm-requires-in-29-clause-coded : goal.arm-requires-in-29-clause-coded
-arm-requires-in-29-clause-coded g c = coded_29 _ _ (λ _. c.requires.class) c.in-29.is
+arm-requires-in-29-clause-coded g c = coded _ _ 29 14 1 1 5 c.requires.class c.in-29.is (omega arith) refl (omega arith) (omega arith) (omega arith) (omega arith)
 
 pub arm-requires-in-30-clause-coded : goal.arm-requires-in-30-clause-coded
-arm-requires-in-30-clause-coded g c = coded_30 _ _ (λ _. c.requires.class) c.in-30.is
+arm-requires-in-30-clause-coded g c = coded _ _ 30 14 0 1 1 c.requires.class c.in-30.is (omega arith) refl (omega arith) (omega arith) (omega arith) (omega arith)
 
 pub arm-requires-in-31-clause-coded : goal.arm-requires-in-31-clause-coded
-arm-requires-in-31-clause-coded g c = coded_31 _ _ (λ _. c.requires.class) c.in-31.is
+arm-requires-in-31-clause-coded g c = coded _ _ 31 1 6 0 1 c.requires.class c.in-31.is (omega arith) refl (omega arith) (omega arith) (omega arith) (omega arith)
 
 pub arm-requires-in-32-clause-coded : goal.arm-requires-in-32-clause-coded
-arm-requires-in-32-clause-coded g c = coded_32 _ _ (λ _. c.requires.class) c.in-32.is
+arm-requires-in-32-clause-coded g c = coded _ _ 32 10 1 1 1 c.requires.class c.in-32.is (omega arith) refl (omega arith) (omega arith) (omega arith) (omega arith)
 
 pub arm-requires-in-33-clause-coded : goal.arm-requires-in-33-clause-coded
-arm-requires-in-33-clause-coded g c = coded_33 _ _ (λ _. c.requires.class) c.in-33.is
+arm-requires-in-33-clause-coded g c = coded _ _ 33 1 6 3 5 c.requires.class c.in-33.is (omega arith) refl (omega arith) (omega arith) (omega arith) (omega arith)
 
 pub arm-requires-in-34-clause-coded : goal.arm-requires-in-34-clause-coded
-arm-requires-in-34-clause-coded g c = coded_34 _ _ (λ _. c.requires.class) c.in-34.is
+arm-requires-in-34-clause-coded g c = coded _ _ 34 0 4 5 5 c.requires.class c.in-34.is (omega arith) refl (omega arith) (omega arith) (omega arith) (omega arith)
 
 pub arm-requires-in-35-clause-coded : goal.arm-requires-in-35-clause-coded
-arm-requires-in-35-clause-coded g c = coded_35 _ _ (λ _. c.requires.class) c.in-35.is
+arm-requires-in-35-clause-coded g c = coded _ _ 35 14 1 3 7 c.requires.class c.in-35.is (omega arith) refl (omega arith) (omega arith) (omega arith) (omega arith)
 
 pub arm-requires-in-36-clause-coded : goal.arm-requires-in-36-clause-coded
-arm-requires-in-36-clause-coded g c = coded_36 _ _ (λ _. c.requires.class) c.in-36.is
+arm-requires-in-36-clause-coded g c = coded _ _ 36 10 1 1 5 c.requires.class c.in-36.is (omega arith) refl (omega arith) (omega arith) (omega arith) (omega arith)
 
 pub arm-requires-in-37-clause-coded : goal.arm-requires-in-37-clause-coded
-arm-requires-in-37-clause-coded g c = coded_37 _ _ (λ _. c.requires.class) c.in-37.is
+arm-requires-in-37-clause-coded g c = coded _ _ 37 9 1 1 1 c.requires.class c.in-37.is (omega arith) refl (omega arith) (omega arith) (omega arith) (omega arith)
 
 pub arm-requires-in-38-clause-coded : goal.arm-requires-in-38-clause-coded
-arm-requires-in-38-clause-coded g c = coded_38 _ _ (λ _. c.requires.class) c.in-38.is
+arm-requires-in-38-clause-coded g c = coded _ _ 38 0 4 7 1 c.requires.class c.in-38.is (omega arith) refl (omega arith) (omega arith) (omega arith) (omega arith)
 
 pub arm-requires-in-39-clause-coded : goal.arm-requires-in-39-clause-coded
-arm-requires-in-39-clause-coded g c = coded_39 _ _ (λ _. c.requires.class) c.in-39.is
+arm-requires-in-39-clause-coded g c = coded _ _ 39 0 4 0 0 c.requires.class c.in-39.is (omega arith) refl (omega arith) (omega arith) (omega arith) (omega arith)
 
 pub arm-requires-in-40-clause-coded : goal.arm-requires-in-40-clause-coded
-arm-requires-in-40-clause-coded g c = coded_40 _ _ (λ _. c.requires.class) c.in-40.is
+arm-requires-in-40-clause-coded g c = coded _ _ 40 14 1 0 5 c.requires.class c.in-40.is (omega arith) refl (omega arith) (omega arith) (omega arith) (omega arith)
 
 pub arm-requires-in-41-clause-coded : goal.arm-requires-in-41-clause-coded
-arm-requires-in-41-clause-coded g c = coded_41 _ _ (λ _. c.requires.class) c.in-41.is
+arm-requires-in-41-clause-coded g c = coded _ _ 41 14 1 0 4 c.requires.class c.in-41.is (omega arith) refl (omega arith) (omega arith) (omega arith) (omega arith)
 
 pub arm-requires-in-42-clause-coded : goal.arm-requires-in-42-clause-coded
-arm-requires-in-42-clause-coded g c = coded_42 _ _ (λ _. c.requires.class) c.in-42.is
+arm-requires-in-42-clause-coded g c = coded _ _ 42 14 1 0 6 c.requires.class c.in-42.is (omega arith) refl (omega arith) (omega arith) (omega arith) (omega arith)
 
 pub arm-requires-in-43-clause-coded : goal.arm-requires-in-43-clause-coded
-arm-requires-in-43-clause-coded g c = coded_43 _ _ (λ _. c.requires.class) c.in-43.is
+arm-requires-in-43-clause-coded g c = coded _ _ 43 14 1 0 0 c.requires.class c.in-43.is (omega arith) refl (omega arith) (omega arith) (omega arith) (omega arith)
 
 pub arm-requires-in-44-clause-coded : goal.arm-requires-in-44-clause-coded
-arm-requires-in-44-clause-coded g c = coded_44 _ _ (λ _. c.requires.class) c.in-44.is
+arm-requires-in-44-clause-coded g c = coded _ _ 44 14 1 3 5 c.requires.class c.in-44.is (omega arith) refl (omega arith) (omega arith) (omega arith) (omega arith)
 
 pub arm-requires-in-45-clause-coded : goal.arm-requires-in-45-clause-coded
-arm-requires-in-45-clause-coded g c = coded_45 _ _ (λ _. c.requires.class) c.in-45.is
+arm-requires-in-45-clause-coded g c = coded _ _ 45 14 1 3 4 c.requires.class c.in-45.is (omega arith) refl (omega arith) (omega arith) (omega arith) (omega arith)
 
 pub arm-requires-in-46-clause-coded : goal.arm-requires-in-46-clause-coded
-arm-requires-in-46-clause-coded g c = coded_46 _ _ (λ _. c.requires.class) c.in-46.is
+arm-requires-in-46-clause-coded g c = coded _ _ 46 14 1 3 6 c.requires.class c.in-46.is (omega arith) refl (omega arith) (omega arith) (omega arith) (omega arith)
 
 pub arm-requires-in-47-clause-coded : goal.arm-requires-in-47-clause-coded
-arm-requires-in-47-clause-coded g c = coded_47 _ _ (λ _. c.requires.class) c.in-47.is
+arm-requires-in-47-clause-coded g c = coded _ _ 47 1 6 0 2 c.requires.class c.in-47.is (omega arith) refl (omega arith) (omega arith) (omega arith) (omega arith)
 
 pub arm-requires-in-48-clause-coded : goal.arm-requires-in-48-clause-coded
-arm-requires-in-48-clause-coded g c = coded_48 _ _ (λ _. c.requires.class) c.in-48.is
+arm-requires-in-48-clause-coded g c = coded _ _ 48 1 6 1 6 c.requires.class c.in-48.is (omega arith) refl (omega arith) (omega arith) (omega arith) (omega arith)
 
 pub arm-requires-in-49-clause-coded : goal.arm-requires-in-49-clause-coded
-arm-requires-in-49-clause-coded g c = coded_49 _ _ (λ _. c.requires.class) c.in-49.is
+arm-requires-in-49-clause-coded g c = coded _ _ 49 1 6 1 4 c.requires.class c.in-49.is (omega arith) refl (omega arith) (omega arith) (omega arith) (omega arith)
 
 pub arm-requires-in-50-clause-coded : goal.arm-requires-in-50-clause-coded
-arm-requires-in-50-clause-coded g c = coded_50 _ _ (λ _. c.requires.class) c.in-50.is
+arm-requires-in-50-clause-coded g c = coded _ _ 50 1 6 2 7 c.requires.class c.in-50.is (omega arith) refl (omega arith) (omega arith) (omega arith) (omega arith)
 
 pub arm-requires-in-51-clause-coded : goal.arm-requires-in-51-clause-coded
-arm-requires-in-51-clause-coded g c = coded_51 _ _ (λ _. c.requires.class) c.in-51.is
+arm-requires-in-51-clause-coded g c = coded _ _ 51 1 6 4 1 c.requires.class c.in-51.is (omega arith) refl (omega arith) (omega arith) (omega arith) (omega arith)
 
 pub arm-requires-in-52-clause-coded : goal.arm-requires-in-52-clause-coded
-arm-requires-in-52-clause-coded g c = coded_52 _ _ (λ _. c.requires.class) c.in-52.is
+arm-requires-in-52-clause-coded g c = coded _ _ 52 1 6 5 4 c.requires.class c.in-52.is (omega arith) refl (omega arith) (omega arith) (omega arith) (omega arith)
 
 pub arm-requires-in-53-clause-coded : goal.arm-requires-in-53-clause-coded
-arm-requires-in-53-clause-coded g c = coded_53 _ _ (λ _. c.requires.class) c.in-53.is
+arm-requires-in-53-clause-coded g c = coded _ _ 53 1 6 7 1 c.requires.class c.in-53.is (omega arith) refl (omega arith) (omega arith) (omega arith) (omega arith)
 
 pub arm-requires-in-54-clause-coded : goal.arm-requires-in-54-clause-coded
-arm-requires-in-54-clause-coded g c = coded_54 _ _ (λ _. c.requires.class) c.in-54.is
+arm-requires-in-54-clause-coded g c = coded _ _ 54 1 6 7 6 c.requires.class c.in-54.is (omega arith) refl (omega arith) (omega arith) (omega arith) (omega arith)
 
 pub arm-requires-in-55-clause-coded : goal.arm-requires-in-55-clause-coded
-arm-requires-in-55-clause-coded g c = coded_55 _ _ (λ _. c.requires.class) c.in-55.is
+arm-requires-in-55-clause-coded g c = coded _ _ 55 10 4 1 4 c.requires.class c.in-55.is (omega arith) refl (omega arith) (omega arith) (omega arith) (omega arith)
 
 pub arm-requires-in-56-clause-coded : goal.arm-requires-in-56-clause-coded
-arm-requires-in-56-clause-coded g c = coded_56 _ _ (λ _. c.requires.class) c.in-56.is
+arm-requires-in-56-clause-coded g c = coded _ _ 56 10 4 1 6 c.requires.class c.in-56.is (omega arith) refl (omega arith) (omega arith) (omega arith) (omega arith)
 
 pub arm-requires-in-57-clause-coded : goal.arm-requires-in-57-clause-coded
-arm-requires-in-57-clause-coded g c = coded_57 _ _ (λ _. c.requires.class) c.in-57.is
+arm-requires-in-57-clause-coded g c = coded _ _ 57 7 1 3 5 c.requires.class c.in-57.is (omega arith) refl (omega arith) (omega arith) (omega arith) (omega arith)
 
 pub arm-requires-in-58-clause-coded : goal.arm-requires-in-58-clause-coded
-arm-requires-in-58-clause-coded g c = coded_58 _ _ (λ _. c.requires.class) c.in-58.is
+arm-requires-in-58-clause-coded g c = coded _ _ 58 7 1 3 7 c.requires.class c.in-58.is (omega arith) refl (omega arith) (omega arith) (omega arith) (omega arith)
 
 pub arm-requires-in-59-clause-coded : goal.arm-requires-in-59-clause-coded
-arm-requires-in-59-clause-coded g c = coded_59 _ _ (λ _. c.requires.class) c.in-59.is
+arm-requires-in-59-clause-coded g c = coded _ _ 59 8 4 1 5 c.requires.class c.in-59.is (omega arith) refl (omega arith) (omega arith) (omega arith) (omega arith)
 
 pub arm-requires-in-60-clause-coded : goal.arm-requires-in-60-clause-coded
-arm-requires-in-60-clause-coded g c = coded_60 _ _ (λ _. c.requires.class) c.in-60.is
+arm-requires-in-60-clause-coded g c = coded _ _ 60 11 6 2 3 c.requires.class c.in-60.is (omega arith) refl (omega arith) (omega arith) (omega arith) (omega arith)
 
 pub arm-requires-in-61-clause-coded : goal.arm-requires-in-61-clause-coded
-arm-requires-in-61-clause-coded g c = coded_61 _ _ (λ _. c.requires.class) c.in-61.is
+arm-requires-in-61-clause-coded g c = coded _ _ 61 12 6 2 3 c.requires.class c.in-61.is (omega arith) refl (omega arith) (omega arith) (omega arith) (omega arith)
 
 pub arm-requires-in-62-clause-coded : goal.arm-requires-in-62-clause-coded
-arm-requires-in-62-clause-coded g c = coded_62 _ _ (λ _. c.requires.class) c.in-62.is
+arm-requires-in-62-clause-coded g c = coded _ _ 62 12 5 2 3 c.requires.class c.in-62.is (omega arith) refl (omega arith) (omega arith) (omega arith) (omega arith)
 
 pub arm-requires-in-63-clause-coded : goal.arm-requires-in-63-clause-coded
-arm-requires-in-63-clause-coded g c = coded_63 _ _ (λ _. c.requires.class) c.in-63.is
+arm-requires-in-63-clause-coded g c = coded _ _ 63 0 4 5 1 c.requires.class c.in-63.is (omega arith) refl (omega arith) (omega arith) (omega arith) (omega arith)
 
-pub arm-requires-in_default-clause-coded : goal.arm-requires-in_default-clause-coded
-arm-requires-in_default-clause-coded g c =
-    let most = class_most (g.C.Kept.Cell.held c.args.cell) _ c.requires.class in
-    coded_64 _ _ (λ _. c.requires.class) (omega (arith, c.in_default, c.requires.some, most))
+-- end of classes
+
+pub execute_by_modes-requires-clause-modes : goal.execute_by_modes-requires-clause-modes
+execute_by_modes-requires-clause-modes g c = omega (arith, c.in_default)
