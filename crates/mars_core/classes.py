@@ -41,7 +41,8 @@ def keys(first, last):
 
 def arms():
     for n, (name, (o, m, a, b), _) in enumerate(CLASSES):
-        yield f"        {n} => arm::<C, {o}, {m}, {a}, {b}>(cells, size, pc, cell), // {name}"
+        label = "_" if n == 63 else n
+        yield f"        {label} => arm::<C, {o}, {m}, {a}, {b}>(cells, size, pc, cell), // {name}"
 
 
 def pairs():
@@ -55,7 +56,7 @@ def codes():
     for n, (o, m) in enumerate(CODES):
         label = "_" if n == 127 else n
         name = f"{OPCODES[o]}.{MODIFIERS[m]}"
-        yield f"        {label} => act_as::<C, {o}, {m}>(cells, size, pc, a, b), // {name}"
+        yield f"        {label} => act_once::<C, PLACE, {o}, {m}>(cells, size, pc, a, b), // {name}"
 
 
 def key_in():
@@ -75,7 +76,7 @@ def goal(call, n, first, clause):
 
 
 def coded():
-    for n, (_, (o, m, a, b), _) in enumerate(CLASSES):
+    for n, (_, (o, m, a, b), _) in enumerate(CLASSES[:-1]):
         name = goal("arm", n, n == 0, "coded")
         yield f"pub {name} : goal.{name}"
         below = " ".join(["(omega arith)"] * 4)
@@ -102,7 +103,7 @@ TABLES = {
     "src/turn.rt": {"classes": arms()},
     "src/general.rt": {"modes": pairs(), "codes": codes()},
     "proofs/Keys.antt": {"keys": key_in(), "tests": leads()},
-    "proofs/turn/execute/Answers.antt": {"classes": coded()},
+    "proofs/turn/execute_by_class/Answers.antt": {"classes": coded()},
     "proofs/general/operands/Answers.antt": {"modes": moded()},
 }
 

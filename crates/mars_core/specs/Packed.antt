@@ -4,7 +4,7 @@
 --          modifier  opcode   A-mode    B-mode     mark   A-number   class      B-number
 --
 -- The other bits are 0.
-use Rattle.std.specs.Prelude.{◌≡◌, ℕ, ◌<◌, Bool, ◌+◌, ◌-◌, ◌*◌, ◌/◌, ◌%◌, ◌==◌, ◌&&◌}
+use Rattle.std.specs.Prelude.{ℕ, Bool, ◌+◌, ◌-◌, ◌*◌, ◌/◌, ◌%◌, ◌==◌, ◌&&◌}
 use Rattle.rc_instr.specs.Instruction.{modifier_number, empty_cell}
 use Rattle.rc_instr.specs.declared.instruction.Instruction.{Instruction}
 use Rattle.mars_core.specs.Classes.{key_of, class_of, IsClassOf}

@@ -71,7 +71,7 @@ pub(crate) fn evaluate_in<C: Cells, const MODE: u64>(
 
 // Executes the opcode and the modifier that the const parameters stand for.
 #[inline]
-pub(crate) fn act_as<C: Cells, const OPCODE: u64, const MODIFIER: u64>(
+fn act_as<C: Cells, const OPCODE: u64, const MODIFIER: u64>(
     cells: &mut C,
     size: u32,
     pc: u32,

@@ -1,12 +1,14 @@
 //! One cell as a turn works on it, in the form in which its store keeps it.
-ghost use Rattle.std.specs.Prelude.{◌≡◌, ◌<◌, ◌/◌, ◌%◌, true};
+ghost use Rattle.std.specs.Prelude.{◌≡◌, ◌<◌, ◌≤◌, ◌/◌, ◌%◌, true};
 ghost use Rattle.rc_instr.specs.Instruction.{same_instruction};
 ghost use Rattle.rc_instr.specs.declared.instruction.Instruction.{Instruction};
-ghost use Rattle.mars_core.specs.Numbers.{with_field};
+ghost use Rattle.rc_instr.specs.Warrior.{IsBelow};
+ghost use Rattle.mars_core.specs.Numbers.{sum_of, difference_of, with_field};
 ghost use Rattle.mars_core.specs.Classes.{IsClassOf};
 ghost use Rattle.mars_core.specs.Codes.{opcode_of, modifier_of};
 ghost use Rattle.mars_core.specs.Numbers.{ANumber, BNumber};
 
+use crate::number::{difference, sum};
 use crate::packed::{mode_code, modifier_code, opcode_code};
 use rc_instr::Instruction;
 
@@ -47,6 +49,26 @@ pub trait Cell: Copy {
     fn with_b_number(self, number: u32) -> Self
         requires { number < 65536 }
         ensures { held result ≡ with_field BNumber number (held self) };
+
+    /// Returns the cell with its A-number lowered by 1, in a core of `size` cells.
+    fn with_a_lowered(self, size: u32) -> Self
+        requires { (1 < size) × (size ≤ 65535) × IsBelow size (held self) }
+        ensures { held result ≡ with_field ANumber (difference_of size (held self).a_number 1) (held self) };
+
+    /// Returns the cell with its B-number lowered by 1, in a core of `size` cells.
+    fn with_b_lowered(self, size: u32) -> Self
+        requires { (1 < size) × (size ≤ 65535) × IsBelow size (held self) }
+        ensures { held result ≡ with_field BNumber (difference_of size (held self).b_number 1) (held self) };
+
+    /// Returns the cell with its A-number raised by 1, in a core of `size` cells.
+    fn with_a_raised(self, size: u32) -> Self
+        requires { (1 < size) × (size ≤ 65535) × IsBelow size (held self) }
+        ensures { held result ≡ with_field ANumber (sum_of size (held self).a_number 1) (held self) };
+
+    /// Returns the cell with its B-number raised by 1, in a core of `size` cells.
+    fn with_b_raised(self, size: u32) -> Self
+        requires { (1 < size) × (size ≤ 65535) × IsBelow size (held self) }
+        ensures { held result ≡ with_field BNumber (sum_of size (held self).b_number 1) (held self) };
 
     /// Checks whether both cells hold the same instruction.
     fn is_same(self, other: Self) -> bool
@@ -107,6 +129,26 @@ impl Cell for Instruction {
             b_number: number as u16,
             ..self
         }
+    }
+
+    #[inline]
+    fn with_a_lowered(self, size: u32) -> Instruction {
+        self.with_a_number(difference(size, self.a_number(), 1))
+    }
+
+    #[inline]
+    fn with_b_lowered(self, size: u32) -> Instruction {
+        self.with_b_number(difference(size, self.b_number(), 1))
+    }
+
+    #[inline]
+    fn with_a_raised(self, size: u32) -> Instruction {
+        self.with_a_number(sum(size, self.a_number(), 1))
+    }
+
+    #[inline]
+    fn with_b_raised(self, size: u32) -> Instruction {
+        self.with_b_number(sum(size, self.b_number(), 1))
     }
 
     #[inline]

@@ -8,7 +8,7 @@ ghost use Rattle.mars_core.specs.Evaluated.{located, located_from};
 
 use crate::cell::Cell;
 use crate::cells::{Cells, read, write};
-use crate::number::{FieldA, FieldB, Number, difference, number_of, sum, with_number};
+use crate::number::{FieldA, FieldB, Number, lowered, number_of, raised, sum};
 use rc_instr::Mode;
 
 // An address, and a copy of the cell there: where an operand points, or what it goes through.
@@ -90,10 +90,9 @@ fn lower<C: Cells, N: Number>(cells: &mut C, size: u32, at: u32) -> u32
     ensures marks { C.marks cells.new ≤ C.marks cells.old + 1 }
 {
     let cell = read(cells, size, at);
-    let lowered = difference(size, number_of::<N, C::Kept>(size, cell), 1);
-    let changed = with_number::<N, C::Kept>(size, cell, lowered);
+    let changed = lowered::<N, C::Kept>(size, cell);
     write(cells, size, at, changed);
-    lowered
+    number_of::<N, C::Kept>(size, changed)
 }
 
 // Raises one number of the cell at `way.address` by 1. `way.copy` is that cell.
@@ -108,8 +107,7 @@ fn raise<C: Cells, N: Number>(cells: &mut C, size: u32, way: Evaluated<C::Kept>)
     ensures core { IsCore size (C.items cells.new) }
     ensures marks { C.marks cells.new ≤ C.marks cells.old + 1 }
 {
-    let raised = sum(size, number_of::<N, C::Kept>(size, way.copy), 1);
-    let cell = with_number::<N, C::Kept>(size, way.copy, raised);
+    let cell = raised::<N, C::Kept>(size, way.copy);
     write(cells, size, way.address, cell);
 }
 

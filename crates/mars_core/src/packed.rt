@@ -316,6 +316,60 @@ impl Cell for PackedCell {
         }
     }
 
+    // One addition to the word, or one subtraction, changes the number and nothing else: no carry
+    // leaves its bits.
+    #[inline]
+    fn with_a_lowered(self, size: u32) -> PackedCell {
+        if self.word / A_NUMBER % 65536 == 0 {
+            return PackedCell {
+                word: self.word + A_NUMBER * u64::from(size - 1),
+            };
+        }
+        PackedCell {
+            word: self.word - A_NUMBER,
+        }
+    }
+
+    #[inline]
+    fn with_b_lowered(self, size: u32) -> PackedCell {
+        if self.word / B_NUMBER == 0 {
+            return PackedCell {
+                word: self.word + B_NUMBER * u64::from(size - 1),
+            };
+        }
+        PackedCell {
+            word: self.word - B_NUMBER,
+        }
+    }
+
+    #[tactic(auto, unfolding(crate::specs::Packed::unpacked))]
+    #[inline]
+    fn with_a_raised(self, size: u32) -> PackedCell {
+        let last = u64::from(size - 1);
+        if self.word / A_NUMBER % 65536 == last {
+            return PackedCell {
+                word: self.word - A_NUMBER * last,
+            };
+        }
+        PackedCell {
+            word: self.word + A_NUMBER,
+        }
+    }
+
+    #[tactic(auto, unfolding(crate::specs::Packed::unpacked))]
+    #[inline]
+    fn with_b_raised(self, size: u32) -> PackedCell {
+        let last = u64::from(size - 1);
+        if self.word / B_NUMBER == last {
+            return PackedCell {
+                word: self.word - B_NUMBER * last,
+            };
+        }
+        PackedCell {
+            word: self.word + B_NUMBER,
+        }
+    }
+
     #[tactic(auto, using(crate::proofs::Packing::same_packed))]
     #[inline]
     fn is_same(self, other: PackedCell) -> bool {

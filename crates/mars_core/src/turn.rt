@@ -70,9 +70,9 @@ pub(crate) fn next_turn<C: Cells, const PLACE: u64>(
     requeue(tasks, size, pc, executed)
 }
 
-// Executes the instruction at `pc`, which is `cell`, by its class (1994 draft). Each of the first 64
-// classes has an arm, in which the numbers of its opcode, modifier and modes are constants.
-// `classes.py` writes the arms.
+// Executes the instruction at `pc`, which is `cell`, by its class (1994 draft). A test before the
+// match is as likely to hold as not, to the compiler; a last arm of the match would be rare, and
+// nothing below it inlined.
 #[inline(always)]
 fn execute<C: Cells, const PLACE: u64>(
     cells: &mut C,
@@ -86,6 +86,33 @@ fn execute<C: Cells, const PLACE: u64>(
     requires cell { C.Kept.held cell ≡ cell_at (C.items cells.old) pc }
     requires below { IsBelow size (C.Kept.held cell) }
     requires class { IsClassOf (C.Kept.held cell) class }
+    ensures value { leaves (C.items cells.new) (addresses size pc result.jump result.queued) ≡ step_of (C.items cells.old) pc }
+    ensures core { IsCore size (C.items cells.new) }
+    ensures jump { result.jump < size }
+    ensures marks { C.marks cells.new ≤ C.marks cells.old + 3 }
+{
+    if class >= 64 {
+        return execute_by_modes::<C, PLACE>(cells, size, pc, cell, class);
+    }
+    execute_by_class(cells, size, pc, cell, class)
+}
+
+// Executes the instruction at `pc`, which is `cell`, if it is one of the frequent ones. Each has an
+// arm, in which the numbers of its opcode, modifier and modes are constants.
+#[inline(always)]
+fn execute_by_class<C: Cells>(
+    cells: &mut C,
+    size: u32,
+    pc: u32,
+    cell: C::Kept,
+    class: u64,
+) -> Executed
+    requires core { IsCore size (C.items cells.old) }
+    requires pc { pc < size }
+    requires cell { C.Kept.held cell ≡ cell_at (C.items cells.old) pc }
+    requires below { IsBelow size (C.Kept.held cell) }
+    requires class { IsClassOf (C.Kept.held cell) class }
+    requires frequent { class < 64 }
     ensures value { leaves (C.items cells.new) (addresses size pc result.jump result.queued) ≡ step_of (C.items cells.old) pc }
     ensures core { IsCore size (C.items cells.new) }
     ensures jump { result.jump < size }
@@ -156,9 +183,8 @@ fn execute<C: Cells, const PLACE: u64>(
         60 => arm::<C, 11, 6, 2, 3>(cells, size, pc, cell), // SEQ.I *, @
         61 => arm::<C, 12, 6, 2, 3>(cells, size, pc, cell), // SNE.I *, @
         62 => arm::<C, 12, 5, 2, 3>(cells, size, pc, cell), // SNE.X *, @
-        63 => arm::<C, 0, 4, 5, 1>(cells, size, pc, cell), // DAT.F <, $
+        _ => arm::<C, 0, 4, 5, 1>(cells, size, pc, cell), // DAT.F <, $
         // end of classes
-        _ => execute_by_modes::<C, PLACE>(cells, size, pc, cell, class),
     }
 }
 

@@ -1,5 +1,4 @@
 use Rattle.std.proofs.Common.{arith}
-use Rattle.std.specs.Prelude.{◌≡◌}
 use Rattle.mars_core.proofs.Classes.{moded, class_most}
 use Rattle.mars_core.proofs.general.operands.Goals as goal
 

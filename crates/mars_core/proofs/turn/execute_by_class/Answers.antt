@@ -1,6 +1,6 @@
 use Rattle.std.proofs.Common.{arith, refl}
 use Rattle.mars_core.proofs.Classes.{coded}
-use Rattle.mars_core.proofs.turn.execute.Goals as goal
+use Rattle.mars_core.proofs.turn.execute_by_class.Goals as goal
 
 -- table of classes
 pub arm-requires-clause-coded : goal.arm-requires-clause-coded
@@ -192,10 +192,8 @@ arm-requires-in-61-clause-coded g c = coded _ _ 61 12 6 2 3 c.requires.class c.i
 pub arm-requires-in-62-clause-coded : goal.arm-requires-in-62-clause-coded
 arm-requires-in-62-clause-coded g c = coded _ _ 62 12 5 2 3 c.requires.class c.in-62.is (omega arith) refl (omega arith) (omega arith) (omega arith) (omega arith)
 
-pub arm-requires-in-63-clause-coded : goal.arm-requires-in-63-clause-coded
-arm-requires-in-63-clause-coded g c = coded _ _ 63 0 4 5 1 c.requires.class c.in-63.is (omega arith) refl (omega arith) (omega arith) (omega arith) (omega arith)
-
 -- end of classes
 
-pub execute_by_modes-requires-clause-modes : goal.execute_by_modes-requires-clause-modes
-execute_by_modes-requires-clause-modes g c = omega (arith, c.in_default)
+pub arm-requires-in_default-clause-coded : goal.arm-requires-in_default-clause-coded
+arm-requires-in_default-clause-coded g c =
+    coded _ _ 63 0 4 5 1 c.requires.class (omega (arith, c.in_default, c.requires.frequent)) (omega arith) refl (omega arith) (omega arith) (omega arith) (omega arith)
