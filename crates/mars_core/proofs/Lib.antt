@@ -1,5 +1,7 @@
 pub mod Below
+pub mod Keys
 pub mod Packing
+pub mod Words
 pub mod Classes
 pub mod Stores
 pub mod Written

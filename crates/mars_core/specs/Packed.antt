@@ -1,13 +1,13 @@
 -- An instruction in one word of 64 bits, with a mark. From the lowest bit on:
 --
---   bits   0 .. 2    3 .. 6   8 .. 10   11 .. 13   15     16 .. 31   32 .. 47   48 .. 63
+--   bits   0 .. 2    3 .. 6   8 .. 10   11 .. 13   15     16 .. 31   32 .. 38   48 .. 63
 --          modifier  opcode   A-mode    B-mode     mark   A-number   class      B-number
 --
 -- The other bits are 0.
-use Rattle.std.specs.Prelude.{◌≡◌, ℕ, ◌<◌, Bool, ◌+◌, ◌-◌, ◌*◌, ◌/◌, ◌%◌, ◌==◌, ◌&&◌}
+use Rattle.std.specs.Prelude.{ℕ, Bool, ◌+◌, ◌-◌, ◌*◌, ◌/◌, ◌%◌, ◌==◌, ◌&&◌}
 use Rattle.rc_instr.specs.Instruction.{modifier_number, empty_cell}
 use Rattle.rc_instr.specs.declared.instruction.Instruction.{Instruction}
-use Rattle.mars_core.specs.Classes.{key_of, class_of}
+use Rattle.mars_core.specs.Classes.{key_of, class_of, IsClassOf}
 use Rattle.mars_core.specs.Codes.{opcode_of, modifier_of, mode_of}
 
 -- the word of an instruction without a mark
@@ -27,11 +27,11 @@ unpacked w = record {
 
 -- the class that a word keeps
 abbrev pub class_in : ℕ → ℕ
-class_in w = w / 4294967296 % 65536
+class_in w = w / 4294967296 % 128
 
--- The class in a word is 0, or that of its instruction.
+-- What the class in a word says of its instruction is true.
 pub record IsClassed (w : ℕ) : Type 0 where
-  pub class_is : 0 < class_in w → class_in w ≡ class_of (unpacked w)
+  pub class_is : IsClassOf (unpacked w) (class_in w)
 
 -- 1 if the word is marked, else 0
 unfoldable pub mark_of : ℕ → ℕ

@@ -13,7 +13,7 @@ use crate::cell::Cell;
 use crate::cells::Cells;
 use crate::effect::{Queued, act};
 use crate::operand::{Evaluated, evaluate};
-use crate::packed::mode_from;
+use crate::packed::{mode_from, modifier_from, opcode_from};
 use crate::turn::Executed;
 
 // Executes the instruction at `pc`, which is `cell`. The const parameters stand for its opcode,
@@ -50,7 +50,7 @@ pub(crate) fn arm<
 
 // Evaluates an operand in the mode that `MODE` stands for.
 #[inline]
-fn evaluate_in<C: Cells, const MODE: u64>(
+pub(crate) fn evaluate_in<C: Cells, const MODE: u64>(
     cells: &mut C,
     size: u32,
     pc: u32,
@@ -87,5 +87,13 @@ fn act_as<C: Cells, const OPCODE: u64, const MODIFIER: u64>(
     ensures core { IsCore size (C.items cells.new) }
     ensures marks { C.marks cells.new ≤ C.marks cells.old + 1 }
 {
-    act(cells, size, pc, C::Kept::coded(OPCODE, MODIFIER), a, b)
+    act(
+        cells,
+        size,
+        pc,
+        opcode_from(OPCODE),
+        modifier_from(MODIFIER),
+        a,
+        b,
+    )
 }

@@ -1,16 +1,16 @@
 //! One cell as a turn works on it, in the form in which its store keeps it.
-ghost use Rattle.std.specs.Prelude.{◌≡◌, ◌<◌, ◌⊎◌, ◌↔◌, IsTrue, true};
-ghost use Rattle.rc_instr.specs.declared.instruction.Opcode.{Opcode};
-ghost use Rattle.rc_instr.specs.declared.instruction.Modifier.{Modifier};
+ghost use Rattle.std.specs.Prelude.{◌≡◌, ◌<◌, ◌≤◌, ◌/◌, ◌%◌, true};
 ghost use Rattle.rc_instr.specs.Instruction.{same_instruction};
 ghost use Rattle.rc_instr.specs.declared.instruction.Instruction.{Instruction};
-ghost use Rattle.mars_core.specs.Numbers.{with_field};
-ghost use Rattle.mars_core.specs.Classes.{class_of};
+ghost use Rattle.rc_instr.specs.Warrior.{IsBelow};
+ghost use Rattle.mars_core.specs.Numbers.{sum_of, difference_of, with_field};
+ghost use Rattle.mars_core.specs.Classes.{IsClassOf};
 ghost use Rattle.mars_core.specs.Codes.{opcode_of, modifier_of};
 ghost use Rattle.mars_core.specs.Numbers.{ANumber, BNumber};
 
-use crate::packed::{modifier_from, opcode_from};
-use rc_instr::{Instruction, Mode, Modifier, Opcode};
+use crate::number::{difference, sum};
+use crate::packed::{mode_code, modifier_code, opcode_code};
+use rc_instr::Instruction;
 
 /// A cell in the form in which a store keeps it.
 pub trait Cell: Copy {
@@ -21,38 +21,20 @@ pub trait Cell: Copy {
     fn of(instruction: Instruction) -> Self
         ensures { held result ≡ instruction };
 
-    /// Returns a cell with an opcode and a modifier, by their numbers.
-    fn coded(opcode: u64, modifier: u64) -> Self
-        requires { (opcode < 16) × (modifier < 8) }
-        ensures { ((held result).opcode ≡ opcode_of opcode) × ((held result).modifier ≡ modifier_of modifier) };
-
     /// Returns the instruction in the cell.
     fn instruction(self) -> Instruction
         ensures { result ≡ held self };
 
-    /// Returns the class of the instruction, if the store keeps it; else 0.
+    /// Returns a class of the instruction: the one that a packed cell keeps, or the one that gives
+    /// its modes alone.
     fn class(self) -> u64
-        ensures { 0 < result → result ≡ class_of (held self) };
+        ensures { IsClassOf (held self) result };
 
-    fn opcode(self) -> Opcode
-        ensures { result ≡ (held self).opcode };
-
-    /// Checks whether the instruction is MOV.I.
-    fn is_mov_i(self) -> bool
-        ensures { IsTrue result ↔ ((held self).opcode ≡ Opcode.Mov) × ((held self).modifier ≡ Modifier.I) };
-
-    /// Checks whether the opcode is SPL or NOP.
-    fn is_spl_or_nop(self) -> bool
-        ensures { IsTrue result ↔ ((held self).opcode ≡ Opcode.Spl) ⊎ ((held self).opcode ≡ Opcode.Nop) };
-
-    fn modifier(self) -> Modifier
-        ensures { result ≡ (held self).modifier };
-
-    fn a_mode(self) -> Mode
-        ensures { result ≡ (held self).a_mode };
-
-    fn b_mode(self) -> Mode
-        ensures { result ≡ (held self).b_mode };
+    /// Returns the numbers of the opcode and of the modifier, as one number.
+    fn code(self) -> u64
+        ensures small { result < 128 }
+        ensures opcode { opcode_of (result / 8) ≡ (held self).opcode }
+        ensures modifier { modifier_of (result % 8) ≡ (held self).modifier };
 
     fn a_number(self) -> u32
         ensures { result ≡ (held self).a_number };
@@ -67,6 +49,26 @@ pub trait Cell: Copy {
     fn with_b_number(self, number: u32) -> Self
         requires { number < 65536 }
         ensures { held result ≡ with_field BNumber number (held self) };
+
+    /// Returns the cell with its A-number lowered by 1, in a core of `size` cells.
+    fn with_a_lowered(self, size: u32) -> Self
+        requires { (1 < size) × (size ≤ 65535) × IsBelow size (held self) }
+        ensures { held result ≡ with_field ANumber (difference_of size (held self).a_number 1) (held self) };
+
+    /// Returns the cell with its B-number lowered by 1, in a core of `size` cells.
+    fn with_b_lowered(self, size: u32) -> Self
+        requires { (1 < size) × (size ≤ 65535) × IsBelow size (held self) }
+        ensures { held result ≡ with_field BNumber (difference_of size (held self).b_number 1) (held self) };
+
+    /// Returns the cell with its A-number raised by 1, in a core of `size` cells.
+    fn with_a_raised(self, size: u32) -> Self
+        requires { (1 < size) × (size ≤ 65535) × IsBelow size (held self) }
+        ensures { held result ≡ with_field ANumber (sum_of size (held self).a_number 1) (held self) };
+
+    /// Returns the cell with its B-number raised by 1, in a core of `size` cells.
+    fn with_b_raised(self, size: u32) -> Self
+        requires { (1 < size) × (size ≤ 65535) × IsBelow size (held self) }
+        ensures { held result ≡ with_field BNumber (sum_of size (held self).b_number 1) (held self) };
 
     /// Checks whether both cells hold the same instruction.
     fn is_same(self, other: Self) -> bool
@@ -87,52 +89,20 @@ impl Cell for Instruction {
     }
 
     #[inline]
-    fn coded(opcode: u64, modifier: u64) -> Instruction {
-        Instruction {
-            opcode: opcode_from(opcode),
-            modifier: modifier_from(modifier),
-            ..Instruction::empty()
-        }
-    }
-
-    #[inline]
     fn instruction(self) -> Instruction {
         self
     }
 
+    #[tactic(auto, using(crate::proofs::Packing::modes_class))]
     #[inline]
     fn class(self) -> u64 {
-        0
+        64 + mode_code(self.a_mode) + 8 * mode_code(self.b_mode)
     }
 
+    #[tactic(auto, using(crate::proofs::Packing::code))]
     #[inline]
-    fn opcode(self) -> Opcode {
-        self.opcode
-    }
-
-    #[inline]
-    fn is_mov_i(self) -> bool {
-        self.opcode == Opcode::Mov && self.modifier == Modifier::I
-    }
-
-    #[inline]
-    fn is_spl_or_nop(self) -> bool {
-        self.opcode == Opcode::Spl || self.opcode == Opcode::Nop
-    }
-
-    #[inline]
-    fn modifier(self) -> Modifier {
-        self.modifier
-    }
-
-    #[inline]
-    fn a_mode(self) -> Mode {
-        self.a_mode
-    }
-
-    #[inline]
-    fn b_mode(self) -> Mode {
-        self.b_mode
+    fn code(self) -> u64 {
+        modifier_code(self.modifier) + 8 * opcode_code(self.opcode)
     }
 
     #[inline]
@@ -159,6 +129,26 @@ impl Cell for Instruction {
             b_number: number as u16,
             ..self
         }
+    }
+
+    #[inline]
+    fn with_a_lowered(self, size: u32) -> Instruction {
+        self.with_a_number(difference(size, self.a_number(), 1))
+    }
+
+    #[inline]
+    fn with_b_lowered(self, size: u32) -> Instruction {
+        self.with_b_number(difference(size, self.b_number(), 1))
+    }
+
+    #[inline]
+    fn with_a_raised(self, size: u32) -> Instruction {
+        self.with_a_number(sum(size, self.a_number(), 1))
+    }
+
+    #[inline]
+    fn with_b_raised(self, size: u32) -> Instruction {
+        self.with_b_number(sum(size, self.b_number(), 1))
     }
 
     #[inline]

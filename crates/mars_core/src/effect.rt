@@ -33,17 +33,15 @@ pub(crate) enum Queued {
     Split,
 }
 
-// Runs `instruction` on its evaluated operands, for the task at `pc`. Returns what the task queues.
-//
-// Each arm decodes the modifier anew, so that the compiler merges the decoding and the match on it
-// into one jump. `execute_any` runs MOV.I, SPL and NOP itself, so only `arm` needs their arms here.
+// Runs an opcode on its evaluated operands, for the task at `pc`. Returns what the task queues.
 #[tactic(auto, unfolding(crate::specs::Step::effect_of, crate::specs::Pairs::computed))]
 #[inline(always)]
 pub(crate) fn act<C: Cells>(
     cells: &mut C,
     size: u32,
     pc: u32,
-    instruction: C::Kept,
+    opcode: Opcode,
+    modifier: Modifier,
     a: Evaluated<C::Kept>,
     b: Evaluated<C::Kept>,
 ) -> Queued
@@ -51,30 +49,30 @@ pub(crate) fn act<C: Cells>(
     requires a { IsBelow size (C.Kept.held a.copy) × (a.address < size) }
     requires b { IsBelow size (C.Kept.held b.copy) × (b.address < size) }
     ensures value { leaves (C.items cells.new) (addresses size pc a.address result)
-        ≡ effect_of (C.Kept.held instruction).opcode (C.Kept.held instruction).modifier size (C.items cells.old) pc a.address (C.Kept.held a.copy) (C.Kept.held b.copy) b.address }
+        ≡ effect_of opcode modifier size (C.items cells.old) pc a.address (C.Kept.held a.copy) (C.Kept.held b.copy) b.address }
     ensures core { IsCore size (C.items cells.new) }
     ensures marks { C.marks cells.new ≤ C.marks cells.old + 1 }
 {
     let (x, y) = (a.copy, b.copy);
-    match instruction.opcode() {
+    match opcode {
         Opcode::Dat => Nothing,
-        Opcode::Mov => move_numbers(cells, size, instruction.modifier(), x, b),
-        Opcode::Add => apply::<C, Adding>(cells, size, instruction.modifier(), x, b),
-        Opcode::Sub => apply::<C, Subtracting>(cells, size, instruction.modifier(), x, b),
-        Opcode::Mul => apply::<C, Multiplying>(cells, size, instruction.modifier(), x, b),
-        Opcode::Div => divide::<C, Dividing>(cells, size, instruction.modifier(), x, b),
-        Opcode::Mod => divide::<C, Remaining>(cells, size, instruction.modifier(), x, b),
+        Opcode::Mov => move_numbers(cells, size, modifier, x, b),
+        Opcode::Add => apply::<C, Adding>(cells, size, modifier, x, b),
+        Opcode::Sub => apply::<C, Subtracting>(cells, size, modifier, x, b),
+        Opcode::Mul => apply::<C, Multiplying>(cells, size, modifier, x, b),
+        Opcode::Div => divide::<C, Dividing>(cells, size, modifier, x, b),
+        Opcode::Mod => divide::<C, Remaining>(cells, size, modifier, x, b),
         Opcode::Jmp => Jump,
-        Opcode::Jmz => choose(all_tested_are(instruction.modifier(), 0, y), Jump, Next),
-        Opcode::Jmn => choose(all_tested_are(instruction.modifier(), 0, y), Next, Jump),
+        Opcode::Jmz => choose(all_tested_are(modifier, 0, y), Jump, Next),
+        Opcode::Jmn => choose(all_tested_are(modifier, 0, y), Next, Jump),
         // `b` was copied before the numbers are lowered, so 1 is 0 afterwards.
         Opcode::Djn => {
-            apply_count_down(cells, size, instruction.modifier(), b.address);
-            choose(all_tested_are(instruction.modifier(), 1, y), Next, Jump)
+            apply_count_down(cells, size, modifier, b.address);
+            choose(all_tested_are(modifier, 1, y), Next, Jump)
         }
-        Opcode::Seq => choose(all_equal(instruction.modifier(), x, y), Skip, Next),
-        Opcode::Sne => choose(all_equal(instruction.modifier(), x, y), Next, Skip),
-        Opcode::Slt => choose(all_less(instruction.modifier(), x, y), Skip, Next),
+        Opcode::Seq => choose(all_equal(modifier, x, y), Skip, Next),
+        Opcode::Sne => choose(all_equal(modifier, x, y), Next, Skip),
+        Opcode::Slt => choose(all_less(modifier, x, y), Skip, Next),
         Opcode::Spl => Split,
         Opcode::Nop => Next,
     }

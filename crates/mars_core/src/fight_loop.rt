@@ -71,11 +71,11 @@ fn take_turns<C: Cells>(
     let mut my_task = mine.first();
     let mut their_task = theirs.first();
     for cycle in 0..cycles {
-        let Some(next) = next_turn(&mut cells, mine, size, my_task) else {
+        let Some(next) = next_turn::<C, 0>(&mut cells, mine, size, my_task) else {
             return (cells, 2 * cycle + 1);
         };
         my_task = next;
-        let Some(next) = next_turn(&mut cells, theirs, size, their_task) else {
+        let Some(next) = next_turn::<C, 1>(&mut cells, theirs, size, their_task) else {
             return (cells, 2 * cycle + 2);
         };
         their_task = next;

@@ -9,6 +9,7 @@ mod cell;
 mod cells;
 mod effect;
 mod fight_loop;
+mod general;
 mod journal;
 pub mod laws;
 mod number;

@@ -15,6 +15,14 @@ pub(crate) trait Number {
     fn put<K: Cell>(cell: K, number: u32) -> K
         requires { number < 65536 }
         ensures { K.held result ≡ with_field field number (K.held cell) };
+
+    fn lower<K: Cell>(cell: K, size: u32) -> K
+        requires { (1 < size) × (size ≤ 65535) × IsBelow size (K.held cell) }
+        ensures { K.held result ≡ with_field field (difference_of size (field_of field (K.held cell)) 1) (K.held cell) };
+
+    fn raise<K: Cell>(cell: K, size: u32) -> K
+        requires { (1 < size) × (size ≤ 65535) × IsBelow size (K.held cell) }
+        ensures { K.held result ≡ with_field field (sum_of size (field_of field (K.held cell)) 1) (K.held cell) };
 }
 
 pub(crate) struct FieldA;
@@ -31,6 +39,16 @@ impl Number for FieldA {
     fn put<K: Cell>(cell: K, number: u32) -> K {
         cell.with_a_number(number)
     }
+
+    #[inline]
+    fn lower<K: Cell>(cell: K, size: u32) -> K {
+        cell.with_a_lowered(size)
+    }
+
+    #[inline]
+    fn raise<K: Cell>(cell: K, size: u32) -> K {
+        cell.with_a_raised(size)
+    }
 }
 
 pub(crate) struct FieldB;
@@ -46,6 +64,16 @@ impl Number for FieldB {
     #[inline]
     fn put<K: Cell>(cell: K, number: u32) -> K {
         cell.with_b_number(number)
+    }
+
+    #[inline]
+    fn lower<K: Cell>(cell: K, size: u32) -> K {
+        cell.with_b_lowered(size)
+    }
+
+    #[inline]
+    fn raise<K: Cell>(cell: K, size: u32) -> K {
+        cell.with_b_raised(size)
     }
 }
 
@@ -71,6 +99,28 @@ pub(crate) fn with_number<N: Number, K: Cell>(size: u32, cell: K, number: u32) -
     ensures below { IsBelow size (K.held result) }
 {
     N::put(cell, number)
+}
+
+// Returns the cell with one number lowered by 1.
+#[inline]
+pub(crate) fn lowered<N: Number, K: Cell>(size: u32, cell: K) -> K
+    requires size { (1 < size) × (size ≤ 65535) }
+    requires cell { IsBelow size (K.held cell) }
+    ensures value { K.held result ≡ with_field N.field (difference_of size (field_of N.field (K.held cell)) 1) (K.held cell) }
+    ensures below { IsBelow size (K.held result) }
+{
+    N::lower(cell, size)
+}
+
+// Returns the cell with one number raised by 1.
+#[inline]
+pub(crate) fn raised<N: Number, K: Cell>(size: u32, cell: K) -> K
+    requires size { (1 < size) × (size ≤ 65535) }
+    requires cell { IsBelow size (K.held cell) }
+    ensures value { K.held result ≡ with_field N.field (sum_of size (field_of N.field (K.held cell)) 1) (K.held cell) }
+    ensures below { IsBelow size (K.held result) }
+{
+    N::raise(cell, size)
 }
 
 // Adds modulo `size`. Both terms are below it, so one subtraction replaces the division. Tests its

@@ -4,11 +4,11 @@ ghost use Rattle.rc_instr.specs.Warrior.{IsBelow};
 ghost use Rattle.mars_core.specs.Core.{cell_at, changed_at, IsCore};
 ghost use Rattle.mars_core.specs.Numbers.{sum_of, difference_of, field_of};
 ghost use Rattle.mars_core.specs.Operand.{operand_of};
-ghost use Rattle.mars_core.specs.Evaluated.{located, located_from, a_operand, b_operand};
+ghost use Rattle.mars_core.specs.Evaluated.{located, located_from};
 
 use crate::cell::Cell;
 use crate::cells::{Cells, read, write};
-use crate::number::{FieldA, FieldB, Number, difference, number_of, sum, with_number};
+use crate::number::{FieldA, FieldB, Number, lowered, number_of, raised, sum};
 use rc_instr::Mode;
 
 // An address, and a copy of the cell there: where an operand points, or what it goes through.
@@ -19,31 +19,7 @@ pub(crate) struct Evaluated<K> {
 }
 
 // Both operands of an instruction.
-type Operands<K> = (Evaluated<K>, Evaluated<K>);
-
-// Evaluates the A-operand of `cell`, which is at `pc`, and then its B-operand (1994 draft).
-#[inline(always)]
-pub(crate) fn operands<C: Cells>(
-    cells: &mut C,
-    size: u32,
-    pc: u32,
-    cell: C::Kept,
-) -> Operands<C::Kept>
-    requires core { IsCore size (C.items cells.old) }
-    requires pc { pc < size }
-    requires below { IsBelow size (C.Kept.held cell) }
-    ensures a { (result.0.address ≡ sum_of size pc (a_operand size (C.items cells.old) pc (C.Kept.held cell)).pointer)
-        × (C.Kept.held result.0.copy ≡ (a_operand size (C.items cells.old) pc (C.Kept.held cell)).copy) }
-    ensures b { located result.1.address (C.Kept.held result.1.copy) (C.items cells.new) ≡ located_from size pc (b_operand size (C.items cells.old) pc (C.Kept.held cell)) }
-    ensures a_below { (result.0.address < size) × IsBelow size (C.Kept.held result.0.copy) }
-    ensures b_below { (result.1.address < size) × IsBelow size (C.Kept.held result.1.copy) }
-    ensures core { IsCore size (C.items cells.new) }
-    ensures marks { C.marks cells.new ≤ C.marks cells.old + 2 }
-{
-    let a = evaluate(cells, size, pc, cell.a_mode(), cell.a_number());
-    let b = evaluate(cells, size, pc, cell.b_mode(), cell.b_number());
-    (a, b)
-}
+pub(crate) type Operands<K> = (Evaluated<K>, Evaluated<K>);
 
 // Evaluates an operand of the task at `pc`. Lowers the number that it goes through before its use
 // with a predecrement mode, and raises it after the copy is taken with a postincrement mode.
@@ -114,10 +90,9 @@ fn lower<C: Cells, N: Number>(cells: &mut C, size: u32, at: u32) -> u32
     ensures marks { C.marks cells.new ≤ C.marks cells.old + 1 }
 {
     let cell = read(cells, size, at);
-    let lowered = difference(size, number_of::<N, C::Kept>(size, cell), 1);
-    let changed = with_number::<N, C::Kept>(size, cell, lowered);
+    let changed = lowered::<N, C::Kept>(size, cell);
     write(cells, size, at, changed);
-    lowered
+    number_of::<N, C::Kept>(size, changed)
 }
 
 // Raises one number of the cell at `way.address` by 1. `way.copy` is that cell.
@@ -132,8 +107,7 @@ fn raise<C: Cells, N: Number>(cells: &mut C, size: u32, way: Evaluated<C::Kept>)
     ensures core { IsCore size (C.items cells.new) }
     ensures marks { C.marks cells.new ≤ C.marks cells.old + 1 }
 {
-    let raised = sum(size, number_of::<N, C::Kept>(size, way.copy), 1);
-    let cell = with_number::<N, C::Kept>(size, way.copy, raised);
+    let cell = raised::<N, C::Kept>(size, way.copy);
     write(cells, size, way.address, cell);
 }
 

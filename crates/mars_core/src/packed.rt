@@ -85,7 +85,7 @@ pub(crate) fn mode_from(number: u64) -> Mode
 }
 
 #[inline]
-fn opcode_code(opcode: Opcode) -> u64
+pub(crate) fn opcode_code(opcode: Opcode) -> u64
     ensures value { result ≡ opcode_number opcode }
     ensures small { result < 16 }
 {
@@ -93,7 +93,7 @@ fn opcode_code(opcode: Opcode) -> u64
 }
 
 #[inline]
-fn modifier_code(modifier: Modifier) -> u64
+pub(crate) fn modifier_code(modifier: Modifier) -> u64
     ensures value { result ≡ modifier_number modifier }
     ensures small { result < 7 }
 {
@@ -101,97 +101,104 @@ fn modifier_code(modifier: Modifier) -> u64
 }
 
 #[inline]
-fn mode_code(mode: Mode) -> u64
+pub(crate) fn mode_code(mode: Mode) -> u64
     ensures value { result ≡ mode_number mode }
     ensures small { result < 8 }
 {
     mode as u64
 }
 
-// Returns the class of a key, 0 if it has none.
+// Returns the class of a key.
 #[inline]
 #[tactic(auto, unfolding(crate::specs::Classes::class_of_key))]
 fn class_of_key(key: u64) -> u64
+    requires { key < 16384 }
     ensures value { result ≡ class_of_key key }
-    ensures small { result < 256 }
+    ensures small { result < 128 }
 {
     match key {
-        2318 => 1, // MOV.I $, $
-        2361 => 2, // JMP.B $, $
-        6414 => 3, // MOV.I $, @
-        2066 => 4, // ADD.AB #, $
-        2161 => 5, // SPL.B #, $
-        10553 => 6, // JMP.B $, <
-        2929 => 7, // SPL.B @, $
-        15886 => 8, // MOV.I }, >
-        8505 => 9, // JMP.B $, {
-        2324 => 10, // ADD.F $, $
-        2406 => 11, // SNE.I $, $
-        14606 => 12, // MOV.I $, >
-        2074 => 13, // SUB.AB #, $
-        10580 => 14, // DJN.F $, <
-        2417 => 15, // SPL.B $, $
-        10510 => 16, // MOV.I $, <
-        2332 => 17, // SUB.F $, $
-        2398 => 18, // SEQ.I $, $
-        14676 => 19, // DJN.F $, >
-        11278 => 20, // MOV.I {, <
-        14449 => 21, // SPL.B #, >
-        11534 => 22, // MOV.I <, <
-        4366 => 23, // MOV.I $, *
-        2308 => 24, // DAT.F $, $
-        2873 => 25, // JMP.B @, $
-        3342 => 26, // MOV.I <, $
-        2058 => 27, // MOV.AB #, $
-        337 => 28, // DJN.B $, #
-        2369 => 29, // JMZ.B $, $
-        10609 => 30, // SPL.B $, <
-        2416 => 31, // SPL.A $, $
-        2062 => 32, // MOV.I #, $
-        2385 => 33, // DJN.B $, $
-        11022 => 34, // MOV.I @, <
-        11524 => 35, // DAT.F <, <
-        15217 => 36, // SPL.B @, >
-        10577 => 37, // DJN.B $, <
-        2377 => 38, // JMN.B $, $
-        3844 => 39, // DAT.F >, $
-        4 => 40, // DAT.F #, #
+        // table of keys
+        2318 => 0, // MOV.I $, $
+        2361 => 1, // JMP.B $, $
+        6414 => 2, // MOV.I $, @
+        2066 => 3, // ADD.AB #, $
+        2161 => 4, // SPL.B #, $
+        10553 => 5, // JMP.B $, <
+        2929 => 6, // SPL.B @, $
+        15886 => 7, // MOV.I }, >
+        8505 => 8, // JMP.B $, {
+        2324 => 9, // ADD.F $, $
+        2406 => 10, // SNE.I $, $
+        14606 => 11, // MOV.I $, >
+        2074 => 12, // SUB.AB #, $
+        10580 => 13, // DJN.F $, <
+        2417 => 14, // SPL.B $, $
+        10510 => 15, // MOV.I $, <
+        2332 => 16, // SUB.F $, $
+        2398 => 17, // SEQ.I $, $
+        14676 => 18, // DJN.F $, >
+        11278 => 19, // MOV.I {, <
+        14449 => 20, // SPL.B #, >
+        11534 => 21, // MOV.I <, <
+        4366 => 22, // MOV.I $, *
+        2308 => 23, // DAT.F $, $
+        2873 => 24, // JMP.B @, $
+        3342 => 25, // MOV.I <, $
+        2058 => 26, // MOV.AB #, $
+        337 => 27, // DJN.B $, #
+        2369 => 28, // JMZ.B $, $
+        10609 => 29, // SPL.B $, <
+        2416 => 30, // SPL.A $, $
+        2062 => 31, // MOV.I #, $
+        2385 => 32, // DJN.B $, $
+        11022 => 33, // MOV.I @, <
+        11524 => 34, // DAT.F <, <
+        15217 => 35, // SPL.B @, >
+        10577 => 36, // DJN.B $, <
+        2377 => 37, // JMN.B $, $
+        3844 => 38, // DAT.F >, $
+        4 => 39, // DAT.F #, #
+        // end of keys
         _ => further_class_of_key(key),
     }
 }
 
-// Returns the class of a key that is none of the first 40, 0 if it has none.
+// Returns the class of a key that is none of the first 40. A key of no frequent instruction leads
+// to the class of its modes.
 #[tactic(auto, unfolding(crate::specs::Classes::further_class_of_key))]
 fn further_class_of_key(key: u64) -> u64
+    requires { key < 16384 }
     ensures value { result ≡ further_class_of_key key }
-    ensures small { result < 256 }
+    ensures small { result < 128 }
 {
     match key {
-        10353 => 41, // SPL.B #, <
-        8305 => 42, // SPL.B #, {
-        12401 => 43, // SPL.B #, }
-        113 => 44, // SPL.B #, #
-        11121 => 45, // SPL.B @, <
-        9073 => 46, // SPL.B @, {
-        13169 => 47, // SPL.B @, }
-        4110 => 48, // MOV.I #, *
-        12558 => 49, // MOV.I $, }
-        8462 => 50, // MOV.I $, {
-        14862 => 51, // MOV.I *, >
-        3086 => 52, // MOV.I {, $
-        9486 => 53, // MOV.I <, {
-        3854 => 54, // MOV.I >, $
-        14094 => 55, // MOV.I >, }
-        8532 => 56, // DJN.F $, {
-        12628 => 57, // DJN.F $, }
-        11065 => 58, // JMP.B @, <
-        15161 => 59, // JMP.B @, >
-        10564 => 60, // JMZ.F $, <
-        6750 => 61, // SEQ.I *, @
-        6758 => 62, // SNE.I *, @
-        6757 => 63, // SNE.X *, @
-        3332 => 64, // DAT.F <, $
-        _ => 0,
+        // table of further keys
+        10353 => 40, // SPL.B #, <
+        8305 => 41, // SPL.B #, {
+        12401 => 42, // SPL.B #, }
+        113 => 43, // SPL.B #, #
+        11121 => 44, // SPL.B @, <
+        9073 => 45, // SPL.B @, {
+        13169 => 46, // SPL.B @, }
+        4110 => 47, // MOV.I #, *
+        12558 => 48, // MOV.I $, }
+        8462 => 49, // MOV.I $, {
+        14862 => 50, // MOV.I *, >
+        3086 => 51, // MOV.I {, $
+        9486 => 52, // MOV.I <, {
+        3854 => 53, // MOV.I >, $
+        14094 => 54, // MOV.I >, }
+        8532 => 55, // DJN.F $, {
+        12628 => 56, // DJN.F $, }
+        11065 => 57, // JMP.B @, <
+        15161 => 58, // JMP.B @, >
+        10564 => 59, // JMZ.F $, <
+        6750 => 60, // SEQ.I *, @
+        6758 => 61, // SNE.I *, @
+        6757 => 62, // SNE.X *, @
+        3332 => 63, // DAT.F <, $
+        // end of further keys
+        _ => 64 + key / 256,
     }
 }
 
@@ -254,67 +261,28 @@ impl Cell for PackedCell {
         }
     }
 
-    #[tactic(auto, using(crate::proofs::Packing::coded, crate::proofs::Packing::classed_low), unfolding(crate::specs::Packed::unpacked))]
-    #[inline]
-    fn coded(opcode: u64, modifier: u64) -> PackedCell {
-        PackedCell {
-            word: modifier + 8 * opcode,
-        }
-    }
-
     #[tactic(auto, unfolding(crate::specs::Packed::unpacked))]
     #[inline]
     fn instruction(self) -> Instruction {
         Instruction {
-            opcode: self.opcode(),
-            modifier: self.modifier(),
-            a_mode: self.a_mode(),
+            opcode: opcode_from(self.word / 8 % 16),
+            modifier: modifier_from(self.word % 8),
+            a_mode: mode_from(self.word / 256 % 8),
             a_number: (self.word / A_NUMBER % 65536) as u16,
-            b_mode: self.b_mode(),
+            b_mode: mode_from(self.word / 2048 % 8),
             b_number: (self.word / B_NUMBER) as u16,
         }
     }
 
     #[inline]
     fn class(self) -> u64 {
-        self.word / CLASS % 65536
+        self.word / CLASS % 128
     }
 
-    #[tactic(auto, unfolding(crate::specs::Packed::unpacked))]
+    #[tactic(auto, using(crate::proofs::Packing::code), unfolding(crate::specs::Packed::unpacked))]
     #[inline]
-    fn opcode(self) -> Opcode {
-        opcode_from(self.word / 8 % 16)
-    }
-
-    #[tactic(auto, using(crate::proofs::Packing::fast), unfolding(crate::specs::Packed::unpacked))]
-    #[inline]
-    fn is_mov_i(self) -> bool {
-        // MOV is opcode 1, and I is modifier 6; 7 is read as I too
-        self.word / 2 % 64 == 7
-    }
-
-    #[tactic(auto, using(crate::proofs::Packing::fast), unfolding(crate::specs::Packed::unpacked))]
-    #[inline]
-    fn is_spl_or_nop(self) -> bool {
-        self.word / 8 % 16 >= 14
-    }
-
-    #[tactic(auto, unfolding(crate::specs::Packed::unpacked))]
-    #[inline]
-    fn modifier(self) -> Modifier {
-        modifier_from(self.word % 8)
-    }
-
-    #[tactic(auto, unfolding(crate::specs::Packed::unpacked))]
-    #[inline]
-    fn a_mode(self) -> Mode {
-        mode_from(self.word / 256 % 8)
-    }
-
-    #[tactic(auto, unfolding(crate::specs::Packed::unpacked))]
-    #[inline]
-    fn b_mode(self) -> Mode {
-        mode_from(self.word / 2048 % 8)
+    fn code(self) -> u64 {
+        self.word % 128
     }
 
     #[tactic(auto, unfolding(crate::specs::Packed::unpacked))]
@@ -345,6 +313,60 @@ impl Cell for PackedCell {
         let low = self.word % B_NUMBER;
         PackedCell {
             word: low + B_NUMBER * u64::from(number),
+        }
+    }
+
+    // One addition to the word, or one subtraction, changes the number and nothing else: no carry
+    // leaves its bits.
+    #[inline]
+    fn with_a_lowered(self, size: u32) -> PackedCell {
+        if self.word / A_NUMBER % 65536 == 0 {
+            return PackedCell {
+                word: self.word + A_NUMBER * u64::from(size - 1),
+            };
+        }
+        PackedCell {
+            word: self.word - A_NUMBER,
+        }
+    }
+
+    #[inline]
+    fn with_b_lowered(self, size: u32) -> PackedCell {
+        if self.word / B_NUMBER == 0 {
+            return PackedCell {
+                word: self.word + B_NUMBER * u64::from(size - 1),
+            };
+        }
+        PackedCell {
+            word: self.word - B_NUMBER,
+        }
+    }
+
+    #[tactic(auto, unfolding(crate::specs::Packed::unpacked))]
+    #[inline]
+    fn with_a_raised(self, size: u32) -> PackedCell {
+        let last = u64::from(size - 1);
+        if self.word / A_NUMBER % 65536 == last {
+            return PackedCell {
+                word: self.word - A_NUMBER * last,
+            };
+        }
+        PackedCell {
+            word: self.word + A_NUMBER,
+        }
+    }
+
+    #[tactic(auto, unfolding(crate::specs::Packed::unpacked))]
+    #[inline]
+    fn with_b_raised(self, size: u32) -> PackedCell {
+        let last = u64::from(size - 1);
+        if self.word / B_NUMBER == last {
+            return PackedCell {
+                word: self.word - B_NUMBER * last,
+            };
+        }
+        PackedCell {
+            word: self.word + B_NUMBER,
         }
     }
 

@@ -3,11 +3,10 @@
 ghost use Rattle.std.specs.Prelude.{◌≡◌, ◌<◌, ◌≤◌, IfSome};
 ghost use Rattle.rc_instr.specs.Warrior.{IsBelow};
 ghost use Rattle.rc_instr.specs.declared.instruction.Opcode.{Opcode};
-ghost use Rattle.mars_core.specs.Numbers.{difference_of, field_of, with_field};
 ghost use Rattle.mars_core.specs.Pairs.{written_value, put, pairs_of, written, counted_down, has_zero_divisor, all_are, are_equal, are_less};
 
 use crate::cell::Cell;
-use crate::number::{FieldA, FieldB, Number, difference, number_of, product, sum, with_number};
+use crate::number::{FieldA, FieldB, Number, difference, lowered, product, sum, with_number};
 use rc_instr::Modifier;
 
 // What an opcode computes for one pair from its A-value and its B-value. Each opcode is a type, so
@@ -229,16 +228,4 @@ pub(crate) fn all_less<K: Cell>(modifier: Modifier, a: K, b: K) -> bool
         Modifier::F | Modifier::I => a.a_number() < b.a_number() && a.b_number() < b.b_number(),
         Modifier::X => a.a_number() < b.b_number() && a.b_number() < b.a_number(),
     }
-}
-
-// Returns the cell with one number lowered by 1.
-#[inline]
-fn lowered<N: Number, K: Cell>(size: u32, cell: K) -> K
-    requires size { (1 < size) × (size ≤ 65535) }
-    requires cell { IsBelow size (K.held cell) }
-    ensures value { K.held result ≡ with_field N.field (difference_of size (field_of N.field (K.held cell)) 1) (K.held cell) }
-    ensures below { IsBelow size (K.held result) }
-{
-    let number = difference(size, number_of::<N, K>(size, cell), 1);
-    with_number::<N, K>(size, cell, number)
 }
