@@ -303,7 +303,7 @@ def read_options():
     options.add_argument("--bin", default=PROGRAM, help=program, **path)
     options.add_argument("--pmars", help="a pMARS server build to compare with", **path)
     options.add_argument("--runs", default=10, help="runs of each fight (default: 10)", **count)
-    options.add_argument("--series", default=10, help="runs of each series (default: 10)", **count)
+    options.add_argument("--series", default=3, help="runs of each series (default: 3)", **count)
     options.add_argument("--short", default=3, help="runs of short fights (default: 3)", **count)
     options.add_argument("--texts", default=200, help="runs of each text (default: 200)", **count)
     options.add_argument("--tunings", default=3, help="runs of each tuning (default: 3)", **count)

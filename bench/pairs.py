@@ -15,9 +15,12 @@ from pmars.games import Game, fights_of
 
 HERE = pathlib.Path(__file__).resolve().parent
 # In each folder, each warrior fights each other one.
-FOLDERS = {"examples": HERE.parent / "examples" / "warriors", "unseen": HERE / "unseen"}
-# How many fights a series has, and the position of the first.
-ROUNDS, SEED = 60, 3000
+FOLDERS = {"examples": HERE.parent / "examples" / "warriors", "seen": HERE / "seen",
+           "unseen": HERE / "unseen"}
+# How many fights a series has at least and at most, and the position of the first.
+FEWEST, MOST, SEED = 60, 10_000, 3000
+# A series has as many fights as pMARS plays in this many seconds, so that starts do not count.
+FULL = 1.0
 
 
 class WrongPoints(Exception):
@@ -36,15 +39,17 @@ class Pair:
         self.best, self.points = [math.inf, math.inf], None
         cwtune, pmars = map(str, programs)
         game = Game(Rules(), my_load, their_load, tempfile.mkdtemp(dir=folder))
-        self.tune = game.tune_words(cwtune, fights_of(game.rules, SEED, ROUNDS))
-        self.pmars = game.series_words(pmars, SEED, ROUNDS)
+        seconds, _ = processor_time(game.series_words(pmars, SEED, FEWEST))
+        self.fights = min(MOST, max(FEWEST, int(FEWEST * FULL / max(seconds, 1e-3))))
+        self.tune = game.tune_words(cwtune, fights_of(game.rules, SEED, self.fights))
+        self.pmars = game.series_words(pmars, SEED, self.fights)
 
     def play_tune(self):
         """Returns the seconds of the series by `cwtune tune`, and the candidate's points."""
         seconds, output = processor_time(self.tune)
         words = output.split()
-        if words[words.index("fights") + 1] != str(ROUNDS):
-            raise WrongPoints(f"{self.name}: cwtune did not play {ROUNDS} fights: {output!r}")
+        if words[words.index("fights") + 1] != str(self.fights):
+            raise WrongPoints(f"{self.name}: cwtune did not play {self.fights} fights: {output!r}")
         return seconds, int(words[words.index("total") + 1])
 
     def play_pmars(self):
@@ -97,15 +102,16 @@ def measured(warriors, programs, runs):
 
 def print_folder(name, cwtune, pmars, runs):
     """Prints a line per pair of warriors of a folder, the geometric mean and the least ratio."""
-    print(f"{name:<32}{'points':>8}{'ms':>10}{'pMARS ms':>10}{'ratio':>8}", flush=True)
+    print(f"{name:<32}{'fights':>8}{'points':>8}{'ms':>10}{'pMARS ms':>10}{'ratio':>8}", flush=True)
     ratios = []
     for pair in measured(loads_of(cwtune, FOLDERS[name]), (cwtune, pmars), runs):
         mine, theirs = pair.best
         ratios.append(theirs / mine)
-        line = f"{pair.name:<32}{pair.points:>8}{mine * 1e3:>10.1f}{theirs * 1e3:>10.1f}"
+        line = f"{pair.name:<32}{pair.fights:>8}{pair.points:>8}"
+        line += f"{mine * 1e3:>10.1f}{theirs * 1e3:>10.1f}"
         print(f"{line}{ratios[-1]:>8.2f}", flush=True)
     mean = math.exp(sum(map(math.log, ratios)) / len(ratios))
-    print(f"the same points in {len(ratios)} series of {ROUNDS} fights")
+    print(f"the same points in {len(ratios)} series")
     print(f"geometric mean of the ratios {mean:.2f}, least {min(ratios):.2f}")
 
 

@@ -1,5 +1,5 @@
-"""Asks what runs by `python3 -m` for help, and gives it a program that is not there: python3 -m
-gate.runners
+"""Asks what runs by `python3 -m` for help, gives it a program that is not there, and compares the
+tables that a script writes: python3 -m gate.runners
 
 Prints what failed, and as its last line `N passed, N failed`. The exit status is 1 if something
 else than help, or than a line that says what is wrong, was printed.
@@ -34,6 +34,9 @@ def trials():
     for module in HELPED:
         status, out, _ = run(module, "--help")
         yield f"{module} --help", [] if status == 0 and len(out) > 100 else ["no help"]
+    done = subprocess.run([sys.executable, ROOT / "crates/mars_core/classes.py", "--check"],
+                          capture_output=True, text=True)
+    yield compare("the tables of classes", (0, ""), (done.returncode, done.stdout + done.stderr))
     for command, modules in REFUSED.items():
         for module in modules:
             said = f"error: no program none (`{command}` builds one)\n"
