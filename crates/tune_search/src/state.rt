@@ -13,6 +13,7 @@ use crate::counts::{part_size, start_setting};
 use crate::fault::SearchFault;
 use crate::fights::{Challenge, play_enough};
 use crate::lead::{copies, lead_with, next_lead};
+use crate::method::{Method, capacity_of};
 use crate::order::{all_in_order, learn_order, sort_by_index, visited};
 use mars_core::{Arena, PackedCells};
 use std::alloc::{AllocError, Global};
@@ -21,6 +22,7 @@ use tune_template::Inputs;
 
 #[derive(Drop)]
 pub(crate) struct State {
+    pub(crate) method: Method,
     // Blank between visits. It counts the fights played.
     pub(crate) arena: Arena<PackedCells>,
     pub(crate) start: u32,
@@ -38,17 +40,21 @@ pub(crate) struct State {
 }
 
 impl State {
-    // Starts before the first visit, with room for `capacity` settings in the cache.
-    pub(crate) fn begin(alloc: Global, inputs: &Inputs, capacity: u32) -> Result<State, SearchFault>
-        requires capacity { 1 ≤ capacity }
-        ensures state { IfOk result (IsState inputs.now capacity 0) }
+    // Starts before the first visit.
+    pub(crate) fn begin(
+        alloc: Global,
+        inputs: &Inputs,
+        method: Method,
+    ) -> Result<State, SearchFault>
+        ensures state { IfOk result (IsState inputs.now method 0) }
         ensures err { IfErr result (λ e. e ≡ SearchFault.OutOfMemory) }
     {
         let arena = Arena::<PackedCells>::try_new(alloc, inputs.rules())?;
         let rows = blank_rows(alloc, part_size(inputs))?;
         let order = all_in_order(alloc, fight_count(inputs))?;
-        let cache = Cache::with_capacity(alloc, capacity)?;
+        let cache = Cache::with_capacity(alloc, capacity_of(method))?;
         Ok(State {
+            method,
             arena,
             start: start_setting(inputs),
             rows,
@@ -72,8 +78,8 @@ impl State {
     ) -> Result<(), SearchFault>
         requires visits { visits < (problem_of inputs.now).count }
         requires few { (problem_of inputs.now).count ≤ MOST_SETTINGS }
-        requires state { IsState inputs.now self.old.cache.capacity visits self.old }
-        ensures state { OnOk result (IsState inputs.now self.old.cache.capacity (visits + 1) self.new) }
+        requires state { IsState inputs.now self.old.method visits self.old }
+        ensures state { OnOk result (IsState inputs.now self.old.method (visits + 1) self.new) }
         ensures err { IfErr result (λ e. e ≡ SearchFault.OutOfMemory) }
     {
         let vector = visited(self.start, visits);
@@ -106,13 +112,14 @@ impl State {
     ) -> Result<(), SearchFault>
         requires visits { visits < (problem_of inputs.now).count }
         requires few { (problem_of inputs.now).count ≤ MOST_SETTINGS }
-        requires state { IsState inputs.now self.old.cache.capacity visits self.old }
+        requires state { IsState inputs.now self.old.method visits self.old }
         requires candidate { IsCandidateAt inputs.now (visit (problem_of inputs.now).start visits) entrant }
         requires unknown { lookup (same_text entrant.text.items) self.old.cache.known ≡ None }
-        ensures state { OnOk result (IsState inputs.now self.old.cache.capacity (visits + 1) self.new) }
+        ensures state { OnOk result (IsState inputs.now self.old.method (visits + 1) self.new) }
         ensures err { IfErr result (λ e. e ≡ SearchFault.OutOfMemory) }
     {
         let challenge = Challenge {
+            method: self.method,
             entrant: &entrant,
             order: &self.order,
             lead: self.lead,

@@ -4,7 +4,7 @@ use crate::runs::tuning::{BOTH, ORDER, ORDER_CERT, both_opponents};
 use rc_instr::{Outlet, Rules};
 use std::test::Fail;
 use tune_cert::{Standing, Watcher};
-use tune_runs::{RunFault, TuneTexts, check_part_run, plain_tune_run, tune_part_run};
+use tune_runs::{Method, RunFault, TuneTexts, check_part_run, tune_by_run};
 use tune_template::Part;
 
 // Counts the settings, the fights and the ends that it is told of, and what it is told after an
@@ -57,6 +57,9 @@ impl Watcher for Told {
     }
 }
 
+// How a tuning searches unless it is told otherwise.
+const DROPPING: Method = Method::Dropping { capacity: 4096 };
+
 // Returns the texts of a tuning of all settings of `ORDER`.
 fn order<'a>(opponents: &'a [Vec<u8>], rules: &'a Rules) -> TuneTexts<'a> {
     TuneTexts {
@@ -77,20 +80,34 @@ fn a_tuning_tells_its_watcher_once(rt: HostRuntime) -> Result<(), Fail> {
     let mut told = Told::nothing();
     let mut report = Outlet::new(Vec::new(rt.alloc()));
     let mut cert = Outlet::new(Vec::new(rt.alloc()));
-    tune_part_run(rt.alloc(), &texts, 4096, &mut told, &mut report, &mut cert)?;
+    tune_by_run(
+        rt.alloc(),
+        &texts,
+        DROPPING,
+        &mut told,
+        &mut report,
+        &mut cert,
+    )?;
     assert_eq!(rt; told.numbers(), (3, 5, 1, 0));
     Ok(())
 }
 
 #[test]
-fn a_plain_tuning_tells_its_watcher_once(rt: HostRuntime) -> Result<(), Fail> {
+fn a_tuning_that_plays_all_tells_its_watcher_once(rt: HostRuntime) -> Result<(), Fail> {
     let rules = Rules::try_new(16, 20, 4, 4, 4)?;
     let opponents = both_opponents(rt.alloc())?;
     let texts = order(opponents.as_slice(), &rules);
     let mut told = Told::nothing();
     let mut report = Outlet::new(Vec::new(rt.alloc()));
     let mut cert = Outlet::new(Vec::new(rt.alloc()));
-    plain_tune_run(rt.alloc(), &texts, &mut told, &mut report, &mut cert)?;
+    tune_by_run(
+        rt.alloc(),
+        &texts,
+        Method::PlayingAll,
+        &mut told,
+        &mut report,
+        &mut cert,
+    )?;
     assert_eq!(rt; told.numbers(), (3, 6, 1, 0));
     Ok(())
 }
@@ -120,7 +137,14 @@ fn a_refused_tuning_tells_its_watcher_once(rt: HostRuntime) -> Result<(), Fail> 
     let mut told = Told::nothing();
     let mut report = Outlet::new(Vec::new(rt.alloc()));
     let mut cert = Outlet::new(Vec::new(rt.alloc()));
-    match tune_part_run(rt.alloc(), &texts, 4096, &mut told, &mut report, &mut cert) {
+    match tune_by_run(
+        rt.alloc(),
+        &texts,
+        DROPPING,
+        &mut told,
+        &mut report,
+        &mut cert,
+    ) {
         Err(RunFault::NoCandidate) => {}
         Err(other) => return Err(Fail::from(other)),
         Ok(()) => return Err(Fail::from("not refused")),

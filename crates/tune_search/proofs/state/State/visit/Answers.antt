@@ -27,9 +27,10 @@ returns-in_default-clause-state g c =
     record {
       start_is = c.requires.state.start_is;
       start_inside = c.requires.state.start_inside;
+      method_is = refl;
       capacity_is = c.requires.state.capacity_is;
       blank = c.requires.state.blank;
-      going = refused_visit p (inputs_problem i) i.rules c.args.self.now.cache.capacity k v at inside
+      going = refused_visit p (inputs_problem i) i.rules c.args.self.now.method k v at inside
           s.rows.items s.lead s.order.items s.arena.fights s.candidates s.copied s.cache.known c.requires.state.going
           (subst (λ (o : Option Candidate). IfNone o (p.warrior v ≡ None)) c.in_default.is c.in_ok-entrant.ensures.none);
     }
@@ -55,9 +56,10 @@ fight-requires-clause-state g c =
     record {
       start_is = c.requires.state.start_is;
       start_inside = c.requires.state.start_inside;
-      capacity_is = refl;
+      method_is = refl;
+      capacity_is = ap (λ (m : CacheView). m.capacity) same ∙ c.requires.state.capacity_is;
       blank = c.requires.state.blank;
-      going = subst (λ (m : CacheView). IsUnderWay p i.rules m.capacity c.args.visits s.rows.items s.lead s.order.items s.arena.fights s.candidates s.copied m.known) (sym same) c.requires.state.going;
+      going = subst (λ (m : CacheView). IsUnderWay p i.rules s.method c.args.visits s.rows.items s.lead s.order.items s.arena.fights s.candidates s.copied m.known) (sym same) c.requires.state.going;
     }
 
 pub returns-then-copies-clause-state : goal.returns-then-copies-clause-state
@@ -80,10 +82,11 @@ returns-then-copies-clause-state g c =
     record {
       start_is = c.requires.state.start_is;
       start_inside = c.requires.state.start_inside;
+      method_is = refl;
       capacity_is = ap (λ (m : CacheView). m.capacity) c.in-Some-recall.ensures.known ∙ c.requires.state.capacity_is;
       blank = c.requires.state.blank;
-      going = under_way_along p i.rules c.args.self.now.cache.capacity (k + 1) _ _ _ _ _ _ _ _ _ _ _ _
-          (copied_visit p (inputs_problem i) i.rules c.args.self.now.cache.capacity k v at inside
+      going = under_way_along p i.rules c.args.self.now.method (k + 1) _ _ _ _ _ _ _ _ _ _ _ _
+          (copied_visit p (inputs_problem i) i.rules c.args.self.now.method k v at inside
           s.rows.items s.lead s.order.items s.arena.fights s.candidates s.copied s.cache.known c.requires.state.going
           e.warrior is.warrior_is is.rules_hold is.is_warrior is.fits u look row row_of apart)
           refl
@@ -111,10 +114,11 @@ returns-clause-state g c =
     record {
       start_is = c.requires.state.start_is;
       start_inside = c.requires.state.start_inside;
+      method_is = refl;
       capacity_is = ap (λ (m : CacheView). m.capacity) c.in-Some-recall.ensures.known ∙ c.requires.state.capacity_is;
       blank = c.requires.state.blank;
-      going = under_way_along p i.rules c.args.self.now.cache.capacity (k + 1) _ _ _ _ _ _ _ _ _ _ _ _
-          (shared_visit p (inputs_problem i) i.rules c.args.self.now.cache.capacity k v at inside
+      going = under_way_along p i.rules c.args.self.now.method (k + 1) _ _ _ _ _ _ _ _ _ _ _ _
+          (shared_visit p (inputs_problem i) i.rules c.args.self.now.method k v at inside
           s.rows.items s.lead s.order.items s.arena.fights s.candidates s.copied s.cache.known c.requires.state.going
           e.warrior is.warrior_is is.rules_hold is.is_warrior is.fits u look apart)
           refl

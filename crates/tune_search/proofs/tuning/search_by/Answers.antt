@@ -4,22 +4,23 @@ use Rattle.tune_problem.specs.Problem.{problem_of}
 use Rattle.tune_problem.proofs.Scores.{inputs_problem}
 use Rattle.tune_search.specs.Found.{IsSearch}
 use Rattle.tune_search.specs.State.{IsState}
+use Rattle.tune_search.specs.declared.method.Method.{Method}
 use Rattle.tune_search.proofs.Answered.{made_with, answered, unanswered}
 use Rattle.tune_search.proofs.Finish.{finds, finds_none}
-use Rattle.tune_search.proofs.tuning.watched_search.Goals as goal
+use Rattle.tune_search.proofs.tuning.search_by.Goals as goal
 
 pub visit-requires-clause-state : goal.visit-requires-clause-state
 visit-requires-clause-state g c =
     let i = c.args.inputs.now in
     let s = c.loop-visits.state in
     let state = c.loop-visits.invariant.state in
-    subst (λ (n : ℕ). IsState i n c.loop-visits.visits s) (sym state.capacity_is) state
+    subst (λ (n : Method). IsState i n c.loop-visits.visits s) (sym state.method_is) state
 
 pub loop-visits-preserved : goal.loop-visits-preserved
 loop-visits-preserved g c =
     let i = c.args.inputs.now in
-    let same = c.loop-visits.invariant.state.capacity_is in
-    record { state = subst (λ (n : ℕ). IsState i n (c.loop-visits.visits + 1) c.visit.new.self) same c.in_ok-visit.ensures.state }
+    let same = c.loop-visits.invariant.state.method_is in
+    record { state = subst (λ (n : Method). IsState i n (c.loop-visits.visits + 1) c.visit.new.self) same c.in_ok-visit.ensures.state }
 
 pub returns-clause-none : goal.returns-clause-none
 returns-clause-none g c =
@@ -27,9 +28,9 @@ returns-clause-none g c =
     let p = problem_of i in
     let s = c.loop-visits.state in
     let e : c.loop-visits.visits ≡ p.count = omega (arith, c.loop-visits-test.false, c.loop-visits.auto.visits-end, c.part_size-visits-end.ensures.count) in
-    let state : IsState i c.args.capacity p.count s = subst (λ (k : ℕ). IsState i c.args.capacity k s) e c.loop-visits.invariant.state in
+    let state : IsState i c.args.method p.count s = subst (λ (k : ℕ). IsState i c.args.method k s) e c.loop-visits.invariant.state in
     unanswered p c.answer_of.result s.lead c.answer_of.ensures.none
-    (finds_none p (inputs_problem i) state.start_inside i.rules c.args.capacity s.rows.items s.lead s.order.items s.arena.fights s.candidates s.copied s.cache.known state.going)
+    (finds_none p (inputs_problem i) state.start_inside i.rules c.args.method s.rows.items s.lead s.order.items s.arena.fights s.candidates s.copied s.cache.known state.going)
 
 pub returns-clause-found : goal.returns-clause-found
 returns-clause-found g c =
@@ -37,8 +38,8 @@ returns-clause-found g c =
     let p = problem_of i in
     let s = c.loop-visits.state in
     let e : c.loop-visits.visits ≡ p.count = omega (arith, c.loop-visits-test.false, c.loop-visits.auto.visits-end, c.part_size-visits-end.ensures.count) in
-    let state : IsState i c.args.capacity p.count s = subst (λ (k : ℕ). IsState i c.args.capacity k s) e c.loop-visits.invariant.state in
+    let state : IsState i c.args.method p.count s = subst (λ (k : ℕ). IsState i c.args.method k s) e c.loop-visits.invariant.state in
     let few : p.count ≤ MOST_SETTINGS = omega (arith, c.part_size-visits-end.ensures.count, c.part_size-visits-end.ensures.few) in
-    answered p (IsSearch p c.args.capacity) c.answer_of.result s.lead s.rows.items c.fights-fights.result s.candidates s.copied c.answer_of.ensures.found
-    (λ version own best is. subst (λ (n : ℕ). IsSearch p c.args.capacity (made_with s.rows.items n s.candidates s.copied version best)) (sym c.fights-fights.ensures)
-    (finds p (inputs_problem i) state.start_inside i.rules c.args.capacity s.rows.items s.lead s.order.items s.arena.fights s.candidates s.copied s.cache.known state.going version own best is few))
+    answered p (IsSearch p c.args.method) c.answer_of.result s.lead s.rows.items c.fights-fights.result s.candidates s.copied c.answer_of.ensures.found
+    (λ version own best is. subst (λ (n : ℕ). IsSearch p c.args.method (made_with s.rows.items n s.candidates s.copied version best)) (sym c.fights-fights.ensures)
+    (finds p (inputs_problem i) state.start_inside i.rules c.args.method s.rows.items s.lead s.order.items s.arena.fights s.candidates s.copied s.cache.known state.going version own best is few))
