@@ -10,7 +10,8 @@ use Rattle.mars_core.specs.Arena.{IsBlank}
 use Rattle.mars_fight.specs.Limits.{MOST_FIGHTS}
 use Rattle.tune_template.specs.Instances.{InputsView}
 use Rattle.tune_problem.specs.Problem.{Problem, problem_of}
-use Rattle.tune_problem.specs.Valid.{listed_fights}
+use Rattle.tune_problem.specs.Valid.{IsOwnVersion, listed_fights}
+use Rattle.tune_problem.specs.declared.cert.Found.{Found}
 use Rattle.tune_problem.specs.declared.cert.Row.{Row}
 use Rattle.tune_problem.specs.declared.cert.Row.TheVariants.{Refused, Same, Cap}
 use Rattle.tune_search.specs.Order.{beats_lead, order_after}
@@ -97,5 +98,10 @@ pub record IsState (i : InputsView) (method : Method) (k : ℕ) (s : State) : Ty
   pub start_inside : (problem_of i).start < (problem_of i).count
   pub method_is : s.method ≡ method
   pub capacity_is : s.cache.capacity ≡ capacity_of method
+  pub version_is : IsOwnVersion (problem_of i) s.found.version
   pub blank : IsBlank i.rules s.arena
-  pub going : IsUnderWay (problem_of i) i.rules method k s.rows.items s.lead s.order.items s.arena.fights s.candidates s.copied s.cache.known
+  pub going : IsUnderWay (problem_of i) i.rules method k s.found.rows s.lead s.order.items s.arena.fights s.found.candidates s.found.copied s.cache.known
+
+-- What is found once the lead is the best setting.
+abbrev pub found_with : State → Best → Found
+found_with s best = record s.found { best = best.vector; total = best.total; fights = s.arena.fights }

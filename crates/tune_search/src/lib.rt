@@ -1,10 +1,8 @@
 //! The search for the optimum of a tuning.
 #![tactic(auto)]
 
-mod answer;
 mod cache;
 mod candidate;
-mod counts;
 mod fault;
 mod fights;
 pub mod laws;

@@ -3,7 +3,7 @@ ghost use Rattle.std.specs.Prelude.{◌≡◌};
 ghost use Rattle.tune_search.specs.Method.{capacity_of};
 ghost use Rattle.tune_search.specs.Order.{drops};
 
-use crate::lead::beats;
+use crate::lead::beats_lead;
 use tune_problem::Best;
 
 /// How a search goes. Both methods find the same setting, with the same total.
@@ -31,7 +31,7 @@ pub(crate) fn drops(method: Method, cap: u32, vector: u32, lead: Option<Best>) -
     ensures { result ≡ drops method cap vector lead }
 {
     match method {
-        Method::Dropping { .. } => !beats(cap, vector, lead),
+        Method::Dropping { .. } => !beats_lead(cap, vector, lead),
         Method::PlayingAll => false,
     }
 }

@@ -5,14 +5,12 @@ ghost use Rattle.tune_search.specs.Limits.{MOST_CAPACITY};
 ghost use Rattle.tune_search.specs.Method.{HasCapacity};
 ghost use Rattle.tune_search.specs.Found.{IsSearch, NoneAssembles};
 
-use crate::answer::{Visited, answer_of};
-use crate::counts::part_size;
 use crate::fault::SearchFault;
 use crate::lead::standing;
 use crate::method::Method;
 use crate::state::State;
 use std::alloc::Global;
-use tune_problem::{Found, Silent, Watcher};
+use tune_problem::{Found, Silent, Watcher, part_size};
 use tune_template::Inputs;
 
 /// Finds the optimum: the first setting of the template with the greatest total in the fights of
@@ -74,19 +72,5 @@ pub fn search_by<T: Watcher>(
         state.visit(alloc, inputs, visits, watcher)?;
         watcher.see(standing(visits + 1, part_size(inputs), &state.arena, state.lead));
     }
-    let fights = state.arena.fights();
-    let State {
-        rows,
-        lead,
-        candidates,
-        copied,
-        ..
-    } = state;
-    let visited = Visited {
-        rows,
-        fights,
-        candidates,
-        copied,
-    };
-    answer_of(inputs, lead, visited)
+    state.finish()
 }

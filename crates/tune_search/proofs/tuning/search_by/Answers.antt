@@ -3,9 +3,9 @@ use Rattle.tune_template.specs.Limits.{MOST_SETTINGS}
 use Rattle.tune_problem.specs.Problem.{problem_of}
 use Rattle.tune_problem.proofs.Scores.{inputs_problem}
 use Rattle.tune_search.specs.Found.{IsSearch}
-use Rattle.tune_search.specs.State.{IsState}
+use Rattle.tune_search.specs.State.{IsState, found_with}
 use Rattle.tune_search.specs.declared.method.Method.{Method}
-use Rattle.tune_search.proofs.Answered.{made_with, answered, unanswered}
+use Rattle.tune_search.proofs.Answered.{answered, unanswered}
 use Rattle.tune_search.proofs.Finish.{finds, finds_none}
 use Rattle.tune_search.proofs.tuning.search_by.Goals as goal
 
@@ -29,8 +29,8 @@ returns-clause-none g c =
     let s = c.loop-visits.state in
     let e : c.loop-visits.visits ≡ p.count = omega (arith, c.loop-visits-test.false, c.loop-visits.auto.visits-end, c.part_size-visits-end.ensures.count) in
     let state : IsState i c.args.method p.count s = subst (λ (k : ℕ). IsState i c.args.method k s) e c.loop-visits.invariant.state in
-    unanswered p c.answer_of.result s.lead c.answer_of.ensures.none
-    (finds_none p (inputs_problem i) state.start_inside i.rules c.args.method s.rows.items s.lead s.order.items s.arena.fights s.candidates s.copied s.cache.known state.going)
+    unanswered p c.finish.result s.lead c.finish.ensures.none
+    (finds_none p (inputs_problem i) state.start_inside i.rules c.args.method s.found.rows s.lead s.order.items s.arena.fights s.found.candidates s.found.copied s.cache.known state.going)
 
 pub returns-clause-found : goal.returns-clause-found
 returns-clause-found g c =
@@ -40,6 +40,6 @@ returns-clause-found g c =
     let e : c.loop-visits.visits ≡ p.count = omega (arith, c.loop-visits-test.false, c.loop-visits.auto.visits-end, c.part_size-visits-end.ensures.count) in
     let state : IsState i c.args.method p.count s = subst (λ (k : ℕ). IsState i c.args.method k s) e c.loop-visits.invariant.state in
     let few : p.count ≤ MOST_SETTINGS = omega (arith, c.part_size-visits-end.ensures.count, c.part_size-visits-end.ensures.few) in
-    answered p (IsSearch p c.args.method) c.answer_of.result s.lead s.rows.items c.fights-fights.result s.candidates s.copied c.answer_of.ensures.found
-    (λ version own best is. subst (λ (n : ℕ). IsSearch p c.args.method (made_with s.rows.items n s.candidates s.copied version best)) (sym c.fights-fights.ensures)
-    (finds p (inputs_problem i) state.start_inside i.rules c.args.method s.rows.items s.lead s.order.items s.arena.fights s.candidates s.copied s.cache.known state.going version own best is few))
+    answered (IsSearch p c.args.method) c.finish.result s.lead (found_with s) c.finish.ensures.found
+    (λ best is. finds p (inputs_problem i) state.start_inside i.rules c.args.method s.found.rows s.lead s.order.items s.arena.fights s.found.candidates s.found.copied s.cache.known state.going
+    s.found.version state.version_is best is few)
