@@ -72,7 +72,7 @@ fn run<R: Read, W: Write, V: Write>(
         return program::program(rt, rt.alloc(), words, input, out, err);
     }
     invite(rt, words, at_terminal);
-    let mut progress = Progress::new(rt, Outlet::new(rt.stderr()), style, explains);
+    let mut progress = Progress::new(rt.alloc(), rt, Outlet::new(rt.stderr()), style, explains);
     let host = Host {
         rt,
         alloc: rt.alloc(),

@@ -113,7 +113,7 @@ pub fn tune_by_run<T: Watcher, W: Write, V: Write>(
     write_both(alloc, &found, text.as_slice(), report, cert)
 }
 
-// Finds the optimum, and tells `watcher` how far the search is and when it is over.
+// Finds the optimum, and tells `watcher` of the inputs, how far the search is, and when it is over.
 fn find<T: Watcher>(
     alloc: Global,
     inputs: &Inputs,
@@ -124,6 +124,7 @@ fn find<T: Watcher>(
     ensures found { IfOk result (IsSearch (problem_of inputs.now) method) }
     ensures none { IfErr result (λ e. (e ≡ RunFault.OutOfMemory) ⊎ ((e ≡ RunFault.NoCandidate) × HasNoCandidate inputs.now)) }
 {
+    watcher.begin(inputs);
     let searched = search_by(alloc, inputs, method, watcher);
     watcher.end();
     Ok(searched?)

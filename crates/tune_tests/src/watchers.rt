@@ -5,6 +5,7 @@ use std::process::Abort;
 use std::test::Fail;
 use tune_cert::{Best, Standing, Verdict, Watcher, watched_check};
 use tune_search::{Method, search_by};
+use tune_template::Inputs;
 
 // A watcher that keeps the first four standings, and counts all. `heard` stays true if `hear`
 // gets 1, 2, .. and each standing has the last of these.
@@ -41,6 +42,8 @@ impl Notes {
 }
 
 impl Watcher for Notes {
+    fn begin(&mut self, _inputs: &Inputs) {}
+
     fn see(&mut self, standing: Standing) {
         if let Some(place) = self.standings.get_mut(self.count) {
             *place = Some(standing);

@@ -37,7 +37,7 @@ pub(crate) fn tune<F: Files, T: Witness, W: Write, V: Write>(
         Err(unopened) => return Err(host.end_unopened(words.cert, &unopened)),
     };
     let texts = files.texts(&rules, words.part);
-    host.witness.begin(host.alloc, words, &texts);
+    host.witness.name(host.alloc, words, &texts);
     match tune_by_run(host.alloc, &texts, method, host.witness, out, &mut cert) {
         Ok(()) => {
             drop(cert);

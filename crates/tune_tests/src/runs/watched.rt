@@ -5,12 +5,13 @@ use rc_instr::{Outlet, Rules};
 use std::test::Fail;
 use tune_cert::{Standing, Watcher};
 use tune_runs::{Method, RunFault, TuneTexts, check_part_run, tune_by_run};
-use tune_template::Part;
+use tune_template::{Inputs, Part};
 
-// Counts the settings, the fights and the ends that it is told of, and what it is told after an
+// Counts the begins, settings, fights and ends that it is told of, and what it is told after an
 // end.
 #[derive(Drop)]
 struct Told {
+    begins: u32,
     settings: u32,
     fights: u32,
     ends: u32,
@@ -20,6 +21,7 @@ struct Told {
 impl Told {
     fn nothing() -> Told {
         Told {
+            begins: 0,
             settings: 0,
             fights: 0,
             ends: 0,
@@ -34,13 +36,24 @@ impl Told {
         }
     }
 
-    // Returns the settings, the fights, the ends, and what came after an end.
-    fn numbers(&self) -> (u32, u32, u32, u32) {
-        (self.settings, self.fights, self.ends, self.late)
+    // Returns the begins, the settings, the fights, the ends, and what came after an end.
+    fn numbers(&self) -> (u32, u32, u32, u32, u32) {
+        (
+            self.begins,
+            self.settings,
+            self.fights,
+            self.ends,
+            self.late,
+        )
     }
 }
 
 impl Watcher for Told {
+    fn begin(&mut self, _inputs: &Inputs) {
+        self.note();
+        self.begins = self.begins.saturating_add(1);
+    }
+
     fn see(&mut self, _standing: Standing) {
         self.note();
         self.settings = self.settings.saturating_add(1);
@@ -88,7 +101,7 @@ fn a_tuning_tells_its_watcher_once(rt: HostRuntime) -> Result<(), Fail> {
         &mut report,
         &mut cert,
     )?;
-    assert_eq!(rt; told.numbers(), (3, 5, 1, 0));
+    assert_eq!(rt; told.numbers(), (1, 3, 5, 1, 0));
     Ok(())
 }
 
@@ -108,7 +121,7 @@ fn a_tuning_that_plays_all_tells_its_watcher_once(rt: HostRuntime) -> Result<(),
         &mut report,
         &mut cert,
     )?;
-    assert_eq!(rt; told.numbers(), (3, 6, 1, 0));
+    assert_eq!(rt; told.numbers(), (1, 3, 6, 1, 0));
     Ok(())
 }
 
@@ -121,7 +134,7 @@ fn a_check_tells_its_watcher_once(rt: HostRuntime) -> Result<(), Fail> {
     let mut line = Outlet::new(Vec::new(rt.alloc()));
     let accepted = check_part_run(rt.alloc(), &texts, &mut told, ORDER_CERT, &mut line)?;
     assert!(rt; accepted);
-    assert_eq!(rt; told.numbers(), (3, 5, 1, 0));
+    assert_eq!(rt; told.numbers(), (1, 3, 5, 1, 0));
     Ok(())
 }
 
@@ -149,6 +162,6 @@ fn a_refused_tuning_tells_its_watcher_once(rt: HostRuntime) -> Result<(), Fail> 
         Err(other) => return Err(Fail::from(other)),
         Ok(()) => return Err(Fail::from("not refused")),
     }
-    assert_eq!(rt; told.numbers(), (2, 0, 1, 0));
+    assert_eq!(rt; told.numbers(), (1, 2, 0, 1, 0));
     Ok(())
 }
