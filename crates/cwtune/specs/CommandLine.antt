@@ -2,7 +2,7 @@
 use Rattle.std.specs.Prelude.{◌≡◌, ℕ, ◌≤◌, ◌<◌, ◌^◌, List, [], ◌∷◌, ◌++◌, codes}
 use Rattle.std.specs.Fmt.{decimal}
 use Rattle.tune_template.specs.declared.part.Part.{Part}
-use Rattle.tune_runs.specs.Searching.{HasCapacity}
+use Rattle.tune_search.specs.Method.{HasCapacity}
 use Rattle.cwtune.specs.declared.command_line.Request.{Request}
 use Rattle.cwtune.specs.declared.command_line.Request.TheVariants.{Tune}
 

@@ -5,10 +5,9 @@ use Rattle.rc_instr.specs.Rules.{RulesView}
 use Rattle.tune_template.specs.declared.part.Part.{Part}
 use Rattle.tune_runs.specs.AsmRun.{WritesWarrior}
 use Rattle.tune_runs.specs.SettingRun.{WritesSetting}
-use Rattle.tune_runs.specs.TuneRun.{part_texts}
-use Rattle.tune_runs.specs.PlainRun.{WritesBy}
+use Rattle.tune_runs.specs.TuneRun.{part_texts, WritesTuning}
 use Rattle.tune_runs.specs.CheckRun.{WritesVerdict}
-use Rattle.tune_runs.specs.declared.searching.Search.{Search}
+use Rattle.tune_search.specs.declared.method.Method.{Method}
 use Rattle.tune_runs.specs.declared.which_setting.WhichSetting.{WhichSetting}
 use Rattle.cwtune.specs.declared.ending.Ending.{Ending}
 use Rattle.cwtune.specs.declared.ending.Ending.TheVariants.{Refused, Misused, Failed}
@@ -19,10 +18,10 @@ WritesLoadFile source None rules old new = WritesWarrior source rules old new
 WritesLoadFile source (Some which) rules old new = WritesSetting source which rules old new
 
 -- The report of a tuning of some texts was written, and a certificate.
-abbrev pub WritesReport : Search → RulesView → Part → Option (List ℕ) → Option (List ℕ) → Type 0
+abbrev pub WritesReport : Method → RulesView → Part → Option (List ℕ) → Option (List ℕ) → Type 0
 WritesReport method rules part old new =
     (template : List ℕ) × (opponents : List (List ℕ)) × (schedule : List ℕ) × (cert : Option (List ℕ)) × (written : Option (List ℕ))
-    × WritesBy method (part_texts template opponents schedule rules part) old new cert written
+    × WritesTuning (part_texts template opponents schedule rules part) method old new cert written
 
 -- The line of a check of some texts and a certificate was written.
 abbrev pub WritesCheckLine : RulesView → Part → Bool → Option (List ℕ) → Option (List ℕ) → Type 0

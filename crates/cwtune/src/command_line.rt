@@ -1,7 +1,7 @@
 //! The command line, as the library `clap` reads it.
 ghost use Rattle.std.specs.Prelude.{◌≡◌, ◌↔◌, ◌≤◌, map, IfOk, IsTrue, string_bytes};
 ghost use Rattle.tune_search.specs.Limits.{MOST_CAPACITY};
-ghost use Rattle.tune_runs.specs.Searching.{HasCapacity};
+ghost use Rattle.tune_search.specs.Method.{HasCapacity};
 ghost use Rattle.cwtune.specs.CommandLine.{AskForFight, IsRequest};
 
 use crate::limits;
@@ -15,7 +15,7 @@ use clap::builder::ValueParser;
 use clap::{Arg, ArgAction, ArgMatches, Command, Error, value_parser};
 use mars_core::Side;
 use std::alloc::{AllocError, Global};
-use tune_runs::{RawRules, Search, WhichSetting};
+use tune_runs::{Method, RawRules, WhichSetting};
 use tune_template::Part;
 
 // The words for the sides, as in a schedule: candidate and opponent.
@@ -70,7 +70,7 @@ pub(crate) enum Request<'a> {
     },
     Tune {
         words: TuneWords<'a>,
-        method: Search,
+        method: Method,
     },
     // Checks a certificate of a tuning.
     Check(TuneWords<'a>),
@@ -364,13 +364,13 @@ fn commands<'a>(alloc: Global, fight: Command<'a>) -> Result<Command<'a>, AllocE
 }
 
 // Returns how `tune` searches.
-fn method_of(found: &ArgMatches<'_>) -> Search
+fn method_of(found: &ArgMatches<'_>) -> Method
     ensures { HasCapacity result }
 {
     if found.get_flag("all") {
-        return Search::Plain;
+        return Method::PlayingAll;
     }
-    Search::Dropping {
+    Method::Dropping {
         capacity: capacity_of(found),
     }
 }

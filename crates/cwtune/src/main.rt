@@ -34,11 +34,6 @@ use std::io::{IsTerminal, Read, Write};
 use std::process::ExitCode;
 use std::{env, io};
 use telling::tell;
-pub use tune_runs::{
-    DuelTexts, RunFault, Search, TuneTexts, WhichSetting, asm_run, check_part_run, check_run,
-    duel_run, fight_run, laws, plain_laws, plain_tune_run, setting_run, settings_run, tune_by_run,
-    tune_part_run, tune_run,
-};
 
 // Returns the words after the program's name.
 fn words_of(rt: &HostRuntime) -> io::Result<Vec<String>> {
@@ -77,7 +72,7 @@ fn run<R: Read, W: Write, V: Write>(
         return program::program(rt, rt.alloc(), words, input, out, err);
     }
     invite(rt, words, at_terminal);
-    let mut progress = Progress::new(rt, Outlet::new(rt.stderr()), style, explains);
+    let mut progress = Progress::new(rt.alloc(), rt, Outlet::new(rt.stderr()), style, explains);
     let host = Host {
         rt,
         alloc: rt.alloc(),

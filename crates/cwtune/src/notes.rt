@@ -27,7 +27,7 @@ pub(crate) fn tell_template_notes<V: Write>(
 }
 
 // Writes the opponents that no fight names.
-pub(crate) fn tell_idle<V: Write>(err: &mut Outlet<V>, opponents: &[&str], fights: &[Fight]) {
+pub(crate) fn tell_idle<V: Write>(err: &mut Outlet<V>, opponents: &[String], fights: &[Fight]) {
     let mut index: u32 = 0;
     for name in opponents {
         if !has_fight(fights, index) {
@@ -35,7 +35,13 @@ pub(crate) fn tell_idle<V: Write>(err: &mut Outlet<V>, opponents: &[&str], fight
             let number = buffer.format(index);
             tell(
                 err,
-                &["  no fight names opponent ", number, ", ", *name, "\n"],
+                &[
+                    "  no fight names opponent ",
+                    number,
+                    ", ",
+                    name.as_str(),
+                    "\n",
+                ],
             );
         }
         index = index.saturating_add(1);

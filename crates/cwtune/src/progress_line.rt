@@ -8,13 +8,14 @@ use crate::telling::{tell, tell_error, tell_found};
 use crate::witness::Witness;
 use itoa::Buffer;
 use rc_instr::Outlet;
-use std::alloc::Global;
+use std::alloc::{AllocError, Global};
 use std::io;
 use std::io::Write;
 use std::rt::Clock;
 use std::time::{Duration, Instant};
 use tune_cert::{Best, Standing, Watcher};
-use tune_runs::{RunFault, TuneTexts, inputs_of};
+use tune_runs::{RunFault, TuneTexts};
+use tune_template::Inputs;
 
 // After how many fights of a setting the clock is read again: a reading takes as long as a few
 // turns, and sixteen of the longest fights take less than a second.
@@ -55,6 +56,7 @@ pub(crate) struct Progress<C: Clock, V: Write> {
     err: Outlet<V>,
     style: Style,
     explains: bool,
+    opponents: Vec<String>,
     began: Option<Instant>,
     shown: Option<Instant>,
     // The last standing, with `fights` as last heard.
@@ -63,12 +65,19 @@ pub(crate) struct Progress<C: Clock, V: Write> {
 
 impl<C: Clock, V: Write> Progress<C, V> {
     // Takes an outlet of its own, so that lines of faults are written even if it has failed.
-    pub(crate) fn new(clock: C, err: Outlet<V>, style: Style, explains: bool) -> Progress<C, V> {
+    pub(crate) fn new(
+        alloc: Global,
+        clock: C,
+        err: Outlet<V>,
+        style: Style,
+        explains: bool,
+    ) -> Progress<C, V> {
         Progress {
             clock,
             err,
             style,
             explains,
+            opponents: Vec::new(alloc),
             began: None,
             shown: None,
             standing: Standing {
@@ -101,6 +110,17 @@ impl<C: Clock, V: Write> Progress<C, V> {
 }
 
 impl<C: Clock, V: Write> Watcher for Progress<C, V> {
+    // Says which opponents have no effect, and shows that the run has begun.
+    fn begin(&mut self, inputs: &Inputs) {
+        if self.explains {
+            let fights = inputs.schedule().fights();
+            tell_idle(&mut self.err, self.opponents.as_slice(), fights);
+        }
+        self.began = Instant::now(&self.clock).ok();
+        self.standing.count = inputs.count();
+        self.show();
+    }
+
     fn see(&mut self, standing: Standing) {
         self.standing = standing;
         self.show();
@@ -123,21 +143,14 @@ impl<C: Clock, V: Write> Watcher for Progress<C, V> {
 }
 
 impl<C: Clock, V: Write> Witness for Progress<C, V> {
-    // Says what has no effect, and shows that the run has begun.
-    fn begin(&mut self, alloc: Global, words: &TuneWords<'_>, texts: &TuneTexts<'_>) {
+    // Says what has no effect in the template, and keeps the names of the opponents.
+    fn name(&mut self, alloc: Global, words: &TuneWords<'_>, texts: &TuneTexts<'_>) {
         if self.explains {
             tell_template_notes(&mut self.err, alloc, words.template, texts.template);
+            if let Ok(names) = copies_of(alloc, words.opponents.as_slice()) {
+                self.opponents = names;
+            }
         }
-        let Ok(inputs) = inputs_of(alloc, texts) else {
-            return;
-        };
-        if self.explains {
-            let fights = inputs.schedule().fights();
-            tell_idle(&mut self.err, words.opponents.as_slice(), fights);
-        }
-        self.began = Instant::now(&self.clock).ok();
-        self.standing.count = inputs.count();
-        self.show();
     }
 
     fn note(&mut self, alloc: Global, file: &str, text: &[u8]) {
@@ -176,6 +189,14 @@ impl<C: Clock, V: Write> Witness for Progress<C, V> {
             tell_found(&mut self.err, best);
         }
     }
+}
+
+fn copies_of(alloc: Global, names: &[&str]) -> Result<Vec<String>, AllocError> {
+    let mut copies = Vec::new(alloc);
+    for name in names {
+        copies.push(String::from_str(alloc, *name)?)?;
+    }
+    Ok(copies)
 }
 
 // Returns whether the next line is due.

@@ -10,8 +10,8 @@ use tune_runs::{RunFault, TuneTexts};
 // A watcher that also hears what a run reads and why it fails. Of a fault it hears after the
 // fault's line, while the texts are still in memory. No result depends on it.
 pub(crate) trait Witness: Watcher {
-    // Called before a tuning or a check begins.
-    fn begin(&mut self, alloc: Global, words: &TuneWords<'_>, texts: &TuneTexts<'_>);
+    // Called before the texts of a tuning or a check are judged.
+    fn name(&mut self, alloc: Global, words: &TuneWords<'_>, texts: &TuneTexts<'_>);
 
     // Called before `settings` or `asm --setting` runs over a template.
     fn note(&mut self, alloc: Global, file: &str, text: &[u8]);
@@ -30,7 +30,7 @@ pub(crate) trait Witness: Watcher {
 }
 
 impl Witness for Silent {
-    fn begin(&mut self, _alloc: Global, _words: &TuneWords<'_>, _texts: &TuneTexts<'_>) {}
+    fn name(&mut self, _alloc: Global, _words: &TuneWords<'_>, _texts: &TuneTexts<'_>) {}
 
     fn note(&mut self, _alloc: Global, _file: &str, _text: &[u8]) {}
 

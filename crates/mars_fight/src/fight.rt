@@ -64,8 +64,8 @@ pub fn play<C: Cells>(
     outcome.points
 }
 
-// Checks that `position` is far enough from the candidate at 0, both ways round the core.
-pub(crate) fn keeps_distance(rules: &Rules, position: u32) -> bool
+/// Checks that `position` is far enough from the candidate at 0, both ways round the core.
+pub fn keeps_distance(rules: &Rules, position: u32) -> bool
     ensures { IsTrue result ↔ IsPosition rules.now position }
 {
     rules.distance() <= position && position <= rules.core() - rules.distance()

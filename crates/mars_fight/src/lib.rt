@@ -14,6 +14,6 @@ mod schedule;
 
 pub use decimal::padded_decimal;
 pub use fault::{ScheduleFault, ScheduleFaultKind};
-pub use fight::{Fight, MOST_POINTS, play};
+pub use fight::{Fight, MOST_POINTS, keeps_distance, play};
 pub use records::{Records, three_fields};
 pub use schedule::Schedule;

@@ -3,7 +3,8 @@ ghost use Rattle.std.specs.Prelude.{◌≡◌, ◌≢◌, ℕ, ◌<◌, ◌≤�
 ghost use Rattle.rc_instr.specs.Rules.{RulesView};
 ghost use Rattle.mars_fight.specs.Records.{records_of};
 ghost use Rattle.mars_fight.specs.Limits.{MOST_FIGHTS, MOST_WEIGHT};
-ghost use Rattle.mars_fight.specs.Listed.{IsFight, IsPlain, greatest_total};
+ghost use Rattle.mars_fight.specs.Listed.{IsFight, IsPlain, IsWeight, greatest_total};
+ghost use Rattle.mars_fight.specs.declared.fight.Fight.{Fight};
 ghost use Rattle.mars_fight.specs.Schedule.{fights_of, header_of, scheduled};
 ghost use Rattle.mars_fight.specs.ScheduleRefusal.{IsScheduleFault};
 
@@ -21,19 +22,20 @@ use std::marker::Model;
 #[derive(Debug, Drop)]
 pub struct Schedule {
     fights: Vec<Fight>,
+    greatest: u32,
 }
 
 impl Model for Schedule {
-    ghost use Rattle.std.specs.Prelude.{◌<◌, ◌≤◌, List, length, All};
-    ghost use Rattle.mars_fight.specs.Limits.{MOST_FIGHTS};
-    ghost use Rattle.mars_fight.specs.Listed.{IsWeight};
+    ghost use Rattle.std.specs.Prelude.{◌≡◌, ◌<◌, ◌≤◌, ◌*◌, List, length, All};
+    ghost use Rattle.mars_fight.specs.Limits.{MOST_FIGHTS, MOST_WEIGHT};
+    ghost use Rattle.mars_fight.specs.Listed.{IsWeight, greatest_total};
     ghost use Rattle.mars_fight.specs.declared.fight.Fight.{Fight};
 
     ghost Value = { List Fight };
 
     ghost view = { λ s. s.fights.items };
 
-    ghost invariant = { λ s. (0 < length s.fights.items) × (length s.fights.items ≤ MOST_FIGHTS) × All (λ (f : Fight). IsWeight f.weight) s.fights.items };
+    ghost invariant = { λ s. (0 < length s.fights.items) × (length s.fights.items ≤ MOST_FIGHTS) × All (λ (f : Fight). IsWeight f.weight) s.fights.items × (s.greatest ≡ greatest_total s.fights.items) × (s.greatest ≤ 3 * MOST_WEIGHT * length s.fights.items) };
 }
 
 impl Schedule {
@@ -76,7 +78,8 @@ impl Schedule {
         ensures fit { IfOk result (λ s. All (IsFight rules.now opponents) s) }
     {
         let fights = read_fights(alloc, bytes, opponents, rules)?;
-        Ok(Schedule { fights })
+        let greatest = greatest_of(fights.as_slice());
+        Ok(Schedule { fights, greatest })
     }
 
     /// Returns the fights, 1 to 10000. A fight's index is its place in this list.
@@ -106,17 +109,27 @@ impl Schedule {
     }
 
     /// Returns the greatest total, 3 times the sum of the weights: 3 to 30000000.
-    #[tactic(auto, unfolding(crate::specs::Listed::greatest_total))]
     pub fn greatest(&self) -> u32
         ensures greatest { result ≡ greatest_total self.now }
         ensures small { result ≤ 3 * MOST_WEIGHT * length self.now }
     {
-        let mut greatest: u32 = 0;
-        for fight in self.fights.as_slice() {
-            greatest += MOST_POINTS * fight.weight;
-        }
-        greatest
+        self.greatest
     }
+}
+
+// Adds up 3 times the weights of fights.
+#[tactic(auto, unfolding(crate::specs::Listed::greatest_total))]
+fn greatest_of(fights: &[Fight]) -> u32
+    requires few { length fights.now ≤ MOST_FIGHTS }
+    requires weights { All (λ (f : Fight). IsWeight f.weight) fights.now }
+    ensures greatest { result ≡ greatest_total fights.now }
+    ensures small { result ≤ 3 * MOST_WEIGHT * length fights.now }
+{
+    let mut greatest: u32 = 0;
+    for fight in fights {
+        greatest += MOST_POINTS * fight.weight;
+    }
+    greatest
 }
 
 fn fault_at(row: u64, kind: ScheduleFaultKind) -> ScheduleFault

@@ -9,7 +9,7 @@ ghost use Rattle.tune_runs.specs.TuneRun.{texts, WritesTuning};
 use rc_instr::{Outlet, Rules};
 use std::alloc::Global;
 use std::io::Write;
-use tune_runs::{RunFault, tune_run};
+use tune_runs::{Method, RunFault, tune_run};
 
 // A warrior that copies a DAT to the address AIM, and then waits. AIM is 3998 to 4001.
 const TEMPLATE: &[u8] = b";@tune AIM 3998 4001 1 3998\nMOV bomb, AIM\nJMP 0\nbomb DAT 0\n";
@@ -27,7 +27,7 @@ fn print_optimum<W: Write>(alloc: Global, out: &mut Outlet<W>) -> Result<(), Run
     // What was printed is the report of the optimum of these texts under the standard rules, found
     // by a search that remembers one setting.
     ensures { OnOk result ((cert : Option (List ℕ)) × (written : Option (List ℕ))
-        × WritesTuning (texts TEMPLATE.now (OPPONENT.now ∷ []) SCHEDULE.now (rules_view 8000 80000 8000 100 100)) 1
+        × WritesTuning (texts TEMPLATE.now (OPPONENT.now ∷ []) SCHEDULE.now (rules_view 8000 80000 8000 100 100)) (Method.Dropping 1)
         out.old.bytes out.new.bytes cert written) }
 {
     let opponents = [OPPONENT.to_vec(alloc)?];

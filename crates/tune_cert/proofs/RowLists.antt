@@ -4,7 +4,7 @@ use Rattle.std.specs.Prelude.{All}
 use Rattle.std.proofs.lemmas.List.Elements.{All-head, All-tail}
 use Rattle.mars_fight.specs.Records.{Fields}
 use Rattle.tune_cert.specs.CertText.{rows_fields, row_fields}
-use Rattle.tune_cert.specs.Spelling.{IsRow, HasForm}
+use Rattle.tune_cert.specs.Spelling.{IsRow, HasForm, record_of}
 use Rattle.tune_cert.specs.Steps.{AreRows, HasRow, IsBadRecord}
 use Rattle.tune_problem.specs.declared.cert.Row.{Row}
 
@@ -93,10 +93,9 @@ row_forms (row ∷ rows) v rest each few (suc k) n l e = row_forms rows (v + 1) 
 pub have_rows : (rows : List Row) (records rest : List Fields) → records ≡ rows_fields rows 0 ++ rest → All IsRow rows → length rows ≤ 2 ^ 32 → (k : ℕ) → k < length rows → HasRow records k
 have_rows rows records rest text each few k l = rw text (row_forms rows 0 rest each (omega arith) k k l (omega arith))
 
-at_once : (n : ℕ) → n + 2 - 2 ≡ n
-at_once n = omega arith
-
 -- the record at which the reading stopped
-pub stopped : (n : ℕ) (records rest : List Fields) (fields : Fields) → drop n records ≡ fields ∷ rest → ¬ (HasForm (suc (suc n)) fields)
-    → ((u : ℕ) → u < n → HasRow records u) → IsBadRecord records (n + 2 - 2)
-stopped n records rest fields at bad before = rw (at_once n) (record { fields = fields; here = (one_more n records fields rest at).1; bad = bad; before = before })
+pub stopped : (n r : ℕ) (records rest : List Fields) (fields : Fields) → r ≡ record_of n → drop n records ≡ fields ∷ rest → ¬ (HasForm (suc (suc n)) fields)
+    → ((u : ℕ) → u < n → HasRow records u) → IsBadRecord records (r - 2)
+stopped n r records rest fields is at bad before =
+    let same : r - 2 ≡ n = omega (arith, is) in
+    rw same (record { fields = fields; here = (one_more n records fields rest at).1; bad = bad; before = before })

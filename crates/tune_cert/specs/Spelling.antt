@@ -1,5 +1,5 @@
 -- Which certificate bytes spell. Their records are those that the crate `csv` reads.
-use Rattle.std.specs.Prelude.{◌≡◌, ◌⊎◌, ℕ, zero, suc, ◌<◌, ◌≤◌, ◌^◌, List, length, slice_get, Some, All}
+use Rattle.std.specs.Prelude.{◌≡◌, ◌⊎◌, ℕ, zero, suc, ◌+◌, ◌<◌, ◌≤◌, ◌^◌, List, length, slice_get, Some, All}
 use Rattle.mars_fight.specs.Play.{ArePoints}
 use Rattle.mars_fight.specs.Records.{Fields}
 use Rattle.tune_cert.specs.CertText.{row_fields, count_fields, best_fields, cert_fields}
@@ -40,7 +40,11 @@ pub record Spells (records : List Fields) (c : Cert) : Type 0 where
   pub cert : IsCert c
   pub text : records ≡ cert_fields c
 
--- The form of each record: 0 is the count, 1 the best setting, v + 2 the row of setting v.
+-- The record of setting v's row: record 0 is the count, and record 1 the best setting.
+abbrev pub record_of : ℕ → ℕ
+record_of v = v + 2
+
+-- The form of each record.
 abbrev pub HasForm : ℕ → Fields → Type 0
 HasForm zero fields = (version : ℕ) × (count : ℕ) × IsVersion version × FitsU32 count × (fields ≡ count_fields version count)
 HasForm (suc zero) fields = (best : ℕ) × (total : ℕ) × FitsU32 best × FitsU32 total × (fields ≡ best_fields best total)

@@ -27,6 +27,11 @@ refers (Same u) = true
 refers Refused = false
 refers (Cap row) = false
 
+-- No row refers to another setting.
+abbrev pub NoneRefer : List Row → Type 0
+NoneRefer [] = Unit {0}
+NoneRefer (row ∷ rows) = (refers row ≡ false) × NoneRefer rows
+
 -- The bytes spell these fights, each after a space.
 pub record AreSpaced (bytes : List ℕ) (items : List (ℕ × ℕ)) : Type 0 where
   pub text : bytes ≡ flat_map spaced_text items

@@ -5,7 +5,7 @@ use Rattle.mars_fight.specs.Records.{Fields}
 use Rattle.tune_problem.specs.Problem.{Problem}
 use Rattle.tune_problem.specs.Optimum.{all_fights, cap_of, beats, IsOptimum, HasTotal}
 use Rattle.tune_problem.specs.Valid.{listed_indices, listed_total, IsVersionOf, IsValid, IsRightRow}
-use Rattle.tune_cert.specs.Spelling.{Spells, IsMalformed, IsFirstMalformed}
+use Rattle.tune_cert.specs.Spelling.{Spells, IsMalformed, IsFirstMalformed, record_of}
 use Rattle.tune_problem.specs.declared.cert.Cert.{Cert}
 use Rattle.tune_problem.specs.declared.cert.Row.{Row}
 use Rattle.tune_problem.specs.declared.cert.Row.TheVariants.{Refused, Same, Cap}
@@ -70,7 +70,7 @@ IsWrong p c v (Same u) reason = IsWrongSame p c v u reason
 -- The record is a row, and the reason holds of it.
 pub record IsWrongRow (p : Problem) (c : Cert) (number : ℕ) (reason : Reason) : Type 0 where
   pub vector : ℕ
-  pub number_is : number ≡ vector + 2
+  pub number_is : number ≡ record_of vector
   pub row : Row
   pub here : slice_get c.rows vector ≡ Some row
   pub wrong : IsWrong p c vector row reason
@@ -149,7 +149,7 @@ IsFirstReason p c v (Cap row) reason = IsFirstOfCap p v row reason
 -- The record is a row, and everything that is checked before the reason is right.
 pub record IsFirstRow (p : Problem) (c : Cert) (number : ℕ) (reason : Reason) : Type 0 where
   pub vector : ℕ
-  pub number_is : number ≡ vector + 2
+  pub number_is : number ≡ record_of vector
   pub row : Row
   pub here : slice_get c.rows vector ≡ Some row
   pub before : IsRightBefore p c vector row

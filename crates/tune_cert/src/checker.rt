@@ -7,9 +7,9 @@ ghost use Rattle.tune_cert.specs.Verdict.{IsWrongRow, AreRightAlone, IsFirstRow,
 ghost use Rattle.tune_cert.specs.Steps.{AreRightSame, IsCertVerdict, IsFirstVerdict};
 
 use crate::fault::{CheckFault, ReadFault};
-use crate::read::read_cert;
+use crate::read::{read_cert, record_of};
 use crate::row_checks::{Claim, check_alone, check_same, is_best_row};
-use crate::telling::{before_rows, refers, tell_row};
+use crate::telling::{before_rows, none_refer, refers, tell_row};
 use crate::verdict::{Reason, Verdict};
 use crate::warriors::no_warriors;
 use mars_core::{Arena, PackedCells};
@@ -100,7 +100,7 @@ fn check_rows_alone<T: Watcher>(
         let row = &rows[vector as usize];
         if let Some(reason) = check_alone(alloc, arena, &claim, vector, row, watcher)? {
             return Ok(Some(Wrong {
-                index: record_of(vector),
+                index: record_of(u64::from(vector)),
                 reason,
             }));
         }
@@ -128,12 +128,13 @@ fn check_rows_same<T: Watcher>(
 {
     let rows = cert.rows.as_slice();
     let count = inputs.count();
+    let claim = Claim { inputs, cert };
     let mut warriors = no_warriors(alloc, count)?;
     for vector in 0..count {
         let row = &rows[vector as usize];
-        if let Some(reason) = check_same(alloc, inputs, cert, &mut warriors, vector, row)? {
+        if let Some(reason) = check_same(alloc, &claim, &mut warriors, vector, row)? {
             return Ok(Some(Wrong {
-                index: record_of(vector),
+                index: record_of(u64::from(vector)),
                 reason,
             }));
         }
@@ -148,14 +149,6 @@ fn rejected(index: u64, reason: Reason) -> Verdict
     ensures { result ≡ Verdict.Rejected index reason }
 {
     Verdict::Rejected { row: index, reason }
-}
-
-// Returns the record of a setting's row: the records of the count and of the best setting come
-// first.
-fn record_of(vector: u32) -> u64
-    ensures { result ≡ vector + 2 }
-{
-    u64::from(vector) + 2
 }
 
 // Checks all rows, one for each setting. Makes the arena of their fights.
@@ -183,6 +176,9 @@ fn check_rows<T: Watcher>(
     )? {
         return Ok(Some(wrong));
     }
+    if none_refer(cert.rows.as_slice()) {
+        return Ok(None);
+    }
     check_rows_same(alloc, inputs, cert, &mut standing, watcher)
 }
 
@@ -204,7 +200,7 @@ fn check_cert<T: Watcher>(
     if cert.count != count || cert.rows.as_slice().len() != count as usize {
         return Ok(rejected(0, Reason::RowCount));
     }
-    if !is_best_row(inputs, cert) {
+    if !is_best_row(&Claim { inputs, cert }) {
         return Ok(rejected(1, Reason::BestRow));
     }
     if let Some(wrong) = check_rows(alloc, inputs, cert, watcher)? {

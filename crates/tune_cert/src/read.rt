@@ -1,10 +1,10 @@
 //! Reads certificates.
-ghost use Rattle.std.specs.Prelude.{◌≡◌, ℕ, ◌∷◌, Some, List, IfOk, IfErr, IfSome, MatchResult, ◌+◌, ◌++◌, IsSomeAnd, drop, ◌↔◌, IsTrue};
+ghost use Rattle.std.specs.Prelude.{◌≡◌, ℕ, ◌∷◌, Some, List, IfOk, IfErr, IfSome, MatchResult, ◌+◌, ◌++◌, IsSomeAnd, drop, ◌↔◌, IsTrue, ◌≤◌, ◌^◌};
 ghost use Rattle.csv.specs.Records.{fields_of};
 ghost use Rattle.mars_fight.specs.Records.{records_of};
 ghost use Rattle.std.specs.Fmt.{decimal};
 ghost use Rattle.tune_cert.specs.CertText.{count_fields, best_fields, kind_text, last_text, row_fields, item_text, spaced_text};
-ghost use Rattle.tune_cert.specs.Spelling.{FitsU32, IsVersion, Spells, IsRow, IsItem, IsReadRefusal};
+ghost use Rattle.tune_cert.specs.Spelling.{FitsU32, IsVersion, Spells, IsRow, IsItem, IsReadRefusal, record_of};
 ghost use Rattle.tune_cert.specs.Steps.{AreRows, IsBadCount, IsBadBest, IsBadRow, AreSpaced, AreItems};
 ghost use Rattle.tune_problem.specs.declared.cert.Row.{Row};
 ghost use Rattle.tune_problem.specs.declared.cert.Cert.{Cert};
@@ -138,15 +138,27 @@ fn read_rows(
     let mut vector = 0u64;
     while records.read(fields)? {
         if vector > u64::from(u32::MAX) {
-            return Err(ReadFault::Malformed { row: vector + 2 });
+            return Err(ReadFault::Malformed {
+                row: record_of(vector),
+            });
         }
         match read_row(alloc, vector as u32, fields)? {
             Some(row) => rows.push(row)?,
-            None => return Err(ReadFault::Malformed { row: vector + 2 }),
+            None => return Err(ReadFault::Malformed {
+                row: record_of(vector),
+            }),
         }
         vector += 1;
     }
     Ok(rows)
+}
+
+// Returns the record of a setting's row. The records of the count and of the best setting come first.
+pub(crate) fn record_of(vector: u64) -> u64
+    requires { vector ≤ 2 ^ 32 }
+    ensures { result ≡ record_of vector }
+{
+    vector + 2
 }
 
 // Parses a row from its first field, the kind, and its last field.

@@ -19,7 +19,8 @@ use mars_fight::MOST_POINTS;
 use rc_instr::{Instruction, Warrior};
 use std::alloc::Global;
 use tune_problem::{
-    Cert, Row, Watcher, fight_count, fight_points, fight_weight, greatest_total, setting_warrior,
+    Best, Cert, Row, Watcher, beats, fight_count, fight_points, fight_weight, greatest_total,
+    setting_warrior,
 };
 use tune_template::Inputs;
 
@@ -58,40 +59,39 @@ pub(crate) fn check_alone<T: Watcher>(
 // of the settings to which rows referred before.
 pub(crate) fn check_same(
     alloc: Global,
-    inputs: &Inputs,
-    cert: &Cert,
+    claim: &Claim<'_>,
     warriors: &mut Vec<Option<Warrior>>,
     vector: u32,
     row: &Row,
 ) -> Result<Option<Reason>, CheckFault>
-    requires inside { vector < (problem_of inputs.now).count }
-    requires assembled { AreAssembled (problem_of inputs.now) warriors.old.items }
-    requires rows { length cert.now.rows ≡ (problem_of inputs.now).count }
-    requires alone { AreRightAlone (problem_of inputs.now) cert.now }
-    ensures right { IfOk result (λ o. IfNone o (IsRightSame (problem_of inputs.now) cert.now vector row.now)) }
-    ensures wrong { IfOk result (λ o. IfSome o (IsWrong (problem_of inputs.now) cert.now vector row.now)) }
-    ensures first { IfOk result (λ o. IfSome o (IsFirstSame (problem_of inputs.now) cert.now vector row.now)) }
-    ensures assembled { AreAssembled (problem_of inputs.now) warriors.new.items }
+    requires inside { vector < (problem_of claim.now.inputs.now).count }
+    requires assembled { AreAssembled (problem_of claim.now.inputs.now) warriors.old.items }
+    requires rows { length claim.now.cert.now.rows ≡ (problem_of claim.now.inputs.now).count }
+    requires alone { AreRightAlone (problem_of claim.now.inputs.now) claim.now.cert.now }
+    ensures right { IfOk result (λ o. IfNone o (IsRightSame (problem_of claim.now.inputs.now) claim.now.cert.now vector row.now)) }
+    ensures wrong { IfOk result (λ o. IfSome o (IsWrong (problem_of claim.now.inputs.now) claim.now.cert.now vector row.now)) }
+    ensures first { IfOk result (λ o. IfSome o (IsFirstSame (problem_of claim.now.inputs.now) claim.now.cert.now vector row.now)) }
+    ensures assembled { AreAssembled (problem_of claim.now.inputs.now) warriors.new.items }
 {
     match row {
-        Row::Same(other) => check_reference(alloc, inputs, cert, warriors, vector, *other),
+        Row::Same(other) => check_reference(alloc, claim, warriors, vector, *other),
         _ => Ok(None),
     }
 }
 
 // Checks whether the row of the best setting lists every fight in order, with scores that add up to
 // the total.
-pub(crate) fn is_best_row(inputs: &Inputs, cert: &Cert) -> bool
-    ensures yes { IsTrue result → IsBestRow (problem_of inputs.now) cert.now }
-    ensures no { IsBestRow (problem_of inputs.now) cert.now → IsTrue result }
+pub(crate) fn is_best_row(claim: &Claim<'_>) -> bool
+    ensures yes { IsTrue result → IsBestRow (problem_of claim.now.inputs.now) claim.now.cert.now }
+    ensures no { IsBestRow (problem_of claim.now.inputs.now) claim.now.cert.now → IsTrue result }
 {
-    let Some(listed) = cap_row(cert, cert.best) else {
+    let Some(listed) = cap_row(claim.cert, claim.cert.best) else {
         return false;
     };
-    if !lists_all(fight_count(inputs), listed) {
+    if !lists_all(fight_count(claim.inputs), listed) {
         return false;
     }
-    listed_total(inputs, listed) == cert.total
+    listed_total(claim.inputs, listed) == claim.cert.total
 }
 
 // Checks whether the fights of a cap row rise, so that none is listed twice.
@@ -233,38 +233,37 @@ fn is_same_warrior(one: &Warrior, other: &Warrior) -> bool
 // must have a cap row and the same warrior, and the cap must not beat the best for `vector` either.
 fn check_reference(
     alloc: Global,
-    inputs: &Inputs,
-    cert: &Cert,
+    claim: &Claim<'_>,
     warriors: &mut Vec<Option<Warrior>>,
     vector: u32,
     other: u32,
 ) -> Result<Option<Reason>, CheckFault>
-    requires inside { vector < (problem_of inputs.now).count }
-    requires assembled { AreAssembled (problem_of inputs.now) warriors.old.items }
-    requires rows { length cert.now.rows ≡ (problem_of inputs.now).count }
-    requires alone { AreRightAlone (problem_of inputs.now) cert.now }
-    ensures right { IfOk result (λ o. IfNone o (IsRightRow (problem_of inputs.now) cert.now vector (Same other))) }
-    ensures wrong { IfOk result (λ o. IfSome o (IsWrongSame (problem_of inputs.now) cert.now vector other)) }
-    ensures first { IfOk result (λ o. IfSome o (IsFirstOfSame (problem_of inputs.now) cert.now vector other)) }
-    ensures assembled { AreAssembled (problem_of inputs.now) warriors.new.items }
+    requires inside { vector < (problem_of claim.now.inputs.now).count }
+    requires assembled { AreAssembled (problem_of claim.now.inputs.now) warriors.old.items }
+    requires rows { length claim.now.cert.now.rows ≡ (problem_of claim.now.inputs.now).count }
+    requires alone { AreRightAlone (problem_of claim.now.inputs.now) claim.now.cert.now }
+    ensures right { IfOk result (λ o. IfNone o (IsRightRow (problem_of claim.now.inputs.now) claim.now.cert.now vector (Same other))) }
+    ensures wrong { IfOk result (λ o. IfSome o (IsWrongSame (problem_of claim.now.inputs.now) claim.now.cert.now vector other)) }
+    ensures first { IfOk result (λ o. IfSome o (IsFirstOfSame (problem_of claim.now.inputs.now) claim.now.cert.now vector other)) }
+    ensures assembled { AreAssembled (problem_of claim.now.inputs.now) warriors.new.items }
 {
-    let Some(listed) = cap_row(cert, other) else {
+    let Some(listed) = cap_row(claim.cert, other) else {
         return Ok(Some(Reason::NotSame));
     };
     if other == vector {
         return Ok(Some(Reason::NotSame));
     }
-    let Some(own) = setting_warrior(alloc, inputs, vector)? else {
+    let Some(own) = setting_warrior(alloc, claim.inputs, vector)? else {
         return Ok(Some(Reason::NotSame));
     };
-    assemble_once(alloc, inputs, warriors, other)?;
+    assemble_once(alloc, claim.inputs, warriors, other)?;
     let Some(theirs) = &warriors[other as usize] else {
         return Ok(Some(Reason::NotSame));
     };
     if !is_same_warrior(&own, theirs) {
         return Ok(Some(Reason::NotSame));
     }
-    if is_above(listed_cap(inputs, listed), vector, cert) {
+    if is_above(listed_cap(claim.inputs, listed), vector, claim.cert) {
         return Ok(Some(Reason::CapTooHigh));
     }
     Ok(None)
@@ -332,10 +331,16 @@ fn listed_cap(inputs: &Inputs, listed: &[(u32, u8)]) -> u32
     listed_total(inputs, listed) + (greatest - most)
 }
 
-// Checks whether `cap` beats the best setting for setting `vector`: an equal cap does if `vector`
-// comes first.
+// Checks whether `cap` of setting `vector` beats the best setting of the certificate.
 fn is_above(cap: u32, vector: u32, cert: &Cert) -> bool
     ensures { result ≡ beats cap vector cert.now.total cert.now.best }
 {
-    cert.total < cap || (cap == cert.total && vector < cert.best)
+    beats(
+        cap,
+        vector,
+        Best {
+            vector: cert.best,
+            total: cert.total,
+        },
+    )
 }

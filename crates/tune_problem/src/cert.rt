@@ -1,5 +1,6 @@
 //! Certificates, and what a search finds: their rows and the fights that the rows list.
-ghost use Rattle.std.specs.Prelude.{◌≡◌, IfOk};
+ghost use Rattle.std.specs.Prelude.{◌≡◌, ◌<◌, IfOk, length};
+ghost use Rattle.std.specs.List.{slice_set};
 
 use std::alloc::{AllocError, Global};
 use std::marker::Model;
@@ -123,6 +124,14 @@ impl Rows {
         ensures { result.now ≡ self.now }
     {
         self.rows.as_slice()
+    }
+
+    /// Replaces the row at `index`, which is below the number of rows.
+    pub fn set(&mut self, index: usize, row: Row)
+        requires inside { index < length self.old }
+        ensures { self.new ≡ slice_set self.old index row }
+    {
+        self.rows[index] = row;
     }
 
     /// Returns the rows as a `Vec`.

@@ -12,6 +12,7 @@ mod watcher;
 
 pub use cert::{Cert, Found, Listing, Row, Rows};
 pub use problem::{
-    cert_version, fight_count, fight_points, fight_weight, greatest_total, setting_warrior,
+    beats, cert_version, fight_count, fight_points, fight_weight, greatest_total, part_size,
+    setting_warrior, start_setting,
 };
 pub use watcher::{Best, Silent, Standing, Watcher};

@@ -2,12 +2,14 @@
 ghost use Rattle.std.specs.Prelude.{◌≡◌, ◌<◌, ◌≤◌, IfOk, IfSome, length};
 ghost use Rattle.rc_instr.specs.Warrior.{IsWarrior, Fits};
 ghost use Rattle.tune_problem.specs.Problem.{problem_of};
-ghost use Rattle.tune_problem.specs.Optimum.{greatest_of};
+ghost use Rattle.tune_template.specs.Limits.{MOST_SETTINGS};
+ghost use Rattle.tune_problem.specs.Optimum.{beats, greatest_of};
 ghost use Rattle.tune_problem.specs.Valid.{IsOwnVersion};
 ghost use Rattle.mars_core.specs.Arena.{IsBlank, fights_after};
 ghost use Rattle.mars_fight.specs.Limits.{MOST_FIGHTS, MOST_TOTAL, MOST_WEIGHT};
 ghost use Rattle.mars_fight.specs.Play.{ArePoints};
 
+use crate::watcher::Best;
 use mars_core::{Arena, Cells};
 use mars_fight::play;
 use rc_asm::AsmKind;
@@ -106,4 +108,28 @@ pub fn fight_count(inputs: &Inputs) -> u32
     ensures few { result ≤ MOST_FIGHTS }
 {
     inputs.schedule().fights().len() as u32
+}
+
+/// Returns the number of settings of the part that is tuned, 1 to 1000000.
+pub fn part_size(inputs: &Inputs) -> u32
+    ensures count { result ≡ (problem_of inputs.now).count }
+    ensures few { result ≤ MOST_SETTINGS }
+{
+    inputs.count()
+}
+
+/// Returns the index of the start setting, or 0 if the part does not have it.
+pub fn start_setting(inputs: &Inputs) -> u32
+    ensures start { result ≡ (problem_of inputs.now).start }
+    ensures inside { result < (problem_of inputs.now).count }
+{
+    inputs.start_number()
+}
+
+/// Checks whether cap `cap` of setting `vector` beats `best`: it is greater than the total of that,
+/// or equal to it and `vector` is the smaller index.
+pub fn beats(cap: u32, vector: u32, best: Best) -> bool
+    ensures { result ≡ beats cap vector best.total best.vector }
+{
+    cap > best.total || (cap == best.total && vector < best.vector)
 }

@@ -1,5 +1,7 @@
 //! Watchers of searches and checks, which are told how far these are.
 
+use tune_template::Inputs;
+
 /// How far a search or a check is.
 #[derive(Clone, Copy, Debug, PartialEq, Eq)]
 pub struct Standing {
@@ -24,6 +26,10 @@ pub struct Best {
 
 /// Is told how far a search or a check is. No result depends on it.
 pub trait Watcher {
+    /// Called by the runs of `tune_runs` with what their texts mean, before the search or the check.
+    /// Searches and checks do not call it.
+    fn begin(&mut self, inputs: &Inputs);
+
     /// Called after each setting.
     fn see(&mut self, standing: Standing);
 
@@ -41,6 +47,8 @@ pub trait Watcher {
 pub struct Silent;
 
 impl Watcher for Silent {
+    fn begin(&mut self, _inputs: &Inputs) {}
+
     fn see(&mut self, _standing: Standing) {}
 
     fn hear(&mut self, _fights: u64) {}

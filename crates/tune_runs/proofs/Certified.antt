@@ -18,79 +18,43 @@ use Rattle.tune_problem.proofs.Certificates.{valid_is_optimum, valid_total, opti
 use Rattle.tune_problem.proofs.Scores.{inputs_problem}
 use Rattle.tune_cert.proofs.WrittenBack.{written}
 use Rattle.tune_search.specs.Found.{IsSearch}
+use Rattle.tune_search.specs.declared.method.Method.{Method}
 use Rattle.tune_runs.specs.Report.{report_text, report_for}
 use Rattle.tune_runs.specs.TuneRun.{Texts, Means, IsTuning, WritesTuning}
-use Rattle.tune_search.specs.PlainFound.{IsFound, IsPlainSearch}
-use Rattle.tune_runs.specs.PlainRun.{IsPlainTuning, WritesPlainTuning}
 use Rattle.tune_cert.specs.Verdict.{IsRightVerdict}
 use Rattle.tune_runs.specs.CheckRun.{accepts, check_line, WritesVerdict}
 use Rattle.tune_runs.proofs.Meaning.{one_meaning}
 use Rattle.tune_runs.proofs.Writable.{few_fights, most_points, writable}
 
--- what is promised of the work aside, a search finds what every search finds
-found_of : (p : Problem) (capacity : ℕ) (f : Found) → IsSearch p capacity f → IsFound p f
-found_of p capacity f s = record {
-  optimum = s.optimum;
-  total_is = s.total_is;
-  valid = s.valid;
-  version = s.version;
-  count = s.count;
-  few = s.few;
-}
-
-found_spelled : (t : Texts) (i : InputsView) (f : Found) → Means t i → IsFound (problem_of i) f → Spells (records_of (cert_text (cert_of f))) (cert_of f)
-found_spelled t i f m s =
+pub spelled : (t : Texts) (method : Method) (i : InputsView) (f : Found) → Means t i → IsSearch (problem_of i) method f → Spells (records_of (cert_text (cert_of f))) (cert_of f)
+spelled t method i f m s =
     let most : greatest_of (problem_of i) ≤ MOST_TOTAL = subst (λ (n : ℕ). n ≤ MOST_TOTAL) (greatest_is i) (most_points _ _ _ i.schedule m.schedule) in
-    written (cert_of f) (writable (problem_of i) (inputs_problem i) (few_fights _ _ _ i.schedule m.schedule) most f s)
+    written (cert_of f) (writable (problem_of i) (inputs_problem i) (few_fights _ _ _ i.schedule m.schedule) most method f s)
 
-pub spelled : (t : Texts) (capacity : ℕ) (i : InputsView) (f : Found) → Means t i → IsSearch (problem_of i) capacity f → Spells (records_of (cert_text (cert_of f))) (cert_of f)
-spelled t capacity i f m s = found_spelled t i f m (found_of (problem_of i) capacity f s)
-
-pub accepted : (t : Texts) (capacity : ℕ) (i : InputsView) (f : Found) (v : Verdict) → Means t i → IsSearch (problem_of i) capacity f →
+pub accepted : (t : Texts) (method : Method) (i : InputsView) (f : Found) (v : Verdict) → Means t i → IsSearch (problem_of i) method f →
     IsRightVerdict (problem_of i) (records_of (cert_text (cert_of f))) v → v ≡ Accepted f.best f.total
-accepted t capacity i f v m s right = right.accepted (cert_of f) (spelled t capacity i f m s) s.valid
-
-pub plain_spelled : (t : Texts) (i : InputsView) (f : Found) → Means t i → IsPlainSearch (problem_of i) f → Spells (records_of (cert_text (cert_of f))) (cert_of f)
-plain_spelled t i f m s = found_spelled t i f m s.found
-
-pub plain_accepted : (t : Texts) (i : InputsView) (f : Found) (v : Verdict) → Means t i → IsPlainSearch (problem_of i) f →
-    IsRightVerdict (problem_of i) (records_of (cert_text (cert_of f))) v → v ≡ Accepted f.best f.total
-plain_accepted t i f v m s right = right.accepted (cert_of f) (plain_spelled t i f m s) s.found.valid
+accepted t method i f v m s right = right.accepted (cert_of f) (spelled t method i f m s) s.valid
 
 -- a verdict that accepts names the optimum
-named : (p : Problem) → IsProblem p → (f : Found) (records : List Fields) (v : Verdict) → IsFound p f → accepts v ≡ true → IsVerdict p records v →
+named : (p : Problem) → IsProblem p → (method : Method) (f : Found) (records : List Fields) (v : Verdict) → IsSearch p method f → accepts v ≡ true → IsVerdict p records v →
     v ≡ Accepted f.best f.total
-named p laws f records (Accepted best total) s e (c, spells, valid, best_is, total_is) =
+named p laws method f records (Accepted best total) s e (c, spells, valid, best_is, total_is) =
     let same : c.best ≡ f.best = optimum_one p c.best f.best (valid_is_optimum p laws c valid) s.optimum in
     let even : c.total ≡ f.total = total_one p c.best f.best c.total f.total same (valid_total p laws c valid) s.total_is in
     ap (λ b. Accepted b total) (best_is ∙ same) ∙ ap (λ n. Accepted f.best n) (total_is ∙ even)
-named p laws f records (Rejected row reason) s e h = absurd (cc)
+named p laws method f records (Rejected row reason) s e h = absurd (cc)
 
-line_names : (t : Texts) (bytes : List ℕ) (i : InputsView) (f : Found) (out out_after : Option (List ℕ)) → Means t i → IsFound (problem_of i) f →
+line_names : (t : Texts) (method : Method) (bytes : List ℕ) (i : InputsView) (f : Found) (out out_after : Option (List ℕ)) → Means t i → IsSearch (problem_of i) method f →
     WritesVerdict t bytes true out out_after → Appends out out_after (check_line (Accepted f.best f.total))
-line_names t bytes i f out out_after m s (j, v, means, right, accepted_is, wrote_line) =
+line_names t method bytes i f out out_after m s (j, v, means, right, accepted_is, wrote_line) =
     let same : j ≡ i = one_meaning t j i means m in
     let here : IsVerdict (problem_of i) (records_of bytes) v = subst (λ (x : InputsView). IsVerdict (problem_of x) (records_of bytes) v) same right.holds in
-    let name : v ≡ Accepted f.best f.total = named (problem_of i) (inputs_problem i) f (records_of bytes) v s (sym accepted_is) here in
+    let name : v ≡ Accepted f.best f.total = named (problem_of i) (inputs_problem i) method f (records_of bytes) v s (sym accepted_is) here in
     subst (λ (x : Verdict). Appends out out_after (check_line x)) name wrote_line
 
-pub certified : (t : Texts) (capacity : ℕ) (bytes : List ℕ) (report report_after cert cert_after out out_after : Option (List ℕ)) →
-    WritesTuning t capacity report report_after cert cert_after → WritesVerdict t bytes true out out_after →
-    (i : InputsView) × (f : Found) × (values : List ℤ) × IsTuning t capacity i f values
+pub certified : (t : Texts) (method : Method) (bytes : List ℕ) (report report_after cert cert_after out out_after : Option (List ℕ)) →
+    WritesTuning t method report report_after cert cert_after → WritesVerdict t bytes true out out_after →
+    (i : InputsView) × (f : Found) × (values : List ℤ) × IsTuning t method i f values
     × Appends cert cert_after (cert_text (cert_of f)) × Appends report report_after (report_text (report_for i f values)) × Appends out out_after (check_line (Accepted f.best f.total))
-certified t capacity bytes report report_after cert cert_after out out_after (i, f, values, tuning, wrote_cert, wrote_report) checked =
-    (i, f, values, tuning, wrote_cert, wrote_report, line_names t bytes i f out out_after tuning.0 (found_of (problem_of i) capacity f tuning.1) checked)
-
-pub plain_certified : (t : Texts) (bytes : List ℕ) (report report_after cert cert_after out out_after : Option (List ℕ)) →
-    WritesPlainTuning t report report_after cert cert_after → WritesVerdict t bytes true out out_after →
-    (i : InputsView) × (f : Found) × (values : List ℤ) × IsPlainTuning t i f values
-    × Appends cert cert_after (cert_text (cert_of f)) × Appends report report_after (report_text (report_for i f values)) × Appends out out_after (check_line (Accepted f.best f.total))
-plain_certified t bytes report report_after cert cert_after out out_after (i, f, values, tuning, wrote_cert, wrote_report) checked =
-    (i, f, values, tuning, wrote_cert, wrote_report, line_names t bytes i f out out_after tuning.0 tuning.1.found checked)
-
--- both searches find the optimum, and there is one
-pub one_optimum : (p : Problem) (capacity : ℕ) (f g : Found) → IsSearch p capacity f → IsPlainSearch p g
-    → (f.best ≡ g.best) × (f.total ≡ g.total) × (f.candidates ≡ g.candidates)
-one_optimum p capacity f g s q =
-    let best : f.best ≡ g.best = optimum_one p f.best g.best s.optimum q.found.optimum in
-    (best, total_one p f.best g.best f.total g.total best s.total_is q.found.total_is, s.count ∙ sym q.found.count)
+certified t method bytes report report_after cert cert_after out out_after (i, f, values, tuning, wrote_cert, wrote_report) checked =
+    (i, f, values, tuning, wrote_cert, wrote_report, line_names t method bytes i f out out_after tuning.0 tuning.1 checked)

@@ -23,7 +23,8 @@ use Rattle.tune_problem.specs.declared.cert.Found.{Found}
 use Rattle.tune_problem.specs.declared.cert.Row.{Row}
 use Rattle.tune_problem.specs.declared.cert.Row.TheVariants.{Refused, Same, Cap}
 use Rattle.tune_problem.proofs.CapRows.{total_few}
-use Rattle.tune_search.specs.PlainFound.{IsFound}
+use Rattle.tune_search.specs.Found.{IsSearch}
+use Rattle.tune_search.specs.declared.method.Method.{Method}
 
 -- a schedule has at most `MOST_FIGHTS` fights
 kept : (b : Bool) (x y : List Fight) → (if b then Some x else None) ≡ Some y → (b ≡ true) × (x ≡ y)
@@ -73,7 +74,7 @@ module _ (p : Problem) (laws : IsProblem p) (few : p.fights ≤ MOST_FIGHTS) (mo
       let small : e.0 < 2 ^ 32 = omega (arith, few, h.1) in
       All-cons IsItem e row (small, subst ArePoints (sym h.2) (laws.scores x e.0)) (items_of x (e.0 + 1) row h.3)
 
-  module _ (f : Found) (s : IsFound p f) where
+  module _ (method : Method) (f : Found) (s : IsSearch p method f) where
     all_rows : length f.rows ≡ p.count
     all_rows = s.valid.rows_are
 

@@ -7,7 +7,6 @@ pub mod ResultLine
 pub mod FightRun
 pub mod AsmRun
 pub mod Report
-pub mod Searching
 pub mod TuneRun
 pub mod TuneTexts
 pub mod CheckRun
@@ -15,5 +14,4 @@ pub mod SettingRun
 pub mod SettingsRun
 pub mod DuelRun
 pub mod DuelTexts
-pub mod PlainRun
 pub mod RawRules

@@ -26,6 +26,9 @@ use Rattle.tune_cert.specs.CertText.{cert_text}
 use Rattle.tune_problem.specs.Valid.{cert_of}
 use Rattle.tune_problem.specs.declared.cert.Found.{Found}
 use Rattle.tune_search.specs.Found.{IsSearch, NoneAssembles}
+use Rattle.tune_search.specs.declared.method.Method.{Method}
+use Rattle.tune_search.specs.declared.fault.SearchFault.{SearchFault}
+use Rattle.tune_search.specs.declared.fault.SearchFault.TheVariants.{NoCandidate as NoneFound, OutOfMemory as SearchMemory}
 use Rattle.tune_runs.specs.AsmRun.{IsAsmRefusal}
 use Rattle.tune_runs.specs.Report.{report_text, report_for}
 use Rattle.tune_runs.specs.declared.fault.RunFault.{RunFault}
@@ -133,16 +136,21 @@ IsTuneRefusal NoCandidate t = (i : InputsView) × Means t i × HasNoCandidate i
 IsTuneRefusal OutOfMemory t = Unit {0}
 IsTuneRefusal _ t = ⊥
 
--- What a tuning finds: the inputs that the texts mean, what a search with this capacity finds for
--- these inputs, and the values that its best setting gives the constants.
-abbrev pub IsTuning : Texts → ℕ → InputsView → Found → List ℤ → Type 0
-IsTuning t capacity i f values =
-    Means t i × IsSearch (problem_of i) capacity f × (slice_get (settings_of i) f.best ≡ Some values)
+-- The fault of a run whose search fails.
+abbrev pub fault_of : SearchFault → RunFault
+fault_of NoneFound = NoCandidate
+fault_of SearchMemory = OutOfMemory
+
+-- What a tuning finds: the inputs that the texts mean, what a search by this method finds for these
+-- inputs, and the values that its best setting gives the constants.
+abbrev pub IsTuning : Texts → Method → InputsView → Found → List ℤ → Type 0
+IsTuning t method i f values =
+    Means t i × IsSearch (problem_of i) method f × (slice_get (settings_of i) f.best ≡ Some values)
 
 -- The certificate and the report of what the tuning finds were written.
-abbrev pub WritesTuning : Texts → ℕ → Option (List ℕ) → Option (List ℕ) → Option (List ℕ) → Option (List ℕ) → Type 0
-WritesTuning t capacity report_old report_new cert_old cert_new =
-    (i : InputsView) × (f : Found) × (values : List ℤ) × IsTuning t capacity i f values
+abbrev pub WritesTuning : Texts → Method → Option (List ℕ) → Option (List ℕ) → Option (List ℕ) → Option (List ℕ) → Type 0
+WritesTuning t method report_old report_new cert_old cert_new =
+    (i : InputsView) × (f : Found) × (values : List ℤ) × IsTuning t method i f values
     × Appends cert_old cert_new (cert_text (cert_of f)) × Appends report_old report_new (report_text (report_for i f values))
 
 -- How a run of a tuning ends, beyond what it writes if it succeeds.

@@ -88,6 +88,7 @@ pub fn check_part_run<T: Watcher, W: Write>(
     ensures run { IsCheckRun (texts_given given.now) result out.old out.new }
 {
     let inputs = inputs_of(alloc, given)?;
+    watcher.begin(&inputs);
     let checked = watched_check(alloc, &inputs, cert, watcher);
     watcher.end();
     let verdict = checked?;

@@ -12,6 +12,7 @@ use crate::fault::RunFault;
 use crate::fight::{NamedFight, play};
 use crate::inputs::opponent_of;
 use crate::lines::result_line;
+use mars_fight::keeps_distance;
 use rc_instr::Outlet;
 use std::alloc::Global;
 use std::io::Write;
@@ -66,8 +67,7 @@ fn fight_of(alloc: Global, given: &DuelTexts<'_>) -> Result<NamedFight, RunFault
     let rules = given.rules;
     let candidate = warrior_of(alloc, given.candidate, rules)?;
     let opponent = opponent_of(alloc, given.opponent, 0, rules)?;
-    let distance = rules.distance();
-    if given.position < distance || given.position > rules.core() - distance {
+    if !keeps_distance(rules, given.position) {
         return Err(RunFault::Position);
     }
     Ok(NamedFight {

@@ -1,7 +1,7 @@
 //! Why a run ends without its answer.
 ghost use Rattle.std.specs.Prelude.{◌≡◌};
 ghost use Rattle.tune_runs.specs.declared.fault.RunFault.TheVariants.{Write as WriteFault, OutOfMemory as MemoryFault};
-ghost use Rattle.tune_runs.specs.Searching.{fault_of};
+ghost use Rattle.tune_runs.specs.TuneRun.{fault_of};
 
 use mars_core::Side;
 use mars_fight::ScheduleFault;

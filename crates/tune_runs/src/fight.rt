@@ -12,6 +12,7 @@ use crate::fight_text::read_fight_text;
 use crate::lines::result_line;
 use crate::raw_rules::rules_of;
 use mars_core::{Arena, Outcome, PackedCells, Side};
+use mars_fight::keeps_distance;
 use rc_instr::{LoadFault, OutOfMemory, Outlet, Rules, Warrior, read_loadfile};
 use std::alloc::Global;
 use std::io::Write;
@@ -88,8 +89,7 @@ fn read_fight(alloc: Global, text: &[u8]) -> Result<NamedFight, RunFault>
     };
     let candidate = load(alloc, words.candidate, &rules, Side::Candidate)?;
     let opponent = load(alloc, words.opponent, &rules, Side::Opponent)?;
-    let distance = rules.distance();
-    if words.position < distance || words.position > rules.core() - distance {
+    if !keeps_distance(&rules, words.position) {
         return Err(RunFault::Position);
     }
     Ok(NamedFight {

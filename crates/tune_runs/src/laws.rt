@@ -17,6 +17,7 @@ ghost use Rattle.tune_runs.specs.CheckRun.{WritesVerdict, Accepts, IsShown, chec
 
 use crate::fault::RunFault;
 use tune_cert::{Found, Verdict};
+use tune_search::Method;
 
 /// States that the texts of a tuning have at most one meaning.
 pub fn texts_have_one_meaning()
@@ -26,9 +27,9 @@ pub fn texts_have_one_meaning()
 /// States of whatever a search may find: the text of its certificate spells that certificate, and
 /// the right verdict on this text is Accepted, with its best setting and total.
 pub fn a_written_certificate_is_accepted()
-    ensures spelled { (t : Texts) (capacity : ℕ) (i : InputsView) (f : Found) → Means t i → IsSearch (problem_of i) capacity f
+    ensures spelled { (t : Texts) (method : Method) (i : InputsView) (f : Found) → Means t i → IsSearch (problem_of i) method f
         → Spells (records_of (cert_text (cert_of f))) (cert_of f) }
-    ensures accepted { (t : Texts) (capacity : ℕ) (i : InputsView) (f : Found) (v : Verdict) → Means t i → IsSearch (problem_of i) capacity f
+    ensures accepted { (t : Texts) (method : Method) (i : InputsView) (f : Found) (v : Verdict) → Means t i → IsSearch (problem_of i) method f
         → IsRightVerdict (problem_of i) (records_of (cert_text (cert_of f))) v → v ≡ Verdict.Accepted f.best f.total }
 {}
 
@@ -37,9 +38,9 @@ pub fn a_written_certificate_is_accepted()
 /// total of that report. The bytes of the certificate that was written are those of what the
 /// report tells.
 pub fn an_accepted_certificate_names_the_optimum()
-    ensures { (t : Texts) (capacity : ℕ) (bytes : List ℕ) (report report_after cert cert_after out out_after : Option (List ℕ))
-        → WritesTuning t capacity report report_after cert cert_after → WritesVerdict t bytes true out out_after
-        → (i : InputsView) × (f : Found) × (values : List ℤ) × IsTuning t capacity i f values
+    ensures { (t : Texts) (method : Method) (bytes : List ℕ) (report report_after cert cert_after out out_after : Option (List ℕ))
+        → WritesTuning t method report report_after cert cert_after → WritesVerdict t bytes true out out_after
+        → (i : InputsView) × (f : Found) × (values : List ℤ) × IsTuning t method i f values
         × Appends cert cert_after (cert_text (cert_of f))
         × Appends report report_after (report_text (report_for i f values)) × Appends out out_after (check_line (Verdict.Accepted f.best f.total)) }
 {}

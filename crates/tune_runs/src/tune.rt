@@ -1,25 +1,26 @@
 //! A tuning: from texts to the certificate of the best setting, and a report.
-ghost use Rattle.std.specs.Prelude.{◌≡◌, ◌≢◌, ◌↔◌, ◌≤◌, ◌<◌, ◌^◌, ◌⊎◌, map, length, false, IfErr, OnOk, IsErrOf, IsTrue};
+ghost use Rattle.std.specs.Prelude.{◌≡◌, ◌≢◌, ◌↔◌, ◌≤◌, ◌<◌, ◌^◌, ◌⊎◌, map, length, false, IfOk, IfErr, OnOk, IsErrOf, IsTrue};
 ghost use Rattle.std.specs.Io.KnownBytes.{Appends};
 ghost use Rattle.tune_cert.specs.CertText.{cert_text};
+ghost use Rattle.tune_problem.specs.Problem.{problem_of};
 ghost use Rattle.tune_problem.specs.Valid.{cert_of};
 ghost use Rattle.tune_cert.specs.Spelling.{IsVersion};
 ghost use Rattle.tune_search.specs.Limits.{MOST_CAPACITY};
-ghost use Rattle.tune_runs.specs.Searching.{HasCapacity};
-ghost use Rattle.tune_runs.specs.TuneRun.{texts, IsTuneRun, WritesTuning};
+ghost use Rattle.tune_search.specs.Method.{HasCapacity};
+ghost use Rattle.tune_search.specs.Found.{IsSearch};
+ghost use Rattle.tune_runs.specs.TuneRun.{texts, HasNoCandidate, IsTuneRun, WritesTuning};
 ghost use Rattle.tune_runs.specs.TuneTexts.{texts_given};
-ghost use Rattle.tune_runs.specs.PlainRun.{WritesBy};
 
 use crate::fault::RunFault;
 use crate::inputs::inputs_of;
 use crate::report::report_of;
-use crate::searching::{Search, find};
 use crate::tune_texts::TuneTexts;
 use rc_instr::{Outlet, Rules};
 use std::alloc::Global;
 use std::io::Write;
 use tune_cert::{CertFault, Found, Silent, Watcher, write_cert};
-use tune_template::Part;
+use tune_search::{Method, search_by};
+use tune_template::{Inputs, Part};
 
 /// Finds the optimum of a template, and writes its certificate, then the report.
 ///
@@ -53,7 +54,7 @@ pub fn tune_run<W: Write, V: Write>(
 
     // Both texts are of one `Found` for which `IsSearch` holds: a valid certificate was written,
     // and the report of its best setting, the optimum.
-    ensures tuning { OnOk result (WritesTuning (texts template.now (map (λ o. o.items) opponents.now) schedule.now rules.now) capacity
+    ensures tuning { OnOk result (WritesTuning (texts template.now (map (λ o. o.items) opponents.now) schedule.now rules.now) (Method.Dropping capacity)
         report.old.bytes report.new.bytes cert.old.bytes cert.new.bytes) }
 
     // Only texts without a meaning or a candidate are refused, and then nothing was written.
@@ -62,7 +63,7 @@ pub fn tune_run<W: Write, V: Write>(
     // Every template has a part 1 of 1.
     ensures whole { IfErr result (λ e. e ≢ RunFault.Part) }
 {
-    tune_part_run(
+    tune_by_run(
         alloc,
         &TuneTexts {
             template,
@@ -71,53 +72,28 @@ pub fn tune_run<W: Write, V: Write>(
             rules,
             part: Part::whole(),
         },
-        capacity,
+        Method::Dropping { capacity },
         &mut Silent,
         report,
         cert,
     )
 }
 
-/// Finds the optimum of one part of a template's settings, and writes its certificate, then the
-/// report, as `tune_run` does, as if the template had no other settings. Both count settings from 0
-/// within the part. Tells `watcher` how far the search is.
+/// Finds the optimum of one part of a template's settings by `method`, and writes its certificate,
+/// then the report, as `tune_run` does, as if the template had no other settings. Both count settings
+/// from 0 within the part. Tells `watcher` how far the search is.
+///
+/// By either method the best setting and its total are the same. The capacity, if `method` has one,
+/// is 1 to 65536. Neither outlet may have failed.
 ///
 /// # Errors
 ///
 /// Those of `tune_run`; and `Part`, after `Schedule`, if there is no such part: nothing is written
 /// then.
-pub fn tune_part_run<T: Watcher, W: Write, V: Write>(
-    alloc: Global,
-    given: &TuneTexts<'_>,
-    capacity: u32,
-    watcher: &mut T,
-    report: &mut Outlet<W>,
-    cert: &mut Outlet<V>,
-) -> Result<(), RunFault>
-    requires capacity { (1 ≤ capacity) × (capacity ≤ MOST_CAPACITY) }
-    requires report { report.old.failed ≡ false }
-    requires cert { cert.old.failed ≡ false }
-
-    // Both texts are of one `Found` for which `IsSearch` holds, as those of `tune_run`.
-    ensures tuning { OnOk result (WritesTuning (texts_given given.now) capacity
-        report.old.bytes report.new.bytes cert.old.bytes cert.new.bytes) }
-    ensures run { IsTuneRun (texts_given given.now) result report.old report.new cert.old cert.new }
-{
-    let method = Search::Dropping { capacity };
-    tune_by_run(alloc, given, method, watcher, report, cert)
-}
-
-/// Finds the optimum of one part of a template's settings by either search, and writes its
-/// certificate, then the report: `tune_part_run` or `plain_tune_run`, as `method` says. The
-/// capacity, if `method` has one, is 1 to 65536. Neither outlet may have failed.
-///
-/// # Errors
-///
-/// Those of `tune_part_run`.
 pub fn tune_by_run<T: Watcher, W: Write, V: Write>(
     alloc: Global,
     given: &TuneTexts<'_>,
-    method: Search,
+    method: Method,
     watcher: &mut T,
     report: &mut Outlet<W>,
     cert: &mut Outlet<V>,
@@ -125,7 +101,9 @@ pub fn tune_by_run<T: Watcher, W: Write, V: Write>(
     requires capacity { HasCapacity method }
     requires report { report.old.failed ≡ false }
     requires cert { cert.old.failed ≡ false }
-    ensures tuning { OnOk result (WritesBy method (texts_given given.now)
+
+    // Both texts are of one `Found` for which `IsSearch` holds, as those of `tune_run`.
+    ensures tuning { OnOk result (WritesTuning (texts_given given.now) method
         report.old.bytes report.new.bytes cert.old.bytes cert.new.bytes) }
     ensures run { IsTuneRun (texts_given given.now) result report.old report.new cert.old cert.new }
 {
@@ -133,6 +111,23 @@ pub fn tune_by_run<T: Watcher, W: Write, V: Write>(
     let found = find(alloc, &inputs, method, watcher)?;
     let text = report_of(alloc, &inputs, &found)?;
     write_both(alloc, &found, text.as_slice(), report, cert)
+}
+
+// Finds the optimum, and tells `watcher` of the inputs, how far the search is, and when it is over.
+fn find<T: Watcher>(
+    alloc: Global,
+    inputs: &Inputs,
+    method: Method,
+    watcher: &mut T,
+) -> Result<Found, RunFault>
+    requires { HasCapacity method }
+    ensures found { IfOk result (IsSearch (problem_of inputs.now) method) }
+    ensures none { IfErr result (λ e. (e ≡ RunFault.OutOfMemory) ⊎ ((e ≡ RunFault.NoCandidate) × HasNoCandidate inputs.now)) }
+{
+    watcher.begin(inputs);
+    let searched = search_by(alloc, inputs, method, watcher);
+    watcher.end();
+    Ok(searched?)
 }
 
 // Writes the certificate and flushes its writer, then writes the report.

@@ -9,12 +9,14 @@ use Rattle.tune_problem.specs.declared.cert.Row.TheVariants.{Cap}
 use Rattle.tune_problem.proofs.Certificates.{same_number}
 use Rattle.tune_search.specs.Visits.{place, visit}
 use Rattle.tune_search.specs.Recent.{Has, IsRecalled, IsRecent, NoneHas}
+use Rattle.tune_search.specs.Method.{capacity_of}
 use Rattle.tune_search.specs.Sharing.{HasRowOf}
 use Rattle.tune_search.specs.Found.{IsSearch, fought_count, is_cap, is_copied, was_fought}
 use Rattle.tune_search.proofs.Leads.{by_then}
 use Rattle.tune_search.proofs.Places.{place_below, place_visit, visit_below, visit_early, visit_late, visit_place}
 use Rattle.tune_search.proofs.Ranges.{sum_more}
 use Rattle.tune_search.proofs.Unique.{recent_one}
+use Rattle.tune_search.specs.declared.method.Method.{Method}
 
 abbrev pub bit : Bool → ℕ
 bit b = cond b 1 0
@@ -74,11 +76,14 @@ module _ (g : ℕ → Bool) (s : ℕ) where
       let e : among (k + m) ≡ among n = ap among (let q : k + (n - k) ≡ n = omega arith in q) in
       omega (arith, grows k m, e, late n inside)
 
-module _ (p : Problem) (c : ℕ) (f : Found) (s : IsSearch p c f) (start : p.start < p.count) (room : fought_count f ≤ c) where
+module _ (p : Problem) (method : Method) (f : Found) (s : IsSearch p method f) (start : p.start < p.count) (room : fought_count f ≤ capacity_of method) where
+  abbrev capacity : ℕ
+  capacity = capacity_of method
+
   abbrev test : ℕ → Bool
   test = was_fought f
 
-  all_room : below test p.start p.count ≤ c
+  all_room : below test p.start p.count ≤ capacity
   unfolding fought_count
   all_room =
       let e : length f.rows ≡ p.count = s.valid.rows_are in
@@ -112,12 +117,12 @@ module _ (p : Problem) (c : ℕ) (f : Found) (s : IsSearch p c f) (start : p.sta
   none_back w u (x ∷ front) back h = (h.1.0, none_back w u front back (h.0, h.1.1))
 
   -- how a visit goes by the recent settings before it
-  goes : (k v : ℕ) (w : WarriorView) (old : List ℕ) → v ≡ visit p.start k → v < p.count → p.warrior v ≡ Some w → IsRecent p c k old →
+  goes : (k v : ℕ) (w : WarriorView) (old : List ℕ) → v ≡ visit p.start k → v < p.count → p.warrior v ≡ Some w → IsRecent p capacity k old →
       (NoneHas p w old × (test v ≡ true)) ⊎ ((u : ℕ) × Has p w u old × (test v ≡ false))
   goes k v w old at l is recent =
       let h = s.shared v w l is in
       let here : place p.start v ≡ k = ap (place p.start) at ∙ place_visit p.start k in
-      let same : h.recent ≡ old = recent_one p c k h.recent old (subst (λ (n : ℕ). IsRecent p c n h.recent) here h.is_recent) recent in
+      let same : h.recent ≡ old = recent_one p capacity k h.recent old (subst (λ (n : ℕ). IsRecent p capacity n h.recent) here h.is_recent) recent in
       elim h.row [
         | inl g ↦ inl (subst (NoneHas p w) same g.0, fought_true v g.2.row g.2.at g.1)
         | inr g ↦ inr (g.0, subst (Has p w g.0) same g.1, shared_false g.0 v _ g.2.row)
@@ -128,7 +133,7 @@ module _ (p : Problem) (c : ℕ) (f : Found) (s : IsSearch p c f) (start : p.sta
     as_many : length us ≡ among test p.start k
     each : (v : ℕ) (w : WarriorView) → v < p.count → place p.start v < k → test v ≡ true → p.warrior v ≡ Some w → NoneHas p w us → ⊥
 
-  step : (k v : ℕ) (o : Option WarriorView) (old us : List ℕ) → k < p.count → v ≡ visit p.start k → v < p.count → p.warrior v ≡ o → IsRecent p c k old → IsRecalled p c v o old us →
+  step : (k v : ℕ) (o : Option WarriorView) (old us : List ℕ) → k < p.count → v ≡ visit p.start k → v < p.count → p.warrior v ≡ o → IsRecent p capacity k old → IsRecalled p capacity v o old us →
       Full k old → Full (suc k) us
   step k v None old us less at l is recent r i =
       let no : test v ≡ false = refused_false v l is in
@@ -157,8 +162,8 @@ module _ (p : Problem) (c : ℕ) (f : Found) (s : IsSearch p c f) (start : p.sta
     | inl g ↦
         let next : among test p.start (suc k) ≡ among test p.start k + 1 = ap (λ n. among test p.start k + bit (test n)) (sym at) ∙ ap (λ b. among test p.start k + bit b) g.1 in
         let long = i.as_many in
-        let fits : suc (length old) ≤ c = omega (arith, few_among test p.start (suc k) p.count less start, all_room, next, long) in
-        let whole : us ≡ v ∷ old = m.1 ∙ take_all c (v ∷ old) fits in
+        let fits : suc (length old) ≤ capacity = omega (arith, few_among test p.start (suc k) p.count less start, all_room, next, long) in
+        let whole : us ≡ v ∷ old = m.1 ∙ take_all capacity (v ∷ old) fits in
         record {
           as_many = ap length whole ∙ ap suc long ∙ sym (next ∙ add-one _);
           each = λ u w lu before t iu none.
@@ -170,7 +175,7 @@ module _ (p : Problem) (c : ℕ) (f : Found) (s : IsSearch p c f) (start : p.sta
         }
   ]
 
-  full : (k : ℕ) (us : List ℕ) → k ≤ p.count → IsRecent p c k us → Full k us
+  full : (k : ℕ) (us : List ℕ) → k ≤ p.count → IsRecent p capacity k us → Full k us
   full zero us le r = record { as_many = ap length r; each = λ v w l before. absurd (omega arith) }
   full (suc k) us le r =
       let v = visit p.start k in

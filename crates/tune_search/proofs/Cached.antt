@@ -1,10 +1,17 @@
 -- A cache's entries, with each key seen as a list.
-use Rattle.std.proofs.Common.{arith, ◌≡◌, ℕ, zero, suc, ◌-◌, ◌<◌, Bool, true, false, cond, List, [], ◌∷◌, take, map, Option, Some, None, refl, sym, ◌∙◌, ap}
+use Rattle.std.proofs.Common.{arith, ◌≡◌, ℕ, zero, suc, ◌-◌, ◌<◌, Bool, true, false, cond, List, [], ◌∷◌, take, map, Option, Some, None, refl, sym, ◌∙◌, ap, ◌⊎◌, inl, inr}
 use Rattle.std.specs.Option.{option_map, option_map_or, is_some}
 use Rattle.std.specs.List.{slice_get}
 use Rattle.std.specs.Map.{lookup, lookup_entry, remove_entry}
 use Rattle.lru.specs.LruCache.{LruCache, promoted, put_entries}
 use Rattle.std.proofs.lemmas.List.{take-map}
+
+-- a cache with capacity 0 is empty, and any other has room for as many as its capacity
+pub without_room : {X : Type 0} (capacity room : ℕ) (entries : List X) → (0 < room) × (((capacity ≡ 0) × (entries ≡ [])) ⊎ (capacity ≡ room)) → capacity ≡ 0 → entries ≡ []
+without_room capacity room entries h none = elim h.1 [ inl a ↦ a.1 | inr e ↦ absurd (omega (arith, h.0, e, none)) ]
+
+pub as_room : {X : Type 0} (capacity room : ℕ) (entries : List X) → (0 < room) × (((capacity ≡ 0) × (entries ≡ [])) ⊎ (capacity ≡ room)) → (capacity ≡ 0 → ⊥) → capacity ≡ room
+as_room capacity room entries h some = elim h.1 [ inl a ↦ absurd (some a.0) | inr e ↦ e ]
 
 cut : {X : Type 0} (n : ℕ) (x : X) (xs : List X) → 0 < n → x ∷ take (n - 1) xs ≡ take n (x ∷ xs)
 cut zero x xs room = absurd (omega arith)

@@ -1,22 +1,27 @@
 -- When a vector has fought enough.
-use Rattle.std.proofs.Common.{◌≡◌, ℕ, ◌<◌, ◌≤◌, arith, Bool, true, false, not, List, take, Option, ap, ◌⊎◌, inl, inr}
+use Rattle.std.proofs.Common.{◌≡◌, ℕ, ◌<◌, ◌≤◌, arith, Bool, true, false, List, take, Option, ◌⊎◌, inl, inr, refl}
 use Rattle.rc_instr.specs.Warrior.{WarriorView}
 use Rattle.tune_problem.specs.Problem.{Problem}
 use Rattle.tune_problem.specs.Optimum.{cap_of}
-use Rattle.tune_search.specs.Order.{beats_lead, enough}
+use Rattle.tune_search.specs.Order.{drops, enough}
 use Rattle.tune_problem.specs.declared.watcher.Best.{Best}
 use Rattle.mars_core.proofs.Least.{least_is, least_is_least}
 use Rattle.mars_core.specs.Fight.{least}
 use Rattle.std.proofs.lemmas.Bool.Decides.{leb_tells}
+use Rattle.tune_search.specs.declared.method.Method.{Method}
+use Rattle.tune_search.specs.declared.method.Method.TheVariants.{PlayingAll}
 
--- k fights are enough if each cap before beats the lead, and the cap then does not, or all are
--- played
-pub enough_is : (p : Problem) (w : WarriorView) (order : List ℕ) (v : ℕ) (lead : Option Best) (k : ℕ) → k ≤ p.fights →
-    ((j : ℕ) → j < k → beats_lead (cap_of p w (take j order)) v lead ≡ true) → (k < p.fights → beats_lead (cap_of p w (take k order)) v lead ≡ false) →
-    enough p w order v lead ≡ k
+-- k fights are enough if at no cap before the setting is dropped, and then it is, or all are played
+pub enough_is : (p : Problem) (method : Method) (w : WarriorView) (order : List ℕ) (v : ℕ) (lead : Option Best) (k : ℕ) → k ≤ p.fights →
+    ((j : ℕ) → j < k → drops method (cap_of p w (take j order)) v lead ≡ false) → (k < p.fights → drops method (cap_of p w (take k order)) v lead ≡ true) →
+    enough p method w order v lead ≡ k
 unfolding enough
-enough_is p w order v lead k le before here =
-    least_is (λ j. not (beats_lead (cap_of p w (take j order)) v lead)) p.fights k le (λ j l. ap not (before j l)) (λ l. ap not (here l))
+enough_is p method w order v lead k le before here =
+    least_is (λ j. drops method (cap_of p w (take j order)) v lead) p.fights k le before here
+
+-- all fights, if none is dropped
+pub all_enough : (p : Problem) (w : WarriorView) (order : List ℕ) (v : ℕ) (lead : Option Best) → enough p PlayingAll w order v lead ≡ p.fights
+all_enough p w order v lead = enough_is p PlayingAll w order v lead p.fights (omega arith) (λ j l. refl) (λ l. absurd (omega arith))
 
 -- what is least is the bound, or the test holds there
 pub least_cases : (test : ℕ → Bool) (n : ℕ) → (least test n ≡ n) ⊎ (test (least test n) ≡ true)

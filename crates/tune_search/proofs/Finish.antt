@@ -23,12 +23,16 @@ use Rattle.tune_search.specs.Sharing.{HasRowOf, IsExplained, IsVisited}
 use Rattle.tune_search.specs.Found.{IsSearch, is_cap, is_copied}
 use Rattle.tune_search.specs.State.{IsCopied, IsUnderWay, IsWhole, is_filled}
 use Rattle.tune_problem.specs.declared.watcher.Best.{Best}
-use Rattle.tune_search.proofs.Rightness.{own_version}
 use Rattle.tune_search.proofs.Totals.{cap_all}
 use Rattle.tune_search.proofs.Orders.{order_permutes}
 use Rattle.tune_search.proofs.ListedFights.{All-take, listed_cap, listed_is_row, order_below}
 use Rattle.tune_search.proofs.Leads.{all_fought, enough_cases}
 use Rattle.tune_search.proofs.Places.{lesser, place_below, start_place}
+use Rattle.tune_search.specs.declared.method.Method.{Method}
+
+-- the version that a search writes is one that its certificate may have
+own_version : (p : Problem) (version : ℕ) → IsOwnVersion p version → IsVersionOf p version
+own_version p version h = elim h [ inl a ↦ (λ e. a.1) | inr b ↦ (λ e. absurd (omega (arith, b.0, e))) ]
 
 chained : (c u t z d v : ℕ) → Trails c u t z → Trails t z d v → Trails c u d v
 chained c u t z d v a b =
@@ -61,23 +65,23 @@ module _ (p : Problem) (laws : IsProblem p) (start : p.start < p.count) (version
   lead_behind : (k : ℕ) (l : Best) → IsBestAfter p k l → Trails l.total l.vector lead.total lead.vector
   lead_behind k l h = subst (λ (n : ℕ). Trails n l.vector lead.total lead.vector) h.scores (behind l.vector h.warrior h.inside h.candidate)
 
-  module _ (u : ℕ) (x : WarriorView) (inside : u < p.count) (is : p.warrior u ≡ Some x) (h : IsFought p rows u x) where
+  module _ (method : Method) (u : ℕ) (x : WarriorView) (inside : u < p.count) (is : p.warrior u ≡ Some x) (h : IsFought p method rows u x) where
     abbrev order : List ℕ
     order = fight_order p u
 
     abbrev ks : List ℕ
-    ks = take (enough p x order u h.lead) order
+    ks = take (enough p method x order u h.lead) order
 
     permutes : IsPermutation (all_fights p) order
     permutes = order_permutes p u laws
 
     pub fought_row : IsCapRow p x 0 h.row
-    fought_row = listed_is_row p x ks h.row (All-take p.fights (enough p x order u h.lead) order (order_below p order permutes)) h.listed
+    fought_row = listed_is_row p x ks h.row (All-take p.fights (enough p method x order u h.lead) order (order_below p order permutes)) h.listed
 
     row_cap_is : cap_of p x (listed_indices h.row) ≡ cap_of p x ks
     row_cap_is = listed_cap p x ks h.row h.listed
 
-    all_cap : enough p x order u h.lead ≡ p.fights → cap_of p x (listed_indices h.row) ≡ total_of p x
+    all_cap : enough p method x order u h.lead ≡ p.fights → cap_of p x (listed_indices h.row) ≡ total_of p x
     all_cap e = row_cap_is ∙ ap (λ j. cap_of p x (take j order)) e ∙ cap_all p x order permutes
 
     short_behind : (l : Option Best) → IsLeadAfter p (place p.start u) l → beats_lead (cap_of p x (listed_indices h.row)) u l ≡ false → Trails (cap_of p x (listed_indices h.row)) u lead.total lead.vector
@@ -86,7 +90,7 @@ module _ (p : Problem) (laws : IsProblem p) (start : p.start < p.count) (version
 
     -- its cap trails the best
     pub fought_behind : Trails (cap_of p x (listed_indices h.row)) u lead.total lead.vector
-    fought_behind = elim (enough_cases p x order u h.lead) [
+    fought_behind = elim (enough_cases p method x order u h.lead) [
       | inl e ↦ subst (λ (n : ℕ). Trails n u lead.total lead.vector) (sym (all_cap e)) (behind u x inside is)
       | inr n ↦ short_behind h.lead h.is_lead (ap (λ m. beats_lead m u h.lead) row_cap_is ∙ n)
     ]
@@ -103,7 +107,7 @@ module _ (p : Problem) (laws : IsProblem p) (start : p.start < p.count) (version
     shared_behind v l is_v before = elim (same_number u p.start) [
       | inl first ↦
           let none : h.lead ≡ None = no_lead_first h.lead first h.is_lead in
-          let all : enough p x order u h.lead ≡ p.fights = all_fought p x order u h.lead (ap (λ l. beats_lead (cap_of p x (take (enough p x order u h.lead) order)) u l) none) in
+          let all : enough p method x order u h.lead ≡ p.fights = all_fought p method x order u h.lead (ap (λ l. beats_lead (cap_of p x (take (enough p method x order u h.lead) order)) u l) none) in
           subst (λ (n : ℕ). Trails n v lead.total lead.vector) (sym (all_cap all)) (behind v x l is_v)
       | inr other ↦
           let less : u < v = lesser p.start u v before (λ e. absurd (other e)) in
@@ -112,14 +116,14 @@ module _ (p : Problem) (laws : IsProblem p) (start : p.start < p.count) (version
           record { no_more = c; later = λ e. let f : lead.vector ≤ u = d e in omega arith }
     ]
 
-  module _ (c : ℕ) (copied : Option ℕ) (rows_are : length rows ≡ p.count)
-      (told : (v : ℕ) → v < p.count → IsExplained p c rows copied v (p.warrior v)) where
+  module _ (method : Method) (copied : Option ℕ) (rows_are : length rows ≡ p.count)
+      (told : (v : ℕ) → v < p.count → IsExplained p method rows copied v (p.warrior v)) where
     shared_right : (u v : ℕ) (x : WarriorView) (b : Bool) (row : Row) → v < p.count → p.warrior v ≡ Some x → p.warrior u ≡ Some x → u < p.count →
-        (f : IsFought p rows u x) → place p.start u < place p.start v → HasRowOf rows copied u v b → slice_get rows v ≡ Some row → IsRightRow p cert v row
+        (f : IsFought p method rows u x) → place p.start u < place p.start v → HasRowOf rows copied u v b → slice_get rows v ≡ Some row → IsRightRow p cert v row
     shared_right u v x true row l is_v is_u inside f before h at =
         let same : row ≡ Cap f.row = some_is _ _ (sym at ∙ h.1 ∙ f.at) in
         subst (λ (r : Row). IsRightRow p cert v r) (sym same)
-        (x, is_v, fought_row u x inside is_u f, λ ne. not_beats _ _ _ _ (shared_behind u x inside is_u f v l is_v before))
+        (x, is_v, fought_row method u x inside is_u f, λ ne. not_beats _ _ _ _ (shared_behind method u x inside is_u f v l is_v before))
     shared_right u v x false row l is_v is_u inside f before h at =
         let same : row ≡ Same u = some_is _ _ (sym at ∙ h.1) in
         subst (λ (r : Row). IsRightRow p cert v r) (sym same) (
@@ -130,10 +134,10 @@ module _ (p : Problem) (laws : IsProblem p) (start : p.start < p.count) (version
           is_v,
           is_u,
           f.at,
-          not_beats _ _ _ _ (shared_behind u x inside is_u f v l is_v before),
+          not_beats _ _ _ _ (shared_behind method u x inside is_u f v l is_v before),
         )
 
-    right_of : (v : ℕ) (o : Option WarriorView) → v < p.count → p.warrior v ≡ o → IsExplained p c rows copied v o → (row : Row) → slice_get rows v ≡ Some row → IsRightRow p cert v row
+    right_of : (v : ℕ) (o : Option WarriorView) → v < p.count → p.warrior v ≡ o → IsExplained p method rows copied v o → (row : Row) → slice_get rows v ≡ Some row → IsRightRow p cert v row
     right_of v None l is h row at =
         let same : row ≡ Refused = some_is _ _ (sym at ∙ h.1) in
         subst (λ (r : Row). IsRightRow p cert v r) (sym same) is
@@ -141,7 +145,7 @@ module _ (p : Problem) (laws : IsProblem p) (start : p.start < p.count) (version
       | inl f ↦
           let same : row ≡ Cap f.2.row = some_is _ _ (sym at ∙ f.2.at) in
           subst (λ (r : Row). IsRightRow p cert v r) (sym same)
-          (x, is, fought_row v x l is f.2, λ ne. not_beats _ _ _ _ (fought_behind v x l is f.2))
+          (x, is, fought_row method v x l is f.2, λ ne. not_beats _ _ _ _ (fought_behind method v x l is f.2))
       | inr s ↦
           let inside : s.0 < p.count = subst (λ (n : ℕ). s.0 < n) rows_are (slice_get_within rows s.0 _ s.2.fought.at) in
           shared_right s.0 v x _ row l is s.1.alike inside s.2.fought s.2.before s.2.row at
@@ -180,13 +184,13 @@ same_sums f g (r ∷ rows) a each =
 abbrev bit : Bool → ℕ
 bit b = cond b 1 0
 
-module _ (p : Problem) (c : ℕ) (rows : List Row) (copied : Option ℕ) (rows_are : length rows ≡ p.count)
-    (told : (v : ℕ) → v < p.count → IsExplained p c rows copied v (p.warrior v)) where
-  filled_shared : (u v : ℕ) (x : WarriorView) (b : Bool) (r : Row) → IsFought p rows u x → HasRowOf rows copied u v b → slice_get rows v ≡ Some r → is_filled r ≡ true
+module _ (p : Problem) (method : Method) (rows : List Row) (copied : Option ℕ) (rows_are : length rows ≡ p.count)
+    (told : (v : ℕ) → v < p.count → IsExplained p method rows copied v (p.warrior v)) where
+  filled_shared : (u v : ℕ) (x : WarriorView) (b : Bool) (r : Row) → IsFought p method rows u x → HasRowOf rows copied u v b → slice_get rows v ≡ Some r → is_filled r ≡ true
   filled_shared u v x true r f h at = ap is_filled (some_is r (Cap f.row) (sym at ∙ h.1 ∙ f.at))
   filled_shared u v x false r f h at = ap is_filled (some_is r (Same u) (sym at ∙ h.1))
 
-  filled_is : (v : ℕ) (o : Option WarriorView) → IsExplained p c rows copied v o → (r : Row) → slice_get rows v ≡ Some r → is_filled r ≡ is_some o
+  filled_is : (v : ℕ) (o : Option WarriorView) → IsExplained p method rows copied v o → (r : Row) → slice_get rows v ≡ Some r → is_filled r ≡ is_some o
   filled_is v None h r at = ap is_filled (some_is r Refused (sym at ∙ h.1))
   filled_is v (Some x) h r at = elim h.row [
     | inl f ↦ ap is_filled (some_is r (Cap f.2.row) (sym at ∙ f.2.at))
@@ -217,9 +221,9 @@ blank_length : (n : ℕ) → length (replicate n Refused) ≡ n
 blank_length zero = refl
 blank_length (suc n) = ap suc (blank_length n)
 
-pub starts : (p : Problem) (rules : RulesView) (c : ℕ) → IsUnderWay p rules c 0 (replicate p.count Refused) None (all_fights p) 0 0 None []
+pub starts : (p : Problem) (rules : RulesView) (method : Method) → IsUnderWay p rules method 0 (replicate p.count Refused) None (all_fights p) 0 0 None []
 unfolding listed_fights
-starts p rules c = record {
+starts p rules method = record {
   rows_are = blank_length p.count;
   lead_is = λ v l before. absurd (omega arith);
   whole = tt;
@@ -246,17 +250,17 @@ own_row None v b h e = cc
 own_row (Some u) v b h e = let same : u ≡ v = cc in grind (arith, nat_tests, h, same)
 
 -- after the last
-module _ (p : Problem) (laws : IsProblem p) (start : p.start < p.count) (rules : RulesView) (c : ℕ)
+module _ (p : Problem) (laws : IsProblem p) (start : p.start < p.count) (rules : RulesView) (method : Method)
     (rows : List Row) (lead : Option Best) (order : List ℕ) (f n : ℕ) (copied : Option ℕ) (known : List (List ℕ × ℕ))
-    (s : IsUnderWay p rules c p.count rows lead order f n copied known) where
-  all_told : (v : ℕ) → v < p.count → IsExplained p c rows copied v (p.warrior v)
+    (s : IsUnderWay p rules method p.count rows lead order f n copied known) where
+  all_told : (v : ℕ) → v < p.count → IsExplained p method rows copied v (p.warrior v)
   all_told v l = s.told v l (place_below p.start p.count v start l)
 
-  told_refused : (v : ℕ) (o : Option WarriorView) → o ≡ None → IsExplained p c rows copied v o → slice_get rows v ≡ Some Refused
+  told_refused : (v : ℕ) (o : Option WarriorView) → o ≡ None → IsExplained p method rows copied v o → slice_get rows v ≡ Some Refused
   told_refused v None e h = h.1
   told_refused v (Some w) e h = absurd (cc)
 
-  told_copied : (v : ℕ) (o : Option WarriorView) → copied ≡ Some v → IsExplained p c rows copied v o → o ≢ None
+  told_copied : (v : ℕ) (o : Option WarriorView) → copied ≡ Some v → IsExplained p method rows copied v o → o ≢ None
   told_copied v None is h = λ e. h.0 is
   told_copied v (Some w) is h = λ e. cc
 
@@ -268,14 +272,14 @@ module _ (p : Problem) (laws : IsProblem p) (start : p.start < p.count) (rules :
   shares_no_cap u v true list other at h = other h.0
   shares_no_cap u v false list other at h = let e : Some (Cap list) ≡ Some (Same u) = sym at ∙ h.1 in absurd (cc)
 
-  told_fought : (v : ℕ) (w : WarriorView) (list : List (ℕ × ℕ)) → copied ≢ Some v → slice_get rows v ≡ Some (Cap list) → IsVisited p c rows copied v w → IsFought p rows v w
+  told_fought : (v : ℕ) (w : WarriorView) (list : List (ℕ × ℕ)) → copied ≢ Some v → slice_get rows v ≡ Some (Cap list) → IsVisited p method rows copied v w → IsFought p method rows v w
   told_fought v w list other at h = elim h.row [
     | inl g ↦ g.2
     | inr g ↦ absurd (shares_no_cap g.0 v _ list other at g.2.row)
   ]
 
-  told_shared : (v : ℕ) (w : WarriorView) → v < p.count → p.warrior v ≡ Some w → IsVisited p c rows copied v w
-  told_shared v w l is = subst (λ (o : Option WarriorView). IsExplained p c rows copied v o) is (all_told v l)
+  told_shared : (v : ℕ) (w : WarriorView) → v < p.count → p.warrior v ≡ Some w → IsVisited p method rows copied v w
+  told_shared v w l is = subst (λ (o : Option WarriorView). IsExplained p method rows copied v o) is (all_told v l)
 
   pub finds_none : lead ≡ None → (v : ℕ) → v < p.count → p.warrior v ≡ None
   finds_none e v l =
@@ -284,7 +288,7 @@ module _ (p : Problem) (laws : IsProblem p) (start : p.start < p.count) (rules :
 
   -- what was found is what a search promises
   pub finds : (version : ℕ) → IsOwnVersion p version → (l : Best) → lead ≡ Some l → p.count ≤ MOST_SETTINGS →
-      IsSearch p c (record { version = version; best = l.vector; total = l.total; rows = rows; fights = f; candidates = n; copied = copied })
+      IsSearch p method (record { version = version; best = l.vector; total = l.total; rows = rows; fights = f; candidates = n; copied = copied })
   finds version own l e few =
       let right_version = own_version p version own in
       let best : IsLeadAfter p p.count (Some l) = subst (λ (o : Option Best). IsLeadAfter p p.count o) e s.lead_is in
@@ -292,9 +296,9 @@ module _ (p : Problem) (laws : IsProblem p) (start : p.start < p.count) (rules :
       record {
         optimum = best_is_optimum p laws start version right_version rows l best;
         total_is = best_total p laws start version right_version rows l best;
-        valid = is_valid p laws start version right_version rows l best c copied s.rows_are all_told (subst (λ (o : Option Best). IsWhole p rows o) e s.whole);
+        valid = is_valid p laws start version right_version rows l best method copied s.rows_are all_told (subst (λ (o : Option Best). IsWhole p rows o) e s.whole);
         version = own;
-        count = s.count ∙ filled_candidates p c rows copied s.rows_are all_told;
+        count = s.count ∙ filled_candidates p method rows copied s.rows_are all_told;
         few = omega (arith, all, few);
         refused = λ v i none. told_refused v (p.warrior v) none (all_told v i);
         fought = λ v w i is own.

@@ -5,16 +5,23 @@ use Rattle.rc_instr.specs.Warrior.{WarriorView}
 use Rattle.tune_problem.specs.Problem.{Problem}
 use Rattle.tune_problem.specs.Optimum.{beats, cap_of, total_of}
 use Rattle.tune_problem.proofs.Certificates.{Trails, not_beats, same_number, some_is, trails}
-use Rattle.tune_search.specs.Order.{beats_lead, enough}
+use Rattle.tune_search.specs.Order.{beats_lead, drops, enough}
 use Rattle.tune_search.specs.Visits.{IsLeadAfter, place, visit}
 use Rattle.tune_search.specs.Sharing.{copies}
 use Rattle.tune_problem.specs.declared.watcher.Best.{Best}
 use Rattle.tune_search.proofs.Enough.{least_cases}
 use Rattle.tune_search.proofs.Places.{is_visit, lesser, place_visit}
+use Rattle.tune_search.specs.declared.method.Method.{Method}
+use Rattle.tune_search.specs.declared.method.Method.TheVariants.{Dropping, PlayingAll}
 
 not_true : (b : Bool) → not b ≡ true → b ≡ false
 not_true true h = absurd (cc)
 not_true false h = refl
+
+-- what is dropped does not beat the lead
+dropped : (method : Method) (c v : ℕ) (lead : Option Best) → drops method c v lead ≡ true → beats_lead c v lead ≡ false
+dropped (Dropping capacity) c v lead h = not_true _ h
+dropped PlayingAll c v lead h = absurd (cc)
 
 -- what is beaten trails the one that beat it
 overtaken : (c u t z d v : ℕ) → beats c u t z ≡ false → beats d v t z ≡ true → beats c u d v ≡ false
@@ -24,19 +31,19 @@ not_copied : (s u v z : ℕ) → (u == s) && (z == u) && nat_lt v u ≡ false �
 not_copied s u v z h a b = grind (arith, nat_tests)
 
 -- so many fights were enough: all, or the cap then does not beat the lead
-pub enough_cases : (p : Problem) (w : WarriorView) (order : List ℕ) (v : ℕ) (lead : Option Best) →
-    (enough p w order v lead ≡ p.fights) ⊎ (beats_lead (cap_of p w (take (enough p w order v lead) order)) v lead ≡ false)
+pub enough_cases : (p : Problem) (method : Method) (w : WarriorView) (order : List ℕ) (v : ℕ) (lead : Option Best) →
+    (enough p method w order v lead ≡ p.fights) ⊎ (beats_lead (cap_of p w (take (enough p method w order v lead) order)) v lead ≡ false)
 unfolding enough
-enough_cases p w order v lead =
-    elim (least_cases (λ j. not (beats_lead (cap_of p w (take j order)) v lead)) p.fights) [
+enough_cases p method w order v lead =
+    elim (least_cases (λ j. drops method (cap_of p w (take j order)) v lead) p.fights) [
       | inl e ↦ inl e
-      | inr h ↦ inr (not_true _ h)
+      | inr h ↦ inr (dropped method _ v lead h)
     ]
 
 -- where the cap at the end beats the lead, all were fought
-pub all_fought : (p : Problem) (w : WarriorView) (order : List ℕ) (v : ℕ) (lead : Option Best) →
-    beats_lead (cap_of p w (take (enough p w order v lead) order)) v lead ≡ true → enough p w order v lead ≡ p.fights
-all_fought p w order v lead h = elim (enough_cases p w order v lead) [ inl e ↦ e | inr n ↦ absurd (cc) ]
+pub all_fought : (p : Problem) (method : Method) (w : WarriorView) (order : List ℕ) (v : ℕ) (lead : Option Best) →
+    beats_lead (cap_of p w (take (enough p method w order v lead) order)) v lead ≡ true → enough p method w order v lead ≡ p.fights
+all_fought p method w order v lead h = elim (enough_cases p method w order v lead) [ inl e ↦ e | inr n ↦ absurd (cc) ]
 
 module _ (p : Problem) (k v : ℕ) (at : v ≡ visit p.start k) where
   here : place p.start v ≡ k

@@ -1,7 +1,4 @@
 pub mod Ranges
-pub mod Visits
-pub mod Ends
-pub mod Rightness
 pub mod Listed
 pub mod Caps
 pub mod Enough
@@ -21,3 +18,4 @@ pub mod Apart
 pub mod OneAnswer
 pub mod Counted
 pub mod Answered
+pub mod PlayingAll

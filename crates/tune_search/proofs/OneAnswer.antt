@@ -14,10 +14,12 @@ use Rattle.tune_search.specs.Plays.{played}
 use Rattle.tune_search.specs.Order.{fight_order, enough}
 use Rattle.tune_search.specs.Visits.{place, IsFought}
 use Rattle.tune_search.specs.Recent.{Has, NoneHas}
+use Rattle.tune_search.specs.Method.{capacity_of}
 use Rattle.tune_search.specs.Sharing.{HasRowOf, Shares, copies}
 use Rattle.tune_search.specs.Found.{IsSearch, copied_fights}
 use Rattle.tune_problem.specs.declared.watcher.Best.{Best}
 use Rattle.tune_search.proofs.Unique.{apart_recent, lead_one, none_of, recent_one, split_one, Apart}
+use Rattle.tune_search.specs.declared.method.Method.{Method}
 
 abbrev Entry : Type 0
 Entry = ℕ × ℕ
@@ -81,7 +83,7 @@ module _ (p : Problem) (w : WarriorView) where
       row_one (x.0 + 1) (y.0 + 1) xs ys g.3 h.3 (inside_rest y ys (x.0 + 1) xs g.3 (omega arith) i.1) (inside_rest x xs (y.0 + 1) ys h.3 (omega arith) j.1) in
       λ k. same k ∷ rest k
 
-same_lists : {X : Type 0} (xs ys : List X) → length xs ≡ length ys → ((k : ℕ) → k < length xs → slice_get xs k ≡ slice_get ys k) → xs ≡ ys
+pub same_lists : {X : Type 0} (xs ys : List X) → length xs ≡ length ys → ((k : ℕ) → k < length xs → slice_get xs k ≡ slice_get ys k) → xs ≡ ys
 same_lists [] [] e h = refl
 same_lists [] (y ∷ ys) e h = absurd (omega arith)
 same_lists (x ∷ xs) [] e h = absurd (omega arith)
@@ -101,13 +103,13 @@ version_one p m n a b = elim a [
   | inr x ↦ elim b [ inl y ↦ absurd (x.1 y.1) | inr y ↦ x.0 ∙ sym y.0 ]
 ]
 
-module _ (p : Problem) (c : ℕ) (f g : Found) (s : IsSearch p c f) (t : IsSearch p c g) where
-  fought_same : (v : ℕ) (w : WarriorView) → IsFought p f.rows v w → IsFought p g.rows v w → slice_get f.rows v ≡ slice_get g.rows v
+module _ (p : Problem) (method : Method) (f g : Found) (s : IsSearch p method f) (t : IsSearch p method g) where
+  fought_same : (v : ℕ) (w : WarriorView) → IsFought p method f.rows v w → IsFought p method g.rows v w → slice_get f.rows v ≡ slice_get g.rows v
   fought_same v w a b =
       let order = fight_order p v in
       let lead : a.lead ≡ b.lead = lead_one p (place p.start v) a.lead b.lead a.is_lead b.is_lead in
-      let fights : IsPermutation (played p w (take (enough p w order v b.lead) order)) a.row =
-      subst (λ (l : Option Best). IsPermutation (played p w (take (enough p w order v l) order)) a.row) lead a.listed.same in
+      let fights : IsPermutation (played p w (take (enough p method w order v b.lead) order)) a.row =
+      subst (λ (l : Option Best). IsPermutation (played p w (take (enough p method w order v l) order)) a.row) lead a.listed.same in
       let moved : IsPermutation a.row b.row = IsPermutation-trans _ _ _ (IsPermutation-sym _ _ fights) b.listed.same in
       let x = s.valid.right v (Cap a.row) a.at in
       let y = t.valid.right v (Cap b.row) b.at in
@@ -125,7 +127,7 @@ module _ (p : Problem) (c : ℕ) (f g : Found) (s : IsSearch p c f) (t : IsSearc
   row_same u v true same x y = record { row = x.1 ∙ same ∙ sym y.1; there = λ e. y.0; back = λ e. x.0 }
   row_same u v false same x y = record { row = x.1 ∙ sym y.1; there = λ e. absurd (x.0 e); back = λ e. absurd (y.0 e) }
 
-  shared_same : (u v : ℕ) (w : WarriorView) → Shares p f.rows f.copied u v w → Shares p g.rows g.copied u v w → Alike v
+  shared_same : (u v : ℕ) (w : WarriorView) → Shares p method f.rows f.copied u v w → Shares p method g.rows g.copied u v w → Alike v
   shared_same u v w a b =
       let lead : a.lead ≡ b.lead = lead_one p (place p.start v) a.lead b.lead a.is_lead b.is_lead in
       let row : HasRowOf f.rows f.copied u v (copies p.start u v b.lead) = subst (λ (l : Option Best). HasRowOf f.rows f.copied u v (copies p.start u v l)) lead a.row in
@@ -143,7 +145,7 @@ module _ (p : Problem) (c : ℕ) (f g : Found) (s : IsSearch p c f) (t : IsSearc
   alike_by v (Some w) l is =
       let a = s.shared v w l is in
       let b = t.shared v w l is in
-      let same : a.recent ≡ b.recent = recent_one p c (place p.start v) a.recent b.recent a.is_recent b.is_recent in
+      let same : a.recent ≡ b.recent = recent_one p (capacity_of method) (place p.start v) a.recent b.recent a.is_recent b.is_recent in
       elim a.row [
         | inl x ↦ elim b.row [
           | inl y ↦ record { row = fought_same v w x.2 y.2; there = λ e. absurd (x.1 e); back = λ e. absurd (y.1 e) }
@@ -152,10 +154,10 @@ module _ (p : Problem) (c : ℕ) (f g : Found) (s : IsSearch p c f) (t : IsSearc
         | inr x ↦ elim b.row [
           | inl y ↦ absurd (never_both w x.0 b.recent (subst (Has p w x.0) same x.1) y.0)
           | inr y ↦
-              let apart : Apart p (x.1.front ++ x.0 ∷ x.1.back) = subst (Apart p) x.1.split (apart_recent p c (place p.start v) a.recent a.is_recent) in
+              let apart : Apart p (x.1.front ++ x.0 ∷ x.1.back) = subst (Apart p) x.1.split (apart_recent p (capacity_of method) (place p.start v) a.recent a.is_recent) in
               let both : x.1.front ++ x.0 ∷ x.1.back ≡ y.1.front ++ y.0 ∷ y.1.back = sym x.1.split ∙ same ∙ y.1.split in
               let one : x.0 ≡ y.0 = (split_one p w x.0 y.0 x.1.back y.1.back x.1.front y.1.front x.1.alike y.1.alike apart both).0 in
-              shared_same y.0 v w (subst (λ (u : ℕ). Shares p f.rows f.copied u v w) one x.2) y.2
+              shared_same y.0 v w (subst (λ (u : ℕ). Shares p method f.rows f.copied u v w) one x.2) y.2
         ]
       ]
 
@@ -181,3 +183,10 @@ module _ (p : Problem) (c : ℕ) (f g : Found) (s : IsSearch p c f) (t : IsSearc
       let version : f.version ≡ g.version = version_one p f.version g.version s.version t.version in
       let candidates : f.candidates ≡ g.candidates = s.count ∙ sym t.count in
       λ i. record { version = version i; best = best i; total = total i; rows = rows_same i; fights = fights_same i; candidates = candidates i; copied = copied_same i }
+
+-- searches by any two methods find the optimum, and there is one
+pub one_optimum : (p : Problem) (one other : Method) (f g : Found) → IsSearch p one f → IsSearch p other g
+    → (f.best ≡ g.best) × (f.total ≡ g.total) × (f.candidates ≡ g.candidates)
+one_optimum p one other f g s t =
+    let best : f.best ≡ g.best = optimum_one p f.best g.best s.optimum t.optimum in
+    (best, total_one p f.best g.best f.total g.total best s.total_is t.total_is, s.count ∙ sym t.count)

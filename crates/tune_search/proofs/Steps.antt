@@ -17,12 +17,13 @@ use Rattle.tune_problem.specs.declared.watcher.Best.{Best}
 use Rattle.tune_search.proofs.Slots.{slot_other, slot_same}
 use Rattle.tune_search.proofs.Leads.{by_then}
 use Rattle.tune_search.proofs.Places.{place_visit}
+use Rattle.tune_search.specs.declared.method.Method.{Method}
 
 abbrev bit : Bool → ℕ
 bit b = cond b 1 0
 
 -- the row of v is written, which was not before
-module _ (p : Problem) (rules : RulesView) (c k v : ℕ) (at : v ≡ visit p.start k) (rows : List Row) (row : Row) (blank : slice_get rows v ≡ Some Refused) where
+module _ (p : Problem) (rules : RulesView) (method : Method) (k v : ℕ) (at : v ≡ visit p.start k) (rows : List Row) (row : Row) (blank : slice_get rows v ≡ Some Refused) where
   abbrev after : List Row
   after = slice_set rows v row
 
@@ -31,7 +32,7 @@ module _ (p : Problem) (rules : RulesView) (c k v : ℕ) (at : v ≡ visit p.sta
       let same : slice_get rows u ≡ Some Refused = ap (slice_get rows) e ∙ blank in
       absurd (cc)
 
-  pub fought_stays : (u : ℕ) (w : WarriorView) → IsFought p rows u w → IsFought p after u w
+  pub fought_stays : (u : ℕ) (w : WarriorView) → IsFought p method rows u w → IsFought p method after u w
   fought_stays u w h = record {
     lead = h.lead;
     is_lead = h.is_lead;
@@ -56,7 +57,7 @@ module _ (p : Problem) (rules : RulesView) (c k v : ℕ) (at : v ≡ visit p.sta
     shared_stays u t true nu nt h = (keeps.yes_stays u nu h.0, slot_other rows v u row nu ∙ h.1 ∙ sym (slot_other rows v t row nt))
     shared_stays u t false nu nt h = (keeps.no_stays u nu h.0, slot_other rows v u row nu ∙ h.1)
 
-    explained_stays : (u : ℕ) (o : Option WarriorView) → u ≢ v → IsExplained p c rows old u o → IsExplained p c after new u o
+    explained_stays : (u : ℕ) (o : Option WarriorView) → u ≢ v → IsExplained p method rows old u o → IsExplained p method after new u o
     explained_stays u None ne h = (keeps.no_stays u ne h.0, slot_other rows v u row ne ∙ h.1)
     explained_stays u (Some w) ne h = record {
       recent = h.recent;
@@ -78,12 +79,12 @@ module _ (p : Problem) (rules : RulesView) (c k v : ℕ) (at : v ≡ visit p.sta
     }
 
     -- all that were visited, and v
-    pub told_more : ((u : ℕ) → u < p.count → place p.start u < k → IsExplained p c rows old u (p.warrior u)) →
-        IsExplained p c after new v (p.warrior v) → (u : ℕ) → u < p.count → place p.start u < suc k → IsExplained p c after new u (p.warrior u)
+    pub told_more : ((u : ℕ) → u < p.count → place p.start u < k → IsExplained p method rows old u (p.warrior u)) →
+        IsExplained p method after new v (p.warrior v) → (u : ℕ) → u < p.count → place p.start u < suc k → IsExplained p method after new u (p.warrior u)
     told_more told one u l before =
         elim (by_then p k v at u before) [
           | inl b ↦ explained_stays u (p.warrior u) (λ e. let same : place p.start u ≡ k = ap (place p.start) (e ∙ at) ∙ place_visit p.start k in omega arith) (told u l b)
-          | inr e ↦ subst (λ (n : ℕ). IsExplained p c after new n (p.warrior n)) (sym e) one
+          | inr e ↦ subst (λ (n : ℕ). IsExplained p method after new n (p.warrior n)) (sym e) one
         ]
 
   pub left_more : ((u : ℕ) → u < p.count → k ≤ place p.start u → slice_get rows u ≡ Some Refused) →
@@ -91,7 +92,7 @@ module _ (p : Problem) (rules : RulesView) (c k v : ℕ) (at : v ≡ visit p.sta
   left_more left u l later =
       slot_other rows v u row (λ e. let same : place p.start u ≡ k = ap (place p.start) (e ∙ at) ∙ place_visit p.start k in omega arith) ∙ left u l (omega arith)
 
-  known_one : (e : List ℕ × ℕ) → IsKnown p rules rows k e → IsKnown p rules after (suc k) e
+  known_one : (e : List ℕ × ℕ) → IsKnown p rules method rows k e → IsKnown p rules method after (suc k) e
   known_one e h = record {
     warrior = h.warrior;
     inside = h.inside;
@@ -103,7 +104,7 @@ module _ (p : Problem) (rules : RulesView) (c k v : ℕ) (at : v ≡ visit p.sta
     fought = fought_stays e.1 h.warrior h.fought;
   }
 
-  pub known_more : (known : List (List ℕ × ℕ)) → AllByRecursion (IsKnown p rules rows k) known → AllByRecursion (IsKnown p rules after (suc k)) known
+  pub known_more : (known : List (List ℕ × ℕ)) → AllByRecursion (IsKnown p rules method rows k) known → AllByRecursion (IsKnown p rules method after (suc k)) known
   known_more [] h = tt
   known_more (e ∷ es) h = (known_one e h.0, known_more es h.1)
 

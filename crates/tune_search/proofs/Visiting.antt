@@ -24,6 +24,7 @@ use Rattle.tune_search.specs.Recent.{IsRecalled, IsRecent, NoneHas}
 use Rattle.tune_search.specs.Sharing.{HasRowOf, IsExplained, IsVisited, Shares, copies, leads}
 use Rattle.tune_search.specs.Found.{copied_fights}
 use Rattle.tune_search.specs.Cache.{same_text}
+use Rattle.tune_search.specs.Method.{capacity_of}
 use Rattle.tune_search.specs.State.{IsCopied, IsKnown, IsUnderWay, IsWhole, by_index, is_filled, lead_by, lead_taken, next_lead}
 use Rattle.tune_problem.specs.declared.watcher.Best.{Best}
 use Rattle.tune_search.proofs.Slots.{slot_other, slot_same}
@@ -34,6 +35,7 @@ use Rattle.tune_search.proofs.Leads.{all_fought, by_then, lead_new, lead_refused
 use Rattle.tune_search.proofs.Places.{place_visit}
 use Rattle.tune_search.proofs.Recalls.{Recalled, found, none_found, promoted_is, promoted_known}
 use Rattle.tune_search.proofs.Steps.{Keeps, filled_more, fought_stays, inside_rows, keeps_new, keeps_same, known_more, left_more, told_more, whole_stays, work_copied, work_more}
+use Rattle.tune_search.specs.declared.method.Method.{Method}
 
 first_visit : (s k v : ℕ) → v ≡ visit s k → (v == s) ≡ (k == 0)
 first_visit s k v at = ap (λ n. n == s) at ∙ grind (arith, nat_tests)
@@ -87,15 +89,15 @@ not_yet p k v lead (Some u) at h e =
     omega arith
 
 -- the same at equal values
-pub under_way_along : (p : Problem) (rules : RulesView) (c k : ℕ) (rows rows' : List Row) (lead lead' : Option Best) (order order' : List ℕ) (f f' n : ℕ) (copied : Option ℕ) (known known' : List (List ℕ × ℕ)) →
-    IsUnderWay p rules c k rows lead order f n copied known → rows ≡ rows' → lead ≡ lead' → order ≡ order' → f ≡ f' → known ≡ known' →
-    IsUnderWay p rules c k rows' lead' order' f' n copied known'
-under_way_along p rules c k rows rows' lead lead' order order' f f' n copied known known' h er el eo ef ek =
+pub under_way_along : (p : Problem) (rules : RulesView) (method : Method) (k : ℕ) (rows rows' : List Row) (lead lead' : Option Best) (order order' : List ℕ) (f f' n : ℕ) (copied : Option ℕ) (known known' : List (List ℕ × ℕ)) →
+    IsUnderWay p rules method k rows lead order f n copied known → rows ≡ rows' → lead ≡ lead' → order ≡ order' → f ≡ f' → known ≡ known' →
+    IsUnderWay p rules method k rows' lead' order' f' n copied known'
+under_way_along p rules method k rows rows' lead lead' order order' f f' n copied known known' h er el eo ef ek =
     rw (← er, ← el, ← eo, ← ef, ← ek) h
 
-module _ (p : Problem) (laws : IsProblem p) (rules : RulesView) (c k v : ℕ) (at : v ≡ visit p.start k) (inside : v < p.count)
+module _ (p : Problem) (laws : IsProblem p) (rules : RulesView) (method : Method) (k v : ℕ) (at : v ≡ visit p.start k) (inside : v < p.count)
     (rows : List Row) (lead : Option Best) (order : List ℕ) (f n : ℕ) (copied : Option ℕ) (known : List (List ℕ × ℕ))
-    (s : IsUnderWay p rules c k rows lead order f n copied known) where
+    (s : IsUnderWay p rules method k rows lead order f n copied known) where
   its_place : place p.start v ≡ k
   its_place = ap (place p.start) at ∙ place_visit p.start k
 
@@ -115,15 +117,15 @@ module _ (p : Problem) (laws : IsProblem p) (rules : RulesView) (c k v : ℕ) (a
   lead_here : IsLeadAfter p (place p.start v) lead
   lead_here = subst (λ (m : ℕ). IsLeadAfter p m lead) (sym its_place) s.lead_is
 
-  recent_here : IsRecent p c (place p.start v) (map (λ e. e.1) known)
-  recent_here = subst (λ (m : ℕ). IsRecent p c m (map (λ e. e.1) known)) (sym its_place) s.recent
+  recent_here : IsRecent p (capacity_of method) (place p.start v) (map (λ e. e.1) known)
+  recent_here = subst (λ (m : ℕ). IsRecent p (capacity_of method) m (map (λ e. e.1) known)) (sym its_place) s.recent
 
   order_later : 0 < k → order ≡ order_after p (suc k == 0) (p.warrior p.start)
   order_later some =
       s.order_is ∙ ap (λ b. order_after p b (p.warrior p.start)) (let e : (k == 0) ≡ (suc k == 0) = grind (arith, nat_tests) in e)
 
   -- v is no candidate
-  known_grows : (known : List (List ℕ × ℕ)) → AllByRecursion (IsKnown p rules rows k) known → AllByRecursion (IsKnown p rules rows (suc k)) known
+  known_grows : (known : List (List ℕ × ℕ)) → AllByRecursion (IsKnown p rules method rows k) known → AllByRecursion (IsKnown p rules method rows (suc k)) known
   known_grows [] h = tt
   known_grows (e ∷ es) h = (
     record {
@@ -144,10 +146,10 @@ module _ (p : Problem) (laws : IsProblem p) (rules : RulesView) (c k v : ℕ) (a
   copied_grows (Some u) h = let before : place p.start u < k = h.1 in (h.0, omega arith, h.2)
 
   module _ (none : p.warrior v ≡ None) where
-    refused_told : (u : ℕ) → u < p.count → place p.start u < suc k → IsExplained p c rows copied u (p.warrior u)
+    refused_told : (u : ℕ) → u < p.count → place p.start u < suc k → IsExplained p method rows copied u (p.warrior u)
     refused_told u l before = elim (by_then p k v at u before) [
       | inl b ↦ s.told u l b
-      | inr e ↦ subst (λ (n : ℕ). IsExplained p c rows copied n (p.warrior n)) (sym e) (subst (λ (o : Option WarriorView). IsExplained p c rows copied v o) (sym none) (fresh, blank))
+      | inr e ↦ subst (λ (n : ℕ). IsExplained p method rows copied n (p.warrior n)) (sym e) (subst (λ (o : Option WarriorView). IsExplained p method rows copied v o) (sym none) (fresh, blank))
     ]
 
     refused_order : (m : ℕ) → k ≡ m → order ≡ order_after p false (p.warrior p.start)
@@ -156,8 +158,8 @@ module _ (p : Problem) (laws : IsProblem p) (rules : RulesView) (c k v : ℕ) (a
         s.order_is ∙ ap (λ m. order_after p (m == 0) (p.warrior p.start)) e ∙ sym (ap (order_after p false) (ap p.warrior (sym start) ∙ none))
     refused_order (suc m) e = s.order_is ∙ ap (λ m. order_after p (m == 0) (p.warrior p.start)) e ∙ ap (λ b. order_after p b (p.warrior p.start)) (not_zero m)
 
-    pub refused_visit : IsUnderWay p rules c (k + 1) rows lead order f n copied known
-    refused_visit = subst (λ (m : ℕ). IsUnderWay p rules c m rows lead order f n copied known) (sym (add-one k)) (record {
+    pub refused_visit : IsUnderWay p rules method (k + 1) rows lead order f n copied known
+    refused_visit = subst (λ (m : ℕ). IsUnderWay p rules method m rows lead order f n copied known) (sym (add-one k)) (record {
       rows_are = s.rows_are;
       lead_is = lead_refused p k v at lead none s.lead_is;
       whole = s.whole;
@@ -167,8 +169,8 @@ module _ (p : Problem) (laws : IsProblem p) (rules : RulesView) (c k v : ℕ) (a
       recent = (
         map (λ e. e.1) known,
         s.recent,
-        subst (λ (u : ℕ). IsRecalled p c u (p.warrior u) (map (λ e. e.1) known) (map (λ e. e.1) known)) at
-            (subst (λ (o : Option WarriorView). IsRecalled p c v o (map (λ e. e.1) known) (map (λ e. e.1) known)) (sym none) refl),
+        subst (λ (u : ℕ). IsRecalled p (capacity_of method) u (p.warrior u) (map (λ e. e.1) known) (map (λ e. e.1) known)) at
+            (subst (λ (o : Option WarriorView). IsRecalled p (capacity_of method) v o (map (λ e. e.1) known) (map (λ e. e.1) known)) (sym none) refl),
       );
       all_known = known_grows known s.all_known;
       copied_is = copied_grows copied s.copied_is;
@@ -179,8 +181,8 @@ module _ (p : Problem) (laws : IsProblem p) (rules : RulesView) (c k v : ℕ) (a
 
   -- v has the warrior of u, which is remembered
   module _ (w : WarriorView) (is : p.warrior v ≡ Some w) (hold : IsRules rules) (is_w : IsWarrior w) (fits : Fits rules w) (u : ℕ) (look : lookup (same_text (load_text rules.core w)) known ≡ Some u) where
-    one : Recalled p rules hold rows k w is_w fits known u
-    one = found p rules hold rows k w is_w fits known u s.all_known look
+    one : Recalled p rules hold method rows k w is_w fits known u
+    one = found p rules hold method rows k w is_w fits known u s.all_known look
 
     u_is : p.warrior u ≡ Some w
     u_is = one.has.alike
@@ -194,20 +196,20 @@ module _ (p : Problem) (laws : IsProblem p) (rules : RulesView) (c k v : ℕ) (a
     u_earlier : place p.start u < place p.start v
     u_earlier = let b : place p.start u < k = u_before in let e : place p.start v ≡ k = its_place in omega arith
 
-    u_fought : IsFought p rows u w
+    u_fought : IsFought p method rows u w
     u_fought =
         let x = one.known_one.warrior in
-        let a : IsFought p rows u x = subst (λ (n : ℕ). IsFought p rows n x) one.vector one.known_one.fought in
+        let a : IsFought p method rows u x = subst (λ (n : ℕ). IsFought p method rows n x) one.vector one.known_one.fought in
         let b : p.warrior u ≡ Some x = subst (λ (n : ℕ). p.warrior n ≡ Some x) one.vector one.known_one.candidate in
-        subst (λ (y : WarriorView). IsFought p rows u y) (some_is _ _ (sym b ∙ u_is)) a
+        subst (λ (y : WarriorView). IsFought p method rows u y) (some_is _ _ (sym b ∙ u_is)) a
 
-    recent_shared : IsRecent p c (suc k) (map (λ e. e.1) (promoted (same_text (load_text rules.core w)) known))
+    recent_shared : IsRecent p (capacity_of method) (suc k) (map (λ e. e.1) (promoted (same_text (load_text rules.core w)) known))
     recent_shared = (
       map (λ e. e.1) known,
       s.recent,
-      subst (λ (x : ℕ). IsRecalled p c x (p.warrior x) (map (λ e. e.1) known) (map (λ e. e.1) (promoted (same_text (load_text rules.core w)) known))) at
-          (subst (λ (o : Option WarriorView). IsRecalled p c v o (map (λ e. e.1) known) (map (λ e. e.1) (promoted (same_text (load_text rules.core w)) known))) (sym is)
-          (inl (u, one.has, promoted_is p rules hold rows k w is_w fits known u one))),
+      subst (λ (x : ℕ). IsRecalled p (capacity_of method) x (p.warrior x) (map (λ e. e.1) known) (map (λ e. e.1) (promoted (same_text (load_text rules.core w)) known))) at
+          (subst (λ (o : Option WarriorView). IsRecalled p (capacity_of method) v o (map (λ e. e.1) known) (map (λ e. e.1) (promoted (same_text (load_text rules.core w)) known))) (sym is)
+          (inl (u, one.has, promoted_is p rules hold method rows k w is_w fits known u one))),
     )
 
     -- it refers to u
@@ -215,30 +217,30 @@ module _ (p : Problem) (laws : IsProblem p) (rules : RulesView) (c k v : ℕ) (a
       abbrev same' : List Row
       same' = slice_set rows v (Same u)
 
-      shares : Shares p same' copied u v w
+      shares : Shares p method same' copied u v w
       shares = record {
-        fought = fought_stays p rules c k v at rows (Same u) blank u w u_fought;
+        fought = fought_stays p rules method k v at rows (Same u) blank u w u_fought;
         before = u_earlier;
         lead = lead;
         is_lead = lead_here;
-        row = subst (λ (b : Bool). HasRowOf same' copied u v b) (sym apart) (fresh, slot_same rows v (Same u) (inside_rows p rules c k v at rows (Same u) blank));
+        row = subst (λ (b : Bool). HasRowOf same' copied u v b) (sym apart) (fresh, slot_same rows v (Same u) (inside_rows p rules method k v at rows (Same u) blank));
       }
 
-      pub shared_visit : IsUnderWay p rules c (k + 1) same' lead order f (n + 1) copied (promoted (same_text (load_text rules.core w)) known)
-      shared_visit = subst (λ (m : ℕ). IsUnderWay p rules c m same' lead order f (n + 1) copied (promoted (same_text (load_text rules.core w)) known)) (sym (add-one k)) (record {
+      pub shared_visit : IsUnderWay p rules method (k + 1) same' lead order f (n + 1) copied (promoted (same_text (load_text rules.core w)) known)
+      shared_visit = subst (λ (m : ℕ). IsUnderWay p rules method m same' lead order f (n + 1) copied (promoted (same_text (load_text rules.core w)) known)) (sym (add-one k)) (record {
         rows_are = length-set rows v (Same u) ∙ s.rows_are;
         lead_is = lead_stays p k v at w inside is lead (lead_shares p k v at w inside is lead u u_inside u_before u_is apart s.lead_is) s.lead_is;
-        whole = whole_stays p rules c k v at rows (Same u) blank lead s.whole;
-        told = told_more p rules c k v at rows (Same u) blank copied copied (keeps_same p rules c k v at rows (Same u) blank copied) s.told
-            (subst (λ (o : Option WarriorView). IsExplained p c same' copied v o) (sym is)
+        whole = whole_stays p rules method k v at rows (Same u) blank lead s.whole;
+        told = told_more p rules method k v at rows (Same u) blank copied copied (keeps_same p rules method k v at rows (Same u) blank copied) s.told
+            (subst (λ (o : Option WarriorView). IsExplained p method same' copied v o) (sym is)
             (record { recent = map (λ e. e.1) known; is_recent = recent_here; row = inr (u, one.has, shares) }));
-        left = left_more p rules c k v at rows (Same u) blank s.left;
+        left = left_more p rules method k v at rows (Same u) blank s.left;
         order_is = order_later (let b : place p.start u < k = u_before in omega arith);
         recent = recent_shared;
-        all_known = known_more p rules c k v at rows (Same u) blank _ (promoted_known p rules hold rows k w is_w fits known u one);
+        all_known = known_more p rules method k v at rows (Same u) blank _ (promoted_known p rules hold method rows k w is_w fits known u one);
         copied_is = copied_grows copied s.copied_is;
-        work = ap (λ m. m + copied_fights same' copied) (sym (add-zero f)) ∙ work_more p rules c k v at rows (Same u) blank f copied s.work fresh;
-        count = filled_more p rules c k v at rows (Same u) blank n s.count refl;
+        work = ap (λ m. m + copied_fights same' copied) (sym (add-zero f)) ∙ work_more p rules method k v at rows (Same u) blank f copied s.work fresh;
+        count = filled_more p rules method k v at rows (Same u) blank n s.count refl;
         room = let a : f ≤ MOST_FIGHTS * k = s.room in omega arith;
       })
 
@@ -251,7 +253,7 @@ module _ (p : Problem) (laws : IsProblem p) (rules : RulesView) (c k v : ℕ) (a
       copied' = slice_set rows v row
 
       row_at_v : slice_get copied' v ≡ Some row
-      row_at_v = slot_same rows v row (inside_rows p rules c k v at rows row blank)
+      row_at_v = slot_same rows v row (inside_rows p rules method k v at rows row blank)
 
       u_other : u ≢ v
       u_other e =
@@ -295,40 +297,40 @@ module _ (p : Problem) (laws : IsProblem p) (rules : RulesView) (c k v : ℕ) (a
           let here : place p.start v ≡ k = its_place in
           (inside, omega arith, by_other p.start u v (Some l) e)
 
-      shares_copied : Shares p copied' (Some v) u v w
+      shares_copied : Shares p method copied' (Some v) u v w
       shares_copied = record {
-        fought = fought_stays p rules c k v at rows row blank u w u_fought;
+        fought = fought_stays p rules method k v at rows row blank u w u_fought;
         before = u_earlier;
         lead = lead;
         is_lead = lead_here;
         row = subst (λ (b : Bool). HasRowOf copied' (Some v) u v b) (sym apart) (refl, row_at_v ∙ sym row_at_u);
       }
 
-      pub copied_visit : IsUnderWay p rules c (k + 1) copied' (lead_taken v lead) order f (n + 1) (Some v) (promoted (same_text (load_text rules.core w)) known)
-      copied_visit = subst (λ (m : ℕ). IsUnderWay p rules c m copied' (lead_taken v lead) order f (n + 1) (Some v) (promoted (same_text (load_text rules.core w)) known)) (sym (add-one k)) (record {
+      pub copied_visit : IsUnderWay p rules method (k + 1) copied' (lead_taken v lead) order f (n + 1) (Some v) (promoted (same_text (load_text rules.core w)) known)
+      copied_visit = subst (λ (m : ℕ). IsUnderWay p rules method m copied' (lead_taken v lead) order f (n + 1) (Some v) (promoted (same_text (load_text rules.core w)) known)) (sym (add-one k)) (record {
         rows_are = length-set rows v row ∙ s.rows_are;
         lead_is = taken_lead lead apart s.lead_is;
         whole = whole_taken lead apart s.whole;
-        told = told_more p rules c k v at rows row blank copied (Some v)
-            (subst (λ (o : Option ℕ). Keeps p rules c k v at rows row blank o (Some v)) (sym was_none) (keeps_new p rules c k v at rows row blank)) s.told
-            (subst (λ (o : Option WarriorView). IsExplained p c copied' (Some v) v o) (sym is)
+        told = told_more p rules method k v at rows row blank copied (Some v)
+            (subst (λ (o : Option ℕ). Keeps p rules method k v at rows row blank o (Some v)) (sym was_none) (keeps_new p rules method k v at rows row blank)) s.told
+            (subst (λ (o : Option WarriorView). IsExplained p method copied' (Some v) v o) (sym is)
             (record { recent = map (λ e. e.1) known; is_recent = recent_here; row = inr (u, one.has, shares_copied) }));
-        left = left_more p rules c k v at rows row blank s.left;
+        left = left_more p rules method k v at rows row blank s.left;
         order_is = order_later (let b : place p.start u < k = u_before in omega arith);
         recent = recent_shared;
-        all_known = known_more p rules c k v at rows row blank _ (promoted_known p rules hold rows k w is_w fits known u one);
+        all_known = known_more p rules method k v at rows row blank _ (promoted_known p rules hold method rows k w is_w fits known u one);
         copied_is = copied_taken lead apart;
-        work = work_copied p rules c k v at rows row blank f (ap (λ o. f + copied_fights rows o) (sym was_none) ∙ s.work);
-        count = filled_more p rules c k v at rows row blank n s.count (ap is_filled row_is);
+        work = work_copied p rules method k v at rows row blank f (ap (λ o. f + copied_fights rows o) (sym was_none) ∙ s.work);
+        count = filled_more p rules method k v at rows row blank n s.count (ap is_filled row_is);
         room = let a : f ≤ MOST_FIGHTS * k = s.room in omega arith;
       })
 
   -- v is fought
   module _ (w : WarriorView) (is : p.warrior v ≡ Some w) (made : List (ℕ × ℕ)) (c' : ℕ) (row : List (ℕ × ℕ))
-      (made_is : made ≡ played p w (take (enough p w order v lead) order)) (cap_is : c' ≡ cap_of p w (take (enough p w order v lead) order))
+      (made_is : made ≡ played p w (take (enough p method w order v lead) order)) (cap_is : c' ≡ cap_of p w (take (enough p method w order v lead) order))
       (few : length made ≤ MOST_FIGHTS) (same : IsPermutation made row) (sorted : IsSorted by_index row) where
     abbrev ks : List ℕ
-    ks = take (enough p w order v lead) order
+    ks = take (enough p method w order v lead) order
 
     abbrev rows' : List Row
     rows' = slice_set rows v (Cap row)
@@ -337,39 +339,39 @@ module _ (p : Problem) (laws : IsProblem p) (rules : RulesView) (c k v : ℕ) (a
     listed = sorted_is_listed p w ks row (prefix_distinct p.fights _ order permutes) (subst (λ (l : List (ℕ × ℕ)). IsPermutation l row) made_is same) sorted
 
     row_here : slice_get rows' v ≡ Some (Cap row)
-    row_here = slot_same rows v (Cap row) (inside_rows p rules c k v at rows (Cap row) blank)
+    row_here = slot_same rows v (Cap row) (inside_rows p rules method k v at rows (Cap row) blank)
 
-    fought : IsFought p rows' v w
+    fought : IsFought p method rows' v w
     fought = record {
       lead = lead;
       is_lead = lead_here;
       row = row;
       at = row_here;
-      listed = subst (λ (l : List ℕ). IsListed p w (take (enough p w l v lead) l) row) order_here listed;
+      listed = subst (λ (l : List ℕ). IsListed p w (take (enough p method w l v lead) l) row) order_here listed;
     }
 
     lengths : length made ≡ length row
     lengths = sym (length_permutation made row same)
 
     -- where all fights were fought
-    all_made : enough p w order v lead ≡ p.fights → length made ≡ p.fights
+    all_made : enough p method w order v lead ≡ p.fights → length made ≡ p.fights
     all_made e = ap length made_is ∙ length-map {B = ℕ × ℕ} ks (λ k. (k, p.points w k)) ∙ ap (λ j. length (take j order)) e
         ∙ ap length (take_all p.fights order (omega (arith, order_length p order permutes))) ∙ order_length p order permutes
 
-    score : enough p w order v lead ≡ p.fights → total_of p w ≡ c'
+    score : enough p method w order v lead ≡ p.fights → total_of p w ≡ c'
     score e = sym (cap_is ∙ ap (λ j. cap_of p w (take j order)) e ∙ cap_all p w order permutes)
 
-    all_of : beats_lead c' v lead ≡ true → enough p w order v lead ≡ p.fights
-    all_of h = all_fought p w order v lead (ap (λ n. beats_lead n v lead) (sym cap_is) ∙ h)
+    all_of : beats_lead c' v lead ≡ true → enough p method w order v lead ≡ p.fights
+    all_of h = all_fought p method w order v lead (ap (λ n. beats_lead n v lead) (sym cap_is) ∙ h)
 
     lead_then : (b : Bool) → beats_lead c' v lead ≡ b → IsLeadAfter p (suc k) (lead_by c' v lead b)
     lead_then true h = lead_new p k v at w inside is lead c' (score (all_of h)) h s.lead_is
     lead_then false h = lead_stays p k v at w inside is lead
-        (smaller (total_of p w) c' v lead (omega (arith, cap_is, total_le_cap p laws w order permutes (enough p w order v lead))) h) s.lead_is
+        (smaller (total_of p w) c' v lead (omega (arith, cap_is, total_le_cap p laws w order permutes (enough p method w order v lead))) h) s.lead_is
 
     whole_then : (b : Bool) → beats_lead c' v lead ≡ b → IsWhole p rows' (lead_by c' v lead b)
     whole_then true h = (row, row_here, sym lengths ∙ all_made (all_of h))
-    whole_then false h = whole_stays p rules c k v at rows (Cap row) blank lead s.whole
+    whole_then false h = whole_stays p rules method k v at rows (Cap row) blank lead s.whole
 
     copied_then : (b : Bool) (o : Option ℕ) → IsCopied p k lead o → IsCopied p (suc k) (lead_by c' v lead b) o
     copied_then b None h = tt
@@ -382,9 +384,9 @@ module _ (p : Problem) (laws : IsProblem p) (rules : RulesView) (c k v : ℕ) (a
     order_then zero e =
         let start : v ≡ p.start = at ∙ ap (visit p.start) e in
         let none : lead ≡ None = no_lead p lead (subst (λ (m : ℕ). IsLeadAfter p m lead) e s.lead_is) in
-        let all : enough p w order v lead ≡ p.fights = all_of (ap (λ l. beats_lead c' v l) none) in
+        let all : enough p method w order v lead ≡ p.fights = all_of (ap (λ l. beats_lead c' v l) none) in
         let numbers : order ≡ all_fights p = s.order_is ∙ ap (λ m. order_after p (m == 0) (p.warrior p.start)) e in
-        let whole : take (enough p w order v lead) order ≡ all_fights p =
+        let whole : take (enough p method w order v lead) order ≡ all_fights p =
         ap (λ j. take j order) all ∙ take_all p.fights order (omega (arith, order_length p order permutes)) ∙ numbers in
         ap by_points made_is ∙ ap (λ l. by_points (played p w l)) whole ∙ ap (order_after p false) (sym is ∙ ap p.warrior start)
     order_then (suc m) e =
@@ -393,22 +395,22 @@ module _ (p : Problem) (laws : IsProblem p) (rules : RulesView) (c k v : ℕ) (a
 
     module _ (text : List ℕ) (text_is : text ≡ load_text rules.core w) (hold : IsRules rules) (is_w : IsWarrior w) (fits : Fits rules w) (absent : lookup (same_text text) known ≡ None) where
       none_has : NoneHas p w (map (λ e. e.1) known)
-      none_has = none_found p rules hold rows k w is_w fits known s.all_known (ap (λ t. lookup (same_text t) known) (sym text_is) ∙ absent)
+      none_has = none_found p rules hold method rows k w is_w fits known s.all_known (ap (λ t. lookup (same_text t) known) (sym text_is) ∙ absent)
 
-      visited : IsVisited p c rows' copied v w
+      visited : IsVisited p method rows' copied v w
       visited = record { recent = map (λ e. e.1) known; is_recent = recent_here; row = inl (none_has, fresh, fought) }
 
-      recent_then : IsRecent p c (suc k) (map (λ e. e.1) (take c ((text, v) ∷ known)))
+      recent_then : IsRecent p (capacity_of method) (suc k) (map (λ e. e.1) (take (capacity_of method) ((text, v) ∷ known)))
       recent_then = (
         map (λ e. e.1) known,
         s.recent,
-        subst (λ (u : ℕ). IsRecalled p c u (p.warrior u) (map (λ e. e.1) known) (map (λ e. e.1) (take c ((text, v) ∷ known)))) at
-            (subst (λ (o : Option WarriorView). IsRecalled p c v o (map (λ e. e.1) known) (map (λ e. e.1) (take c ((text, v) ∷ known)))) (sym is)
-            (inr (none_has, sym (take-map (λ e. e.1) c ((text, v) ∷ known))))),
+        subst (λ (u : ℕ). IsRecalled p (capacity_of method) u (p.warrior u) (map (λ e. e.1) known) (map (λ e. e.1) (take (capacity_of method) ((text, v) ∷ known)))) at
+            (subst (λ (o : Option WarriorView). IsRecalled p (capacity_of method) v o (map (λ e. e.1) known) (map (λ e. e.1) (take (capacity_of method) ((text, v) ∷ known)))) (sym is)
+            (inr (none_has, sym (take-map (λ e. e.1) (capacity_of method) ((text, v) ∷ known))))),
       )
 
-      known_then : AllByRecursion (IsKnown p rules rows' (suc k)) (take c ((text, v) ∷ known))
-      known_then = take_rec (IsKnown p rules rows' (suc k)) c ((text, v) ∷ known) (
+      known_then : AllByRecursion (IsKnown p rules method rows' (suc k)) (take (capacity_of method) ((text, v) ∷ known))
+      known_then = take_rec (IsKnown p rules method rows' (suc k)) (capacity_of method) ((text, v) ∷ known) (
         record {
           warrior = w;
           inside = inside;
@@ -419,22 +421,22 @@ module _ (p : Problem) (laws : IsProblem p) (rules : RulesView) (c k v : ℕ) (a
           text = text_is;
           fought = fought;
         },
-        known_more p rules c k v at rows (Cap row) blank known s.all_known,
+        known_more p rules method k v at rows (Cap row) blank known s.all_known,
       )
 
-      pub fought_visit : IsUnderWay p rules c (k + 1) rows' (next_lead c' v lead) (if k == 0 then by_points made else order) (f + length made) (n + 1) copied (take c ((text, v) ∷ known))
-      fought_visit = subst (λ (m : ℕ). IsUnderWay p rules c m rows' (next_lead c' v lead) (if k == 0 then by_points made else order) (f + length made) (n + 1) copied (take c ((text, v) ∷ known))) (sym (add-one k)) (record {
+      pub fought_visit : IsUnderWay p rules method (k + 1) rows' (next_lead c' v lead) (if k == 0 then by_points made else order) (f + length made) (n + 1) copied (take (capacity_of method) ((text, v) ∷ known))
+      fought_visit = subst (λ (m : ℕ). IsUnderWay p rules method m rows' (next_lead c' v lead) (if k == 0 then by_points made else order) (f + length made) (n + 1) copied (take (capacity_of method) ((text, v) ∷ known))) (sym (add-one k)) (record {
         rows_are = length-set rows v (Cap row) ∙ s.rows_are;
         lead_is = lead_then _ refl;
         whole = whole_then _ refl;
-        told = told_more p rules c k v at rows (Cap row) blank copied copied (keeps_same p rules c k v at rows (Cap row) blank copied) s.told
-            (subst (λ (o : Option WarriorView). IsExplained p c rows' copied v o) (sym is) visited);
-        left = left_more p rules c k v at rows (Cap row) blank s.left;
+        told = told_more p rules method k v at rows (Cap row) blank copied copied (keeps_same p rules method k v at rows (Cap row) blank copied) s.told
+            (subst (λ (o : Option WarriorView). IsExplained p method rows' copied v o) (sym is) visited);
+        left = left_more p rules method k v at rows (Cap row) blank s.left;
         order_is = order_then k refl ∙ ap (λ b. order_after p b (p.warrior p.start)) (sym (not_zero k));
         recent = recent_then;
         all_known = known_then;
         copied_is = copied_then _ copied s.copied_is;
-        work = ap (λ m. (f + m) + copied_fights rows' copied) lengths ∙ work_more p rules c k v at rows (Cap row) blank f copied s.work fresh;
-        count = filled_more p rules c k v at rows (Cap row) blank n s.count refl;
+        work = ap (λ m. (f + m) + copied_fights rows' copied) lengths ∙ work_more p rules method k v at rows (Cap row) blank f copied s.work fresh;
+        count = filled_more p rules method k v at rows (Cap row) blank n s.count refl;
         room = let a : f ≤ MOST_FIGHTS * k = s.room in omega (arith, few);
       })

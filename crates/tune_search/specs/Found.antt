@@ -11,6 +11,7 @@ use Rattle.tune_problem.specs.declared.cert.Row.{Row}
 use Rattle.tune_problem.specs.declared.cert.Row.TheVariants.{Refused, Cap}
 use Rattle.tune_search.specs.Visits.{IsFought}
 use Rattle.tune_search.specs.Sharing.{IsVisited}
+use Rattle.tune_search.specs.declared.method.Method.{Method}
 
 abbrev pub is_cap : Option Row → Bool
 is_cap (Some (Cap row)) = true
@@ -41,8 +42,8 @@ copied_fights rows (Some v) = listed_at (slice_get rows v)
 abbrev pub NoneAssembles : Problem → Type 0
 NoneAssembles p = (v : ℕ) → v < p.count → p.warrior v ≡ None
 
--- What a search finds that remembers up to `capacity` settings.
-pub record IsSearch (p : Problem) (capacity : ℕ) (f : Found) : Type 0 where
+-- What a search by a method finds.
+pub record IsSearch (p : Problem) (method : Method) (f : Found) : Type 0 where
   -- the best setting is the optimum, and the rows are a valid certificate of it
   pub optimum : IsOptimum p f.best
   pub total_is : HasTotal p f.best f.total
@@ -54,10 +55,10 @@ pub record IsSearch (p : Problem) (capacity : ℕ) (f : Found) : Type 0 where
   -- a setting that does not assemble has the row `Refused`
   pub refused : (v : ℕ) → v < p.count → p.warrior v ≡ None → slice_get f.rows v ≡ Some Refused
   -- the fights of a fought setting are the first ones of its order, exactly as many as are enough
-  pub fought : (v : ℕ) (w : WarriorView) → v < p.count → p.warrior v ≡ Some w → was_fought f v ≡ true → IsFought p f.rows v w
+  pub fought : (v : ℕ) (w : WarriorView) → v < p.count → p.warrior v ≡ Some w → was_fought f v ≡ true → IsFought p method f.rows v w
   -- a setting is fought exactly if none of the settings that are recent at its visit has its
   -- warrior; otherwise it shares the fights of the one that has it
-  pub shared : (v : ℕ) (w : WarriorView) → v < p.count → p.warrior v ≡ Some w → IsVisited p capacity f.rows f.copied v w
+  pub shared : (v : ℕ) (w : WarriorView) → v < p.count → p.warrior v ≡ Some w → IsVisited p method f.rows f.copied v w
   -- only a setting that assembles has a copied row; `shared` says whose row it copies
   pub copied : (v : ℕ) → f.copied ≡ Some v → (v < p.count) × (p.warrior v ≢ None)
   -- the number of fights played is that of the fights that all rows list, without the copied row's

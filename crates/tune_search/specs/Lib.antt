@@ -1,16 +1,15 @@
 -- A search visits the start setting first, then the others in order, and keeps the lead, the best
 -- setting visited. It plays the fights of a setting in an order, as many as are enough to see that
 -- the setting does not beat the lead, or all; a setting with the warrior of a recent one shares the
--- fights of that one. The plain search plays all fights of each setting, and finds the same
--- setting.
+-- fights of that one. By the other method it plays all fights of each setting, and finds the same
+-- optimum.
 pub mod Limits
+pub mod Method
 pub mod Plays
-pub mod Progress
 pub mod Order
 pub mod Visits
 pub mod Recent
 pub mod Sharing
 pub mod Found
-pub mod PlainFound
 pub mod Cache
 pub mod State

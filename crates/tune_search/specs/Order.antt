@@ -6,6 +6,8 @@ use Rattle.mars_core.specs.Fight.{least}
 use Rattle.tune_problem.specs.Problem.{Problem}
 use Rattle.tune_problem.specs.Optimum.{all_fights, cap_of, beats}
 use Rattle.tune_search.specs.Plays.{played}
+use Rattle.tune_search.specs.declared.method.Method.{Method}
+use Rattle.tune_search.specs.declared.method.Method.TheVariants.{Dropping, PlayingAll}
 use Rattle.tune_problem.specs.declared.watcher.Best.{Best}
 
 -- The fights that gave these points, in their order.
@@ -33,7 +35,12 @@ abbrev pub beats_lead : ℕ → ℕ → Option Best → Bool
 beats_lead c v None = true
 beats_lead c v (Some lead) = beats c v lead.total lead.vector
 
--- How many fights of an order are played: the least number after which the cap does not beat the
--- lead, or all of them. It may be 0.
-unfoldable pub enough : Problem → WarriorView → List ℕ → ℕ → Option Best → ℕ
-enough p w order v lead = least (λ k. not (beats_lead (cap_of p w (take k order)) v lead)) p.fights
+-- Whether setting v is dropped at cap c: the method drops settings, and c does not beat the lead.
+abbrev pub drops : Method → ℕ → ℕ → Option Best → Bool
+drops (Dropping capacity) c v lead = not (beats_lead c v lead)
+drops PlayingAll c v lead = false
+
+-- How many fights of an order are played: the least number after which the setting is dropped, or
+-- all of them. It may be 0.
+unfoldable pub enough : Problem → Method → WarriorView → List ℕ → ℕ → Option Best → ℕ
+enough p method w order v lead = least (λ k. drops method (cap_of p w (take k order)) v lead) p.fights

@@ -6,6 +6,8 @@ use Rattle.tune_problem.specs.declared.cert.Row.{Row}
 use Rattle.tune_problem.specs.declared.cert.Row.TheVariants.{Refused, Same}
 use Rattle.tune_search.specs.Visits.{place, IsLeadAfter, IsFought}
 use Rattle.tune_search.specs.Recent.{NoneHas, Has, IsRecent}
+use Rattle.tune_search.specs.Method.{capacity_of}
+use Rattle.tune_search.specs.declared.method.Method.{Method}
 use Rattle.tune_problem.specs.declared.watcher.Best.{Best}
 
 -- Setting v is the lead.
@@ -25,8 +27,8 @@ HasRowOf rows copied u v true = (copied ≡ Some v) × (slice_get rows v ≡ sli
 HasRowOf rows copied u v false = (copied ≢ Some v) × (slice_get rows v ≡ Some (Same u))
 
 -- Setting v shares the fights of u, which was fought before.
-pub record Shares (p : Problem) (rows : List Row) (copied : Option ℕ) (u v : ℕ) (w : WarriorView) : Type 0 where
-  pub fought : IsFought p rows u w
+pub record Shares (p : Problem) (method : Method) (rows : List Row) (copied : Option ℕ) (u v : ℕ) (w : WarriorView) : Type 0 where
+  pub fought : IsFought p method rows u w
   pub before : place p.start u < place p.start v
   pub lead : Option Best
   pub is_lead : IsLeadAfter p (place p.start v) lead
@@ -34,13 +36,13 @@ pub record Shares (p : Problem) (rows : List Row) (copied : Option ℕ) (u v : �
 
 -- Setting v is fought exactly if none of the settings that are recent at its visit has its warrior.
 -- Otherwise it shares the fights of the one that has it.
-pub record IsVisited (p : Problem) (capacity : ℕ) (rows : List Row) (copied : Option ℕ) (v : ℕ) (w : WarriorView) : Type 0 where
+pub record IsVisited (p : Problem) (method : Method) (rows : List Row) (copied : Option ℕ) (v : ℕ) (w : WarriorView) : Type 0 where
   pub recent : List ℕ
-  pub is_recent : IsRecent p capacity (place p.start v) recent
-  pub row : (NoneHas p w recent × (copied ≢ Some v) × IsFought p rows v w)
-      ⊎ ((u : ℕ) × Has p w u recent × Shares p rows copied u v w)
+  pub is_recent : IsRecent p (capacity_of method) (place p.start v) recent
+  pub row : (NoneHas p w recent × (copied ≢ Some v) × IsFought p method rows v w)
+      ⊎ ((u : ℕ) × Has p w u recent × Shares p method rows copied u v w)
 
 -- The row of setting v: refused if it does not assemble, else what its visit made.
-abbrev pub IsExplained : Problem → ℕ → List Row → Option ℕ → ℕ → Option WarriorView → Type 0
-IsExplained p capacity rows copied v None = (copied ≢ Some v) × (slice_get rows v ≡ Some Refused)
-IsExplained p capacity rows copied v (Some w) = IsVisited p capacity rows copied v w
+abbrev pub IsExplained : Problem → Method → List Row → Option ℕ → ℕ → Option WarriorView → Type 0
+IsExplained p method rows copied v None = (copied ≢ Some v) × (slice_get rows v ≡ Some Refused)
+IsExplained p method rows copied v (Some w) = IsVisited p method rows copied v w

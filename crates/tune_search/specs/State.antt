@@ -10,7 +10,8 @@ use Rattle.mars_core.specs.Arena.{IsBlank}
 use Rattle.mars_fight.specs.Limits.{MOST_FIGHTS}
 use Rattle.tune_template.specs.Instances.{InputsView}
 use Rattle.tune_problem.specs.Problem.{Problem, problem_of}
-use Rattle.tune_problem.specs.Valid.{listed_fights}
+use Rattle.tune_problem.specs.Valid.{IsOwnVersion, listed_fights}
+use Rattle.tune_problem.specs.declared.cert.Found.{Found}
 use Rattle.tune_problem.specs.declared.cert.Row.{Row}
 use Rattle.tune_problem.specs.declared.cert.Row.TheVariants.{Refused, Same, Cap}
 use Rattle.tune_search.specs.Order.{beats_lead, order_after}
@@ -18,8 +19,10 @@ use Rattle.tune_search.specs.Visits.{place, IsLeadAfter, IsFought}
 use Rattle.tune_search.specs.Recent.{IsRecent}
 use Rattle.tune_search.specs.Sharing.{leads, IsExplained}
 use Rattle.tune_search.specs.Found.{copied_fights}
+use Rattle.tune_search.specs.Method.{capacity_of}
 use Rattle.tune_problem.specs.declared.watcher.Best.{Best}
 use Rattle.tune_search.specs.declared.candidate.Candidate.{Candidate}
+use Rattle.tune_search.specs.declared.method.Method.{Method}
 use Rattle.tune_search.specs.declared.state.State.{State}
 
 -- A candidate: setting v with its warrior, and the load file of that.
@@ -59,7 +62,7 @@ IsCopied p k lead None = Unit {0}
 IsCopied p k lead (Some v) = (v < p.count) × (place p.start v < k) × (leads p.start lead ≡ false)
 
 -- A setting in the cache after k visits: it was fought, and is there under its load file.
-pub record IsKnown (p : Problem) (rules : RulesView) (rows : List Row) (k : ℕ) (e : List ℕ × ℕ) : Type 0 where
+pub record IsKnown (p : Problem) (rules : RulesView) (method : Method) (rows : List Row) (k : ℕ) (e : List ℕ × ℕ) : Type 0 where
   pub warrior : WarriorView
   pub inside : e.1 < p.count
   pub before : place p.start e.1 < k
@@ -67,7 +70,7 @@ pub record IsKnown (p : Problem) (rules : RulesView) (rows : List Row) (k : ℕ)
   pub is_warrior : IsWarrior warrior
   pub fits : Fits rules warrior
   pub text : e.0 ≡ load_text rules.core warrior
-  pub fought : IsFought p rows e.1 warrior
+  pub fought : IsFought p method rows e.1 warrior
 
 abbrev pub is_filled : Row → Bool
 is_filled Refused = false
@@ -76,23 +79,29 @@ is_filled (Cap row) = true
 
 -- After k visits: the rows of the settings visited are explained, and the others are `Refused`. The
 -- order is that of the next visit.
-pub record IsUnderWay (p : Problem) (rules : RulesView) (capacity k : ℕ) (rows : List Row) (lead : Option Best) (order : List ℕ) (fights candidates : ℕ) (copied : Option ℕ) (known : List (List ℕ × ℕ)) : Type 0 where
+pub record IsUnderWay (p : Problem) (rules : RulesView) (method : Method) (k : ℕ) (rows : List Row) (lead : Option Best) (order : List ℕ) (fights candidates : ℕ) (copied : Option ℕ) (known : List (List ℕ × ℕ)) : Type 0 where
   pub rows_are : length rows ≡ p.count
   pub lead_is : IsLeadAfter p k lead
   pub whole : IsWhole p rows lead
-  pub told : (v : ℕ) → v < p.count → place p.start v < k → IsExplained p capacity rows copied v (p.warrior v)
+  pub told : (v : ℕ) → v < p.count → place p.start v < k → IsExplained p method rows copied v (p.warrior v)
   pub left : (v : ℕ) → v < p.count → k ≤ place p.start v → slice_get rows v ≡ Some Refused
   pub order_is : order ≡ order_after p (k == 0) (p.warrior p.start)
-  pub recent : IsRecent p capacity k (map (λ e. e.1) known)
-  pub all_known : AllByRecursion (IsKnown p rules rows k) known
+  pub recent : IsRecent p (capacity_of method) k (map (λ e. e.1) known)
+  pub all_known : AllByRecursion (IsKnown p rules method rows k) known
   pub copied_is : IsCopied p k lead copied
   pub work : fights + copied_fights rows copied ≡ listed_fights rows
   pub count : candidates ≡ count_by is_filled rows
   pub room : fights ≤ MOST_FIGHTS * k
 
-pub record IsState (i : InputsView) (capacity k : ℕ) (s : State) : Type 0 where
+pub record IsState (i : InputsView) (method : Method) (k : ℕ) (s : State) : Type 0 where
   pub start_is : s.start ≡ (problem_of i).start
   pub start_inside : (problem_of i).start < (problem_of i).count
-  pub capacity_is : s.cache.capacity ≡ capacity
+  pub method_is : s.method ≡ method
+  pub capacity_is : s.cache.capacity ≡ capacity_of method
+  pub version_is : IsOwnVersion (problem_of i) s.found.version
   pub blank : IsBlank i.rules s.arena
-  pub going : IsUnderWay (problem_of i) i.rules capacity k s.rows.items s.lead s.order.items s.arena.fights s.candidates s.copied s.cache.known
+  pub going : IsUnderWay (problem_of i) i.rules method k s.found.rows s.lead s.order.items s.arena.fights s.found.candidates s.found.copied s.cache.known
+
+-- What is found once the lead is the best setting.
+abbrev pub found_with : State → Best → Found
+found_with s best = record s.found { best = best.vector; total = best.total; fights = s.arena.fights }

@@ -8,6 +8,7 @@ use Rattle.tune_problem.specs.declared.cert.Row.{Row}
 use Rattle.tune_problem.specs.declared.cert.Row.TheVariants.{Cap}
 use Rattle.tune_search.specs.Plays.{played}
 use Rattle.tune_search.specs.Order.{fight_order, enough}
+use Rattle.tune_search.specs.declared.method.Method.{Method}
 use Rattle.tune_problem.specs.declared.watcher.Best.{Best}
 
 -- The setting that is visited after k others: the start setting first, then the others in order.
@@ -39,9 +40,9 @@ pub record IsListed (p : Problem) (w : WarriorView) (fights : List ℕ) (row : L
 
 -- The fights of setting v are the first ones of its order, exactly as many as are enough against
 -- the lead before it.
-pub record IsFought (p : Problem) (rows : List Row) (v : ℕ) (w : WarriorView) : Type 0 where
+pub record IsFought (p : Problem) (method : Method) (rows : List Row) (v : ℕ) (w : WarriorView) : Type 0 where
   pub lead : Option Best
   pub is_lead : IsLeadAfter p (place p.start v) lead
   pub row : List (ℕ × ℕ)
   pub at : slice_get rows v ≡ Some (Cap row)
-  pub listed : IsListed p w (take (enough p w (fight_order p v) v lead) (fight_order p v)) row
+  pub listed : IsListed p w (take (enough p method w (fight_order p v) v lead) (fight_order p v)) row

@@ -9,32 +9,33 @@ use std::alloc::{AllocError, AllocFailed, Global};
 use std::marker::Model;
 use std::num::NonZeroUsize;
 
-// A bounded map from load files to the fought settings whose warriors they are.
+// A bounded map from load files to the fought settings whose warriors they are. With capacity 0,
+// which `settings` cannot have, it stays empty.
 #[derive(Drop)]
 pub(crate) struct Cache {
     settings: LruCache<Vec<u8>, u32>,
+    capacity: u32,
 }
 
 impl Model for Cache {
-    ghost use Rattle.std.specs.Prelude.{map, ◌<◌};
+    ghost use Rattle.std.specs.Prelude.{map, ◌<◌, ◌≡◌, ◌⊎◌, []};
     ghost use Rattle.tune_search.specs.Cache.{CacheView, cache_view};
 
     ghost Value = { CacheView };
 
-    ghost view = { λ c. cache_view (map (λ e. (e.0.items, e.1)) c.settings.entries) c.settings.cap };
+    ghost view = { λ c. cache_view (map (λ e. (e.0.items, e.1)) c.settings.entries) c.capacity };
 
-    ghost invariant = { λ c. 0 < c.settings.cap };
+    ghost invariant = { λ c. (0 < c.settings.cap) × (((c.capacity ≡ 0) × (c.settings.entries ≡ [])) ⊎ (c.capacity ≡ c.settings.cap)) };
 }
 
 impl Cache {
     // Makes an empty cache for at most `capacity` settings. Reserves no room for them.
     pub(crate) fn with_capacity(alloc: Global, capacity: u32) -> Result<Cache, AllocError>
-        requires { 1 ≤ capacity }
         ensures { IfOk result (λ c. c ≡ cache_view [] capacity) }
     {
         let most = NonZeroUsize::new(capacity as usize).unwrap_or(NonZeroUsize::MIN);
         let settings = LruCache::sparse(alloc, most)?;
-        Ok(Cache { settings })
+        Ok(Cache { settings, capacity })
     }
 
     // Returns the setting under a load file, and makes it the last used.
@@ -61,6 +62,9 @@ impl Cache {
         requires { lookup (same_text text.items) self.old.known ≡ None }
         ensures { OnOk result (self.new ≡ cache_view (take self.old.capacity ((text.items, setting) ∷ self.old.known)) self.old.capacity) }
     {
+        if self.capacity == 0 {
+            return Ok(());
+        }
         self.settings.put(text, setting)?;
         Ok(())
     }

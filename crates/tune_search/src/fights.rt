@@ -4,13 +4,13 @@ ghost use Rattle.rc_instr.specs.Warrior.{Fits};
 ghost use Rattle.mars_core.specs.Arena.{IsBlank};
 ghost use Rattle.mars_fight.specs.Limits.{MOST_FIGHTS};
 ghost use Rattle.tune_problem.specs.Problem.{problem_of};
-ghost use Rattle.tune_problem.specs.Optimum.{all_fights, total_of, cap_of};
+ghost use Rattle.tune_problem.specs.Optimum.{all_fights, cap_of};
 ghost use Rattle.std.specs.List.Sorted.{IsPermutation};
 ghost use Rattle.tune_search.specs.Order.{enough};
 ghost use Rattle.tune_search.specs.Plays.{played};
 
 use crate::candidate::Candidate;
-use crate::lead::beats;
+use crate::method::{Method, drops};
 use mars_core::{Arena, PackedCells};
 use mars_fight::MOST_POINTS;
 use rc_instr::Warrior;
@@ -26,49 +26,17 @@ pub(crate) struct Bout {
     pub(crate) cap: u32,
 }
 
-// What a candidate has to do: to play the fights of `order` with a cap that beats `lead`.
+// What a candidate has to do: to play the fights of `order`, until `method` drops it against `lead`.
 #[derive(Clone, Copy)]
 pub(crate) struct Challenge<'a> {
+    pub(crate) method: Method,
     pub(crate) entrant: &'a Candidate,
     pub(crate) order: &'a [u32],
     pub(crate) lead: Option<Best>,
 }
 
-// Plays all fights of the schedule, in order. The arena's count of fights grows by the length of
-// the listing.
-#[tactic(auto, unfolding(tune_problem::specs::Optimum::total_of))]
-pub(crate) fn play_all<T: Watcher>(
-    alloc: Global,
-    arena: &mut Arena<PackedCells>,
-    inputs: &Inputs,
-    warrior: &Warrior,
-    watcher: &mut T,
-) -> Result<Bout, AllocError>
-    requires blank { IsBlank inputs.now.rules arena.old }
-    requires fits { Fits inputs.now.rules warrior.now }
-    ensures listing { let p = problem_of inputs.now in IfOk result (λ b. b.listing.items ≡ played p warrior.now (all_fights p)) }
-    ensures few { IfOk result (λ b. length b.listing.items ≤ MOST_FIGHTS) }
-    ensures total { IfOk result (λ b. b.cap ≡ total_of (problem_of inputs.now) warrior.now) }
-    ensures blank { IsBlank inputs.now.rules arena.new }
-    ensures fights { IfOk result (λ b. arena.old.fights + length b.listing.items < 2 ^ 64 → arena.new.fights ≡ arena.old.fights + length b.listing.items) }
-{
-    let count = inputs.schedule().fights().len();
-    let mut listing = Vec::with_capacity(alloc, count)?;
-    let mut total: u32 = 0;
-    for index in 0..count as u32 {
-        let points = fight_points(arena, inputs, warrior, index);
-        watcher.hear(arena.fights());
-        listing.push((index, points))?;
-        total += u32::from(points) * fight_weight(inputs, index);
-    }
-    Ok(Bout {
-        listing,
-        cap: total,
-    })
-}
-
-// Plays the fights of a challenge until the cap does not beat the lead, or none is left. The
-// arena's count of fights grows by the length of the listing.
+// Plays the fights of a challenge until the method drops the setting, or none is left. The arena's
+// count of fights grows by the length of the listing.
 #[tactic(auto, using(crate::proofs::Enough::enough_is, crate::proofs::Caps::cap_more, crate::proofs::Caps::played_more, crate::proofs::Caps::cap_none))]
 pub(crate) fn play_enough<T: Watcher>(
     alloc: Global,
@@ -82,8 +50,8 @@ pub(crate) fn play_enough<T: Watcher>(
     requires all { length challenge.now.order.now ≡ (problem_of inputs.now).fights }
     requires once { IsPermutation (all_fights (problem_of inputs.now)) challenge.now.order.now }
     requires below { All (λ k. k < (problem_of inputs.now).fights) challenge.now.order.now }
-    ensures listing { let p = problem_of inputs.now in IfOk result (λ b. b.listing.items ≡ played p challenge.now.entrant.now.warrior (take (enough p challenge.now.entrant.now.warrior challenge.now.order.now challenge.now.entrant.now.vector challenge.now.lead) challenge.now.order.now)) }
-    ensures cap { let p = problem_of inputs.now in IfOk result (λ b. b.cap ≡ cap_of p challenge.now.entrant.now.warrior (take (enough p challenge.now.entrant.now.warrior challenge.now.order.now challenge.now.entrant.now.vector challenge.now.lead) challenge.now.order.now)) }
+    ensures listing { let p = problem_of inputs.now in IfOk result (λ b. b.listing.items ≡ played p challenge.now.entrant.now.warrior (take (enough p challenge.now.method challenge.now.entrant.now.warrior challenge.now.order.now challenge.now.entrant.now.vector challenge.now.lead) challenge.now.order.now)) }
+    ensures cap { let p = problem_of inputs.now in IfOk result (λ b. b.cap ≡ cap_of p challenge.now.entrant.now.warrior (take (enough p challenge.now.method challenge.now.entrant.now.warrior challenge.now.order.now challenge.now.entrant.now.vector challenge.now.lead) challenge.now.order.now)) }
     ensures few { IfOk result (λ b. length b.listing.items ≤ MOST_FIGHTS) }
     ensures blank { IsBlank inputs.now.rules arena.new }
     ensures fights { IfOk result (λ b. arena.old.fights + length b.listing.items < 2 ^ 64 → arena.new.fights ≡ arena.old.fights + length b.listing.items) }
@@ -91,7 +59,12 @@ pub(crate) fn play_enough<T: Watcher>(
     let mut listing = Vec::new(alloc);
     let mut cap = greatest_total(inputs);
     for index in challenge.order {
-        if !beats(cap, challenge.entrant.vector, challenge.lead) {
+        if drops(
+            challenge.method,
+            cap,
+            challenge.entrant.vector,
+            challenge.lead,
+        ) {
             return Ok(Bout { listing, cap });
         }
         let points = fight_points(arena, inputs, &challenge.entrant.warrior, *index);

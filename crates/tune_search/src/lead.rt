@@ -5,16 +5,15 @@ ghost use Rattle.tune_search.specs.Sharing.{copies};
 ghost use Rattle.tune_search.specs.State.{next_lead, lead_taken};
 
 use mars_core::{Arena, PackedCells};
-use tune_problem::{Best, Standing};
+use tune_problem::{Best, Standing, beats};
 
-// Checks whether cap `cap` of setting `vector` beats the lead: it is greater than the lead's total,
-// or equal to it and the setting has the smaller index. Every cap does if there is no lead.
-pub(crate) fn beats(cap: u32, vector: u32, lead: Option<Best>) -> bool
+// Checks whether cap `cap` of setting `vector` beats the lead. Every cap does if there is none.
+pub(crate) fn beats_lead(cap: u32, vector: u32, lead: Option<Best>) -> bool
     ensures { result ≡ beats_lead cap vector lead }
 {
     match lead {
         None => true,
-        Some(lead) => cap > lead.total || (cap == lead.total && vector < lead.vector),
+        Some(lead) => beats(cap, vector, lead),
     }
 }
 
@@ -23,7 +22,7 @@ pub(crate) fn beats(cap: u32, vector: u32, lead: Option<Best>) -> bool
 pub(crate) fn next_lead(cap: u32, vector: u32, lead: Option<Best>) -> Option<Best>
     ensures { result ≡ next_lead cap vector lead }
 {
-    if beats(cap, vector, lead) {
+    if beats_lead(cap, vector, lead) {
         Some(Best { vector, total: cap })
     } else {
         lead

@@ -1,61 +1,71 @@
 //! A search under way: what it has found, and what it needs for the next visit.
-ghost use Rattle.std.specs.Prelude.{◌≡◌, ◌+◌, ◌<◌, ◌≤◌, None, replicate, OnOk, IfOk, IfErr};
+ghost use Rattle.std.specs.Prelude.{◌≡◌, ◌+◌, ◌<◌, ◌≤◌, Some, None, replicate, OnOk, IfOk, IfErr};
 ghost use Rattle.std.specs.Map.{lookup};
 ghost use Rattle.tune_template.specs.Limits.{MOST_SETTINGS};
 ghost use Rattle.tune_problem.specs.Problem.{problem_of};
 ghost use Rattle.tune_search.specs.Cache.{same_text};
 ghost use Rattle.tune_search.specs.Visits.{visit};
-ghost use Rattle.tune_search.specs.State.{IsCandidateAt, IsState};
+ghost use Rattle.tune_search.specs.State.{IsCandidateAt, IsState, found_with};
 
 use crate::cache::Cache;
 use crate::candidate::{Candidate, candidate_at};
-use crate::counts::{part_size, start_setting};
 use crate::fault::SearchFault;
 use crate::fights::{Challenge, play_enough};
 use crate::lead::{copies, lead_with, next_lead};
+use crate::method::{Method, capacity_of};
 use crate::order::{all_in_order, learn_order, sort_by_index, visited};
 use mars_core::{Arena, PackedCells};
 use std::alloc::{AllocError, Global};
-use tune_problem::{Best, Listing, Row, Watcher, fight_count};
+use tune_problem::{
+    Best, Found, Listing, Row, Rows, Watcher, cert_version, fight_count, part_size, start_setting,
+};
 use tune_template::Inputs;
 
 #[derive(Drop)]
 pub(crate) struct State {
+    pub(crate) method: Method,
     // Blank between visits. It counts the fights played.
     pub(crate) arena: Arena<PackedCells>,
     pub(crate) start: u32,
-    // A row for each setting, `Refused` until it is visited.
-    pub(crate) rows: Vec<Row>,
+    // What is found so far. A row is `Refused` until its setting is visited. The best setting, its
+    // total and the count of fights are set at the end.
+    pub(crate) found: Found,
     pub(crate) lead: Option<Best>,
     // The order in which the next setting plays its fights.
     pub(crate) order: Vec<u32>,
-    // The number of candidates so far.
-    pub(crate) candidates: u32,
-    // The setting that has a copy of the start setting's row.
-    pub(crate) copied: Option<u32>,
     // The recent settings.
     pub(crate) cache: Cache,
 }
 
 impl State {
-    // Starts before the first visit, with room for `capacity` settings in the cache.
-    pub(crate) fn begin(alloc: Global, inputs: &Inputs, capacity: u32) -> Result<State, SearchFault>
-        requires capacity { 1 ≤ capacity }
-        ensures state { IfOk result (IsState inputs.now capacity 0) }
+    // Starts before the first visit.
+    pub(crate) fn begin(
+        alloc: Global,
+        inputs: &Inputs,
+        method: Method,
+    ) -> Result<State, SearchFault>
+        ensures state { IfOk result (IsState inputs.now method 0) }
         ensures err { IfErr result (λ e. e ≡ SearchFault.OutOfMemory) }
     {
         let arena = Arena::<PackedCells>::try_new(alloc, inputs.rules())?;
         let rows = blank_rows(alloc, part_size(inputs))?;
         let order = all_in_order(alloc, fight_count(inputs))?;
-        let cache = Cache::with_capacity(alloc, capacity)?;
+        let cache = Cache::with_capacity(alloc, capacity_of(method))?;
         Ok(State {
+            method,
             arena,
             start: start_setting(inputs),
-            rows,
+            found: Found {
+                version: cert_version(inputs),
+                best: 0,
+                total: 0,
+                rows: Rows::from_vec(rows),
+                fights: 0,
+                candidates: 0,
+                copied: None,
+            },
             lead: None,
             order,
-            candidates: 0,
-            copied: None,
             cache,
         })
     }
@@ -72,8 +82,8 @@ impl State {
     ) -> Result<(), SearchFault>
         requires visits { visits < (problem_of inputs.now).count }
         requires few { (problem_of inputs.now).count ≤ MOST_SETTINGS }
-        requires state { IsState inputs.now self.old.cache.capacity visits self.old }
-        ensures state { OnOk result (IsState inputs.now self.old.cache.capacity (visits + 1) self.new) }
+        requires state { IsState inputs.now self.old.method visits self.old }
+        ensures state { OnOk result (IsState inputs.now self.old.method (visits + 1) self.new) }
         ensures err { IfErr result (λ e. e ≡ SearchFault.OutOfMemory) }
     {
         let vector = visited(self.start, visits);
@@ -83,15 +93,15 @@ impl State {
         let Some(other) = self.cache.recall(&entrant.text) else {
             return self.fight(alloc, inputs, visits, entrant, watcher);
         };
-        self.candidates += 1;
+        self.found.candidates += 1;
         if copies(self.start, other, vector, self.lead) {
-            let row = self.rows[other as usize].copy(alloc)?;
-            self.rows[vector as usize] = row;
+            let row = self.found.rows.as_slice()[other as usize].copy(alloc)?;
+            self.found.rows.set(vector as usize, row);
             self.lead = lead_with(vector, self.lead);
-            self.copied = Some(vector);
+            self.found.copied = Some(vector);
             return Ok(());
         }
-        self.rows[vector as usize] = Row::Same(other);
+        self.found.rows.set(vector as usize, Row::Same(other));
         Ok(())
     }
 
@@ -106,13 +116,14 @@ impl State {
     ) -> Result<(), SearchFault>
         requires visits { visits < (problem_of inputs.now).count }
         requires few { (problem_of inputs.now).count ≤ MOST_SETTINGS }
-        requires state { IsState inputs.now self.old.cache.capacity visits self.old }
+        requires state { IsState inputs.now self.old.method visits self.old }
         requires candidate { IsCandidateAt inputs.now (visit (problem_of inputs.now).start visits) entrant }
         requires unknown { lookup (same_text entrant.text.items) self.old.cache.known ≡ None }
-        ensures state { OnOk result (IsState inputs.now self.old.cache.capacity (visits + 1) self.new) }
+        ensures state { OnOk result (IsState inputs.now self.old.method (visits + 1) self.new) }
         ensures err { IfErr result (λ e. e ≡ SearchFault.OutOfMemory) }
     {
         let challenge = Challenge {
+            method: self.method,
             entrant: &entrant,
             order: &self.order,
             lead: self.lead,
@@ -120,11 +131,34 @@ impl State {
         let bout = play_enough(alloc, &mut self.arena, inputs, &challenge, watcher)?;
         let Candidate { vector, text, .. } = entrant;
         learn_order(alloc, &mut self.order, visits == 0, &bout.listing)?;
-        self.candidates += 1;
+        self.found.candidates += 1;
         self.lead = next_lead(bout.cap, vector, self.lead);
-        self.rows[vector as usize] = Row::Cap(Listing::from_vec(sort_by_index(bout.listing)));
+        let row = Row::Cap(Listing::from_vec(sort_by_index(bout.listing)));
+        self.found.rows.set(vector as usize, row);
         self.cache.remember(text, vector)?;
         Ok(())
+    }
+
+    // Returns what was found, with the lead as the best setting, or `NoCandidate` if there is none.
+    pub(crate) fn finish(self) -> Result<Found, SearchFault>
+        ensures found { IfOk result (λ f. (best : Best) × (self.lead ≡ Some best) × (f ≡ found_with self best)) }
+        ensures none { IfErr result (λ e. (e ≡ SearchFault.NoCandidate) × (self.lead ≡ None)) }
+    {
+        let State {
+            arena,
+            found,
+            lead,
+            ..
+        } = self;
+        match lead {
+            None => Err(SearchFault::NoCandidate),
+            Some(lead) => Ok(Found {
+                best: lead.vector,
+                total: lead.total,
+                fights: arena.fights(),
+                ..found
+            }),
+        }
     }
 }
 

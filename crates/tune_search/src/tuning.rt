@@ -2,15 +2,15 @@
 ghost use Rattle.std.specs.Prelude.{◌≡◌, ◌≤◌, IfOk, IfErr};
 ghost use Rattle.tune_problem.specs.Problem.{problem_of};
 ghost use Rattle.tune_search.specs.Limits.{MOST_CAPACITY};
+ghost use Rattle.tune_search.specs.Method.{HasCapacity};
 ghost use Rattle.tune_search.specs.Found.{IsSearch, NoneAssembles};
 
-use crate::answer::{Visited, answer_of};
-use crate::counts::part_size;
 use crate::fault::SearchFault;
 use crate::lead::standing;
+use crate::method::Method;
 use crate::state::State;
 use std::alloc::Global;
-use tune_problem::{Found, Silent, Watcher};
+use tune_problem::{Found, Silent, Watcher, part_size};
 use tune_template::Inputs;
 
 /// Finds the optimum: the first setting of the template with the greatest total in the fights of
@@ -39,48 +39,38 @@ pub fn search(alloc: Global, inputs: &Inputs, capacity: u32) -> Result<Found, Se
     // The best setting is the optimum, the rows are a valid certificate of it, the row of each
     // fought setting lists exactly the fights that the rule above asks for, and `fights` counts
     // these.
-    ensures found { IfOk result (IsSearch (problem_of inputs.now) capacity) }
+    ensures found { IfOk result (IsSearch (problem_of inputs.now) (Method.Dropping capacity)) }
     ensures none { IfErr result (λ e. e ≡ SearchFault.NoCandidate → NoneAssembles (problem_of inputs.now)) }
 {
-    watched_search(alloc, inputs, capacity, &mut Silent)
+    search_by(alloc, inputs, Method::Dropping { capacity }, &mut Silent)
 }
 
-/// Finds the optimum as `search` does, and tells `watcher` after each fight and each setting how
-/// far the search is.
+/// Finds the optimum by `method`, whose capacity is 1 to 65536 if it has one, and tells `watcher`
+/// after each fight and each setting how far the search is.
+///
+/// `Method::Dropping` is what `search` does. `Method::PlayingAll` visits the settings and plays their
+/// fights in the same orders, but drops and remembers none: the row of each setting that assembles
+/// is `Cap` with all fights. Both find the same setting, with the same total.
 ///
 /// # Errors
 ///
 /// Those of `search`.
-pub fn watched_search<T: Watcher>(
+pub fn search_by<T: Watcher>(
     alloc: Global,
     inputs: &Inputs,
-    capacity: u32,
+    method: Method,
     watcher: &mut T,
 ) -> Result<Found, SearchFault>
-    requires capacity { (1 ≤ capacity) × (capacity ≤ MOST_CAPACITY) }
+    requires capacity { HasCapacity method }
 
-    // What `search` promises.
-    ensures found { IfOk result (IsSearch (problem_of inputs.now) capacity) }
+    // What `search` promises, with the fights that the method asks for.
+    ensures found { IfOk result (IsSearch (problem_of inputs.now) method) }
     ensures none { IfErr result (λ e. e ≡ SearchFault.NoCandidate → NoneAssembles (problem_of inputs.now)) }
 {
-    let mut state = State::begin(alloc, inputs, capacity)?;
+    let mut state = State::begin(alloc, inputs, method)?;
     for visits in 0..part_size(inputs) {
         state.visit(alloc, inputs, visits, watcher)?;
         watcher.see(standing(visits + 1, part_size(inputs), &state.arena, state.lead));
     }
-    let fights = state.arena.fights();
-    let State {
-        rows,
-        lead,
-        candidates,
-        copied,
-        ..
-    } = state;
-    let visited = Visited {
-        rows,
-        fights,
-        candidates,
-        copied,
-    };
-    answer_of(inputs, lead, visited)
+    state.finish()
 }

@@ -5,7 +5,8 @@ use mars_fight::Schedule;
 use rc_instr::Rules;
 use std::alloc::Global;
 use std::test::Fail;
-use tune_search::{SearchFault, plain_search, search};
+use tune_problem::Silent;
+use tune_search::{Method, SearchFault, search, search_by};
 use tune_template::{Inputs, Template};
 
 // Three settings: the first does not assemble, the others are imps. The search starts with the
@@ -22,9 +23,9 @@ pub(crate) fn inputs_of(alloc: Global, text: &[u8]) -> Result<Inputs, Fail> {
 }
 
 #[test]
-fn the_plain_search_plays_everything(rt: HostRuntime) -> Result<(), Fail> {
+fn a_search_may_play_everything(rt: HostRuntime) -> Result<(), Fail> {
     let inputs = inputs_of(rt.alloc(), THREE)?;
-    let found = plain_search(rt.alloc(), &inputs)?;
+    let found = search_by(rt.alloc(), &inputs, Method::PlayingAll, &mut Silent)?;
     assert_eq!(rt; (found.candidates, found.fights), (2, 4));
     let rows = b"cwcert,1,3\nbest,1,4\nrefused,0,-\ncap,1,0:3 1:1\ncap,2,0:3 1:1\n".as_slice();
     assert_eq!(rt; cert_of(rt.alloc(), &found)?.as_slice(), rows);

@@ -4,7 +4,8 @@ use crate::searches::{THREE, inputs_of};
 use std::process::Abort;
 use std::test::Fail;
 use tune_cert::{Best, Standing, Verdict, Watcher, watched_check};
-use tune_search::{watched_plain_search, watched_search};
+use tune_search::{Method, search_by};
+use tune_template::Inputs;
 
 // A watcher that keeps the first four standings, and counts all. `heard` stays true if `hear`
 // gets 1, 2, .. and each standing has the last of these.
@@ -41,6 +42,8 @@ impl Notes {
 }
 
 impl Watcher for Notes {
+    fn begin(&mut self, _inputs: &Inputs) {}
+
     fn see(&mut self, standing: Standing) {
         if let Some(place) = self.standings.get_mut(self.count) {
             *place = Some(standing);
@@ -98,7 +101,12 @@ const IMP: Option<Best> = Some(Best {
 fn a_search_tells_how_far_it_is(rt: HostRuntime) -> Result<(), Fail> {
     let inputs = inputs_of(rt.alloc(), THREE)?;
     let mut notes = Notes::new();
-    watched_search(rt.alloc(), &inputs, 1, &mut notes)?;
+    search_by(
+        rt.alloc(),
+        &inputs,
+        Method::Dropping { capacity: 1 },
+        &mut notes,
+    )?;
     let want = [
         after(1, 3, 2, IMP),
         after(2, 3, 2, IMP),
@@ -108,14 +116,14 @@ fn a_search_tells_how_far_it_is(rt: HostRuntime) -> Result<(), Fail> {
     notes.expect(&rt, want, 3)
 }
 
-// Settings are visited by index.
+// Setting 1 is visited first here too.
 #[test]
-fn a_plain_search_tells_how_far_it_is(rt: HostRuntime) -> Result<(), Fail> {
+fn a_search_that_plays_all_tells_how_far_it_is(rt: HostRuntime) -> Result<(), Fail> {
     let inputs = inputs_of(rt.alloc(), THREE)?;
     let mut notes = Notes::new();
-    watched_plain_search(rt.alloc(), &inputs, &mut notes)?;
+    search_by(rt.alloc(), &inputs, Method::PlayingAll, &mut notes)?;
     let want = [
-        after(1, 3, 0, None),
+        after(1, 3, 2, IMP),
         after(2, 3, 2, IMP),
         after(3, 3, 4, IMP),
         None,

@@ -37,7 +37,7 @@ pub(crate) fn check<F: Files, T: Witness, W: Write, V: Write>(
         opponents,
     };
     let texts = files.texts(&rules, words.part);
-    host.witness.begin(host.alloc, words, &texts);
+    host.witness.name(host.alloc, words, &texts);
     match check_part_run(host.alloc, &texts, host.witness, cert.as_slice(), out) {
         Ok(true) => Ok(()),
         Ok(false) => {

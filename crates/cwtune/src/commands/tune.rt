@@ -1,7 +1,7 @@
 //! The command `tune`: from texts to the certificate of the best setting, and a report.
 ghost use Rattle.std.specs.Prelude.{◌≡◌, false, IsErr, IsTrue, OnOk};
 ghost use Rattle.tune_runs.specs.RawRules.{rules_given};
-ghost use Rattle.tune_runs.specs.Searching.{HasCapacity};
+ghost use Rattle.tune_search.specs.Method.{HasCapacity};
 ghost use Rattle.cwtune.specs.CertFile.{names_twice};
 ghost use Rattle.cwtune.specs.Commands.{WritesReport, IsEnded};
 
@@ -13,7 +13,7 @@ use crate::witness::Witness;
 use rc_instr::Outlet;
 use std::io::Write;
 use std::rt::Files;
-use tune_runs::{Search, tune_by_run};
+use tune_runs::{Method, tune_by_run};
 
 // Runs the command on files. Checks the rules, reads the files, and opens CERT before their texts
 // are judged; if CERT is another word's file, nothing is written. The file gets its new text, whole
@@ -21,7 +21,7 @@ use tune_runs::{Search, tune_by_run};
 pub(crate) fn tune<F: Files, T: Witness, W: Write, V: Write>(
     host: &mut Host<'_, F, T, V>,
     words: &TuneWords<'_>,
-    method: Search,
+    method: Method,
     out: &mut Outlet<W>,
 ) -> Result<(), Ending>
     requires capacity { HasCapacity method }
@@ -37,7 +37,7 @@ pub(crate) fn tune<F: Files, T: Witness, W: Write, V: Write>(
         Err(unopened) => return Err(host.end_unopened(words.cert, &unopened)),
     };
     let texts = files.texts(&rules, words.part);
-    host.witness.begin(host.alloc, words, &texts);
+    host.witness.name(host.alloc, words, &texts);
     match tune_by_run(host.alloc, &texts, method, host.witness, out, &mut cert) {
         Ok(()) => {
             drop(cert);

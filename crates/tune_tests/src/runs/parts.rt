@@ -1,10 +1,10 @@
-//! `tune_part_run` and `check_part_run`, under rules of 16 cells, 20 cycles, 4 tasks, length 4 and
+//! `tune_by_run` and `check_part_run`, under rules of 16 cells, 20 cycles, 4 tasks, length 4 and
 //! distance 4.
 use crate::runs::tuning::{BOTH, both_opponents};
 use rc_instr::{Outlet, Rules};
 use std::test::Fail;
 use tune_cert::Silent;
-use tune_runs::{TuneTexts, check_part_run, tune_part_run};
+use tune_runs::{Method, TuneTexts, check_part_run, tune_by_run};
 use tune_template::Part;
 
 // Six settings that make two warriors in turn.
@@ -33,10 +33,10 @@ fn a_part_is_tuned(rt: HostRuntime) -> Result<(), Fail> {
     let opponents = both_opponents(rt.alloc())?;
     let mut report = Outlet::new(Vec::new(rt.alloc()));
     let mut cert = Outlet::new(Vec::new(rt.alloc()));
-    let tuned = tune_part_run(
+    let tuned = tune_by_run(
         rt.alloc(),
         &second_half(opponents.as_slice(), &rules),
-        4096,
+        Method::Dropping { capacity: 4096 },
         &mut Silent,
         &mut report,
         &mut cert,

@@ -4,13 +4,14 @@ use crate::runs::tuning::{BOTH, ORDER, ORDER_CERT, both_opponents};
 use rc_instr::{Outlet, Rules};
 use std::test::Fail;
 use tune_cert::{Standing, Watcher};
-use tune_runs::{RunFault, TuneTexts, check_part_run, plain_tune_run, tune_part_run};
-use tune_template::Part;
+use tune_runs::{Method, RunFault, TuneTexts, check_part_run, tune_by_run};
+use tune_template::{Inputs, Part};
 
-// Counts the settings, the fights and the ends that it is told of, and what it is told after an
+// Counts the begins, settings, fights and ends that it is told of, and what it is told after an
 // end.
 #[derive(Drop)]
 struct Told {
+    begins: u32,
     settings: u32,
     fights: u32,
     ends: u32,
@@ -20,6 +21,7 @@ struct Told {
 impl Told {
     fn nothing() -> Told {
         Told {
+            begins: 0,
             settings: 0,
             fights: 0,
             ends: 0,
@@ -34,13 +36,24 @@ impl Told {
         }
     }
 
-    // Returns the settings, the fights, the ends, and what came after an end.
-    fn numbers(&self) -> (u32, u32, u32, u32) {
-        (self.settings, self.fights, self.ends, self.late)
+    // Returns the begins, the settings, the fights, the ends, and what came after an end.
+    fn numbers(&self) -> (u32, u32, u32, u32, u32) {
+        (
+            self.begins,
+            self.settings,
+            self.fights,
+            self.ends,
+            self.late,
+        )
     }
 }
 
 impl Watcher for Told {
+    fn begin(&mut self, _inputs: &Inputs) {
+        self.note();
+        self.begins = self.begins.saturating_add(1);
+    }
+
     fn see(&mut self, _standing: Standing) {
         self.note();
         self.settings = self.settings.saturating_add(1);
@@ -56,6 +69,9 @@ impl Watcher for Told {
         self.ends = self.ends.saturating_add(1);
     }
 }
+
+// How a tuning searches unless it is told otherwise.
+const DROPPING: Method = Method::Dropping { capacity: 4096 };
 
 // Returns the texts of a tuning of all settings of `ORDER`.
 fn order<'a>(opponents: &'a [Vec<u8>], rules: &'a Rules) -> TuneTexts<'a> {
@@ -77,21 +93,35 @@ fn a_tuning_tells_its_watcher_once(rt: HostRuntime) -> Result<(), Fail> {
     let mut told = Told::nothing();
     let mut report = Outlet::new(Vec::new(rt.alloc()));
     let mut cert = Outlet::new(Vec::new(rt.alloc()));
-    tune_part_run(rt.alloc(), &texts, 4096, &mut told, &mut report, &mut cert)?;
-    assert_eq!(rt; told.numbers(), (3, 5, 1, 0));
+    tune_by_run(
+        rt.alloc(),
+        &texts,
+        DROPPING,
+        &mut told,
+        &mut report,
+        &mut cert,
+    )?;
+    assert_eq!(rt; told.numbers(), (1, 3, 5, 1, 0));
     Ok(())
 }
 
 #[test]
-fn a_plain_tuning_tells_its_watcher_once(rt: HostRuntime) -> Result<(), Fail> {
+fn a_tuning_that_plays_all_tells_its_watcher_once(rt: HostRuntime) -> Result<(), Fail> {
     let rules = Rules::try_new(16, 20, 4, 4, 4)?;
     let opponents = both_opponents(rt.alloc())?;
     let texts = order(opponents.as_slice(), &rules);
     let mut told = Told::nothing();
     let mut report = Outlet::new(Vec::new(rt.alloc()));
     let mut cert = Outlet::new(Vec::new(rt.alloc()));
-    plain_tune_run(rt.alloc(), &texts, &mut told, &mut report, &mut cert)?;
-    assert_eq!(rt; told.numbers(), (3, 6, 1, 0));
+    tune_by_run(
+        rt.alloc(),
+        &texts,
+        Method::PlayingAll,
+        &mut told,
+        &mut report,
+        &mut cert,
+    )?;
+    assert_eq!(rt; told.numbers(), (1, 3, 6, 1, 0));
     Ok(())
 }
 
@@ -104,7 +134,7 @@ fn a_check_tells_its_watcher_once(rt: HostRuntime) -> Result<(), Fail> {
     let mut line = Outlet::new(Vec::new(rt.alloc()));
     let accepted = check_part_run(rt.alloc(), &texts, &mut told, ORDER_CERT, &mut line)?;
     assert!(rt; accepted);
-    assert_eq!(rt; told.numbers(), (3, 5, 1, 0));
+    assert_eq!(rt; told.numbers(), (1, 3, 5, 1, 0));
     Ok(())
 }
 
@@ -120,11 +150,18 @@ fn a_refused_tuning_tells_its_watcher_once(rt: HostRuntime) -> Result<(), Fail> 
     let mut told = Told::nothing();
     let mut report = Outlet::new(Vec::new(rt.alloc()));
     let mut cert = Outlet::new(Vec::new(rt.alloc()));
-    match tune_part_run(rt.alloc(), &texts, 4096, &mut told, &mut report, &mut cert) {
+    match tune_by_run(
+        rt.alloc(),
+        &texts,
+        DROPPING,
+        &mut told,
+        &mut report,
+        &mut cert,
+    ) {
         Err(RunFault::NoCandidate) => {}
         Err(other) => return Err(Fail::from(other)),
         Ok(()) => return Err(Fail::from("not refused")),
     }
-    assert_eq!(rt; told.numbers(), (2, 0, 1, 0));
+    assert_eq!(rt; told.numbers(), (1, 2, 0, 1, 0));
     Ok(())
 }

@@ -1,5 +1,6 @@
 use Rattle.std.proofs.Common.{◌∙◌, ap, sym, subst, arith, replicate, None, IfSome, IfNone}
 use Rattle.tune_problem.specs.Problem.{problem_of}
+use Rattle.tune_cert.specs.Spelling.{record_of}
 use Rattle.tune_cert.specs.Verdict.{IsWrong, IsRightSame}
 use Rattle.tune_cert.specs.Steps.{IsFirstSame}
 use Rattle.tune_cert.proofs.Assembled.{none_assembled}
@@ -20,7 +21,7 @@ returns-in-Some-clause-wrong g c =
     let row = c.index-rows-vector.result in
     record {
       vector = v;
-      number_is = c.record_of.ensures;
+      number_is = c.record_of.ensures ∙ ap record_of c.from.ensures;
       row = row;
       here = row_here cert.rows c.as_slice-rows.result.now c.count-count.result v row c.as_slice-rows.ensures (c.count-count.ensures.count ∙ sym c.requires.rows) c.loop-vector-test.true c.index-rows-vector.is;
       wrong = subst (λ o. IfSome o (IsWrong p cert v row)) c.in-Some.is c.in_ok-reason.ensures.wrong;
@@ -34,7 +35,7 @@ returns-in-Some-clause-first g c =
     let row = c.index-rows-vector.result in
     let here = row_here cert.rows c.as_slice-rows.result.now c.count-count.result v row c.as_slice-rows.ensures (c.count-count.ensures.count ∙ sym c.requires.rows) c.loop-vector-test.true c.index-rows-vector.is in
     let first = subst (λ o. IfSome o (IsFirstSame p cert v row)) c.in-Some.is c.in_ok-reason.ensures.first in
-    first_same p cert v c.record_of.result row c.in-Some.reason c.requires.alone c.loop-vector.invariant.right c.record_of.ensures here first
+    first_same p cert v c.record_of.result row c.in-Some.reason c.requires.alone c.loop-vector.invariant.right (c.record_of.ensures ∙ ap record_of c.from.ensures) here first
 
 pub loop-vector-preserved : goal.loop-vector-preserved
 loop-vector-preserved g c =

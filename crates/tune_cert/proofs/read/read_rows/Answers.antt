@@ -42,8 +42,8 @@ returns-then-vector-from-clause-fault c =
     let inv = c.loop-rows.invariant in
     let old = rw c.if-branch.true at c.in_ok-read.ensures.read in
     let few : length c.loop-rows.rows.items ≤ 2 ^ 32 = omega (arith, inv.number, inv.few) in (
-      omega arith,
-      stopped c.loop-rows.vector c.args.records.now _ _ (inv.rest ∙ old) (λ form. let small = form.1 in omega arith)
+      omega (arith, c.record_of.ensures),
+      stopped c.loop-rows.vector _ c.args.records.now _ _ c.record_of.ensures (inv.rest ∙ old) (λ form. let small = form.1 in omega arith)
           (λ u l. have_rows c.loop-rows.rows.items _ _ inv.text inv.each few u (omega (arith, inv.number, l))),
     )
 
@@ -52,8 +52,8 @@ returns-in-None-clause-fault c =
     let inv = c.loop-rows.invariant in
     let old = rw c.if-branch.true at c.in_ok-read.ensures.read in
     let few : length c.loop-rows.rows.items ≤ 2 ^ 32 = omega (arith, inv.number, inv.few) in (
-      omega arith,
-      stopped c.loop-rows.vector c.args.records.now _ _ (inv.rest ∙ old) (λ form.
+      omega (arith, c.record_of-in-None.ensures),
+      stopped c.loop-rows.vector _ c.args.records.now _ _ c.record_of-in-None.ensures (inv.rest ∙ old) (λ form.
           let same = c.in_ok-row.ensures.only form.0 form.2 form.3 in
           let is = c.in-None.is in
           cc (same, is))

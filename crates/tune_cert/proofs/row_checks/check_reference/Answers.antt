@@ -10,13 +10,13 @@ use Rattle.tune_cert.proofs.row_checks.check_reference.Goals as goal
 
 pub listed_cap-requires : goal.listed_cap-requires
 listed_cap-requires c =
-    let p = problem_of c.args.inputs.now in
+    let p = problem_of c.args.claim.now.inputs.now in
     let row = c.requires.alone.each c.args.other (Cap c.in-Some.listed.now) c.in-Some.ensures.some in
     record { row = (row.0, row.2) }
 
 pub returns-then-is_above-clause-wrong : goal.returns-then-is_above-clause-wrong
 returns-then-is_above-clause-wrong c =
-    let p = problem_of c.args.inputs.now in
+    let p = problem_of c.args.claim.now.inputs.now in
     let row = c.requires.alone.each c.args.other (Cap c.in-Some.listed.now) c.in-Some.ensures.some in
     let cap : c.listed_cap.result ≡ cap_of p row.0 (listed_indices c.in-Some.listed.now) =
     c.listed_cap.ensures ∙ listed_is_cap p row.0 c.in-Some.listed.now row.2 in (
@@ -24,16 +24,16 @@ returns-then-is_above-clause-wrong c =
       c.in-Some.listed.now,
       row.1,
       c.in-Some.ensures.some,
-      subst (λ (n : ℕ). beats n c.args.vector c.args.cert.now.total c.args.cert.now.best ≡ true) cap (sym c.is_above.ensures ∙ c.if-is_above.true),
+      subst (λ (n : ℕ). beats n c.args.vector c.args.claim.now.cert.now.total c.args.claim.now.cert.now.best ≡ true) cap (sym c.is_above.ensures ∙ c.if-is_above.true),
     )
 
 pub returns-clause-right : goal.returns-clause-right
 returns-clause-right c =
-    let p = problem_of c.args.inputs.now in
+    let p = problem_of c.args.claim.now.inputs.now in
     let row = c.requires.alone.each c.args.other (Cap c.in-Some.listed.now) c.in-Some.ensures.some in
     let cap : c.listed_cap.result ≡ cap_of p row.0 (listed_indices c.in-Some.listed.now) =
     c.listed_cap.ensures ∙ listed_is_cap p row.0 c.in-Some.listed.now row.2 in
-    let within : c.args.other < length c.args.cert.now.rows = slice_get_within c.args.cert.now.rows c.args.other (Cap c.in-Some.listed.now) c.in-Some.ensures.some in
+    let within : c.args.other < length c.args.claim.now.cert.now.rows = slice_get_within c.args.claim.now.cert.now.rows c.args.other (Cap c.in-Some.listed.now) c.in-Some.ensures.some in
     let theirs : p.warrior c.args.other ≡ Some c.in-Some-index.theirs =
     sym (get_or_from_slice_get c.assemble_once.new.warriors.items c.args.other (p.warrior c.args.other) c.index.result.now c.in_ok-assemble_once.ensures.warrior)
     ∙ sym c.index.ensures ∙ c.in-Some-index.is in
@@ -47,13 +47,13 @@ returns-clause-right c =
       own ∙ ap (λ x. Some x) (equal ∙ one),
       row.1,
       c.in-Some.ensures.some,
-      subst (λ (n : ℕ). beats n c.args.vector c.args.cert.now.total c.args.cert.now.best ≡ false) cap (sym c.is_above.ensures ∙ c.if-is_above.false),
+      subst (λ (n : ℕ). beats n c.args.vector c.args.claim.now.cert.now.total c.args.claim.now.cert.now.best ≡ false) cap (sym c.is_above.ensures ∙ c.if-is_above.false),
     )
 
 pub returns-then-is_above-clause-first : goal.returns-then-is_above-clause-first
 returns-then-is_above-clause-first c =
-    let p = problem_of c.args.inputs.now in
-    let within : c.args.other < length c.args.cert.now.rows = slice_get_within c.args.cert.now.rows c.args.other (Cap c.in-Some.listed.now) c.in-Some.ensures.some in
+    let p = problem_of c.args.claim.now.inputs.now in
+    let within : c.args.other < length c.args.claim.now.cert.now.rows = slice_get_within c.args.claim.now.cert.now.rows c.args.other (Cap c.in-Some.listed.now) c.in-Some.ensures.some in
     let theirs : p.warrior c.args.other ≡ Some c.in-Some-index.theirs =
     sym (get_or_from_slice_get c.assemble_once.new.warriors.items c.args.other (p.warrior c.args.other) c.index.result.now c.in_ok-assemble_once.ensures.warrior)
     ∙ sym c.index.ensures ∙ c.in-Some-index.is in

@@ -14,7 +14,7 @@ one_row o r e = cc
 
 pub returns-then-not-lists_all-clause-no : goal.returns-then-not-lists_all-clause-no
 returns-then-not-lists_all-clause-no c = λ best.
-    let p = problem_of c.args.inputs.now in
+    let p = problem_of c.args.claim.now.inputs.now in
     let row : best.row ≡ c.in-Some.listed.now = one_row _ _ (sym best.here ∙ c.in-Some.ensures.some) in
     let every : listed_indices c.in-Some.listed.now ≡ all_fights p = ap listed_indices (sym row) ∙ best.every in
     let all : ListsAll c.fight_count.result 0 c.in-Some.listed.now =
@@ -24,7 +24,7 @@ returns-then-not-lists_all-clause-no c = λ best.
 
 pub listed_total-requires : goal.listed_total-requires
 listed_total-requires c =
-    let p = problem_of c.args.inputs.now in
+    let p = problem_of c.args.claim.now.inputs.now in
     let all : ListsAll p.fights 0 c.in-Some.listed.now =
     subst (λ (n : ℕ). ListsAll n 0 c.in-Some.listed.now) c.fight_count.ensures.count (c.if-not-lists_all.ensures.0 refl) in
     let many : length c.in-Some.listed.now ≡ p.fights = all_listed p c.in-Some.listed.now (all_indices p c.in-Some.listed.now all) in
@@ -32,7 +32,7 @@ listed_total-requires c =
 
 pub returns-clause-yes : goal.returns-clause-yes
 returns-clause-yes c = λ equal.
-    let p = problem_of c.args.inputs.now in
+    let p = problem_of c.args.claim.now.inputs.now in
     let all : ListsAll p.fights 0 c.in-Some.listed.now =
     subst (λ (n : ℕ). ListsAll n 0 c.in-Some.listed.now) c.fight_count.ensures.count (c.if-not-lists_all.ensures.0 refl) in
     record {

@@ -6,4 +6,4 @@ use Rattle.tune_runs.proofs.tune.tune_run.Goals as goal
 pub returns-clause-whole : goal.returns-clause-whole
 returns-clause-whole g c = never_unparted _ _
     (part_texts c.args.template.now (map (λ o. o.items) c.args.opponents.now) c.args.schedule.now c.args.rules.now c.whole.result) c.whole.ensures (λ e says. says.0)
-    c.tune_part_run.ensures.run.refused
+    c.tune_by_run.ensures.run.refused

@@ -1,7 +1,7 @@
 use Rattle.std.proofs.Common.{arith, ◌≡◌, ◌∙◌, ap, sym, below_more, get_or, subst}
 use Rattle.tune_problem.specs.Problem.{problem_of}
 use Rattle.mars_fight.specs.Play.{ArePoints}
-use Rattle.tune_search.specs.Order.{beats_lead}
+use Rattle.tune_search.specs.Order.{drops}
 use Rattle.tune_search.proofs.Caps.{cap_none, cap_more, cap_room, played_more}
 use Rattle.tune_search.proofs.Counted.{none_counted, one_counted}
 use Rattle.tune_search.proofs.fights.play_enough.Goals as goal
@@ -12,7 +12,7 @@ loop-index-init g c =
     record {
       fought = c.new-listing.ensures.items;
       holds = cap_none p c.args.challenge.now.entrant.now.warrior c.args.challenge.now.order.now c.greatest_total-cap.result c.greatest_total-cap.ensures.greatest;
-      beat = λ j l. absurd (omega arith);
+      kept = λ j l. absurd (omega arith);
       blank = c.requires.blank;
       counted = λ small. none_counted _ _ c.new-listing.ensures.items;
     }
@@ -29,7 +29,7 @@ loop-index-preserved g c =
     record {
       fought = c.in_ok-push.ensures.items ∙ played_more p w order i _ _ c.loop-index-test.true points c.loop-index.invariant.fought;
       holds = cap_more p w order i _ _ _ c.loop-index-test.true c.requires.once (same ∙ points) scores c.fight_weight.ensures.weight c.loop-index.invariant.holds;
-      beat = below_more _ _ c.loop-index.invariant.beat (ap (λ n. beats_lead n c.args.challenge.now.entrant.now.vector c.args.challenge.now.lead) (sym c.loop-index.invariant.holds) ∙ sym c.beats.ensures ∙ c.if-not-beats.false);
+      kept = below_more _ _ c.loop-index.invariant.kept (ap (λ n. drops c.args.challenge.now.method n c.args.challenge.now.entrant.now.vector c.args.challenge.now.lead) (sym c.loop-index.invariant.holds) ∙ sym c.drops.ensures ∙ c.if-drops.false);
       blank = c.fight_points-points.ensures.blank;
       counted = one_counted _ _ _ _ _ _ c.in_ok-push.ensures.items c.fight_points-points.ensures.fights c.loop-index.invariant.counted;
     }

@@ -17,8 +17,8 @@ pub returns-then-not-promote-clause-known : goal.returns-then-not-promote-clause
 returns-then-not-promote-clause-known c =
     let test = same_text c.args.text.now in
     let entries = c.self.inside.settings.entries in
-    ap (λ k. cache_view (map (λ e. (e.0.items, e.1)) k.entries) k.cap) c.promote.ensures.entries
-    ∙ ap (λ l. cache_view l c.self.inside.settings.cap) (promoted_seen (λ k. k.items) _ test (λ k. refl) entries)
+    ap (λ k. cache_view (map (λ e. (e.0.items, e.1)) k.entries) c.self.inside.capacity) c.promote.ensures.entries
+    ∙ ap (λ l. cache_view l c.self.inside.capacity) (promoted_seen (λ k. k.items) _ test (λ k. refl) entries)
     ∙ ap (λ (m : CacheView). cache_view (promoted test m.known) m.capacity) c.self.view_is
 
 pub returns-in_default-clause-value : goal.returns-in_default-clause-value
@@ -35,16 +35,16 @@ pub returns-in_default-clause-known : goal.returns-in_default-clause-known
 returns-in_default-clause-known c =
     let test = same_text c.args.text.now in
     let entries = c.self.inside.settings.entries in
-    ap (λ k. cache_view (map (λ e. (e.0.items, e.1)) k.entries) k.cap) c.promote.ensures.entries
-    ∙ ap (λ l. cache_view l c.self.inside.settings.cap) (promoted_seen (λ k. k.items) _ test (λ k. refl) entries)
+    ap (λ k. cache_view (map (λ e. (e.0.items, e.1)) k.entries) c.self.inside.capacity) c.promote.ensures.entries
+    ∙ ap (λ l. cache_view l c.self.inside.capacity) (promoted_seen (λ k. k.items) _ test (λ k. refl) entries)
     ∙ ap (λ (m : CacheView). cache_view (promoted test m.known) m.capacity) c.self.view_is
 
 pub returns-clause-known : goal.returns-clause-known
 returns-clause-known c =
     let test = same_text c.args.text.now in
     let entries = c.self.inside.settings.entries in
-    ap (λ k. cache_view (map (λ e. (e.0.items, e.1)) k.entries) k.cap) c.promote.ensures.entries
-    ∙ ap (λ l. cache_view l c.self.inside.settings.cap) (promoted_seen (λ k. k.items) _ test (λ k. refl) entries)
+    ap (λ k. cache_view (map (λ e. (e.0.items, e.1)) k.entries) c.self.inside.capacity) c.promote.ensures.entries
+    ∙ ap (λ l. cache_view l c.self.inside.capacity) (promoted_seen (λ k. k.items) _ test (λ k. refl) entries)
     ∙ ap (λ (m : CacheView). cache_view (promoted test m.known) m.capacity) c.self.view_is
 
 pub returns-clause-value : goal.returns-clause-value

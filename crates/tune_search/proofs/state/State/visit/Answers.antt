@@ -1,9 +1,10 @@
-use Rattle.std.proofs.Common.{◌≡◌, ◌+◌, ◌∙◌, ◌<◌, ap, sym, refl, subst, ℕ, Option, None, Some, true, false, get_or}
+use Rattle.std.proofs.Common.{◌≡◌, ◌+◌, ◌∙◌, ◌<◌, ap, sym, refl, subst, ℕ, List, Option, None, Some, true, false, get_or}
 use Rattle.std.specs.Map.{lookup}
 use Rattle.std.specs.Prelude.{IfSome, IfNone}
 use Rattle.lru.specs.LruCache.{promoted}
 use Rattle.rc_instr.specs.LoadText.{load_text}
 use Rattle.tune_problem.specs.Problem.{problem_of}
+use Rattle.tune_problem.specs.declared.cert.Row.{Row}
 use Rattle.tune_problem.proofs.Scores.{inputs_problem}
 use Rattle.tune_search.specs.Cache.{CacheView, cache_view, same_text}
 use Rattle.tune_search.specs.Visits.{visit}
@@ -27,10 +28,12 @@ returns-in_default-clause-state g c =
     record {
       start_is = c.requires.state.start_is;
       start_inside = c.requires.state.start_inside;
+      method_is = refl;
       capacity_is = c.requires.state.capacity_is;
+      version_is = c.requires.state.version_is;
       blank = c.requires.state.blank;
-      going = refused_visit p (inputs_problem i) i.rules c.args.self.now.cache.capacity k v at inside
-          s.rows.items s.lead s.order.items s.arena.fights s.candidates s.copied s.cache.known c.requires.state.going
+      going = refused_visit p (inputs_problem i) i.rules c.args.self.now.method k v at inside
+          s.found.rows s.lead s.order.items s.arena.fights s.found.candidates s.found.copied s.cache.known c.requires.state.going
           (subst (λ (o : Option Candidate). IfNone o (p.warrior v ≡ None)) c.in_default.is c.in_ok-entrant.ensures.none);
     }
 
@@ -55,9 +58,11 @@ fight-requires-clause-state g c =
     record {
       start_is = c.requires.state.start_is;
       start_inside = c.requires.state.start_inside;
-      capacity_is = refl;
+      method_is = refl;
+      capacity_is = ap (λ (m : CacheView). m.capacity) same ∙ c.requires.state.capacity_is;
+      version_is = c.requires.state.version_is;
       blank = c.requires.state.blank;
-      going = subst (λ (m : CacheView). IsUnderWay p i.rules m.capacity c.args.visits s.rows.items s.lead s.order.items s.arena.fights s.candidates s.copied m.known) (sym same) c.requires.state.going;
+      going = subst (λ (m : CacheView). IsUnderWay p i.rules s.method c.args.visits s.found.rows s.lead s.order.items s.arena.fights s.found.candidates s.found.copied m.known) (sym same) c.requires.state.going;
     }
 
 pub returns-then-copies-clause-state : goal.returns-then-copies-clause-state
@@ -75,18 +80,20 @@ returns-then-copies-clause-state g c =
     let text : c.deref.result.now ≡ load_text i.rules.core e.warrior = c.deref.ensures.value ∙ is.text_is in
     let look : lookup (same_text (load_text i.rules.core e.warrior)) s.cache.known ≡ Some u = ap (λ t. lookup (same_text t) s.cache.known) (sym text) ∙ sym c.in-Some-recall.ensures.value in
     let row = c.in_ok-row.row in
-    let row_of : row ≡ get_or s.rows.items u row = c.in_ok-row.ensures ∙ c.index.ensures ∙ ap (λ d. get_or s.rows.items u d) (sym c.in_ok-row.ensures) in
+    let row_of : row ≡ get_or s.found.rows u row = c.in_ok-row.ensures ∙ c.index-as_slice-other.is ∙ ap (λ (xs : List Row). get_or xs u c.index-as_slice-other.result) c.as_slice.ensures ∙ ap (λ d. get_or s.found.rows u d) (sym c.in_ok-row.ensures) in
     let apart : copies p.start u v s.lead ≡ true = ap (λ n. copies n u v s.lead) (sym c.requires.state.start_is) ∙ sym c.copies.ensures ∙ c.if-copies.true in
     record {
       start_is = c.requires.state.start_is;
       start_inside = c.requires.state.start_inside;
+      method_is = refl;
       capacity_is = ap (λ (m : CacheView). m.capacity) c.in-Some-recall.ensures.known ∙ c.requires.state.capacity_is;
+      version_is = c.requires.state.version_is;
       blank = c.requires.state.blank;
-      going = under_way_along p i.rules c.args.self.now.cache.capacity (k + 1) _ _ _ _ _ _ _ _ _ _ _ _
-          (copied_visit p (inputs_problem i) i.rules c.args.self.now.cache.capacity k v at inside
-          s.rows.items s.lead s.order.items s.arena.fights s.candidates s.copied s.cache.known c.requires.state.going
+      going = under_way_along p i.rules c.args.self.now.method (k + 1) _ _ _ _ _ _ _ _ _ _ _ _
+          (copied_visit p (inputs_problem i) i.rules c.args.self.now.method k v at inside
+          s.found.rows s.lead s.order.items s.arena.fights s.found.candidates s.found.copied s.cache.known c.requires.state.going
           e.warrior is.warrior_is is.rules_hold is.is_warrior is.fits u look row row_of apart)
-          refl
+          (sym c.set.ensures)
           (sym c.lead_with-self.ensures)
           refl
           refl
@@ -111,13 +118,15 @@ returns-clause-state g c =
     record {
       start_is = c.requires.state.start_is;
       start_inside = c.requires.state.start_inside;
+      method_is = refl;
       capacity_is = ap (λ (m : CacheView). m.capacity) c.in-Some-recall.ensures.known ∙ c.requires.state.capacity_is;
+      version_is = c.requires.state.version_is;
       blank = c.requires.state.blank;
-      going = under_way_along p i.rules c.args.self.now.cache.capacity (k + 1) _ _ _ _ _ _ _ _ _ _ _ _
-          (shared_visit p (inputs_problem i) i.rules c.args.self.now.cache.capacity k v at inside
-          s.rows.items s.lead s.order.items s.arena.fights s.candidates s.copied s.cache.known c.requires.state.going
+      going = under_way_along p i.rules c.args.self.now.method (k + 1) _ _ _ _ _ _ _ _ _ _ _ _
+          (shared_visit p (inputs_problem i) i.rules c.args.self.now.method k v at inside
+          s.found.rows s.lead s.order.items s.arena.fights s.found.candidates s.found.copied s.cache.known c.requires.state.going
           e.warrior is.warrior_is is.rules_hold is.is_warrior is.fits u look apart)
-          refl
+          (sym c.set-2.ensures)
           refl
           refl
           refl

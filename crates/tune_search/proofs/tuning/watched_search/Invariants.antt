@@ -1,8 +1,0 @@
-use Rattle.tune_search.specs.State.{IsState}
-use Rattle.tune_search.proofs.tuning.watched_search.Given as goal
-
--- so many settings were visited
-abbrev pub invariant-loop-visits : goal.invariant-loop-visits
-invariant-loop-visits g l = record {
-  state : IsState l.fn.inputs l.fn.capacity l.visits l.state;
-}

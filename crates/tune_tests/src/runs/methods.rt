@@ -1,0 +1,78 @@
+//! `tune_by_run` by either method, under rules of 16 cells, 20 cycles, 4 tasks, length 4 and distance
+//! 4.
+use crate::runs::tuning::{BOTH, both_opponents};
+use crate::writers::Broken;
+use rc_instr::{Outlet, Rules};
+use std::test::Fail;
+use tune_cert::Silent;
+use tune_runs::{Method, RunFault, TuneTexts, tune_by_run};
+use tune_template::Part;
+
+// Returns the texts of a tuning of two settings with one warrior, an imp.
+fn imps<'a>(opponents: &'a [Vec<u8>], rules: &'a Rules) -> TuneTexts<'a> {
+    TuneTexts {
+        template: b";@tune K 0 1 1 1\nMOV 0, 1",
+        opponents,
+        schedule: BOTH,
+        rules,
+        part: Part::whole(),
+    }
+}
+
+// The report of a tuning that plays all fights, and the certificate by either method.
+const REPORT: &[u8] =
+    b"vectors 2\ncandidates 2\nbest 0\nconstants K=0\ntotal 4 of 6\nfights 4 of 4\n";
+
+const CERT: &[u8] = b"cwcert,1,2\nbest,0,4\ncap,0,0:3 1:1\ncap,1,0:3 1:1\n";
+
+// Each method, and the report of what it finds: the settings may share their fights.
+const METHODS: [(Method, &[u8]); 2] = [
+    (
+        Method::Dropping { capacity: 1 },
+        b"vectors 2\ncandidates 2\nbest 0\nconstants K=0\ntotal 4 of 6\nfights 2 of 4\n",
+    ),
+    (Method::PlayingAll, REPORT),
+];
+
+#[test]
+fn both_methods_find_the_optimum(rt: HostRuntime) -> Result<(), Fail> {
+    let rules = Rules::try_new(16, 20, 4, 4, 4)?;
+    let opponents = both_opponents(rt.alloc())?;
+    let texts = imps(opponents.as_slice(), &rules);
+    for &(method, told) in &METHODS {
+        let mut report = Outlet::new(Vec::new(rt.alloc()));
+        let mut cert = Outlet::new(Vec::new(rt.alloc()));
+        let tuned = tune_by_run(
+            rt.alloc(),
+            &texts,
+            method,
+            &mut Silent,
+            &mut report,
+            &mut cert,
+        );
+        assert_eq!(rt; tuned, Ok(()));
+        assert_eq!(rt; report.into_inner().as_slice(), told);
+        assert_eq!(rt; cert.into_inner().as_slice(), CERT);
+    }
+    Ok(())
+}
+
+#[test]
+fn a_write_failure_is_reported_before_the_report(rt: HostRuntime) -> Result<(), Fail> {
+    let rules = Rules::try_new(16, 20, 4, 4, 4)?;
+    let opponents = both_opponents(rt.alloc())?;
+    let mut report = Outlet::new(Vec::new(rt.alloc()));
+    let mut cert = Outlet::new(Broken);
+    let texts = imps(opponents.as_slice(), &rules);
+    let tuned = tune_by_run(
+        rt.alloc(),
+        &texts,
+        Method::PlayingAll,
+        &mut Silent,
+        &mut report,
+        &mut cert,
+    );
+    assert_eq!(rt; tuned, Err(RunFault::Write));
+    assert!(rt; report.into_inner().is_empty());
+    Ok(())
+}
