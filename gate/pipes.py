@@ -2,12 +2,12 @@
 [PROGRAM]
 
 A reader that goes away ends a run with status 3 and the line `failed: Write`. A standard input that
-cannot be read, that is a terminal or that has no end leads to a named error or a result, in bounded
-time, and a file has at most 1 GiB. A word that is not UTF-8 is a usage error. A run that is killed,
-or that may not write as much, leaves an older certificate. CERT may be a link, and keeps its
-permissions; a new one has those that the umask leaves.
-Expected values follow from `docs/FORMATS.md`. Prints what failed, and as its last line
-`N passed, N failed`. The exit status is 1 if a check failed.
+cannot be read, is a terminal or never ends leads to a fault or a result, in bounded time; a file
+above 1 GiB is refused. A word that is not UTF-8 is a usage error. A run that is killed, or that
+exceeds the size that it may write, leaves an older certificate as it was. CERT may be a link, and
+keeps its permissions; a new one has those that the umask leaves. Expected values follow from
+`docs/FORMATS.md`. Prints what failed, and as its last line `N passed, N failed`. The exit status is
+1 if a check failed.
 """
 import os, pathlib, pty, resource, shutil, signal, subprocess, sys, tempfile, threading, time
 

@@ -1,5 +1,5 @@
-"""Asks what runs by `python3 -m` for help, gives it a program that is not there, and compares the
-tables that a script writes: python3 -m gate.runners
+"""Asks the modules for help, runs them with a program that does not exist, and looks whether
+`classes.py` has something to write: python3 -m gate.runners
 
 Prints what failed, and as its last line `N passed, N failed`. The exit status is 1 if something
 else than help, or than a line that says what is wrong, was printed.
@@ -13,7 +13,7 @@ from .tally import compare, tally
 ROOT = pathlib.Path(__file__).resolve().parent.parent
 HELPED = ["gate.gate", "gate.edits", "pmars.compare", "release.dist", "release.manual",
           "release.try_release", "author.tests.run", "bench.measure"]
-# What takes a program, by what builds one.
+# The modules that take a program, by the command that builds it.
 REFUSED = {
     "make build": ["author.tests.run", "gate.play_cases", "gate.cuts", "gate.pipes",
                    "gate.terminals", "gate.documents", "gate.refuse.memory", "gate.refuse.writes",

@@ -1,10 +1,11 @@
 """Runs the program at a terminal, for what changes while it runs: python3 -m gate.terminals
 [PROGRAM]
 
-A terminal gets a progress line, with --progress a pipe a line a minute, and a terminal that is read
-is told so. What a terminal shows at the end of a run is played by `gate/cases/explanations.toml`.
-Expected values follow from `docs/FORMATS.md`. Prints what failed, and as its last line
-`N passed, N failed`. The exit status is 1 if a check failed.
+At a terminal a progress line is rewritten, in a pipe --progress prints a line a minute, and if
+standard input is a terminal, the program says what it waits for. What a terminal shows at the end
+of a run is played by `gate/cases/explanations.toml`. Expected values follow from `docs/FORMATS.md`.
+Prints what failed, and as its last line `N passed, N failed`. The exit status is 1 if a check
+failed.
 """
 import os, pty, re, select, sys, tempfile, time
 

@@ -25,7 +25,7 @@ class Closed(io.RawIOBase):
 def open_streams():
     """Sees to it that no file that is opened later takes the number of a closed standard stream.
 
-    What is then written to standard output is a fault; to standard error, it is lost.
+    A write to a closed standard output is then a fault; to a closed standard error, it is lost.
     """
     while (number := os.open(os.devnull, os.O_RDWR)) < 3:
         pass
@@ -54,7 +54,7 @@ def run_tool(main):
     except KeyboardInterrupt:
         status = end_by(signal.SIGINT)
     except OSError as error:
-        # Of a copy the second file is the one that is written.
+        # A copy names two files; the second is the one that is written.
         name = error.filename2 or error.filename or "standard output"
         status = say("failed", f"{name}: {error.strerror}", 3)
     sys.exit(status)
@@ -63,7 +63,7 @@ def run_tool(main):
 def say(word, message, status):
     """Writes a line on standard error, whatever bytes a name in it has, and returns the status.
 
-    If that cannot be written, the status tells.
+    If the line cannot be written, the status alone reports the fault.
     """
     try:
         sys.stderr.buffer.write(f"{word}: {message}\n".encode(errors="surrogateescape"))
@@ -95,7 +95,7 @@ def number_from(low, high=None):
 
 @contextlib.contextmanager
 def naming(path):
-    """Names this file in a fault of the system, whichever file that is of."""
+    """Turns an error of the system into a fault that names `path`."""
     try:
         yield
     except OSError as error:

@@ -2,11 +2,11 @@
 
 A tuning picks the setting that was best in a few fights, and part of that is luck. Here START and
 the K best settings among those that played all fights of the tuning play R fights against each
-opponent, at random positions, with first movers in turn, all of them the same. For each setting a
-line says its total in the tuning and in the fresh fights, the points as a part of the greatest
-total, in percent, and the standard error of that; then how much more than START it makes. With
---schedule each opponent counts in the fresh fights as much as in the tuning. Give the rules and the
-opponents of the tuning.
+opponent, at random positions, moving first in every other fight; positions and first movers are the
+same for all settings. For each setting a line says its total in the tuning and in the fresh fights,
+the points as a part of the greatest total, in percent, and the standard error of that; then how
+much more than START it makes. With --schedule each opponent counts in the fresh fights as much as
+in the tuning. Give the rules and the opponents of the tuning.
 
 Example: cwtune-holdout my.red my.cert dwarf.red scanner.red
 """
@@ -44,7 +44,7 @@ class Fresh(NamedTuple):
         return Fresh([[a - b for a, b in zip(*both)] for both in pairs], self.shares)
 
     def __str__(self):
-        """The points and their percentage; of opponents that count unlike, the percentage alone."""
+        """The points and their percentage, or the percentage alone if the shares differ."""
         flat = [it for own in self.points for it in own]
         said = f"{self.mean():.1f}% +- {self.error():.1f}"
         return f"{sum(flat)} of {3 * len(flat)} ({said})" if len(set(self.shares)) == 1 else said

@@ -33,10 +33,10 @@ def load_pyplot():
 
 
 class Table:
-    """The totals of all settings, those of dropped settings being the greatest that they may be.
+    """The totals of the settings that played all fights, and the caps of those that were dropped.
 
-    `totals` and `caps` have not-a-number where a setting has none; `best` is the setting of the
-    certificate.
+    Where one of the lists `totals` and `caps` has a number the other is not a number; both, if the
+    setting does not assemble. `best` is the setting of the certificate.
     """
 
     def __init__(self, template, found, fights, opponent):
@@ -174,7 +174,7 @@ def error_of(totals, mean):
 
 
 def axes_of(parser, asked, names):
-    """Returns the places of the constants that are the axes, from left to right and upwards."""
+    """Returns the indices of the constants of the axes: from left to right, then upwards."""
     if asked.axes is None:
         return len(names) - 1, len(names) - 2
     wanted = asked.axes.split(",")

@@ -8,7 +8,7 @@ from . import tuning_files
 from .endings import Fault, number_from
 from .program import add_program, add_rules, add_words, command_parser, load_of, rules_of
 
-# Of more settings it is not found out which make one warrior.
+# With more settings than this none is assembled, to save time.
 MOST_ASSEMBLED = 2000
 
 

@@ -53,7 +53,9 @@ def make_parser():
     parser.add_argument("--cache", type=int, default=4096, metavar="N",
                         help="how many settings are remembered in each part [default: 4096]")
     add_rules(parser)
-    add_words(parser, "template", "schedule", "cert", "opponent")
+    add_words(parser, "template", "schedule")
+    parser.add_argument("cert", metavar="CERT", help="the file to which the certificate is written")
+    add_words(parser, "opponent")
     return parser
 
 

@@ -186,7 +186,7 @@ def read_row(v, record):
 
 @functools.lru_cache(1 << 14)
 def read_points(text):
-    """Returns the points of a row by fight. Equal short lists are one, which nobody changes."""
+    """Returns the points of a row by fight. Equal texts get one dict: callers do not change it."""
     items = [] if text == "-" else [item.split(":") for item in text.split(" ")]
     return {int(fight): int(points) for fight, points in items}
 

@@ -1,11 +1,11 @@
 """Runs the tests of calls that allocate, with each of their requests for memory refused in turn.
 
 The tests are those of the modules `memory` in the test programs that the gate builds. With nothing
-refused each has to pass. With a request refused it has to pass too, or to end with the error
-`OutOfMemory` of a call, at line or record 0 and in no other variant, or with an error of the test's
-own requests. Use: python3 -m gate.refuse.growth [TEST PROGRAM..]. Needs `cc` and a system with
-LD_PRELOAD. Prints what failed, and as its last line how many requests were refused, and
-`N passed, N failed`. The exit status is 1 if a test failed.
+refused each has to pass. With a request refused it has to pass too, or to end because a call
+returned `OutOfMemory` (at line or record 0, never another fault), or because a request of the test
+itself was refused. Use: python3 -m gate.refuse.growth [TEST PROGRAM..]. Needs `cc` and a system
+with LD_PRELOAD. Prints what failed, and as its last line how many requests were refused, and `N
+passed, N failed`. The exit status is 1 if a test failed.
 """
 import concurrent.futures, os, pathlib, subprocess, sys, tempfile
 

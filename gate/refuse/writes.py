@@ -1,11 +1,12 @@
 """Runs the program where its writes fail: python3 -m gate.refuse.writes [PROGRAM]
 
 The runs are those of `runs.py`, each with an older certificate in CERT, and with none. A step is a
-write of one byte, the flush of a certificate to the disk, or its new name. The first, the second
-and so on fails, finds no room, takes no byte, or is the last before the program is killed.
-Until a certificate has its name CERT is as it was, and nothing is on standard output. Only a kill
-leaves a file beside it. Needs `cc` and a system with LD_PRELOAD. Prints what failed, and as its
-last line how many steps failed, and `N passed, N failed`. The exit status is 1 if a run failed.
+write of one byte, the flush of a certificate to the disk, or its new name. In each run one step,
+the first, the second and so on, goes wrong: it fails, the disk is full, it takes no byte, or the
+program is killed after it. Until a certificate has its name CERT is as it was, and nothing is on
+standard output. Only a kill leaves a file beside it. Needs `cc` and a system with LD_PRELOAD.
+Prints what failed, and as its last line how many steps failed, and `N passed, N failed`. The exit
+status is 1 if a run failed.
 """
 import concurrent.futures, os, signal, sys, tempfile
 
