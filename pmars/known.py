@@ -39,6 +39,8 @@ TEXTS = [
     ("DAT with one operand", "DAT 5\n", one("$0, $5"), one("#0, $5")),
     ("ORG and END", "ORG 0\nDAT 0, 1\nDAT 0, 2\nEND 1\n", two(["$0, $1", "$0, $2"]),
      "ORG 1\nDAT.F $0, $1\nDAT.F $0, $2\n"),
+    ("a label on a line of its own before EQU", "go\nstep EQU 5\nDAT 0, step\nJMP go\n",
+     "ORG 0\nDAT.F $0, $5\nJMP.B $-1, $0\n", "ORG 0\nDAT.F $0, $5\nJMP.B $5, $0\n"),
     ("WARRIORS", "DAT 0, WARRIORS\n", one("$0, $2"), one("$0, $1")),
     ("a name of one letter", "DAT 0, a\n", refused("line 1 Value UnknownName"), one("$0, $0")),
     ("a second ;redcode", ";redcode\nDAT 0, 1\n;redcode\nDAT 0, 2\n",

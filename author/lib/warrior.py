@@ -86,8 +86,9 @@ def tell_foreign(text):
         code = line.partition(b";")[0]
         if len(line) > MOST_OF_PMARS:
             print(f"note: pMARS cuts line {number} at {MOST_OF_PMARS} bytes", file=sys.stderr)
-        elif re.fullmatch(rb"(?i)(.*\s)?nop\s*", code):
-            print(f"note: pMARS refuses line {number}: NOP without an operand", file=sys.stderr)
+        elif found := re.fullmatch(rb"(?i)(?:.*\s)?(nop|dat)\s*", code):
+            word = found[1].decode().upper()
+            print(f"note: pMARS refuses line {number}: {word} without an operand", file=sys.stderr)
 
 
 def make_parser():

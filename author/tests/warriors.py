@@ -74,6 +74,7 @@ def foreign(program, folder):
     """Makes texts with lines that pMARS does not take."""
     for name, text, said in [
         ("nop.red", b"DAT 0\nx: nop\n", "note: pMARS refuses line 3: NOP without an operand\n"),
+        ("dat.red", b"DAT ; nothing\n", "note: pMARS refuses line 2: DAT without an operand\n"),
         ("wide.red", b"DAT 0\nDAT 1" + b" " * 251 + b"\n",
          "note: pMARS cuts line 3 at 255 bytes\n"),
     ]:
