@@ -304,9 +304,9 @@ def merged(place):
 
 
 def screen_of(place, words):
-    """Returns what a run shows on a terminal."""
+    """Returns what `cwtune-spread` shows on a terminal."""
     screen, terminal = pty.openpty()
-    job = subprocess.Popen(words, cwd=place.folder, stdout=subprocess.DEVNULL, stderr=terminal)
+    job = subprocess.Popen(place.words(words), cwd=place.folder, stdout=subprocess.DEVNULL, stderr=terminal)
     os.close(terminal)
     text = shown(screen)
     job.wait()
@@ -318,10 +318,10 @@ def explained(place):
     place.write("x.red", inputs.FILES["imps.red"])
     place.write("near.csv", b"opponent,position,first\n0,3,c\n")
     words = [*RULES, "x.red", "near.csv", "CERT", "dat.red"]
-    tuned = screen_of(place, [place.program, "tune", *words])
+    tuned = place.run(["tune", *words], terminal=True, keep=True).err.decode()
     yield compare("the line at fault is shown", True, "near.csv, line 2: 0,3,c" in tuned)
     place.clear()
-    yield compare("the explanation is that of tune", tuned, screen_of(place, place.words(words)))
+    yield compare("the explanation is that of tune", tuned, screen_of(place, words))
 
 
 def total_of_start(place):
@@ -333,7 +333,7 @@ def total_of_start(place):
 
 def progress(place):
     """Looks at the line on a terminal."""
-    lines = screen_of(place, place.words(["--jobs=1", "--parts=12", *DECOY])).split("\r")
+    lines = screen_of(place, ["--jobs=1", "--parts=12", *DECOY]).split("\r")
     shown = re.compile(r"6 of 12 parts, 63 of 126 settings, \d+ fights, \d+:\d\d left, best \d+ "
                        r"total \d+ DECOY.*\x1b\[K")
     yield compare("a line of progress", True, any(shown.fullmatch(line) for line in lines))

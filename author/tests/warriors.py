@@ -2,9 +2,10 @@
 
 `run.py` counts what `trials` yields: names, and for each a list of what was wrong.
 """
-import pathlib, subprocess, tempfile
+import pathlib, tempfile
 
 from author.lib import tuning_files, warrior
+from gate.play import Place
 from gate.tally import compare
 
 from .commands import TUNING, run
@@ -101,8 +102,8 @@ def gains(program, folder):
          "start 0: tuning 15 of 18 (83.3%), fresh 83.3% +- 0.0 K=0\n"
          "over the start, setting 1: +5.6% +- 0.0, a gain\n"),
     ]:
-        subprocess.run([program, "tune", "--all", "t.red", schedule, "cert", *opponents],
-                       cwd=folder, check=True, capture_output=True)
+        Place(program, folder, {}).run(["tune", "--all", "t.red", schedule, "cert", *opponents],
+                                       keep=True)
         words = ["--schedule", schedule, "--rounds", "20", "t.red", "cert", *opponents]
         came = run("cwtune-holdout", "--program", program, *words, folder=folder)
         yield compare(f"a gain by {schedule}", (0, expected, ""), came)
@@ -113,8 +114,7 @@ def holdouts(program, folder):
     (folder / "t.red").write_text(";@tune K 1 2 1 1\nMOV 0, K\n")
     (folder / "s.csv").write_text(FIGHT)
     (folder / "dat.red").write_text("DAT 0\n")
-    subprocess.run([program, "tune", "--all", "t.red", "s.csv", "cert", "dat.red"], cwd=folder,
-                   check=True, capture_output=True)
+    Place(program, folder, {}).run(["tune", "--all", "t.red", "s.csv", "cert", "dat.red"], keep=True)
     words = ["--program", program, "--rounds", "20", "t.red", "cert", "dat.red"]
     expected = "".join(f"setting {v}: tuning 3 of 3 (100.0%), fresh 60 of 60 (100.0% +- 0.0) "
                        f"K={v + 1}\n" for v in (0, 1))
