@@ -1,5 +1,5 @@
 -- The form of a line has no fault of memory.
-use Rattle.std.proofs.Common.{◌≡◌, ℕ, Bool, true, false, List, [], ◌∷◌, Option, Some, None, refl, sym, subst}
+use Rattle.std.proofs.Common.{◌≡◌, ℕ, Bool, true, false, List, [], ◌∷◌, Option, Some, None, sym, subst}
 use Rattle.std.specs.Option.{ok_or}
 use Rattle.std.specs.Prelude.{◌≢◌, Result, Ok, Err, IfErr, if◌then◌else◌}
 use Rattle.rc_text.specs.declared.token.Token.{Token}
@@ -8,10 +8,10 @@ use Rattle.rc_instr.specs.declared.instruction.Modifier.{Modifier}
 use Rattle.rc_expand.specs.Heads.Lines.{is_dot}
 use Rattle.rc_expand.specs.Results.{mapped, and_then}
 use Rattle.rc_asm.specs.declared.fault.AsmKind.{AsmKind}
-use Rattle.rc_asm.specs.declared.fault.AsmKind.TheVariants.{OutOfMemory, UnknownOpcode, MissingOperand, ExtraText}
+use Rattle.rc_asm.specs.declared.fault.AsmKind.TheVariants.{OutOfMemory, UnknownOpcode, MissingOperand}
 use Rattle.rc_asm.specs.declared.shape.Shape.{Shape as BorrowedShape}
 use Rattle.rc_asm.specs.Words.{modifier_at}
-use Rattle.rc_asm.specs.Shape.{Sides, Shape, shape, parts, no_side, one_side, two_sides, sides_of, with_operands, with_modifier, after_opcode}
+use Rattle.rc_asm.specs.Shape.{Shape, shape, parts, no_side, one_side, two_sides, sides_of, with_operands, with_modifier, after_opcode}
 use Rattle.rc_asm.specs.Seen.{seen_shape}
 
 -- some other fault

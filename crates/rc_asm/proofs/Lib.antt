@@ -1,8 +1,6 @@
-pub mod Entries
 pub mod Parts
 pub mod Steps
 pub mod Whole
 pub mod LoadFile
 pub mod Outcomes
 pub mod FormFaults
-pub mod OpcodeWords

@@ -13,22 +13,24 @@ use Rattle.rc_instr.specs.declared.warrior.WarriorError.TheVariants.{Empty, TooL
 use Rattle.rc_instr.specs.Rules.{RulesView}
 use Rattle.rc_instr.specs.Warrior.{WarriorView, warrior_view}
 use Rattle.rc_expand.specs.declared.fault.ExpandFault.{ExpandFault}
+use Rattle.rc_expand.specs.declared.fault.ExpandKind.{ExpandKind}
+use Rattle.rc_expand.specs.declared.fault.ExpandKind.TheVariants.{Text, DuplicateName, ForWithoutRof, RofWithoutFor, ForTooDeep, EquTooDeep, CountRefused, TooManyLines, BadDirective, TooManyTokens, OutOfMemory as NoMemory}
 use Rattle.rc_expand.specs.declared.line.Line.{Line}
 use Rattle.rc_expand.specs.declared.line.LineWord.{LineWord}
 use Rattle.rc_expand.specs.declared.line.LineWord.TheVariants.{Bare, Code, Org, End, Assert}
 use Rattle.rc_expand.specs.Names.{Table}
 use Rattle.rc_expand.specs.Expansion.{expansion_of}
 use Rattle.rc_asm.specs.declared.fault.AsmKind.{AsmKind}
-use Rattle.rc_asm.specs.declared.fault.AsmKind.TheVariants.{OutOfMemory, AssertFailed, Warrior, TextTooLong}
+use Rattle.rc_asm.specs.declared.fault.AsmKind.TheVariants.{Expand, OutOfMemory, AssertFailed, Warrior, TextTooLong}
 use Rattle.rc_asm.specs.declared.fault.AsmFault.{AsmFault}
 use Rattle.rc_asm.specs.declared.starts.Starts.{Starts}
 use Rattle.rc_asm.specs.Limits.{MOST_BYTES}
 use Rattle.rc_asm.specs.Names.{NameValues, code_lines_after, names_of}
 use Rattle.rc_expand.specs.Results.{and_then, with_fault}
 use Rattle.rc_asm.specs.Lines.{line_holds, instructions_from, holds_from, starts_from, start_value, no_starts}
-use Rattle.rc_asm.specs.Faults.{at_line, value_fault, values_fault, lines_fault, IsWarriorFault, IsFaultOfLines, IsAsmFault}
-use Rattle.rc_asm.specs.Steps.{IsStarted}
-use Rattle.rc_asm.specs.Assembly.{IsMadeOf, Assembles, with_start, warrior_of_code, warrior_of_lines, unless, lines_outcome, expand_fault, outcome_of, assembled}
+use Rattle.rc_asm.specs.Faults.{at_line, value_fault, values_fault, lines_fault}
+use Rattle.rc_asm.specs.Steps.{IsStarted, IsWarriorFault, IsFaultOfLines}
+use Rattle.rc_asm.specs.Assembly.{IsMadeOf, Assembles, with_start, warrior_of_code, warrior_of_lines, unless, lines_outcome, expand_kind, expand_fault, outcome_of, IsAsmFault, assembled}
 use Rattle.rc_asm.proofs.Whole.{map_some, lines_stop}
 
 -- a start that is not inside the code
@@ -80,6 +82,19 @@ module _ (source : List ℕ) (names : NameValues) (lines : List Line) where
       ∙ (ap (warrior_of_code names.rules w.code) t.2
       ∙ fit names.rules w.code w.start m.some m.within m.inside)))
 
+kind_kept : (k : ExpandKind) → k ≢ NoMemory → expand_kind k ≡ Expand k
+kind_kept NoMemory h = absurd (h refl)
+kind_kept (Text e) h = refl
+kind_kept DuplicateName h = refl
+kind_kept ForWithoutRof h = refl
+kind_kept RofWithoutFor h = refl
+kind_kept ForTooDeep h = refl
+kind_kept EquTooDeep h = refl
+kind_kept CountRefused h = refl
+kind_kept TooManyLines h = refl
+kind_kept BadDirective h = refl
+kind_kept TooManyTokens h = refl
+
 module _ (source : List ℕ) (constants : Table) (rules : RulesView) where
   abbrev by_lines : List Line → Result WarriorView AsmFault
   by_lines lines = lines_outcome source (names_of source constants rules lines) lines
@@ -93,20 +108,24 @@ module _ (source : List ℕ) (constants : Table) (rules : RulesView) where
   unfolding outcome_of
   short h = let e : nat_le (length source) MOST_BYTES ≡ true = le-leb (length source) MOST_BYTES h in rw e refl
 
-  -- a first fault is what comes out
-  pub fault_comes_out : (f : AsmFault) → IsAsmFault source constants rules f → outcome_of source constants rules ≡ Err f
-  fault_comes_out f (inl h) = too_long h.0 ∙ ap Err (sym h.1)
-  fault_comes_out f (inr (inl h)) = short h.0 ∙ (ap (λ o. and_then by_lines (with_fault expand_fault o)) h.2 ∙ ap Err (sym h.4))
-  fault_comes_out f (inr (inr h)) = short h.0 ∙ (ap (λ o. and_then by_lines (with_fault expand_fault o)) h.2 ∙ lines_refuse source (names_of source constants rules h.1) h.1 f h.3)
+  -- the fault of the expansion is what comes out
+  pub expansion_refused : (e : ExpandFault) → e.kind ≢ NoMemory → length source ≤ MOST_BYTES → expansion_of source constants rules ≡ Err e → outcome_of source constants rules ≡ Err (at_line e.line (Expand e.kind))
+  expansion_refused e k l h = short l ∙ (ap (λ o. and_then by_lines (with_fault expand_fault o)) h ∙ ap (λ x. Err (at_line e.line x)) (kind_kept e.kind k))
 
   -- what the lines give is what comes out
   pub lines_come_out : (lines : List Line) (r : Result WarriorView AsmFault) → length source ≤ MOST_BYTES → expansion_of source constants rules ≡ Ok lines
       → IfOk r (IsMadeOf source (names_of source constants rules lines) lines) → IfErr r (λ f. f.kind ≢ OutOfMemory → IsFaultOfLines source (names_of source constants rules lines) lines f)
       → MatchResult r (λ w. outcome_of source constants rules ≡ Ok w) (λ f. f.kind ≢ OutOfMemory → outcome_of source constants rules ≡ Err f)
   lines_come_out lines (Ok w) l e m h = short l ∙ (ap (λ o. and_then by_lines (with_fault expand_fault o)) e ∙ lines_make source (names_of source constants rules lines) lines w m)
-  lines_come_out lines (Err f) l e m h = λ k. fault_comes_out f (inr (inr (l, lines, e, h k)))
+  lines_come_out lines (Err f) l e m h = λ k. short l ∙ (ap (λ o. and_then by_lines (with_fault expand_fault o)) e ∙ lines_refuse source (names_of source constants rules lines) lines f (h k))
 
 -- ---- the warrior, computed
+
+some_is : {A : Type 0} (x y : A) → Some x ≡ Some y → x ≡ y
+some_is x y h = cc
+
+none_some : {A : Type 0} (x : A) → None ≡ Some x → ⊥
+none_some x h = cc
 
 if_ok : {A E : Type 0} (b : Bool) (r : Result A E) (e : E) (y : A) → result_ok (if b then r else Err e) ≡ Some y → (b ≡ true) × (result_ok r ≡ Some y)
 if_ok true r e y h = (refl, h)
@@ -178,3 +197,17 @@ module _ (source : List ℕ) (constants : Table) (rules : RulesView) where
   pub assembles : (w : WarriorView) → assembled source constants rules ≡ Some w → Assembles source constants rules w
   unfolding assembled outcome_of
   assembles w h = let p = if_ok (nat_le (length source) MOST_BYTES) _ _ w h in of_lines w (expansion_of source constants rules) refl (leb-true (length source) MOST_BYTES p.0) p.1
+
+  -- at most one warrior
+  pub one_warrior : (w v : WarriorView) → Assembles source constants rules w → Assembles source constants rules v → w ≡ v
+  one_warrior w v a b = some_is w v (sym (computed w a) ∙ computed v b)
+
+  -- the outcome is a warrior that the text assembles to
+  pub outcome_assembles : (w : WarriorView) → outcome_of source constants rules ≡ Ok w → Assembles source constants rules w
+  unfolding assembled
+  outcome_assembles w e = assembles w (ap result_ok e)
+
+  -- a text with a fault assembles to no warrior
+  pub fault_stops : (f : AsmFault) → IsAsmFault source constants rules f → (w : WarriorView) → Assembles source constants rules w → ⊥
+  unfolding assembled
+  fault_stops f e w a = none_some w (sym (ap result_ok e) ∙ computed w a)

@@ -1,7 +1,7 @@
 -- The whole text.
 use Rattle.std.proofs.Common.{◌≡◌, ℕ, ◌-◌, ◌^◌, ◌<◌, ◌≤◌, List, length, Option, Some, None, refl, sym, ◌∙◌, ap, arith, subst, inl, inr}
 use Rattle.std.specs.Option.{option_or}
-use Rattle.std.specs.Prelude.{ℤ, negsuc, ◌↔◌, ◌⊎◌, ◌≢◌, pos, All, option_map, Result, Ok, Err, IfErr}
+use Rattle.std.specs.Prelude.{◌↔◌, ◌⊎◌, ◌≢◌, pos, All, option_map}
 use Rattle.std.proofs.lemmas.Bool.{cases_lt}
 use Rattle.rc_instr.specs.declared.instruction.Instruction.{Instruction}
 use Rattle.rc_instr.specs.declared.warrior.WarriorError.{WarriorError}
@@ -9,35 +9,20 @@ use Rattle.rc_instr.specs.declared.warrior.WarriorError.TheVariants.{Empty, TooL
 use Rattle.rc_instr.specs.Rules.{RulesView, IsRules}
 use Rattle.rc_instr.specs.Warrior.{WarriorView, warrior_view, IsWarrior, IsBelow, Fits}
 use Rattle.rc_instr.specs.WarriorRefusal.{IsWarriorError}
-use Rattle.rc_expand.specs.declared.fault.ExpandFault.{ExpandFault}
 use Rattle.rc_expand.specs.declared.line.Line.{Line}
 use Rattle.rc_expand.specs.Names.{Table, entry_of}
-use Rattle.rc_expand.specs.Expansion.{IsExpansion}
 use Rattle.rc_asm.specs.declared.fault.AsmKind.TheVariants.{OutOfMemory}
 use Rattle.rc_asm.specs.declared.starts.Starts.{Starts}
 use Rattle.rc_asm.specs.declared.fault.AsmFault.{AsmFault}
-use Rattle.rc_asm.specs.Limits.{MOST_BYTES}
 use Rattle.rc_asm.specs.Names.{NameValues, Labels, labels_of, names_of}
 use Rattle.rc_asm.specs.Lines.{start_value, no_starts, starts_from}
-use Rattle.rc_asm.specs.Assembly.{IsMadeOf, Assembles}
-use Rattle.rc_asm.specs.Faults.{forms_fault, values_fault, IsWarriorFault, IsFaultOfCode, IsFaultOfLines, IsAsmFault}
-use Rattle.rc_asm.specs.Steps.{IsStarted, Agree}
+use Rattle.rc_asm.specs.Assembly.{IsMadeOf}
+use Rattle.rc_asm.specs.Faults.{forms_fault, values_fault}
+use Rattle.rc_asm.specs.Steps.{IsStarted, IsWarriorFault, IsFaultOfCode, IsFaultOfLines, Agree}
 use Rattle.rc_asm.proofs.Steps.{GiveNothing, faulty}
 
 some_is : {A : Type 0} (x y : A) → Some x ≡ Some y → x ≡ y
 some_is x y h = cc
-
-abbrev ok_line : List Line → Result (List Line) ExpandFault
-ok_line x = Ok x
-
-abbrev IsOk : List Line → List Line → Type 0
-IsOk x y = ok_line x ≡ ok_line y
-
-ok_is : (x y : List Line) → IsOk x y → x ≡ y
-ok_is x y h = cc
-
-not_both : (x : List Line) (e : ExpandFault) → ok_line x ≡ Err e → ⊥
-not_both x e h = cc
 
 pub map_some : {A B : Type 0} (f : A → B) (o : Option A) (y : B) → option_map f o ≡ Some y → (x : A) × (o ≡ Some x) × (f x ≡ y)
 map_some f None y h = absurd (cc)
@@ -92,45 +77,8 @@ module _ (source : List ℕ) (names : NameValues) (lines : List Line) where
   lines_stop f (inl h) p m = refused_made (faulty source names lines f h) p m
   lines_stop f (inr h) p m = code_stops f h p m
 
--- the expansion of a text is unique
-made_of_these : (source : List ℕ) (constants : Table) (rules : RulesView) (lines : List Line) (p : WarriorView) → IsExpansion source constants rules lines → Assembles source constants rules p → IsMadeOf source (names_of source constants rules lines) lines p
-made_of_these source constants rules lines p e a =
-    subst (λ ls. IsMadeOf source (names_of source constants rules ls) ls p) (ok_is a.lines lines (sym a.expands ∙ e)) a.made
-
--- a text with a fault assembles to no warrior
-pub text_stops : (source : List ℕ) (constants : Table) (rules : RulesView) (f : AsmFault) → IsAsmFault source constants rules f → (p : WarriorView) → Assembles source constants rules p → ⊥
-text_stops source constants rules f (inl h) p a = omega (arith, h.0, a.short)
-text_stops source constants rules f (inr (inl h)) p a = not_both a.lines h.1 (sym a.expands ∙ h.2)
-text_stops source constants rules f (inr (inr h)) p a =
-    lines_stop source (names_of source constants rules h.1) h.1 f h.3 p (made_of_these source constants rules h.1 p h.2 a)
-
 abbrev pub names_with : Table → RulesView → (List ℕ → Option ℕ) → NameValues
 names_with constants rules address = record { constants = constants; rules = rules; address = address }
-
-abbrev natural_of : ℤ → ℕ
-natural_of (pos n) = n
-natural_of (negsuc n) = 0
-
--- at most one warrior
-pub one_warrior : (source : List ℕ) (constants : Table) (rules : RulesView) (w v : WarriorView) → Assembles source constants rules w → Assembles source constants rules v → w ≡ v
-one_warrior source constants rules w v a b =
-    let m = a.made in
-    let n = made_of_these source constants rules a.lines v a.expands b in
-    let c : w.code ≡ v.code = some_is w.code v.code (sym m.code ∙ n.code) in
-    let s : w.start ≡ v.start = ap natural_of (some_is (pos w.start) (pos v.start) (sym m.start ∙ n.start)) in
-    (λ x. record { code = c x; start = s x })
-
--- a refusal other than out of memory is a fault of the text, which then assembles to no warrior
-pub refusal_stops : {A : Type 0} (source : List ℕ) (constants : Table) (rules : RulesView) (r : Result A AsmFault) → IfErr r (λ f. f.kind ≢ OutOfMemory → IsAsmFault source constants rules f)
-    → IfErr r (λ f. f.kind ≢ OutOfMemory → (w : WarriorView) → Assembles source constants rules w → ⊥)
-refusal_stops source constants rules (Ok x) h = h
-refusal_stops source constants rules (Err f) h = λ m w a. text_stops source constants rules f (h m) w a
-
--- a fault of the lines is a fault of the text
-pub lines_refused : {A : Type 0} (source : List ℕ) (constants : Table) (rules : RulesView) (lines : List Line) (r : Result A AsmFault) → length source ≤ MOST_BYTES → IsExpansion source constants rules lines
-    → IfErr r (λ f. f.kind ≢ OutOfMemory → IsFaultOfLines source (names_of source constants rules lines) lines f) → IfErr r (λ f. f.kind ≢ OutOfMemory → IsAsmFault source constants rules f)
-lines_refused source constants rules lines (Ok x) s e h = h
-lines_refused source constants rules lines (Err f) s e h = λ m. inr (inr (s, lines, e, h m))
 
 -- a malformed line comes before any other fault
 pub form_first : (source : List ℕ) (names : NameValues) (lines : List Line) (found f : AsmFault) → Some f ≡ option_or (forms_fault source lines) (Some found)

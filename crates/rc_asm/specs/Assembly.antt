@@ -6,9 +6,12 @@ use Rattle.rc_instr.specs.Warrior.{WarriorView, warrior_view}
 use Rattle.rc_instr.specs.declared.instruction.Instruction.{Instruction}
 use Rattle.rc_instr.specs.declared.warrior.WarriorError.TheVariants.{Empty, TooLong, BadStart}
 use Rattle.rc_expand.specs.declared.fault.ExpandFault.{ExpandFault}
+use Rattle.rc_expand.specs.declared.fault.ExpandKind.{ExpandKind}
+use Rattle.rc_expand.specs.declared.fault.ExpandKind.TheVariants.{OutOfMemory as NoMemory}
 use Rattle.rc_expand.specs.declared.line.Line.{Line}
 use Rattle.rc_expand.specs.Names.{Table}
 use Rattle.rc_expand.specs.Expansion.{IsExpansion, expansion_of}
+use Rattle.rc_asm.specs.declared.fault.AsmKind.{AsmKind}
 use Rattle.rc_asm.specs.declared.fault.AsmKind.TheVariants.{Expand, Warrior, TextTooLong, OutOfMemory}
 use Rattle.rc_asm.specs.declared.fault.AsmFault.{AsmFault}
 use Rattle.rc_asm.specs.declared.starts.Starts.{Starts}
@@ -59,8 +62,13 @@ unless (Some f) r = Err f
 abbrev pub lines_outcome : List ℕ → NameValues → List Line → Result WarriorView AsmFault
 lines_outcome source names lines = unless (lines_fault source names lines) (warrior_of_lines names.rules (instructions_from source names 0 lines) (starts_from source names 0 no_starts lines))
 
+-- `Expand` never has out of memory in it.
+abbrev pub expand_kind : ExpandKind → AsmKind
+expand_kind NoMemory = OutOfMemory
+expand_kind kind = Expand kind
+
 abbrev pub expand_fault : ExpandFault → AsmFault
-expand_fault e = at_line e.line (Expand e.kind)
+expand_fault e = at_line e.line (expand_kind e.kind)
 
 -- The warrior of a text, or its first fault.
 unfoldable pub outcome_of : List ℕ → Table → RulesView → Result WarriorView AsmFault
@@ -71,6 +79,10 @@ outcome_of source constants rules =
 -- A call returns this outcome, unless memory runs out.
 abbrev pub IsOutcome : Result WarriorView AsmFault → Result WarriorView AsmFault → Type 0
 IsOutcome outcome result = MatchResult result (λ w. outcome ≡ Ok w) (λ f. f.kind ≢ OutOfMemory → outcome ≡ Err f)
+
+-- The first fault of a text.
+abbrev pub IsAsmFault : List ℕ → Table → RulesView → AsmFault → Type 0
+IsAsmFault source constants rules f = outcome_of source constants rules ≡ Err f
 
 -- The warrior to which the text assembles.
 unfoldable pub assembled : List ℕ → Table → RulesView → Option WarriorView

@@ -36,7 +36,7 @@ pub record NameValues : Type 0 where
   pub rules : RulesView
   pub address : List ℕ → Option ℕ
 
--- What gives the names of a text their values.
+-- The values of names in a text with these lines.
 abbrev pub names_of : List ℕ → Table → RulesView → List Line → NameValues
 names_of source constants rules lines = record { constants = constants; rules = rules; address = entry_of (labels_of source lines) }
 

@@ -14,4 +14,4 @@ abbrev pub seen_shape : BorrowedShape → Shape
 seen_shape s = shape s.opcode s.modifier (seen_sides s.sides)
 
 abbrev pub seen_names : Context → NameValues
-seen_names k = record { constants = table_in k.constants.now; rules = k.rules.now; address = entry_of k.labels.now }
+seen_names k = record { constants = table_in k.given.now.constants.now; rules = k.given.now.rules.now; address = entry_of k.labels.now }

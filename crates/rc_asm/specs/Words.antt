@@ -1,35 +1,17 @@
 -- The words and signs of a line of code. Opcodes, modifiers and modes are the 1994 draft's; SEQ,
 -- SNE and NOP are pMARS's.
-use Rattle.std.specs.Prelude.{ℕ, Bool, true, false, ◌&&◌, List, [], ◌∷◌, map, Option, Some, None, if◌then◌else◌, codes}
-use Rattle.std.specs.Char.{to_ascii_lowercase}
+use Rattle.std.specs.Prelude.{ℕ, Bool, true, false, ◌&&◌, List, Option, Some, None, if◌then◌else◌}
 use Rattle.rc_text.specs.declared.token.Sign.{Sign}
 use Rattle.rc_text.specs.declared.token.Sign.TheVariants.{Comma, Hash, Dollar, Star, At, OpenBrace, CloseBrace, Less, Greater}
 use Rattle.rc_text.specs.declared.token.Kind.{Kind}
 use Rattle.rc_text.specs.declared.token.Kind.TheVariants.{Sign as SignOf}
 use Rattle.rc_text.specs.declared.token.Token.{Token}
-use Rattle.rc_expand.specs.Names.{entry_of}
 use Rattle.rc_expand.specs.Heads.Lines.{is_name_token, is_unjoined, bytes_of}
+use Rattle.rc_instr.specs.Words.{opcode_named, modifier_named}
 use Rattle.rc_instr.specs.declared.instruction.Opcode.{Opcode}
-use Rattle.rc_instr.specs.declared.instruction.Opcode.TheVariants as op
 use Rattle.rc_instr.specs.declared.instruction.Modifier.{Modifier}
-use Rattle.rc_instr.specs.declared.instruction.Modifier.TheVariants as mod'
 use Rattle.rc_instr.specs.declared.instruction.Mode.{Mode}
 use Rattle.rc_instr.specs.declared.instruction.Mode.TheVariants as mode
-
--- Looks up a name in either case; the words of the table are lower case.
-abbrev pub entry_in_any_case : {A : Type 0} → List (List ℕ × A) → List ℕ → Option A
-entry_in_any_case table name = entry_of table (map to_ascii_lowercase name)
-
--- CMP is another spelling of SEQ.
-abbrev pub opcodes : List (List ℕ × Opcode)
-opcodes =
-    (codes "dat", op.Dat) ∷ (codes "mov", op.Mov) ∷ (codes "add", op.Add) ∷ (codes "sub", op.Sub) ∷ (codes "mul", op.Mul) ∷ (codes "div", op.Div)
-    ∷ (codes "mod", op.Mod) ∷ (codes "jmp", op.Jmp) ∷ (codes "jmz", op.Jmz) ∷ (codes "jmn", op.Jmn) ∷ (codes "djn", op.Djn) ∷ (codes "seq", op.Seq)
-    ∷ (codes "cmp", op.Seq) ∷ (codes "sne", op.Sne) ∷ (codes "slt", op.Slt) ∷ (codes "spl", op.Spl) ∷ (codes "nop", op.Nop) ∷ []
-
-abbrev pub modifiers : List (List ℕ × Modifier)
-modifiers =
-    (codes "a", mod'.A) ∷ (codes "b", mod'.B) ∷ (codes "ab", mod'.AB) ∷ (codes "ba", mod'.BA) ∷ (codes "f", mod'.F) ∷ (codes "x", mod'.X) ∷ (codes "i", mod'.I) ∷ []
 
 abbrev pub mode_of : Sign → Option Mode
 mode_of Hash = Some mode.Immediate
@@ -61,7 +43,7 @@ abbrev pub is_plain : Token → Bool
 is_plain t = is_name_token t && is_unjoined t.joined
 
 unfoldable pub opcode_at : List ℕ → Token → Option Opcode
-opcode_at source t = if is_plain t then entry_in_any_case opcodes (bytes_of source t) else None
+opcode_at source t = if is_plain t then opcode_named (bytes_of source t) else None
 
 unfoldable pub modifier_at : List ℕ → Token → Option Modifier
-modifier_at source t = if is_plain t then entry_in_any_case modifiers (bytes_of source t) else None
+modifier_at source t = if is_plain t then modifier_named (bytes_of source t) else None

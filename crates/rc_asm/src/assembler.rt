@@ -2,13 +2,13 @@
 ghost use Rattle.std.specs.Prelude.{◌≡◌, ◌≢◌, ◌↔◌, ◌<◌, ◌^◌, ◌-◌, ℕ, pos, All, IfErr, IfOk, MatchResult, Some, None, Ok, Err};
 ghost use Rattle.std.specs.Option.{option_or};
 ghost use Rattle.rc_expand.specs.Names.{table_in};
-ghost use Rattle.rc_instr.specs.Warrior.{IsBelow, WarriorView, IsWarrior, Fits};
+ghost use Rattle.rc_instr.specs.Warrior.{IsBelow, IsWarrior, Fits};
 ghost use Rattle.rc_instr.specs.Rules.{IsRules};
-ghost use Rattle.rc_asm.specs.Steps.{IsStarted};
+ghost use Rattle.rc_asm.specs.Steps.{IsStarted, IsWarriorFault, IsFaultOfLines};
 ghost use Rattle.rc_asm.specs.Names.{names_of};
 ghost use Rattle.rc_asm.specs.Lines.{start_value};
-ghost use Rattle.rc_asm.specs.Assembly.{IsMadeOf, Assembles, IsOutcome, outcome_of};
-ghost use Rattle.rc_asm.specs.Faults.{forms_fault, IsWarriorFault, IsFaultOfLines, IsAsmFault};
+ghost use Rattle.rc_asm.specs.Assembly.{IsMadeOf, IsOutcome, outcome_of};
+ghost use Rattle.rc_asm.specs.Faults.{forms_fault};
 ghost use Rattle.rc_asm.specs.Seen.{seen_names};
 ghost use Rattle.rc_asm.specs.declared.fault.AsmKind.TheVariants.{OutOfMemory};
 
@@ -18,7 +18,7 @@ use crate::labels::Labels;
 use crate::reading::{Reading, read_lines};
 use crate::scope::Context;
 use crate::starts::Starts;
-use rc_expand::{Constants, Line, expand};
+use rc_expand::{Constants, GivenNames, Line, expand};
 use rc_instr::{Rules, Warrior, WarriorError};
 use std::alloc::Global;
 
@@ -60,14 +60,8 @@ pub fn assemble(
 ) -> Result<Warrior, AsmFault>
     // Unless memory runs out, the result is the warrior of the definition, or the first fault.
     ensures outcome { IsOutcome (outcome_of source.now (table_in constants.now) rules.now) result }
-    ensures warrior { IfOk result (Assembles source.now (table_in constants.now) rules.now) }
     ensures is_warrior { IfOk result IsWarrior }
     ensures fits { IfOk result (Fits rules.now) }
-
-    // The same in other words: a text is refused only if it assembles to no warrior, and the fault
-    // is the first one.
-    ensures refused { IfErr result (λ f. f.kind ≢ OutOfMemory → (w : WarriorView) → Assembles source.now (table_in constants.now) rules.now w → ⊥) }
-    ensures fault { IfErr result (λ f. f.kind ≢ OutOfMemory → IsAsmFault source.now (table_in constants.now) rules.now f) }
     ensures memory { IfErr result (λ f. f.kind ≡ OutOfMemory → f.line ≡ 0) }
 {
     if source.len() > MOST_BYTES {
@@ -116,13 +110,13 @@ fn assemble_with(
 ) -> Result<Warrior, AsmFault>
     ensures made { IfOk result (IsMadeOf source.now (seen_names context.now) lines.now) }
     ensures warrior { IfOk result IsWarrior }
-    ensures fits { IfOk result (Fits context.now.rules.now) }
+    ensures fits { IfOk result (Fits context.now.given.now.rules.now) }
     ensures refused { IfErr result (λ f. f.kind ≢ OutOfMemory → forms_fault source.now lines.now ≡ None → IsFaultOfLines source.now (seen_names context.now) lines.now f) }
     ensures memory { IfErr result (λ f. f.kind ≡ OutOfMemory → f.line ≡ 0) }
 {
-    prove!(0 < context.rules.core());
+    prove!(0 < context.given.rules.core());
     let reading = read_lines(alloc, source, context, lines)?;
-    match warrior_of(reading, context.rules) {
+    match warrior_of(reading, context.given.rules) {
         Ok(warrior) => Ok(warrior),
         Err(error) => Err(AsmFault {
             line: 0,
@@ -159,9 +153,9 @@ fn assemble_lines(
     ensures memory { IfErr result (λ f. f.kind ≡ OutOfMemory → f.line ≡ 0) }
 {
     let labels = Labels::of_lines(alloc, source, lines)?;
+    let given = GivenNames { constants, rules };
     let context = Context {
-        constants,
-        rules,
+        given: &given,
         labels: &labels,
     };
     match assemble_with(alloc, source, &context, lines) {

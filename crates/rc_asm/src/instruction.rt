@@ -20,9 +20,9 @@ pub(crate) fn instruction_at(
     tokens: &[Token],
 ) -> Result<Instruction, AsmKind>
     requires small { address < 2 ^ 63 }
-    requires core { 0 < context.now.rules.now.core }
+    requires core { 0 < context.now.given.now.rules.now.core }
     ensures instruction { result ≡ instruction_at source.now (seen_names context.now) address tokens.now }
-    ensures below { IfOk result (IsBelow context.now.rules.now.core) }
+    ensures below { IfOk result (IsBelow context.now.given.now.rules.now.core) }
 {
     let shape = shape_of(source, tokens)?;
     let instruction = instruction_of_shape(source, context, address, &shape)?;
@@ -56,9 +56,9 @@ fn instruction_of_shape(
     shape: &Shape,
 ) -> Result<Instruction, EvalFault>
     requires small { address < 2 ^ 63 }
-    requires core { 0 < context.now.rules.now.core }
+    requires core { 0 < context.now.given.now.rules.now.core }
     ensures instruction { result ≡ instruction_of_shape source.now (seen_names context.now) address (seen_shape shape.now) }
-    ensures below { IfOk result (IsBelow context.now.rules.now.core) }
+    ensures below { IfOk result (IsBelow context.now.given.now.rules.now.core) }
 {
     let a = operand_at(source, context, address, shape.sides.a)?;
     let b = operand_at(source, context, address, shape.sides.b)?;

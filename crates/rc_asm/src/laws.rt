@@ -1,12 +1,10 @@
 //! Laws of the assembler.
-ghost use Rattle.std.specs.Prelude.{◌≡◌, ◌↔◌, List, [], ℕ, Some, is_some};
-ghost use Rattle.rc_text.specs.NameClasses.{is_opcode_word};
+ghost use Rattle.std.specs.Prelude.{◌≡◌, ◌↔◌, List, [], ℕ, Some};
 ghost use Rattle.rc_instr.specs.Rules.{RulesView, IsRules};
 ghost use Rattle.rc_instr.specs.Warrior.{WarriorView, IsWarrior, Fits};
 ghost use Rattle.rc_instr.specs.LoadText.{load_text};
 ghost use Rattle.rc_expand.specs.Names.{Table};
 ghost use Rattle.rc_asm.specs.Assembly.{Assembles, assembled};
-ghost use Rattle.rc_asm.specs.Words.{opcodes, entry_in_any_case};
 
 /// A text assembles to at most one warrior.
 pub fn one_warrior()
@@ -21,9 +19,4 @@ pub fn assembly_is_computed()
 /// A load file, taken as a Redcode text without constants, assembles to its warrior.
 pub fn a_load_file_assembles_to_its_warrior()
     ensures { (rules : RulesView) (w : WarriorView) → IsRules rules → IsWarrior w → Fits rules w → Assembles (load_text rules.core w) [] rules w }
-{}
-
-/// The names that are opcodes are the words of the assembler's table, in any case.
-pub fn opcodes_are_the_words_of_the_table()
-    ensures { (name : List ℕ) → is_opcode_word name ≡ is_some (entry_in_any_case opcodes name) }
 {}

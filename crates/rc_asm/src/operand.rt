@@ -1,5 +1,6 @@
 //! Operands: a mode and an expression become a mode and a number.
 ghost use Rattle.std.specs.Prelude.{◌≡◌, ◌<◌, ◌≤◌, ◌^◌, All, IfSome, IfOk, option_map};
+ghost use Rattle.rc_instr.specs.Rules.{IsCoreSize};
 ghost use Rattle.rc_expand.specs.Results.{mapped};
 ghost use Rattle.rc_asm.specs.Names.{value_at};
 ghost use Rattle.rc_asm.specs.Instructions.{core_number, operand, operand_at};
@@ -26,9 +27,9 @@ pub(crate) fn operand_at(
     part: Option<&[Token]>,
 ) -> Result<Operand, EvalFault>
     requires small { address < 2 ^ 63 }
-    requires core { 0 < context.now.rules.now.core }
+    requires core { 0 < context.now.given.now.rules.now.core }
     ensures operand { result ≡ operand_at source.now (seen_names context.now) address (option_map (λ p. p.now) part.entry) }
-    ensures below { IfOk result (λ o. o.number < context.now.rules.now.core) }
+    ensures below { IfOk result (λ o. o.number < context.now.given.now.rules.now.core) }
 {
     match part {
         None => Ok(Operand {
@@ -48,7 +49,7 @@ pub(crate) fn operand_at(
 // Reduces a value modulo the core size.
 #[tactic(auto, unfolding(crate::specs::Instructions::core_number))]
 fn core_number(value: i64, core: u32) -> u16
-    requires { (0 < core) × (core ≤ 65535) }
+    requires { IsCoreSize core }
     ensures number { result ≡ core_number core value }
     ensures below { result < core }
 {
@@ -65,12 +66,12 @@ fn with_value(
     tokens: &[Token],
 ) -> Result<Operand, EvalFault>
     requires { address < 2 ^ 63 }
-    ensures operand { result ≡ mapped (operand context.now.rules.now.core mode) (value_at source.now (seen_names context.now) address address tokens.now) }
-    ensures below { IfOk result (λ o. o.number < context.now.rules.now.core) }
+    ensures operand { result ≡ mapped (operand context.now.given.now.rules.now.core mode) (value_at source.now (seen_names context.now) address address tokens.now) }
+    ensures below { IfOk result (λ o. o.number < context.now.given.now.rules.now.core) }
 {
     let value = value_at(source, context, address, address, tokens)?;
     Ok(Operand {
         mode,
-        number: core_number(value, context.rules.core()),
+        number: core_number(value, context.given.rules.core()),
     })
 }

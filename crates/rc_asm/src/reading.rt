@@ -31,7 +31,7 @@ pub(crate) fn read_lines(
     context: &Context,
     lines: &[Line],
 ) -> Result<Reading, AsmFault>
-    requires { 0 < context.now.rules.now.core }
+    requires { 0 < context.now.given.now.rules.now.core }
     ensures read { IfOk result (λ r. AreLinesRead source.now (seen_names context.now) lines.now r.code.items r.starts) }
     ensures refused { IfErr result (λ f. f.kind ≢ OutOfMemory → values_fault source.now (seen_names context.now) 0 lines.now ≡ Some f) }
     ensures memory { IfErr result (λ f. f.kind ≡ OutOfMemory → f.line ≡ 0) }
@@ -74,10 +74,10 @@ fn read_line(
     line: &Line,
     reading: &mut Reading,
 ) -> Result<(), AsmKind>
-    requires { 0 < context.now.rules.now.core }
+    requires { 0 < context.now.given.now.rules.now.core }
     ensures read { IfOk result (λ _. IsLineRead source.now (seen_names context.now) line.now reading.old.code.items reading.old.starts reading.new.code.items reading.new.starts) }
     ensures faultless { IfOk result (λ _. fault_at source.now (seen_names context.now) (length reading.old.code.items) line.now ≡ None) }
-    ensures below { IfOk result (λ _. All (IsBelow context.now.rules.now.core) reading.old.code.items → All (IsBelow context.now.rules.now.core) reading.new.code.items) }
+    ensures below { IfOk result (λ _. All (IsBelow context.now.given.now.rules.now.core) reading.old.code.items → All (IsBelow context.now.given.now.rules.now.core) reading.new.code.items) }
     ensures refused { IfErr result (λ e. e ≢ OutOfMemory → fault_at source.now (seen_names context.now) (length reading.old.code.items) line.now ≡ Some e) }
 {
     let tokens = line.tokens.as_slice();

@@ -4,15 +4,13 @@ ghost use Rattle.rc_asm.specs.Names.{stands_for, value_at};
 ghost use Rattle.rc_asm.specs.Seen.{seen_names};
 
 use crate::labels::Labels;
-use rc_expand::{Constants, GivenNames, spells};
-use rc_instr::Rules;
+use rc_expand::{GivenNames, spells};
 use rc_text::{EvalFault, Names, Token, eval};
 
-// What all lines share: constants, rules and labels give names their values.
+// What all lines share: the names that are given, and the labels.
 #[derive(Clone, Copy)]
 pub(crate) struct Context<'a, 't> {
-    pub(crate) constants: &'a Constants<'a>,
-    pub(crate) rules: &'a Rules,
+    pub(crate) given: &'a GivenNames<'a>,
     pub(crate) labels: &'a Labels<'t>,
 }
 
@@ -33,11 +31,7 @@ impl<'a, 't> Names for Scope<'a, 't> {
 
     #[tactic(auto, unfolding(crate::specs::Names::stands_for))]
     fn value(&self, source: &[u8], name: &Token) -> Option<i64> {
-        let given = GivenNames {
-            constants: self.context.constants,
-            rules: self.context.rules,
-        };
-        if let Some(value) = given.value(source, name) {
+        if let Some(value) = self.context.given.value(source, name) {
             return Some(value);
         }
         if spells(source, name, b"CURLINE") {

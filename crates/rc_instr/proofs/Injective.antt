@@ -1,18 +1,18 @@
 -- One text means one warrior.
-use Rattle.std.proofs.Common.{◌≡◌, ℕ, ◌<◌, ◌≤◌, ◌^◌, ◌+◌, ◌-◌, ◌*◌, List, [], ◌∷◌, ◌++◌, drop, refl, sym, ◌∙◌, ap, arith, Bool, true, false, append_assoc, inl, inr}
-use Rattle.std.specs.Prelude.{◌==◌, nat_le, if◌then◌else◌, flat_map, All}
+use Rattle.std.proofs.Common.{◌≡◌, ℕ, ◌<◌, ◌≤◌, ◌^◌, ◌-◌, ◌*◌, List, [], ◌∷◌, ◌++◌, take, drop, Some, None, refl, sym, ◌∙◌, ap, arith, Bool, true, false, append_assoc, inl, inr}
+use Rattle.std.specs.Prelude.{Option, ◌==◌, nat_le, if◌then◌else◌, flat_map, All}
 use Rattle.std.specs.Fmt.{decimal}
 use Rattle.std.proofs.lemmas.Bool.Decides.{leb_tells}
 use Rattle.std.proofs.lemmas.List.Elements.{All-head, All-tail}
 use Rattle.rc_instr.specs.Digits.{NoDigitFirst}
 use Rattle.rc_instr.specs.Warrior.{WarriorView, warrior_view, IsBelow}
-use Rattle.rc_instr.specs.LoadText.{opcode_text, modifier_text, mode_text, number_text, operand_text, line_text, load_text}
+use Rattle.rc_instr.specs.Words.{opcode_text, modifier_text, opcode_of, modifier_of}
+use Rattle.rc_instr.specs.LoadText.{mode_text, number_text, operand_text, line_text, load_text}
+use Rattle.rc_instr.proofs.WordTable.{opcode_front}
 use Rattle.rc_instr.proofs.Numerals.{decimal_one, decimal_first}
 use Rattle.rc_instr.proofs.Lines.{line_parts, start_parts, line_shorter}
 use Rattle.rc_instr.proofs.Same.{record_of}
 use Rattle.rc_instr.specs.declared.instruction.Instruction.{Instruction}
-use Rattle.rc_instr.specs.declared.instruction.Opcode.{Opcode}
-use Rattle.rc_instr.specs.declared.instruction.Opcode.TheVariants.{Dat, Mov, Add, Sub, Mul, Div, Mod, Jmp, Jmz, Jmn, Djn, Seq, Sne, Slt, Spl, Nop}
 use Rattle.rc_instr.specs.declared.instruction.Modifier.{Modifier}
 use Rattle.rc_instr.specs.declared.instruction.Modifier.TheVariants.{A, B, AB, BA, F, X, I}
 use Rattle.rc_instr.specs.declared.instruction.Mode.{Mode}
@@ -33,45 +33,19 @@ mode_is BPredecrement r = (refl, refl)
 mode_is APostincrement r = (refl, refl)
 mode_is BPostincrement r = (refl, refl)
 
-abbrev opcode_key : ℕ → Opcode
-opcode_key k =
-    if k == 4473172 then Dat else if k == 5066582 then Mov else if k == 4277316 then Add else if k == 5461314 then Sub else if k == 5068108 then Mul else if k == 4475222 then Div else if k == 5066564 then Mod else if k == 4869456 then Jmp else if k == 4869466 then Jmz else if k == 4869454 then Jmn else if k == 4475470 then Djn else if k == 5457233 then Seq else if k == 5459525 then Sne else if k == 5459028 then Slt else if k == 5460044 then Spl else Nop
+same_some : {X : Type 0} (x y : X) → Some x ≡ Some y → x ≡ y
+same_some x y e = cc
 
-abbrev opcode_back : List ℕ → Opcode
-opcode_back (x ∷ y ∷ z ∷ cs) = opcode_key (x * 65536 + y * 256 + z)
-opcode_back _ = Dat
-
-opcode_is : (a : Opcode) (r : List ℕ) → (opcode_back (opcode_text a ++ r) ≡ a) × (drop 3 (opcode_text a ++ r) ≡ r)
-opcode_is Dat r = (refl, refl)
-opcode_is Mov r = (refl, refl)
-opcode_is Add r = (refl, refl)
-opcode_is Sub r = (refl, refl)
-opcode_is Mul r = (refl, refl)
-opcode_is Div r = (refl, refl)
-opcode_is Mod r = (refl, refl)
-opcode_is Jmp r = (refl, refl)
-opcode_is Jmz r = (refl, refl)
-opcode_is Jmn r = (refl, refl)
-opcode_is Djn r = (refl, refl)
-opcode_is Seq r = (refl, refl)
-opcode_is Sne r = (refl, refl)
-opcode_is Slt r = (refl, refl)
-opcode_is Spl r = (refl, refl)
-opcode_is Nop r = (refl, refl)
-
-abbrev modifier_key : ℕ → Modifier
-modifier_key k =
-    if k == 16672 then A else if k == 16928 then B else if k == 16706 then AB else if k == 16961 then BA else if k == 17952 then F else if k == 22560 then X else I
-
-abbrev modifier_back : List ℕ → Modifier
-modifier_back (x ∷ y ∷ cs) = modifier_key (x * 256 + y)
-modifier_back _ = I
+-- the modifier at the front of a text, by the space after it
+abbrev modifier_back : List ℕ → Option Modifier
+modifier_back (x ∷ y ∷ cs) = if y == 32 then modifier_of (x ∷ []) else modifier_of (x ∷ y ∷ [])
+modifier_back _ = None
 
 abbrev after_modifier : List ℕ → List ℕ
 after_modifier (x ∷ y ∷ cs) = if y == 32 then cs else drop 1 cs
 after_modifier _ = []
 
-modifier_is : (a : Modifier) (r : List ℕ) → (modifier_back (modifier_text a ++ 32 ∷ r) ≡ a) × (after_modifier (modifier_text a ++ 32 ∷ r) ≡ r)
+modifier_is : (a : Modifier) (r : List ℕ) → (modifier_back (modifier_text a ++ 32 ∷ r) ≡ Some a) × (after_modifier (modifier_text a ++ 32 ∷ r) ≡ r)
 modifier_is A r = (refl, refl)
 modifier_is B r = (refl, refl)
 modifier_is AB r = (refl, refl)
@@ -120,14 +94,14 @@ line_one m i j r s lm hi hj e =
     let tail : (k : Instruction) (t : List ℕ) → List ℕ = λ k t. operand_text m k.a_mode k.a_number ++ 44 ∷ 32 ∷ (operand_text m k.b_mode k.b_number ++ 10 ∷ t) in
     let f : opcode_text i.opcode ++ (46 ∷ (modifier_text i.modifier ++ 32 ∷ tail i r)) ≡ opcode_text j.opcode ++ (46 ∷ (modifier_text j.modifier ++ 32 ∷ tail j s)) =
     sym (nested m i r) ∙ e ∙ nested m j s in
-    let ox = opcode_is i.opcode (46 ∷ (modifier_text i.modifier ++ 32 ∷ tail i r)) in
-    let oy = opcode_is j.opcode (46 ∷ (modifier_text j.modifier ++ 32 ∷ tail j s)) in
+    let ox = opcode_front i.opcode (46 ∷ (modifier_text i.modifier ++ 32 ∷ tail i r)) in
+    let oy = opcode_front j.opcode (46 ∷ (modifier_text j.modifier ++ 32 ∷ tail j s)) in
     let g : modifier_text i.modifier ++ 32 ∷ tail i r ≡ modifier_text j.modifier ++ 32 ∷ tail j s = ap (drop 1) (sym ox.1 ∙ ap (drop 3) f ∙ oy.1) in
     let kx = modifier_is i.modifier (tail i r) in
     let ky = modifier_is j.modifier (tail j s) in
     let a = operand_one m i.a_mode j.a_mode i.a_number j.a_number _ _ lm hi.a hj.a refl refl (sym kx.1 ∙ ap after_modifier g ∙ ky.1) in
     let b = operand_one m i.b_mode j.b_mode i.b_number j.b_number (10 ∷ r) (10 ∷ s) lm hi.b hj.b refl refl (ap (drop 2) a.2) in
-    (record_of _ _ _ _ _ _ _ _ _ _ _ _ (sym ox.0 ∙ ap opcode_back f ∙ oy.0) (sym kx.0 ∙ ap modifier_back g ∙ ky.0) a.0 a.1 b.0 b.1, ap (drop 1) b.2)
+    (record_of _ _ _ _ _ _ _ _ _ _ _ _ (same_some _ _ (sym ox.0 ∙ ap (λ l. opcode_of (take 3 l)) f ∙ oy.0)) (same_some _ _ (sym kx.0 ∙ ap modifier_back g ∙ ky.0)) a.0 a.1 b.0 b.1, ap (drop 1) b.2)
 
 lines_one : (m : ℕ) (v w : List Instruction) → m ≤ 65535 → All (IsBelow m) v → All (IsBelow m) w → flat_map (line_text m) v ≡ flat_map (line_text m) w → v ≡ w
 lines_one m [] [] lm hv hw e = refl

@@ -1,5 +1,7 @@
 pub mod Same
+pub mod WordTable
 pub mod Numerals
+pub mod Powers
 pub mod Lines
 pub mod Injective
 pub mod Loads

@@ -5,7 +5,8 @@ use Rattle.std.proofs.lemmas.Grind.{flat_map-append}
 use Rattle.std.proofs.lemmas.List.Elements.{All-head, All-tail}
 use Rattle.std.specs.Fmt.{decimal}
 use Rattle.rc_instr.specs.Warrior.{IsBelow}
-use Rattle.rc_instr.specs.LoadText.{opcode_text, modifier_text, operand_text, line_text, start_text}
+use Rattle.rc_instr.specs.Words.{opcode_text, modifier_text}
+use Rattle.rc_instr.specs.LoadText.{operand_text, line_text, start_text}
 use Rattle.rc_instr.specs.LoadRefusal.{AreLines}
 use Rattle.rc_instr.specs.declared.instruction.Instruction.{Instruction}
 

@@ -7,17 +7,17 @@ use Rattle.rc_instr.specs.declared.instruction.Modifier.TheVariants.{B, AB, F, I
 use Rattle.rc_instr.specs.declared.instruction.Mode.{Mode}
 use Rattle.rc_instr.specs.declared.instruction.Mode.TheVariants.{Immediate}
 
--- AB if the A-operand is immediate
+-- AB if the A-operand is immediate.
 abbrev pub ab_or : Modifier → Mode → Modifier
 ab_or otherwise Immediate = AB
 ab_or otherwise _ = otherwise
 
--- B if the B-operand is immediate
+-- B if the B-operand is immediate.
 abbrev pub b_or : Modifier → Mode → Modifier
 b_or otherwise Immediate = B
 b_or otherwise _ = otherwise
 
--- from the opcode and the modes of the A-operand and the B-operand
+-- The default modifier of an opcode with an A-operand and a B-operand of these modes.
 unfoldable pub default_modifier_of : Opcode → Mode → Mode → Modifier
 default_modifier_of Dat a b = F
 default_modifier_of Nop a b = F

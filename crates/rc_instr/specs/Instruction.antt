@@ -8,7 +8,7 @@ use Rattle.rc_instr.specs.declared.instruction.Modifier.TheVariants.{A, B, AB, B
 use Rattle.rc_instr.specs.declared.instruction.Mode.{Mode}
 use Rattle.rc_instr.specs.declared.instruction.Mode.TheVariants.{Immediate, Direct, AIndirect, BIndirect, APredecrement, BPredecrement, APostincrement, BPostincrement}
 
--- the variants in the order of their declaration
+-- The variants are numbered in the order of their declaration.
 abbrev pub opcode_number : Opcode → ℕ
 opcode_number Dat = 0
 opcode_number Mov = 1
@@ -46,7 +46,7 @@ mode_number BPredecrement = 5
 mode_number APostincrement = 6
 mode_number BPostincrement = 7
 
--- compares all six parts
+-- Two instructions are the same if all six parts are.
 unfoldable pub same_instruction : Instruction → Instruction → Bool
 same_instruction a b =
     (opcode_number a.opcode == opcode_number b.opcode)
@@ -56,6 +56,6 @@ same_instruction a b =
     && ((mode_number a.b_mode == mode_number b.b_mode)
     && (a.b_number == b.b_number)))))
 
--- `DAT.F $0, $0` (pMARS)
+-- An empty cell holds `DAT.F $0, $0` (pMARS).
 abbrev pub empty_cell : Instruction
 empty_cell = record { opcode = Dat; modifier = F; a_mode = Direct; a_number = 0; b_mode = Direct; b_number = 0 }

@@ -3,11 +3,13 @@
 -- reason that applies. An outlet is a writer that gives up for good at its first failure.
 pub mod Instruction
 pub mod DefaultModifier
+pub mod Words
 pub mod Rules
 pub mod RulesRefusal
 pub mod Warrior
 pub mod WarriorRefusal
 pub mod Digits
+pub mod Decimal
 pub mod LoadText
 pub mod LoadRefusal
 pub mod Appending

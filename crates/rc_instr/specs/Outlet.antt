@@ -1,7 +1,9 @@
 -- Outlets.
 use Rattle.std.specs.Prelude.{ℕ, Bool, List, Option}
 
--- the bytes that the writer holds, if they are known, and whether a write has failed
+-- The bytes that the writer holds, if they are known; whether a write has failed; and whether the
+-- last call was a flush that succeeded.
 pub record OutletView : Type 0 where
   pub bytes : Option (List ℕ)
   pub failed : Bool
+  pub flushed : Bool

@@ -3,7 +3,7 @@ use Rattle.rc_instr.specs.Rules.{RulesView, HasCore, HasCycles, HasTasks, HasLen
 use Rattle.rc_instr.specs.declared.rules.RulesError.{RulesError}
 use Rattle.rc_instr.specs.declared.rules.RulesError.TheVariants.{Core, Cycles, Tasks, Length, Distance}
 
--- this number is out of its limits, and the numbers before it are not
+-- This number is out of its limits, and the numbers before it are not.
 abbrev pub IsFirstBroken : RulesError → RulesView → Type 0
 IsFirstBroken Core r = ¬ HasCore r
 IsFirstBroken Cycles r = HasCore r × (¬ HasCycles r)

@@ -3,7 +3,7 @@ use Rattle.std.specs.Prelude.{ℕ, ◌<◌, ◌≤◌, List, length, All}
 use Rattle.rc_instr.specs.Rules.{RulesView}
 use Rattle.rc_instr.specs.declared.instruction.Instruction.{Instruction}
 
--- what contracts see of a warrior: its instructions, and the index of the one where it starts
+-- What contracts see of a warrior: its instructions, and the index of the one where it starts.
 pub record WarriorView : Type 0 where
   pub code : List Instruction
   pub start : ℕ
@@ -11,18 +11,18 @@ pub record WarriorView : Type 0 where
 abbrev pub warrior_view : List Instruction → ℕ → WarriorView
 warrior_view code start = record { code = code; start = start }
 
--- 1 to 200 instructions, and the start is one of them
+-- A warrior has 1 to 200 instructions, and starts at one of them.
 pub record IsWarrior (p : WarriorView) : Type 0 where
   pub some : 0 < length p.code
   pub short : length p.code ≤ 200
   pub inside : p.start < length p.code
 
--- both numbers are below the core size m
+-- Both numbers are below the core size `m`.
 pub record IsBelow (m : ℕ) (i : Instruction) : Type 0 where
   pub a : i.a_number < m
   pub b : i.b_number < m
 
--- the warrior is not longer than the rules allow, and its numbers are below the core size
+-- The warrior is not longer than the rules allow, and its numbers are below the core size.
 pub record Fits (rules : RulesView) (p : WarriorView) : Type 0 where
   pub short : length p.code ≤ rules.length
   pub numbers : All (IsBelow rules.core) p.code

@@ -5,7 +5,7 @@ use Rattle.rc_instr.specs.Rules.{RulesView}
 use Rattle.rc_instr.specs.declared.warrior.WarriorError.{WarriorError}
 use Rattle.rc_instr.specs.declared.warrior.WarriorError.TheVariants.{Empty, TooLong, BadStart, NumberTooLarge}
 
--- this reason applies, and the reasons before it do not
+-- This reason applies, and the reasons before it do not.
 abbrev pub IsWarriorError : WarriorError → RulesView → WarriorView → Type 0
 IsWarriorError Empty r p = p.code ≡ []
 IsWarriorError TooLong r p = r.length < length p.code
@@ -13,7 +13,7 @@ IsWarriorError BadStart r p = (0 < length p.code) × (length p.code ≤ r.length
 IsWarriorError NumberTooLarge r p =
     (0 < length p.code) × (length p.code ≤ r.length) × (p.start < length p.code) × (¬ All (IsBelow r.core) p.code)
 
--- the reason; or, if there is none, the code is a warrior that fits the rules
+-- The reason applies; or, if there is none, the code is a warrior that fits the rules.
 abbrev pub IsWarriorCheck : Option WarriorError → RulesView → WarriorView → Type 0
 IsWarriorCheck (Some e) r p = IsWarriorError e r p
 IsWarriorCheck None r p = IsWarrior p × Fits r p

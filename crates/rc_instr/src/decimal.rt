@@ -1,9 +1,10 @@
-//! Decimals at the front of a text: 0 to 4294967295, without leading zeros.
+//! Decimals in texts: 0 to 4294967295 without leading zeros, or 1 to 9 digits of any kind.
 ghost use Rattle.std.specs.Prelude.{◌≡◌, ℕ, ◌<◌, ◌≤◌, ◌^◌, true, List, ◌∷◌, ◌++◌, length, IfSome, IsSomeAnd, Some, take_while};
 ghost use Rattle.std.specs.Char.{is_ascii_digit};
 ghost use Rattle.std.specs.Fmt.{decimal};
 ghost use Rattle.std.specs.Str.{all_ascii_digits};
 ghost use Rattle.rc_instr.specs.Digits.{NoDigitFirst, read_on};
+ghost use Rattle.rc_instr.specs.Decimal.{padded_decimal};
 
 /// Returns the rest of `bytes` if the first of them is `byte`.
 pub fn after(byte: u8, bytes: &[u8]) -> Option<&[u8]>
@@ -44,6 +45,27 @@ pub fn decimal_of(bytes: &[u8]) -> Option<u32>
         Some((number, [])) => Some(number),
         _ => None,
     }
+}
+
+/// Reads 1 to 9 digits as a number. Leading zeros are allowed; anything else gives `None`.
+#[tactic(auto, unfolding(crate::specs::Decimal::padded_decimal))]
+pub fn padded_decimal(digits: &[u8]) -> Option<u32>
+    ensures { result ≡ padded_decimal digits.now }
+{
+    if digits.is_empty() {
+        return None;
+    }
+    if digits.len() > 9 {
+        return None;
+    }
+    let mut number = 0u32;
+    for digit in digits {
+        if !digit.is_ascii_digit() {
+            return None;
+        }
+        number = number * 10 + u32::from(*digit - b'0');
+    }
+    Some(number)
 }
 
 // Counts the digits at the front.

@@ -1,8 +1,11 @@
-//! Laws of load files.
-ghost use Rattle.std.specs.Prelude.{◌≡◌, MatchResult};
+//! Laws of load files and of their words.
+ghost use Rattle.std.specs.Prelude.{◌≡◌, Some, MatchResult};
 ghost use Rattle.rc_instr.specs.Rules.{RulesView, IsRules};
 ghost use Rattle.rc_instr.specs.Warrior.{WarriorView, IsWarrior, Fits};
+ghost use Rattle.rc_instr.specs.Words.{opcode_text, modifier_text, opcode_named, modifier_named};
 ghost use Rattle.rc_instr.specs.LoadText.{load_text};
+ghost use Rattle.rc_instr.specs.declared.instruction.Opcode.{Opcode};
+ghost use Rattle.rc_instr.specs.declared.instruction.Modifier.{Modifier};
 ghost use Rattle.rc_instr.specs.declared.loadfile.fault.LoadFault.TheVariants.{OutOfMemory};
 
 use crate::loadfile::{LoadFault, read_loadfile, write_loadfile};
@@ -28,6 +31,12 @@ pub fn load_text_reads_as_its_warrior(
         Err(MemoryRefused) => Err(LoadFault::OutOfMemory),
     }
 }
+
+/// The word of an opcode or a modifier names it.
+pub fn a_word_names_what_it_is_of()
+    ensures opcode { (o : Opcode) → opcode_named (opcode_text o) ≡ Some o }
+    ensures modifier { (m : Modifier) → modifier_named (modifier_text m) ≡ Some m }
+{}
 
 /// Equal load files under equal rules mean equal warriors.
 pub fn equal_load_texts_are_equal_warriors()

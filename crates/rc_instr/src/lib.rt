@@ -13,8 +13,9 @@ mod modifier;
 mod outlet;
 mod rules;
 mod warrior;
+mod words;
 
-pub use decimal::{after, decimal_at, decimal_of};
+pub use decimal::{after, decimal_at, decimal_of, padded_decimal};
 pub use instruction::{Instruction, Mode, Modifier, Opcode};
 pub use loadfile::{LoadFault, read_loadfile, write_loadfile};
 pub use memory::OutOfMemory;
@@ -22,3 +23,4 @@ pub use modifier::default_modifier;
 pub use outlet::{Outlet, WriteFailed};
 pub use rules::{Rules, RulesError};
 pub use warrior::{Code, Refused, Warrior, WarriorError};
+pub use words::{modifier_named, opcode_named};

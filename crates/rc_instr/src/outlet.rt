@@ -1,5 +1,5 @@
 //! Outlets for bytes: writers that give up at the first failure and remember it.
-ghost use Rattle.std.specs.Prelude.{◌≡◌, ◌<◌, ◌≤◌, true, false, take, length, IfOk, OnOk, OnErr, IsErr, IsTrue, is_err};
+ghost use Rattle.std.specs.Prelude.{◌≡◌, ◌<◌, ◌≤◌, true, false, take, length, IfOk, OnOk, OnErr, IsErr, IsTrue, is_err, is_ok};
 ghost use Rattle.std.specs.Io.KnownBytes.{Appends, Keeps};
 
 use std::io::Write;
@@ -11,6 +11,7 @@ use thiserror::Error;
 pub struct Outlet<X: Write> {
     inner: X,
     has_failed: bool,
+    is_flushed: bool,
 }
 
 impl<X: Write> Model for Outlet<X> {
@@ -18,7 +19,7 @@ impl<X: Write> Model for Outlet<X> {
 
     ghost Value = { OutletView };
 
-    ghost view = { λ o. record { bytes = X.contents o.inner; failed = o.has_failed } };
+    ghost view = { λ o. record { bytes = X.contents o.inner; failed = o.has_failed; flushed = o.is_flushed } };
 }
 
 /// A write or a flush failed, now or earlier.
@@ -30,10 +31,12 @@ impl<X: Write> Outlet<X> {
     pub fn new(inner: X) -> Outlet<X>
         ensures bytes { result.bytes ≡ X.contents inner }
         ensures failed { result.failed ≡ false }
+        ensures flushed { result.flushed ≡ false }
     {
         Outlet {
             inner,
             has_failed: false,
+            is_flushed: false,
         }
     }
 
@@ -47,12 +50,14 @@ impl<X: Write> Outlet<X> {
         ensures bytes { IfOk result (λ n. Appends self.old.bytes self.new.bytes (take n piece.now)) }
         ensures kept { OnErr result (Keeps self.old.bytes self.new.bytes) }
         ensures failed { self.new.failed ≡ is_err result }
+        ensures flushed { self.old.failed ≡ false → self.new.flushed ≡ false }
         ensures again { IsTrue self.old.failed → IsErr result }
         ensures unchanged { IsTrue self.old.failed → self.new ≡ self.old }
     {
         if self.has_failed {
             return Err(WriteFailed);
         }
+        self.is_flushed = false;
         match self.inner.write(piece) {
             Ok(count) if count > 0 || piece.is_empty() => Ok(count),
             _ => Err(self.fail()),
@@ -77,7 +82,8 @@ impl<X: Write> Outlet<X> {
         Ok(())
     }
 
-    /// Flushes the writer. After `Ok` it has passed on all that was written.
+    /// Flushes the writer. After `Ok` it has passed on all that was written, as long as nothing more is
+    /// written.
     ///
     /// The outlet must not have failed. After `WriteFailed` it has failed for good, and what was
     /// written stays.
@@ -85,9 +91,14 @@ impl<X: Write> Outlet<X> {
         requires { self.old.failed ≡ false }
         ensures bytes { Keeps self.old.bytes self.new.bytes }
         ensures failed { self.new.failed ≡ is_err result }
+        ensures flushed { self.new.flushed ≡ is_ok result }
     {
+        self.is_flushed = false;
         match self.inner.flush() {
-            Ok(()) => Ok(()),
+            Ok(()) => {
+                self.is_flushed = true;
+                Ok(())
+            }
             Err(_) => Err(self.fail()),
         }
     }
@@ -96,6 +107,7 @@ impl<X: Write> Outlet<X> {
     fn fail(&mut self) -> WriteFailed
         ensures bytes { self.new.bytes ≡ self.old.bytes }
         ensures failed { self.new.failed ≡ true }
+        ensures flushed { self.new.flushed ≡ self.old.flushed }
     {
         self.has_failed = true;
         WriteFailed
@@ -115,6 +127,7 @@ impl<X: Write> Outlet<X> {
         let Outlet {
             inner,
             has_failed: _,
+            is_flushed: _,
         } = self;
         inner
     }

@@ -1,6 +1,6 @@
 -- The value of an expression, and its faults, are what reading from the left gives.
 use Rattle.std.proofs.Common.{◌≡◌, ℕ, ◌≤◌, Bool, true, false, nat_lt, List, [], Option, Some, None, refl, sym, ◌∙◌, ap, subst, arith, ◌⊎◌, inl, inr}
-use Rattle.std.specs.Prelude.{ℤ, pos, negsuc, neg_ℤ, ◌+ℤ◌, ◌-ℤ◌, ◌*ℤ◌, int_div, int_rem, ◌^◌, Result, Ok, Err, IfOk, IfErr, if◌then◌else◌}
+use Rattle.std.specs.Prelude.{ℤ, pos, negsuc, neg_ℤ, ◌+ℤ◌, ◌-ℤ◌, ◌*ℤ◌, int_div, int_rem, ◌^◌, Result, Ok, Err, if◌then◌else◌}
 use Rattle.std.specs.Result.{result_flatten}
 use Rattle.rc_text.specs.declared.token.Sign.{Sign}
 use Rattle.rc_text.specs.declared.token.Sign.TheVariants.{Plus, Minus, Star, Slash, Percent, Bang, Less, Greater, LessEqual, GreaterEqual, Equal, NotEqual, And, Or}

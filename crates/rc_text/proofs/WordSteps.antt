@@ -8,7 +8,7 @@ use Rattle.std.specs.List.{list_all, list_any}
 use Rattle.std.specs.Str.{bytes_eq}
 use Rattle.std.proofs.lemmas.Bool.{ne_eqb, and_parts, both_ways}
 use Rattle.rc_text.specs.Bytes.{begins_with_word, begins_name, continues_name}
-use Rattle.rc_text.specs.NameClasses.{is_name, is_one_of, is_reserved, draft_opcodes, added_opcodes, directives}
+use Rattle.rc_text.specs.NameClasses.{is_name, is_one_of}
 
 -- a text that begins with a word is no shorter
 pub begins_le : (word text : List ℕ) → begins_with_word word text ≡ true → length word ≤ length text
@@ -45,7 +45,3 @@ any_none (w ∷ ws) v k h =
 
 pub no_word : (words : List (List ℕ)) (name : List ℕ) → list_all (λ w. has_three (map to_ascii_lowercase w)) words ≡ true → (length name ≡ 3 → ⊥) → false ≡ is_one_of words name
 no_word words name k h = sym (any_none words (map to_ascii_lowercase name) k (ne_eqb (length (map to_ascii_lowercase name)) 3 (λ e. h (sym (length-map name to_ascii_lowercase) ∙ e))))
-
--- a word that is not of three bytes is not reserved
-pub not_reserved : (name : List ℕ) → (length name ≡ 3 → ⊥) → false ≡ is_reserved name
-not_reserved name h = rw (← no_word draft_opcodes name refl h, ← no_word added_opcodes name refl h, ← no_word directives name refl h) refl

@@ -8,7 +8,7 @@ use Rattle.rc_text.specs.declared.class.NameClass.TheVariants.{NoName, Reserved,
 use Rattle.rc_text.specs.Tokens.{tokens_of}
 use Rattle.rc_text.specs.Symbols.{symbols_of}
 use Rattle.rc_text.specs.Reading.{evaluation_of, before_operand, after_operand}
-use Rattle.rc_text.specs.NameClasses.{class_of}
+use Rattle.rc_text.specs.NameClasses.{class_of, is_opcode_word}
 
 kinds_of_a_line : map (λ t. t.kind) (tokens_of (codes "MOV.I a1, 12<=3 ;x")).tokens ≡ Name ∷ SignOf Dot ∷ Name ∷ Name ∷ SignOf Comma ∷ Number 12 ∷ SignOf LessEqual ∷ Number 3 ∷ []
 kinds_of_a_line = refl
@@ -40,4 +40,5 @@ unfolding before_operand after_operand
 fault_of_the_values = refl
 
 classes_of_names : map class_of (codes "Mov" ∷ codes "MAXLENGTH" ∷ codes "maxlength" ∷ codes "2x" ∷ []) ≡ Reserved ∷ Predefined ∷ Free ∷ NoName ∷ []
+unfolding is_opcode_word
 classes_of_names = refl

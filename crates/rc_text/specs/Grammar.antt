@@ -4,8 +4,8 @@ use Rattle.rc_text.specs.declared.token.Sign.{Sign}
 use Rattle.rc_text.specs.declared.token.Sign.TheVariants.{Open, Close, Plus, Minus, Star, Slash, Percent, Bang, Less, Greater, LessEqual, GreaterEqual, Equal, NotEqual, And, Or}
 use Rattle.rc_text.specs.Symbols.{Symbol, Numeral, Identifier, Mark}
 
--- A number, a name, an expression in parentheses, a prefix operator before an operand, or an infix
--- operator between two.
+-- An expression: a decimal, a name, an expression in parentheses, a prefix operator and its
+-- operand, or an infix operator between its two operands.
 pub data Tree : Type 0 where
   Literal : (n : ℕ) → Tree
   Named : (name : List ℕ) → Tree
@@ -45,8 +45,8 @@ is_prefix Minus = true
 is_prefix Bang = true
 is_prefix _ = false
 
--- How tightly a tree binds: by its operator, 7 for a prefix operator, and 8 for a number, a name or
--- parentheses.
+-- How tightly a tree binds: an infix operator as its level says, a prefix operator more tightly,
+-- and a decimal, a name and parentheses the most, since nothing parts them.
 abbrev pub tightness : Tree → ℕ
 tightness (Literal n) = 8
 tightness (Named name) = 8
@@ -63,7 +63,7 @@ IsGrammatical (Group t) = IsGrammatical t
 IsGrammatical (Prefix s t) = IsTrue (is_prefix s) × (7 ≤ tightness t) × IsGrammatical t
 IsGrammatical (Infix a s b) = (0 < level_of s) × (level_of s ≤ tightness a) × (level_of s < tightness b) × IsGrammatical a × IsGrammatical b
 
--- The most parentheses that are open at once.
+-- How deep the parentheses of a tree are nested.
 abbrev pub depth_of : Tree → ℕ
 depth_of (Literal n) = 0
 depth_of (Named name) = 0

@@ -7,7 +7,7 @@ use Rattle.rc_text.specs.Bytes.{LINE_FEED, begins_with_word}
 abbrev pub extent : ℕ → ℕ → Extent
 extent bytes lines = record { bytes = bytes; lines = lines }
 
--- Moves the header on by bytes and lines that come before it.
+-- The header of a text, if any, from that of its rest: `bytes` and `lines` come before the rest.
 abbrev pub further_on : ℕ → ℕ → Option Extent → Option Extent
 further_on bytes lines None = None
 further_on bytes lines (Some e) = Some (extent (bytes + e.bytes) (lines + e.lines))

@@ -1,8 +1,9 @@
--- Names, and which of them are reserved or predefined.
-use Rattle.std.specs.Prelude.{ℕ, Bool, false, ◌&&◌, ◌||◌, List, [], ◌∷◌, map, if◌then◌else◌, codes}
+-- Names, and which of them are reserved or predefined. The opcodes are those of `rc_instr`.
+use Rattle.std.specs.Prelude.{ℕ, Bool, false, ◌&&◌, ◌||◌, List, [], ◌∷◌, map, if◌then◌else◌, is_some, codes}
 use Rattle.std.specs.List.{list_any, list_all}
 use Rattle.std.specs.Str.{bytes_eq}
 use Rattle.std.specs.Char.{to_ascii_lowercase}
+use Rattle.rc_instr.specs.Words.{opcode_named}
 use Rattle.rc_text.specs.declared.class.NameClass.{NameClass}
 use Rattle.rc_text.specs.declared.class.NameClass.TheVariants.{NoName, Reserved, Predefined, Free}
 use Rattle.rc_text.specs.Bytes.{begins_name, continues_name, is_same_word}
@@ -12,39 +13,31 @@ abbrev pub is_name : List ℕ → Bool
 is_name [] = false
 is_name (b ∷ rest) = begins_name b && list_all continues_name rest
 
--- The opcodes of the 1994 draft.
-abbrev pub draft_opcodes : List (List ℕ)
-draft_opcodes = codes "DAT" ∷ codes "MOV" ∷ codes "ADD" ∷ codes "SUB" ∷ codes "MUL" ∷ codes "DIV" ∷ codes "MOD" ∷ codes "JMP" ∷ codes "JMZ" ∷ codes "JMN" ∷ codes "DJN" ∷ codes "CMP" ∷ codes "SLT" ∷ codes "SPL" ∷ []
-
--- The opcodes that pMARS adds.
-abbrev pub added_opcodes : List (List ℕ)
-added_opcodes = codes "SEQ" ∷ codes "SNE" ∷ codes "NOP" ∷ []
-
 -- The directives: ORG and END of the 1994 draft, EQU, FOR and ROF of pMARS.
 abbrev pub directives : List (List ℕ)
 directives = codes "ORG" ∷ codes "END" ∷ codes "EQU" ∷ codes "FOR" ∷ codes "ROF" ∷ []
 
--- One of the words, in any case.
+-- A name that is one of the words, in any case.
 abbrev pub is_one_of : List (List ℕ) → List ℕ → Bool
 is_one_of words name = list_any (λ word. is_same_word word name) words
 
--- One of the words, which is written in lower case here.
+-- A name in lower case that is one of the words.
 abbrev pub is_lower_of : List (List ℕ) → List ℕ → Bool
 is_lower_of words name = list_any (λ word. bytes_eq (map to_ascii_lowercase word) name) words
 
--- An opcode of the 1994 draft or of pMARS, in any case.
+-- An opcode, in any case.
 unfoldable pub is_opcode_word : List ℕ → Bool
-is_opcode_word name = is_one_of draft_opcodes name || is_one_of added_opcodes name
+is_opcode_word name = is_some (opcode_named name)
 
 -- An opcode or a directive, in any case.
 abbrev pub is_reserved : List ℕ → Bool
-is_reserved name = is_one_of draft_opcodes name || (is_one_of added_opcodes name || is_one_of directives name)
+is_reserved name = is_opcode_word name || is_one_of directives name
 
 -- The predefined names, in capitals (pMARS).
 abbrev pub predefined_names : List (List ℕ)
 predefined_names = codes "CORESIZE" ∷ codes "MAXPROCESSES" ∷ codes "MAXCYCLES" ∷ codes "MAXLENGTH" ∷ codes "MINDISTANCE" ∷ codes "WARRIORS" ∷ codes "VERSION" ∷ codes "CURLINE" ∷ []
 
--- One of the predefined names, case included.
+-- A name that is one of the predefined names, case included.
 abbrev pub is_predefined : List ℕ → Bool
 is_predefined name = list_any (λ word. bytes_eq name word) predefined_names
 

@@ -1,5 +1,6 @@
--- How an expression is read from the left, for any meaning of its parts. What `eval` returns is
--- defined here; laws say that this is the value or the first fault of Grammar and Values.
+-- The value of an expression, or its first fault, as `eval` returns it: by one reading from the
+-- left. Laws say that this is what Grammar and Values define by trees. The reading is over any
+-- algebra, so that proofs can read trees by it, too.
 use Rattle.std.specs.Prelude.{◌≡◌, ℕ, suc, ◌≤◌, ◌<◌, Bool, true, false, nat_lt, nat_le, List, [], ◌∷◌, Result, Ok, Err, if◌then◌else◌, pos, MatchResult}
 use Rattle.std.specs.Borrow.{Bor}
 use Rattle.std.specs.Result.{result_flatten}
@@ -130,8 +131,8 @@ abbrev pub RefusesOperand : Meaning → (level depth : ℕ) → List Symbol → 
 RefusesOperand names level depth symbols e = (frames : List (Frame Outcome)) → FitsFrames level frames → open_count frames ≡ depth
     → before_operand (values names DEEPEST) symbols frames ≡ Err e
 
--- A call reads an operand from the symbols: it returns the operand's outcome and the tokens that are
--- left, or the fault that ends the reading.
+-- A call reads an operand from the symbols. It returns the operand's outcome and the tokens that
+-- are left, or the fault that ends the reading.
 abbrev pub Reads : Meaning → (level depth : ℕ) → (source : List ℕ) → List Symbol → Result (Outcome × Bor (List Token)) EvalFault → Type 0
 Reads names level depth source symbols result =
     MatchResult result (λ r. ReadsOperand names level depth symbols r.0 (symbols_of source r.1.now)) (RefusesOperand names level depth symbols)

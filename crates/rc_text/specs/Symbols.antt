@@ -6,7 +6,8 @@ use Rattle.rc_text.specs.declared.token.Kind.{Kind}
 use Rattle.rc_text.specs.declared.token.Kind.TheVariants.{Name, Number, Sign as SignOf, Assert, LineEnd}
 use Rattle.rc_text.specs.declared.token.Token.{Token}
 
--- A number, a name by its bytes, a sign, or what an expression never has: `;assert` or a line end.
+-- A decimal by its value, a name by its bytes, a sign, or what no expression has: `;assert` or a
+-- line end.
 pub data Symbol : Type 0 where
   Numeral : (n : ℕ) → Symbol
   Identifier : (name : List ℕ) → Symbol

@@ -10,7 +10,7 @@ use Rattle.rc_text.specs.Bytes.{LINE_FEED, is_same_word, decimal_value}
 use Rattle.rc_text.specs.Signs.{long_sign, short_sign}
 use Rattle.rc_text.specs.NameClasses.{is_name}
 
--- Decimal digits, at least one.
+-- One or more decimal digits, and nothing else.
 abbrev pub is_number : List ℕ → Bool
 is_number [] = false
 is_number (b ∷ rest) = list_all is_ascii_digit (b ∷ rest)
@@ -22,7 +22,7 @@ sign_of (a ∷ []) = short_sign a
 sign_of (a ∷ b ∷ []) = long_sign a b
 sign_of (a ∷ b ∷ c ∷ rest) = None
 
--- Exactly one name, number or sign.
+-- All of the bytes are one name, one decimal or one sign.
 abbrev pub is_one_token : List ℕ → Bool
 is_one_token bytes = is_name bytes || (is_number bytes || is_some (sign_of bytes))
 
@@ -39,8 +39,9 @@ abbrev pub line_feed_count : List ℕ → ℕ
 line_feed_count [] = 0
 line_feed_count (b ∷ rest) = if b == LINE_FEED then suc (line_feed_count rest) else line_feed_count rest
 
--- The bytes of the span spell the token; no longer span from its first byte is a name, a number or
--- a sign; its line is 1 plus the line feeds before it; and no counter is joined to it.
+-- The bytes of the token's span spell it, and no longer span from its first byte is a name, a
+-- decimal or a sign. Its line is 1 plus the number of line feeds before it. No counter is joined to
+-- it.
 pub record StandsIn (text : List ℕ) (t : Token) : Type 0 where
   pub spelled : SpellsToken (slice_range text t.lo t.hi) t.kind
   pub longest : (end : ℕ) → t.hi < end → end ≤ length text → is_one_token (slice_range text t.lo end) ≡ false

@@ -20,7 +20,7 @@ sign_lexeme (Some s) short = Word 2 (SignOf s)
 sign_lexeme None (Some s) = Word 1 (SignOf s)
 sign_lexeme None None = Fault BadByte
 
--- A number of `len` digits has to be below 2 ^ 32.
+-- A decimal of `len` digits, whose value must be below 2 ^ 32.
 abbrev pub number_lexeme : ℕ → ℕ → Lexeme
 number_lexeme len value = if nat_lt value (2 ^ 32) then Word len (Number value) else Fault NumberTooLarge
 

@@ -81,7 +81,7 @@ tree_value names (Group t) = tree_value names t
 tree_value names (Prefix s t) = prefix_outcome s (tree_value names t)
 tree_value names (Infix a s b) = infix_outcome (tree_value names a) s (tree_value names b)
 
--- The most parentheses that may be open at once.
+-- How deep parentheses may be nested.
 abbrev pub DEEPEST : ℕ
 DEEPEST = 64
 
@@ -101,7 +101,7 @@ IsValue names symbols x = HasOutcome names symbols (Ok x)
 abbrev pub HasNoTree : List Symbol → Type 0
 HasNoTree symbols = (t : Tree) → IsGrammatical t → spelling_of t ≡ symbols → ⊥
 
--- With `n` parentheses open at first, one more is opened somewhere while DEEPEST are open.
+-- A parenthesis opens while DEEPEST are open; `n` are open before the first symbol.
 abbrev pub opens_too_many : ℕ → List Symbol → Bool
 opens_too_many n [] = false
 opens_too_many n (Mark Open ∷ symbols) = nat_le DEEPEST n || opens_too_many (suc n) symbols

@@ -1,11 +1,12 @@
 //! Classes of names: reserved, predefined or free.
-ghost use Rattle.std.specs.Prelude.{◌≡◌, ◌∷◌, [], ◌&&◌, ◌||◌};
+ghost use Rattle.std.specs.Prelude.{◌≡◌, ◌∷◌, [], ◌&&◌};
 ghost use Rattle.std.specs.List.{list_all};
 ghost use Rattle.std.specs.Str.{bytes_eq};
 ghost use Rattle.rc_text.specs.Bytes.{continues_name};
-ghost use Rattle.rc_text.specs.NameClasses.{is_name, draft_opcodes, added_opcodes, directives, is_one_of, is_lower_of, is_opcode_word, is_reserved, is_predefined, class_of};
+ghost use Rattle.rc_text.specs.NameClasses.{is_name, directives, is_one_of, is_lower_of, is_opcode_word, is_reserved, is_predefined, class_of};
 
 use crate::bytes::{begins_name, continues_name};
+use rc_instr::opcode_named;
 
 /// The class of a name.
 #[derive(Clone, Copy, Debug, PartialEq, Eq)]
@@ -20,13 +21,12 @@ pub enum NameClass {
     Free,
 }
 
-/// Checks whether a name is an opcode, in any case: one of the 1994 draft, CMP among them, or SEQ,
-/// SNE or NOP (pMARS).
+/// Checks whether a name is an opcode, in any case.
 #[tactic(auto, unfolding(crate::specs::NameClasses::is_opcode_word))]
 pub fn is_opcode_word(name: &[u8]) -> bool
     ensures { result ≡ is_opcode_word name.now }
 {
-    is_draft_opcode(name) || is_added_opcode(name)
+    opcode_named(name).is_some()
 }
 
 /// Checks whether a name is an opcode or a directive, in any case: whether its class is `Reserved`.
@@ -83,67 +83,23 @@ fn is_exactly(word: &[u8], name: &[u8]) -> bool
     name == word
 }
 
-// The opcodes of the 1994 draft. They have three letters, which are compared all at once.
-fn is_draft_opcode(name: &[u8]) -> bool
-    ensures { result ≡ is_one_of draft_opcodes name.now }
+// Checks for an opcode or a directive.
+fn is_reserved(name: &[u8]) -> bool
+    ensures { result ≡ is_reserved name.now }
+{
+    is_opcode_word(name) || is_directive(name)
+}
+
+// Checks for a directive. All have three letters.
+fn is_directive(name: &[u8]) -> bool
+    ensures { result ≡ is_one_of directives name.now }
 {
     match name {
-        [first, second, third] => is_draft_word(
+        [first, second, third] => is_directive_word(
             first.to_ascii_lowercase(),
             second.to_ascii_lowercase(),
             third.to_ascii_lowercase(),
         ),
-        _ => false,
-    }
-}
-
-// The letters are lower case.
-#[inline(always)]
-fn is_draft_word(first: u8, second: u8, third: u8) -> bool
-    ensures { result ≡ is_lower_of draft_opcodes (first ∷ second ∷ third ∷ []) }
-{
-    match (first, second, third) {
-        (b'd', b'a', b't') => true,
-        (b'm', b'o', b'v') => true,
-        (b'a', b'd', b'd') => true,
-        (b's', b'u', b'b') => true,
-        (b'm', b'u', b'l') => true,
-        (b'd', b'i', b'v') => true,
-        (b'm', b'o', b'd') => true,
-        (b'j', b'm', b'p') => true,
-        (b'j', b'm', b'z') => true,
-        (b'j', b'm', b'n') => true,
-        (b'd', b'j', b'n') => true,
-        (b'c', b'm', b'p') => true,
-        (b's', b'l', b't') => true,
-        (b's', b'p', b'l') => true,
-        _ => false,
-    }
-}
-
-// The opcodes that pMARS adds.
-fn is_added_opcode(name: &[u8]) -> bool
-    ensures { result ≡ is_one_of added_opcodes name.now }
-{
-    match name {
-        [first, second, third] => is_added_word(
-            first.to_ascii_lowercase(),
-            second.to_ascii_lowercase(),
-            third.to_ascii_lowercase(),
-        ),
-        _ => false,
-    }
-}
-
-// The letters are lower case.
-#[inline(always)]
-fn is_added_word(first: u8, second: u8, third: u8) -> bool
-    ensures { result ≡ is_lower_of added_opcodes (first ∷ second ∷ third ∷ []) }
-{
-    match (first, second, third) {
-        (b's', b'e', b'q') => true,
-        (b's', b'n', b'e') => true,
-        (b'n', b'o', b'p') => true,
         _ => false,
     }
 }
@@ -159,30 +115,6 @@ fn is_directive_word(first: u8, second: u8, third: u8) -> bool
         (b'e', b'q', b'u') => true,
         (b'f', b'o', b'r') => true,
         (b'r', b'o', b'f') => true,
-        _ => false,
-    }
-}
-
-// Checks three letters, given in lower case, for an opcode or a directive.
-#[inline(always)]
-fn is_reserved_word(first: u8, second: u8, third: u8) -> bool
-    ensures { let word = first ∷ second ∷ third ∷ [] in
-        result ≡ (is_lower_of draft_opcodes word || (is_lower_of added_opcodes word || is_lower_of directives word)) }
-{
-    is_draft_word(first, second, third)
-        || (is_added_word(first, second, third) || is_directive_word(first, second, third))
-}
-
-// Checks for an opcode or a directive. All have three letters.
-fn is_reserved(name: &[u8]) -> bool
-    ensures { result ≡ is_reserved name.now }
-{
-    match name {
-        [first, second, third] => is_reserved_word(
-            first.to_ascii_lowercase(),
-            second.to_ascii_lowercase(),
-            third.to_ascii_lowercase(),
-        ),
         _ => false,
     }
 }

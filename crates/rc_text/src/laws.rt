@@ -46,8 +46,7 @@ pub fn reading_finds_a_fault()
         evaluation_of names symbols ≡ Err fault → IsEvalFault names symbols fault }
 {}
 
-/// Reading from the left finds the outcome of an expression that has one, value or fault, so that
-/// it has no other.
+/// An expression has at most one outcome, a value or a fault, and reading from the left finds it.
 pub fn reading_finds_every_outcome()
     ensures { (names : Meaning) (symbols : List Symbol) (outcome : Outcome) →
         HasOutcome names symbols outcome → evaluation_of names symbols ≡ outcome }

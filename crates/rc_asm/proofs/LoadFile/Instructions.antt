@@ -13,53 +13,23 @@ use Rattle.rc_text.specs.Values.{Meaning}
 use Rattle.rc_text.specs.Reading.{evaluation_of, before_operand, after_operand}
 use Rattle.rc_text.specs.Symbols.{Symbol, Numeral, Mark, symbol_of_kind, name_of, symbols_of}
 use Rattle.rc_expand.specs.Heads.Lines.{is_name_kind, is_dot, is_dot_kind, is_unjoined, bytes_of, into_first}
-use Rattle.rc_instr.specs.LoadText.{opcode_text, modifier_text}
+use Rattle.rc_instr.specs.Words.{opcode_text, modifier_text, opcode_named, modifier_named}
+use Rattle.rc_instr.proofs.WordTable.{opcode_back, modifier_back}
 use Rattle.rc_instr.specs.declared.instruction.Opcode.{Opcode}
-use Rattle.rc_instr.specs.declared.instruction.Opcode.TheVariants as op
 use Rattle.rc_instr.specs.declared.instruction.Modifier.{Modifier}
-use Rattle.rc_instr.specs.declared.instruction.Modifier.TheVariants as mod'
 use Rattle.rc_instr.specs.declared.instruction.Mode.{Mode}
 use Rattle.rc_instr.specs.declared.instruction.Mode.TheVariants as mode
 use Rattle.rc_instr.specs.declared.instruction.Instruction.{Instruction}
 use Rattle.rc_asm.specs.declared.fault.AsmKind.TheVariants.{UnknownOpcode, Value}
 use Rattle.rc_asm.specs.declared.operand.Operand.{Operand}
 use Rattle.rc_expand.specs.Results.{mapped, and_then, with_fault}
-use Rattle.rc_asm.specs.Words.{entry_in_any_case, opcodes, modifiers, is_plain, opcode_at, modifier_at, mode_of, mode_of_kind, mode_at, is_comma, is_comma_kind}
+use Rattle.rc_asm.specs.Words.{is_plain, opcode_at, modifier_at, mode_of, mode_of_kind, mode_at, is_comma, is_comma_kind}
 use Rattle.rc_asm.specs.Shape.{parts_from, parts, sides, sides_of, Shape, shape, with_operands, with_modifier, after_opcode, shape_of}
 use Rattle.rc_asm.specs.Names.{NameValues, stands_for}
 use Rattle.rc_asm.specs.Instructions.{natural, core_number, operand, operand_after, operand_at, instruction_of_parts, instruction_of_shape, instruction_at}
 use Rattle.rc_asm.proofs.LoadFile.Printed.{mode_sign, IsWord, AreNumber, Plain, Below, Row, a_tokens, b_tokens, row_tokens, IsPrinted}
 
 -- ---- words
-
--- the text of an opcode names it
-opcode_back : (o : Opcode) → entry_in_any_case opcodes (opcode_text o) ≡ Some o
-opcode_back op.Dat = refl
-opcode_back op.Mov = refl
-opcode_back op.Add = refl
-opcode_back op.Sub = refl
-opcode_back op.Mul = refl
-opcode_back op.Div = refl
-opcode_back op.Mod = refl
-opcode_back op.Jmp = refl
-opcode_back op.Jmz = refl
-opcode_back op.Jmn = refl
-opcode_back op.Djn = refl
-opcode_back op.Seq = refl
-opcode_back op.Sne = refl
-opcode_back op.Slt = refl
-opcode_back op.Spl = refl
-opcode_back op.Nop = refl
-
--- the text of a modifier names it
-modifier_back : (m : Modifier) → entry_in_any_case modifiers (modifier_text m) ≡ Some m
-modifier_back mod'.A = refl
-modifier_back mod'.B = refl
-modifier_back mod'.AB = refl
-modifier_back mod'.BA = refl
-modifier_back mod'.F = refl
-modifier_back mod'.X = refl
-modifier_back mod'.I = refl
 
 -- the sign of a mode means the mode
 mode_back : (m : Mode) → mode_of (mode_sign m) ≡ Some m
@@ -80,13 +50,13 @@ word_plain source text t w = (λ x. is_name_kind (w.kind x) && is_unjoined (w.jo
 opcode_there : (source : List ℕ) (t : Token) (o : Opcode) → IsWord source (opcode_text o) t → opcode_at source t ≡ Some o
 unfolding opcode_at
 opcode_there source t o w =
-    ap (λ b. if b then entry_in_any_case opcodes (bytes_of source t) else None) (word_plain source (opcode_text o) t w) ∙ ap (entry_in_any_case opcodes) w.bytes ∙ opcode_back o
+    ap (λ b. if b then opcode_named (bytes_of source t) else None) (word_plain source (opcode_text o) t w) ∙ ap opcode_named w.bytes ∙ opcode_back o
 
 -- the token of a modifier's text names the modifier
 modifier_there : (source : List ℕ) (t : Token) (m : Modifier) → IsWord source (modifier_text m) t → modifier_at source t ≡ Some m
 unfolding modifier_at
 modifier_there source t m w =
-    ap (λ b. if b then entry_in_any_case modifiers (bytes_of source t) else None) (word_plain source (modifier_text m) t w) ∙ ap (entry_in_any_case modifiers) w.bytes ∙ modifier_back m
+    ap (λ b. if b then modifier_named (bytes_of source t) else None) (word_plain source (modifier_text m) t w) ∙ ap modifier_named w.bytes ∙ modifier_back m
 
 -- the token of a mode's sign means the mode
 mode_there : (t : Token) (m : Mode) → t.kind ≡ SignOf (mode_sign m) → mode_at t ≡ Some m

@@ -5,7 +5,8 @@ use Rattle.std.specs.Prelude.{All, flat_map, codes, nat_le, if◌then◌else◌}
 use Rattle.std.specs.Fmt.{decimal}
 use Rattle.std.proofs.lemmas.Bool.{cases_Bool}
 use Rattle.std.proofs.lemmas.List.Concat.{flat_map-cons}
-use Rattle.rc_instr.specs.LoadText.{opcode_text, modifier_text, mode_text, number_text, operand_text, line_text, load_text}
+use Rattle.rc_instr.specs.Words.{opcode_text, modifier_text}
+use Rattle.rc_instr.specs.LoadText.{mode_text, number_text, operand_text, line_text, load_text}
 use Rattle.rc_instr.specs.Warrior.{IsBelow, WarriorView}
 use Rattle.rc_instr.specs.declared.instruction.Modifier.{Modifier}
 use Rattle.rc_instr.specs.declared.instruction.Modifier.TheVariants as mod'

@@ -10,7 +10,8 @@ use Rattle.rc_text.specs.declared.header.Extent.{Extent}
 use Rattle.rc_text.specs.Bytes.{LINE_FEED, begins_with_word}
 use Rattle.rc_text.specs.Headers.{extent, further_on, header_from}
 use Rattle.rc_text.specs.Tokens.{TokenList, tokens_of, tokens_from}
-use Rattle.rc_instr.specs.LoadText.{opcode_text, modifier_text, mode_text, number_text, operand_text, line_text, start_text, load_text}
+use Rattle.rc_instr.specs.Words.{opcode_text, modifier_text}
+use Rattle.rc_instr.specs.LoadText.{mode_text, number_text, operand_text, line_text, start_text, load_text}
 use Rattle.rc_instr.specs.Warrior.{IsBelow, WarriorView}
 use Rattle.rc_instr.specs.declared.instruction.Opcode.{Opcode}
 use Rattle.rc_instr.specs.declared.instruction.Opcode.TheVariants as op

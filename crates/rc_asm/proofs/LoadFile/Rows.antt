@@ -12,7 +12,8 @@ use Rattle.rc_text.specs.declared.token.Token.{Token}
 use Rattle.rc_text.specs.declared.lexeme.Lexeme.TheVariants.{Word}
 use Rattle.rc_text.specs.Tokens.{TokenList, lexeme_of, tokens_from, with_token, token_of}
 use Rattle.rc_instr.specs.Digits.{NoDigitFirst}
-use Rattle.rc_instr.specs.LoadText.{opcode_text, modifier_text, mode_text, number_text, operand_text, line_text}
+use Rattle.rc_instr.specs.Words.{opcode_text, modifier_text}
+use Rattle.rc_instr.specs.LoadText.{mode_text, number_text, operand_text, line_text}
 use Rattle.rc_instr.specs.declared.instruction.Opcode.{Opcode}
 use Rattle.rc_instr.specs.declared.instruction.Opcode.TheVariants as op
 use Rattle.rc_instr.specs.declared.instruction.Modifier.{Modifier}

@@ -1,12 +1,14 @@
 //! Readers for the lines of a load file. Each returns what it read and the rest of the bytes.
 ghost use Rattle.std.specs.Prelude.{◌≡◌, ℕ, ◌<◌, ◌≤◌, ◌^◌, List, ◌∷◌, ◌++◌, IfSome, IsSomeAnd};
+ghost use Rattle.rc_instr.specs.Rules.{IsCoreSize};
 ghost use Rattle.rc_instr.specs.Warrior.{IsBelow};
 ghost use Rattle.rc_instr.specs.declared.instruction.Instruction.{Instruction};
 ghost use Rattle.rc_instr.specs.declared.instruction.Opcode.{Opcode};
 ghost use Rattle.rc_instr.specs.declared.instruction.Mode.{Mode};
 ghost use Rattle.rc_instr.specs.declared.instruction.Modifier.{Modifier};
 ghost use Rattle.rc_instr.specs.Digits.{NoDigitFirst};
-ghost use Rattle.rc_instr.specs.LoadText.{opcode_text, modifier_text, operand_text, line_text, start_text};
+ghost use Rattle.rc_instr.specs.Words.{opcode_text, modifier_text};
+ghost use Rattle.rc_instr.specs.LoadText.{operand_text, line_text, start_text};
 
 use crate::decimal::after;
 use crate::instruction::{Instruction, Mode, Modifier, Opcode};
@@ -16,7 +18,7 @@ use crate::loadfile::number::{number_at, short_number_at};
 // Reads one line of code.
 #[tactic(auto, using(crate::proofs::Lines::line_parts), unfolding(crate::specs::LoadText::line_text))]
 pub(crate) fn instruction_at(core: u32, bytes: &[u8]) -> Option<(Instruction, &[u8])>
-    requires { (0 < core) × (core ≤ 65535) }
+    requires { IsCoreSize core }
     ensures found { IfSome result (λ x. (bytes.now ≡ line_text core x.0 ++ x.1.now) × IsBelow core x.0) }
     ensures only { (i : Instruction) (rest : List ℕ) → IsBelow core i → bytes.now ≡ line_text core i ++ rest
         → IsSomeAnd result (λ x. (x.0 ≡ i) × (x.1.now ≡ rest)) }
@@ -53,7 +55,7 @@ pub(crate) fn start_at(bytes: &[u8]) -> Option<(u16, &[u8])>
 
 #[tactic(auto, unfolding(crate::specs::LoadText::operand_text))]
 fn operand_at(core: u32, bytes: &[u8]) -> Option<(Mode, u16, &[u8])>
-    requires { (0 < core) × (core ≤ 65535) }
+    requires { IsCoreSize core }
     ensures found { IfSome result (λ x. (bytes.now ≡ operand_text core x.0 x.1 ++ x.2.now) × (x.1 < core)) }
     ensures only { (mode : Mode) (n : ℕ) (rest : List ℕ) → n < core → NoDigitFirst rest → bytes.now ≡ operand_text core mode n ++ rest
         → IsSomeAnd result (λ x. (x.0 ≡ mode) × (x.1 ≡ n) × (x.2.now ≡ rest)) }
@@ -77,7 +79,7 @@ fn head_at(bytes: &[u8]) -> Option<(Opcode, Modifier, &[u8])>
 
 // Reads the A-operand, comma and space.
 fn a_operand_at(core: u32, bytes: &[u8]) -> Option<(Mode, u16, &[u8])>
-    requires { (0 < core) × (core ≤ 65535) }
+    requires { IsCoreSize core }
     ensures found { IfSome result (λ x. (bytes.now ≡ operand_text core x.0 x.1 ++ 44 ∷ 32 ∷ x.2.now) × (x.1 < core)) }
     ensures only { (mode : Mode) (n : ℕ) (rest : List ℕ) → n < core → bytes.now ≡ operand_text core mode n ++ 44 ∷ 32 ∷ rest
         → IsSomeAnd result (λ x. (x.0 ≡ mode) × (x.1 ≡ n) × (x.2.now ≡ rest)) }
@@ -90,7 +92,7 @@ fn a_operand_at(core: u32, bytes: &[u8]) -> Option<(Mode, u16, &[u8])>
 
 // Reads the B-operand and line feed.
 fn b_operand_at(core: u32, bytes: &[u8]) -> Option<(Mode, u16, &[u8])>
-    requires { (0 < core) × (core ≤ 65535) }
+    requires { IsCoreSize core }
     ensures found { IfSome result (λ x. (bytes.now ≡ operand_text core x.0 x.1 ++ 10 ∷ x.2.now) × (x.1 < core)) }
     ensures only { (mode : Mode) (n : ℕ) (rest : List ℕ) → n < core → bytes.now ≡ operand_text core mode n ++ 10 ∷ rest
         → IsSomeAnd result (λ x. (x.0 ≡ mode) × (x.1 ≡ n) × (x.2.now ≡ rest)) }

@@ -1,5 +1,6 @@
 //! Readers for the numbers of a load file, which have a sign that depends on the core size.
 ghost use Rattle.std.specs.Prelude.{◌≡◌, ℕ, ◌<◌, ◌≤◌, ◌^◌, ◌-◌, ◌*◌, List, ◌++◌, IfSome, IsSomeAnd};
+ghost use Rattle.rc_instr.specs.Rules.{IsCoreSize};
 ghost use Rattle.std.specs.Fmt.{decimal};
 ghost use Rattle.rc_instr.specs.Digits.{NoDigitFirst};
 ghost use Rattle.rc_instr.specs.LoadText.{number_text};
@@ -21,7 +22,7 @@ pub(crate) fn short_number_at(bytes: &[u8]) -> Option<(u16, &[u8])>
 // Reads an A-number or B-number, which is below the core size.
 #[tactic(auto, using(crate::proofs::Numerals::decimal_first), unfolding(crate::specs::LoadText::number_text))]
 pub(crate) fn number_at(core: u32, bytes: &[u8]) -> Option<(u16, &[u8])>
-    requires { (0 < core) × (core ≤ 65535) }
+    requires { IsCoreSize core }
     ensures found { IfSome result (λ x. (bytes.now ≡ number_text core x.0 ++ x.1.now) × (x.0 < core)) }
     ensures only { (n : ℕ) (rest : List ℕ) → n < core → NoDigitFirst rest → bytes.now ≡ number_text core n ++ rest
         → IsSomeAnd result (λ x. (x.0 ≡ n) × (x.1.now ≡ rest)) }

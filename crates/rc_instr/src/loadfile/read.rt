@@ -1,5 +1,6 @@
 //! Reading load files.
 ghost use Rattle.std.specs.Prelude.{◌≡◌, ℕ, ◌<◌, ◌≤◌, List, IfOk, IfErr, MatchResult};
+ghost use Rattle.rc_instr.specs.Rules.{IsCoreSize};
 ghost use Rattle.rc_instr.specs.declared.instruction.Instruction.{Instruction};
 ghost use Rattle.rc_instr.specs.Warrior.{IsWarrior, Fits, WarriorView, warrior_view};
 ghost use Rattle.rc_instr.specs.LoadText.{load_text};
@@ -40,7 +41,7 @@ pub fn read_loadfile(alloc: Global, bytes: &[u8], rules: &Rules) -> Result<Warri
 
 // Reads the lines of code. They begin with line 2, after the line of the start.
 fn read_code(alloc: Global, core: u32, bytes: &[u8]) -> Result<Vec<Instruction>, LoadFault>
-    requires { (0 < core) × (core ≤ 65535) }
+    requires { IsCoreSize core }
     ensures found { IfOk result (λ v. AreLines core bytes.now v.items) }
     ensures only { (code : List Instruction) → AreLines core bytes.now code → MatchResult result (λ v. v.items ≡ code) (λ e. e ≡ LoadFault.OutOfMemory) }
     ensures refused { IfErr result (λ e. IsBadLine e core bytes.now) }

@@ -2,13 +2,15 @@
 ghost use Rattle.std.specs.Prelude.{◌≡◌, ◌<◌, ◌≤◌, ◌++◌, OnOk, OnErr, All, codes, flat_map};
 ghost use Rattle.std.specs.Fmt.{decimal};
 ghost use Rattle.rc_instr.specs.Warrior.{IsBelow, Fits};
-ghost use Rattle.rc_instr.specs.LoadText.{opcode_text, modifier_text, mode_text, number_text, operand_text, line_text, start_text, load_text};
-ghost use Rattle.rc_instr.specs.Appending.{IsFront};
+ghost use Rattle.rc_instr.specs.Words.{opcode_text, modifier_text};
+ghost use Rattle.rc_instr.specs.LoadText.{mode_text, number_text, operand_text, line_text, start_text, load_text};
+ghost use Rattle.rc_instr.specs.Appending.{AppendsText};
 
 use crate::instruction::{Instruction, Mode, Modifier, Opcode};
 use crate::memory::OutOfMemory;
 use crate::rules::Rules;
 use crate::warrior::Warrior;
+use crate::words::{modifier_word, opcode_word};
 use itoa::Buffer;
 use std::alloc::Global;
 
@@ -35,43 +37,6 @@ pub fn write_loadfile(
     written
 }
 
-fn opcode_word(opcode: Opcode) -> &'static [u8]
-    ensures { result.now ≡ opcode_text opcode }
-{
-    match opcode {
-        Opcode::Dat => b"DAT",
-        Opcode::Mov => b"MOV",
-        Opcode::Add => b"ADD",
-        Opcode::Sub => b"SUB",
-        Opcode::Mul => b"MUL",
-        Opcode::Div => b"DIV",
-        Opcode::Mod => b"MOD",
-        Opcode::Jmp => b"JMP",
-        Opcode::Jmz => b"JMZ",
-        Opcode::Jmn => b"JMN",
-        Opcode::Djn => b"DJN",
-        Opcode::Seq => b"SEQ",
-        Opcode::Sne => b"SNE",
-        Opcode::Slt => b"SLT",
-        Opcode::Spl => b"SPL",
-        Opcode::Nop => b"NOP",
-    }
-}
-
-fn modifier_word(modifier: Modifier) -> &'static [u8]
-    ensures { result.now ≡ modifier_text modifier }
-{
-    match modifier {
-        Modifier::A => b"A",
-        Modifier::B => b"B",
-        Modifier::AB => b"AB",
-        Modifier::BA => b"BA",
-        Modifier::F => b"F",
-        Modifier::X => b"X",
-        Modifier::I => b"I",
-    }
-}
-
 fn mode_sign(mode: Mode) -> &'static [u8]
     ensures { result.now ≡ mode_text mode }
 {
@@ -89,16 +54,14 @@ fn mode_sign(mode: Mode) -> &'static [u8]
 
 #[tactic(auto, using(crate::proofs::Appends::appends))]
 fn append(out: &mut Vec<u8>, bytes: &[u8]) -> Result<(), OutOfMemory>
-    ensures ok { OnOk result (out.new.items ≡ out.old.items ++ bytes.now) }
-    ensures front { IsFront out.old.items out.new.items }
+    ensures { AppendsText result out.old.items out.new.items bytes.now }
 {
     out.extend_from_slice(bytes)?;
     Ok(())
 }
 
 fn append_decimal(out: &mut Vec<u8>, number: u32) -> Result<(), OutOfMemory>
-    ensures ok { OnOk result (out.new.items ≡ out.old.items ++ decimal number) }
-    ensures front { IsFront out.old.items out.new.items }
+    ensures { AppendsText result out.old.items out.new.items (decimal number) }
 {
     append(out, Buffer::new().format(number).as_bytes())
 }
@@ -107,8 +70,7 @@ fn append_decimal(out: &mut Vec<u8>, number: u32) -> Result<(), OutOfMemory>
 #[tactic(auto, using(crate::proofs::Appends::appends), unfolding(crate::specs::LoadText::number_text))]
 fn append_number(out: &mut Vec<u8>, core: u32, number: u16) -> Result<(), OutOfMemory>
     requires { (number < core) × (core ≤ 65535) }
-    ensures ok { OnOk result (out.new.items ≡ out.old.items ++ number_text core number) }
-    ensures front { IsFront out.old.items out.new.items }
+    ensures { AppendsText result out.old.items out.new.items (number_text core number) }
 {
     let number = u32::from(number);
     if 2 * number <= core {
@@ -121,8 +83,7 @@ fn append_number(out: &mut Vec<u8>, core: u32, number: u16) -> Result<(), OutOfM
 #[tactic(auto, using(crate::proofs::Appends::appends), unfolding(crate::specs::LoadText::operand_text))]
 fn append_operand(out: &mut Vec<u8>, core: u32, mode: Mode, number: u16) -> Result<(), OutOfMemory>
     requires { (number < core) × (core ≤ 65535) }
-    ensures ok { OnOk result (out.new.items ≡ out.old.items ++ operand_text core mode number) }
-    ensures front { IsFront out.old.items out.new.items }
+    ensures { AppendsText result out.old.items out.new.items (operand_text core mode number) }
 {
     append(out, mode_sign(mode))?;
     append_number(out, core, number)
@@ -131,8 +92,7 @@ fn append_operand(out: &mut Vec<u8>, core: u32, mode: Mode, number: u16) -> Resu
 // Appends the opcode, dot, modifier and space.
 #[tactic(auto, using(crate::proofs::Appends::appends))]
 fn append_head(out: &mut Vec<u8>, opcode: Opcode, modifier: Modifier) -> Result<(), OutOfMemory>
-    ensures ok { OnOk result (out.new.items ≡ out.old.items ++ opcode_text opcode ++ codes "." ++ modifier_text modifier ++ codes " ") }
-    ensures front { IsFront out.old.items out.new.items }
+    ensures { AppendsText result out.old.items out.new.items (opcode_text opcode ++ codes "." ++ modifier_text modifier ++ codes " ") }
 {
     append(out, opcode_word(opcode))?;
     append(out, b".")?;
@@ -144,8 +104,7 @@ fn append_head(out: &mut Vec<u8>, opcode: Opcode, modifier: Modifier) -> Result<
 fn append_line(out: &mut Vec<u8>, core: u32, instruction: &Instruction) -> Result<(), OutOfMemory>
     requires core { core ≤ 65535 }
     requires below { IsBelow core instruction.now }
-    ensures ok { OnOk result (out.new.items ≡ out.old.items ++ line_text core instruction.now) }
-    ensures front { IsFront out.old.items out.new.items }
+    ensures { AppendsText result out.old.items out.new.items (line_text core instruction.now) }
 {
     append_head(out, instruction.opcode, instruction.modifier)?;
     append_operand(out, core, instruction.a_mode, instruction.a_number)?;
@@ -156,8 +115,7 @@ fn append_line(out: &mut Vec<u8>, core: u32, instruction: &Instruction) -> Resul
 
 #[tactic(auto, using(crate::proofs::Appends::appends), unfolding(crate::specs::LoadText::start_text))]
 fn append_start(out: &mut Vec<u8>, start: u32) -> Result<(), OutOfMemory>
-    ensures ok { OnOk result (out.new.items ≡ out.old.items ++ start_text start) }
-    ensures front { IsFront out.old.items out.new.items }
+    ensures { AppendsText result out.old.items out.new.items (start_text start) }
 {
     append(out, b"ORG ")?;
     append_decimal(out, start)?;
@@ -168,8 +126,7 @@ fn append_start(out: &mut Vec<u8>, start: u32) -> Result<(), OutOfMemory>
 fn append_lines(out: &mut Vec<u8>, core: u32, code: &[Instruction]) -> Result<(), OutOfMemory>
     requires core { core ≤ 65535 }
     requires below { All (IsBelow core) code.now }
-    ensures ok { OnOk result (out.new.items ≡ out.old.items ++ flat_map (line_text core) code.now) }
-    ensures front { IsFront out.old.items out.new.items }
+    ensures { AppendsText result out.old.items out.new.items (flat_map (line_text core) code.now) }
 {
     for instruction in code {
         append_line(out, core, instruction)?;
@@ -181,8 +138,7 @@ fn append_lines(out: &mut Vec<u8>, core: u32, code: &[Instruction]) -> Result<()
 fn append_warrior(out: &mut Vec<u8>, core: u32, warrior: &Warrior) -> Result<(), OutOfMemory>
     requires core { core ≤ 65535 }
     requires below { All (IsBelow core) warrior.now.code }
-    ensures ok { OnOk result (out.new.items ≡ out.old.items ++ load_text core warrior.now) }
-    ensures front { IsFront out.old.items out.new.items }
+    ensures { AppendsText result out.old.items out.new.items (load_text core warrior.now) }
 {
     append_start(out, warrior.start())?;
     append_lines(out, core, warrior.code())

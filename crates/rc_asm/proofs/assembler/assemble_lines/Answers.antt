@@ -4,7 +4,8 @@ use Rattle.rc_expand.specs.Names.{table_in}
 use Rattle.rc_asm.specs.declared.fault.AsmKind.TheVariants.{OutOfMemory}
 use Rattle.rc_asm.specs.Names.{NameValues, names_of}
 use Rattle.rc_asm.specs.Assembly.{IsMadeOf}
-use Rattle.rc_asm.specs.Faults.{forms_fault, IsFaultOfLines}
+use Rattle.rc_asm.specs.Faults.{forms_fault}
+use Rattle.rc_asm.specs.Steps.{IsFaultOfLines}
 use Rattle.rc_asm.proofs.Whole.{same_names, form_first}
 use Rattle.rc_asm.proofs.assembler.assemble_lines.Goals as goal
 
