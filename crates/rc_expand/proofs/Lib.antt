@@ -1,6 +1,7 @@
 pub mod NameSteps
 pub mod Each
 pub mod TableSteps
+pub mod TreeSteps
 pub mod PlainHeads
 pub mod PlainLines
 pub mod Reading

@@ -6,10 +6,10 @@ use Rattle.std.proofs.lemmas.List.{append-nil}
 use Rattle.rc_text.specs.declared.token.Kind.TheVariants.{Name}
 use Rattle.rc_text.specs.declared.token.Token.{Token}
 use Rattle.rc_text.specs.Gaps.{is_line_end}
-use Rattle.rc_text.specs.NameClasses.{class_of}
+use Rattle.rc_text.specs.NameClasses.{class_of, is_opcode_word}
 use Rattle.rc_text.specs.Tokens.{tokens_of}
 use Rattle.rc_instr.specs.Rules.{RulesView}
-use Rattle.rc_instr.specs.LoadText.{opcode_text}
+use Rattle.rc_instr.specs.Words.{opcode_text}
 use Rattle.rc_instr.specs.declared.instruction.Opcode.{Opcode}
 use Rattle.rc_instr.specs.declared.instruction.Opcode.TheVariants as op
 use Rattle.rc_expand.specs.Limits.{MOST_TOKENS}
@@ -18,10 +18,10 @@ use Rattle.rc_expand.specs.declared.heads.head.HeadWord.TheVariants as word
 use Rattle.rc_expand.specs.declared.fault.ExpandFault.{ExpandFault}
 use Rattle.rc_expand.specs.declared.line.Line.{Line}
 use Rattle.rc_expand.specs.declared.line.LineWord.TheVariants as line
-use Rattle.rc_expand.specs.Heads.Lines.{is_name_kind, is_reserved_class, is_unjoined, bytes_of, is_free, word_of_name, word_of_kind, no_labels, label_split, head_with_word, head_after_labels, head_of, line_of_tokens, lines_unless, line_then, lines_from}
-use Rattle.rc_expand.specs.Heads.Nesting.{nesting_fault}
+use Rattle.rc_expand.specs.Heads.Lines.{is_name_kind, is_reserved_class, is_unjoined, bytes_of, is_free, word_of_name, word_of_kind, no_labels, label_split, head_with_word, head_after_labels, head_of, line_of_tokens, line_then, lines_from}
+use Rattle.rc_expand.specs.Heads.Tree.{Blocks, NoLine, OneLine, line_before, blocks_of}
 use Rattle.rc_expand.specs.Results.{mapped, and_then}
-use Rattle.rc_expand.specs.Heads.{equ_lines, nested_lines, text_lines, equs_from, equs_of, with_equs, heads_of}
+use Rattle.rc_expand.specs.Heads.{text_lines, equs_from, equs_of, with_equs, heads_of}
 use Rattle.rc_expand.proofs.Reading.TextFaults.{no_fault}
 
 -- ---- plain lines
@@ -81,6 +81,11 @@ abbrev pub plain_heads : List PlainLine → List Head
 plain_heads [] = []
 plain_heads (p ∷ ps) = plain_head p ∷ plain_heads ps
 
+-- and their tree
+abbrev pub plain_blocks : List PlainLine → Blocks
+plain_blocks [] = NoLine
+plain_blocks (p ∷ ps) = OneLine (plain_head p) (plain_blocks ps)
+
 -- a line by its word
 abbrev pub plain_line_by : PlainWord → Token → List Token → Line
 plain_line_by (AnOpcode o) t ts = record { number = t.line; labels = []; word = line.Code; tokens = t ∷ ts }
@@ -99,6 +104,7 @@ plain_lines (p ∷ ps) = plain_line p ∷ plain_lines ps
 
 -- an opcode word and ORG are reserved
 text_reserved : (w : PlainWord) → is_reserved_class (class_of (text_of w)) ≡ true
+unfolding is_opcode_word
 text_reserved (AnOpcode op.Dat) = refl
 text_reserved (AnOpcode op.Mov) = refl
 text_reserved (AnOpcode op.Add) = refl
@@ -199,36 +205,36 @@ module _ (source : List ℕ) where
 
   -- ---- no FOR, ROF or EQU is among them
 
-  -- no block is open at the end
-  plain_nests : (ps : List PlainLine) → nesting_fault 0 0 (plain_heads ps) ≡ None
+  -- they have no block
+  plain_nests : (ps : List PlainLine) → blocks_of (plain_heads ps) ≡ Ok (plain_blocks ps)
   plain_nests [] = refl
-  plain_nests (p ∷ ps) = by_word p.word (plain_nests ps) where
-    by_word : (w : PlainWord) → nesting_fault 0 0 (plain_heads ps) ≡ None → nesting_fault 0 0 (head_by w p.first p.others ∷ plain_heads ps) ≡ None
-    by_word (AnOpcode o) h = h
-    by_word AStart h = h
-
-  -- no EQU line is there
-  plain_equs : (ps : List PlainLine) → equ_lines 0 (plain_heads ps) ≡ []
-  plain_equs [] = refl
-  plain_equs (p ∷ ps) = by_word p.word (plain_equs ps) where
-    by_word : (w : PlainWord) → equ_lines 0 (plain_heads ps) ≡ [] → equ_lines 0 (head_by w p.first p.others ∷ plain_heads ps) ≡ []
-    by_word (AnOpcode o) h = h
-    by_word AStart h = h
+  plain_nests (p ∷ ps) = by_word p.word ∙ ap (mapped (line_before (plain_head p) 0)) (plain_nests ps) where
+    by_word : (w : PlainWord) → blocks_of (head_by w p.first p.others ∷ plain_heads ps) ≡ mapped (line_before (head_by w p.first p.others) 0) (blocks_of (plain_heads ps))
+    by_word (AnOpcode o) = refl
+    by_word AStart = refl
 
   module _ (rules : RulesView) where
+    -- no EQU line is there
+    plain_equs : (ps : List PlainLine) → equs_from source [] rules (plain_blocks ps) [] ≡ Ok []
+    plain_equs [] = refl
+    plain_equs (p ∷ ps) = by_word p.word (plain_equs ps) where
+      by_word : (w : PlainWord) → equs_from source [] rules (plain_blocks ps) [] ≡ Ok [] → equs_from source [] rules (OneLine (head_by w p.first p.others) (plain_blocks ps)) [] ≡ Ok []
+      by_word (AnOpcode o) h = h
+      by_word AStart h = h
+
     -- and no EQU name
-    no_equs : (ps : List PlainLine) → equs_of source [] rules (plain_heads ps) ≡ Ok []
+    no_equs : (ps : List PlainLine) → equs_of source [] rules (plain_blocks ps) ≡ Ok []
     unfolding equs_of
-    no_equs ps = ap (λ hs. equs_from source [] rules hs []) (plain_equs ps)
+    no_equs ps = plain_equs ps
 
     -- the first part of the expansion
     pub heads_there : (ps : List PlainLine) → ArePlain source ps → tokens_of source ≡ record { tokens = plain_tokens ps; ending = None }
-        → heads_of source [] rules ≡ Ok (record { lines = plain_heads ps; equs = [] })
+        → heads_of source [] rules ≡ Ok (record { blocks = plain_blocks ps; equs = [] })
     unfolding heads_of
     heads_there ps a e =
-        ap (λ o. and_then (with_equs source [] rules) (and_then nested_lines o)) (lines_there ps a e)
-        ∙ ap (λ o. and_then (with_equs source [] rules) (lines_unless o (plain_heads ps))) (plain_nests ps)
-        ∙ ap (mapped (λ equs. record { lines = plain_heads ps; equs = equs })) (no_equs ps)
+        ap (λ o. and_then (with_equs source [] rules) (and_then blocks_of o)) (lines_there ps a e)
+        ∙ ap (and_then (with_equs source [] rules)) (plain_nests ps)
+        ∙ ap (mapped (λ equs. record { blocks = plain_blocks ps; equs = equs })) (no_equs ps)
 
 -- there is a head for each line
 pub heads_length : (ps : List PlainLine) → length (plain_heads ps) ≡ length ps

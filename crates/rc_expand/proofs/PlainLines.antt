@@ -6,18 +6,19 @@ use Rattle.std.proofs.lemmas.List.{append-nil}
 use Rattle.rc_text.specs.declared.token.Token.{Token}
 use Rattle.rc_text.specs.Tokens.{tokens_of}
 use Rattle.rc_instr.specs.Rules.{RulesView}
-use Rattle.rc_expand.specs.Limits.{MOST_LINES, MOST_TOKENS, DEEPEST_BLOCK, DEEPEST_EQU}
+use Rattle.rc_expand.specs.Limits.{MOST_LINES, MOST_TOKENS, DEEPEST_EQU}
 use Rattle.rc_expand.specs.Results.{mapped, and_then}
 use Rattle.rc_expand.specs.declared.heads.head.Head.{Head}
 use Rattle.rc_expand.specs.declared.heads.head.HeadWord.{HeadWord}
 use Rattle.rc_expand.specs.declared.heads.head.HeadWord.TheVariants as word
 use Rattle.rc_expand.specs.Shared.{Shared}
 use Rattle.rc_expand.specs.Heads.Lines.{is_name_token}
+use Rattle.rc_expand.specs.Heads.Tree.{OneLine}
 use Rattle.rc_expand.specs.Replace.{EquText, Replaced, Inner, token_or_body, with_tokens, inner_at, replaced_tokens, exempt_len, line_tokens}
-use Rattle.rc_expand.specs.Unroll.{Unrolled, nothing, with_line as with_head, Deeper, outside, deeper_at, unrolled}
+use Rattle.rc_expand.specs.Unroll.{Unrolled, nothing, with_line as with_head, unrolled_in, unrolled}
 use Rattle.rc_expand.specs.Replace.Lines.{expanded_line, line_of, Replacement, with_line, line_replaced, lines_replaced, no_lines, replaced}
 use Rattle.rc_expand.specs.Expansion.{expansion_by, expansion_of, IsExpansion}
-use Rattle.rc_expand.proofs.PlainHeads.{PlainWord, AnOpcode, AStart, PlainLine, ArePlain, plain_tokens, head_by, plain_head, plain_heads, plain_line_by, plain_line, plain_lines, heads_there}
+use Rattle.rc_expand.proofs.PlainHeads.{PlainWord, AnOpcode, AStart, PlainLine, ArePlain, plain_tokens, head_by, plain_head, plain_heads, plain_blocks, plain_line_by, plain_line, plain_lines, heads_there}
 
 -- ---- without EQU names nothing is replaced
 
@@ -90,27 +91,27 @@ module _ (source : List ℕ) where
     -- ---- without FOR nothing is unrolled
 
     -- each line stays
-    all_outside : (deeper : Deeper) (ps : List PlainLine) (u : Unrolled) → length u.lines + u.copies + length ps ≤ MOST_LINES
-        → outside plain false deeper (plain_heads ps) u ≡ Ok (record u { lines = u.lines ++ plain_heads ps })
-    all_outside deeper [] u l = let e : u.lines ≡ u.lines ++ [] = sym (append-nil u.lines) in (λ x. Ok (record { lines = e x; copies = u.copies }))
-    all_outside deeper (p ∷ ps) u l =
+    all_stay : (ps : List PlainLine) (u : Unrolled) → length u.lines + u.copies + length ps ≤ MOST_LINES
+        → unrolled_in plain (plain_blocks ps) [] u ≡ Ok (record u { lines = u.lines ++ plain_heads ps })
+    all_stay [] u l = let e : u.lines ≡ u.lines ++ [] = sym (append-nil u.lines) in (λ x. Ok (record { lines = e x; copies = u.copies }))
+    all_stay (p ∷ ps) u l =
         let h : Head = plain_head p in
         let more : Unrolled = record u { lines = u.lines ++ (h ∷ []) } in
         let few : nat_lt (length u.lines + u.copies) MOST_LINES ≡ true = lt-ltb (length u.lines + u.copies) MOST_LINES (omega (arith, l)) in
         let pushed : with_head h u ≡ Ok more = rw few refl in
         let all : (u.lines ++ (h ∷ [])) ++ plain_heads ps ≡ u.lines ++ (h ∷ plain_heads ps) = append_assoc u.lines (h ∷ []) (plain_heads ps) in
         by_word p.word
-        ∙ (ap (and_then (outside plain false deeper (plain_heads ps))) pushed
-        ∙ (all_outside deeper ps more (omega (arith, l, length-append u.lines (h ∷ []))) ∙ (λ x. Ok (record { lines = all x; copies = u.copies }))))
+        ∙ (ap (and_then (unrolled_in plain (plain_blocks ps) [])) pushed
+        ∙ (all_stay ps more (omega (arith, l, length-append u.lines (h ∷ []))) ∙ (λ x. Ok (record { lines = all x; copies = u.copies }))))
       where
-        by_word : (w : PlainWord) → outside plain false deeper (head_by w p.first p.others ∷ plain_heads ps) u ≡ and_then (outside plain false deeper (plain_heads ps)) (with_head (head_by w p.first p.others) u)
+        by_word : (w : PlainWord) → unrolled_in plain (OneLine (head_by w p.first p.others) (plain_blocks ps)) [] u ≡ and_then (unrolled_in plain (plain_blocks ps) []) (with_head (head_by w p.first p.others) u)
         by_word (AnOpcode o) = refl
         by_word AStart = refl
 
     -- the second part of the expansion
-    heads_unrolled : (ps : List PlainLine) → length ps ≤ MOST_LINES → unrolled plain (plain_heads ps) ≡ Ok (plain_heads ps)
+    heads_unrolled : (ps : List PlainLine) → length ps ≤ MOST_LINES → unrolled plain (plain_blocks ps) ≡ Ok (plain_heads ps)
     unfolding unrolled
-    heads_unrolled ps l = ap (mapped (λ (u : Unrolled). u.lines)) (all_outside (deeper_at plain DEEPEST_BLOCK) ps nothing (omega (arith, l)))
+    heads_unrolled ps l = ap (mapped (λ (u : Unrolled). u.lines)) (all_stay ps nothing (omega (arith, l)))
 
     -- the three in turn
     pub plain_expands : (ps : List PlainLine) → ArePlain source ps → length ps ≤ MOST_LINES → tokens_of source ≡ record { tokens = plain_tokens ps; ending = None } → IsExpansion source [] rules (plain_lines ps)

@@ -2,9 +2,10 @@
 pub mod EquSteps
 pub mod ReadSteps
 pub mod HeadSteps
-pub mod EquLines
 pub mod TableFound
 pub mod TableIndices
 pub mod TextFaults
 pub mod NestingSteps
+pub mod BlockSteps
+pub mod SliceSteps
 pub mod LabelLaws

@@ -1,6 +1,6 @@
 -- The tokens of an expansion have spans of the text, pass by pass.
 use Rattle.std.proofs.Common.{ℕ, zero, suc, ◌+◌, Bool, true, false, List, [], ◌∷◌, ◌++◌, length, take, drop, Option, Some, None, sym, subst}
-use Rattle.std.specs.Prelude.{Result, Ok, Err, ◌&&◌, ◌||◌, not, nat_lt, pred, All, IfOk, IfSome, if◌then◌else◌, flat_map, option_map, option_and_then, option_to_list, is_some}
+use Rattle.std.specs.Prelude.{Result, Ok, Err, ◌&&◌, ◌||◌, not, nat_lt, All, IfOk, IfSome, if◌then◌else◌, flat_map, option_map, option_and_then, option_to_list, is_some}
 use Rattle.std.specs.Str.{bytes_eq}
 use Rattle.std.specs.List.{AllByRecursion as ByRecursion}
 use Rattle.std.proofs.lemmas.List.Elements.{All-from_recursion, recursion_from_All, All-take, All-drop}
@@ -19,12 +19,12 @@ use Rattle.rc_expand.specs.Limits.{MOST_JOINED, MOST_TOKENS, MOST_REPLACEMENTS, 
 use Rattle.rc_expand.specs.Results.{mapped, and_then}
 use Rattle.rc_expand.specs.Names.{Table, entry_of, is_taken}
 use Rattle.rc_expand.specs.Shared.{Shared}
-use Rattle.rc_expand.specs.Heads.{equ_lines_by, equ_lines, nested_lines, text_lines, equ_token, with_equ, equs_from, equs_of, with_equs, heads_of}
+use Rattle.rc_expand.specs.Heads.{text_lines, equ_token, with_equ, equs_with, equs_from, equs_of, with_equs, heads_of}
 use Rattle.rc_expand.specs.Heads.Faults.{text_fault}
-use Rattle.rc_expand.specs.Heads.Nesting.{nesting_fault}
+use Rattle.rc_expand.specs.Heads.Tree.{Blocks, NoLine, OneLine, Block, Parts, line_before, rof_before, for_before, parts_by, parts_from, blocks_of}
 use Rattle.rc_expand.specs.Heads.Lines.{choose, is_free, is_colon, has_modifier, label_token, label_split, head_with_word, head_after_labels, head_of, word_of, line_of_tokens, has_end, line_then, lines_unless, lines_from, bare_line, is_name_token}
-use Rattle.rc_expand.specs.Unroll.{Unrolled, Step, Deeper, nothing, has_room, with_line, with_copy, copies_from, with_earlier, is_bare_rof, at_rof, checked_line, one_line, line_outside, line_inside, copy_of, with_opening, block_of, outside, inside, deeper_at, unrolled}
-use Rattle.rc_expand.specs.Unroll.Copies.{all_of, is_counter, with_number, with_counter, joins, copied_from, copied_tokens, copied_code, copied_rest, or_spoiled, copied_line, copied_block}
+use Rattle.rc_expand.specs.Unroll.{Unrolled, Step, nothing, has_room, with_line, with_copy, copies_from, with_earlier, is_bare_rof, at_rof, checked_line, one_line, copy_of, block_of, unrolled_in, unrolled}
+use Rattle.rc_expand.specs.Unroll.Copies.{Copy, are_any, line_by, line_in, all_of, is_counter, with_number, with_counter, joins, copied_from, copied_tokens, copied_code, copied_rest, or_spoiled, copied_line}
 use Rattle.rc_expand.specs.Unroll.Openings.{Opening, earlier_of, counted_by, count_of, counter_name, counter_of, opening}
 use Rattle.rc_expand.specs.Replace.{Equs, Replaced, Inner, with_token, with_replacement, token_or_body, exempt_len, equ_in, equ_at, with_tokens, inner_at, replaced_within, replaced_tokens, line_tokens}
 use Rattle.rc_expand.specs.Replace.Lines.{own_step, own_labels, other_step, other_labels, expanded_line, made_line, line_with_labels, line_of, names_of, Replacement, no_lines, with_line as with_new, with_names, line_added, line_replaced, lines_replaced, replaced}
@@ -138,16 +138,36 @@ module _ (source : List ℕ) where
   abbrev Bodies : Equs → Type 0
   Bodies = ByRecursion (λ e. Ls e.1.tokens)
 
-  kept : (w : HeadWord) (n : ℕ) (h : Head) (next : ℕ → List Head) → IsIn h → ((m : ℕ) → AreIn (next m)) → AreIn (equ_lines_by w n h next)
-  kept word.For n h next i j = j (suc n)
-  kept word.Rof n h next i j = j (pred n)
-  kept word.Equ zero h next i j = (i, j zero)
-  kept word.Equ (suc n) h next i j = j (suc n)
-  kept _ n h next i j = j n
+  -- so has a tree of lines, and what is read while blocks are open
+  abbrev TreeIn : Blocks → Type 0
+  TreeIn NoLine = Unit {0}
+  TreeIn (OneLine h rest) = IsIn h × TreeIn rest
+  TreeIn (Block f inside r rest) = IsIn f × TreeIn inside × IsIn r × TreeIn rest
 
-  equ_lines_in : (n : ℕ) (hs : List Head) → AreIn hs → AreIn (equ_lines n hs)
-  equ_lines_in n [] h = tt
-  equ_lines_in n (h ∷ hs) i = kept h.word n h (λ m. equ_lines m hs) i.0 (λ m. equ_lines_in m hs i.1)
+  abbrev PartsIn : (n : ℕ) → Parts n → Type 0
+  PartsIn zero b = TreeIn b
+  PartsIn (suc n) p = TreeIn p.inside × IsIn p.closes × PartsIn n p.after
+
+  line_in_parts : (h : Head) → IsIn h → (n : ℕ) (p : Parts n) → PartsIn n p → PartsIn n (line_before h n p)
+  line_in_parts h i zero b j = (i, j)
+  line_in_parts h i (suc n) p j = ((i, j.0), j.1, j.2)
+
+  for_in_parts : (f : Head) → IsIn f → (n : ℕ) (p : Parts (suc n)) → PartsIn (suc n) p → PartsIn n (for_before f n p)
+  for_in_parts f i zero p j = (i, j.0, j.1, j.2)
+  for_in_parts f i (suc n) p j = ((i, j.0, j.1, j.2.0), j.2.1, j.2.2)
+
+  by_word_in : (w : HeadWord) (h : Head) (n line : ℕ) (next : (m l : ℕ) → Result (Parts m) ExpandFault) → IsIn h → ((m l : ℕ) → IfOk (next m l) (PartsIn m)) → IfOk (parts_by w h n line next) (PartsIn n)
+  by_word_in word.For h zero line next i j = over (PartsIn 1) (PartsIn 0) (for_before h 0) (next 1 h.number) (j 1 h.number) (for_in_parts h i 0)
+  by_word_in word.For h (suc n) line next i j =
+      either (λ r. IfOk r (PartsIn (suc n))) (nat_lt (suc n) DEEPEST_BLOCK) _ _ (over (PartsIn (suc (suc n))) (PartsIn (suc n)) (for_before h (suc n)) (next (suc (suc n)) line) (j (suc (suc n)) line) (for_in_parts h i (suc n))) tt
+  by_word_in word.Rof h zero line next i j = tt
+  by_word_in word.Rof h (suc n) line next i j = over (PartsIn n) (PartsIn (suc n)) (rof_before h n) (next n line) (j n line) (λ p k. (tt, i, k))
+  by_word_in _ h n line next i j = over (PartsIn n) (PartsIn n) (line_before h n) (next n line) (j n line) (line_in_parts h i n)
+
+  parts_in : (hs : List Head) (n line : ℕ) → AreIn hs → IfOk (parts_from hs n line) (PartsIn n)
+  parts_in [] zero line h = tt
+  parts_in [] (suc n) line h = tt
+  parts_in (h ∷ hs) n line i = by_word_in h.word h n line (λ m l. parts_from hs m l) i.0 (λ m l. parts_in hs m l i.1)
 
   module _ (constants : Table) (rules : RulesView) where
     one_equ : (h : Head) (equs : Equs) (o : Option Token) → IsIn h → Bodies equs → IfOk (with_equ source constants rules h equs o) Bodies
@@ -155,17 +175,22 @@ module _ (source : List ℕ) where
     one_equ h equs (Some t) i j =
         either (λ r. IfOk r Bodies) (is_taken constants rules (name_of source t) || is_some (entry_of equs (name_of source t))) _ _ tt (both (λ e. Ls e.1.tokens) equs _ j (i.rest, tt))
 
-    equs_in : (hs : List Head) (equs : Equs) → AreIn hs → Bodies equs → IfOk (equs_from source constants rules hs equs) Bodies
-    equs_in [] equs h j = j
-    equs_in (h ∷ hs) equs i j = after Bodies Bodies (equs_from source constants rules hs) (with_equ source constants rules h equs (equ_token source h.labels)) (one_equ h equs (equ_token source h.labels) i.0 j) (λ e k. equs_in hs e i.1 k)
+    with_equ_in : (w : HeadWord) (h : Head) (equs : Equs) → IsIn h → Bodies equs → IfOk (equs_with source constants rules w h equs) Bodies
+    with_equ_in word.Equ h equs i j = one_equ h equs (equ_token source h.labels) i j
+    with_equ_in _ h equs i j = j
 
-    heads_in : IfOk (heads_of source constants rules) (λ r. AreIn r.lines × Bodies r.equs)
+    equs_in : (b : Blocks) (equs : Equs) → TreeIn b → Bodies equs → IfOk (equs_from source constants rules b equs) Bodies
+    equs_in NoLine equs i j = j
+    equs_in (OneLine h rest) equs i j = after Bodies Bodies (equs_from source constants rules rest) (equs_with source constants rules h.word h equs) (with_equ_in h.word h equs i.0 j) (λ e k. equs_in rest e i.1 k)
+    equs_in (Block f inside r rest) equs i j = equs_in rest equs i.3 j
+
+    heads_in : IfOk (heads_of source constants rules) (λ r. TreeIn r.blocks × Bodies r.equs)
     unfolding heads_of equs_of
     heads_in =
         let lines = lines_in (text_fault source) [] (tokens_of source).tokens tt (recursion_from_All (LiesIn source) (tokens_of source).tokens (lie_in_the_text source)) in
-        let nested = after AreIn AreIn nested_lines (text_lines source) lines (λ hs h. unless_fault (nesting_fault 0 0 hs) hs h) in
-        after AreIn (λ r. AreIn r.lines × Bodies r.equs) (with_equs source constants rules) (and_then nested_lines (text_lines source)) nested
-        (λ hs h. over Bodies (λ r. AreIn r.lines × Bodies r.equs) (λ equs. record { lines = hs; equs = equs }) (equs_of source constants rules hs) (equs_in (equ_lines 0 hs) [] (equ_lines_in 0 hs h) tt) (λ equs j. (h, j)))
+        let nested = after AreIn TreeIn blocks_of (text_lines source) lines (λ hs h. parts_in hs 0 0 h) in
+        after TreeIn (λ r. TreeIn r.blocks × Bodies r.equs) (with_equs source constants rules) (and_then blocks_of (text_lines source)) nested
+        (λ b h. over Bodies (λ r. TreeIn r.blocks × Bodies r.equs) (λ equs. record { blocks = b; equs = equs }) (equs_of source constants rules b) (equs_in b [] h tt) (λ equs j. (h, j)))
 
   -- a copy changes no span
   join_in : (k : ℕ) (t : Token) → LiesIn source t → IfSome (with_counter source k t) (LiesIn source)
@@ -218,10 +243,13 @@ module _ (source : List ℕ) where
     unfolding copied_line
     copy_in h i = or_spoiled_in h (all_of (copied_tokens source counter k) h.labels) (copied_rest source counter k h.word h.rest) i (labels_in h.labels i.labels) (rest_in h.word h.rest i.rest)
 
-  block_in : (counter : Option (List ℕ)) (k : ℕ) (hs : List Head) → AreIn hs → AreIn (copied_block source counter k hs)
-  block_in None k hs h = h
-  block_in (Some counter) k [] h = tt
-  block_in (Some counter) k (x ∷ xs) h = (copy_in counter k x h.0, block_in (Some counter) k xs h.1)
+  by_copy : (counter : Option (List ℕ)) (k : ℕ) (h : Head) → IsIn h → IsIn (line_by source counter k h)
+  by_copy None k h i = i
+  by_copy (Some counter) k h i = copy_in counter k h i
+
+  in_copies : (cs : List Copy) (h : Head) → IsIn h → IsIn (line_in source cs h)
+  in_copies [] h i = i
+  in_copies (c ∷ cs) h i = in_copies cs (line_by source c.counter c.number h) (by_copy c.counter c.number h i)
 
   -- what is unrolled so far has such lines, and each step keeps them
   abbrev SoFar : Unrolled → Type 0
@@ -247,23 +275,10 @@ module _ (source : List ℕ) where
   rof_kept : (rof : Head) → Keeps (at_rof rof)
   rof_kept rof u j = either (λ r. IfOk r SoFar) (is_bare_rof rof) _ _ j tt
 
-  one_kept : (b : Bool) (h : Head) → IsIn h → Keeps (one_line b h)
-  one_kept b h i u j = after_any SoFar (λ i. with_line h u) (checked_line b h) (λ _. line_kept h i u j)
-
   earlier_in : (ls : List (List Token)) → Labels ls → Labels (earlier_of ls)
   earlier_in [] h = tt
   earlier_in (l ∷ []) h = tt
   earlier_in (l ∷ m ∷ ls) h = (h.0, earlier_in (m ∷ ls) (rest_of Ls l (m ∷ ls) h))
-
-  out_line : (w : HeadWord) (begins goes_on : Unit {0} → Result Unrolled ExpandFault) → IfOk (begins tt) SoFar → IfOk (goes_on tt) SoFar → IfOk (line_outside w begins goes_on) SoFar
-  out_line word.For begins goes_on h i = h
-  out_line _ begins goes_on h i = i
-
-  in_line : (w : HeadWord) (n : ℕ) (goes_on : ℕ → Result Unrolled ExpandFault) (ends : Unit {0} → Result Unrolled ExpandFault) → ((m : ℕ) → IfOk (goes_on m) SoFar) → IfOk (ends tt) SoFar → IfOk (line_inside w n goes_on ends) SoFar
-  in_line word.For n goes_on ends h i = h (suc n)
-  in_line word.Rof zero goes_on ends h i = i
-  in_line word.Rof (suc n) goes_on ends h i = h n
-  in_line _ n goes_on ends h i = h n
 
   -- names of one label
   label_in : (l : List Token) → Ls l → IfSome (label_token source l) (LiesIn source)
@@ -363,49 +378,37 @@ module _ (s : Shared) where
       (after_any (λ o. Labels s.source o.earlier) (counted_by s f) (and_then (counter_name s f.number) (counter_of s.source f.number f.labels))
       (λ name. over_any (λ o. Labels s.source o.earlier) (λ n. record { counter = name; earlier = earlier_of f.labels; count = n }) (count_of s f.number f.rest) (λ n. earlier_in s.source f.labels i.labels)))
 
-  -- the lines of a block, and then those after it
-  abbrev KeepsDeeper : Deeper → Type 0
-  KeepsDeeper deeper = (line : ℕ) (hs : List Head) → AreIn s.source hs → Keeps s.source (deeper line hs)
+  abbrev Kept : Unrolled → Type 0
+  Kept u = SoFar s.source u
 
-  module _ (deeper : Deeper) (d : KeepsDeeper deeper) where
-    abbrev Kept : Unrolled → Type 0
-    Kept u = SoFar s.source u
+  -- a line, and a block whose lines keep them
+  one_kept : (cs : List Copy) (h : Head) → IsIn s.source h → Keeps s.source (one_line s cs h)
+  one_kept cs h i u j =
+      after_any Kept (λ _. with_line (line_in s.source cs h) u) (checked_line (are_any cs) (line_in s.source cs h))
+      (λ _. line_kept s.source (line_in s.source cs h) (in_copies s.source cs h i) u j)
 
-    copy_of_kept : (line : ℕ) (counter : Option (List ℕ)) (block : List Head) → AreIn s.source block → (k : ℕ) → Keeps s.source (copy_of s deeper line counter block k)
-    copy_of_kept line counter block h k u j =
-        after Kept Kept (deeper line (copied_block s.source counter k block)) (with_copy line u) (copy_kept s.source line u j) (λ v i. d line (copied_block s.source counter k block) (block_in s.source counter k block h) v i)
+  module _ (inside : List Copy → Step) (d : (cs : List Copy) → Keeps s.source (inside cs)) where
+    copy_of_kept : (cs : List Copy) (line : ℕ) (counter : Option (List ℕ)) (k : ℕ) → Keeps s.source (copy_of inside cs line counter k)
+    copy_of_kept cs line counter k u j =
+        let more : List Copy = cs ++ (record { counter = counter; number = k } ∷ []) in
+        after Kept Kept (inside more) (with_copy line u) (copy_kept s.source line u j) (λ v i. d more v i)
 
-    opened_kept : (f : Head) (block : List Head) (o : Opening) → AreIn s.source block → Labels s.source o.earlier → (u : Unrolled) → Kept u → IfOk (with_opening s deeper f block u o) Kept
-    opened_kept f block o h i u j =
-        after Kept Kept (copies_from (copy_of s deeper f.number o.counter block) o.count 1) (with_earlier f.number o.earlier u) (earlier_kept s.source f.number o.earlier i u j)
-        (λ v k. copies_kept s.source (copy_of s deeper f.number o.counter block) (copy_of_kept f.number o.counter block h) o.count 1 v k)
+    block_kept : (cs : List Copy) (f r : Head) → IsIn s.source f → Keeps s.source (block_of s inside cs f r)
+    block_kept cs f r i u j =
+        after (λ o. Labels s.source o.earlier) Kept _ (opening s (line_in s.source cs f)) (opening_in (line_in s.source cs f) (in_copies s.source cs f i))
+        (λ o l. after Kept Kept _ (with_earlier f.number o.earlier u) (earlier_kept s.source f.number o.earlier l u j)
+        (λ v k. after Kept Kept _ (copies_from (copy_of inside cs f.number o.counter) o.count 1 v) (copies_kept s.source (copy_of inside cs f.number o.counter) (copy_of_kept cs f.number o.counter) o.count 1 v k)
+        (λ w m. rof_kept s.source (line_in s.source cs r) w m)))
 
-    block_kept : (f : Head) (block : List Head) (rof : Head) → IsIn s.source f → AreIn s.source block → Keeps s.source (block_of s deeper f block rof)
-    block_kept f block rof i h u j =
-        after Kept Kept (at_rof rof) (and_then (with_opening s deeper f block u) (opening s f))
-        (after (λ o. Labels s.source o.earlier) Kept (with_opening s deeper f block u) (opening s f) (opening_in f i) (λ o k. opened_kept f block o h k u j)) (λ v k. rof_kept s.source rof v k)
+  tree_kept : (b : Blocks) → TreeIn s.source b → (cs : List Copy) → Keeps s.source (unrolled_in s b cs)
+  tree_kept NoLine i cs u j = j
+  tree_kept (OneLine h rest) i cs u j = after Kept Kept (unrolled_in s rest cs) (one_line s cs h u) (one_kept cs h i.0 u j) (λ v k. tree_kept rest i.1 cs v k)
+  tree_kept (Block f inside r rest) i cs u j =
+      after Kept Kept (unrolled_in s rest cs) (block_of s (unrolled_in s inside) cs f r u) (block_kept (unrolled_in s inside) (λ ds v k. tree_kept inside i.1 ds v k) cs f r i.0 u j) (λ v k. tree_kept rest i.3 cs v k)
 
-    module _ (b : Bool) where
-      mutual
-        outside_kept : (hs : List Head) → AreIn s.source hs → Keeps s.source (outside s b deeper hs)
-        outside_kept [] i u j = j
-        outside_kept (h ∷ hs) i u j =
-            out_line s.source h.word _ _ (inside_kept h 0 [] hs i.0 tt i.1 u j)
-            (after Kept Kept (outside s b deeper hs) (one_line b h u) (one_kept s.source b h i.0 u j) (λ v k. outside_kept hs i.1 v k))
-
-        inside_kept : (f : Head) (n : ℕ) (block hs : List Head) → IsIn s.source f → AreIn s.source block → AreIn s.source hs → Keeps s.source (inside s b deeper f n block hs)
-        inside_kept f n block [] p q i u j = tt
-        inside_kept f n block (h ∷ hs) p q i u j =
-            in_line s.source h.word n _ _ (λ m. inside_kept f m (block ++ (h ∷ [])) hs p (both (IsIn s.source) block (h ∷ []) q (i.0, tt)) i.1 u j)
-            (after Kept Kept (outside s b deeper hs) (block_of s deeper f block h u) (block_kept f block h p q u j) (λ v k. outside_kept hs i.1 v k))
-
-  deeper_kept : (levels : ℕ) → KeepsDeeper (deeper_at s levels)
-  deeper_kept zero line hs h u j = tt
-  deeper_kept (suc n) line hs h u j = outside_kept (deeper_at s n) (deeper_kept n) true hs h u j
-
-  unrolled_in : (hs : List Head) → AreIn s.source hs → IfOk (unrolled s hs) (AreIn s.source)
+  unrolled_lines_in : (b : Blocks) → TreeIn s.source b → IfOk (unrolled s b) (AreIn s.source)
   unfolding unrolled
-  unrolled_in hs h = over (SoFar s.source) (AreIn s.source) (λ u. u.lines) (outside s false (deeper_at s DEEPEST_BLOCK) hs nothing) (outside_kept (deeper_at s DEEPEST_BLOCK) (deeper_kept DEEPEST_BLOCK) false hs h nothing tt) (λ u i. i)
+  unrolled_lines_in b h = over (SoFar s.source) (AreIn s.source) (λ u. u.lines) (unrolled_in s b [] nothing) (tree_kept b h [] nothing tt) (λ u i. i)
 
   -- the lines of the expansion
   abbrev Made : Replacement → Type 0
@@ -434,9 +437,9 @@ module _ (s : Shared) where
 expansion_in : (source : List ℕ) (constants : Table) (rules : RulesView) → IfOk (expansion_of source constants rules) (ByRecursion (LineLies source))
 unfolding expansion_of
 expansion_in source constants rules =
-    after (λ r. AreIn source r.lines × Bodies source r.equs) (ByRecursion (LineLies source)) (expansion_by source constants rules) (heads_of source constants rules) (heads_in source constants rules)
+    after (λ r. TreeIn source r.blocks × Bodies source r.equs) (ByRecursion (LineLies source)) (expansion_by source constants rules) (heads_of source constants rules) (heads_in source constants rules)
     (λ r h. let s = shared_by source constants rules r in
-    after (AreIn source) (ByRecursion (LineLies source)) (replaced s) (unrolled s r.lines) (unrolled_in s r.lines h.0) (λ hs i. replaced_lines_in s h.1 hs i))
+    after (AreIn source) (ByRecursion (LineLies source)) (replaced s) (unrolled s r.blocks) (unrolled_lines_in s r.blocks h.0) (λ hs i. replaced_lines_in s h.1 hs i))
 
 pub expansion_lies : (source : List ℕ) (constants : Table) (rules : RulesView) (lines : List Line) → IsExpansion source constants rules lines → All (LineLies source) lines
 expansion_lies source constants rules lines e =

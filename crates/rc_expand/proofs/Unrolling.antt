@@ -3,6 +3,4 @@ pub mod Copies
 pub mod UnrollSteps
 pub mod Reaching
 pub mod Short
-pub mod ContextSteps
 pub mod CountSteps
-pub mod Equation

@@ -21,7 +21,7 @@ module _ (source : List ℕ) (constants : Table) (rules : RulesView) where
   shared_by r = record { source = source; constants = constants; rules = rules; equs = r.equs }
 
   abbrev pub expansion_by : Heads → Result (List Line) ExpandFault
-  expansion_by r = unrolled (shared_by r) r.lines >>= replaced (shared_by r)
+  expansion_by r = unrolled (shared_by r) r.blocks >>= replaced (shared_by r)
 
   -- The lines of the expansion; or the fault that the passes meet first, at its line.
   unfoldable pub expansion_of : Result (List Line) ExpandFault

@@ -5,7 +5,6 @@ use Rattle.rc_text.specs.declared.token.Token.{Token}
 use Rattle.rc_text.specs.Symbols.{name_of}
 use Rattle.rc_expand.specs.declared.fault.ExpandFault.{ExpandFault}
 use Rattle.rc_expand.specs.declared.fault.ExpandKind.TheVariants.{EquTooDeep, TooManyTokens}
-use Rattle.rc_expand.specs.declared.equ_tokens.Replacing.{Replacing}
 use Rattle.rc_expand.specs.declared.heads.head.HeadWord.{HeadWord}
 use Rattle.rc_expand.specs.declared.heads.head.HeadWord.TheVariants as word
 use Rattle.rc_expand.specs.Limits.{MOST_TOKENS, MOST_REPLACEMENTS, DEEPEST_EQU}
@@ -27,10 +26,6 @@ pub record Replaced : Type 0 where
   pub line : ℕ
   pub tokens : List Token
   pub replacements : ℕ
-
--- What the code keeps of it.
-abbrev pub replaced_so_far : Replacing → Replaced
-replaced_so_far r = record { line = r.line; tokens = r.tokens.items; replacements = r.replacements }
 
 -- One more token, within the limit.
 abbrev pub with_token : Token → Replaced → Result Replaced ExpandFault
@@ -72,12 +67,18 @@ module _ (source : List ℕ) (equs : Equs) where
   -- Tokens in turn.
   abbrev pub with_tokens : Inner → List Token → Replaced → Result Replaced ExpandFault
   with_tokens inner [] r = Ok r
-  with_tokens inner (t ∷ ts) r = token_or_body inner t (equ_at t) r >>= with_tokens inner ts
+  with_tokens inner (t ∷ ts) r = do
+    more ← token_or_body inner t (equ_at t) r
+    with_tokens inner ts more
 
   -- The tokens of an EQU name, in which this name and those inside it may nest `levels` deep.
   abbrev pub inner_at : ℕ → Inner
   inner_at zero = λ body r. Err (at_line r.line EquTooDeep)
   inner_at (suc levels) = λ body r. with_replacement r >>= with_tokens (inner_at levels) body
+
+  -- A token, in which EQU names may nest `levels` deep.
+  abbrev pub token_within : ℕ → Token → Replaced → Result Replaced ExpandFault
+  token_within levels t = token_or_body (inner_at levels) t (equ_at t)
 
   -- Tokens in turn, in which EQU names may nest `levels` deep.
   abbrev pub replaced_within : ℕ → List Token → Replaced → Result Replaced ExpandFault

@@ -7,16 +7,17 @@ use Rattle.rc_expand.specs.declared.fault.ExpandKind.TheVariants.{OutOfMemory}
 abbrev pub at_line : ℕ → ExpandKind → ExpandFault
 at_line line kind = record { line = line; kind = kind }
 
--- A fault stays as it is.
+-- Changes the value and keeps the fault.
 abbrev pub mapped : {A B E : Type 0} → (A → B) → Result A E → Result B E
 mapped f (Ok x) = Ok (f x)
 mapped f (Err e) = Err e
 
+-- Goes on with the value. A fault is the fault of the whole.
 abbrev pub and_then : {A B E : Type 0} → (A → Result B E) → Result A E → Result B E
 and_then f (Ok x) = f x
 and_then f (Err e) = Err e
 
--- The same from left to right, and in `do` what `?` is in code.
+-- The same, read from left to right, as `?` in code. `do` is made of it.
 infixl 10 ◌>>=◌
 abbrev pub ◌>>=◌ : {A B E : Type 0} → Result A E → (A → Result B E) → Result B E
 r >>= f = and_then f r

@@ -2,23 +2,22 @@
 -- pMARS).
 pub mod Copies
 pub mod Openings
-pub mod Cuts
 pub mod Reached
-pub mod Scopes
-pub mod Places
+pub mod Steps
 use Rattle.std.specs.Prelude.{ℕ, zero, suc, Bool, true, false, ◌&&◌, not, ◌+◌, ◌==◌, nat_lt, List, [], ◌∷◌, ◌++◌, length, Option, if◌then◌else◌, Result, Ok, Err}
 use Rattle.rc_text.specs.declared.token.Token.{Token}
 use Rattle.rc_expand.specs.declared.heads.head.Head.{Head}
 use Rattle.rc_expand.specs.declared.heads.head.HeadWord.{HeadWord}
 use Rattle.rc_expand.specs.declared.heads.head.HeadWord.TheVariants as word
 use Rattle.rc_expand.specs.declared.fault.ExpandFault.{ExpandFault}
-use Rattle.rc_expand.specs.declared.fault.ExpandKind.TheVariants.{BadDirective, TooManyLines, ForWithoutRof, RofWithoutFor, ForTooDeep}
-use Rattle.rc_expand.specs.Limits.{MOST_LINES, DEEPEST_BLOCK}
+use Rattle.rc_expand.specs.declared.fault.ExpandKind.TheVariants.{BadDirective, TooManyLines}
+use Rattle.rc_expand.specs.Limits.{MOST_LINES}
 use Rattle.rc_expand.specs.Results.{at_line, mapped, ◌>>=◌}
 use Rattle.rc_expand.specs.Shared.{Shared}
 use Rattle.rc_expand.specs.Heads.Lines.{bare_line}
-use Rattle.rc_expand.specs.Unroll.Copies.{copied_block}
-use Rattle.rc_expand.specs.Unroll.Openings.{Opening, opening}
+use Rattle.rc_expand.specs.Heads.Tree.{Blocks, NoLine, OneLine, Block}
+use Rattle.rc_expand.specs.Unroll.Copies.{Copy, are_any, line_in}
+use Rattle.rc_expand.specs.Unroll.Openings.{opening}
 
 -- The unrolled lines so far, and the number of copies of blocks that were made for them.
 pub record Unrolled : Type 0 where
@@ -63,10 +62,9 @@ is_bare_rof h = not h.spoiled && ((length h.labels == 0) && (length h.rest == 0)
 abbrev pub at_rof : Head → Step
 at_rof rof u = if is_bare_rof rof then Ok u else Err (at_line rof.number BadDirective)
 
--- The faults of a line other than FOR: a ROF ends no block, an EQU is in a block, or a ninth
--- counter was to be joined to a name. In a text whose blocks nest no ROF comes here.
+-- The faults of a line other than FOR and ROF: it is an EQU in a block, or a ninth counter was to
+-- be joined to a name.
 abbrev pub line_checked : (line : ℕ) → HeadWord → (in_block spoiled : Bool) → Result (Unit {0}) ExpandFault
-line_checked line word.Rof b s = Err (at_line line RofWithoutFor)
 line_checked line word.Equ true s = Err (at_line line BadDirective)
 line_checked line _ b s = if s then Err (at_line line BadDirective) else Ok tt
 
@@ -74,63 +72,38 @@ line_checked line _ b s = if s then Err (at_line line BadDirective) else Ok tt
 abbrev pub checked_line : (in_block : Bool) → Head → Result (Unit {0}) ExpandFault
 checked_line b h = line_checked h.number h.word b h.spoiled
 
--- A line other than FOR is added, unless it has a fault.
-abbrev pub one_line : (in_block : Bool) → Head → Step
-one_line b h u = checked_line b h >>= (λ i. with_line h u)
-
--- How the lines of a copy are unrolled; the FOR of their block is at `line`.
-abbrev pub Deeper : Type 0
-Deeper = (line : ℕ) → List Head → Step
-
--- A line that is in no block: a FOR begins one.
-abbrev pub line_outside : HeadWord → (begins goes_on : Unit {0} → Result Unrolled ExpandFault) → Result Unrolled ExpandFault
-line_outside word.For begins goes_on = begins tt
-line_outside _ begins goes_on = goes_on tt
-
--- A line of a block. Of the blocks inside it `n` are open before the line: a ROF closes one of
--- these, or ends the block itself.
-abbrev pub line_inside : HeadWord → (n : ℕ) → (goes_on : ℕ → Result Unrolled ExpandFault) → (ends : Unit {0} → Result Unrolled ExpandFault) → Result Unrolled ExpandFault
-line_inside word.For n goes_on ends = goes_on (suc n)
-line_inside word.Rof zero goes_on ends = ends tt
-line_inside word.Rof (suc n) goes_on ends = goes_on n
-line_inside _ n goes_on ends = goes_on n
+-- One more copy, for the number `k`, of a block in these copies, whose FOR is at this line;
+-- `inside` unrolls the lines of the block.
+abbrev pub copy_of : (inside : List Copy → Step) → List Copy → (line : ℕ) → Option (List ℕ) → (k : ℕ) → Step
+copy_of inside copies line counter k u = do
+  v ← with_copy line u
+  inside (copies ++ (record { counter = counter; number = k } ∷ [])) v
 
 module _ (s : Shared) where
-  -- The copy of a block for the number `k` of its counter.
-  abbrev pub copy_of : Deeper → (line : ℕ) → (counter : Option (List ℕ)) → List Head → (k : ℕ) → Step
-  copy_of deeper line counter block k u = with_copy line u >>= deeper line (copied_block s.source counter k block)
+  -- A line other than FOR and ROF is added as it is in these copies, unless it has a fault.
+  abbrev pub one_line : List Copy → Head → Step
+  one_line copies h u = do
+    _ ← checked_line (are_any copies) (line_in s.source copies h)
+    with_line (line_in s.source copies h) u
 
-  -- The labels before the counter, then the copies.
-  abbrev pub with_opening : Deeper → Head → List Head → Unrolled → Opening → Result Unrolled ExpandFault
-  with_opening deeper f block u o = with_earlier f.number o.earlier u >>= copies_from (copy_of deeper f.number o.counter block) o.count 1
+  -- A block in these copies: its FOR, the labels before the counter, its copies, and then its ROF.
+  abbrev pub block_of : (inside : List Copy → Step) → List Copy → (f rof : Head) → Step
+  block_of inside copies f rof u = do
+    o ← opening s (line_in s.source copies f)
+    v ← with_earlier f.number o.earlier u
+    w ← copies_from (copy_of inside copies f.number o.counter) o.count 1 v
+    at_rof (line_in s.source copies rof) w
 
-  -- A whole block: its FOR, its lines, and its ROF.
-  abbrev pub block_of : Deeper → (f : Head) (block : List Head) (rof : Head) → Step
-  block_of deeper f block rof u = opening s f >>= with_opening deeper f block u >>= at_rof rof
-
-  -- `outside` is at lines that are in no block of their own; `in_block` says whether they are lines
-  -- of a copy. `inside` is at lines of the block of `f`, after its lines `block`; of the blocks
-  -- inside it `n` are open.
-  abbrev mutual
-    pub outside : (in_block : Bool) → Deeper → List Head → Step
-    outside b deeper [] u = Ok u
-    outside b deeper (h ∷ hs) u = line_outside h.word (λ i. inside b deeper h 0 [] hs u) (λ i. one_line b h u >>= outside b deeper hs)
-
-    pub inside : (in_block : Bool) → Deeper → (f : Head) (n : ℕ) (block : List Head) → List Head → Step
-    inside b deeper f n block [] u = Err (at_line f.number ForWithoutRof)
-    inside b deeper f n block (h ∷ hs) u =
-        line_inside h.word n (λ m. inside b deeper f m (block ++ (h ∷ [])) hs u)
-        (λ i. block_of deeper f block h u >>= outside b deeper hs)
-
-  -- The lines of a copy of a block; it and the blocks inside it may nest `levels` deep.
-  abbrev pub deeper_at : (levels : ℕ) → Deeper
-  deeper_at zero = λ line hs u. Err (at_line line ForTooDeep)
-  deeper_at (suc levels) = λ line. outside true (deeper_at levels)
-
-  -- Lines in which blocks may nest `levels` deep.
-  abbrev pub unrolled_by : (in_block : Bool) → (levels : ℕ) → List Head → Step
-  unrolled_by b levels hs = outside b (deeper_at levels) hs
+  -- Lines in these copies, the outermost first.
+  abbrev pub unrolled_in : Blocks → List Copy → Step
+  unrolled_in NoLine copies u = Ok u
+  unrolled_in (OneLine h rest) copies u = do
+    v ← one_line copies h u
+    unrolled_in rest copies v
+  unrolled_in (Block f inside rof rest) copies u = do
+    v ← block_of (unrolled_in inside) copies f rof u
+    unrolled_in rest copies v
 
   -- The second pass.
-  unfoldable pub unrolled : List Head → Result (List Head) ExpandFault
-  unrolled hs = mapped (λ u. u.lines) (outside false (deeper_at DEEPEST_BLOCK) hs nothing)
+  unfoldable pub unrolled : Blocks → Result (List Head) ExpandFault
+  unrolled b = mapped (λ u. u.lines) (unrolled_in b [] nothing)

@@ -1,10 +1,9 @@
-//! Tokens in which EQU names give way to their own. The second pass replaces those of the count of
-//! a FOR, and the third those of each line.
+//! Puts the tokens of EQU names in the place of the names: in the count of a FOR for the second
+//! pass, and in each line for the third.
 ghost use Rattle.std.specs.Prelude.{◌≡◌, ◌≢◌, ℕ, List, [], ◌∷◌, ◌++◌, ◌+◌, ◌≤◌, length, MatchResult, Ok, Err, Some, None, option_map, All, IfSome, IfOk, OnOk};
 ghost use Rattle.rc_expand.specs.Results.{Returns};
 ghost use Rattle.rc_expand.specs.NameTables.{at_index, AreIndices};
-ghost use Rattle.rc_expand.specs.Replace.{with_token, equ_in, replaced_tokens};
-ghost use Rattle.rc_expand.specs.Shared.{Replaces, step_of_token, step_of_tokens};
+ghost use Rattle.rc_expand.specs.Replace.{with_token, equ_in, token_within, replaced_within, replaced_tokens};
 
 pub(crate) mod links;
 
@@ -15,6 +14,7 @@ use crate::heads::words::clone_token;
 use crate::limits::{DEEPEST_EQU, MOST_REPLACEMENTS, MOST_TOKENS};
 use crate::line::Tokens;
 use rc_text::Token;
+use std::marker::Model;
 
 // The tokens of a line so far, its number, and how many EQU names were replaced in it.
 #[derive(Drop)]
@@ -22,6 +22,14 @@ pub(crate) struct Replacing {
     line: u64,
     tokens: Vec<Token>,
     replacements: u32,
+}
+
+impl Model for Replacing {
+    ghost use Rattle.rc_expand.specs.Replace.{Replaced};
+
+    ghost Value = { Replaced };
+
+    ghost view = { λ r. record { line = r.line; tokens = r.tokens.items; replacements = r.replacements } };
 }
 
 // Replaces the EQU names of `tokens`, at most `DEEPEST_EQU` deep. `front` are the tokens before
@@ -60,7 +68,7 @@ fn body_at<'a>(
 
 // Appends a token that is not an EQU name.
 fn push_token(out: &mut Replacing, token: &Token) -> Result<(), ExpandFault>
-    ensures { Replaces out.old (with_token token.now) result out.new }
+    ensures { Returns (λ u. out.new) result (with_token token.now out.old) }
 {
     if out.tokens.len() >= MOST_TOKENS {
         return Err(fault(out.line, ExpandKind::TooManyTokens));
@@ -79,7 +87,7 @@ fn append_one(
     levels: u8,
 ) -> Result<(), ExpandFault>
     requires { at_index context.now.equs.now index ≡ equ_in context.now.source.now context.now.equs.now token.now }
-    ensures { Replaces out.old (step_of_token context.now levels token.now) result out.new }
+    ensures { Returns (λ u. out.new) result (token_within context.now.source.now context.now.equs.now levels token.now out.old) }
 {
     match body_at(context, index) {
         None => push_token(out, token),
@@ -106,7 +114,7 @@ fn append_replaced(
     levels: u8,
 ) -> Result<(), ExpandFault>
     requires { AreIndices context.now.source.now context.now.equs.now tokens.now indices.now }
-    ensures { Replaces out.old (step_of_tokens context.now levels tokens.now) result out.new }
+    ensures { Returns (λ u. out.new) result (replaced_within context.now.source.now context.now.equs.now levels tokens.now out.old) }
 {
     for i in 0..tokens.len() {
         append_one(out, context, &tokens[i], indices[i], levels)?;

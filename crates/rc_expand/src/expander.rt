@@ -26,7 +26,7 @@ use std::alloc::Global;
 ///
 /// Refuses, pass by pass, and in each pass the first line that is wrong:
 ///
-/// - `Text`: a byte or a number that is not a token, up to the line with END.
+/// - `Text`: a byte or a decimal that is not a token, up to the line with END.
 /// - `ForTooDeep`: more than 8 nested blocks; `RofWithoutFor`, `ForWithoutRof`: a FOR or a ROF
 ///   without its partner.
 /// - `BadDirective`, `DuplicateName`: an EQU line without exactly one plain name before EQU, or
@@ -69,7 +69,7 @@ fn expand_text(
     ensures { Returns (λ e. e.lines) result (expansion_of source.now (table_in constants.now) rules.now) }
 {
     let names = GivenNames { constants, rules };
-    let (heads, equs) = read_heads(alloc, source, &names)?;
+    let (blocks, equs) = read_heads(alloc, source, &names)?;
     let links = link_equs(alloc, source, &equs)?;
     let context = Context {
         alloc,
@@ -78,7 +78,7 @@ fn expand_text(
         equs: &equs,
         links: &links,
     };
-    let reached = unroll(&context, heads.as_slice())?;
+    let reached = unroll(&context, &blocks.as_slice())?;
     let lines = replace_lines(&context, reached.as_slice())?;
     Ok(Expanded {
         lines: Lines::from_vec(lines),

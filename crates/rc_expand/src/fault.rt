@@ -9,7 +9,7 @@ use thiserror::Error;
 /// Why a text cannot be expanded.
 #[derive(Clone, Copy, Debug, PartialEq, Eq, Error)]
 pub enum ExpandKind {
-    /// The text has a byte or a number that is not a token.
+    /// The text has a byte or a decimal that is not a token.
     #[error("{0}")]
     Text(LexFault),
     /// A label, a counter or an EQU name is already defined, or is a constant or a predefined name.

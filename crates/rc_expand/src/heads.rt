@@ -1,10 +1,11 @@
 //! The first pass: the lines of a text up to END, each with its labels, its word and what comes
-//! after it. Blocks have to nest without a fault, and each EQU line outside of them gives a name
+//! after it. FORs and ROFs have to be partners, and each EQU line outside of blocks gives a name
 //! and its tokens. Nothing is copied or replaced yet.
 ghost use Rattle.std.specs.Prelude.{◌≡◌, ◌≢◌, All, IfOk, Ok, Err};
 ghost use Rattle.rc_expand.specs.Results.{Returns};
 ghost use Rattle.rc_expand.specs.Shared.{constants_of};
 ghost use Rattle.rc_expand.specs.Heads.{heads_of};
+ghost use Rattle.rc_expand.specs.Heads.Tree.{tree_of};
 
 pub(crate) mod blocks;
 pub(crate) mod equs;
@@ -14,25 +15,24 @@ pub(crate) mod read;
 pub(crate) mod words;
 
 use crate::fault::ExpandFault;
-use crate::heads::blocks::check_blocks;
+use crate::heads::blocks::Blocks;
 use crate::heads::equs::{Equ, collect_equs};
-use crate::heads::head::Head;
 use crate::heads::read::read_lines;
 use crate::name_table::NameTable;
 use crate::names::GivenNames;
 use std::alloc::Global;
 
-// Reads the lines of a text, checks how its blocks nest, and collects its EQU names.
+// Reads the lines of a text, finds their blocks, and collects the EQU names outside of these.
 #[tactic(auto, unfolding(crate::specs::Heads::heads_of))]
 pub(crate) fn read_heads(
     alloc: Global,
     source: &[u8],
     names: &GivenNames,
-) -> Result<(Vec<Head>, NameTable<'static, Equ>), ExpandFault>
-    ensures { Returns (λ p. record { lines = p.0.items; equs = p.1 }) result (heads_of source.now (constants_of names.now) names.now.rules.now) }
+) -> Result<(Blocks, NameTable<'static, Equ>), ExpandFault>
+    ensures { Returns (λ p. record { blocks = tree_of p.0.heads.items; equs = p.1 }) result (heads_of source.now (constants_of names.now) names.now.rules.now) }
 {
     let heads = read_lines(alloc, source)?;
-    check_blocks(&heads)?;
-    let equs = collect_equs(alloc, source, names, &heads)?;
-    Ok((heads, equs))
+    let blocks = Blocks::find(alloc, heads)?;
+    let equs = collect_equs(alloc, source, names, &blocks.as_slice())?;
+    Ok((blocks, equs))
 }

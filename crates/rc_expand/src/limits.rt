@@ -13,7 +13,7 @@ pub(crate) const MOST_REPLACEMENTS: u32 = 4096;
 pub(crate) const MOST_COPIES: i64 = 4096;
 
 // FOR blocks inside one another.
-pub(crate) const DEEPEST_BLOCK: u8 = 8;
+pub(crate) const DEEPEST_BLOCK: usize = 8;
 
 // EQU names inside one another.
 pub(crate) const DEEPEST_EQU: u8 = 16;

@@ -1,12 +1,11 @@
-//! The third pass: each line of the unrolled text in turn, first the names that it defines, then
-//! its tokens, in which EQU names give way to their own. EQU lines are dropped.
+//! The third pass, line by line: takes the names that the line defines, and then puts the tokens of
+//! EQU names in the place of the names. EQU lines are dropped.
 ghost use Rattle.std.specs.Prelude.{◌≡◌, ◌≢◌, ◌++◌, ◌∷◌, [], ◌||◌, List, ℕ, map, All, IfOk, OnOk, Ok, Err};
 ghost use Rattle.rc_text.specs.Symbols.{name_of};
 ghost use Rattle.rc_expand.specs.Results.{Returns};
 ghost use Rattle.rc_expand.specs.Shared.{shared};
 ghost use Rattle.rc_expand.specs.NameTables.{names_in};
-ghost use Rattle.rc_expand.specs.Unroll.Reached.{reached_line, reached_lines};
-ghost use Rattle.rc_expand.specs.Replace.Lines.{lines_so_far, with_names, line_replaced, replaced};
+ghost use Rattle.rc_expand.specs.Replace.Lines.{with_names, line_replaced, replaced};
 
 pub(crate) mod finish;
 
@@ -19,6 +18,7 @@ use crate::names::is_taken;
 use crate::replace::finish::{line_of, split_labels};
 use crate::unroll::reached::Reached;
 use rc_text::Token;
+use std::marker::Model;
 
 // The names defined so far, and the lines of the expansion.
 #[derive(Drop)]
@@ -27,13 +27,22 @@ pub(crate) struct Replacements<'a> {
     lines: Vec<Line>,
 }
 
+impl<'a> Model for Replacements<'a> {
+    ghost use Rattle.rc_expand.specs.NameTables.{names_in};
+    ghost use Rattle.rc_expand.specs.Replace.Lines.{Replacement};
+
+    ghost Value = { Replacement };
+
+    ghost view = { λ r. record { names = names_in r.names; lines = r.lines.items } };
+}
+
 // Makes the lines of the expansion.
 #[tactic(auto, unfolding(crate::specs::Replace::Lines::replaced))]
 pub(crate) fn replace_lines(
     context: &Context,
     reached: &[Reached],
 ) -> Result<Vec<Line>, ExpandFault>
-    ensures { Returns (λ v. v.items) result (replaced (shared context.now) (reached_lines context.now.source.now reached.now)) }
+    ensures { Returns (λ v. v.items) result (replaced (shared context.now) reached.now) }
 {
     let mut out = Replacements {
         names: NameTable::new(context.alloc),
@@ -51,13 +60,12 @@ fn replace_reached<'a>(
     context: &Context<'a>,
     reached: &Reached,
 ) -> Result<(), ExpandFault>
-    ensures { Returns (λ u. lines_so_far out.new) result
-        (line_replaced (shared context.now) (reached_line context.now.source.now reached.now) (lines_so_far out.old)) }
+    ensures { Returns (λ u. out.new) result (line_replaced (shared context.now) reached.now out.old) }
 {
-    if reached.is_as_written() {
-        return replace_line(out, context, reached.head);
+    if let Some(head) = reached.as_written() {
+        return replace_line(out, context, head);
     }
-    let head = reached.make(context.alloc, context.source)?;
+    let head = reached.make(context.alloc)?;
     replace_line(out, context, &head)
 }
 
@@ -68,7 +76,7 @@ fn replace_line<'a>(
     context: &Context<'a>,
     head: &Head,
 ) -> Result<(), ExpandFault>
-    ensures { Returns (λ u. lines_so_far out.new) result (line_replaced (shared context.now) head.now (lines_so_far out.old)) }
+    ensures { Returns (λ u. out.new) result (line_replaced (shared context.now) head.now out.old) }
 {
     let (labels, others) = split_labels(context.alloc, context.source, head.labels.as_slice())?;
     define_names(&mut out.names, context, labels.as_slice(), head.number)?;

@@ -1,14 +1,15 @@
 //! The second pass: each FOR block is replaced by copies of its lines, outer blocks first. In a
-//! copy the name of the counter becomes its number, or is joined to another name by `&`. No copy is
-//! kept: a line that is reached keeps where it is from, and is made when it is looked at.
-ghost use Rattle.std.specs.Prelude.{◌≡◌, ◌≢◌, ◌+◌, ◌<◌, ◌≤◌, length, All, IfOk, IfSome, OnOk, MatchOption, option_map, Some, None, Ok, Err};
+//! copy the name of the counter becomes its number, or is joined to another name by `&`. Copies are
+//! lazy: a line that is reached is a line of the text and the copies that it is in.
+ghost use Rattle.std.specs.Prelude.{◌≡◌};
 ghost use Rattle.rc_expand.specs.Results.{Returns};
 ghost use Rattle.rc_expand.specs.Shared.{shared};
-ghost use Rattle.rc_expand.specs.Unroll.{with_line, with_earlier, line_checked, checked_line, unrolled};
+ghost use Rattle.rc_expand.specs.Heads.Tree.{tree_of};
+ghost use Rattle.rc_expand.specs.Unroll.{with_line, with_earlier, copies_from, line_checked, checked_line, one_line, block_of, unrolled_in, unrolled};
+ghost use Rattle.rc_expand.specs.Unroll.Copies.{are_any, line_in};
 ghost use Rattle.rc_expand.specs.Unroll.Openings.{earlier_of};
-ghost use Rattle.rc_expand.specs.Unroll.Cuts.{Cut, cut};
-ghost use Rattle.rc_expand.specs.Unroll.Reached.{line_in, reached_part, reached_lines};
-ghost use Rattle.rc_expand.specs.Unroll.Scopes.{Adds, step_of_lines, step_of_line, step_of_copy, step_of_copies, step_of_block};
+ghost use Rattle.rc_expand.specs.Unroll.Reached.{copies_in, reached_part};
+ghost use Rattle.rc_expand.specs.Unroll.Steps.{step_of_copy};
 
 pub(crate) mod copy;
 pub(crate) mod opening;
@@ -17,95 +18,47 @@ pub(crate) mod unrolling;
 
 use crate::context::Context;
 use crate::fault::{ExpandFault, ExpandKind, fault};
+use crate::heads::blocks::BlockSlice;
 use crate::heads::head::{Head, HeadWord};
-use crate::limits::{DEEPEST_BLOCK, MOST_LINES};
 use crate::unroll::opening::{begin_block, check_rof};
-use crate::unroll::reached::{
-    Copying, Reached, clone_copies, inner_copies, is_short_line, make_line,
-};
-use crate::unroll::unrolling::{Block, CutBlock, Scope, Unrolling};
+use crate::unroll::reached::{Copying, Reached, inner_copies, is_short_line, make_line};
+use crate::unroll::unrolling::{BlockCopies, Unrolling};
 
 // Unrolls the blocks of lines.
 #[tactic(auto, unfolding(crate::specs::Unroll::unrolled))]
 pub(crate) fn unroll<'a>(
     context: &Context<'a>,
-    heads: &'a [Head],
+    lines: &BlockSlice<'a>,
 ) -> Result<Vec<Reached<'a>>, ExpandFault>
-    ensures { Returns (λ v. reached_lines context.now.source.now v.items) result (unrolled (shared context.now) heads.now) }
+    ensures { Returns (λ v. v.items) result (unrolled (shared context.now) (tree_of lines.now.heads.now)) }
 {
-    let mut out = Unrolling {
-        lines: Vec::new(context.alloc),
-        copy_count: 0,
-    };
-    let scope = Scope {
-        copies: &[],
-        in_block: false,
-        levels: DEEPEST_BLOCK,
-    };
-    append_lines(&mut out, context, &scope, heads)?;
-    Ok(out.lines)
+    let mut out = Unrolling::new(context.alloc);
+    append_lines(&mut out, context, &[], lines)?;
+    Ok(out.into_lines())
 }
 
-// Appends lines with their blocks unrolled.
-//
-// `check_blocks` has refused each FOR without its ROF, each ROF without its FOR and each block that
-// is nested too deep. They are refused here, in `check_line` and in `append_copy` all the same: the
-// definition is for any lines.
+// Appends lines as they are in `copies`, with their blocks unrolled.
 #[cycle(unroll)]
-fn append_lines<'s, 'a>(
+fn append_lines<'a>(
     out: &mut Unrolling<'a>,
     context: &Context<'a>,
-    scope: &Scope<'s, 'a>,
-    heads: &'a [Head],
+    copies: &[Copying<'a>],
+    lines: &BlockSlice<'a>,
 ) -> Result<(), ExpandFault>
-    ensures { Adds context.now out.old (step_of_lines context.now scope.now heads.now) result out.new }
+    ensures { Returns (λ u. out.new) result (unrolled_in (shared context.now) (tree_of lines.now.heads.now) (copies_in copies.now) out.old) }
 {
-    let mut rest = heads;
-    while let Some((head, after)) = rest.split_first() {
-        match head.word {
-            HeadWord::For => match cut_block(after) {
-                None => return Err(fault(head.number, ExpandKind::ForWithoutRof)),
-                Some(block) => {
-                    append_block(out, context, scope, head, &block)?;
-                    rest = block.after;
-                }
-            },
-            _ => {
-                append_line(out, context, scope, head)?;
-                rest = after;
-            }
+    let mut rest = *lines;
+    while let Some((head, block, after)) = rest.split_first() {
+        match block {
+            None => append_line(out, context, copies, head)?,
+            Some((inside, rof)) => append_block(out, context, copies, head, &inside, rof)?,
         }
+        rest = after;
     }
     Ok(())
 }
 
-// Cuts the lines after a FOR at its ROF, or returns `None` without one.
-fn cut_block<'a>(lines: &'a [Head]) -> Option<CutBlock<'a>>
-    ensures cut { MatchOption result (cut 0 lines.now ≡ None)
-        (λ p. cut 0 lines.now ≡ Some (record { block = p.lines.now; rof = p.rof.now; after = p.after.now })) }
-    ensures shorter { IfSome result (λ p. length p.after.now < length lines.now) }
-{
-    let mut open_blocks: usize = 0;
-    for i in 0..lines.len() {
-        match lines[i].word {
-            HeadWord::For => open_blocks += 1,
-            HeadWord::Rof => {
-                if open_blocks == 0 {
-                    return Some(CutBlock {
-                        lines: &lines[..i],
-                        rof: &lines[i],
-                        after: &lines[i + 1..],
-                    });
-                }
-                open_blocks -= 1;
-            }
-            _ => {}
-        }
-    }
-    None
-}
-
-// Appends one line. `TooManyLines` if there is no room.
+// Appends a line, or the labels before its counter.
 fn append<'a>(
     out: &mut Unrolling<'a>,
     context: &Context<'a>,
@@ -113,34 +66,18 @@ fn append<'a>(
     head: &'a Head,
     is_earlier: bool,
 ) -> Result<(), ExpandFault>
-    ensures { Adds context.now out.old
-        (with_line (reached_part context.now.source.now is_earlier (line_in context.now.source.now copies.now head.now))) result out.new }
+    ensures { Returns (λ u. out.new) result (with_line (reached_part is_earlier (line_in context.now.source.now (copies_in copies.now) head.now)) out.old) }
 {
-    if out.lines.len() + out.copy_count >= MOST_LINES {
-        return Err(fault(head.number, ExpandKind::TooManyLines));
-    }
-    let copies = clone_copies(context.alloc, copies)?;
-    out.lines.push(Reached {
-        head,
-        copies,
-        is_earlier,
-    })?;
-    Ok(())
+    let line = Reached::new(context, copies, head, is_earlier)?;
+    out.push(line)
 }
 
-// Refuses a ROF without its FOR, an EQU in a block, and a spoiled line. Reads only the number, the
-// word and `spoiled`, which are known of a short line before it is made.
+// Refuses an EQU in a block and a spoiled line. Reads only the number, the word and `spoiled`, which
+// are known of a short line before it is made.
 fn check_line(head: &Head, in_block: bool) -> Result<(), ExpandFault>
     ensures { Returns (λ u. u) result (line_checked head.now.number head.now.word in_block head.now.spoiled) }
 {
-    match head.word {
-        HeadWord::Rof => return Err(fault(head.number, ExpandKind::RofWithoutFor)),
-        HeadWord::Equ => if in_block {
-            return Err(fault(head.number, ExpandKind::BadDirective));
-        },
-        _ => {}
-    }
-    if head.spoiled {
+    if head.spoiled || (in_block && head.word == HeadWord::Equ) {
         return Err(fault(head.number, ExpandKind::BadDirective));
     }
     Ok(())
@@ -148,32 +85,28 @@ fn check_line(head: &Head, in_block: bool) -> Result<(), ExpandFault>
 
 // Checks a line as it is in `copies`. A line in many copies is made only if a ninth counter may be
 // joined to it.
-fn check_copied_line(
-    context: &Context,
-    copies: &[Copying],
-    head: &Head,
-    in_block: bool,
-) -> Result<(), ExpandFault>
-    ensures { Returns (λ u. u) result (checked_line in_block (line_in context.now.source.now copies.now head.now)) }
+fn check_copied_line(context: &Context, copies: &[Copying], head: &Head) -> Result<(), ExpandFault>
+    ensures { Returns (λ u. u) result (checked_line (are_any (copies_in copies.now)) (line_in context.now.source.now (copies_in copies.now) head.now)) }
 {
-    if copies.is_empty() || is_short_line(head) {
+    let in_block = !copies.is_empty();
+    if !in_block || is_short_line(head) {
         return check_line(head, in_block);
     }
     let made = make_line(context.alloc, context.source, copies, head)?;
     check_line(&made, in_block)
 }
 
-// Appends a line other than FOR.
-fn append_line<'s, 'a>(
+// Appends a line other than FOR and ROF.
+fn append_line<'a>(
     out: &mut Unrolling<'a>,
     context: &Context<'a>,
-    scope: &Scope<'s, 'a>,
+    copies: &[Copying<'a>],
     head: &'a Head,
 ) -> Result<(), ExpandFault>
-    ensures { Adds context.now out.old (step_of_line context.now scope.now head.now) result out.new }
+    ensures { Returns (λ u. out.new) result (one_line (shared context.now) (copies_in copies.now) head.now out.old) }
 {
-    check_copied_line(context, scope.copies, head, scope.in_block)?;
-    append(out, context, scope.copies, head, false)
+    check_copied_line(context, copies, head)?;
+    append(out, context, copies, head, false)
 }
 
 // Appends the labels before a counter as a line of their own, if there are any. `made` is the
@@ -186,8 +119,8 @@ fn append_earlier<'a>(
     head: &'a Head,
     made: &Head,
 ) -> Result<(), ExpandFault>
-    requires { made.now ≡ line_in context.now.source.now copies.now head.now }
-    ensures { Adds context.now out.old (with_earlier head.now.number (earlier_of made.now.labels)) result out.new }
+    requires { made.now ≡ line_in context.now.source.now (copies_in copies.now) head.now }
+    ensures { Returns (λ u. out.new) result (with_earlier head.now.number (earlier_of made.now.labels) out.old) }
 {
     if made.labels.as_slice().len() < 2 {
         return Ok(());
@@ -197,43 +130,36 @@ fn append_earlier<'a>(
 
 // Appends the copy of a block for one `number` of its counter.
 #[cycle(unroll)]
-fn append_copy<'s, 'a>(
+fn append_copy<'a>(
     out: &mut Unrolling<'a>,
     context: &Context<'a>,
-    scope: &Scope<'s, 'a>,
-    block: &Block<'a>,
+    copies: &[Copying<'a>],
+    block: &BlockCopies<'a>,
     number: u16,
 ) -> Result<(), ExpandFault>
-    ensures { Adds context.now out.old (step_of_copy context.now scope.now block.now number) result out.new }
+    ensures { Returns (λ u. out.new) result (step_of_copy context.now copies.now block.now number out.old) }
 {
-    if out.lines.len() + out.copy_count >= MOST_LINES {
-        return Err(fault(block.line, ExpandKind::TooManyLines));
-    }
-    out.copy_count += 1;
-    if scope.levels == 0 {
-        return Err(fault(block.line, ExpandKind::ForTooDeep));
-    }
-    let copies = inner_copies(context.alloc, scope.copies, block.counter, number)?;
-    let inner = Scope {
-        copies: &copies,
-        in_block: true,
-        levels: scope.levels - 1,
+    out.add_copy(block.line)?;
+    let copy = Copying {
+        counter: block.counter,
+        number,
     };
-    append_lines(out, context, &inner, block.lines)
+    let inner = inner_copies(context.alloc, copies, copy)?;
+    append_lines(out, context, &inner, &block.inside)
 }
 
 // Appends the copies of a block.
 #[cycle(unroll)]
-fn append_copies<'s, 'a>(
+fn append_copies<'a>(
     out: &mut Unrolling<'a>,
     context: &Context<'a>,
-    scope: &Scope<'s, 'a>,
-    block: &Block<'a>,
+    copies: &[Copying<'a>],
+    block: &BlockCopies<'a>,
 ) -> Result<(), ExpandFault>
-    ensures { Adds context.now out.old (step_of_copies context.now scope.now block.now) result out.new }
+    ensures { Returns (λ u. out.new) result (copies_from (step_of_copy context.now copies.now block.now) block.now.count 1 out.old) }
 {
     for done in 0..block.count {
-        append_copy(out, context, scope, block, done + 1)?;
+        append_copy(out, context, copies, block, done + 1)?;
     }
     Ok(())
 }
@@ -241,25 +167,26 @@ fn append_copies<'s, 'a>(
 // Appends a block unrolled: the labels before its counter, then its copies. Its ROF is looked at
 // when it is reached, after the lines of the block.
 #[cycle(unroll)]
-fn append_block<'s, 'a>(
+fn append_block<'a>(
     out: &mut Unrolling<'a>,
     context: &Context<'a>,
-    scope: &Scope<'s, 'a>,
+    copies: &[Copying<'a>],
     head: &'a Head,
-    cut: &CutBlock<'a>,
+    inside: &BlockSlice<'a>,
+    rof: &'a Head,
 ) -> Result<(), ExpandFault>
-    ensures { Adds context.now out.old (step_of_block context.now scope.now head.now cut.now) result out.new }
+    ensures { Returns (λ u. out.new) result (block_of (shared context.now) (unrolled_in (shared context.now) (tree_of inside.now.heads.now)) (copies_in copies.now) head.now rof.now out.old) }
 {
-    let made = make_line(context.alloc, context.source, scope.copies, head)?;
-    let made_rof = make_line(context.alloc, context.source, scope.copies, cut.rof)?;
+    let made = make_line(context.alloc, context.source, copies, head)?;
     let opening = begin_block(context, &made)?;
-    append_earlier(out, context, scope.copies, head, &made)?;
-    let block = Block {
+    append_earlier(out, context, copies, head, &made)?;
+    let block = BlockCopies {
+        line: head.number,
         counter: opening.counter,
         count: opening.count,
-        line: head.number,
-        lines: cut.lines,
+        inside: *inside,
     };
-    append_copies(out, context, scope, &block)?;
+    append_copies(out, context, copies, &block)?;
+    let made_rof = make_line(context.alloc, context.source, copies, rof)?;
     check_rof(&made_rof)
 }

@@ -1,6 +1,7 @@
--- The fault of how blocks nest, line by line, is what the trees of the blocks say.
-use Rattle.std.proofs.Common.{◌≡◌, ℕ, zero, suc, true, false, List, [], ◌∷◌, ◌++◌, Option, Some, None, refl, sym, subst, ◌∙◌, ap, arith, append_assoc, inl, inr, ◌+◌, nat_lt}
-use Rattle.std.specs.Prelude.{◌==◌}
+-- The tree of a text and the faults of its blocks, as they are read line by line, are what the law
+-- says.
+use Rattle.std.proofs.Common.{◌≡◌, ℕ, zero, suc, true, false, List, [], ◌∷◌, ◌++◌, length, refl, sym, subst, ◌∙◌, ap, arith, append_assoc, inl, inr, ◌+◌, ◌≤◌, nat_lt}
+use Rattle.std.specs.Prelude.{Result, Ok, Err}
 use Rattle.std.proofs.lemmas.List.{append-nil}
 use Rattle.std.proofs.lemmas.Bool.Decides.{nat_tests}
 use Rattle.rc_expand.specs.Limits.{DEEPEST_BLOCK}
@@ -9,244 +10,359 @@ use Rattle.rc_expand.specs.declared.heads.head.HeadWord.{HeadWord}
 use Rattle.rc_expand.specs.declared.heads.head.HeadWord.TheVariants as word
 use Rattle.rc_expand.specs.declared.fault.ExpandFault.{ExpandFault}
 use Rattle.rc_expand.specs.declared.fault.ExpandKind.TheVariants.{ForTooDeep}
-use Rattle.rc_expand.specs.Results.{at_line}
-use Rattle.rc_expand.specs.Heads.Nesting.{nesting_by, nesting_fault, Closed, NoLine, OneMore, Block, closed_lines, opens_or_closes, IsClosed, Opened, Outside, Within, opened_lines, IsOpened, outermost_or, AreNested}
+use Rattle.rc_expand.specs.Results.{at_line, mapped}
+use Rattle.rc_expand.specs.Heads.Tree.{Blocks, NoLine, OneLine, Block, lines_of, Parts, line_before, rof_before, for_before, parts_by, parts_from, blocks_of}
+use Rattle.rc_expand.specs.Heads.Nesting.{opens_or_closes, IsNested, Open, open_lines, AreOpen, outermost_line, AreBlocks}
 
--- how many blocks are open
-abbrev open_count : Opened → ℕ
-open_count (Outside c) = 0
-open_count (Within o f c) = suc (open_count o)
+-- ---- trees after one another
 
--- with more lines in the innermost block
-abbrev extended : (Closed → Closed) → Opened → Opened
-extended more (Outside c) = Outside (more c)
-extended more (Within o f c) = Within o f (more c)
+-- two trees as one
+abbrev pub join : Blocks → Blocks → Blocks
+join NoLine c = c
+join (OneLine h b) c = OneLine h (join b c)
+join (Block f i r b) c = Block f i r (join b c)
 
-same_count : (more : Closed → Closed) (o : Opened) → open_count (extended more o) ≡ open_count o
-same_count more (Outside c) = refl
-same_count more (Within o f c) = refl
+join_none : (b : Blocks) → join b NoLine ≡ b
+join_none NoLine = refl
+join_none (OneLine h b) = ap (OneLine h) (join_none b)
+join_none (Block f i r b) = ap (Block f i r) (join_none b)
 
-same_outermost : (more : Closed → Closed) (o : Opened) (line : ℕ) → outermost_or (extended more o) line ≡ outermost_or o line
-same_outermost more (Outside c) line = refl
-same_outermost more (Within o f c) line = refl
+join_assoc : (b c d : Blocks) → join (join b c) d ≡ join b (join c d)
+join_assoc NoLine c d = refl
+join_assoc (OneLine h b) c d = ap (OneLine h) (join_assoc b c d)
+join_assoc (Block f i r b) c d = ap (Block f i r) (join_assoc b c d)
 
-extended_lines : (more : Closed → Closed) (piece : List Head) → ((c : Closed) → closed_lines (more c) ≡ closed_lines c ++ piece)
-    → (o : Opened) → opened_lines (extended more o) ≡ opened_lines o ++ piece
-extended_lines more piece e (Outside c) = e c
-extended_lines more piece e (Within o f c) = ap (λ t. opened_lines o ++ (f ∷ t)) (e c) ∙ sym (append_assoc (opened_lines o) (f ∷ closed_lines c) piece)
+join_lines : (b c : Blocks) → lines_of (join b c) ≡ lines_of b ++ lines_of c
+join_lines NoLine c = refl
+join_lines (OneLine h b) c = ap (λ hs. h ∷ hs) (join_lines b c)
+join_lines (Block f i r b) c = ap (λ hs. f ∷ (lines_of i ++ (r ∷ hs))) (join_lines b c) ∙ ap (λ hs. f ∷ hs) (sym (append_assoc (lines_of i) (r ∷ lines_of b) (lines_of c)))
 
-extended_opened : (more : Closed → Closed) (n : ℕ) → ((c : Closed) → IsClosed n c → IsClosed n (more c)) → (o : Opened) → IsOpened n o → IsOpened n (extended more o)
-extended_opened more n k (Outside c) i = (i.0, k c i.1)
-extended_opened more n k (Within o f c) i = (i.0, i.1, k c i.2)
+join_nested : (n : ℕ) (b c : Blocks) → IsNested n b → IsNested n c → IsNested n (join b c)
+join_nested n NoLine c h k = k
+join_nested n (OneLine x b) c h k = (h.0, join_nested n b c h.1 k)
+join_nested zero (Block f i r b) c h k = absurd h
+join_nested (suc n) (Block f i r b) c h k = (h.0, h.1, h.2, join_nested (suc n) b c h.3 k)
 
--- the open blocks and those that may be opened are DEEPEST_BLOCK
-counted : (o : Opened) (n : ℕ) → IsOpened n o → open_count o + n ≡ DEEPEST_BLOCK
-counted (Outside c) n i = let e : n ≡ DEEPEST_BLOCK = i.0 in omega arith
-counted (Within o f c) n i = let e : open_count o + suc n ≡ DEEPEST_BLOCK = counted o (suc n) i.0 in omega arith
+-- a tree before what is read while `n` blocks are open
+abbrev pub tree_before : Blocks → (n : ℕ) → Parts n → Parts n
+tree_before b zero p = join b p
+tree_before b (suc n) p = record { inside = join b p.inside; closes = p.closes; after = p.after }
+
+none_before : (n : ℕ) (p : Parts n) → tree_before NoLine n p ≡ p
+none_before zero p = refl
+none_before (suc n) p = refl
+
+line_is_tree : (h : Head) (b : Blocks) (n : ℕ) (p : Parts n) → line_before h n (tree_before b n p) ≡ tree_before (OneLine h b) n p
+line_is_tree h b zero p = refl
+line_is_tree h b (suc n) p = refl
+
+block_is_tree : (f r : Head) (i b : Blocks) (n : ℕ) (p : Parts n) → for_before f n (tree_before i (suc n) (rof_before r n (tree_before b n p))) ≡ tree_before (Block f i r b) n p
+block_is_tree f r i b zero p = ap (λ x. Block f x r (join b p)) (join_none i)
+block_is_tree f r i b (suc n) p = ap (λ x. record { inside = Block f x r (join b p.inside); closes = p.closes; after = p.after }) (join_none i)
+
+-- ---- results
+
+pub mapped_same : {A E : Type 0} (f : A → A) (r : Result A E) → ((x : A) → f x ≡ x) → mapped f r ≡ r
+mapped_same f (Ok x) h = ap Ok (h x)
+mapped_same f (Err e) h = refl
+
+pub mapped_twice : {A B C E : Type 0} (f : B → C) (g : A → B) (k : A → C) (r : Result A E) → ((x : A) → f (g x) ≡ k x) → mapped f (mapped g r) ≡ mapped k r
+mapped_twice f g k (Ok x) h = ap Ok (h x)
+mapped_twice f g k (Err e) h = refl
+
+-- ---- one line
+
+pub at_word : (h : Head) (w : HeadWord) (n line : ℕ) (hs : List Head) → h.word ≡ w → parts_from (h ∷ hs) n line ≡ parts_by w h n line (λ m l. parts_from hs m l)
+at_word h w n line hs e = ap (λ v. parts_by v h n line (λ m l. parts_from hs m l)) e
+
+-- a line that is neither FOR nor ROF
+pub at_line_alone : (h : Head) (n line : ℕ) (hs : List Head) → opens_or_closes h.word ≡ false → parts_from (h ∷ hs) n line ≡ mapped (line_before h n) (parts_from hs n line)
+at_line_alone h n line hs = by_word h.word where
+  by_word : (w : HeadWord) → opens_or_closes w ≡ false → parts_by w h n line (λ m l. parts_from hs m l) ≡ mapped (line_before h n) (parts_from hs n line)
+  by_word word.Bare e = refl
+  by_word word.Code e = refl
+  by_word word.Org e = refl
+  by_word word.End e = refl
+  by_word word.Assert e = refl
+  by_word word.Equ e = refl
+  by_word word.For e = cc
+  by_word word.Rof e = cc
+
+-- the line of the outermost open block after a FOR
+abbrev pub opened_line : Head → (n line : ℕ) → ℕ
+opened_line f zero line = f.number
+opened_line f (suc n) line = line
+
+-- a FOR where there is room
+pub at_for : (f : Head) (n line : ℕ) (hs : List Head) → f.word ≡ word.For → nat_lt n DEEPEST_BLOCK ≡ true → parts_from (f ∷ hs) n line ≡ mapped (for_before f n) (parts_from hs (suc n) (opened_line f n line))
+at_for f zero line hs w room = at_word f word.For zero line hs w
+at_for f (suc n) line hs w room = at_word f word.For (suc n) line hs w ∙ rw room refl
 
 -- where no block is open it does not matter which was the last outermost one
-any_outermost : (hs : List Head) (a b : ℕ) → nesting_fault 0 a hs ≡ nesting_fault 0 b hs
+any_outermost : (hs : List Head) (a b : ℕ) → parts_from hs 0 a ≡ parts_from hs 0 b
 any_outermost [] a b = refl
 any_outermost (h ∷ hs) a b = by_word h.word (any_outermost hs a b) where
-  by_word : (w : HeadWord) → nesting_fault 0 a hs ≡ nesting_fault 0 b hs → nesting_by w h.number 0 a (λ m o. nesting_fault m o hs) ≡ nesting_by w h.number 0 b (λ m o. nesting_fault m o hs)
+  by_word : (w : HeadWord) → parts_from hs 0 a ≡ parts_from hs 0 b → parts_by w h 0 a (λ m o. parts_from hs m o) ≡ parts_by w h 0 b (λ m o. parts_from hs m o)
   by_word word.For same = refl
   by_word word.Rof same = refl
-  by_word word.Bare same = same
-  by_word word.Code same = same
-  by_word word.Org same = same
-  by_word word.End same = same
-  by_word word.Assert same = same
-  by_word word.Equ same = same
+  by_word word.Bare same = ap (mapped (line_before h 0)) same
+  by_word word.Code same = ap (mapped (line_before h 0)) same
+  by_word word.Org same = ap (mapped (line_before h 0)) same
+  by_word word.End same = ap (mapped (line_before h 0)) same
+  by_word word.Assert same = ap (mapped (line_before h 0)) same
+  by_word word.Equ same = ap (mapped (line_before h 0)) same
 
-moved : (a b : List Head) (x y : Option ExpandFault) → a ≡ b → x ≡ y → AreNested a x → AreNested b y
-moved a b x y e f t = subst (λ l. AreNested l y) e (subst (AreNested a) f t)
+after_block : (f : Head) (n line : ℕ) (hs : List Head) → parts_from hs n (opened_line f n line) ≡ parts_from hs n line
+after_block f zero line hs = any_outermost hs f.number line
+after_block f (suc n) line hs = refl
+
+-- ---- closed lines are passed over
+
+pub passed_over : (b : Blocks) (k n line : ℕ) (rest : List Head) → IsNested k b → n + k ≤ DEEPEST_BLOCK → parts_from (lines_of b ++ rest) n line ≡ mapped (tree_before b n) (parts_from rest n line)
+passed_over NoLine k n line rest i e = sym (mapped_same (tree_before NoLine n) (parts_from rest n line) (none_before n))
+passed_over (OneLine h b) k n line rest i e =
+    at_line_alone h n line (lines_of b ++ rest) i.0
+    ∙ (ap (mapped (line_before h n)) (passed_over b k n line rest i.1 e)
+    ∙ mapped_twice (line_before h n) (tree_before b n) (tree_before (OneLine h b) n) (parts_from rest n line) (line_is_tree h b n))
+passed_over (Block f i r b) zero n line rest h e = absurd h
+passed_over (Block f i r b) (suc k) n line rest h e =
+    let room : nat_lt n DEEPEST_BLOCK ≡ true = grind (arith, nat_tests, e) in
+    let more = lines_of b ++ rest in
+    let l = opened_line f n line in
+    let x = parts_from rest n line in
+    ap (λ hs. parts_from (f ∷ hs) n line) (append_assoc (lines_of i) (r ∷ lines_of b) rest)
+    ∙ (at_for f n line (lines_of i ++ (r ∷ more)) h.0 room
+    ∙ (ap (mapped (for_before f n)) (passed_over i k (suc n) l (r ∷ more) h.1 (omega (arith, e))
+    ∙ ap (mapped (tree_before i (suc n))) (at_word r word.Rof (suc n) l more h.2
+    ∙ ap (mapped (rof_before r n)) (after_block f n line more ∙ passed_over b (suc k) n line rest h.3 e)))
+    ∙ whole x))
+  where
+    whole : (x : Result (Parts n) ExpandFault) → mapped (for_before f n) (mapped (tree_before i (suc n)) (mapped (rof_before r n) (mapped (tree_before b n) x))) ≡ mapped (tree_before (Block f i r b) n) x
+    whole (Ok p) = ap Ok (block_is_tree f r i b n p)
+    whole (Err g) = refl
+
+-- the lines of a tree have this tree
+pub tree_of_lines : (b : Blocks) (k : ℕ) → IsNested k b → k ≤ DEEPEST_BLOCK → blocks_of (lines_of b) ≡ Ok b
+tree_of_lines b k i e =
+    ap (λ hs. parts_from hs 0 0) (sym (append-nil (lines_of b))) ∙ (passed_over b k 0 0 [] i (omega (arith, e)) ∙ ap Ok (join_none b))
+
+-- ---- lines with open blocks
+
+-- the tree of closed lines in open blocks and of what is read after them
+abbrev whole : (xs : List Open) → Blocks → Parts (length xs) → Blocks
+whole [] c p = join c p
+whole (x ∷ xs) c p = whole xs x.before (for_before x.opens (length xs) (tree_before c (suc (length xs)) p))
+
+-- with more closed lines
+whole_more : (xs : List Open) (c d : Blocks) (p : Parts (length xs)) → whole xs (join c d) p ≡ whole xs c (tree_before d (length xs) p)
+whole_more [] c d p = join_assoc c d p
+whole_more (x ∷ xs) c d p = ap (λ i. whole xs x.before (for_before x.opens (length xs) (record { inside = i; closes = p.closes; after = p.after }))) (join_assoc c d p.inside)
+
+abbrev outermost_or : List Open → ℕ → ℕ
+outermost_or [] line = line
+outermost_or (x ∷ xs) line = outermost_line x xs
+
+same_outermost : (x : Open) (xs : List Open) → outermost_or (x ∷ xs) 0 ≡ opened_line x.opens (length xs) (outermost_or xs 0)
+same_outermost x [] = refl
+same_outermost x (y ∷ xs) = refl
+
+-- the open blocks and those that may be opened are DEEPEST_BLOCK
+counted : (xs : List Open) (n : ℕ) → AreOpen n xs → length xs + n ≡ DEEPEST_BLOCK
+counted [] n i = omega (arith, i)
+counted (x ∷ xs) n i = let e : length xs + suc n ≡ DEEPEST_BLOCK = counted xs (suc n) i.0 in omega (arith, e)
+
+-- lines with open blocks lead to the state that counts them
+opened_to : (xs : List Open) (c : Blocks) (n : ℕ) (rest : List Head) → AreOpen n xs → IsNested n c
+    → parts_from ((open_lines xs ++ lines_of c) ++ rest) 0 0 ≡ mapped (whole xs c) (parts_from rest (length xs) (outermost_or xs 0))
+opened_to [] c n rest i j = passed_over c n 0 0 rest j (omega (arith, i))
+opened_to (x ∷ xs) c n rest i j =
+    let e : length xs + suc n ≡ DEEPEST_BLOCK = counted xs (suc n) i.0 in
+    let room : nat_lt (length xs) DEEPEST_BLOCK ≡ true = grind (arith, nat_tests, e) in
+    let line = outermost_or xs 0 in
+    let around = open_lines xs in
+    let spread : ((around ++ (lines_of x.before ++ (x.opens ∷ []))) ++ lines_of c) ++ rest ≡ (around ++ lines_of x.before) ++ (x.opens ∷ (lines_of c ++ rest)) =
+    append_assoc (around ++ (lines_of x.before ++ (x.opens ∷ []))) (lines_of c) rest
+    ∙ (ap (λ hs. hs ++ (lines_of c ++ rest)) (sym (append_assoc around (lines_of x.before) (x.opens ∷ [])))
+    ∙ append_assoc (around ++ lines_of x.before) (x.opens ∷ []) (lines_of c ++ rest)) in
+    ap (λ hs. parts_from hs 0 0) spread
+    ∙ (opened_to xs x.before (suc n) (x.opens ∷ (lines_of c ++ rest)) i.0 i.1
+    ∙ (ap (mapped (whole xs x.before)) (at_for x.opens (length xs) line (lines_of c ++ rest) i.2 room
+    ∙ ap (mapped (for_before x.opens (length xs)))
+    (ap (parts_from (lines_of c ++ rest) (suc (length xs))) (sym (same_outermost x xs))
+    ∙ passed_over c n (suc (length xs)) (outermost_or (x ∷ xs) 0) rest j (omega (arith, e))))
+    ∙ composed (parts_from rest (suc (length xs)) (outermost_or (x ∷ xs) 0))))
+  where
+    composed : (r : Result (Parts (suc (length xs))) ExpandFault)
+        → mapped (whole xs x.before) (mapped (for_before x.opens (length xs)) (mapped (tree_before c (suc (length xs))) r)) ≡ mapped (whole (x ∷ xs) c) r
+    composed (Ok p) = refl
+    composed (Err f) = refl
+
+-- ---- what the trees say is what is read
+
+pub found : (hs : List Head) (r : Result Blocks ExpandFault) → AreBlocks hs r → blocks_of hs ≡ r
+found hs (Ok b) a = ap (λ ls. parts_from ls 0 0) a.1 ∙ tree_of_lines b DEEPEST_BLOCK a.0 (omega arith)
+found hs (Err f) (inl r) =
+    ap (λ ls. parts_from ls 0 0) r.lines
+    ∙ (passed_over r.before DEEPEST_BLOCK 0 0 (r.rof ∷ r.after) r.nests (omega arith)
+    ∙ (ap (mapped (tree_before r.before 0)) (at_word r.rof word.Rof 0 0 r.after r.is_rof) ∙ ap (λ g. Err g) (sym r.fault)))
+found hs (Err f) (inr (inl r)) =
+    ap (λ ls. parts_from ls 0 0) r.lines
+    ∙ (opened_to r.opened r.inside 0 (r.ninth ∷ r.after) r.are_open r.nests
+    ∙ (ap (mapped (whole r.opened r.inside)) (ninth r.opened r.ninth r.after r.are_open r.is_for) ∙ ap (λ g. Err g) (sym r.fault)))
+  where
+    ninth : (xs : List Open) (h : Head) (rest : List Head) → AreOpen 0 xs → h.word ≡ word.For → parts_from (h ∷ rest) (length xs) (outermost_or xs 0) ≡ Err (at_line h.number ForTooDeep)
+    ninth [] h rest i w = let e : 0 ≡ DEEPEST_BLOCK = i in absurd (omega (arith, e))
+    ninth (x ∷ xs) h rest i w =
+        let e : suc (length xs) + 0 ≡ DEEPEST_BLOCK = counted (x ∷ xs) 0 i in
+        let full : nat_lt (suc (length xs)) DEEPEST_BLOCK ≡ false = grind (arith, nat_tests, e) in
+        at_word h word.For (suc (length xs)) (outermost_or (x ∷ xs) 0) rest w ∙ rw full refl
+found hs (Err f) (inr (inr r)) =
+    ap (λ ls. parts_from ls 0 0) (r.lines ∙ sym (append-nil (open_lines (r.innermost ∷ r.around) ++ lines_of r.inside)))
+    ∙ (opened_to (r.innermost ∷ r.around) r.inside r.room [] r.are_open r.nests ∙ ap (λ g. Err g) (sym r.fault))
+
+-- ---- what is read is what the trees say
+
+moved : (a b : List Head) (x y : Result Blocks ExpandFault) → a ≡ b → x ≡ y → AreBlocks a x → AreBlocks b y
+moved a b x y e f t = subst (λ l. AreBlocks l y) e (subst (AreBlocks a) f t)
 
 -- what is told of lines that were read and of those that follow
 abbrev Told : List Head → Type 0
-Told hs = (o : Opened) (n : ℕ) → IsOpened n o → AreNested (opened_lines o ++ hs) (nesting_fault (open_count o) (outermost_or o 0) hs)
+Told hs = (xs : List Open) (c : Blocks) (n : ℕ) → AreOpen n xs → IsNested n c → AreBlocks ((open_lines xs ++ lines_of c) ++ hs) (mapped (whole xs c) (parts_from hs (length xs) (outermost_or xs 0)))
 
 at_end : Told []
-at_end (Outside c) n i = (c, subst (λ m. IsClosed m c) i.0 i.1, append-nil (closed_lines c))
-at_end (Within o f c) n i =
-    let open_still : (suc (open_count o) == 0) ≡ false = grind (arith, nat_tests) in
-    rw open_still (inr (inr record {
-      outer = o;
-      opens = f;
+at_end [] c n i j =
+    let k : IsNested DEEPEST_BLOCK c = subst (λ m. IsNested m c) i j in
+    (subst (IsNested DEEPEST_BLOCK) (sym (join_none c)) k, append-nil (lines_of c) ∙ ap lines_of (sym (join_none c)))
+at_end (x ∷ xs) c n i j =
+    inr (inr record {
+      innermost = x;
+      around = xs;
       inside = c;
       room = n;
-      nests = i;
-      lines = append-nil (opened_lines (Within o f c));
+      are_open = i;
+      nests = j;
+      lines = append-nil (open_lines (x ∷ xs) ++ lines_of c);
       fault = refl;
-    }))
+    })
 
 module _ (h : Head) (hs : List Head) (next : Told hs) where
+  -- more closed lines in the same blocks
+  closed_more : (xs : List Open) (c d : Blocks) (n : ℕ) → AreOpen n xs → IsNested n c → IsNested n d
+      → AreBlocks ((open_lines xs ++ lines_of c) ++ (lines_of d ++ hs)) (mapped (whole xs c) (mapped (tree_before d (length xs)) (parts_from hs (length xs) (outermost_or xs 0))))
+  closed_more xs c d n i j k =
+      let r = parts_from hs (length xs) (outermost_or xs 0) in
+      moved ((open_lines xs ++ lines_of (join c d)) ++ hs) ((open_lines xs ++ lines_of c) ++ (lines_of d ++ hs)) (mapped (whole xs (join c d)) r) (mapped (whole xs c) (mapped (tree_before d (length xs)) r))
+      (ap (λ l. (open_lines xs ++ l) ++ hs) (join_lines c d)
+      ∙ (ap (λ l. l ++ hs) (sym (append_assoc (open_lines xs) (lines_of c) (lines_of d))) ∙ append_assoc (open_lines xs ++ lines_of c) (lines_of d) hs))
+      (sym (mapped_twice (whole xs c) (tree_before d (length xs)) (whole xs (join c d)) r (λ p. sym (whole_more xs c d p))))
+      (next xs (join c d) n i (join_nested n c d j k))
+
   -- a line that is neither
-  plain : (o : Opened) (n : ℕ) → IsOpened n o → opens_or_closes h.word ≡ false
-      → AreNested (opened_lines o ++ (h ∷ hs)) (nesting_fault (open_count o) (outermost_or o 0) hs)
-  plain o n i w =
-      let more : Closed → Closed = λ c. OneMore c h in
-      let lines : opened_lines (extended more o) ++ hs ≡ opened_lines o ++ (h ∷ hs) =
-      ap (λ l. l ++ hs) (extended_lines more (h ∷ []) (λ c. refl) o) ∙ append_assoc (opened_lines o) (h ∷ []) hs in
-      let fault : nesting_fault (open_count (extended more o)) (outermost_or (extended more o) 0) hs ≡ nesting_fault (open_count o) (outermost_or o 0) hs =
-      ap (λ k. nesting_fault k (outermost_or (extended more o) 0) hs) (same_count more o) ∙ ap (λ l. nesting_fault (open_count o) l hs) (same_outermost more o 0) in
-      moved (opened_lines (extended more o) ++ hs) (opened_lines o ++ (h ∷ hs)) (nesting_fault (open_count (extended more o)) (outermost_or (extended more o) 0) hs) (nesting_fault (open_count o) (outermost_or o 0) hs)
-      lines fault (next (extended more o) n (extended_opened more n (λ c k. (k, w)) o i))
+  plain : (xs : List Open) (c : Blocks) (n : ℕ) → AreOpen n xs → IsNested n c → opens_or_closes h.word ≡ false
+      → AreBlocks ((open_lines xs ++ lines_of c) ++ (h ∷ hs)) (mapped (whole xs c) (parts_from (h ∷ hs) (length xs) (outermost_or xs 0)))
+  plain xs c n i j w =
+      let r = parts_from hs (length xs) (outermost_or xs 0) in
+      subst (λ x. AreBlocks ((open_lines xs ++ lines_of c) ++ (h ∷ hs)) (mapped (whole xs c) x)) (same r ∙ sym (at_line_alone h (length xs) (outermost_or xs 0) hs w))
+      (closed_more xs c (OneLine h NoLine) n i j (w, tt))
+    where
+      before : (m : ℕ) (p : Parts m) → tree_before (OneLine h NoLine) m p ≡ line_before h m p
+      before zero p = refl
+      before (suc m) p = refl
+
+      same : (r : Result (Parts (length xs)) ExpandFault) → mapped (tree_before (OneLine h NoLine) (length xs)) r ≡ mapped (line_before h (length xs)) r
+      same (Ok p) = ap Ok (before (length xs) p)
+      same (Err f) = refl
 
   -- one more FOR
-  opened_lines_more : (o : Opened) → opened_lines (Within o h NoLine) ++ hs ≡ opened_lines o ++ (h ∷ hs)
-  opened_lines_more o = append_assoc (opened_lines o) (h ∷ []) hs
-
-  deeper : (o : Opened) (f : Head) (c : Closed) (n : ℕ) → h.word ≡ word.For → IsOpened n (Within o f c)
-      → AreNested (opened_lines (Within o f c) ++ (h ∷ hs)) (nesting_by word.For h.number (suc (open_count o)) (outermost_or o f.number) (λ m line. nesting_fault m line hs))
-  deeper o f c zero w i =
-      let k : open_count (Within o f c) + 0 ≡ DEEPEST_BLOCK = counted (Within o f c) 0 i in
-      let full : nat_lt (suc (open_count o)) DEEPEST_BLOCK ≡ false = grind (arith, nat_tests) in
-      rw full (inr (inl record {
-        before = Within o f c;
+  opening : (xs : List Open) (c : Blocks) (n : ℕ) → AreOpen n xs → IsNested n c → h.word ≡ word.For
+      → AreBlocks ((open_lines xs ++ lines_of c) ++ (h ∷ hs)) (mapped (whole xs c) (parts_from (h ∷ hs) (length xs) (outermost_or xs 0)))
+  opening [] c zero i j w = absurd (omega (arith, i))
+  opening (x ∷ xs) c zero i j w =
+      let e : suc (length xs) + 0 ≡ DEEPEST_BLOCK = counted (x ∷ xs) 0 i in
+      let full : nat_lt (suc (length xs)) DEEPEST_BLOCK ≡ false = grind (arith, nat_tests, e) in
+      let is : parts_from (h ∷ hs) (suc (length xs)) (outermost_or (x ∷ xs) 0) ≡ Err (at_line h.number ForTooDeep) = at_word h word.For (suc (length xs)) (outermost_or (x ∷ xs) 0) hs w ∙ rw full refl in
+      subst (λ r. AreBlocks ((open_lines (x ∷ xs) ++ lines_of c) ++ (h ∷ hs)) (mapped (whole (x ∷ xs) c) r)) (sym is)
+      (inr (inl record {
+        opened = x ∷ xs;
+        inside = c;
         ninth = h;
         after = hs;
-        nests = i;
+        are_open = i;
+        nests = j;
         is_for = w;
         lines = refl;
         fault = refl;
       }))
-  deeper o f c (suc n) w i =
-      let k : open_count (Within o f c) + suc n ≡ DEEPEST_BLOCK = counted (Within o f c) (suc n) i in
-      let room : nat_lt (suc (open_count o)) DEEPEST_BLOCK ≡ true = grind (arith, nat_tests) in
-      let told : AreNested (opened_lines (Within (Within o f c) h NoLine) ++ hs) (nesting_fault (suc (suc (open_count o))) (outermost_or o f.number) hs) =
-      next (Within (Within o f c) h NoLine) n (i, w, tt) in
-      rw room (subst (λ l. AreNested l (nesting_fault (suc (suc (open_count o))) (outermost_or o f.number) hs)) (opened_lines_more (Within o f c)) told)
+  opening xs c (suc n) i j w =
+      let e : length xs + suc n ≡ DEEPEST_BLOCK = counted xs (suc n) i in
+      let room : nat_lt (length xs) DEEPEST_BLOCK ≡ true = grind (arith, nat_tests, e) in
+      let o : Open = record { before = c; opens = h } in
+      let r = parts_from hs (suc (length xs)) (outermost_or (o ∷ xs) 0) in
+      let lines : (open_lines (o ∷ xs) ++ []) ++ hs ≡ (open_lines xs ++ lines_of c) ++ (h ∷ hs) =
+      ap (λ l. l ++ hs) (append-nil (open_lines (o ∷ xs)) ∙ sym (append_assoc (open_lines xs) (lines_of c) (h ∷ []))) ∙ append_assoc (open_lines xs ++ lines_of c) (h ∷ []) hs in
+      let read : parts_from (h ∷ hs) (length xs) (outermost_or xs 0) ≡ mapped (for_before h (length xs)) r =
+      at_for h (length xs) (outermost_or xs 0) hs w room ∙ ap (λ l. mapped (for_before h (length xs)) (parts_from hs (suc (length xs)) l)) (sym (same_outermost o xs)) in
+      moved ((open_lines (o ∷ xs) ++ []) ++ hs) ((open_lines xs ++ lines_of c) ++ (h ∷ hs)) (mapped (whole (o ∷ xs) NoLine) r) (mapped (whole xs c) (parts_from (h ∷ hs) (length xs) (outermost_or xs 0)))
+      lines (same r ∙ ap (mapped (whole xs c)) (sym read)) (next (o ∷ xs) NoLine n (i, j, w) tt)
+    where
+      same : (r : Result (Parts (suc (length xs))) ExpandFault) → mapped (whole (record { before = c; opens = h } ∷ xs) NoLine) r ≡ mapped (whole xs c) (mapped (for_before h (length xs)) r)
+      same (Ok p) = refl
+      same (Err f) = refl
 
-  -- the ROF of the innermost block
-  closing : (o : Opened) (f : Head) (c : Closed) (n : ℕ) → h.word ≡ word.Rof → IsOpened n (Within o f c)
-      → AreNested (opened_lines (Within o f c) ++ (h ∷ hs)) (nesting_fault (open_count o) (outermost_or o 0) hs)
-  closing o f c n w i =
-      let more : Closed → Closed = λ b. Block b f c h in
-      let piece : List Head = f ∷ (closed_lines c ++ (h ∷ [])) in
-      let lines : opened_lines (extended more o) ++ hs ≡ (opened_lines o ++ (f ∷ closed_lines c)) ++ (h ∷ hs) =
-      ap (λ l. l ++ hs) (extended_lines more (f ∷ (closed_lines c ++ (h ∷ []))) (λ b. refl) o)
-      ∙ (append_assoc (opened_lines o) (f ∷ (closed_lines c ++ (h ∷ []))) hs
-      ∙ (ap (λ t. opened_lines o ++ (f ∷ t)) (append_assoc (closed_lines c) (h ∷ []) hs)
-      ∙ sym (append_assoc (opened_lines o) (f ∷ closed_lines c) (h ∷ hs)))) in
-      let fault : nesting_fault (open_count (extended more o)) (outermost_or (extended more o) 0) hs ≡ nesting_fault (open_count o) (outermost_or o 0) hs =
-      ap (λ k. nesting_fault k (outermost_or (extended more o) 0) hs) (same_count more o) ∙ ap (λ l. nesting_fault (open_count o) l hs) (same_outermost more o 0) in
-      moved (opened_lines (extended more o) ++ hs) ((opened_lines o ++ (f ∷ closed_lines c)) ++ (h ∷ hs)) (nesting_fault (open_count (extended more o)) (outermost_or (extended more o) 0) hs) (nesting_fault (open_count o) (outermost_or o 0) hs)
-      lines fault (next (extended more o) (suc n) (extended_opened more (suc n) (λ b k. (k, i.1, i.2, w)) o i.0))
+  -- a ROF
+  closing : (xs : List Open) (c : Blocks) (n : ℕ) → AreOpen n xs → IsNested n c → h.word ≡ word.Rof
+      → AreBlocks ((open_lines xs ++ lines_of c) ++ (h ∷ hs)) (mapped (whole xs c) (parts_from (h ∷ hs) (length xs) (outermost_or xs 0)))
+  closing [] c n i j w =
+      subst (λ r. AreBlocks (lines_of c ++ (h ∷ hs)) (mapped (whole [] c) r)) (sym (at_word h word.Rof 0 0 hs w))
+      (inl record {
+        before = c;
+        rof = h;
+        after = hs;
+        nests = subst (λ m. IsNested m c) i j;
+        is_rof = w;
+        lines = refl;
+        fault = refl;
+      })
+  closing (x ∷ xs) c n i j w =
+      let m = length xs in
+      let d : Blocks = Block x.opens c h NoLine in
+      let r = parts_from hs m (outermost_or xs 0) in
+      let lines : (open_lines xs ++ lines_of x.before) ++ (lines_of d ++ hs) ≡ (open_lines (x ∷ xs) ++ lines_of c) ++ (h ∷ hs) =
+      ap (λ l. (open_lines xs ++ lines_of x.before) ++ (x.opens ∷ l)) (append_assoc (lines_of c) (h ∷ []) hs)
+      ∙ (sym (append_assoc (open_lines xs ++ lines_of x.before) (x.opens ∷ []) (lines_of c ++ (h ∷ hs)))
+      ∙ (ap (λ l. l ++ (lines_of c ++ (h ∷ hs))) (append_assoc (open_lines xs) (lines_of x.before) (x.opens ∷ []))
+      ∙ sym (append_assoc (open_lines (x ∷ xs)) (lines_of c) (h ∷ hs)))) in
+      let read : parts_from (h ∷ hs) (suc m) (outermost_or (x ∷ xs) 0) ≡ mapped (rof_before h m) r =
+      at_word h word.Rof (suc m) (outermost_or (x ∷ xs) 0) hs w
+      ∙ ap (mapped (rof_before h m)) (ap (parts_from hs m) (same_outermost x xs) ∙ after_block x.opens m (outermost_or xs 0) hs) in
+      moved ((open_lines xs ++ lines_of x.before) ++ (lines_of d ++ hs)) ((open_lines (x ∷ xs) ++ lines_of c) ++ (h ∷ hs)) (mapped (whole xs x.before) (mapped (tree_before d m) r)) (mapped (whole (x ∷ xs) c) (parts_from (h ∷ hs) (suc m) (outermost_or (x ∷ xs) 0)))
+      lines (same r ∙ ap (mapped (whole (x ∷ xs) c)) (sym read)) (closed_more xs x.before d (suc n) i.0 i.1 (i.2, j, w, tt))
+    where
+      before : (m : ℕ) (p : Parts m) → tree_before (Block x.opens c h NoLine) m p ≡ for_before x.opens m (tree_before c (suc m) (rof_before h m p))
+      before m p = sym (ap (λ q. for_before x.opens m (tree_before c (suc m) (rof_before h m q))) (sym (none_before m p)) ∙ block_is_tree x.opens h c NoLine m p)
 
-  step : (w : HeadWord) → h.word ≡ w → (o : Opened) (n : ℕ) → IsOpened n o
-      → AreNested (opened_lines o ++ (h ∷ hs)) (nesting_by w h.number (open_count o) (outermost_or o 0) (λ m line. nesting_fault m line hs))
-  step word.For e (Outside c) n i =
-      subst (λ l. AreNested l (nesting_fault 1 h.number hs)) (opened_lines_more (Outside c))
-      (next (Within (Outside c) h NoLine) 7 ((refl, subst (λ m. IsClosed m c) i.0 i.1), e, tt))
-  step word.For e (Within o f c) n i = deeper o f c n e i
-  step word.Rof e (Outside c) n i = inl record {
-    before = c;
-    rof = h;
-    after = hs;
-    nests = subst (λ m. IsClosed m c) i.0 i.1;
-    is_rof = e;
-    lines = refl;
-    fault = refl;
-  }
-  step word.Rof e (Within (Outside b) f c) n i =
-      subst (AreNested (opened_lines (Within (Outside b) f c) ++ (h ∷ hs))) (any_outermost hs 0 f.number) (closing (Outside b) f c n e i)
-  step word.Rof e (Within (Within o g b) f c) n i = closing (Within o g b) f c n e i
-  step word.Bare e o n i = plain o n i (ap opens_or_closes e)
-  step word.Code e o n i = plain o n i (ap opens_or_closes e)
-  step word.Org e o n i = plain o n i (ap opens_or_closes e)
-  step word.End e o n i = plain o n i (ap opens_or_closes e)
-  step word.Assert e o n i = plain o n i (ap opens_or_closes e)
-  step word.Equ e o n i = plain o n i (ap opens_or_closes e)
+      same : (r : Result (Parts (length xs)) ExpandFault) → mapped (whole xs x.before) (mapped (tree_before (Block x.opens c h NoLine) (length xs)) r) ≡ mapped (whole (x ∷ xs) c) (mapped (rof_before h (length xs)) r)
+      same (Ok p) = ap (λ q. Ok (whole xs x.before q)) (before (length xs) p)
+      same (Err f) = refl
+
+  one_more : Told (h ∷ hs)
+  one_more xs c n i j = by_word h.word refl where
+    by_word : (w : HeadWord) → h.word ≡ w → AreBlocks ((open_lines xs ++ lines_of c) ++ (h ∷ hs)) (mapped (whole xs c) (parts_from (h ∷ hs) (length xs) (outermost_or xs 0)))
+    by_word word.For e = opening xs c n i j e
+    by_word word.Rof e = closing xs c n i j e
+    by_word word.Bare e = plain xs c n i j (ap opens_or_closes e)
+    by_word word.Code e = plain xs c n i j (ap opens_or_closes e)
+    by_word word.Org e = plain xs c n i j (ap opens_or_closes e)
+    by_word word.End e = plain xs c n i j (ap opens_or_closes e)
+    by_word word.Assert e = plain xs c n i j (ap opens_or_closes e)
+    by_word word.Equ e = plain xs c n i j (ap opens_or_closes e)
 
 told : (hs : List Head) → Told hs
-told [] o n i = at_end o n i
-told (h ∷ hs) o n i = step h hs (told hs) h.word refl o n i
+told [] = at_end
+told (h ∷ hs) = one_more h hs (told hs)
 
--- a line that is neither FOR nor ROF is passed over
-passed : (w : HeadWord) (line n outermost : ℕ) (next : ℕ → ℕ → Option ExpandFault) → opens_or_closes w ≡ false → nesting_by w line n outermost next ≡ next n outermost
-passed word.For line n outermost next e = absurd (cc)
-passed word.Rof line n outermost next e = absurd (cc)
-passed word.Bare line n outermost next e = refl
-passed word.Code line n outermost next e = refl
-passed word.Org line n outermost next e = refl
-passed word.End line n outermost next e = refl
-passed word.Assert line n outermost next e = refl
-passed word.Equ line n outermost next e = refl
+tree_or_fault : (hs : List Head) → AreBlocks hs (blocks_of hs)
+tree_or_fault hs = subst (AreBlocks hs) (mapped_same (λ b. b) (blocks_of hs) (λ b. refl)) (told hs [] NoLine DEEPEST_BLOCK refl tt)
 
--- a line whose word is known
-known : (h : Head) (w : HeadWord) (n outermost : ℕ) (hs : List Head) → h.word ≡ w
-    → nesting_fault n outermost (h ∷ hs) ≡ nesting_by w h.number n outermost (λ m line. nesting_fault m line hs)
-known h w n outermost hs e = ap (λ v. nesting_by v h.number n outermost (λ m line. nesting_fault m line hs)) e
-
--- a FOR within open blocks, where there is room
-entered : (f : Head) (k line : ℕ) (hs : List Head) → f.word ≡ word.For → nat_lt (suc k) DEEPEST_BLOCK ≡ true → nesting_fault (suc k) line (f ∷ hs) ≡ nesting_fault (suc (suc k)) line hs
-entered f k line hs w room = known f word.For (suc k) line hs w ∙ rw room refl
-
--- closed lines are passed over
-skipped : (c : Closed) (n k line : ℕ) (rest : List Head) → IsClosed n c → k + n ≡ DEEPEST_BLOCK → nesting_fault k line (closed_lines c ++ rest) ≡ nesting_fault k line rest
-skipped NoLine n k line rest i e = refl
-skipped (OneMore c h) n k line rest i e =
-    ap (nesting_fault k line) (append_assoc (closed_lines c) (h ∷ []) rest)
-    ∙ (skipped c n k line (h ∷ rest) i.0 e ∙ passed h.word h.number k line (λ m l. nesting_fault m l rest) i.1)
-skipped (Block c f inside r) zero k line rest i e = absurd i
-skipped (Block c f inside r) (suc n) zero line rest i e =
-    ap (nesting_fault 0 line) (append_assoc (closed_lines c) (f ∷ (closed_lines inside ++ (r ∷ []))) rest ∙ ap (λ t. closed_lines c ++ (f ∷ t)) (append_assoc (closed_lines inside) (r ∷ []) rest))
-    ∙ (skipped c (suc n) 0 line (f ∷ (closed_lines inside ++ (r ∷ rest))) i.0 e
-    ∙ (known f word.For 0 line (closed_lines inside ++ (r ∷ rest)) i.1
-    ∙ (skipped inside n 1 f.number (r ∷ rest) i.2 (omega arith)
-    ∙ (known r word.Rof 1 f.number rest i.3 ∙ any_outermost rest f.number line))))
-skipped (Block c f inside r) (suc n) (suc k) line rest i e =
-    let room : nat_lt (suc k) DEEPEST_BLOCK ≡ true = grind (arith, nat_tests) in
-    ap (nesting_fault (suc k) line) (append_assoc (closed_lines c) (f ∷ (closed_lines inside ++ (r ∷ []))) rest ∙ ap (λ t. closed_lines c ++ (f ∷ t)) (append_assoc (closed_lines inside) (r ∷ []) rest))
-    ∙ (skipped c (suc n) (suc k) line (f ∷ (closed_lines inside ++ (r ∷ rest))) i.0 e
-    ∙ (entered f k line (closed_lines inside ++ (r ∷ rest)) i.1 room
-    ∙ (skipped inside n (suc (suc k)) line (r ∷ rest) i.2 (omega arith) ∙ known r word.Rof (suc (suc k)) line rest i.3)))
-
--- lines with open blocks lead to the state that counts them
-opened_to : (o : Opened) (n : ℕ) (rest : List Head) → IsOpened n o → nesting_fault 0 0 (opened_lines o ++ rest) ≡ nesting_fault (open_count o) (outermost_or o 0) rest
-opened_to (Outside c) n rest i = let e : n ≡ DEEPEST_BLOCK = i.0 in skipped c n 0 0 rest i.1 (omega arith)
-opened_to (Within (Outside b) f c) n rest i =
-    let e : open_count (Within (Outside b) f c) + n ≡ DEEPEST_BLOCK = counted (Within (Outside b) f c) n i in
-    ap (nesting_fault 0 0) (append_assoc (closed_lines b) (f ∷ closed_lines c) rest)
-    ∙ (opened_to (Outside b) (suc n) (f ∷ (closed_lines c ++ rest)) i.0
-    ∙ (known f word.For 0 0 (closed_lines c ++ rest) i.1 ∙ skipped c n 1 f.number rest i.2 (omega (arith, e))))
-opened_to (Within (Within o g b) f c) n rest i =
-    let e : open_count (Within (Within o g b) f c) + n ≡ DEEPEST_BLOCK = counted (Within (Within o g b) f c) n i in
-    let room : nat_lt (suc (open_count o)) DEEPEST_BLOCK ≡ true = grind (arith, nat_tests) in
-    ap (nesting_fault 0 0) (append_assoc (opened_lines (Within o g b)) (f ∷ closed_lines c) rest)
-    ∙ (opened_to (Within o g b) (suc n) (f ∷ (closed_lines c ++ rest)) i.0
-    ∙ (entered f (open_count o) (outermost_or o g.number) (closed_lines c ++ rest) i.1 room
-    ∙ skipped c n (suc (suc (open_count o))) (outermost_or o g.number) rest i.2 (omega (arith, e))))
-
-of_ninth : (o : Opened) (h : Head) (rest : List Head) → IsOpened 0 o → h.word ≡ word.For
-    → nesting_fault (open_count o) (outermost_or o 0) (h ∷ rest) ≡ Some (at_line h.number ForTooDeep)
-of_ninth (Outside c) h rest i w = let e : 0 ≡ DEEPEST_BLOCK = i.0 in absurd (omega (arith, e))
-of_ninth (Within o f c) h rest i w =
-    let e : open_count (Within o f c) + 0 ≡ DEEPEST_BLOCK = counted (Within o f c) 0 i in
-    let full : nat_lt (suc (open_count o)) DEEPEST_BLOCK ≡ false = grind (arith, nat_tests) in
-    known h word.For (suc (open_count o)) (outermost_or o f.number) rest w ∙ rw full refl
-
--- what the trees say is the fault that is found
-pub found : (hs : List Head) (x : Option ExpandFault) → AreNested hs x → nesting_fault 0 0 hs ≡ x
-found hs None a =
-    ap (nesting_fault 0 0) (a.2 ∙ sym (append-nil (closed_lines a.0))) ∙ skipped a.0 DEEPEST_BLOCK 0 0 [] a.1 refl
-found hs (Some f) (inl r) =
-    ap (nesting_fault 0 0) r.lines
-    ∙ (skipped r.before DEEPEST_BLOCK 0 0 (r.rof ∷ r.after) r.nests refl
-    ∙ (known r.rof word.Rof 0 0 r.after r.is_rof ∙ ap (λ g. Some g) (sym r.fault)))
-found hs (Some f) (inr (inl r)) =
-    ap (nesting_fault 0 0) r.lines
-    ∙ (opened_to r.before 0 (r.ninth ∷ r.after) r.nests
-    ∙ (of_ninth r.before r.ninth r.after r.nests r.is_for ∙ ap (λ g. Some g) (sym r.fault)))
-found hs (Some f) (inr (inr r)) =
-    let open_still : (suc (open_count r.outer) == 0) ≡ false = grind (arith, nat_tests) in
-    ap (nesting_fault 0 0) (r.lines ∙ sym (append-nil (opened_lines (Within r.outer r.opens r.inside))))
-    ∙ (opened_to (Within r.outer r.opens r.inside) r.room [] r.nests
-    ∙ (rw open_still refl ∙ ap (λ g. Some g) (sym r.fault)))
-
--- lines without a fault are closed blocks, and a fault is what its kind says
-nested_or_faulty : (hs : List Head) → AreNested hs (nesting_fault 0 0 hs)
-nested_or_faulty hs = told hs (Outside NoLine) DEEPEST_BLOCK (refl, tt)
-
-pub said : (hs : List Head) (x : Option ExpandFault) → nesting_fault 0 0 hs ≡ x → AreNested hs x
-said hs x e = subst (AreNested hs) e (nested_or_faulty hs)
+pub said : (hs : List Head) (r : Result Blocks ExpandFault) → blocks_of hs ≡ r → AreBlocks hs r
+said hs r e = subst (AreBlocks hs) e (tree_or_fault hs)

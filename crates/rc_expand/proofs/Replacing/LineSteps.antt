@@ -10,13 +10,11 @@ use Rattle.rc_expand.specs.declared.heads.head.Head.{Head}
 use Rattle.rc_expand.specs.declared.heads.head.HeadWord.{HeadWord}
 use Rattle.rc_expand.specs.declared.heads.head.HeadWord.TheVariants as word
 use Rattle.rc_expand.specs.declared.line.Line.{Line}
-use Rattle.rc_expand.specs.declared.unroll.reached.Reached.{Reached}
 use Rattle.rc_expand.specs.Results.{at_line, mapped, and_then}
 use Rattle.rc_expand.specs.Shared.{Shared}
 use Rattle.rc_expand.specs.Names.{entry_of, is_among, is_taken}
 use Rattle.rc_expand.specs.NameTables.{with_name, names_in}
 use Rattle.rc_expand.specs.Heads.Lines.{label_token}
-use Rattle.rc_expand.specs.Unroll.Reached.{reached_line, reached_lines}
 use Rattle.rc_expand.specs.Replace.Lines.{own_labels, own_step, other_labels, other_step, line_of, names_of, with_names, Replacement, with_line, line_added, line_replaced, lines_replaced, no_lines, replaced}
 use Rattle.rc_expand.proofs.Each.{split_at}
 use Rattle.rc_expand.proofs.Reading.TableFound.{seen_found, name_new as is_pushed}
@@ -87,23 +85,21 @@ module _ (s : Shared) where
       by_word word.Equ w = absurd (w refl)
       by_word _ w = refl
 
-  module _ (reached : List Reached) (i : ℕ) (r : Replacement) where
-    module _ (one : Reached) (some : i < length reached) (is : one ≡ get_or reached i one) where
+  module _ (hs : List Head) (i : ℕ) (r : Replacement) where
+    module _ (one : Head) (some : i < length hs) (is : one ≡ get_or hs i one) where
       -- one line, and the lines after it
-      line_step : lines_replaced s (reached_lines s.source (drop i reached)) r
-          ≡ and_then (lines_replaced s (reached_lines s.source (drop (i + 1) reached))) (line_replaced s (reached_line s.source one) r)
-      line_step = ap (λ rs. lines_replaced s (reached_lines s.source rs) r) (split_at reached i one some is)
+      line_step : lines_replaced s (drop i hs) r ≡ and_then (lines_replaced s (drop (i + 1) hs)) (line_replaced s one r)
+      line_step = ap (λ ls. lines_replaced s ls r) (split_at hs i one some is)
 
-      pub line_next : (new : Replacement) → line_replaced s (reached_line s.source one) r ≡ Ok new
-          → lines_replaced s (reached_lines s.source (drop i reached)) r ≡ lines_replaced s (reached_lines s.source (drop (i + 1) reached)) new
-      line_next new h = line_step ∙ ap (and_then (lines_replaced s (reached_lines s.source (drop (i + 1) reached)))) h
+      pub line_next : (new : Replacement) → line_replaced s one r ≡ Ok new → lines_replaced s (drop i hs) r ≡ lines_replaced s (drop (i + 1) hs) new
+      line_next new h = line_step ∙ ap (and_then (lines_replaced s (drop (i + 1) hs))) h
 
-      pub line_fails : (f : ExpandFault) → line_replaced s (reached_line s.source one) r ≡ Err f → lines_replaced s (reached_lines s.source (drop i reached)) r ≡ Err f
-      line_fails f h = line_step ∙ ap (and_then (lines_replaced s (reached_lines s.source (drop (i + 1) reached)))) h
+      pub line_fails : (f : ExpandFault) → line_replaced s one r ≡ Err f → lines_replaced s (drop i hs) r ≡ Err f
+      line_fails f h = line_step ∙ ap (and_then (lines_replaced s (drop (i + 1) hs))) h
 
     -- no line is left
-    pub lines_end : length reached ≤ i → lines_replaced s (reached_lines s.source (drop i reached)) r ≡ Ok r
-    lines_end h = ap (λ rs. lines_replaced s (reached_lines s.source rs) r) (drop_all i reached h)
+    pub lines_end : length hs ≤ i → lines_replaced s (drop i hs) r ≡ Ok r
+    lines_end h = ap (λ ls. lines_replaced s ls r) (drop_all i hs h)
 
   -- the lines of the definition
   pub all_replaced : (hs : List Head) (r : Result Replacement ExpandFault) (o : Result (List Line) ExpandFault) → lines_replaced s hs no_lines ≡ r → mapped (λ x. x.lines) r ≡ o → replaced s hs ≡ o

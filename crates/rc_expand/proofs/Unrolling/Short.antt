@@ -1,5 +1,5 @@
 -- To a short line no ninth counter is joined, in however many copies it stands.
-use Rattle.std.proofs.Common.{◌≡◌, ℕ, zero, suc, drop, subst, ◌+◌, ◌*◌, ◌≤◌, Bool, true, false, List, [], ◌∷◌, ◌++◌, length, Option, Some, refl, sym, ◌∙◌, ap, arith, length-append}
+use Rattle.std.proofs.Common.{◌≡◌, ℕ, zero, suc, drop, subst, ◌+◌, ◌*◌, ◌≤◌, Bool, true, false, List, [], ◌∷◌, ◌++◌, length, Option, Some, None, refl, sym, ◌∙◌, ap, arith, length-append}
 use Rattle.std.specs.Prelude.{◌&&◌, not, nat_lt, option_map, option_and_then, if◌then◌else◌}
 use Rattle.std.specs.List.{list_all}
 use Rattle.std.proofs.lemmas.Bool.{and_parts, le-leb, leb-true, lt-ltb}
@@ -11,8 +11,8 @@ use Rattle.rc_expand.specs.declared.heads.head.HeadWord.{HeadWord}
 use Rattle.rc_expand.specs.declared.heads.head.HeadWord.TheVariants as word
 use Rattle.rc_expand.specs.declared.unroll.reached.Copying.{Copying}
 use Rattle.rc_expand.specs.Heads.Lines.{has_modifier}
-use Rattle.rc_expand.specs.Unroll.Copies.{is_counter, with_number, joins, with_counter, copied_from, copied_tokens, copied_code, copied_rest, copied_line, or_spoiled, all_of, stays_joinable, is_short, is_short_line}
-use Rattle.rc_expand.specs.Unroll.Reached.{line_in}
+use Rattle.rc_expand.specs.Unroll.Copies.{Copy, line_by, line_in, is_counter, with_number, joins, with_counter, copied_from, copied_tokens, copied_code, copied_rest, copied_line, or_spoiled, all_of, stays_joinable, is_short, is_short_line}
+use Rattle.rc_expand.specs.Unroll.Reached.{copies_in}
 use Rattle.rc_expand.proofs.Unrolling.Copies.{from_list, passed_list}
 
 abbrev all_have_room : ℕ → List Token → Bool
@@ -197,13 +197,16 @@ module _ (source counter : List ℕ) (k : ℕ) where
       record { spoiled = ap (λ x. x.spoiled) e; short = ap is_short_line e ∙ t }
 
 -- a short line is as spoiled as it was, in whatever copies
-pub short_in : (source : List ℕ) (cs : List Copying) (h : Head) → is_short_line h ≡ true → (line_in source cs h).spoiled ≡ h.spoiled
+pub short_in : (source : List ℕ) (cs : List Copy) (h : Head) → is_short_line h ≡ true → (line_in source cs h).spoiled ≡ h.spoiled
 short_in source [] h s = refl
-short_in source (c ∷ cs) h s =
-    let st = stays_short source c.counter.now c.number h s in
-    short_in source cs (copied_line source c.counter.now c.number h) st.short ∙ st.spoiled
+short_in source (c ∷ cs) h s = by_counter c.counter (λ g t. short_in source cs g t) where
+  by_counter : (o : Option (List ℕ)) → ((g : Head) → is_short_line g ≡ true → (line_in source cs g).spoiled ≡ g.spoiled) → (line_in source cs (line_by source o c.number h)).spoiled ≡ h.spoiled
+  by_counter None ih = ih h s
+  by_counter (Some counter) ih =
+      let st = stays_short source counter c.number h s in
+      ih (copied_line source counter c.number h) st.short ∙ st.spoiled
 
 -- outside of all copies it is the line itself
-pub outside_in : (source : List ℕ) (cs : List Copying) (h : Head) → length cs ≡ 0 → (line_in source cs h).spoiled ≡ h.spoiled
+pub outside_in : (source : List ℕ) (cs : List Copying) (h : Head) → length cs ≡ 0 → (line_in source (copies_in cs) h).spoiled ≡ h.spoiled
 outside_in source [] h e = refl
-outside_in source (c ∷ cs) h e = absurd (omega arith)
+outside_in source (c ∷ cs) h e = absurd (omega (arith, e))

@@ -1,4 +1,4 @@
--- A fault of the text itself: a byte or a number that is not a token.
+-- A fault of the text itself: a byte or a decimal that is not a token.
 use Rattle.std.specs.Prelude.{◌≡◌, ◌+◌, ℕ, List, [], ◌∷◌, Option, Some, option_map}
 use Rattle.rc_text.specs.declared.token.Token.{Token}
 use Rattle.rc_text.specs.declared.fault.LexFault.{LexFault}

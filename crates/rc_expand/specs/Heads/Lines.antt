@@ -67,7 +67,7 @@ pub record LabelSplit : Type 0 where
 abbrev pub no_labels : List Token → LabelSplit
 no_labels ts = record { labels = []; after = ts }
 
--- A token begins a label: it is its only token, or `into_label` puts more before it.
+-- A label of one token comes before the other labels.
 abbrev pub begin_label : Token → LabelSplit → LabelSplit
 begin_label t l = record { labels = (t ∷ []) ∷ l.labels; after = l.after }
 

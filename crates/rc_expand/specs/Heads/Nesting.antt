@@ -1,6 +1,5 @@
--- How blocks nest, by trees: FOR and ROF pair up like parentheses (pMARS), and at most
--- `DEEPEST_BLOCK` blocks are open at once.
-use Rattle.std.specs.Prelude.{◌≡◌, ℕ, zero, suc, ◌==◌, nat_lt, Bool, true, false, List, [], ◌∷◌, ◌++◌, Option, Some, None, if◌then◌else◌, ◌⊎◌}
+-- What the tree of a text says of its lines, and each fault of its blocks, as a law tells it.
+use Rattle.std.specs.Prelude.{◌≡◌, ℕ, zero, suc, Bool, true, false, List, [], ◌∷◌, ◌++◌, ◌⊎◌, Result, Ok, Err}
 use Rattle.rc_expand.specs.declared.heads.head.Head.{Head}
 use Rattle.rc_expand.specs.declared.heads.head.HeadWord.{HeadWord}
 use Rattle.rc_expand.specs.declared.heads.head.HeadWord.TheVariants as word
@@ -8,96 +7,75 @@ use Rattle.rc_expand.specs.declared.fault.ExpandFault.{ExpandFault}
 use Rattle.rc_expand.specs.declared.fault.ExpandKind.TheVariants.{ForWithoutRof, RofWithoutFor, ForTooDeep}
 use Rattle.rc_expand.specs.Limits.{DEEPEST_BLOCK}
 use Rattle.rc_expand.specs.Results.{at_line}
-
--- One line; `opened` blocks are open before it, the outermost since line `outermost`.
-abbrev pub nesting_by : HeadWord → (line opened outermost : ℕ) → (ℕ → ℕ → Option ExpandFault) → Option ExpandFault
-nesting_by word.For line zero outermost next = next 1 line
-nesting_by word.For line (suc n) outermost next = if nat_lt (suc n) DEEPEST_BLOCK then next (suc (suc n)) outermost else Some (at_line line ForTooDeep)
-nesting_by word.Rof line zero outermost next = Some (at_line line RofWithoutFor)
-nesting_by word.Rof line (suc n) outermost next = next n outermost
-nesting_by _ line n outermost next = next n outermost
-
--- The first FOR inside as many open blocks as may be open, or ROF outside of all; else the
--- outermost FOR that is still open at the end.
-abbrev pub nesting_fault : (opened outermost : ℕ) → List Head → Option ExpandFault
-nesting_fault n outermost [] = if n == 0 then None else Some (at_line outermost ForWithoutRof)
-nesting_fault n outermost (h ∷ hs) = nesting_by h.word h.number n outermost (λ m line. nesting_fault m line hs)
-
--- Lines whose blocks are all closed: no lines, closed lines and one that is neither FOR nor ROF, or
--- closed lines and a block.
-pub data Closed : Type 0 where
-  NoLine : Closed
-  OneMore : (before : Closed) → (h : Head) → Closed
-  Block : (before : Closed) → (opens : Head) → (inside : Closed) → (closes : Head) → Closed
-
-abbrev pub closed_lines : Closed → List Head
-closed_lines NoLine = []
-closed_lines (OneMore c h) = closed_lines c ++ (h ∷ [])
-closed_lines (Block c f inside r) = closed_lines c ++ (f ∷ (closed_lines inside ++ (r ∷ [])))
+use Rattle.rc_expand.specs.Heads.Tree.{Blocks, NoLine, OneLine, Block, lines_of}
 
 abbrev pub opens_or_closes : HeadWord → Bool
 opens_or_closes word.For = true
 opens_or_closes word.Rof = true
 opens_or_closes _ = false
 
--- The tree describes its lines, and at most `n` blocks are nested.
-abbrev pub IsClosed : ℕ → Closed → Type 0
-IsClosed n NoLine = Unit {0}
-IsClosed n (OneMore c h) = IsClosed n c × (opens_or_closes h.word ≡ false)
-IsClosed zero (Block c f inside r) = ⊥
-IsClosed (suc n) (Block c f inside r) = IsClosed (suc n) c × (f.word ≡ word.For) × IsClosed n inside × (r.word ≡ word.Rof)
+-- Each line has the word of its place in the tree, and at most `n` blocks are nested.
+abbrev pub IsNested : ℕ → Blocks → Type 0
+IsNested n NoLine = Unit {0}
+IsNested n (OneLine h rest) = (opens_or_closes h.word ≡ false) × IsNested n rest
+IsNested zero (Block f inside r rest) = ⊥
+IsNested (suc n) (Block f inside r rest) = (f.word ≡ word.For) × IsNested n inside × (r.word ≡ word.Rof) × IsNested (suc n) rest
 
--- Lines with blocks that may still be open: closed lines, then any number of times a FOR and closed
--- lines.
-pub data Opened : Type 0 where
-  Outside : (c : Closed) → Opened
-  Within : (outer : Opened) → (opens : Head) → (inside : Closed) → Opened
+-- An open block: the lines before its FOR, from the FOR around it on, and the FOR.
+pub record Open : Type 0 where
+  pub before : Blocks
+  pub opens : Head
 
-abbrev pub opened_lines : Opened → List Head
-opened_lines (Outside c) = closed_lines c
-opened_lines (Within o f c) = opened_lines o ++ (f ∷ closed_lines c)
+-- The lines of open blocks, the innermost of which is the first.
+abbrev pub open_lines : List Open → List Head
+open_lines [] = []
+open_lines (x ∷ xs) = open_lines xs ++ (lines_of x.before ++ (x.opens ∷ []))
 
--- The tree describes its lines, and `n` more blocks may be opened, of `DEEPEST_BLOCK` in all.
-abbrev pub IsOpened : ℕ → Opened → Type 0
-IsOpened n (Outside c) = (n ≡ DEEPEST_BLOCK) × IsClosed n c
-IsOpened n (Within o f c) = IsOpened (suc n) o × (f.word ≡ word.For) × IsClosed n c
+-- Each line has the word of its place, and `n` more blocks may be opened, of `DEEPEST_BLOCK` in all.
+abbrev pub AreOpen : ℕ → List Open → Type 0
+AreOpen n [] = n ≡ DEEPEST_BLOCK
+AreOpen n (x ∷ xs) = AreOpen (suc n) xs × IsNested (suc n) x.before × (x.opens.word ≡ word.For)
 
--- The line of the outermost open FOR, or `line` without one.
-abbrev pub outermost_or : Opened → ℕ → ℕ
-outermost_or (Outside c) line = line
-outermost_or (Within o f c) line = outermost_or o f.number
+-- The line of the outermost of open blocks.
+abbrev pub outermost_line : Open → List Open → ℕ
+outermost_line x [] = x.opens.number
+outermost_line x (y ∷ xs) = outermost_line y xs
 
 -- A ROF outside of all blocks.
 pub record IsRofAlone (hs : List Head) (f : ExpandFault) : Type 0 where
-  pub before : Closed
+  pub before : Blocks
   pub rof : Head
   pub after : List Head
-  pub nests : IsClosed DEEPEST_BLOCK before
+  pub nests : IsNested DEEPEST_BLOCK before
   pub is_rof : rof.word ≡ word.Rof
-  pub lines : hs ≡ closed_lines before ++ (rof ∷ after)
+  pub lines : hs ≡ lines_of before ++ (rof ∷ after)
   pub fault : f ≡ at_line rof.number RofWithoutFor
 
 -- A FOR inside as many open blocks as may be open.
 pub record IsNinth (hs : List Head) (f : ExpandFault) : Type 0 where
-  pub before : Opened
+  pub opened : List Open
+  pub inside : Blocks
   pub ninth : Head
   pub after : List Head
-  pub nests : IsOpened 0 before
+  pub are_open : AreOpen 0 opened
+  pub nests : IsNested 0 inside
   pub is_for : ninth.word ≡ word.For
-  pub lines : hs ≡ opened_lines before ++ (ninth ∷ after)
+  pub lines : hs ≡ (open_lines opened ++ lines_of inside) ++ (ninth ∷ after)
   pub fault : f ≡ at_line ninth.number ForTooDeep
 
 -- Blocks that are open at the end; the fault is at the outermost FOR.
 pub record IsLeftOpen (hs : List Head) (f : ExpandFault) : Type 0 where
-  pub outer : Opened
-  pub opens : Head
-  pub inside : Closed
+  pub innermost : Open
+  pub around : List Open
+  pub inside : Blocks
   pub room : ℕ
-  pub nests : IsOpened room (Within outer opens inside)
-  pub lines : hs ≡ opened_lines (Within outer opens inside)
-  pub fault : f ≡ at_line (outermost_or outer opens.number) ForWithoutRof
+  pub are_open : AreOpen room (innermost ∷ around)
+  pub nests : IsNested room inside
+  pub lines : hs ≡ open_lines (innermost ∷ around) ++ lines_of inside
+  pub fault : f ≡ at_line (outermost_line innermost around) ForWithoutRof
 
--- Lines without a fault are closed blocks, and each fault means what its kind says.
-abbrev pub AreNested : List Head → Option ExpandFault → Type 0
-AreNested hs None = (c : Closed) × IsClosed DEEPEST_BLOCK c × (hs ≡ closed_lines c)
-AreNested hs (Some f) = IsRofAlone hs f ⊎ IsNinth hs f ⊎ IsLeftOpen hs f
+-- A tree has the lines of the text, at most `DEEPEST_BLOCK` deep, and each fault means what its kind
+-- says.
+abbrev pub AreBlocks : List Head → Result Blocks ExpandFault → Type 0
+AreBlocks hs (Ok b) = IsNested DEEPEST_BLOCK b × (hs ≡ lines_of b)
+AreBlocks hs (Err f) = IsRofAlone hs f ⊎ IsNinth hs f ⊎ IsLeftOpen hs f

@@ -11,12 +11,10 @@ use Rattle.rc_expand.specs.declared.line.LineWord.{LineWord}
 use Rattle.rc_expand.specs.declared.line.LineWord.TheVariants as line
 use Rattle.rc_expand.specs.declared.fault.ExpandFault.{ExpandFault}
 use Rattle.rc_expand.specs.declared.fault.ExpandKind.TheVariants.{DuplicateName}
-use Rattle.rc_expand.specs.declared.replace.Replacements.{Replacements}
 use Rattle.rc_expand.specs.Results.{mapped, at_line, ◌>>=◌}
 use Rattle.rc_expand.specs.Shared.{Shared}
 use Rattle.rc_expand.specs.Names.{is_among, is_taken}
 use Rattle.rc_expand.specs.Heads.Lines.{label_token}
-use Rattle.rc_expand.specs.NameTables.{names_in}
 use Rattle.rc_expand.specs.Replace.{Equs, line_tokens}
 
 abbrev pub line_word : HeadWord → LineWord
@@ -40,7 +38,7 @@ module _ (source : List ℕ) where
   other_step None here later = here
   other_step (Some t) here later = later
 
-  -- The would-be labels from there on, which are tokens instead.
+  -- The labels from the first that is not a single name on. They are tokens of a line of code.
   abbrev pub other_labels : List (List Token) → List (List Token)
   other_labels [] = []
   other_labels (l ∷ ls) = other_step (label_token source l) (l ∷ ls) (other_labels ls)
@@ -71,10 +69,6 @@ pub record Replacement : Type 0 where
 
 abbrev pub no_lines : Replacement
 no_lines = record { names = []; lines = [] }
-
--- The names and lines that the code has so far.
-abbrev pub lines_so_far : Replacements → Replacement
-lines_so_far r = record { names = names_in r.names; lines = r.lines.items }
 
 abbrev pub with_line : List Line → List (List ℕ) → Line → Replacement
 with_line lines names l = record { names = names; lines = lines ++ (l ∷ []) }

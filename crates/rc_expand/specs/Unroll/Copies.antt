@@ -1,6 +1,6 @@
 -- A line in one copy of a block. The counter of the block becomes its number, or is joined to the
 -- name before it by `&` (pMARS).
-use Rattle.std.specs.Prelude.{◌≡◌, ℕ, drop, Bool, true, false, ◌&&◌, not, ◌+◌, ◌*◌, nat_le, nat_lt, List, [], ◌∷◌, ◌++◌, length, map, Option, Some, None, if◌then◌else◌, option_and_then, option_map}
+use Rattle.std.specs.Prelude.{◌≡◌, ℕ, drop, Bool, true, false, ◌&&◌, not, ◌+◌, ◌*◌, nat_le, nat_lt, List, [], ◌∷◌, ◌++◌, length, Option, Some, None, if◌then◌else◌, option_and_then, option_map}
 use Rattle.std.specs.List.{list_all}
 use Rattle.std.specs.Str.{bytes_eq}
 use Rattle.rc_text.specs.declared.token.Kind.TheVariants.{Number}
@@ -11,6 +11,16 @@ use Rattle.rc_expand.specs.declared.heads.head.HeadWord.{HeadWord}
 use Rattle.rc_expand.specs.declared.heads.head.HeadWord.TheVariants as word
 use Rattle.rc_expand.specs.Limits.{MOST_JOINED}
 use Rattle.rc_expand.specs.Heads.Lines.{choose, is_name_token, is_ampersand, has_modifier}
+
+-- A copy of a block: the counter of the block, if it has one, and the counter's number.
+pub record Copy : Type 0 where
+  pub counter : Option (List ℕ)
+  pub number : ℕ
+
+-- A line in any copy is in a block.
+abbrev pub are_any : List Copy → Bool
+are_any [] = false
+are_any (c ∷ cs) = true
 
 -- The results of `f` for all items, or None if `f` gives None for one of them.
 abbrev pub all_of : {A B : Type 0} → (A → Option B) → List A → Option (List B)
@@ -56,7 +66,8 @@ module _ (source : List ℕ) where
   BeginsCopy counter k ts at o =
       copied_tokens counter k (drop at ts) ≡ option_and_then (λ p. option_map (λ r. p.0 ∷ r) (copied_tokens counter k (drop p.1 ts))) o
 
-  -- In a line of code the modifier after an opcode and a dot is no name, so these three stay.
+  -- A modifier is no name, even if it spells the counter: at the front of a line of code an opcode, a
+  -- dot and a modifier stay as they are.
   abbrev pub copied_code : List ℕ → ℕ → List Token → Option (List Token)
   copied_code counter k (t ∷ u ∷ v ∷ ts) =
       choose (has_modifier source t u v) (λ i. option_map (λ r. t ∷ u ∷ v ∷ r) (copied_tokens counter k ts)) (λ i. copied_tokens counter k (t ∷ u ∷ v ∷ ts))
@@ -77,10 +88,15 @@ module _ (source : List ℕ) where
   unfoldable pub copied_line : List ℕ → ℕ → Head → Head
   copied_line counter k h = or_spoiled h (all_of (copied_tokens counter k) h.labels) (copied_rest counter k h.word h.rest)
 
-  -- The lines of a block in the copy for `k`; without a counter they stay as they are.
-  abbrev pub copied_block : Option (List ℕ) → ℕ → List Head → List Head
-  copied_block None k hs = hs
-  copied_block (Some counter) k hs = map (copied_line counter k) hs
+  -- A line in a copy of a block; without a counter it stays as it is.
+  abbrev pub line_by : Option (List ℕ) → ℕ → Head → Head
+  line_by None k h = h
+  line_by (Some counter) k h = copied_line counter k h
+
+  -- A line in copies, the outermost first.
+  abbrev pub line_in : List Copy → Head → Head
+  line_in [] h = h
+  line_in (c ∷ cs) h = line_in cs (line_by c.counter c.number h)
 
 -- No ninth counter can be joined to the token, one of `n` tokens, in however many copies: each
 -- counter that is joined takes two tokens away.

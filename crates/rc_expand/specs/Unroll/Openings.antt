@@ -89,8 +89,8 @@ module _ (s : Shared) where
   abbrev pub counted_by : Head → Option (List ℕ) → Result Opening ExpandFault
   counted_by f name = mapped (λ n. record { counter = name; earlier = earlier_of f.labels; count = n }) (count_of f.number f.rest)
 
-  -- What a FOR says: first its counter is looked at, and then its count. A FOR to which a ninth
-  -- counter was to be joined says nothing.
+  -- What a FOR says: first its counter is looked at, and then its count. A spoiled FOR, one to a name
+  -- of which a ninth counter would be joined, is `BadDirective`.
   unfoldable pub opening : Head → Result Opening ExpandFault
   opening f =
       if f.spoiled then Err (at_line f.number BadDirective) else

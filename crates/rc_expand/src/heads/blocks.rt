@@ -1,41 +1,117 @@
-//! The check that every FOR has its ROF, before anything is unrolled.
-ghost use Rattle.std.specs.Prelude.{◌≡◌, MatchResult, Some, None};
-ghost use Rattle.rc_expand.specs.Heads.Nesting.{nesting_fault};
+//! The blocks of a text: for each FOR its ROF.
+ghost use Rattle.std.specs.Prelude.{◌≡◌, IfSome, IfNone};
+ghost use Rattle.rc_expand.specs.Results.{Returns, mapped};
+ghost use Rattle.rc_expand.specs.Heads.Tree.{NoLine, OneLine, Block, blocks_of, tree_of, distances, HaveDistances};
 
 use crate::fault::{ExpandFault, ExpandKind, fault};
 use crate::heads::head::{Head, HeadWord};
 use crate::limits::DEEPEST_BLOCK;
+use std::alloc::Global;
+use std::collections::VecDeque;
 
-// Refuses, at the first line that has one of them, a ninth FOR inside eight (`ForTooDeep`) and a
-// ROF without its FOR (`RofWithoutFor`); then a FOR that is still open at the end
-// (`ForWithoutRof`), at the line of the outermost one. Blocks that will be dropped count too.
-pub(crate) fn check_blocks(heads: &[Head]) -> Result<(), ExpandFault>
-    ensures { MatchResult result (λ u. nesting_fault 0 0 heads.now ≡ None) (λ e. nesting_fault 0 0 heads.now ≡ Some e) }
-{
-    let mut open_blocks: u8 = 0;
-    let mut outermost: u64 = 0;
-    for i in 0..heads.len() {
-        match heads[i].word {
-            HeadWord::For => {
-                if open_blocks == DEEPEST_BLOCK {
-                    return Err(fault(heads[i].number, ExpandKind::ForTooDeep));
-                }
-                if open_blocks == 0 {
-                    outermost = heads[i].number;
-                }
-                open_blocks += 1;
-            }
-            HeadWord::Rof => {
-                if open_blocks == 0 {
-                    return Err(fault(heads[i].number, ExpandKind::RofWithoutFor));
-                }
-                open_blocks -= 1;
-            }
-            _ => {}
+// The lines of a text, and for each the distance to its ROF: 0, unless the line is a FOR.
+#[derive(Drop)]
+pub(crate) struct Blocks {
+    pub(crate) heads: Vec<Head>,
+    distances: Vec<usize>,
+    ghost paired: { HaveDistances heads.items distances.items },
+}
+
+// Lines of a text whose blocks are whole.
+#[derive(Clone, Copy)]
+pub(crate) struct BlockSlice<'a> {
+    pub(crate) heads: &'a [Head],
+    distances: &'a [usize],
+    ghost paired: { HaveDistances heads.now distances.now },
+}
+
+impl Blocks {
+    // Finds the blocks of lines.
+    //
+    // Refuses, at the first line that has one of them, a ninth FOR inside eight (`ForTooDeep`) and a
+    // ROF without its FOR (`RofWithoutFor`); then a FOR that is still open at the end
+    // (`ForWithoutRof`), at the line of the outermost one. Blocks that will be dropped count too.
+    pub(crate) fn find(alloc: Global, heads: Vec<Head>) -> Result<Blocks, ExpandFault>
+        ensures { Returns (λ b. tree_of b.heads.items) result (blocks_of heads.items) }
+    {
+        let distances = check_blocks(alloc, &heads)?;
+        Ok(Blocks { heads, distances })
+    }
+
+    pub(crate) fn as_slice(&self) -> BlockSlice<'_>
+        ensures { result.heads.now ≡ self.now.heads.items }
+    {
+        BlockSlice {
+            heads: self.heads.as_slice(),
+            distances: self.distances.as_slice(),
         }
     }
-    if open_blocks > 0 {
+}
+
+impl<'a> BlockSlice<'a> {
+    // Returns the first line, the lines of its block and their ROF if it is a FOR, and the lines
+    // after it all.
+    pub(crate) fn split_first(
+        &self,
+    ) -> Option<(&'a Head, Option<(BlockSlice<'a>, &'a Head)>, BlockSlice<'a>)>
+        ensures none { IfNone result (tree_of self.now.heads.now ≡ NoLine) }
+        ensures line { IfSome result (λ p. IfNone p.1 (tree_of self.now.heads.now ≡ OneLine p.0.now (tree_of p.2.heads.now))) }
+        ensures block { IfSome result (λ p. IfSome p.1 (λ b. tree_of self.now.heads.now ≡ Block p.0.now (tree_of b.0.heads.now) b.1.now (tree_of p.2.heads.now))) }
+    {
+        let (head, after) = self.heads.split_first()?;
+        let distance = self.distances[0];
+        match head.word {
+            HeadWord::For => {
+                let inside = BlockSlice {
+                    heads: &self.heads[1..distance],
+                    distances: &self.distances[1..distance],
+                };
+                let rest = BlockSlice {
+                    heads: &self.heads[distance + 1..],
+                    distances: &self.distances[distance + 1..],
+                };
+                Some((head, Some((inside, &self.heads[distance])), rest))
+            }
+            _ => {
+                let rest = BlockSlice {
+                    heads: after,
+                    distances: &self.distances[1..],
+                };
+                Some((head, None, rest))
+            }
+        }
+    }
+}
+
+// Returns for each line the distance to its ROF, or 0 if it is no FOR. Refuses what `find` does.
+fn check_blocks(alloc: Global, heads: &[Head]) -> Result<Vec<usize>, ExpandFault>
+    ensures { Returns (λ v. v.items) result (mapped distances (blocks_of heads.now)) }
+{
+    let mut distances = Vec::with_capacity(alloc, heads.len())?;
+    let mut open = VecDeque::new(alloc);
+    let mut outermost: u64 = 0;
+    for i in 0..heads.len() {
+        let head = &heads[i];
+        match head.word {
+            HeadWord::For => {
+                if open.len() == DEEPEST_BLOCK {
+                    return Err(fault(head.number, ExpandKind::ForTooDeep));
+                }
+                if open.is_empty() {
+                    outermost = head.number;
+                }
+                open.push_front(i)?;
+            }
+            HeadWord::Rof => match open.pop_front() {
+                None => return Err(fault(head.number, ExpandKind::RofWithoutFor)),
+                Some(start) => distances[start] = i - start,
+            },
+            _ => {}
+        }
+        distances.push(0)?;
+    }
+    if !open.is_empty() {
         return Err(fault(outermost, ExpandKind::ForWithoutRof));
     }
-    Ok(())
+    Ok(distances)
 }

@@ -3,11 +3,13 @@ ghost use Rattle.std.specs.Prelude.{◌≡◌, ◌≢◌, [], ◌∷◌, ◌++�
 ghost use Rattle.rc_expand.specs.declared.fault.ExpandKind.TheVariants.{BadDirective};
 ghost use Rattle.rc_text.specs.Symbols.{name_of};
 ghost use Rattle.rc_expand.specs.Results.{Returns, at_line};
-ghost use Rattle.rc_expand.specs.Heads.{equ_token, equs_of, with_equ};
+ghost use Rattle.rc_expand.specs.Heads.{equ_token, equs_of, equs_with, with_equ};
+ghost use Rattle.rc_expand.specs.Heads.Tree.{tree_of};
 ghost use Rattle.rc_expand.specs.Shared.{constants_of};
 ghost use Rattle.rc_expand.specs.Names.{entry_of};
 
 use crate::fault::{ExpandFault, ExpandKind, fault};
+use crate::heads::blocks::BlockSlice;
 use crate::heads::head::{Head, HeadWord};
 use crate::heads::labels::plain_token;
 use crate::heads::words::clone_tokens;
@@ -45,30 +47,41 @@ impl Equ {
 //
 // Refuses, line by line, a line without exactly one plain name before EQU (`BadDirective`) and a
 // name that is an earlier EQU name, a constant or a predefined name (`DuplicateName`).
+#[tactic(auto, unfolding(crate::specs::Heads::equs_of))]
 pub(crate) fn collect_equs(
     alloc: Global,
     source: &[u8],
     names: &GivenNames,
-    heads: &[Head],
+    blocks: &BlockSlice,
 ) -> Result<NameTable<'static, Equ>, ExpandFault>
-    ensures { Returns (λ t. t) result (equs_of source.now (constants_of names.now) names.now.rules.now heads.now) }
+    ensures { Returns (λ t. t) result (equs_of source.now (constants_of names.now) names.now.rules.now (tree_of blocks.now.heads.now)) }
 {
-    let mut open_blocks: usize = 0;
     let mut equs = NameTable::new(alloc);
-    let mut rest = heads;
-    while let Some((head, after)) = rest.split_first() {
-        match head.word {
-            HeadWord::For => open_blocks += 1,
-            HeadWord::Rof => open_blocks = open_blocks.saturating_sub(1),
-            HeadWord::Equ => if open_blocks == 0 {
-                let (name, equ) = read_equ(alloc, source, names, &equs, head)?;
-                equs.insert(name, equ)?;
-            },
-            _ => {}
+    let mut rest = *blocks;
+    while let Some((head, block, after)) = rest.split_first() {
+        if block.is_none() {
+            add_equ(alloc, source, names, &mut equs, head)?;
         }
         rest = after;
     }
     Ok(equs)
+}
+
+// Adds the EQU name of a line, if it is an EQU line.
+fn add_equ(
+    alloc: Global,
+    source: &[u8],
+    names: &GivenNames,
+    equs: &mut NameTable<'static, Equ>,
+    head: &Head,
+) -> Result<(), ExpandFault>
+    ensures { Returns (λ u. equs.new) result (equs_with source.now (constants_of names.now) names.now.rules.now head.now.word head.now equs.old) }
+{
+    if head.word == HeadWord::Equ {
+        let (name, equ) = read_equ(alloc, source, names, equs, head)?;
+        equs.insert(name, equ)?;
+    }
+    Ok(())
 }
 
 // Returns the name before EQU. `BadDirective` unless it is the only label, written without `&`.

@@ -1,12 +1,13 @@
-//! Lines that the unrolling has reached. Each is made when it is needed, and none before.
-ghost use Rattle.std.specs.Prelude.{◌≡◌, List, ℕ, option_map, true, [], IfOk};
+//! Lines that the unrolling has reached: each is kept as a line of the text and the copies that it
+//! is in, and made when it is needed.
+ghost use Rattle.std.specs.Prelude.{◌≡◌, ◌++◌, ◌∷◌, [], IfOk, IfSome};
 ghost use Rattle.rc_expand.specs.Heads.Lines.{bare_line};
-ghost use Rattle.rc_expand.specs.declared.heads.head.Head.{Head};
-ghost use Rattle.rc_expand.specs.Unroll.Copies.{copied_block, stays_joinable, is_short, is_short_line};
+ghost use Rattle.rc_expand.specs.Unroll.Copies.{line_in, stays_joinable, is_short, is_short_line};
 ghost use Rattle.rc_expand.specs.Unroll.Openings.{earlier_of};
-ghost use Rattle.rc_expand.specs.Unroll.Reached.{line_in, lines_in, reached_line};
+ghost use Rattle.rc_expand.specs.Unroll.Reached.{copies_in, reached_part};
 ghost use Rattle.std.specs.List.{list_all};
 
+use crate::context::Context;
 use crate::heads::head::Head;
 use crate::limits::MOST_JOINED;
 use crate::line::Tokens;
@@ -14,11 +15,12 @@ use crate::unroll::copy::{clone_head, copy_line};
 use crate::unroll::opening::earlier_labels;
 use rc_text::Token;
 use std::alloc::{AllocError, Global};
+use std::marker::Model;
 
-// A copy of a block: its counter, and the counter's number.
-#[derive(Clone, Copy, Debug, PartialEq, Eq)]
+// A copy of a block: its counter, if it has one, and the counter's number.
+#[derive(Clone, Copy)]
 pub(crate) struct Copying<'a> {
-    pub counter: &'a [u8],
+    pub counter: Option<&'a [u8]>,
     pub number: u16,
 }
 
@@ -26,9 +28,20 @@ pub(crate) struct Copying<'a> {
 // the labels that a FOR has before its counter, which are a line of their own.
 #[derive(Drop)]
 pub(crate) struct Reached<'a> {
-    pub head: &'a Head,
-    pub copies: Vec<Copying<'a>>,
-    pub is_earlier: bool,
+    source: &'a [u8],
+    head: &'a Head,
+    copies: Vec<Copying<'a>>,
+    is_earlier: bool,
+}
+
+impl<'a> Model for Reached<'a> {
+    ghost use Rattle.rc_expand.specs.declared.heads.head.Head.{Head};
+    ghost use Rattle.rc_expand.specs.Unroll.Copies.{line_in};
+    ghost use Rattle.rc_expand.specs.Unroll.Reached.{copies_in, reached_part};
+
+    ghost Value = { Head };
+
+    ghost view = { λ r. reached_part r.is_earlier (line_in r.source.now (copies_in r.copies.items) r.head.now) };
 }
 
 // Makes a line as it is in `copies`, the outermost first. Each is made of the one before.
@@ -38,19 +51,18 @@ pub(crate) fn make_line(
     copies: &[Copying],
     head: &Head,
 ) -> Result<Head, AllocError>
-    ensures { IfOk result (λ h. h ≡ line_in source.now copies.now head.now) }
+    ensures { IfOk result (λ h. h ≡ line_in source.now (copies_in copies.now) head.now) }
 {
     let mut made = clone_head(alloc, head)?;
     for i in 0..copies.len() {
-        made = copy_line(alloc, source, copies[i].counter, copies[i].number, &made)?;
+        if let Some(counter) = copies[i].counter {
+            made = copy_line(alloc, source, counter, copies[i].number, &made)?;
+        }
     }
     Ok(made)
 }
 
-pub(crate) fn clone_copies<'a>(
-    alloc: Global,
-    copies: &[Copying<'a>],
-) -> Result<Vec<Copying<'a>>, AllocError>
+fn clone_copies<'a>(alloc: Global, copies: &[Copying<'a>]) -> Result<Vec<Copying<'a>>, AllocError>
     ensures { IfOk result (λ v. v.items ≡ copies.now) }
 {
     let mut cloned = Vec::with_capacity(alloc, copies.len())?;
@@ -60,24 +72,17 @@ pub(crate) fn clone_copies<'a>(
     Ok(cloned)
 }
 
-// Adds the copy of a block inside others. Without a counter it is as the block.
+// Adds the copy of a block inside others.
 pub(crate) fn inner_copies<'a>(
     alloc: Global,
     copies: &[Copying<'a>],
-    counter: Option<&'a [u8]>,
-    number: u16,
+    copy: Copying<'a>,
 ) -> Result<Vec<Copying<'a>>, AllocError>
-    ensures { IfOk result (λ v. (source : List ℕ) (hs : List Head) →
-        copied_block source (option_map (λ b. b.now) counter.entry) number (lines_in source copies.now hs) ≡ lines_in source v.items hs) }
+    ensures { IfOk result (λ v. v.items ≡ copies.now ++ (copy.entry ∷ [])) }
 {
     let mut all = clone_copies(alloc, copies)?;
-    match counter {
-        None => Ok(all),
-        Some(counter) => {
-            all.push(Copying { counter, number })?;
-            Ok(all)
-        }
-    }
+    all.push(copy)?;
+    Ok(all)
 }
 
 // Checks for a line that is too short for a ninth counter to be joined to a name of it, in however
@@ -112,18 +117,46 @@ fn stays_joinable(token: &Token, len: usize) -> bool
 }
 
 impl<'a> Reached<'a> {
-    // Checks for a line that is as the text has it: in no copy, and not of earlier labels alone.
-    pub(crate) fn is_as_written(&self) -> bool
-        ensures { (source : List ℕ) → result ≡ true → reached_line source self.now ≡ self.now.head.now }
+    // Reaches a line in `copies`.
+    pub(crate) fn new(
+        context: &Context<'a>,
+        copies: &[Copying<'a>],
+        head: &'a Head,
+        is_earlier: bool,
+    ) -> Result<Reached<'a>, AllocError>
+        ensures { IfOk result (λ r. r ≡ reached_part is_earlier (line_in context.now.source.now (copies_in copies.now) head.now)) }
     {
-        self.copies.is_empty() && !self.is_earlier
+        let copies = clone_copies(context.alloc, copies)?;
+        Ok(Reached {
+            source: context.source,
+            head,
+            copies,
+            is_earlier,
+        })
+    }
+
+    pub(crate) fn number(&self) -> u64
+        ensures { result ≡ self.now.number }
+    {
+        self.head.number
+    }
+
+    // Returns the line if it is as the text has it: in no copy, and not of earlier labels alone.
+    pub(crate) fn as_written(&self) -> Option<&'a Head>
+        ensures { IfSome result (λ h. h.now ≡ self.now) }
+    {
+        if self.copies.is_empty() && !self.is_earlier {
+            Some(self.head)
+        } else {
+            None
+        }
     }
 
     // Makes the line.
-    pub(crate) fn make(&self, alloc: Global, source: &[u8]) -> Result<Head, AllocError>
-        ensures { IfOk result (λ h. h ≡ reached_line source.now self.now) }
+    pub(crate) fn make(&self, alloc: Global) -> Result<Head, AllocError>
+        ensures { IfOk result (λ h. h ≡ self.now) }
     {
-        let made = make_line(alloc, source, &self.copies, self.head)?;
+        let made = make_line(alloc, self.source, &self.copies, self.head)?;
         if !self.is_earlier {
             return Ok(made);
         }

@@ -1,40 +1,79 @@
-//! The state of the second pass, and what its functions pass on.
-ghost use Rattle.std.specs.Prelude.{◌+◌, ◌≤◌, length};
-ghost use Rattle.rc_expand.specs.declared.limits.TheConstants.{MOST_LINES};
+//! The state of the second pass, and a block on its way.
+ghost use Rattle.std.specs.Prelude.{◌≡◌};
+ghost use Rattle.rc_expand.specs.Results.{Returns};
+ghost use Rattle.rc_expand.specs.Unroll.{nothing, with_line, with_copy};
 
-use crate::heads::head::Head;
-use crate::unroll::reached::{Copying, Reached};
+use crate::fault::{ExpandFault, ExpandKind, fault};
+use crate::heads::blocks::BlockSlice;
+use crate::limits::MOST_LINES;
+use crate::unroll::reached::Reached;
+use std::alloc::Global;
+use std::marker::Model;
 
 // The lines so far, and the number of copies of blocks.
 #[derive(Drop)]
 pub(crate) struct Unrolling<'a> {
-    pub(crate) lines: Vec<Reached<'a>>,
-    pub(crate) copy_count: usize,
-    ghost room: { length lines.items + copy_count ≤ MOST_LINES },
+    lines: Vec<Reached<'a>>,
+    copy_count: usize,
 }
 
-// Where lines are unrolled: in these copies, the outermost first; in a block or outside of all; and
-// with blocks inside that may nest `levels` deep.
-#[derive(Drop)]
-pub(crate) struct Scope<'s, 'a> {
-    pub(crate) copies: &'s [Copying<'a>],
-    pub(crate) in_block: bool,
-    pub(crate) levels: u8,
+impl<'a> Model for Unrolling<'a> {
+    ghost use Rattle.std.specs.Prelude.{◌+◌, ◌≤◌, length};
+    ghost use Rattle.rc_expand.specs.declared.limits.TheConstants.{MOST_LINES};
+    ghost use Rattle.rc_expand.specs.Unroll.{Unrolled};
+
+    ghost Value = { Unrolled };
+
+    ghost view = { λ u. record { lines = u.lines.items; copies = u.copy_count } };
+
+    ghost invariant = { λ u. length u.lines.items + u.copy_count ≤ MOST_LINES };
 }
 
-// The lines of a block up to its ROF, the ROF, and the lines after it.
-#[derive(Drop)]
-pub(crate) struct CutBlock<'a> {
-    pub(crate) lines: &'a [Head],
-    pub(crate) rof: &'a Head,
-    pub(crate) after: &'a [Head],
+impl<'a> Unrolling<'a> {
+    // Begins with nothing, without allocating.
+    pub(crate) fn new(alloc: Global) -> Self
+        ensures { result ≡ nothing }
+    {
+        Unrolling {
+            lines: Vec::new(alloc),
+            copy_count: 0,
+        }
+    }
+
+    // Adds a line. `TooManyLines` if there is no room.
+    pub(crate) fn push(&mut self, line: Reached<'a>) -> Result<(), ExpandFault>
+        ensures { Returns (λ u. self.new) result (with_line line.entry self.old) }
+    {
+        if self.lines.len() + self.copy_count >= MOST_LINES {
+            return Err(fault(line.number(), ExpandKind::TooManyLines));
+        }
+        self.lines.push(line)?;
+        Ok(())
+    }
+
+    // Counts a copy of the block whose FOR is at `line`. `TooManyLines` if there is no room.
+    pub(crate) fn add_copy(&mut self, line: u64) -> Result<(), ExpandFault>
+        ensures { Returns (λ u. self.new) result (with_copy line self.old) }
+    {
+        if self.lines.len() + self.copy_count >= MOST_LINES {
+            return Err(fault(line, ExpandKind::TooManyLines));
+        }
+        self.copy_count += 1;
+        Ok(())
+    }
+
+    pub(crate) fn into_lines(self) -> Vec<Reached<'a>>
+        ensures { result.items ≡ self.entry.lines }
+    {
+        self.lines
+    }
 }
 
 // A block to be copied `count` times, with the line of its FOR.
 #[derive(Drop)]
-pub(crate) struct Block<'a> {
+pub(crate) struct BlockCopies<'a> {
+    pub(crate) line: u64,
     pub(crate) counter: Option<&'a [u8]>,
     pub(crate) count: u16,
-    pub(crate) line: u64,
-    pub(crate) lines: &'a [Head],
+    pub(crate) inside: BlockSlice<'a>,
 }

@@ -1,5 +1,5 @@
 use Rattle.std.proofs.Common.{◌≡◌, ◌+◌, ◌*◌, drop}
-use Rattle.rc_expand.specs.Replace.{replaced_within, replaced_so_far}
+use Rattle.rc_expand.specs.Replace.{replaced_within}
 use Rattle.rc_expand.proofs.equ_tokens.+replace.Given as goal
 
 abbrev pub decreases-append_replaced : goal.decreases-append_replaced
@@ -11,5 +11,5 @@ decreases-append_one l = 2 * l.levels
 -- the tokens that are left make the whole
 abbrev pub invariant-append_replaced-loop-i : goal.invariant-append_replaced-loop-i
 invariant-append_replaced-loop-i l =
-    replaced_within l.context.source.now l.context.equs.now l.levels l.tokens (replaced_so_far l.fn.out)
-    ≡ replaced_within l.context.source.now l.context.equs.now l.levels (drop l.i l.tokens) (replaced_so_far l.out)
+    replaced_within l.context.source.now l.context.equs.now l.levels l.tokens l.fn.out
+    ≡ replaced_within l.context.source.now l.context.equs.now l.levels (drop l.i l.tokens) l.out

@@ -2,7 +2,7 @@ use Rattle.std.proofs.Common.{◌≡◌, sym, ◌∙◌, ap, map}
 use Rattle.rc_text.specs.Symbols.{name_of}
 use Rattle.rc_expand.specs.Shared.{shared}
 use Rattle.rc_expand.specs.NameTables.{names_in}
-use Rattle.rc_expand.specs.Replace.Lines.{own_labels, with_names, lines_so_far}
+use Rattle.rc_expand.specs.Replace.Lines.{own_labels, with_names, Replacement, line_replaced}
 use Rattle.rc_expand.proofs.Replacing.LineSteps.{line_made}
 use Rattle.rc_expand.proofs.replace.replace_line.Goals as goal
 
@@ -12,5 +12,7 @@ returns-in_ok-push-in_default c =
     let s = k.source in
     let h = c.args.head.now in
     let own : c.as_slice-2.result.now ≡ own_labels s h.labels = c.as_slice-2.ensures ∙ (c.in_ok-labels.ensures.own ∙ ap (own_labels s) c.as_slice.ensures) in
-    let names = ap (λ ts. with_names k h.number (map (name_of s) ts) (names_in c.args.out.now.names)) (sym own) ∙ c.in_ok-define_names.ensures in
-    line_made k h (lines_so_far c.args.out.now) (names_in c.define_names.new.names) c.in_ok-line-in_default.line c.push.new.self.items names c.in_default.not-Equ c.in_ok-line-in_default.ensures c.in_ok-push-in_default.ensures.items
+    let old : Replacement = record { names = names_in c.out.inside.names; lines = c.out.inside.lines.items } in
+    let names = ap (λ ts. with_names k h.number (map (name_of s) ts) old.names) (sym own) ∙ c.in_ok-define_names.ensures in
+    ap (line_replaced k h) (sym c.out.view_is)
+    ∙ line_made k h old (names_in c.define_names.new.names) c.in_ok-line-in_default.line c.push.new.self.items names c.in_default.not-Equ c.in_ok-line-in_default.ensures c.in_ok-push-in_default.ensures.items

@@ -1,8 +1,8 @@
-use Rattle.std.proofs.Common.{◌∙◌, arith, refl}
+use Rattle.std.proofs.Common.{◌∙◌, ap, sym, arith, refl}
+use Rattle.std.specs.Prelude.{Ok}
 use Rattle.std.proofs.lemmas.Result.{err_from_is_err_and}
 use Rattle.rc_expand.specs.Shared.{shared}
-use Rattle.rc_expand.specs.Replace.Lines.{lines_so_far}
-use Rattle.rc_expand.specs.Unroll.Reached.{reached_lines}
+use Rattle.rc_expand.specs.Replace.Lines.{Replacement}
 use Rattle.rc_expand.proofs.Replacing.LineSteps.{line_next, line_fails, lines_end, all_replaced}
 use Rattle.rc_expand.proofs.replace.replace_lines.Goals as goal
 
@@ -10,22 +10,23 @@ pub loop-i-preserved : goal.loop-i-preserved
 loop-i-preserved c =
     let k = shared c.args.context.now in
     c.loop-i.invariant
-    ∙ line_next k c.args.reached.now c.loop-i.i (lines_so_far c.loop-i.out) c.index-reached-i.result c.loop-i-test.true c.index-reached-i.is
-    (lines_so_far c.replace_reached.new.out) c.in_ok-replace_reached.ensures
+    ∙ line_next k c.args.reached.now c.loop-i.i c.loop-i.out c.index-reached-i.result c.loop-i-test.true c.index-reached-i.is
+    c.replace_reached.new.out c.in_ok-replace_reached.ensures
 
 pub returns-in_err-replace_reached : goal.returns-in_err-replace_reached
 returns-in_err-replace_reached c =
     let k = shared c.args.context.now in
     let p = err_from_is_err_and c.from_residual.result c.from_residual.ensures.1 in
-    rw (p.1, p.2) (λ h. all_replaced k (reached_lines k.source c.args.reached.now) _ _
+    rw (p.1, p.2) (λ h. all_replaced k c.args.reached.now _ _
     (c.loop-i.invariant
-    ∙ line_fails k c.args.reached.now c.loop-i.i (lines_so_far c.loop-i.out) c.index-reached-i.result c.loop-i-test.true c.index-reached-i.is
+    ∙ line_fails k c.args.reached.now c.loop-i.i c.loop-i.out c.index-reached-i.result c.loop-i-test.true c.index-reached-i.is
     c.in_err-replace_reached.field-0.0 (c.in_err-replace_reached.ensures h))
     refl)
 
 pub returns : goal.returns
 returns c =
     let k = shared c.args.context.now in
-    all_replaced k (reached_lines k.source c.args.reached.now) _ _
-    (c.loop-i.invariant ∙ lines_end k c.args.reached.now c.loop-i.i (lines_so_far c.loop-i.out) (omega (arith, c.loop-i-test.false)))
+    all_replaced k c.args.reached.now _ _
+    (c.loop-i.invariant ∙ lines_end k c.args.reached.now c.loop-i.i c.loop-i.out (omega (arith, c.loop-i-test.false)))
     refl
+    ∙ ap (λ (r : Replacement). Ok r.lines) (sym c.out-2.view_is)

@@ -1,8 +1,10 @@
-use Rattle.std.proofs.Common.{◌≡◌, ◌≤◌, drop}
+use Rattle.std.proofs.Common.{◌≡◌, ◌≤◌, ◌<◌, length, drop}
+use Rattle.std.specs.List.{AllByRecursion}
 use Rattle.rc_expand.specs.Limits.{DEEPEST_BLOCK}
-use Rattle.rc_expand.specs.Heads.Nesting.{nesting_fault}
+use Rattle.rc_expand.proofs.Reading.BlockSteps.{SoFar}
 use Rattle.rc_expand.proofs.heads.blocks.check_blocks.Given as goal
 
 abbrev pub invariant-loop-i : goal.invariant-loop-i
 invariant-loop-i l =
-    (l.open_blocks ≤ DEEPEST_BLOCK) × (nesting_fault 0 0 l.heads ≡ nesting_fault l.open_blocks l.outermost (drop l.i l.heads))
+    (length l.distances.items ≡ l.i) × (length l.open.items ≤ DEEPEST_BLOCK) × AllByRecursion (λ start. start < l.i) l.open.items
+    × SoFar l.heads l.open.items l.distances.items l.outermost (drop l.i l.heads)
