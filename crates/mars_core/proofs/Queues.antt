@@ -1,7 +1,7 @@
 -- Queues of tasks.
-use Rattle.std.proofs.Common.{◌≡◌, ℕ, ◌<◌, ◌≤◌, arith, List, [], ◌∷◌, ◌++◌, length, drop, true, false, refl, sym, ◌∙◌, subst}
+use Rattle.std.proofs.Common.{◌≡◌, ℕ, ◌<◌, ◌≤◌, arith, List, [], ◌∷◌, ◌++◌, length, drop, true, false, refl, sym, ◌∙◌, ap, subst}
 use Rattle.std.proofs.lemmas.Bool.Decides.{nat_tests}
-use Rattle.std.specs.Prelude.{Option, Some, None, slice_get, slice_index, nat_lt, if◌then◌else◌}
+use Rattle.std.specs.Prelude.{Option, Some, None, slice_get, slice_index, unwrap_or, nat_lt, if◌then◌else◌}
 use Rattle.std.proofs.lemmas.List.Elements.{All-tail, All-drop, All-push, All-head, All-get_or}
 use Rattle.mars_core.specs.Core.{AreTasks}
 use Rattle.mars_core.specs.State.{appended}
@@ -34,6 +34,11 @@ room (x ∷ xs) limit some le = omega arith
 
 pub room_test : (xs : List ℕ) (limit : ℕ) → 0 < length xs → length xs ≤ limit → nat_lt (length (drop 1 xs)) limit ≡ true
 room_test xs limit some le = let l : length (drop 1 xs) < limit = room xs limit some le in grind (arith, nat_tests)
+
+-- the first task of a queue that has one
+pub first_of_some : (xs : List ℕ) (o : Option ℕ) (x : ℕ) → 0 < length xs → o ≡ slice_get xs 0 → x ≡ unwrap_or o 0 → Some x ≡ slice_get xs 0
+first_of_some [] o x some h e = absurd (omega arith)
+first_of_some (y ∷ ys) o x some h e = ap Some (e ∙ ap (λ p. unwrap_or p 0) h)
 
 -- each task is below the size
 pub item_below : (m : ℕ) (tasks : List ℕ) (i x : ℕ) → AreTasks m tasks → i < length tasks → x ≡ slice_index tasks i → x < m

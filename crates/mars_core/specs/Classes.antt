@@ -1,6 +1,6 @@
--- The class of an instruction is one of 128. Each of the first 64 is one of the frequent
--- instructions, but for its numbers: docs/HOT_LOOP.md says how these were chosen. Each of the others
--- gives the modes of both operands, and nothing else.
+-- There are 128 classes of instructions. Each of the first 64 is a frequent instruction, all but its
+-- numbers; docs/HOT_LOOP.md says how these were chosen. Each of the other 64 says the modes of both
+-- operands, and nothing else.
 use Rattle.std.specs.Prelude.{◌≡◌, ℕ, ◌+◌, ◌*◌, ◌/◌, ◌<◌, ◌≤◌, ◌==◌, if◌then◌else◌}
 use Rattle.rc_instr.specs.Instruction.{opcode_number, modifier_number, mode_number}
 use Rattle.rc_instr.specs.declared.instruction.Instruction.{Instruction}
@@ -22,8 +22,8 @@ pub record IsModed (a_mode b_mode : ℕ) (i : Instruction) : Type 0 where
 abbrev pub key_of : Instruction → ℕ
 key_of i = modifier_number i.modifier + 8 * opcode_number i.opcode + 256 * (mode_number i.a_mode + 8 * mode_number i.b_mode)
 
--- Classes 40 to 127 of `class_of_key`, which follows. They are apart since one search does not prove
--- the code of a table of 64.
+-- Classes 40 to 127 of `class_of_key`. They have a definition of their own, since the prover does
+-- not search through a table of 64 at once.
 unfoldable pub further_class_of_key : ℕ → ℕ
 further_class_of_key k =
     -- table of further keys

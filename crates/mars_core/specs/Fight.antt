@@ -1,6 +1,7 @@
 -- The outcome of a fight: its points (pMARS, for two warriors) and its turns.
 use Rattle.std.specs.Prelude.{◌≡◌, ℕ, zero, suc, ◌*◌, ◌<◌, ◌≤◌, List, Bool, true, false, ◌||◌, nat_lt, ◌==◌, if◌then◌else◌, length, ◌⊎◌}
 use Rattle.rc_instr.specs.declared.instruction.Instruction.{Instruction}
+use Rattle.mars_core.specs.Queue.{Queue}
 use Rattle.mars_core.specs.State.{State, seen_from, play_of}
 use Rattle.mars_core.specs.declared.side.Side.{Side}
 use Rattle.mars_core.specs.declared.arena.Outcome.{Outcome}
@@ -23,15 +24,15 @@ points_in s = if length s.opponent == 0 then 3 else if length s.candidate == 0 t
 unfoldable pub turns_of : ℕ → State → Side → ℕ → ℕ
 turns_of limit start first cycles = least (λ k. is_over (play_of limit start first k)) (2 * cycles)
 
--- The number of turns within the cycles, from a core and the tasks of the side that moves first,
--- `mine`, and of the other one, whichever these sides are.
-abbrev pub AreTurns : (limit : ℕ) → List Instruction → (mine theirs : List ℕ) → (cycles turns : ℕ) → Type 0
-AreTurns limit core mine theirs cycles turns = (first : Side) → turns ≡ turns_of limit (seen_from first core mine theirs) first cycles
+-- The number of turns within the cycles, from a core and the queues of the side that moves first,
+-- `mine`, and of the other one, whichever these sides are. Both queues have the same capacity.
+abbrev pub AreTurns : List Instruction → (mine theirs : Queue) → (cycles turns : ℕ) → Type 0
+AreTurns core mine theirs cycles turns = (first : Side) → turns ≡ turns_of mine.capacity (seen_from first core mine.items theirs.items) first cycles
 
 -- The core and the tasks that these turns leave.
-abbrev pub TurnsLeave : (limit : ℕ) → List Instruction → (mine theirs : List ℕ) → (turns : ℕ) → List Instruction → (my_new their_new : List ℕ) → Type 0
-TurnsLeave limit core mine theirs turns core_new my_new their_new =
-    (first : Side) → seen_from first core_new my_new their_new ≡ play_of limit (seen_from first core mine theirs) first turns
+abbrev pub TurnsLeave : List Instruction → (mine theirs : Queue) → (turns : ℕ) → List Instruction → (my_new their_new : Queue) → Type 0
+TurnsLeave core mine theirs turns core_new my_new their_new =
+    (first : Side) → seen_from first core_new my_new.items their_new.items ≡ play_of mine.capacity (seen_from first core mine.items theirs.items) first turns
 
 -- The points are read off the state after these turns.
 unfoldable pub outcome_of : ℕ → State → Side → ℕ → Outcome

@@ -32,8 +32,8 @@ pub struct Outcome {
 #[derive(Drop)]
 pub struct Arena<C: Cells> {
     cells: C,
-    candidate: Tasks,
-    opponent: Tasks,
+    candidate: C::Queue,
+    opponent: C::Queue,
     snapshot: Snapshot<C>,
     turns: u32,
     fights: u64,
@@ -45,9 +45,9 @@ impl<C: Cells> Model for Arena<C> {
 
     ghost Value = { ArenaView };
 
-    ghost view = { λ a. arena a.rules (C.items a.cells) a.candidate.items a.opponent.items a.turns a.fights (C.marks a.cells) };
+    ghost view = { λ a. arena a.rules (C.items a.cells) (C.Queue.held a.candidate).items (C.Queue.held a.opponent).items a.turns a.fights (C.marks a.cells) };
 
-    ghost invariant = { λ a. IsArena a.rules (C.items a.cells) a.candidate a.opponent a.snapshot a.turns };
+    ghost invariant = { λ a. IsArena a.rules (C.items a.cells) (C.Queue.held a.candidate) (C.Queue.held a.opponent) a.snapshot a.turns };
 }
 
 impl<C: Cells> Arena<C> {
@@ -235,8 +235,8 @@ impl<C: Cells + Drop> Arena<C> {
         ensures fights { IfOk result (λ a. a.fights ≡ 0) }
         ensures marks { IfOk result (λ a. a.marks ≡ C.marks cells) }
     {
-        let candidate = Tasks::with_capacity(alloc, rules.tasks() as usize)?;
-        let opponent = Tasks::with_capacity(alloc, rules.tasks() as usize)?;
+        let candidate = C::Queue::with_capacity(alloc, rules.tasks() as usize)?;
+        let opponent = C::Queue::with_capacity(alloc, rules.tasks() as usize)?;
         let snapshot = Snapshot::over(alloc, spare)?;
         Ok(Arena {
             cells,

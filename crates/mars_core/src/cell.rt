@@ -30,7 +30,7 @@ pub trait Cell: Copy {
     fn class(self) -> u64
         ensures { IsClassOf (held self) result };
 
-    /// Returns the numbers of the opcode and of the modifier, as one number.
+    /// Returns 8 times the number of the opcode, plus the number of the modifier.
     fn code(self) -> u64
         ensures small { result < 128 }
         ensures opcode { opcode_of (result / 8) ≡ (held self).opcode }

@@ -6,6 +6,8 @@ ghost use Rattle.rc_instr.specs.Warrior.{IsBelow};
 ghost use Rattle.mars_core.specs.Core.{cell_at, filled_in, loaded_at, IsCore};
 
 use crate::cell::Cell;
+use crate::plain_queue::PlainQueue;
+use crate::tasks::Tasks;
 use rc_instr::{Instruction, OutOfMemory};
 use std::alloc::Global;
 use std::mem;
@@ -17,6 +19,8 @@ use std::mem;
 pub trait Cells {
     /// A cell as the store keeps it.
     type Kept: Cell;
+    /// The queue of tasks that goes with the store.
+    type Queue: Tasks;
 
     /// The cells, in the order of their addresses.
     ghost items: { Self → List Instruction };
@@ -123,6 +127,8 @@ impl PlainCells {
 
 impl Cells for PlainCells {
     type Kept = Instruction;
+
+    type Queue = PlainQueue;
 
     ghost items = { λ s. s.cells.items };
 

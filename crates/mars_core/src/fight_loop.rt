@@ -20,21 +20,21 @@ const STRETCH: u32 = 2000;
 #[inline(never)]
 fn alternate<C: Cells>(
     cells: &mut C,
-    mine: &mut Tasks,
-    theirs: &mut Tasks,
+    mine: &mut C::Queue,
+    theirs: &mut C::Queue,
     size: u32,
     cycles: u32,
 ) -> u32
     requires core { IsCore size (C.items cells.old) }
-    requires mine { AreTasks size mine.old.items }
-    requires theirs { AreTasks size theirs.old.items }
-    requires room { theirs.old.capacity ≡ mine.old.capacity }
+    requires mine { AreTasks size (C.Queue.held mine.old).items }
+    requires theirs { AreTasks size (C.Queue.held theirs.old).items }
+    requires room { (C.Queue.held theirs.old).capacity ≡ (C.Queue.held mine.old).capacity }
     requires cycles { cycles ≤ 1000000 }
-    ensures turns { AreTurns mine.old.capacity (C.items cells.old) mine.old.items theirs.old.items cycles result }
-    ensures state { TurnsLeave mine.old.capacity (C.items cells.old) mine.old.items theirs.old.items result (C.items cells.new) mine.new.items theirs.new.items }
+    ensures turns { AreTurns (C.items cells.old) (C.Queue.held mine.old) (C.Queue.held theirs.old) cycles result }
+    ensures state { TurnsLeave (C.items cells.old) (C.Queue.held mine.old) (C.Queue.held theirs.old) result (C.items cells.new) (C.Queue.held mine.new) (C.Queue.held theirs.new) }
     ensures core { IsCore size (C.items cells.new) }
-    ensures mine { AreTasks size mine.new.items × (mine.new.capacity ≡ mine.old.capacity) }
-    ensures theirs { AreTasks size theirs.new.items × (theirs.new.capacity ≡ theirs.old.capacity) }
+    ensures mine { AreTasks size (C.Queue.held mine.new).items × ((C.Queue.held mine.new).capacity ≡ (C.Queue.held mine.old).capacity) }
+    ensures theirs { AreTasks size (C.Queue.held theirs.new).items × ((C.Queue.held theirs.new).capacity ≡ (C.Queue.held theirs.old).capacity) }
     ensures within { result ≤ 2 * cycles }
     ensures marks { C.marks cells.new ≤ C.marks cells.old + 3 * result }
 {
@@ -47,21 +47,21 @@ fn alternate<C: Cells>(
 #[inline(never)]
 fn take_turns<C: Cells>(
     mut cells: C,
-    mine: &mut Tasks,
-    theirs: &mut Tasks,
+    mine: &mut C::Queue,
+    theirs: &mut C::Queue,
     size: u32,
     cycles: u32,
 ) -> (C, u32)
     requires core { IsCore size (C.items cells) }
-    requires mine { AreTasks size mine.old.items }
-    requires theirs { AreTasks size theirs.old.items }
-    requires room { theirs.old.capacity ≡ mine.old.capacity }
+    requires mine { AreTasks size (C.Queue.held mine.old).items }
+    requires theirs { AreTasks size (C.Queue.held theirs.old).items }
+    requires room { (C.Queue.held theirs.old).capacity ≡ (C.Queue.held mine.old).capacity }
     requires cycles { cycles ≤ 1000000 }
-    ensures turns { AreTurns mine.old.capacity (C.items cells) mine.old.items theirs.old.items cycles result.1 }
-    ensures state { TurnsLeave mine.old.capacity (C.items cells) mine.old.items theirs.old.items result.1 (C.items result.0) mine.new.items theirs.new.items }
+    ensures turns { AreTurns (C.items cells) (C.Queue.held mine.old) (C.Queue.held theirs.old) cycles result.1 }
+    ensures state { TurnsLeave (C.items cells) (C.Queue.held mine.old) (C.Queue.held theirs.old) result.1 (C.items result.0) (C.Queue.held mine.new) (C.Queue.held theirs.new) }
     ensures core { IsCore size (C.items result.0) }
-    ensures mine { AreTasks size mine.new.items × (mine.new.capacity ≡ mine.old.capacity) }
-    ensures theirs { AreTasks size theirs.new.items × (theirs.new.capacity ≡ theirs.old.capacity) }
+    ensures mine { AreTasks size (C.Queue.held mine.new).items × ((C.Queue.held mine.new).capacity ≡ (C.Queue.held mine.old).capacity) }
+    ensures theirs { AreTasks size (C.Queue.held theirs.new).items × ((C.Queue.held theirs.new).capacity ≡ (C.Queue.held theirs.old).capacity) }
     ensures within { result.1 ≤ 2 * cycles }
     ensures marks { C.marks result.0 ≤ C.marks cells + 3 * result.1 }
 {
@@ -87,23 +87,23 @@ fn take_turns<C: Cells>(
 // again and again, so the fight is a tie.
 pub(crate) fn decide<C: Cells>(
     cells: &mut C,
-    mine: &mut Tasks,
-    theirs: &mut Tasks,
+    mine: &mut C::Queue,
+    theirs: &mut C::Queue,
     snapshot: &mut Snapshot<C>,
     size: u32,
     cycles: u32,
 ) -> u32
     requires core { IsCore size (C.items cells.old) }
-    requires mine { AreTasks size mine.old.items }
-    requires theirs { AreTasks size theirs.old.items }
-    requires room { theirs.old.capacity ≡ mine.old.capacity }
+    requires mine { AreTasks size (C.Queue.held mine.old).items }
+    requires theirs { AreTasks size (C.Queue.held theirs.old).items }
+    requires room { (C.Queue.held theirs.old).capacity ≡ (C.Queue.held mine.old).capacity }
     requires snapshot { length snapshot.old.core ≡ size }
     requires cycles { cycles ≤ 1000000 }
-    ensures turns { AreTurns mine.old.capacity (C.items cells.old) mine.old.items theirs.old.items cycles result }
-    ensures state { TurnsLeave mine.old.capacity (C.items cells.old) mine.old.items theirs.old.items result (C.items cells.new) mine.new.items theirs.new.items }
+    ensures turns { AreTurns (C.items cells.old) (C.Queue.held mine.old) (C.Queue.held theirs.old) cycles result }
+    ensures state { TurnsLeave (C.items cells.old) (C.Queue.held mine.old) (C.Queue.held theirs.old) result (C.items cells.new) (C.Queue.held mine.new) (C.Queue.held theirs.new) }
     ensures core { IsCore size (C.items cells.new) }
-    ensures mine { AreTasks size mine.new.items × (mine.new.capacity ≡ mine.old.capacity) }
-    ensures theirs { AreTasks size theirs.new.items × (theirs.new.capacity ≡ theirs.old.capacity) }
+    ensures mine { AreTasks size (C.Queue.held mine.new).items × ((C.Queue.held mine.new).capacity ≡ (C.Queue.held mine.old).capacity) }
+    ensures theirs { AreTasks size (C.Queue.held theirs.new).items × ((C.Queue.held theirs.new).capacity ≡ (C.Queue.held theirs.old).capacity) }
     ensures snapshot { length snapshot.new.core ≡ size }
     ensures within { result ≤ 2 * cycles }
     ensures marks { C.marks cells.new ≤ C.marks cells.old + 3 * result }

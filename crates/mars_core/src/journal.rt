@@ -6,6 +6,7 @@ ghost use Rattle.mars_core.specs.Store.{IsStore, ListsWritten};
 
 use crate::cells::Cells;
 use crate::packed::PackedCell;
+use crate::ring::Ring;
 use rc_instr::OutOfMemory;
 use std::alloc::Global;
 use std::marker::Model;
@@ -103,6 +104,8 @@ impl PackedCells {
 
 impl Cells for PackedCells {
     type Kept = PackedCell;
+
+    type Queue = Ring;
 
     ghost items = { λ s. s.items };
 

@@ -16,6 +16,8 @@ mod number;
 mod operand;
 mod packed;
 mod pairs;
+mod plain_queue;
+mod ring;
 mod side;
 mod snapshot;
 mod tasks;

@@ -4,7 +4,7 @@ ghost use Rattle.mars_core.specs.Snapshot.{snapshot_view, IsBack};
 
 use crate::cell::Cell;
 use crate::cells::Cells;
-use crate::tasks::Tasks;
+use crate::tasks::{Tasks, is_same};
 use rc_instr::OutOfMemory;
 use std::alloc::Global;
 use std::marker::Model;
@@ -18,8 +18,8 @@ const FEW: usize = 8;
 pub(crate) struct Snapshot<C: Cells> {
     cells: C,
     // The tasks of the side that moves first, and of the other side.
-    mine: Tasks,
-    theirs: Tasks,
+    mine: C::Queue,
+    theirs: C::Queue,
     // After how many cycles it was taken, 0 if none was taken in this fight.
     cycles: u32,
     // After how many cycles the next one is to be taken.
@@ -33,9 +33,9 @@ impl<C: Cells> Model for Snapshot<C> {
 
     ghost Value = { SnapshotView };
 
-    ghost view = { λ s. snapshot_view (C.items s.cells) s.mine.items s.theirs.items s.cycles };
+    ghost view = { λ s. snapshot_view (C.items s.cells) (C.Queue.held s.mine).items (C.Queue.held s.theirs).items s.cycles };
 
-    ghost invariant = { λ s. HasRoom s.mine s.theirs };
+    ghost invariant = { λ s. HasRoom (C.Queue.held s.mine) (C.Queue.held s.theirs) };
 }
 
 impl<C: Cells + Drop> Snapshot<C> {
@@ -43,8 +43,8 @@ impl<C: Cells + Drop> Snapshot<C> {
     pub(crate) fn over(alloc: Global, cells: C) -> Result<Snapshot<C>, OutOfMemory>
         ensures { IfOk result (λ s. s.core ≡ C.items cells) }
     {
-        let mine = Tasks::with_capacity(alloc, FEW)?;
-        let theirs = Tasks::with_capacity(alloc, FEW)?;
+        let mine = C::Queue::with_capacity(alloc, FEW)?;
+        let theirs = C::Queue::with_capacity(alloc, FEW)?;
         Ok(Snapshot {
             cells,
             mine,
@@ -70,16 +70,16 @@ impl<C: Cells> Snapshot<C> {
     pub(crate) fn period(
         &mut self,
         cells: &C,
-        mine: &Tasks,
-        theirs: &Tasks,
+        mine: &C::Queue,
+        theirs: &C::Queue,
         cycles: u32,
     ) -> Option<u32>
         requires size { length (C.items cells.now) ≡ length self.old.core }
         requires cycles { self.old.cycles < cycles }
-        ensures back { IfSome result (IsBack self.old (C.items cells.now) mine.now.items theirs.now.items cycles) }
+        ensures back { IfSome result (IsBack self.old (C.items cells.now) (C.Queue.held mine.now).items (C.Queue.held theirs.now).items cycles) }
         ensures kept { self.new ≡ self.old }
     {
-        if self.cycles == 0 || !self.mine.is_same(mine) || !self.theirs.is_same(theirs) {
+        if self.cycles == 0 || !is_same(&self.mine, mine) || !is_same(&self.theirs, theirs) {
             return None;
         }
         self.differs = differing_address(&self.cells, cells, self.differs);
@@ -92,10 +92,10 @@ impl<C: Cells> Snapshot<C> {
     // Takes the state after `cycles` cycles, in place of the one taken before, if that is due and
     // both sides have few tasks. Each is kept until four times its cycles were made, so a period of
     // any length is found; with four times and not twice there are fewer states to copy.
-    pub(crate) fn renew(&mut self, cells: &C, mine: &Tasks, theirs: &Tasks, cycles: u32)
+    pub(crate) fn renew(&mut self, cells: &C, mine: &C::Queue, theirs: &C::Queue, cycles: u32)
         requires size { length (C.items cells.now) ≡ length self.old.core }
         requires cycles { cycles ≤ 1000000 }
-        ensures { (self.new ≡ self.old) ⊎ (self.new ≡ snapshot_view (C.items cells.now) mine.now.items theirs.now.items cycles) }
+        ensures { (self.new ≡ self.old) ⊎ (self.new ≡ snapshot_view (C.items cells.now) (C.Queue.held mine.now).items (C.Queue.held theirs.now).items cycles) }
     {
         if cycles < self.due || mine.len() > FEW || theirs.len() > FEW {
             return;

@@ -26,13 +26,13 @@ pub(crate) struct Executed {
 // Takes one turn of the side with these tasks. Changes nothing if there are none.
 #[tactic(auto, using(crate::proofs::Queues::queues), unfolding(crate::specs::State::core_after, crate::specs::State::tasks_after))]
 #[inline(always)]
-pub(crate) fn take_turn<C: Cells>(cells: &mut C, tasks: &mut Tasks, size: u32)
+pub(crate) fn take_turn<C: Cells>(cells: &mut C, tasks: &mut C::Queue, size: u32)
     requires core { IsCore size (C.items cells.old) }
-    requires tasks { AreTasks size tasks.old.items }
-    ensures cells { C.items cells.new ≡ core_after (C.items cells.old) tasks.old.items }
-    ensures tasks { tasks.new ≡ queue (tasks_after tasks.old.capacity (C.items cells.old) tasks.old.items) tasks.old.capacity }
+    requires tasks { AreTasks size (C.Queue.held tasks.old).items }
+    ensures cells { C.items cells.new ≡ core_after (C.items cells.old) (C.Queue.held tasks.old).items }
+    ensures tasks { C.Queue.held tasks.new ≡ queue (tasks_after (C.Queue.held tasks.old).capacity (C.items cells.old) (C.Queue.held tasks.old).items) (C.Queue.held tasks.old).capacity }
     ensures core { IsCore size (C.items cells.new) }
-    ensures below { AreTasks size tasks.new.items }
+    ensures below { AreTasks size (C.Queue.held tasks.new).items }
     ensures marks { C.marks cells.new ≤ C.marks cells.old + 3 }
 {
     if tasks.is_empty() {
@@ -51,18 +51,18 @@ pub(crate) fn take_turn<C: Cells>(cells: &mut C, tasks: &mut Tasks, size: u32)
 #[inline(always)]
 pub(crate) fn next_turn<C: Cells, const PLACE: u64>(
     cells: &mut C,
-    tasks: &mut Tasks,
+    tasks: &mut C::Queue,
     size: u32,
     pc: u32,
 ) -> Option<u32>
     requires core { IsCore size (C.items cells.old) }
-    requires tasks { AreTasks size tasks.old.items }
-    requires pc { Some pc ≡ slice_get tasks.old.items 0 }
-    ensures cells { C.items cells.new ≡ core_after (C.items cells.old) tasks.old.items }
-    ensures tasks { tasks.new ≡ queue (tasks_after tasks.old.capacity (C.items cells.old) tasks.old.items) tasks.old.capacity }
-    ensures next { result ≡ slice_get tasks.new.items 0 }
+    requires tasks { AreTasks size (C.Queue.held tasks.old).items }
+    requires pc { Some pc ≡ slice_get (C.Queue.held tasks.old).items 0 }
+    ensures cells { C.items cells.new ≡ core_after (C.items cells.old) (C.Queue.held tasks.old).items }
+    ensures tasks { C.Queue.held tasks.new ≡ queue (tasks_after (C.Queue.held tasks.old).capacity (C.items cells.old) (C.Queue.held tasks.old).items) (C.Queue.held tasks.old).capacity }
+    ensures next { result ≡ slice_get (C.Queue.held tasks.new).items 0 }
     ensures core { IsCore size (C.items cells.new) }
-    ensures below { AreTasks size tasks.new.items }
+    ensures below { AreTasks size (C.Queue.held tasks.new).items }
     ensures marks { C.marks cells.new ≤ C.marks cells.old + 3 }
 {
     let cell = read(cells, size, pc);
@@ -70,9 +70,10 @@ pub(crate) fn next_turn<C: Cells, const PLACE: u64>(
     requeue(tasks, size, pc, executed)
 }
 
-// Executes the instruction at `pc`, which is `cell`, by its class (1994 draft). A test before the
-// match is as likely to hold as not, to the compiler; a last arm of the match would be rare, and
-// nothing below it inlined.
+// Executes the instruction at `pc`, which is `cell`, by its class (1994 draft).
+//
+// A class of modes is tested for before the match, and is not its last arm: the compiler would take
+// that arm for a rare one, and inline nothing below it.
 #[inline(always)]
 fn execute<C: Cells, const PLACE: u64>(
     cells: &mut C,
@@ -192,14 +193,14 @@ fn execute_by_class<C: Cells>(
 // there is room. Returns the task that is first afterwards.
 #[tactic(auto, using(crate::proofs::Queues::room_test))]
 #[inline(always)]
-fn requeue(tasks: &mut Tasks, size: u32, pc: u32, executed: Executed) -> Option<u32>
+fn requeue<Q: Tasks>(tasks: &mut Q, size: u32, pc: u32, executed: Executed) -> Option<u32>
     requires size { (2 < size) × (size ≤ 65535) }
     requires pc { pc < size }
     requires jump { executed.jump < size }
-    requires some { 0 < length tasks.old.items }
-    ensures tasks { tasks.new ≡ queue (appended tasks.old.capacity (drop 1 tasks.old.items) (addresses size pc executed.jump executed.queued)) tasks.old.capacity }
+    requires some { 0 < length (Q.held tasks.old).items }
+    ensures tasks { Q.held tasks.new ≡ queue (appended (Q.held tasks.old).capacity (drop 1 (Q.held tasks.old).items) (addresses size pc executed.jump executed.queued)) (Q.held tasks.old).capacity }
     ensures below { AreTasks size (addresses size pc executed.jump executed.queued) }
-    ensures next { result ≡ slice_get tasks.new.items 0 }
+    ensures next { result ≡ slice_get (Q.held tasks.new).items 0 }
 {
     match executed.queued {
         Queued::Nothing => tasks.remove_first(),

@@ -11,17 +11,17 @@ abbrev pub invariant-loop-done : goal.invariant-loop-done
 invariant-loop-done g l =
     let items = g.C.Cells.items in
     record {
-      going : (first : Side) → IsGoing l.fn.mine.capacity (seen_from first (items l.fn.cells) l.fn.mine.items l.fn.theirs.items) first
-          (2 * l.done) (items l.cells) l.mine.items l.theirs.items;
-      earlier : (first : Side) → IsEarlier l.fn.mine.capacity (seen_from first (items l.fn.cells) l.fn.mine.items l.fn.theirs.items) first l.snapshot;
+      going : (first : Side) → IsGoing (g.C.Queue.Tasks.held l.fn.mine).capacity (seen_from first (items l.fn.cells) (g.C.Queue.Tasks.held l.fn.mine).items (g.C.Queue.Tasks.held l.fn.theirs).items) first
+          (2 * l.done) (items l.cells) (g.C.Queue.Tasks.held l.mine).items (g.C.Queue.Tasks.held l.theirs).items;
+      earlier : (first : Side) → IsEarlier (g.C.Queue.Tasks.held l.fn.mine).capacity (seen_from first (items l.fn.cells) (g.C.Queue.Tasks.held l.fn.mine).items (g.C.Queue.Tasks.held l.fn.theirs).items) first l.snapshot;
       before : l.snapshot.cycles ≤ l.done;
       snapshot_size : length l.snapshot.core ≡ l.size;
       within : l.done ≤ l.cycles;
       core : IsCore l.size (items l.cells);
-      mine_below : AreTasks l.size l.mine.items;
-      theirs_below : AreTasks l.size l.theirs.items;
-      mine_room : l.mine.capacity ≡ l.fn.mine.capacity;
-      theirs_room : l.theirs.capacity ≡ l.fn.mine.capacity;
+      mine_below : AreTasks l.size (g.C.Queue.Tasks.held l.mine).items;
+      theirs_below : AreTasks l.size (g.C.Queue.Tasks.held l.theirs).items;
+      mine_room : (g.C.Queue.Tasks.held l.mine).capacity ≡ (g.C.Queue.Tasks.held l.fn.mine).capacity;
+      theirs_room : (g.C.Queue.Tasks.held l.theirs).capacity ≡ (g.C.Queue.Tasks.held l.fn.mine).capacity;
       marks : g.C.Cells.marks l.cells ≤ g.C.Cells.marks l.fn.cells + 6 * l.done;
     }
 

@@ -10,13 +10,13 @@ use Rattle.mars_core.proofs.fight_loop.take_turns.Goals as goal
 -- a side has no task from the start
 pub returns-then-is_empty-clause-turns : goal.returns-then-is_empty-clause-turns
 returns-then-is_empty-clause-turns g c first =
-    let start = goes_from_the_start c.args.mine.now.capacity first (g.C.Cells.items c.args.cells) c.args.mine.now.items c.args.theirs.now.items in
+    let start = goes_from_the_start (g.C.Queue.Tasks.held c.args.mine.now).capacity first (g.C.Cells.items c.args.cells) (g.C.Queue.Tasks.held c.args.mine.now).items (g.C.Queue.Tasks.held c.args.theirs.now).items in
     elim c.then-is_empty.branch [
       | then-is_empty-via-then-is_empty w ↦
-          let none : length c.args.mine.now.items ≡ 0 = eqb-true _ _ (sym c.is_empty.ensures ∙ w.if-is_empty.true) in
+          let none : length (g.C.Queue.Tasks.held c.args.mine.now).items ≡ 0 = eqb-true _ _ (sym c.is_empty.ensures ∙ w.if-is_empty.true) in
           sym (ends_here _ _ first c.args.cycles 0 _ _ _ (omega arith) start (over_mine first _ _ _ none))
       | then-is_empty-via-else-is_empty+then-is_empty-2 w ↦
-          let none : length c.args.theirs.now.items ≡ 0 = eqb-true _ _ (sym w.is_empty-else-is_empty.ensures ∙ w.if-is_empty-2.true) in
+          let none : length (g.C.Queue.Tasks.held c.args.theirs.now).items ≡ 0 = eqb-true _ _ (sym w.is_empty-else-is_empty.ensures ∙ w.if-is_empty-2.true) in
           sym (ends_here _ _ first c.args.cycles 0 _ _ _ (omega arith) start (over_theirs first _ _ _ none))
     ]
 
@@ -26,7 +26,7 @@ returns-in_default-clause-turns g c first =
     let h = c.loop-cycle.invariant in
     let moved = mine_moved _ _ _ first c.loop-cycle.cycle _ _ _ _ _ h.mine_room c.next_turn.ensures.cells
     (ap (λ b. b.items) c.next_turn.ensures.tasks) h.mine_some h.theirs_some (h.going first) in
-    let none : length c.next_turn.new.tasks.items ≡ 0 = none_left _ _ c.next_turn.ensures.next c.in_default.not-Some in
+    let none : length (g.C.Queue.Tasks.held c.next_turn.new.tasks).items ≡ 0 = none_left _ _ c.next_turn.ensures.next c.in_default.not-Some in
     sym (ends_here _ _ first c.args.cycles (2 * c.loop-cycle.cycle + 1) _ _ _ (omega arith) moved (over_mine first _ _ _ none))
 
 pub returns-in_default-clause-state : goal.returns-in_default-clause-state
@@ -45,7 +45,7 @@ returns-in_default-next_turn-clause-turns g c first =
     (ap (λ b. b.items) c.next_turn.ensures.tasks) h.mine_some h.theirs_some (h.going first) in
     let moved = theirs_moved _ _ _ first c.loop-cycle.cycle _ _ _ _ _ h.theirs_room c.next_turn-in-loop-cycle.ensures.cells
     (ap (λ b. b.items) c.next_turn-in-loop-cycle.ensures.tasks) some h.theirs_some half in
-    let none : length c.next_turn-in-loop-cycle.new.tasks.items ≡ 0 = none_left _ _ c.next_turn-in-loop-cycle.ensures.next c.in_default-next_turn.not-Some in
+    let none : length (g.C.Queue.Tasks.held c.next_turn-in-loop-cycle.new.tasks).items ≡ 0 = none_left _ _ c.next_turn-in-loop-cycle.ensures.next c.in_default-next_turn.not-Some in
     let twice : 2 * c.loop-cycle.cycle + 2 ≡ 2 * (c.loop-cycle.cycle + 1) = omega arith in
     twice ∙ sym (ends_here _ _ first c.args.cycles (2 * (c.loop-cycle.cycle + 1)) _ _ _ (omega arith) moved (over_theirs first _ _ _ none))
 
@@ -87,6 +87,6 @@ loop-cycle-preserved g c =
 pub returns-clause-turns : goal.returns-clause-turns
 returns-clause-turns g c first =
     let all : c.loop-cycle.cycle ≡ c.args.cycles = omega arith in
-    let e = goes_to_the_end c.args.mine.now.capacity _ first c.loop-cycle.cycle _ _ _ (c.loop-cycle.invariant.going first) in
-    let start = seen_from first (g.C.Cells.items c.args.cells) c.args.mine.now.items c.args.theirs.now.items in
-    sym (ap (λ n. turns_of c.args.mine.now.capacity start first n) (sym all) ∙ e ∙ ap (λ n. 2 * n) all)
+    let e = goes_to_the_end (g.C.Queue.Tasks.held c.args.mine.now).capacity _ first c.loop-cycle.cycle _ _ _ (c.loop-cycle.invariant.going first) in
+    let start = seen_from first (g.C.Cells.items c.args.cells) (g.C.Queue.Tasks.held c.args.mine.now).items (g.C.Queue.Tasks.held c.args.theirs.now).items in
+    sym (ap (λ n. turns_of (g.C.Queue.Tasks.held c.args.mine.now).capacity start first n) (sym all) ∙ e ∙ ap (λ n. 2 * n) all)

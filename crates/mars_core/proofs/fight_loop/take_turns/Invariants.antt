@@ -11,16 +11,16 @@ abbrev pub invariant-loop-cycle : goal.invariant-loop-cycle
 invariant-loop-cycle g l =
     let items = g.C.Cells.items in
     record {
-      going : (first : Side) → IsGoing l.fn.mine.capacity (seen_from first (items l.fn.cells) l.fn.mine.items l.fn.theirs.items) first
-          (2 * l.cycle) (items l.cells) l.mine.items l.theirs.items;
-      mine_first : Some l.my_task ≡ slice_get l.mine.items 0;
-      theirs_first : Some l.their_task ≡ slice_get l.theirs.items 0;
-      mine_some : length l.mine.items ≡ 0 → ⊥;
-      theirs_some : length l.theirs.items ≡ 0 → ⊥;
+      going : (first : Side) → IsGoing (g.C.Queue.Tasks.held l.fn.mine).capacity (seen_from first (items l.fn.cells) (g.C.Queue.Tasks.held l.fn.mine).items (g.C.Queue.Tasks.held l.fn.theirs).items) first
+          (2 * l.cycle) (items l.cells) (g.C.Queue.Tasks.held l.mine).items (g.C.Queue.Tasks.held l.theirs).items;
+      mine_first : Some l.my_task ≡ slice_get (g.C.Queue.Tasks.held l.mine).items 0;
+      theirs_first : Some l.their_task ≡ slice_get (g.C.Queue.Tasks.held l.theirs).items 0;
+      mine_some : length (g.C.Queue.Tasks.held l.mine).items ≡ 0 → ⊥;
+      theirs_some : length (g.C.Queue.Tasks.held l.theirs).items ≡ 0 → ⊥;
       core : IsCore l.size (items l.cells);
-      mine_below : AreTasks l.size l.mine.items;
-      theirs_below : AreTasks l.size l.theirs.items;
-      mine_room : l.mine.capacity ≡ l.fn.mine.capacity;
-      theirs_room : l.theirs.capacity ≡ l.fn.mine.capacity;
+      mine_below : AreTasks l.size (g.C.Queue.Tasks.held l.mine).items;
+      theirs_below : AreTasks l.size (g.C.Queue.Tasks.held l.theirs).items;
+      mine_room : (g.C.Queue.Tasks.held l.mine).capacity ≡ (g.C.Queue.Tasks.held l.fn.mine).capacity;
+      theirs_room : (g.C.Queue.Tasks.held l.theirs).capacity ≡ (g.C.Queue.Tasks.held l.fn.mine).capacity;
       marks : g.C.Cells.marks l.cells ≤ g.C.Cells.marks l.fn.cells + 6 * l.cycle;
     }
