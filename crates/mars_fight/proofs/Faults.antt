@@ -5,14 +5,14 @@ use Rattle.std.specs.Str.{byte}
 use Rattle.std.proofs.lemmas.Bool.Decides.{nat_tests}
 use Rattle.rc_instr.specs.Rules.{RulesView}
 use Rattle.mars_core.specs.declared.side.Side.{Side}
-use Rattle.mars_fight.specs.Records.{Fields}
-use Rattle.mars_fight.specs.Decimal.{padded_decimal}
+use Rattle.tables.specs.Records.{Fields}
+use Rattle.rc_instr.specs.Decimal.{padded_decimal}
 use Rattle.mars_fight.specs.Limits.{MOST_FIGHTS, MOST_WEIGHT}
-use Rattle.mars_fight.specs.Schedule.{opponent_of, position_of, mover_named, weight_of, fight_made, plain_fight, weighted_fight, fight_of, fights_in, within_limit, header_of, scheduled}
+use Rattle.mars_fight.specs.Schedule.{opponent_of, position_of, mover_named, weight_of, fight_made, unweighted_fight, weighted_fight, fight_of, fights_in, within_limit, header_of, scheduled}
 use Rattle.mars_fight.specs.ScheduleRefusal.{AreFightsRead, IsFirstWrong, IsOneTooMany, IsScheduleFault}
 use Rattle.mars_fight.specs.declared.fight.Fight.{Fight}
 use Rattle.mars_fight.specs.declared.record.Columns.{Columns}
-use Rattle.mars_fight.specs.declared.record.Columns.TheVariants.{Plain, Weighted}
+use Rattle.mars_fight.specs.declared.record.Columns.TheVariants.{Unweighted, Weighted}
 use Rattle.mars_fight.specs.declared.fault.ScheduleFaultKind.{ScheduleFaultKind}
 use Rattle.mars_fight.specs.declared.fault.ScheduleFaultKind.TheVariants.{Header, FieldCount, BadNumber, NoSuchOpponent, BadPosition, BadFirst, Empty, TooMany, OutOfMemory, BadWeight}
 use Rattle.mars_fight.proofs.Meant.{joined, fights_in-append, as_many}
@@ -71,13 +71,13 @@ made_row (Ok o) (Ok p) (Ok f) (Err kind) a b c d = d
 made_row (Ok o) (Ok p) (Ok f) (Ok w) a b c d = tt
 
 -- a record of three fields has no other fault
-plain_row : (r : RulesView) (n : ℕ) (fields : Fields) → IsRowResult (plain_fight r n fields)
-plain_row r n [] = tt
-plain_row r n (a ∷ []) = tt
-plain_row r n (a ∷ b ∷ []) = tt
-plain_row r n (a ∷ b ∷ c ∷ []) =
+unweighted_row : (r : RulesView) (n : ℕ) (fields : Fields) → IsRowResult (unweighted_fight r n fields)
+unweighted_row r n [] = tt
+unweighted_row r n (a ∷ []) = tt
+unweighted_row r n (a ∷ b ∷ []) = tt
+unweighted_row r n (a ∷ b ∷ c ∷ []) =
     made_row (opponent_of n (padded_decimal a)) (position_of r (padded_decimal b)) (mover_named c) (Ok 1) (opponent_row n (padded_decimal a)) (position_row r (padded_decimal b)) (mover_row c) tt
-plain_row r n (a ∷ b ∷ c ∷ d ∷ more) = tt
+unweighted_row r n (a ∷ b ∷ c ∷ d ∷ more) = tt
 
 -- a record of four fields has no other fault
 weighted_row : (r : RulesView) (n : ℕ) (fields : Fields) → IsRowResult (weighted_fight r n fields)
@@ -93,7 +93,7 @@ weighted_row r n (a ∷ b ∷ c ∷ d ∷ e ∷ more) = tt
 -- a record has no other fault
 fight_row : (r : RulesView) (n : ℕ) (m : Columns) (fields : Fields) → IsRowResult (fight_of r n m fields)
 unfolding fight_of
-fight_row r n Plain fields = plain_row r n fields
+fight_row r n Unweighted fields = unweighted_row r n fields
 fight_row r n Weighted fields = weighted_row r n fields
 
 -- the fault of a record is one that a record can have

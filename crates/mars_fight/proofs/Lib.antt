@@ -1,6 +1,3 @@
-pub mod Reading
-pub mod Fields
-pub mod Powers
 pub mod Meant
 pub mod Faults
 pub mod Walking

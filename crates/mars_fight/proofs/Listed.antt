@@ -5,14 +5,14 @@ use Rattle.std.proofs.lemmas.Bool.Decides.{nat_tests}
 use Rattle.std.proofs.lemmas.List.Elements.{All-cons, All-nil, All-weaker}
 use Rattle.rc_instr.specs.Rules.{RulesView}
 use Rattle.mars_core.specs.declared.side.Side.{Side}
-use Rattle.mars_fight.specs.Records.{Fields}
+use Rattle.tables.specs.Records.{Fields}
 use Rattle.mars_fight.specs.Listed.{IsPosition, IsWeight, IsFight}
-use Rattle.mars_fight.specs.Decimal.{padded_decimal}
+use Rattle.rc_instr.specs.Decimal.{padded_decimal}
 use Rattle.mars_fight.specs.Limits.{MOST_FIGHTS, MOST_WEIGHT}
-use Rattle.mars_fight.specs.Schedule.{opponent_of, position_of, mover_named, weight_of, fight_made, plain_fight, weighted_fight, fight_of, fights_in, with_first, within_limit, header_of, fights_under, scheduled}
+use Rattle.mars_fight.specs.Schedule.{opponent_of, position_of, mover_named, weight_of, fight_made, unweighted_fight, weighted_fight, fight_of, fights_in, with_first, within_limit, header_of, fights_under, scheduled}
 use Rattle.mars_fight.specs.declared.fight.Fight.{Fight}
 use Rattle.mars_fight.specs.declared.record.Columns.{Columns}
-use Rattle.mars_fight.specs.declared.record.Columns.TheVariants.{Plain, Weighted}
+use Rattle.mars_fight.specs.declared.record.Columns.TheVariants.{Unweighted, Weighted}
 use Rattle.mars_fight.specs.declared.fault.ScheduleFaultKind.{ScheduleFaultKind}
 
 -- a number that passes a test is the result, and passes it
@@ -83,12 +83,12 @@ one_within x e =
     record { least = omega (arith, same); most = omega (arith, same) }
 
 -- the fight of three fields may be listed
-plain_placed : (r : RulesView) (n : ℕ) (fields : Fields) (fight : Fight) → plain_fight r n fields ≡ Ok fight → IsFight r n fight
-plain_placed r n [] fight e = absurd (cc)
-plain_placed r n (a ∷ []) fight e = absurd (cc)
-plain_placed r n (a ∷ b ∷ []) fight e = absurd (cc)
-plain_placed r n (a ∷ b ∷ c ∷ []) fight e = made_fight r n (padded_decimal a) (padded_decimal b) (mover_named c) (Ok 1) fight one_within e
-plain_placed r n (a ∷ b ∷ c ∷ d ∷ more) fight e = absurd (cc)
+unweighted_placed : (r : RulesView) (n : ℕ) (fields : Fields) (fight : Fight) → unweighted_fight r n fields ≡ Ok fight → IsFight r n fight
+unweighted_placed r n [] fight e = absurd (cc)
+unweighted_placed r n (a ∷ []) fight e = absurd (cc)
+unweighted_placed r n (a ∷ b ∷ []) fight e = absurd (cc)
+unweighted_placed r n (a ∷ b ∷ c ∷ []) fight e = made_fight r n (padded_decimal a) (padded_decimal b) (mover_named c) (Ok 1) fight one_within e
+unweighted_placed r n (a ∷ b ∷ c ∷ d ∷ more) fight e = absurd (cc)
 
 -- the fight of four fields may be listed
 weighted_placed : (r : RulesView) (n : ℕ) (fields : Fields) (fight : Fight) → weighted_fight r n fields ≡ Ok fight → IsFight r n fight
@@ -103,7 +103,7 @@ weighted_placed r n (a ∷ b ∷ c ∷ d ∷ g ∷ more) fight e = absurd (cc)
 -- the fight of a record may be listed
 fight_placed : (r : RulesView) (n : ℕ) (m : Columns) (fields : Fields) (fight : Fight) → fight_of r n m fields ≡ Ok fight → IsFight r n fight
 unfolding fight_of
-fight_placed r n Plain fields fight e = plain_placed r n fields fight e
+fight_placed r n Unweighted fields fight e = unweighted_placed r n fields fight e
 fight_placed r n Weighted fields fight e = weighted_placed r n fields fight e
 
 -- a fight that may be listed, in front of such fights

@@ -2,7 +2,7 @@
 use Rattle.std.proofs.Common.{◌≡◌, ◌+◌, ℕ, List, [], ◌∷◌, ◌++◌, length, Some, None, Ok, Err, refl, ap, ◌∙◌, arith}
 use Rattle.std.specs.Prelude.{Option, Result}
 use Rattle.rc_instr.specs.Rules.{RulesView}
-use Rattle.mars_fight.specs.Records.{Fields}
+use Rattle.tables.specs.Records.{Fields}
 use Rattle.mars_fight.specs.Schedule.{fight_of, fights_in, with_first}
 use Rattle.mars_fight.specs.declared.fight.Fight.{Fight}
 use Rattle.mars_fight.specs.declared.record.Columns.{Columns}

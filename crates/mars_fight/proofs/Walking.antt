@@ -1,7 +1,7 @@
 -- Going through the records of a schedule.
 use Rattle.std.proofs.Common.{◌≡◌, ◌<◌, ◌+◌, ℕ, List, [], ◌∷◌, ◌++◌, length, drop, Some, Ok, Err, refl, sym, ◌∙◌, arith, append_assoc}
 use Rattle.rc_instr.specs.Rules.{RulesView}
-use Rattle.mars_fight.specs.Records.{Fields}
+use Rattle.tables.specs.Records.{Fields}
 use Rattle.mars_fight.specs.Limits.{MOST_FIGHTS}
 use Rattle.mars_fight.specs.Schedule.{fight_of, fights_in, header_of}
 use Rattle.mars_fight.specs.ScheduleRefusal.{AreFightsRead, IsHeaderAlone, IsScheduleFault}

@@ -4,12 +4,12 @@ use Rattle.std.specs.Str.{byte}
 use Rattle.rc_instr.specs.Rules.{RulesView}
 use Rattle.mars_core.specs.declared.side.Side.{Side}
 use Rattle.mars_core.specs.declared.side.Side.TheVariants.{Candidate, Opponent}
-use Rattle.mars_fight.specs.Records.{Fields, records_of}
-use Rattle.mars_fight.specs.Decimal.{padded_decimal}
+use Rattle.tables.specs.Records.{Fields, records_of}
+use Rattle.rc_instr.specs.Decimal.{padded_decimal}
 use Rattle.mars_fight.specs.Limits.{MOST_FIGHTS, MOST_WEIGHT}
 use Rattle.mars_fight.specs.declared.fight.Fight.{Fight}
 use Rattle.mars_fight.specs.declared.record.Columns.{Columns}
-use Rattle.mars_fight.specs.declared.record.Columns.TheVariants.{Plain, Weighted}
+use Rattle.mars_fight.specs.declared.record.Columns.TheVariants.{Unweighted, Weighted}
 use Rattle.mars_fight.specs.declared.fault.ScheduleFaultKind.{ScheduleFaultKind}
 use Rattle.mars_fight.specs.declared.fault.ScheduleFaultKind.TheVariants.{FieldCount, BadNumber, NoSuchOpponent, BadPosition, BadFirst, BadWeight}
 
@@ -19,7 +19,7 @@ names_fight a b c = bytes_eq a (codes "opponent") && bytes_eq b (codes "position
 
 -- what a header says of the fields: three, or four with a weight. None if it is no header.
 abbrev pub columns_of : Fields → Option Columns
-columns_of (a ∷ b ∷ c ∷ []) = if names_fight a b c then Some Plain else None
+columns_of (a ∷ b ∷ c ∷ []) = if names_fight a b c then Some Unweighted else None
 columns_of (a ∷ b ∷ c ∷ d ∷ []) = if names_fight a b c && bytes_eq d (codes "weight") then Some Weighted else None
 columns_of _ = None
 
@@ -58,10 +58,10 @@ fight_made (Ok opponent) (Ok position) (Ok first) (Err kind) = Err kind
 fight_made (Ok opponent) (Ok position) (Ok first) (Ok weight) = Ok (record { opponent = opponent; position = position; first = first; weight = weight })
 
 -- the fight of a record without a weight, which has three fields: it counts once
-abbrev pub plain_fight : RulesView → ℕ → Fields → Result Fight ScheduleFaultKind
-plain_fight rules opponents (a ∷ b ∷ c ∷ []) =
+abbrev pub unweighted_fight : RulesView → ℕ → Fields → Result Fight ScheduleFaultKind
+unweighted_fight rules opponents (a ∷ b ∷ c ∷ []) =
     fight_made (opponent_of opponents (padded_decimal a)) (position_of rules (padded_decimal b)) (mover_named c) (Ok 1)
-plain_fight rules opponents _ = Err FieldCount
+unweighted_fight rules opponents _ = Err FieldCount
 
 -- the fight of a record with a weight, which has four fields
 abbrev pub weighted_fight : RulesView → ℕ → Fields → Result Fight ScheduleFaultKind
@@ -71,7 +71,7 @@ weighted_fight rules opponents _ = Err FieldCount
 
 -- the fight of a record with the fields that the header names, or what is wrong with it
 unfoldable pub fight_of : RulesView → ℕ → Columns → Fields → Result Fight ScheduleFaultKind
-fight_of rules opponents Plain fields = plain_fight rules opponents fields
+fight_of rules opponents Unweighted fields = unweighted_fight rules opponents fields
 fight_of rules opponents Weighted fields = weighted_fight rules opponents fields
 
 -- a fight before the fights after it; None if either has a fault

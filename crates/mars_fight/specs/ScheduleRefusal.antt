@@ -1,7 +1,7 @@
 -- The first fault of a schedule: record by record, and within a record from the left.
 use Rattle.std.specs.Prelude.{◌≡◌, ℕ, ◌+◌, ◌<◌, Some, None, Err, List, ◌∷◌, ◌++◌, length, drop}
 use Rattle.rc_instr.specs.Rules.{RulesView}
-use Rattle.mars_fight.specs.Records.{Fields}
+use Rattle.tables.specs.Records.{Fields}
 use Rattle.mars_fight.specs.Limits.{MOST_FIGHTS}
 use Rattle.mars_fight.specs.Schedule.{fight_of, fights_in, header_of}
 use Rattle.mars_fight.specs.declared.fight.Fight.{Fight}

@@ -4,16 +4,12 @@
 //! blank arena, which it leaves blank.
 #![tactic(auto)]
 
-mod decimal;
 mod fault;
 mod fight;
 mod limits;
 mod record;
-mod records;
 mod schedule;
 
-pub use decimal::padded_decimal;
 pub use fault::{ScheduleFault, ScheduleFaultKind};
 pub use fight::{Fight, MOST_POINTS, keeps_distance, play};
-pub use records::{Records, three_fields};
 pub use schedule::Schedule;

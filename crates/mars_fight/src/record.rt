@@ -1,22 +1,21 @@
 //! One record of a schedule: the header, or a fight.
 ghost use Rattle.std.specs.Prelude.{◌≡◌};
 ghost use Rattle.csv.specs.Records.{fields_of};
-ghost use Rattle.mars_fight.specs.Decimal.{padded_decimal};
-ghost use Rattle.mars_fight.specs.Schedule.{opponent_of, position_of, mover_named, weight_of, names_fight, columns_of, plain_fight, weighted_fight, fight_of};
+ghost use Rattle.rc_instr.specs.Decimal.{padded_decimal};
+ghost use Rattle.mars_fight.specs.Schedule.{opponent_of, position_of, mover_named, weight_of, names_fight, columns_of, unweighted_fight, weighted_fight, fight_of};
 
-use crate::decimal::padded_decimal;
 use crate::fault::ScheduleFaultKind;
 use crate::fight::{Fight, is_weight, keeps_distance};
-use crate::records::{four_fields, three_fields};
 use csv::ByteRecord;
 use mars_core::Side;
-use rc_instr::Rules;
+use rc_instr::{Rules, padded_decimal};
+use tables::{four_fields, three_fields};
 
 /// Which fields the records of a schedule have. The header says it for all of them.
 #[derive(Clone, Copy, Debug, PartialEq, Eq)]
 pub(crate) enum Columns {
     /// Opponent, position and first mover: every fight counts once.
-    Plain,
+    Unweighted,
     /// These, and then the weight.
     Weighted,
 }
@@ -27,7 +26,7 @@ pub(crate) fn read_columns(fields: &ByteRecord) -> Option<Columns>
 {
     if let Some((opponent, position, first)) = three_fields(fields) {
         return if names_fight(opponent, position, first) {
-            Some(Columns::Plain)
+            Some(Columns::Unweighted)
         } else {
             None
         };
@@ -60,18 +59,18 @@ pub(crate) fn read_fight(
     ensures { result ≡ fight_of rules.now opponents columns (fields_of fields.now) }
 {
     match columns {
-        Columns::Plain => read_plain(fields, opponents, rules),
+        Columns::Unweighted => read_unweighted(fields, opponents, rules),
         Columns::Weighted => read_weighted(fields, opponents, rules),
     }
 }
 
 // Reads a fight of three fields, which counts once.
-fn read_plain(
+fn read_unweighted(
     fields: &ByteRecord,
     opponents: u32,
     rules: &Rules,
 ) -> Result<Fight, ScheduleFaultKind>
-    ensures { result ≡ plain_fight rules.now opponents (fields_of fields.now) }
+    ensures { result ≡ unweighted_fight rules.now opponents (fields_of fields.now) }
 {
     let Some((opponent, position, first)) = three_fields(fields) else {
         return Err(ScheduleFaultKind::FieldCount);

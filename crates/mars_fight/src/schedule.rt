@@ -1,7 +1,7 @@
 //! Schedules: lists of fights.
 ghost use Rattle.std.specs.Prelude.{◌≡◌, ◌≢◌, ℕ, ◌<◌, ◌≤◌, ◌*◌, ◌↔◌, true, Some, None, length, drop, IfOk, IfErr, OnOk, IsTrue, All};
 ghost use Rattle.rc_instr.specs.Rules.{RulesView};
-ghost use Rattle.mars_fight.specs.Records.{records_of};
+ghost use Rattle.tables.specs.Records.{records_of};
 ghost use Rattle.mars_fight.specs.Limits.{MOST_FIGHTS, MOST_WEIGHT};
 ghost use Rattle.mars_fight.specs.Listed.{IsFight, IsPlain, IsWeight, greatest_total};
 ghost use Rattle.mars_fight.specs.declared.fight.Fight.{Fight};
@@ -12,11 +12,11 @@ use crate::fault::{ScheduleFault, ScheduleFaultKind};
 use crate::fight::{Fight, MOST_POINTS};
 use crate::limits;
 use crate::record::{Columns, read_columns, read_fight};
-use crate::records::Records;
 use csv::ByteRecord;
 use rc_instr::Rules;
 use std::alloc::Global;
 use std::marker::Model;
+use tables::Records;
 
 /// 1 to 10000 fights. Contracts see the list. A fight that is listed twice is played twice.
 #[derive(Debug, Drop)]

@@ -2,7 +2,7 @@
 //! of faults.
 use crate::warriors::IMP;
 use mars_core::{Arena, PackedCells, Side};
-use mars_fight::{Fight, Schedule, ScheduleFault, ScheduleFaultKind as Kind, play};
+use mars_fight::{Fight, Schedule, ScheduleFault, ScheduleFaultKind as Kind, keeps_distance, play};
 use rc_instr::{Rules, read_loadfile};
 use std::alloc::{AllocError, Global};
 use std::test::Fail;
@@ -46,6 +46,15 @@ fn a_schedule_is_read_and_fits(rt: HostRuntime) -> Result<(), Fail> {
             want,
             "{core} {distance} {opponents}"
         );
+    }
+    Ok(())
+}
+
+#[test]
+fn positions_keep_the_distance_both_ways_round(rt: HostRuntime) -> Result<(), Fail> {
+    let rules = Rules::try_new(16, 20, 4, 4, 4)?;
+    for &(position, want) in &[(0, false), (3, false), (4, true), (12, true), (13, false)] {
+        assert_eq!(rt; keeps_distance(&rules, position), want, "{position}");
     }
     Ok(())
 }

@@ -1,6 +1,6 @@
 use Rattle.std.proofs.Common.{◌≤◌, length}
 use Rattle.mars_fight.specs.Limits.{MOST_FIGHTS}
-use Rattle.mars_fight.specs.Records.{records_of}
+use Rattle.tables.specs.Records.{records_of}
 use Rattle.mars_fight.specs.ScheduleRefusal.{AreFightsRead}
 use Rattle.mars_fight.proofs.schedule.read_fights.Given as goal
 

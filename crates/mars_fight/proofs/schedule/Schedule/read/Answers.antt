@@ -1,7 +1,7 @@
 use Rattle.std.proofs.Common.{arith, ◌∙◌, ap, sym, subst, length, List, All}
 use Rattle.mars_fight.specs.Listed.{IsWeight, greatest_total}
 use Rattle.mars_fight.specs.declared.fight.Fight.{Fight}
-use Rattle.mars_fight.specs.Records.{records_of}
+use Rattle.tables.specs.Records.{records_of}
 use Rattle.mars_fight.proofs.Listed.{scheduled_fights, are_weights}
 use Rattle.mars_fight.proofs.schedule.Schedule.read.Goals as goal
 

@@ -10,7 +10,7 @@ use Rattle.csv.specs.declared.parser.State.TheVariants as st
 use Rattle.csv.specs.declared.reader.Reader.{Reader}
 use Rattle.csv.specs.declared.reader.Trim.TheVariants as trim
 use Rattle.csv.specs.declared.error.Error.{Error}
-use Rattle.mars_fight.specs.Records.{IsPlain, IsPlainOrFailed, records_left}
+use Rattle.tables.specs.Records.{TakesAll, TakesAllOrFailed, records_left}
 
 -- a read of a text of k bytes leaves fewer, or is at the end of the text
 abbrev pub Shortens : ℕ → Option Read → Type 0
@@ -93,7 +93,7 @@ known : (r : Reader (Bor (List ℕ))) → r.failed ≡ false → (text : List �
 known r e = rw e (some_unread r _ _ _)
 
 -- a read of a reader that has not failed
-pub taken_off : (a b : Reader (Bor (List ℕ))) (found : Bool) (fields : List (List ℕ)) → a.failed ≡ false → IsPlain a → ReadRecord bytes_of a b found fields
+pub taken_off : (a b : Reader (Bor (List ℕ))) (found : Bool) (fields : List (List ℕ)) → a.failed ≡ false → TakesAll a → ReadRecord bytes_of a b found fields
     → MatchBool found (records_left a.state (source_of bytes_of a) ≡ fields ∷ records_left b.state (source_of bytes_of b)) (records_left a.state (source_of bytes_of a) ≡ [])
 taken_off a b found fields e plain r =
     let k = known a e in
@@ -110,7 +110,7 @@ unfolding records_left
 none_of_failed r e = rw e refl
 
 -- what a read finds, whether or not the reader had failed
-read_going : (a b : Reader (Bor (List ℕ))) (found : Bool) (fields : List (List ℕ)) (failed : Bool) → a.failed ≡ failed → IsPlainOrFailed a
+read_going : (a b : Reader (Bor (List ℕ))) (found : Bool) (fields : List (List ℕ)) (failed : Bool) → a.failed ≡ failed → TakesAllOrFailed a
     → (reader_trim a ≡ trim.None → Ready a → ReadRecord bytes_of a b found fields) → (failed ≡ true → ◌≡◌ {A = Result Bool Error} (Ok found) (Ok false))
     → MatchBool found (left_of a ≡ fields ∷ left_of b) (left_of a ≡ [])
 read_going a b found fields true e plain reads failed =
@@ -121,7 +121,7 @@ read_going a b found fields false e plain reads failed =
     taken_off a b found fields e p (reads p.trim p.ready)
 
 -- what a read returns, in terms of the records that are left
-read_found : (a b : Reader (Bor (List ℕ))) (fields : List (List ℕ)) (res : Result Bool Error) → IsPlainOrFailed a
+read_found : (a b : Reader (Bor (List ℕ))) (fields : List (List ℕ)) (res : Result Bool Error) → TakesAllOrFailed a
     → IfOk res (λ found. reader_trim a ≡ trim.None → Ready a → ReadRecord bytes_of a b found fields) → (a.failed ≡ true → res ≡ Ok false)
     → IfOk res (λ found. MatchBool found (left_of a ≡ fields ∷ left_of b) (left_of a ≡ []))
 read_found a b fields (Ok found) plain reads failed = read_going a b found fields a.failed refl plain reads failed
@@ -132,7 +132,7 @@ abbrev pub still_left : Bool → Reader (Bor (List ℕ)) → List (List (List �
 still_left ended r = if ended then [] else left_of r
 
 -- a read that finds a record takes it off the records that are left
-pub one_taken : (a b : Reader (Bor (List ℕ))) (fields : List (List ℕ)) (res : Result Bool Error) (ended : Bool) → ended ≡ false → res ≡ Ok true → IsPlainOrFailed a
+pub one_taken : (a b : Reader (Bor (List ℕ))) (fields : List (List ℕ)) (res : Result Bool Error) (ended : Bool) → ended ≡ false → res ≡ Ok true → TakesAllOrFailed a
     → IfOk res (λ found. reader_trim a ≡ trim.None → Ready a → ReadRecord bytes_of a b found fields) → (a.failed ≡ true → res ≡ Ok false)
     → still_left ended a ≡ fields ∷ still_left ended b
 one_taken a b fields res ended going is plain reads failed =
@@ -140,7 +140,7 @@ one_taken a b fields res ended going is plain reads failed =
     rw going (rw is at found)
 
 -- if a read finds none, none was left
-pub none_taken : (a b : Reader (Bor (List ℕ))) (fields : List (List ℕ)) (res : Result Bool Error) (ended : Bool) → ended ≡ false → res ≡ Ok false → IsPlainOrFailed a
+pub none_taken : (a b : Reader (Bor (List ℕ))) (fields : List (List ℕ)) (res : Result Bool Error) (ended : Bool) → ended ≡ false → res ≡ Ok false → TakesAllOrFailed a
     → IfOk res (λ found. reader_trim a ≡ trim.None → Ready a → ReadRecord bytes_of a b found fields) → (a.failed ≡ true → res ≡ Ok false)
     → still_left ended a ≡ []
 none_taken a b fields res ended going is plain reads failed =

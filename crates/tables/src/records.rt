@@ -2,7 +2,7 @@
 ghost use Rattle.std.specs.Prelude.{◌≡◌, ◌≢◌, ◌∷◌, [], length, IfOk, OnErr, IfSome, IfNone};
 ghost use Rattle.std.specs.Bool.{MatchBool};
 ghost use Rattle.csv.specs.Records.{fields_of};
-ghost use Rattle.mars_fight.specs.Records.{records_of};
+ghost use Rattle.tables.specs.Records.{records_of};
 
 use csv::{ByteRecord, Reader, ReaderBuilder};
 use rc_instr::OutOfMemory;
@@ -23,13 +23,13 @@ pub struct Records<'a> {
 impl<'a> Model for Records<'a> {
     ghost use Rattle.std.specs.Prelude.{List, [], Some, if◌then◌else◌};
     ghost use Rattle.csv.specs.Reading.{reader_state, source_of};
-    ghost use Rattle.mars_fight.specs.Records.{Fields, records_left, IsPlainOrFailed};
+    ghost use Rattle.tables.specs.Records.{Fields, records_left, TakesAllOrFailed};
 
     ghost Value = { List Fields };
 
     ghost view = { λ r. if r.ended then [] else records_left (reader_state r.reader) (source_of (λ s. Some s.now) r.reader) };
 
-    ghost invariant = { λ r. IsPlainOrFailed r.reader };
+    ghost invariant = { λ r. TakesAllOrFailed r.reader };
 }
 
 impl<'a> Records<'a> {
@@ -62,14 +62,21 @@ impl<'a> Records<'a> {
         match self.reader.read_byte_record(fields) {
             Ok(true) => Ok(true),
             Ok(false) => {
-                self.ended = true;
+                self.end();
                 Ok(false)
             }
             Err(_refused) => {
-                self.ended = true;
+                self.end();
                 Err(OutOfMemory)
             }
         }
+    }
+
+    // Does not ask the reader again.
+    fn end(&mut self)
+        ensures { self.new ≡ [] }
+    {
+        self.ended = true;
     }
 }
 

@@ -1,6 +1,6 @@
 use Rattle.std.proofs.Common.{refl}
-use Rattle.mars_fight.specs.Records.{records_of, records_left}
-use Rattle.mars_fight.proofs.records.Records.new.Goals as goal
+use Rattle.tables.specs.Records.{records_of, records_left}
+use Rattle.tables.proofs.records.Records.new.Goals as goal
 
 pub returns : goal.returns
 unfolding records_of records_left

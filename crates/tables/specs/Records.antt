@@ -6,26 +6,27 @@ use Rattle.csv.specs.declared.parser.State.{State}
 use Rattle.csv.specs.declared.reader.Reader.{Reader}
 use Rattle.csv.specs.declared.reader.Trim.TheVariants as trim
 
--- the fields of a record, each a list of bytes
+-- The fields of a record, each a list of bytes.
 abbrev pub Fields : Type 0
 Fields = List (List ℕ)
 
--- the records of a text, without a byte order mark at its front
+-- The records of a text, without a byte order mark at its front.
 unfoldable pub records_of : List ℕ → List Fields
 records_of text = records default_config (strip_bom text)
 
--- the records that a reader has left; none if that is not known, which is only so after a failure
+-- The records that a reader has left: none if that is not known, which is only so after a failure.
 unfoldable pub records_left : State → Option (List ℕ) → List Fields
 records_left s None = []
 records_left s (Some text) = records_from default_config (length text + 1) s text
 
--- the reader has no header row, trims nothing, and takes records of any length
-pub record IsPlain {R : Type 0} (reader : Reader R) : Type 0 where
+-- The reader takes all records whole: it has no header row, trims nothing, and a record may have any
+-- number of fields.
+pub record TakesAll {R : Type 0} (reader : Reader R) : Type 0 where
   pub config : reader_config reader ≡ default_config
   pub trim : reader_trim reader ≡ trim.None
   pub flexible : is_flexible reader ≡ true
   pub ready : Ready reader
 
--- the reader is plain, unless it has failed
-abbrev pub IsPlainOrFailed : {R : Type 0} → Reader R → Type 0
-IsPlainOrFailed reader = has_failed reader ≡ false → IsPlain reader
+-- It does, unless it has failed.
+abbrev pub TakesAllOrFailed : {R : Type 0} → Reader R → Type 0
+TakesAllOrFailed reader = has_failed reader ≡ false → TakesAll reader

@@ -1,7 +1,7 @@
-use Rattle.std.proofs.Common.{ap, refl, ◌∙◌}
+use Rattle.std.proofs.Common.{ap, ◌∙◌}
 use Rattle.std.specs.Prelude.{Ok}
-use Rattle.mars_fight.proofs.Reading.{one_taken, none_taken}
-use Rattle.mars_fight.proofs.records.Records.read.Goals as goal
+use Rattle.tables.proofs.Reading.{one_taken, none_taken}
+use Rattle.tables.proofs.records.Records.read.Goals as goal
 
 pub returns-in-Ok-true-clause-read : goal.returns-in-Ok-true-clause-read
 returns-in-Ok-true-clause-read c =
@@ -13,4 +13,4 @@ pub returns-in-Ok-false-clause-read : goal.returns-in-Ok-false-clause-read
 returns-in-Ok-false-clause-read c =
     let read = c.read_byte_record.ensures in
     let is = c.in-Ok-false.is ∙ ap Ok c.in-Ok-false.field-0-test in
-    (rw (← c.self.view_is) (none_taken c.self.inside.reader c.read_byte_record.new.self _ _ c.self.inside.ended c.if-self.false is c.self.invariant read.reads read.failed), refl)
+    (rw (← c.self.view_is) (none_taken c.self.inside.reader c.read_byte_record.new.self _ _ c.self.inside.ended c.if-self.false is c.self.invariant read.reads read.failed), c.end.ensures)
