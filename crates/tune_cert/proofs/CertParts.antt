@@ -2,7 +2,7 @@
 use Rattle.std.proofs.Common.{◌≡◌, ℕ, zero, suc, ◌<◌, ◌≤◌, ◌-◌, ◌^◌, ◌⊎◌, inl, inr, List, [], ◌∷◌, length, slice_get, Some, refl, sym, ◌∙◌, ap, arith, subst}
 use Rattle.std.proofs.lemmas.Fmt.{decimal_injective}
 use Rattle.std.proofs.lemmas.Option.{slice_get_within}
-use Rattle.mars_fight.specs.Records.{Fields}
+use Rattle.tables.specs.Records.{Fields}
 use Rattle.tune_cert.specs.CertText.{rows_fields, count_fields, best_fields, cert_fields}
 use Rattle.tune_cert.specs.Spelling.{FitsU32, IsVersion, Spells, HasForm, IsMalformed, IsReadRefusal}
 use Rattle.tune_cert.specs.Steps.{AreRows, HasRow, IsBadCount, IsBadBest, IsBadRow}

@@ -4,7 +4,7 @@ use Rattle.std.specs.Prelude.{All, flat_map}
 use Rattle.std.specs.Fmt.{decimal}
 use Rattle.std.proofs.lemmas.Fmt.{decimal_injective}
 use Rattle.std.proofs.lemmas.List.Elements.{All-head, All-tail}
-use Rattle.mars_fight.specs.Records.{Fields}
+use Rattle.tables.specs.Records.{Fields}
 use Rattle.tune_cert.specs.CertText.{item_text, spaced_text, list_text, kind_text, last_text, rows_fields, best_fields, cert_fields}
 use Rattle.tune_cert.specs.Spelling.{FitsU32, IsItem, IsRow, Spells}
 use Rattle.tune_problem.specs.declared.cert.Row.{Row}

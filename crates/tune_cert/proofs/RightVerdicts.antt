@@ -1,7 +1,7 @@
 -- All that is promised of a verdict.
 use Rattle.std.proofs.Common.{◌≡◌, ℕ, List, Result, Ok, Err, sym, subst}
 use Rattle.std.specs.Prelude.{IfOk}
-use Rattle.mars_fight.specs.Records.{Fields}
+use Rattle.tables.specs.Records.{Fields}
 use Rattle.tune_problem.specs.Problem.{Problem, IsProblem}
 use Rattle.tune_problem.specs.Optimum.{IsOptimum, HasTotal}
 use Rattle.tune_problem.specs.declared.cert.Cert.{Cert}

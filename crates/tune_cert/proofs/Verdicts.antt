@@ -2,7 +2,7 @@
 use Rattle.std.proofs.Common.{◌≡◌, inl, inr, ℕ, ◌<◌, arith, Bool, true, false, List, length, None, refl, sym, ◌∙◌, subst}
 use Rattle.std.proofs.lemmas.Option.{slice_get_within}
 use Rattle.rc_instr.specs.Warrior.{WarriorView}
-use Rattle.mars_fight.specs.Records.{Fields}
+use Rattle.tables.specs.Records.{Fields}
 use Rattle.tune_problem.specs.Problem.{Problem, IsProblem}
 use Rattle.tune_problem.specs.Optimum.{cap_of, beats}
 use Rattle.tune_problem.specs.Valid.{listed_indices, IsVersionOf, IsRightRow, IsValid}

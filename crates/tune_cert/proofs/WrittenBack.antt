@@ -5,8 +5,8 @@ use Rattle.csv.specs.Reading.{default_config, records_from, strip_bom}
 use Rattle.csv.specs.Writing.{default_writer, row_text, row_body, is_blank, fields_text, read_back}
 use Rattle.csv.specs.declared.parser.State.TheVariants as st
 use Rattle.csv.proofs.RoundTrip.{read-write}
-use Rattle.mars_fight.proofs.Reading.{none_left}
-use Rattle.mars_fight.specs.Records.{Fields, records_of}
+use Rattle.tables.proofs.Reading.{none_left}
+use Rattle.tables.specs.Records.{Fields, records_of}
 use Rattle.tune_cert.specs.CertText.{rows_fields, row_fields, cert_fields, count_fields, best_fields, records_text, cert_text}
 use Rattle.tune_cert.specs.Spelling.{IsCert, Spells}
 use Rattle.tune_problem.specs.declared.cert.Row.{Row}

@@ -1,7 +1,7 @@
 -- Which certificate bytes spell. Their records are those that the crate `csv` reads.
 use Rattle.std.specs.Prelude.{◌≡◌, ◌⊎◌, ℕ, zero, suc, ◌+◌, ◌<◌, ◌≤◌, ◌^◌, List, length, slice_get, Some, All}
 use Rattle.mars_fight.specs.Play.{ArePoints}
-use Rattle.mars_fight.specs.Records.{Fields}
+use Rattle.tables.specs.Records.{Fields}
 use Rattle.tune_cert.specs.CertText.{row_fields, count_fields, best_fields, cert_fields}
 use Rattle.tune_problem.specs.declared.cert.Cert.{Cert}
 use Rattle.tune_problem.specs.declared.cert.Row.{Row}

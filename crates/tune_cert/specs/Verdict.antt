@@ -1,7 +1,7 @@
 -- What a verdict says of a certificate, and which record and reason a rejection names.
 use Rattle.std.specs.Prelude.{◌≡◌, ◌≢◌, ◌⊎◌, ℕ, ◌+◌, ◌<◌, ◌≤◌, true, List, [], ◌∷◌, length, slice_get, Some, None}
 use Rattle.rc_instr.specs.Warrior.{WarriorView}
-use Rattle.mars_fight.specs.Records.{Fields}
+use Rattle.tables.specs.Records.{Fields}
 use Rattle.tune_problem.specs.Problem.{Problem}
 use Rattle.tune_problem.specs.Optimum.{all_fights, cap_of, beats, IsOptimum, HasTotal}
 use Rattle.tune_problem.specs.Valid.{listed_indices, listed_total, IsVersionOf, IsValid, IsRightRow}

@@ -1,7 +1,7 @@
 //! Checks certificates.
 ghost use Rattle.std.specs.Prelude.{◌≡◌, ◌+◌, length, IfOk, IfSome, IfNone};
 ghost use Rattle.mars_core.specs.Arena.{IsBlank};
-ghost use Rattle.mars_fight.specs.Records.{records_of};
+ghost use Rattle.tables.specs.Records.{records_of};
 ghost use Rattle.tune_problem.specs.Problem.{problem_of};
 ghost use Rattle.tune_cert.specs.Verdict.{IsWrongRow, AreRightAlone, IsFirstRow, IsRightVerdict};
 ghost use Rattle.tune_cert.specs.Steps.{AreRightSame, IsCertVerdict, IsFirstVerdict};
@@ -14,8 +14,7 @@ use crate::verdict::{Reason, Verdict};
 use crate::warriors::no_warriors;
 use mars_core::{Arena, PackedCells};
 use std::alloc::Global;
-use tune_problem::{Cert, Silent, Standing, Watcher, cert_version};
-use tune_template::Inputs;
+use tune_problem::{Cert, Inputs, Silent, Standing, Watcher, cert_version};
 
 // A record by its index, and what is wrong with it.
 #[derive(Clone, Copy)]

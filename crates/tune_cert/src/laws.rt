@@ -1,7 +1,7 @@
 //! Laws of the text of certificates, beside those of `tune_problem`. A law is a function with an
 //! empty body: its contract is what is proved.
 ghost use Rattle.std.specs.Prelude.{◌≡◌, List};
-ghost use Rattle.mars_fight.specs.Records.{Fields, records_of};
+ghost use Rattle.tables.specs.Records.{Fields, records_of};
 ghost use Rattle.tune_cert.specs.CertText.{cert_text};
 ghost use Rattle.tune_cert.specs.Spelling.{IsCert, Spells};
 

@@ -18,8 +18,8 @@ pub use checker::{check, watched_check};
 pub use fault::{CertFault, CheckFault, ReadFault};
 pub use read::read_cert;
 pub use tune_problem::{
-    Best, Cert, Found, Listing, Row, Rows, Silent, Standing, Watcher, cert_version, fight_count,
-    fight_points, fight_weight, greatest_total, setting_warrior,
+    Best, Cert, Found, Inputs, Listing, Row, Rows, Silent, Standing, Watcher, cert_version,
+    fight_count, fight_points, fight_weight, greatest_total, setting_warrior,
 };
 pub use verdict::{Reason, Verdict};
 pub use write::write_cert;

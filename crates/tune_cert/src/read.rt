@@ -1,7 +1,7 @@
 //! Reads certificates.
 ghost use Rattle.std.specs.Prelude.{◌≡◌, ℕ, ◌∷◌, Some, List, IfOk, IfErr, IfSome, MatchResult, ◌+◌, ◌++◌, IsSomeAnd, drop, ◌↔◌, IsTrue, ◌≤◌, ◌^◌};
 ghost use Rattle.csv.specs.Records.{fields_of};
-ghost use Rattle.mars_fight.specs.Records.{records_of};
+ghost use Rattle.tables.specs.Records.{records_of};
 ghost use Rattle.std.specs.Fmt.{decimal};
 ghost use Rattle.tune_cert.specs.CertText.{count_fields, best_fields, kind_text, last_text, row_fields, item_text, spaced_text};
 ghost use Rattle.tune_cert.specs.Spelling.{FitsU32, IsVersion, Spells, IsRow, IsItem, IsReadRefusal, record_of};
@@ -12,9 +12,9 @@ ghost use Rattle.mars_fight.specs.Play.{ArePoints};
 
 use crate::fault::ReadFault;
 use csv::ByteRecord;
-use mars_fight::{Records, three_fields};
 use rc_instr::{OutOfMemory, after, decimal_at, decimal_of};
 use std::alloc::Global;
+use tables::{Records, three_fields};
 use tune_problem::{Cert, Listing, Row, Rows};
 
 /// Parses a certificate, without judging it: `check` compares it with the inputs of a tuning.
@@ -153,7 +153,7 @@ fn read_rows(
     Ok(rows)
 }
 
-// Returns the record of a setting's row. The records of the count and of the best setting come first.
+// Returns the record of a setting's row: 0 is that of the count, and 1 that of the best setting.
 pub(crate) fn record_of(vector: u64) -> u64
     requires { vector ≤ 2 ^ 32 }
     ensures { result ≡ record_of vector }

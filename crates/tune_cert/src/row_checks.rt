@@ -19,10 +19,9 @@ use mars_fight::MOST_POINTS;
 use rc_instr::{Instruction, Warrior};
 use std::alloc::Global;
 use tune_problem::{
-    Best, Cert, Row, Watcher, beats, fight_count, fight_points, fight_weight, greatest_total,
-    setting_warrior,
+    Best, Cert, Inputs, Row, Watcher, beats, fight_count, fight_points, fight_weight,
+    greatest_total, setting_warrior,
 };
-use tune_template::Inputs;
 
 // A certificate, and the inputs against which it is checked.
 #[derive(Clone, Copy)]
@@ -49,7 +48,7 @@ pub(crate) fn check_alone<T: Watcher>(
     ensures blank { IsBlank claim.now.inputs.now.rules arena.new }
 {
     match row {
-        Row::Refused => check_refused(alloc, claim.inputs, vector),
+        Row::Refused => check_refused(alloc, claim, vector),
         Row::Same(_) => Ok(None),
         Row::Cap(listed) => check_cap(alloc, arena, claim, vector, listed.as_slice(), watcher),
     }
@@ -141,12 +140,16 @@ fn have_points<T: Watcher>(
 }
 
 // Checks a refused row: its setting must not assemble.
-fn check_refused(alloc: Global, inputs: &Inputs, vector: u32) -> Result<Option<Reason>, CheckFault>
-    requires inside { vector < (problem_of inputs.now).count }
-    ensures right { IfOk result (λ o. IfNone o ((problem_of inputs.now).warrior vector ≡ None)) }
-    ensures wrong { IfOk result (λ o. IfSome o (IsWrongRefused (problem_of inputs.now) vector)) }
+fn check_refused(
+    alloc: Global,
+    claim: &Claim<'_>,
+    vector: u32,
+) -> Result<Option<Reason>, CheckFault>
+    requires inside { vector < (problem_of claim.now.inputs.now).count }
+    ensures right { IfOk result (λ o. IfNone o ((problem_of claim.now.inputs.now).warrior vector ≡ None)) }
+    ensures wrong { IfOk result (λ o. IfSome o (IsWrongRefused (problem_of claim.now.inputs.now) vector)) }
 {
-    match setting_warrior(alloc, inputs, vector)? {
+    match setting_warrior(alloc, claim.inputs, vector)? {
         Some(_) => Ok(Some(Reason::NotRefused)),
         None => Ok(None),
     }

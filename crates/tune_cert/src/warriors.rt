@@ -5,8 +5,7 @@ ghost use Rattle.tune_cert.specs.Steps.{AreAssembled};
 
 use rc_instr::{OutOfMemory, Warrior};
 use std::alloc::{AllocError, Global};
-use tune_problem::setting_warrior;
-use tune_template::Inputs;
+use tune_problem::{Inputs, setting_warrior};
 
 // Returns `None` for each of `count` settings: no warrior is made yet.
 pub(crate) fn no_warriors(alloc: Global, count: u32) -> Result<Vec<Option<Warrior>>, AllocError>

@@ -1,3 +1,4 @@
+pub mod PartSteps
 pub mod Weights
 pub mod CapRows
 pub mod Certificates

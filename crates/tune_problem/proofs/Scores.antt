@@ -6,7 +6,7 @@ use Rattle.rc_instr.specs.Warrior.{WarriorView}
 use Rattle.mars_fight.specs.declared.fight.Fight.{Fight}
 use Rattle.mars_fight.specs.Play.{points_of, ArePoints}
 use Rattle.mars_fight.proofs.Points.{outcome_points}
-use Rattle.tune_template.specs.Instances.{InputsView}
+use Rattle.tune_problem.specs.Inputs.{InputsView}
 use Rattle.tune_problem.specs.Problem.{IsProblem, points_with, points_against, fight_points, problem_of}
 
 one_fight : (rules : RulesView) (candidate opponent : WarriorView) (fight : Fight) → ArePoints (points_of rules candidate opponent fight)

@@ -5,7 +5,7 @@ use Rattle.std.proofs.lemmas.List.Sums.{sum_by-cons}
 use Rattle.std.proofs.lemmas.Option.{slice_get-get_or, slice_get_cases}
 use Rattle.mars_fight.specs.declared.fight.Fight.{Fight}
 use Rattle.mars_fight.specs.Listed.{IsPlain, greatest_total}
-use Rattle.tune_template.specs.Instances.{InputsView}
+use Rattle.tune_problem.specs.Inputs.{InputsView}
 use Rattle.tune_problem.specs.Problem.{CountsOnce, weight_at, fight_weight, problem_of}
 use Rattle.tune_problem.specs.Optimum.{greatest_of}
 

@@ -6,12 +6,12 @@ use Rattle.std.proofs.lemmas.Nat.{le-div}
 use Rattle.std.proofs.lemmas.Bool.{cases_lt}
 use Rattle.rc_instr.specs.Warrior.{WarriorView}
 use Rattle.tune_template.specs.Vectors.{vectors_of}
-use Rattle.tune_template.specs.Parts.{part, IsPart, part_end}
-use Rattle.tune_template.specs.Instances.{InputsView, settings_of, warrior_of}
-use Rattle.tune_template.proofs.PartSteps.{part_inside, part_len, part_get, whole_list}
+use Rattle.tune_problem.specs.Parts.{part, IsPart, part_end}
+use Rattle.tune_problem.specs.Inputs.{InputsView, settings_of, warrior_of}
+use Rattle.tune_problem.proofs.PartSteps.{part_inside, part_len, part_get, whole_list}
 use Rattle.tune_problem.specs.Problem.{Problem, problem_of}
 use Rattle.tune_problem.specs.Optimum.{IsOptimum, HasTotal, total_of}
-use Rattle.tune_problem.specs.Parts.{in_part, setting_count, first_setting, IsOutcome, AreOutcomes, IsBestPart}
+use Rattle.tune_problem.specs.BestPart.{in_part, setting_count, first_setting, IsOutcome, AreOutcomes, IsBestPart}
 
 -- ---- where the parts are
 

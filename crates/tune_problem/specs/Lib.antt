@@ -1,7 +1,12 @@
--- The optimum is the first setting with the greatest total. A certificate names a best setting, and
--- shows for each setting why it is not better: it does not assemble, it has the warrior of another
--- setting, or its cap does not beat the best setting. A valid certificate names the optimum.
+-- A tuning starts from a template, opponents, a schedule and rules, and searches a part of the
+-- template's settings. The optimum is the first setting with the greatest total. A certificate
+-- names a best setting, and shows for each setting why it is not better: it does not assemble, it
+-- has the warrior of another setting, or its cap does not beat the best setting. A valid
+-- certificate names the optimum.
+pub mod Limits
+pub mod Parts
+pub mod Inputs
 pub mod Problem
 pub mod Optimum
 pub mod Valid
-pub mod Parts
+pub mod BestPart

@@ -1,36 +1,29 @@
--- Tunings of parts, and what they say of the whole.
-use Rattle.std.specs.Prelude.{◌≡◌, ℕ, ◌<◌, ◌≤◌, Option, Some, None, length}
-use Rattle.tune_template.specs.Vectors.{vectors_of}
-use Rattle.tune_template.specs.Parts.{part, part_first}
-use Rattle.tune_template.specs.Instances.{InputsView}
-use Rattle.tune_problem.specs.Problem.{Problem, problem_of}
-use Rattle.tune_problem.specs.Optimum.{IsOptimum, HasTotal}
+-- Parts of the settings of a template.
+use Rattle.std.specs.Prelude.{ℕ, ◌-◌, ◌*◌, ◌/◌, ◌≤◌, List, length, take, drop}
+use Rattle.tune_problem.specs.declared.part.Part.{Part}
 
--- The same inputs with part `number` of `parts`.
-abbrev pub in_part : InputsView → ℕ → ℕ → InputsView
-in_part i number parts = record { template = i.template; opponents = i.opponents; schedule = i.schedule; rules = i.rules; part = part number parts }
+-- Part `number` of `parts`.
+abbrev pub part : ℕ → ℕ → Part
+part number parts = record { number = number; parts = parts }
 
--- The number of the template's settings.
-abbrev pub setting_count : InputsView → ℕ
-setting_count i = length (vectors_of i.template.ranges.spans)
+-- Part 1 of 1 has all settings.
+abbrev pub whole : Part
+whole = part 1 1
 
--- Where a part begins.
-abbrev pub first_setting : InputsView → ℕ → ℕ → ℕ
-first_setting i number parts = part_first (part number parts) (setting_count i)
+-- Parts are counted from 1, and there are at most as many as settings.
+pub record IsPart (p : Part) (count : ℕ) : Type 0 where
+  pub some : 1 ≤ p.number
+  pub within : p.number ≤ p.parts
+  pub few : p.parts ≤ count
 
--- How a tuning ends: with the optimum and its total, or without a candidate.
-abbrev pub IsOutcome : Problem → Option (ℕ × ℕ) → Type 0
-IsOutcome p (Some best) = IsOptimum p best.0 × HasTotal p best.0 best.1
-IsOutcome p None = (v : ℕ) → v < p.count → p.warrior v ≡ None
+-- Part I of K of N settings begins with setting (I - 1) * N / K, by whole division.
+abbrev pub part_first : Part → ℕ → ℕ
+part_first p count = (p.number - 1) * count / p.parts
 
--- The outcomes of parts 1 to `parts`.
-abbrev pub AreOutcomes : InputsView → ℕ → (ℕ → Option (ℕ × ℕ)) → Type 0
-AreOutcomes i parts outcome = (number : ℕ) → 1 ≤ number → number ≤ parts → IsOutcome (problem_of (in_part i number parts)) (outcome number)
+-- It ends before setting I * N / K, with which the next part begins.
+abbrev pub part_end : Part → ℕ → ℕ
+part_end p count = p.number * count / p.parts
 
--- The first of the parts with the greatest total.
-pub record IsBestPart (parts : ℕ) (outcome : ℕ → Option (ℕ × ℕ)) (number best total : ℕ) : Type 0 where
-  pub some : 1 ≤ number
-  pub within : number ≤ parts
-  pub here : outcome number ≡ Some (best, total)
-  pub greatest : (other w t : ℕ) → 1 ≤ other → other ≤ parts → outcome other ≡ Some (w, t) → t ≤ total
-  pub first : (other w t : ℕ) → 1 ≤ other → other ≤ parts → outcome other ≡ Some (w, t) → t ≡ total → number ≤ other
+-- The part of a list that has these indices.
+unfoldable pub part_of : {A : Type 0} → Part → List A → List A
+part_of p xs = take (part_end p (length xs) - part_first p (length xs)) (drop (part_first p (length xs)) xs)

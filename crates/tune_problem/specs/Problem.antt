@@ -4,7 +4,7 @@ use Rattle.rc_instr.specs.Rules.{RulesView}
 use Rattle.rc_instr.specs.Warrior.{WarriorView}
 use Rattle.mars_fight.specs.declared.fight.Fight.{Fight}
 use Rattle.mars_fight.specs.Play.{points_of, ArePoints}
-use Rattle.tune_template.specs.Instances.{InputsView, settings_of, part_start, warrior_of}
+use Rattle.tune_problem.specs.Inputs.{InputsView, settings_of, part_start, warrior_of}
 
 pub record Problem : Type 0 where
   -- the number of settings, and of fights; both have indices from 0

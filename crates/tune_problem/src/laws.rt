@@ -1,12 +1,22 @@
 //! Laws of the definitions. A law is a function with an empty body: its contract is what is proved.
-ghost use Rattle.std.specs.Prelude.{◌≡◌, ◌+◌, ◌≤◌, ℕ, Option, Some, None};
-ghost use Rattle.tune_template.specs.Instances.{InputsView};
+ghost use Rattle.std.specs.Prelude.{◌≡◌, ◌+◌, ◌≤◌, ℕ, ℤ, List, Option, Some, None, length, flat_map};
+ghost use Rattle.std.specs.List.{range_with_len};
+ghost use Rattle.tune_problem.specs.Parts.{part, whole, part_of};
+ghost use Rattle.tune_problem.specs.Inputs.{InputsView};
 ghost use Rattle.tune_problem.specs.Problem.{Problem, IsProblem, problem_of};
 ghost use Rattle.tune_problem.specs.Optimum.{IsOptimum, HasTotal};
 ghost use Rattle.tune_problem.specs.Valid.{IsValid};
-ghost use Rattle.tune_problem.specs.Parts.{in_part, setting_count, first_setting, IsOutcome, AreOutcomes, IsBestPart};
+ghost use Rattle.tune_problem.specs.BestPart.{in_part, setting_count, first_setting, IsOutcome, AreOutcomes, IsBestPart};
 
 use crate::cert::Cert;
+
+/// States that the parts of a list of settings, put together in order, are the whole list, and that
+/// part 1 of 1 is all of it.
+pub fn parts_make_the_whole()
+    ensures parts { (settings : List (List ℤ)) (parts : ℕ) → 1 ≤ parts → parts ≤ length settings
+        → flat_map (λ number. part_of (part number parts) settings) (range_with_len 1 parts) ≡ settings }
+    ensures whole { (settings : List (List ℤ)) → part_of whole settings ≡ settings }
+{}
 
 /// States that a valid certificate names the optimum and its total, and that there is only one
 /// optimum.

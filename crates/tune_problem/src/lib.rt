@@ -1,4 +1,4 @@
-//! What a tuning asks, and what is right: the optimum, and valid certificates of it.
+//! What a tuning starts from and what it asks: the optimum, and valid certificates of it.
 //!
 //! The optimum is the first setting with the greatest total. A certificate has a row for each
 //! setting, which shows why that setting is not better. Both the search and the checker stand on
@@ -6,11 +6,16 @@
 #![tactic(auto)]
 
 mod cert;
+mod inputs;
 pub mod laws;
+pub mod limits;
+mod part;
 mod problem;
 mod watcher;
 
 pub use cert::{Cert, Found, Listing, Row, Rows};
+pub use inputs::Inputs;
+pub use part::Part;
 pub use problem::{
     beats, cert_version, fight_count, fight_points, fight_weight, greatest_total, part_size,
     setting_warrior, start_setting,

@@ -9,19 +9,20 @@ ghost use Rattle.mars_core.specs.Arena.{IsBlank, fights_after};
 ghost use Rattle.mars_fight.specs.Limits.{MOST_FIGHTS, MOST_TOTAL, MOST_WEIGHT};
 ghost use Rattle.mars_fight.specs.Play.{ArePoints};
 
+use crate::inputs::Inputs;
 use crate::watcher::Best;
 use mars_core::{Arena, Cells};
 use mars_fight::play;
 use rc_asm::AsmKind;
 use rc_instr::{OutOfMemory, Warrior};
 use std::alloc::Global;
-use tune_template::Inputs;
 
 /// Assembles the template with the values of setting `vector`, which is below the count of
 /// settings of the inputs.
 ///
 /// Returns `None` if the text does not assemble with these values, or not to a warrior that fits
 /// the rules, and `OutOfMemory` if memory runs out: that says nothing about the setting.
+#[tactic(auto, using(crate::proofs::PartSteps::warrior_is))]
 pub fn setting_warrior(
     alloc: Global,
     inputs: &Inputs,
@@ -32,7 +33,8 @@ pub fn setting_warrior(
     ensures is_warrior { IfOk result (λ w. IfSome w IsWarrior) }
     ensures fits { IfOk result (λ w. IfSome w (Fits inputs.now.rules)) }
 {
-    match inputs.instance(alloc, vector) {
+    let index = inputs.index_in_template(vector);
+    match inputs.template().instance(alloc, index, inputs.rules()) {
         Ok(warrior) => Ok(Some(warrior)),
         Err(fault) => {
             if fault.kind == AsmKind::OutOfMemory {

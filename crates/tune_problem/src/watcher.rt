@@ -1,6 +1,6 @@
 //! Watchers of searches and checks, which are told how far these are.
 
-use tune_template::Inputs;
+use crate::inputs::Inputs;
 
 /// How far a search or a check is.
 #[derive(Clone, Copy, Debug, PartialEq, Eq)]
@@ -24,9 +24,9 @@ pub struct Best {
     pub total: u32,
 }
 
-/// Is told how far a search or a check is. No result depends on it.
+/// Hears how far a search or a check is. No result depends on it.
 pub trait Watcher {
-    /// Called by the runs of `tune_runs` with what their texts mean, before the search or the check.
+    /// Called by the runs of `tune_runs` before the search or the check, with what their texts mean.
     /// Searches and checks do not call it.
     fn begin(&mut self, inputs: &Inputs);
 

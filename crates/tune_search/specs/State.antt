@@ -1,5 +1,5 @@
 -- A search under way, as the contracts of private functions see it.
-use Rattle.std.specs.Prelude.{◌≡◌, ℕ, ◌+◌, ◌*◌, ◌<◌, ◌≤◌, Bool, true, false, ◌==◌, List, length, map, slice_get, Option, Some, None}
+use Rattle.std.specs.Prelude.{◌≡◌, ℕ, ◌+◌, ◌*◌, ◌<◌, ◌≤◌, Bool, true, false, ◌==◌, List, length, map, take, slice_get, Option, Some, None}
 use Rattle.std.specs.List.{AllByRecursion, count_by}
 use Rattle.std.specs.Ordering.{nat_cmp, ordering_then}
 use Rattle.std.specs.declared.cmp.Ordering.{Ordering}
@@ -8,13 +8,13 @@ use Rattle.rc_instr.specs.Warrior.{WarriorView, IsWarrior, Fits}
 use Rattle.rc_instr.specs.LoadText.{load_text}
 use Rattle.mars_core.specs.Arena.{IsBlank}
 use Rattle.mars_fight.specs.Limits.{MOST_FIGHTS}
-use Rattle.tune_template.specs.Instances.{InputsView}
+use Rattle.tune_problem.specs.Inputs.{InputsView}
 use Rattle.tune_problem.specs.Problem.{Problem, problem_of}
 use Rattle.tune_problem.specs.Valid.{IsOwnVersion, listed_fights}
 use Rattle.tune_problem.specs.declared.cert.Found.{Found}
 use Rattle.tune_problem.specs.declared.cert.Row.{Row}
 use Rattle.tune_problem.specs.declared.cert.Row.TheVariants.{Refused, Same, Cap}
-use Rattle.tune_search.specs.Order.{beats_lead, order_after}
+use Rattle.tune_search.specs.Order.{beats_lead, order_after, enough}
 use Rattle.tune_search.specs.Visits.{place, IsLeadAfter, IsFought}
 use Rattle.tune_search.specs.Recent.{IsRecent}
 use Rattle.tune_search.specs.Sharing.{leads, IsExplained}
@@ -22,6 +22,7 @@ use Rattle.tune_search.specs.Found.{copied_fights}
 use Rattle.tune_search.specs.Method.{capacity_of}
 use Rattle.tune_problem.specs.declared.watcher.Best.{Best}
 use Rattle.tune_search.specs.declared.candidate.Candidate.{Candidate}
+use Rattle.tune_search.specs.declared.fights.Challenge.{Challenge}
 use Rattle.tune_search.specs.declared.method.Method.{Method}
 use Rattle.tune_search.specs.declared.state.State.{State}
 
@@ -33,6 +34,10 @@ pub record IsCandidateAt (i : InputsView) (v : ℕ) (c : Candidate) : Type 0 whe
   pub is_warrior : IsWarrior c.warrior
   pub fits : Fits i.rules c.warrior
   pub text_is : c.text.items ≡ load_text i.rules.core c.warrior
+
+-- The fights of a challenge that are played: the first of its order, as many as are enough.
+abbrev pub fights_asked : Problem → Challenge → List ℕ
+fights_asked p c = take (enough p c.method c.entrant.now.warrior c.order.now c.entrant.now.vector c.lead) c.order.now
 
 -- The lead after a visit that left setting v with cap c, given whether c beats the lead before.
 abbrev pub lead_by : ℕ → ℕ → Option Best → Bool → Option Best

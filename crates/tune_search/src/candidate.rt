@@ -6,8 +6,7 @@ ghost use Rattle.tune_search.specs.State.{IsCandidateAt};
 use crate::fault::SearchFault;
 use rc_instr::{Warrior, write_loadfile};
 use std::alloc::Global;
-use tune_problem::setting_warrior;
-use tune_template::Inputs;
+use tune_problem::{Inputs, setting_warrior};
 
 // A setting that assembles, its warrior, and the load file of that.
 #[derive(Drop)]

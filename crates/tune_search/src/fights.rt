@@ -1,13 +1,13 @@
 //! Plays the fights of one warrior.
-ghost use Rattle.std.specs.Prelude.{◌≡◌, ◌<◌, ◌≤◌, ◌+◌, ◌^◌, length, take, IfOk, All};
+ghost use Rattle.std.specs.Prelude.{◌≡◌, ◌<◌, ◌≤◌, ◌+◌, ◌^◌, length, IfOk, All};
 ghost use Rattle.rc_instr.specs.Warrior.{Fits};
 ghost use Rattle.mars_core.specs.Arena.{IsBlank};
 ghost use Rattle.mars_fight.specs.Limits.{MOST_FIGHTS};
 ghost use Rattle.tune_problem.specs.Problem.{problem_of};
 ghost use Rattle.tune_problem.specs.Optimum.{all_fights, cap_of};
 ghost use Rattle.std.specs.List.Sorted.{IsPermutation};
-ghost use Rattle.tune_search.specs.Order.{enough};
 ghost use Rattle.tune_search.specs.Plays.{played};
+ghost use Rattle.tune_search.specs.State.{fights_asked};
 
 use crate::candidate::Candidate;
 use crate::method::{Method, drops};
@@ -15,8 +15,7 @@ use mars_core::{Arena, PackedCells};
 use mars_fight::MOST_POINTS;
 use rc_instr::Warrior;
 use std::alloc::{AllocError, Global};
-use tune_problem::{Best, Watcher, fight_points, fight_weight, greatest_total};
-use tune_template::Inputs;
+use tune_problem::{Best, Inputs, Watcher, fight_points, fight_weight, greatest_total};
 
 // Fights of a warrior in the order in which they were played, each with its points, and the cap of
 // the warrior by them: its total, if these are all fights.
@@ -26,7 +25,7 @@ pub(crate) struct Bout {
     pub(crate) cap: u32,
 }
 
-// What a candidate has to do: to play the fights of `order`, until `method` drops it against `lead`.
+// A candidate, the order of its fights, the lead to beat, and the method that may drop it.
 #[derive(Clone, Copy)]
 pub(crate) struct Challenge<'a> {
     pub(crate) method: Method,
@@ -50,8 +49,8 @@ pub(crate) fn play_enough<T: Watcher>(
     requires all { length challenge.now.order.now ≡ (problem_of inputs.now).fights }
     requires once { IsPermutation (all_fights (problem_of inputs.now)) challenge.now.order.now }
     requires below { All (λ k. k < (problem_of inputs.now).fights) challenge.now.order.now }
-    ensures listing { let p = problem_of inputs.now in IfOk result (λ b. b.listing.items ≡ played p challenge.now.entrant.now.warrior (take (enough p challenge.now.method challenge.now.entrant.now.warrior challenge.now.order.now challenge.now.entrant.now.vector challenge.now.lead) challenge.now.order.now)) }
-    ensures cap { let p = problem_of inputs.now in IfOk result (λ b. b.cap ≡ cap_of p challenge.now.entrant.now.warrior (take (enough p challenge.now.method challenge.now.entrant.now.warrior challenge.now.order.now challenge.now.entrant.now.vector challenge.now.lead) challenge.now.order.now)) }
+    ensures listing { let p = problem_of inputs.now in IfOk result (λ b. b.listing.items ≡ played p challenge.now.entrant.now.warrior (fights_asked p challenge.now)) }
+    ensures cap { let p = problem_of inputs.now in IfOk result (λ b. b.cap ≡ cap_of p challenge.now.entrant.now.warrior (fights_asked p challenge.now)) }
     ensures few { IfOk result (λ b. length b.listing.items ≤ MOST_FIGHTS) }
     ensures blank { IsBlank inputs.now.rules arena.new }
     ensures fights { IfOk result (λ b. arena.old.fights + length b.listing.items < 2 ^ 64 → arena.new.fights ≡ arena.old.fights + length b.listing.items) }

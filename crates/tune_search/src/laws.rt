@@ -31,17 +31,17 @@ pub fn a_search_has_one_answer()
     ensures { (p : Problem) (method : Method) (f g : Found) → IsSearch p method f → IsSearch p method g → f ≡ g }
 {}
 
-/// States that searches by any two methods find one setting and one total, and count as many
+/// States that all methods find the same setting, with the same total, and count the same number of
 /// settings that assemble.
 pub fn all_methods_find_the_optimum()
     ensures { (p : Problem) (one other : Method) (f g : Found) → IsSearch p one f → IsSearch p other g
         → (f.best ≡ g.best) × (f.total ≡ g.total) × (f.candidates ≡ g.candidates) }
 {}
 
-/// States that a search by `PlayingAll` plays every fight of every setting that assembles: its row
-/// lists them, `fights` counts them, and no row is a copy.
+/// States what `PlayingAll` finds. The row of a setting that assembles lists all fights, the count
+/// of fights is that of all these rows, and no row is a copy.
 ///
-/// It needs one fact, which holds for any inputs: a fight gives 0, 1 or 3 points.
+/// The premise `IsProblem`, that a fight gives 0, 1 or 3 points, holds for any inputs.
 pub fn playing_all_lists_every_fight()
     ensures rows { (p : Problem) (f : Found) → IsProblem p → IsSearch p Method.PlayingAll f → f.rows ≡ rows_of p }
     ensures work { (p : Problem) (f : Found) → IsProblem p → IsSearch p Method.PlayingAll f → f.fights ≡ f.candidates * p.fights }

@@ -7,6 +7,7 @@ mod fault;
 mod fights;
 pub mod laws;
 mod lead;
+pub mod limits;
 mod method;
 mod order;
 mod state;
@@ -14,4 +15,5 @@ mod tuning;
 
 pub use fault::SearchFault;
 pub use method::Method;
+pub use tune_problem::Inputs;
 pub use tuning::{search, search_by};

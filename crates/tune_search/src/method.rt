@@ -1,4 +1,4 @@
-//! How a search goes.
+//! The methods of a search.
 ghost use Rattle.std.specs.Prelude.{◌≡◌};
 ghost use Rattle.tune_search.specs.Method.{capacity_of};
 ghost use Rattle.tune_search.specs.Order.{drops};

@@ -17,9 +17,9 @@ use crate::order::{all_in_order, learn_order, sort_by_index, visited};
 use mars_core::{Arena, PackedCells};
 use std::alloc::{AllocError, Global};
 use tune_problem::{
-    Best, Found, Listing, Row, Rows, Watcher, cert_version, fight_count, part_size, start_setting,
+    Best, Found, Inputs, Listing, Row, Rows, Watcher, cert_version, fight_count, part_size,
+    start_setting,
 };
-use tune_template::Inputs;
 
 #[derive(Drop)]
 pub(crate) struct State {

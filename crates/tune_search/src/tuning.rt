@@ -10,8 +10,7 @@ use crate::lead::standing;
 use crate::method::Method;
 use crate::state::State;
 use std::alloc::Global;
-use tune_problem::{Found, Silent, Watcher, part_size};
-use tune_template::Inputs;
+use tune_problem::{Found, Inputs, Silent, Watcher, part_size};
 
 /// Finds the optimum: the first setting of the template with the greatest total in the fights of
 /// the schedule. Plays only fights that can matter.
@@ -48,9 +47,9 @@ pub fn search(alloc: Global, inputs: &Inputs, capacity: u32) -> Result<Found, Se
 /// Finds the optimum by `method`, whose capacity is 1 to 65536 if it has one, and tells `watcher`
 /// after each fight and each setting how far the search is.
 ///
-/// `Method::Dropping` is what `search` does. `Method::PlayingAll` visits the settings and plays their
-/// fights in the same orders, but drops and remembers none: the row of each setting that assembles
-/// is `Cap` with all fights. Both find the same setting, with the same total.
+/// `Method::Dropping` is what `search` does. `Method::PlayingAll` visits the settings and plays
+/// their fights in the same orders, but drops and remembers none: the row of each setting that
+/// assembles is `Cap` with all fights. Both find the same setting, with the same total.
 ///
 /// # Errors
 ///

@@ -2,5 +2,4 @@ pub mod LineSteps
 pub mod Counts
 pub mod VectorSteps
 pub mod InstanceSteps
-pub mod PartSteps
 pub mod RangeLaws

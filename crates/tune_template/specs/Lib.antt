@@ -7,7 +7,6 @@ pub mod Lines
 pub mod Spans
 pub mod Ranges
 pub mod Vectors
-pub mod Parts
 pub mod Instances
 pub mod Laws
 pub mod Steps

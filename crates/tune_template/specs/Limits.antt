@@ -1,4 +1,4 @@
--- The limits of a template, and of a tuning.
+-- The limits of a template.
 use Rattle.std.specs.Prelude.{ℕ}
 
 -- the constants of a template
@@ -8,7 +8,3 @@ MOST_CONSTANTS = 8
 -- the settings of a template
 abbrev pub MOST_SETTINGS : ℕ
 MOST_SETTINGS = 1000000
-
--- the opponents of a tuning
-abbrev pub MOST_OPPONENTS : ℕ
-MOST_OPPONENTS = 64

@@ -5,7 +5,7 @@ use Rattle.rc_text.specs.declared.class.NameClass.{NameClass}
 use Rattle.rc_text.specs.declared.class.NameClass.TheVariants.{NoName, Reserved, Predefined, Free}
 use Rattle.rc_expand.specs.Names.{is_among}
 use Rattle.rc_asm.specs.Limits.{MOST_BYTES}
-use Rattle.mars_fight.specs.Decimal.{padded_decimal}
+use Rattle.rc_instr.specs.Decimal.{padded_decimal}
 use Rattle.tune_template.specs.declared.span.Span.{Span}
 use Rattle.tune_template.specs.declared.fault.TemplateKind.{TemplateKind}
 use Rattle.tune_template.specs.declared.fault.TemplateKind.TheVariants.{BadLine, DuplicateName, ReservedName, TooManyConstants, TooManyVectors, TextTooLong}

@@ -2,7 +2,7 @@
 ghost use Rattle.std.specs.Prelude.{◌≡◌, ◌<◌, ◌≤ℤ◌, ℤ, pos, negsuc, IfSome};
 ghost use Rattle.tune_template.specs.Ranges.{small_number, signed_number, step_number};
 
-use mars_fight::padded_decimal;
+use rc_instr::padded_decimal;
 
 // Reads an optional minus and 1 to 5 digits, -65535 to 65535.
 pub(crate) fn signed_number(word: &[u8]) -> Option<i32>

@@ -7,7 +7,7 @@ ghost use Rattle.tune_template.specs.Limits.{MOST_CONSTANTS, MOST_SETTINGS};
 ghost use Rattle.tune_template.specs.Lines.{lines_of};
 ghost use Rattle.tune_template.specs.Ranges.{Ranges, ranges, vector_count, line_added, ranges_from, ranges_of, HasRanges};
 ghost use Rattle.tune_template.specs.Vectors.{vectors_of, start_vector, start_index};
-ghost use Rattle.rc_asm.specs.Faults.{IsAsmFault};
+ghost use Rattle.rc_asm.specs.Assembly.{IsAsmFault};
 ghost use Rattle.tune_template.specs.Instances.{TemplateView, constants_of, instance_of};
 ghost use Rattle.tune_template.specs.Steps.{seen_ranges, AreCounted, HasValues};
 
@@ -17,7 +17,6 @@ use crate::lines::{first_line, is_range_line};
 use crate::range::Reading;
 use crate::span::Span;
 use crate::vector::Vector;
-use rc_asm::laws::assembly_is_computed;
 use rc_asm::{AsmFault, assemble};
 use rc_expand::Constants;
 use rc_instr::{Rules, Warrior};
@@ -97,6 +96,13 @@ impl Template {
         })
     }
 
+    /// Returns the text.
+    pub fn text(&self) -> &[u8]
+        ensures { result.now ≡ self.now.text }
+    {
+        self.text.as_slice()
+    }
+
     /// Returns the number of settings, 1 to 1000000.
     #[tactic(auto, using(crate::proofs::VectorSteps::vectors_len, crate::proofs::VectorSteps::some_vector))]
     pub fn count(&self) -> u32
@@ -153,7 +159,6 @@ impl Template {
             IsAsmFault self.now.text (constants_of self.now.ranges.names x) rules.now f) }
         ensures memory { IfErr result (λ f. f.kind ≡ NoRoomToAssemble → f.line ≡ 0) }
     {
-        assembly_is_computed();
         let vector = self.vector(index);
         let constants = Constants {
             names: self.names(),

@@ -6,7 +6,8 @@ use mars_fight::Schedule;
 use rc_instr::{Rules, write_loadfile};
 use std::alloc::Global;
 use std::test::Fail;
-use tune_template::{Inputs, Part, Template};
+use tune_problem::{Inputs, Part, part_size, setting_warrior, start_setting};
+use tune_template::Template;
 
 // Parts of six settings, of which the search begins with the fifth: number and parts; the count of
 // settings, the index of the start setting, and the first setting.
@@ -30,7 +31,8 @@ fn six_settings(alloc: Global) -> Result<Inputs, Fail> {
 // Whether a part has this count of settings, this start setting and this first setting.
 fn is_as(part: &Inputs, count: u32, start: u32, first: [i64; 2]) -> bool {
     prove!(0 < part.count());
-    (part.count(), part.start_number()) == (count, start)
+    (part_size(part), start_setting(part)) == (count, start)
+        && (part.count(), part.start_number()) == (count, start)
         && part.vector(0).as_slice() == first.as_slice()
 }
 
@@ -69,7 +71,7 @@ fn a_setting_of_a_part_assembles(rt: HostRuntime) -> Result<(), Fail> {
         })
         .expect(&rt, "a part");
     prove!(0 < part.count());
-    let warrior = part.instance(rt.alloc(), 0)?;
+    let warrior = setting_warrior(rt.alloc(), &part, 0)?.expect(&rt, "a warrior");
     let mut text = Vec::new(rt.alloc());
     write_loadfile(rt.alloc(), &warrior, part.rules(), &mut text)?;
     assert_eq!(rt; text.as_slice(), b"ORG 0\nDAT.F $1, $6\n".as_slice());

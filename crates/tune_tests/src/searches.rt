@@ -5,9 +5,9 @@ use mars_fight::Schedule;
 use rc_instr::Rules;
 use std::alloc::Global;
 use std::test::Fail;
-use tune_problem::Silent;
+use tune_problem::{Best, Inputs, Silent, beats};
 use tune_search::{Method, SearchFault, search, search_by};
-use tune_template::{Inputs, Template};
+use tune_template::Template;
 
 // Three settings: the first does not assemble, the others are imps. The search starts with the
 // second.
@@ -43,6 +43,17 @@ fn equal_warriors_share_their_fights(rt: HostRuntime) -> Result<(), Fail> {
     let rows =
         b"cwcert,1,4\nbest,0,4\ncap,0,0:3 1:1\nsame,1,2\ncap,2,0:3 1:1\nsame,3,2\n".as_slice();
     assert_eq!(rt; cert_of(rt.alloc(), &found)?.as_slice(), rows);
+    Ok(())
+}
+
+#[test]
+fn a_tie_beats_by_the_smaller_index(rt: HostRuntime) -> Result<(), Fail> {
+    let best = Best {
+        vector: 2,
+        total: 5,
+    };
+    assert!(rt; beats(6, 3, best) && beats(5, 1, best));
+    assert!(rt; !beats(5, 2, best) && !beats(5, 3, best) && !beats(4, 1, best));
     Ok(())
 }
 

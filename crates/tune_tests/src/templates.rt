@@ -67,6 +67,7 @@ fn has_names(template: &Template, first: &[u8], second: &[u8]) -> bool {
 fn vectors_are_in_order(rt: HostRuntime) -> Result<(), Fail> {
     let template = Template::read(rt.alloc(), b";@tune A 0 1 1 1\n;@tune B 5 9 2 9\n")?;
     assert!(rt; has_names(&template, b"A", b"B"));
+    assert!(rt; template.text().starts_with(b";@tune A"));
     assert_eq!(rt; template.count(), 6);
     assert_eq!(rt; template.start_number(), 5);
     for &(index, first, second) in &VECTORS {

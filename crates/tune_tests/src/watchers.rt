@@ -4,8 +4,8 @@ use crate::searches::{THREE, inputs_of};
 use std::process::Abort;
 use std::test::Fail;
 use tune_cert::{Best, Standing, Verdict, Watcher, watched_check};
+use tune_problem::Inputs;
 use tune_search::{Method, search_by};
-use tune_template::Inputs;
 
 // A watcher that keeps the first four standings, and counts all. `heard` stays true if `hear`
 // gets 1, 2, .. and each standing has the last of these.

@@ -1,12 +1,12 @@
-//! `tune_by_run` by either method, under rules of 16 cells, 20 cycles, 4 tasks, length 4 and distance
-//! 4.
+//! `tune_by_run` by either method, under rules of 16 cells, 20 cycles, 4 tasks, length 4 and
+//! distance 4.
 use crate::runs::tuning::{BOTH, both_opponents};
 use crate::writers::Broken;
 use rc_instr::{Outlet, Rules};
 use std::test::Fail;
 use tune_cert::Silent;
+use tune_problem::Part;
 use tune_runs::{Method, RunFault, TuneTexts, tune_by_run};
-use tune_template::Part;
 
 // Returns the texts of a tuning of two settings with one warrior, an imp.
 fn imps<'a>(opponents: &'a [Vec<u8>], rules: &'a Rules) -> TuneTexts<'a> {

@@ -4,8 +4,8 @@ use crate::runs::tuning::{BOTH, both_opponents};
 use rc_instr::{Outlet, Rules};
 use std::test::Fail;
 use tune_cert::Silent;
+use tune_problem::Part;
 use tune_runs::{Method, TuneTexts, check_part_run, tune_by_run};
-use tune_template::Part;
 
 // Six settings that make two warriors in turn.
 const HALF: &[u8] = b";@tune K 0 5 1 0\nMOV 0, 1\nDAT K % 2";

@@ -4,8 +4,8 @@ use crate::runs::tuning::{BOTH, ORDER, ORDER_CERT, both_opponents};
 use rc_instr::{Outlet, Rules};
 use std::test::Fail;
 use tune_cert::{Standing, Watcher};
+use tune_problem::{Inputs, Part};
 use tune_runs::{Method, RunFault, TuneTexts, check_part_run, tune_by_run};
-use tune_template::{Inputs, Part};
 
 // Counts the begins, settings, fights and ends that it is told of, and what it is told after an
 // end.

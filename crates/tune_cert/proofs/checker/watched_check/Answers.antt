@@ -1,4 +1,4 @@
-use Rattle.mars_fight.specs.Records.{records_of}
+use Rattle.tables.specs.Records.{records_of}
 use Rattle.tune_problem.specs.Problem.{problem_of}
 use Rattle.tune_problem.proofs.Scores.{inputs_problem}
 use Rattle.tune_cert.proofs.RightVerdicts.{right_if}

@@ -1,6 +1,6 @@
 use Rattle.std.proofs.Common.{◌≡◌, ◌∙◌, ◌≤◌, ◌^◌, sym, ap, arith, refl, append-nil, length-append, [], ◌∷◌, ◌++◌, length, List}
 use Rattle.std.proofs.lemmas.List.Elements.{All-push}
-use Rattle.mars_fight.specs.Records.{Fields}
+use Rattle.tables.specs.Records.{Fields}
 use Rattle.tune_cert.specs.CertText.{rows_fields}
 use Rattle.tune_cert.specs.Spelling.{IsRow}
 use Rattle.tune_cert.proofs.RowLists.{one_more, fields_push, begins, no_rows, left_over, have_rows, stopped}

@@ -1,10 +1,6 @@
 use Rattle.std.proofs.Common.{◌≡◌, ◌∙◌, ap, subst}
-use Rattle.std.specs.Prelude.{IfOk, IfErr, ◌≢◌}
-use Rattle.rc_instr.specs.Warrior.{WarriorView}
 use Rattle.rc_expand.specs.Names.{table_of}
-use Rattle.rc_asm.specs.declared.fault.AsmKind.TheVariants.{OutOfMemory}
-use Rattle.rc_asm.specs.Assembly.{Assembles}
-use Rattle.rc_asm.specs.Faults.{IsAsmFault}
+use Rattle.rc_asm.specs.Assembly.{outcome_of, IsOutcome}
 use Rattle.tune_template.specs.Instances.{constants_of}
 use Rattle.tune_template.proofs.InstanceSteps.{same_table, found_instance, no_instance, instance_fault}
 use Rattle.tune_template.proofs.template.Template.instance.Goals as goal
@@ -15,8 +11,8 @@ returns-clause-warrior c =
     let k = table_of c.names.result.now c.as_slice.result.now in
     let same : k ≡ constants_of t.ranges.names c.vector-vector.result = same_table c.names.result.now c.as_slice.result.now ∙ (ap (λ n. constants_of n c.as_slice.result.now) c.names.ensures ∙ ap (constants_of t.ranges.names) c.as_slice.ensures) in
     let text : c.deref.result.now ≡ t.text = c.deref.ensures.value ∙ ap (λ t. t.text) c.self.view_is in
-    found_instance t c.args.rules.now c.args.index c.vector-vector.result k c.vector-vector.ensures same (λ s k r w. c.assembly_is_computed.ensures s k r w) c.assemble.result
-    (subst (λ s. IfOk c.assemble.result (Assembles s k c.args.rules.now)) text c.assemble.ensures.warrior)
+    found_instance t c.args.rules.now c.args.index c.vector-vector.result k c.vector-vector.ensures same c.assemble.result
+    (subst (λ s. IsOutcome (outcome_of s k c.args.rules.now) c.assemble.result) text c.assemble.ensures.outcome)
 
 pub returns-clause-refused : goal.returns-clause-refused
 returns-clause-refused c =
@@ -24,8 +20,8 @@ returns-clause-refused c =
     let k = table_of c.names.result.now c.as_slice.result.now in
     let same : k ≡ constants_of t.ranges.names c.vector-vector.result = same_table c.names.result.now c.as_slice.result.now ∙ (ap (λ n. constants_of n c.as_slice.result.now) c.names.ensures ∙ ap (constants_of t.ranges.names) c.as_slice.ensures) in
     let text : c.deref.result.now ≡ t.text = c.deref.ensures.value ∙ ap (λ t. t.text) c.self.view_is in
-    no_instance t c.args.rules.now c.args.index c.vector-vector.result k c.vector-vector.ensures same (λ s k r w. c.assembly_is_computed.ensures s k r w) c.assemble.result
-    (subst (λ s. IfErr c.assemble.result (λ f. f.kind ≢ OutOfMemory → (w : WarriorView) → Assembles s k c.args.rules.now w → ⊥)) text c.assemble.ensures.refused)
+    no_instance t c.args.rules.now c.args.index c.vector-vector.result k c.vector-vector.ensures same c.assemble.result
+    (subst (λ s. IsOutcome (outcome_of s k c.args.rules.now) c.assemble.result) text c.assemble.ensures.outcome)
 
 pub returns-clause-fault : goal.returns-clause-fault
 returns-clause-fault c =
@@ -34,4 +30,4 @@ returns-clause-fault c =
     let same : k ≡ constants_of t.ranges.names c.vector-vector.result = same_table c.names.result.now c.as_slice.result.now ∙ (ap (λ n. constants_of n c.as_slice.result.now) c.names.ensures ∙ ap (constants_of t.ranges.names) c.as_slice.ensures) in
     let text : c.deref.result.now ≡ t.text = c.deref.ensures.value ∙ ap (λ t. t.text) c.self.view_is in
     instance_fault t c.args.rules.now c.args.index c.vector-vector.result k c.vector-vector.ensures same c.assemble.result
-    (subst (λ s. IfErr c.assemble.result (λ f. f.kind ≢ OutOfMemory → IsAsmFault s k c.args.rules.now f)) text c.assemble.ensures.fault)
+    (subst (λ s. IsOutcome (outcome_of s k c.args.rules.now) c.assemble.result) text c.assemble.ensures.outcome)

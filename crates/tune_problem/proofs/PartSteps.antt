@@ -1,20 +1,17 @@
 -- The settings of a part, and their places among all settings.
-use Rattle.std.proofs.Common.{◌≡◌, ℕ, zero, suc, ◌+◌, ◌-◌, ◌*◌, ◌/◌, ◌<◌, ◌≤◌, List, [], ◌∷◌, ◌++◌, length, take, drop, Some, None, refl, sym, ◌∙◌, ap, subst, arith, append-nil}
-use Rattle.std.specs.Prelude.{◌≢◌, ℤ, Result, Ok, Err, IfOk, IfErr, slice_get, flat_map, option_and_then}
+use Rattle.std.proofs.Common.{◌≡◌, ℕ, zero, suc, ◌+◌, ◌-◌, ◌*◌, ◌/◌, ◌<◌, ◌≤◌, List, [], ◌∷◌, ◌++◌, length, take, drop, Some, refl, sym, ◌∙◌, ap, subst, arith, append-nil}
+use Rattle.std.specs.Prelude.{ℤ, slice_get, flat_map, option_and_then}
 use Rattle.std.specs.List.{range_with_len}
 use Rattle.std.proofs.lemmas.List.{length-drop, length-take-le}
 use Rattle.std.proofs.Math.Nat.{div-mul-le_self, div-le_of_le-mul, mul-le-mul_right, mul-div_cancel_left, zero-div}
 use Rattle.std.proofs.lemmas.Nat.{le-div}
 use Rattle.std.proofs.lemmas.List.Concat.{flat_map-append}
 use Rattle.std.proofs.Math.Seq.{take-add, take-length}
-use Rattle.tune_template.specs.declared.part.Part.{Part}
-use Rattle.tune_template.specs.Parts.{part, whole, IsPart, part_first, part_end, part_of}
-use Rattle.rc_instr.specs.Warrior.{WarriorView}
-use Rattle.rc_asm.specs.Faults.{IsAsmFault}
-use Rattle.rc_asm.specs.declared.fault.AsmFault.{AsmFault}
-use Rattle.rc_asm.specs.declared.fault.AsmKind.TheVariants.{OutOfMemory}
+use Rattle.tune_problem.specs.declared.part.Part.{Part}
+use Rattle.tune_problem.specs.Parts.{part, whole, IsPart, part_first, part_end, part_of}
 use Rattle.tune_template.specs.Vectors.{vectors_of, start_index}
-use Rattle.tune_template.specs.Instances.{InputsView, AreInputs, settings_of, index_among, part_start, warrior_of, instance_of, constants_of}
+use Rattle.tune_template.specs.Instances.{instance_of}
+use Rattle.tune_problem.specs.Inputs.{InputsView, AreInputs, settings_of, index_among, part_start, warrior_of}
 
 -- ---- bounds of a part
 
@@ -113,22 +110,8 @@ module _ (i : InputsView) (h : AreInputs i) where
     pub setting_found : (x : List ℤ) → slice_get (vectors_of i.template.ranges.spans) n ≡ Some x → slice_get (settings_of i) v ≡ Some x
     setting_found x e = setting_at v l ∙ (ap (slice_get (vectors_of i.template.ranges.spans)) (sym at) ∙ e)
 
-    warrior_is : warrior_of i v ≡ instance_of i.template i.rules n
+    pub warrior_is : warrior_of i v ≡ instance_of i.template i.rules n
     warrior_is = warrior_at v l ∙ ap (instance_of i.template i.rules) (sym at)
-
-    pub warrior_found : (r : Result WarriorView AsmFault) → IfOk r (λ w. instance_of i.template i.rules n ≡ Some w) → IfOk r (λ w. warrior_of i v ≡ Some w)
-    warrior_found (Ok w) h = warrior_is ∙ h
-    warrior_found (Err f) h = h
-
-    pub no_warrior : (r : Result WarriorView AsmFault) → IfErr r (λ f. f.kind ≢ OutOfMemory → instance_of i.template i.rules n ≡ None) → IfErr r (λ f. f.kind ≢ OutOfMemory → warrior_of i v ≡ None)
-    no_warrior (Ok w) h = h
-    no_warrior (Err f) h = λ m. warrior_is ∙ h m
-
-    pub warrior_fault : (r : Result WarriorView AsmFault)
-        → IfErr r (λ f. f.kind ≢ OutOfMemory → (x : List ℤ) → slice_get (vectors_of i.template.ranges.spans) n ≡ Some x → IsAsmFault i.template.text (constants_of i.template.ranges.names x) i.rules f)
-        → IfErr r (λ f. f.kind ≢ OutOfMemory → (x : List ℤ) → slice_get (settings_of i) v ≡ Some x → IsAsmFault i.template.text (constants_of i.template.ranges.names x) i.rules f)
-    warrior_fault (Ok w) h = h
-    warrior_fault (Err f) h = λ m x e. h m x (ap (slice_get (vectors_of i.template.ranges.spans)) at ∙ (sym (setting_at v l) ∙ e))
 
 -- ---- all parts
 

@@ -1,6 +1,6 @@
 //! Parts of the settings of a template.
 ghost use Rattle.std.specs.Prelude.{◌≡◌, ◌≤◌, ◌↔◌, IsTrue};
-ghost use Rattle.tune_template.specs.Parts.{IsPart, part_first, part_end};
+ghost use Rattle.tune_problem.specs.Parts.{IsPart, part_first, part_end};
 
 /// A part of the settings of a template, which are split into `parts` parts of nearly equal size.
 ///

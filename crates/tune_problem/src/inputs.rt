@@ -1,22 +1,18 @@
 //! What a tuning starts from.
-ghost use Rattle.std.specs.Prelude.{◌≡◌, ◌≢◌, ◌≤◌, ◌<◌, ◌+◌, ℤ, List, length, slice_get, All, Some, None, MatchOption, IfOk, IfErr};
-ghost use Rattle.rc_instr.specs.Warrior.{IsWarrior, Fits};
-ghost use Rattle.rc_asm.specs.Faults.{IsAsmFault};
-ghost use Rattle.rc_asm.specs.declared.fault.AsmKind.TheVariants.{OutOfMemory as NoRoomToAssemble};
+ghost use Rattle.std.specs.Prelude.{◌≡◌, ◌≤◌, ◌<◌, ◌+◌, length, slice_get, All, Some, MatchOption};
+ghost use Rattle.rc_instr.specs.Warrior.{Fits};
 ghost use Rattle.mars_fight.specs.Listed.{IsFight};
-ghost use Rattle.tune_template.specs.Limits.{MOST_SETTINGS, MOST_OPPONENTS};
+ghost use Rattle.tune_template.specs.Limits.{MOST_SETTINGS};
 ghost use Rattle.tune_template.specs.Vectors.{vectors_of};
-ghost use Rattle.tune_template.specs.Parts.{whole, IsPart, part_first};
-ghost use Rattle.tune_template.specs.Instances.{constants_of, InputsView, AreInputs, settings_of, index_among, part_start, warrior_of};
+ghost use Rattle.tune_problem.specs.Limits.{MOST_OPPONENTS};
+ghost use Rattle.tune_problem.specs.Parts.{whole, IsPart, part_first};
+ghost use Rattle.tune_problem.specs.Inputs.{AreInputs, with_part, settings_of, index_among, part_start};
 
 use crate::part::Part;
-use crate::template::Template;
-use crate::vector::Vector;
 use mars_fight::Schedule;
-use rc_asm::AsmFault;
 use rc_instr::{Rules, Warrior};
-use std::alloc::Global;
 use std::marker::Model;
+use tune_template::{Template, Vector};
 
 /// A template, the opponents of its warriors, the schedule of their fights, the rules, and the part
 /// of the template's settings that is searched.
@@ -30,7 +26,7 @@ pub struct Inputs {
 }
 
 impl Model for Inputs {
-    ghost use Rattle.tune_template.specs.Instances.{InputsView, AreInputs};
+    ghost use Rattle.tune_problem.specs.Inputs.{InputsView, AreInputs};
 
     ghost Value = { InputsView };
 
@@ -71,7 +67,7 @@ impl Inputs {
     /// number of the template's settings.
     pub fn part(self, part: Part) -> Option<Inputs>
         ensures { MatchOption result (IsPart part (length (vectors_of self.template.ranges.spans)) → ⊥)
-            (λ i. i ≡ record { template = self.template; opponents = self.opponents; schedule = self.schedule; rules = self.rules; part = part }) }
+            (λ i. i ≡ with_part self part) }
     {
         if !part.is_part_of(self.template.count()) {
             return None;
@@ -144,23 +140,17 @@ impl Inputs {
         self.template().vector(self.index_in_template(index))
     }
 
-    /// Assembles the template with the values of the part's setting at `index`, which must be below
+    /// Returns the index in the template of the part's setting at `index`, which must be below
     /// `count`.
-    ///
-    /// Fails as `rc_asm::assemble` does for the text with these values.
-    #[tactic(auto, using(crate::proofs::PartSteps::warrior_found, crate::proofs::PartSteps::no_warrior, crate::proofs::PartSteps::warrior_fault))]
-    pub fn instance(&self, alloc: Global, index: u32) -> Result<Warrior, AsmFault>
+    #[tactic(auto, using(crate::proofs::PartSteps::setting_inside))]
+    pub fn index_in_template(&self, index: u32) -> u32
         requires { index < length (settings_of self.now) }
-        ensures warrior { IfOk result (λ w. warrior_of self.now index ≡ Some w) }
-        ensures is_warrior { IfOk result IsWarrior }
-        ensures fits { IfOk result (Fits self.now.rules) }
-        ensures refused { IfErr result (λ f. f.kind ≢ NoRoomToAssemble → warrior_of self.now index ≡ None) }
-        ensures fault { IfErr result (λ f. f.kind ≢ NoRoomToAssemble → (x : List ℤ) → slice_get (settings_of self.now) index ≡ Some x →
-            IsAsmFault self.now.template.text (constants_of self.now.template.ranges.names x) self.now.rules f) }
-        ensures memory { IfErr result (λ f. f.kind ≡ NoRoomToAssemble → f.line ≡ 0) }
+        ensures index { result ≡ part_first self.now.part (length (vectors_of self.now.template.ranges.spans)) + index }
+        ensures inside { result < length (vectors_of self.now.template.ranges.spans) }
+        ensures inputs { AreInputs self.now }
     {
-        self.template()
-            .instance(alloc, self.index_in_template(index), self.rules())
+        prove!(0 < self.template.count());
+        self.first() + index
     }
 
     // Returns the index in the template of the part's first setting.
@@ -169,18 +159,6 @@ impl Inputs {
         ensures inputs { AreInputs self.now }
     {
         self.part.first(self.template.count())
-    }
-
-    // Returns the index in the template of the part's setting at `index`.
-    #[tactic(auto, using(crate::proofs::PartSteps::setting_inside))]
-    fn index_in_template(&self, index: u32) -> u32
-        requires { index < length (settings_of self.now) }
-        ensures index { result ≡ part_first self.now.part (length (vectors_of self.now.template.ranges.spans)) + index }
-        ensures inside { result < length (vectors_of self.now.template.ranges.spans) }
-        ensures inputs { AreInputs self.now }
-    {
-        prove!(0 < self.template.count());
-        self.first() + index
     }
 }
 

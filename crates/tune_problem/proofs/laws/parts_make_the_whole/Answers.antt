@@ -1,5 +1,5 @@
-use Rattle.tune_template.proofs.PartSteps.{all_parts, whole_list}
-use Rattle.tune_template.proofs.laws.parts_make_the_whole.Goals as goal
+use Rattle.tune_problem.proofs.PartSteps.{all_parts, whole_list}
+use Rattle.tune_problem.proofs.laws.parts_make_the_whole.Goals as goal
 
 pub returns-clause-parts : goal.returns-clause-parts
 returns-clause-parts c = λ settings parts some few. all_parts settings parts few some

@@ -1,7 +1,7 @@
 use Rattle.std.proofs.Common.{◌≡◌, length, ap, arith}
 use Rattle.tune_template.specs.Vectors.{vectors_of}
-use Rattle.tune_template.proofs.PartSteps.{setting_inside}
-use Rattle.tune_template.proofs.inputs.Inputs.index_in_template.Goals as goal
+use Rattle.tune_problem.proofs.PartSteps.{setting_inside}
+use Rattle.tune_problem.proofs.inputs.Inputs.index_in_template.Goals as goal
 
 pub overflow_add-result : goal.overflow_add-result
 overflow_add-result c =

@@ -1,0 +1,5 @@
+//! The limit of a tuning, named as in `specs/Limits.antt`. Code writes `limits::NAME`, so that a
+//! bare NAME in a clause is the definition.
+
+/// The opponents of a tuning.
+pub const MOST_OPPONENTS: usize = 64;
