@@ -3,9 +3,9 @@ use Rattle.std.proofs.Common.{◌≡◌, ℕ, ◌+◌, ◌≤◌, List, Option, 
 use Rattle.std.specs.Io.KnownBytes.{Appends}
 use Rattle.std.proofs.lemmas.Bool.{true≢false}
 use Rattle.tune_cert.specs.declared.verdict.Verdict.TheVariants.{Accepted, Rejected}
-use Rattle.tune_template.specs.Instances.{InputsView}
+use Rattle.tune_problem.specs.Inputs.{InputsView}
 use Rattle.tune_problem.specs.Problem.{problem_of}
-use Rattle.tune_problem.specs.Parts.{in_part, first_setting, IsOutcome, AreOutcomes, IsBestPart}
+use Rattle.tune_problem.specs.BestPart.{in_part, first_setting, IsOutcome, AreOutcomes, IsBestPart}
 use Rattle.tune_problem.proofs.WholeOfParts.{best_is_optimum, best_has_total, none_in_whole}
 use Rattle.tune_runs.specs.TuneRun.{Texts, of_part, setting_count, Means, HasNoCandidate, IsTuneRefusal}
 use Rattle.tune_runs.specs.CheckRun.{check_line, Accepts, IsShown, WritesVerdict}

@@ -2,8 +2,8 @@
 use Rattle.std.proofs.Common.{◌≡◌, ◌≤◌, ℕ, ℤ, List, Option, true, sym, ◌∙◌, ap, subst}
 use Rattle.std.specs.Io.KnownBytes.{Appends}
 use Rattle.mars_fight.specs.Limits.{MOST_TOTAL}
-use Rattle.mars_fight.specs.Records.{Fields, records_of}
-use Rattle.tune_template.specs.Instances.{InputsView}
+use Rattle.tables.specs.Records.{Fields, records_of}
+use Rattle.tune_problem.specs.Inputs.{InputsView}
 use Rattle.tune_problem.specs.Problem.{Problem, IsProblem, problem_of}
 use Rattle.tune_problem.specs.Optimum.{greatest_of}
 use Rattle.tune_problem.proofs.Weights.{greatest_is}

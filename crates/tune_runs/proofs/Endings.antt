@@ -1,7 +1,7 @@
 -- How runs of tunings and checks end.
-use Rattle.std.proofs.Common.{◌≡◌, ◌≢◌, ◌⊎◌, ◌↔◌, Bool, true, false, inl, inr, refl, sym, subst, Result, Ok, Err, IfErr, IsErrOf, IsTrue, ◌∙◌}
+use Rattle.std.proofs.Common.{◌≡◌, ◌≢◌, ◌⊎◌, ◌↔◌, Bool, true, false, inl, inr, refl, sym, subst, Result, Ok, Err, IfErr, OnOk, IsErrOf, IsTrue, ◌∙◌}
 use Rattle.rc_instr.specs.Outlet.{OutletView}
-use Rattle.tune_template.specs.Instances.{InputsView}
+use Rattle.tune_problem.specs.Inputs.{InputsView}
 use Rattle.tune_runs.specs.TuneRun.{Texts, Means, HasNoCandidate, IsTuneRefusal, IsTuneRun}
 use Rattle.tune_runs.specs.CheckRun.{IsCheckRun}
 use Rattle.tune_runs.specs.declared.fault.RunFault.{RunFault}
@@ -44,6 +44,8 @@ refused_tuning X r e t report cert is whole_report whole_cert says = record {
     λ failed. absurd (elim failed [ inl f ↦ not_failed report.failed whole_report f | inr f ↦ not_failed cert.failed whole_cert f ]),
   );
   order = λ f. refl;
+  before = inl refl;
+  flushed = subst (λ (x : Result X RunFault). OnOk x (cert.flushed ≡ true)) (sym is) tt;
   meaning = λ i v means inside candidate.
       subst (λ (x : Result X RunFault). IfErr x (λ f. (f ≡ Write) ⊎ (f ≡ OutOfMemory))) (sym is) (refused_means e t i v says means inside candidate);
 }
@@ -52,13 +54,16 @@ refused_tuning X r e t report cert is whole_report whole_cert says = record {
 pub written_tuning : (X : Type 0) (r : Result X RunFault) (t : Texts) (report report_after cert cert_after : OutletView)
     → IfErr r (λ e. e ≢ Write → (e ≡ OutOfMemory) × (report_after ≡ report) × (cert_after ≡ cert))
     → (IsErrOf r Write ↔ (IsTrue report_after.failed ⊎ IsTrue cert_after.failed)) → (IsTrue cert_after.failed → report_after ≡ report)
+    → (report_after ≡ report) ⊎ (cert_after.flushed ≡ true) → OnOk r (cert_after.flushed ≡ true)
     → IsTuneRun t r report report_after cert cert_after
-written_tuning X (Ok x) t report report_after cert cert_after refused write order =
-    record { refused = tt; write = write; order = order; meaning = λ i v means inside candidate. tt }
-written_tuning X (Err e) t report report_after cert cert_after refused write order = record {
+written_tuning X (Ok x) t report report_after cert cert_after refused write order before flushed =
+    record { refused = tt; write = write; order = order; before = before; flushed = flushed; meaning = λ i v means inside candidate. tt }
+written_tuning X (Err e) t report report_after cert cert_after refused write order before flushed = record {
   refused = λ other. let u = refused other in (subst (λ (x : RunFault). IsTuneRefusal x t) (sym u.0) tt, u.1, u.2);
   write = write;
   order = order;
+  before = before;
+  flushed = tt;
   meaning = λ i v means inside candidate. elim (is_write e) [ inl w ↦ inl w | inr n ↦ inr (refused n).0 ];
 }
 

@@ -1,5 +1,6 @@
 pub mod Parting
 pub mod Refusals
+pub mod Repeats
 pub mod Opponents
 pub mod Constants
 pub mod Meaning

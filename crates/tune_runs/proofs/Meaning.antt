@@ -2,8 +2,9 @@
 use Rattle.std.proofs.Common.{◌≡◌, List, [], ◌∷◌, ℕ, refl, sym, ◌∙◌, ap}
 use Rattle.rc_instr.specs.Rules.{RulesView}
 use Rattle.rc_instr.specs.Warrior.{WarriorView}
-use Rattle.rc_asm.proofs.Whole.{one_warrior}
-use Rattle.tune_template.specs.Instances.{TemplateView, InputsView}
+use Rattle.rc_asm.proofs.Outcomes.{one_warrior}
+use Rattle.tune_template.specs.Instances.{TemplateView}
+use Rattle.tune_problem.specs.Inputs.{InputsView}
 use Rattle.tune_runs.specs.TuneRun.{Texts, IsTemplate, AreOpponents, Means}
 
 -- a text is one template

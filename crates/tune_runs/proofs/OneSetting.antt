@@ -9,7 +9,7 @@ use Rattle.tune_template.specs.Vectors.{vectors_of}
 use Rattle.tune_template.specs.Instances.{TemplateView, constants_of, instance_of}
 use Rattle.tune_runs.specs.TuneRun.{IsTemplate, IsTemplateRefusal}
 use Rattle.tune_runs.specs.SettingRun.{index_meant, IsSettingOf, IsSettingRefusal}
-use Rattle.tune_runs.specs.declared.which_setting.WhichSetting.{WhichSetting}
+use Rattle.tune_runs.specs.declared.given.WhichSetting.{WhichSetting}
 use Rattle.tune_runs.specs.declared.fault.RunFault.{RunFault}
 use Rattle.tune_runs.specs.declared.fault.RunFault.TheVariants.{FightText, Rules, Load, Position, Asm, TooManyOpponents, Template, Opponent, Schedule, NoCandidate, Write, OutOfMemory, Part as BadPart, NoSuchSetting}
 use Rattle.tune_runs.proofs.Meaning.{template_one}

@@ -5,11 +5,12 @@ use Rattle.rc_instr.specs.Warrior.{WarriorView}
 use Rattle.rc_asm.specs.Assembly.{Assembles}
 use Rattle.mars_fight.specs.Schedule.{fights_of}
 use Rattle.mars_fight.specs.declared.fight.Fight.{Fight}
-use Rattle.tune_template.specs.Limits.{MOST_OPPONENTS}
-use Rattle.tune_template.specs.declared.part.Part.{Part}
-use Rattle.tune_template.specs.Parts.{whole, IsPart}
+use Rattle.tune_problem.specs.Limits.{MOST_OPPONENTS}
+use Rattle.tune_problem.specs.declared.part.Part.{Part}
+use Rattle.tune_problem.specs.Parts.{whole, IsPart}
 use Rattle.tune_template.proofs.RangeLaws.{some_setting}
-use Rattle.tune_template.specs.Instances.{TemplateView, InputsView}
+use Rattle.tune_template.specs.Instances.{TemplateView}
+use Rattle.tune_problem.specs.Inputs.{InputsView}
 use Rattle.tune_problem.specs.Optimum.{IsCandidate}
 use Rattle.tune_problem.specs.Problem.{Problem, problem_of}
 use Rattle.tune_problem.specs.declared.cert.Found.{Found}

@@ -9,7 +9,7 @@ use Rattle.rc_instr.specs.Rules.{RulesView}
 use Rattle.rc_instr.specs.Warrior.{WarriorView}
 use Rattle.mars_fight.specs.Limits.{MOST_FIGHTS, MOST_TOTAL, MOST_WEIGHT}
 use Rattle.mars_fight.specs.Play.{ArePoints}
-use Rattle.mars_fight.specs.Records.{records_of}
+use Rattle.tables.specs.Records.{records_of}
 use Rattle.mars_fight.specs.Schedule.{header_of, fights_in, fights_under, within_limit, fights_of}
 use Rattle.mars_fight.specs.Listed.{IsFight, greatest_total}
 use Rattle.mars_fight.proofs.Listed.{scheduled_fights}

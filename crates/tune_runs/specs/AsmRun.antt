@@ -5,7 +5,7 @@ use Rattle.rc_instr.specs.Rules.{RulesView}
 use Rattle.rc_instr.specs.Warrior.{WarriorView}
 use Rattle.rc_instr.specs.LoadText.{load_text}
 use Rattle.rc_asm.specs.Assembly.{Assembles}
-use Rattle.rc_asm.specs.Faults.{IsAsmFault}
+use Rattle.rc_asm.specs.Assembly.{IsAsmFault}
 use Rattle.rc_asm.specs.declared.fault.AsmKind.TheVariants.{OutOfMemory as MemoryKind}
 use Rattle.tune_runs.specs.declared.fault.RunFault.{RunFault}
 use Rattle.tune_runs.specs.declared.fault.RunFault.TheVariants.{Asm, OutOfMemory}

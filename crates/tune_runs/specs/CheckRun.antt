@@ -3,8 +3,8 @@ use Rattle.std.specs.Prelude.{◌≡◌, ◌≢◌, ◌↔◌, ◌⊎◌, ℕ, B
 use Rattle.std.specs.Fmt.{decimal}
 use Rattle.std.specs.Io.KnownBytes.{Appends}
 use Rattle.rc_instr.specs.Outlet.{OutletView}
-use Rattle.mars_fight.specs.Records.{records_of}
-use Rattle.tune_template.specs.Instances.{InputsView}
+use Rattle.tables.specs.Records.{records_of}
+use Rattle.tune_problem.specs.Inputs.{InputsView}
 use Rattle.tune_problem.specs.Problem.{problem_of}
 use Rattle.tune_cert.specs.Verdict.{IsRightVerdict}
 use Rattle.tune_cert.specs.declared.verdict.Reason.{Reason}

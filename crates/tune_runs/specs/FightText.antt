@@ -5,7 +5,7 @@ use Rattle.std.specs.Option.{option_map}
 use Rattle.rc_instr.specs.Rules.{RulesView, rules_view}
 use Rattle.mars_core.specs.declared.side.Side.{Side}
 use Rattle.mars_core.specs.declared.side.Side.TheVariants.{Candidate, Opponent}
-use Rattle.mars_fight.specs.Decimal.{padded_decimal}
+use Rattle.rc_instr.specs.Decimal.{padded_decimal}
 
 -- What comes before and after the first such byte.
 unfoldable pub cut_at : ℕ → List ℕ → Option (List ℕ × List ℕ)

@@ -2,16 +2,13 @@
 -- result line, a report and a check line say what came of them. A run over bytes writes exactly the
 -- text that the definitions give, or refuses with the first fault that applies.
 pub mod FightText
-pub mod FightWords
 pub mod ResultLine
 pub mod FightRun
 pub mod AsmRun
 pub mod Report
 pub mod TuneRun
-pub mod TuneTexts
 pub mod CheckRun
 pub mod SettingRun
 pub mod SettingsRun
 pub mod DuelRun
-pub mod DuelTexts
-pub mod RawRules
+pub mod Given

@@ -2,7 +2,8 @@
 use Rattle.std.specs.Prelude.{ℕ, ℤ, ◌*◌, List, [], ◌∷◌, ◌++◌, length, codes}
 use Rattle.std.specs.Fmt.{decimal, signed_decimal}
 use Rattle.rc_expand.specs.Names.{Table}
-use Rattle.tune_template.specs.Instances.{InputsView, constants_of}
+use Rattle.tune_template.specs.Instances.{constants_of}
+use Rattle.tune_problem.specs.Inputs.{InputsView}
 use Rattle.tune_problem.specs.Problem.{problem_of}
 use Rattle.tune_problem.specs.Optimum.{greatest_of, candidates_of}
 use Rattle.tune_problem.specs.declared.cert.Found.{Found}

@@ -4,15 +4,15 @@ use Rattle.std.specs.Io.KnownBytes.{Appends}
 use Rattle.rc_instr.specs.Rules.{RulesView}
 use Rattle.rc_instr.specs.Warrior.{WarriorView}
 use Rattle.rc_instr.specs.LoadText.{load_text}
-use Rattle.rc_asm.specs.Faults.{IsAsmFault}
+use Rattle.rc_asm.specs.Assembly.{IsAsmFault}
 use Rattle.rc_asm.specs.declared.fault.AsmFault.{AsmFault}
 use Rattle.rc_asm.specs.declared.fault.AsmKind.TheVariants.{OutOfMemory as MemoryKind}
 use Rattle.tune_template.specs.declared.span.Span.{Span}
 use Rattle.tune_template.specs.Vectors.{vectors_of, start_index}
 use Rattle.tune_template.specs.Instances.{TemplateView, constants_of, instance_of}
 use Rattle.tune_runs.specs.TuneRun.{IsTemplate, IsTemplateFault}
-use Rattle.tune_runs.specs.declared.which_setting.WhichSetting.{WhichSetting}
-use Rattle.tune_runs.specs.declared.which_setting.WhichSetting.TheVariants.{Start, Index}
+use Rattle.tune_runs.specs.declared.given.WhichSetting.{WhichSetting}
+use Rattle.tune_runs.specs.declared.given.WhichSetting.TheVariants.{Start, Index}
 use Rattle.tune_runs.specs.declared.fault.RunFault.{RunFault}
 use Rattle.tune_runs.specs.declared.fault.RunFault.TheVariants.{Asm, Template, NoSuchSetting, OutOfMemory}
 

@@ -1,24 +1,25 @@
 -- What the texts of a tuning mean, what its run writes, and why it refuses.
-use Rattle.std.specs.Prelude.{◌≡◌, ◌≢◌, ◌↔◌, ◌⊎◌, ℕ, ℤ, ◌<◌, ◌≤◌, List, [], ◌∷◌, length, take, slice_get, Option, Some, None, Result, Err, IfErr, IsErrOf, IsTrue}
+use Rattle.std.specs.Prelude.{◌≡◌, ◌≢◌, ◌↔◌, ◌⊎◌, ℕ, ℤ, ◌<◌, ◌≤◌, List, [], ◌∷◌, length, take, slice_get, Option, Some, None, true, Result, Err, IfErr, OnOk, IsErrOf, IsTrue}
 use Rattle.std.specs.Io.KnownBytes.{Appends}
 use Rattle.rc_instr.specs.Rules.{RulesView}
 use Rattle.rc_instr.specs.Warrior.{WarriorView}
 use Rattle.rc_instr.specs.Outlet.{OutletView}
 use Rattle.rc_asm.specs.Assembly.{Assembles}
 use Rattle.rc_asm.specs.declared.fault.AsmFault.{AsmFault}
-use Rattle.mars_fight.specs.Records.{records_of}
+use Rattle.tables.specs.Records.{records_of}
 use Rattle.mars_fight.specs.Schedule.{fights_of}
 use Rattle.mars_fight.specs.ScheduleRefusal.{IsScheduleFault}
 use Rattle.mars_fight.specs.declared.fault.ScheduleFault.{ScheduleFault}
 use Rattle.mars_fight.specs.declared.fault.ScheduleFaultKind.TheVariants.{OutOfMemory as MemoryKind}
-use Rattle.tune_template.specs.Limits.{MOST_OPPONENTS}
+use Rattle.tune_problem.specs.Limits.{MOST_OPPONENTS}
 use Rattle.tune_template.specs.Ranges.{ranges_of, HasRanges}
 use Rattle.tune_template.specs.declared.fault.TemplateFault.{TemplateFault}
 use Rattle.tune_template.specs.declared.fault.TemplateKind.TheVariants.{OutOfMemory as NoMemory}
 use Rattle.tune_template.specs.Vectors.{vectors_of}
-use Rattle.tune_template.specs.declared.part.Part.{Part}
-use Rattle.tune_template.specs.Parts.{part, whole, IsPart}
-use Rattle.tune_template.specs.Instances.{TemplateView, InputsView, settings_of}
+use Rattle.tune_problem.specs.declared.part.Part.{Part}
+use Rattle.tune_problem.specs.Parts.{part, whole, IsPart}
+use Rattle.tune_template.specs.Instances.{TemplateView}
+use Rattle.tune_problem.specs.Inputs.{InputsView, settings_of}
 use Rattle.mars_fight.specs.declared.fight.Fight.{Fight}
 use Rattle.tune_problem.specs.Problem.{problem_of}
 use Rattle.tune_problem.specs.Optimum.{IsCandidate}
@@ -158,8 +159,10 @@ pub record IsTuneRun {X : Type 0} (t : Texts) (result : Result X RunFault) (repo
   -- refused texts have no meaning or no candidate, and nothing was written
   pub refused : IfErr result (λ e. e ≢ Write → IsTuneRefusal e t × (report_new ≡ report_old) × (cert_new ≡ cert_old))
   pub write : IsErrOf result Write ↔ (IsTrue report_new.failed ⊎ IsTrue cert_new.failed)
-  -- the report begins only after the certificate is out
+  -- the report begins only after the certificate is out and flushed
   pub order : IsTrue cert_new.failed → report_new ≡ report_old
+  pub before : (report_new ≡ report_old) ⊎ (cert_new.flushed ≡ true)
+  pub flushed : OnOk result (cert_new.flushed ≡ true)
   -- texts that have a meaning and a candidate are not refused
   pub meaning : (i : InputsView) (v : ℕ) → Means t i → v < (problem_of i).count → IsCandidate (problem_of i) v
       → IfErr result (λ e. (e ≡ Write) ⊎ (e ≡ OutOfMemory))

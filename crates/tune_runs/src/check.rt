@@ -1,18 +1,18 @@
 //! A check: from texts and a certificate to the line of the verdict.
 ghost use Rattle.std.specs.Prelude.{◌≡◌, ◌≢◌, map, true, false, IfOk, IfErr};
 ghost use Rattle.tune_runs.specs.TuneRun.{texts};
-ghost use Rattle.tune_runs.specs.TuneTexts.{texts_given};
+ghost use Rattle.tune_runs.specs.Given.{texts_given};
 ghost use Rattle.tune_runs.specs.CheckRun.{accepts, IsCheckRun, WritesVerdict};
 
 use crate::fault::RunFault;
+use crate::given::TuneTexts;
 use crate::inputs::inputs_of;
 use crate::lines::verdict_line;
-use crate::tune_texts::TuneTexts;
 use rc_instr::{Outlet, Rules};
 use std::alloc::Global;
 use std::io::Write;
 use tune_cert::{Silent, Verdict, Watcher, watched_check};
-use tune_template::Part;
+use tune_problem::Part;
 
 /// Checks a certificate of a tuning, whoever made it, and writes the line of the verdict. Returns
 /// whether it is accepted.

@@ -4,12 +4,12 @@ ghost use Rattle.rc_instr.specs.Warrior.{WarriorView, Fits};
 ghost use Rattle.rc_asm.specs.Assembly.{Assembles};
 ghost use Rattle.mars_fight.specs.Listed.{IsPosition};
 ghost use Rattle.tune_runs.specs.DuelRun.{NamesDuel, IsDuelRefusal, WritesDuel};
-ghost use Rattle.tune_runs.specs.DuelTexts.{duel_given};
+ghost use Rattle.tune_runs.specs.Given.{duel_given};
 
 use crate::asm::warrior_of;
-use crate::duel_texts::DuelTexts;
 use crate::fault::RunFault;
 use crate::fight::{NamedFight, play};
+use crate::given::DuelTexts;
 use crate::inputs::opponent_of;
 use crate::lines::result_line;
 use mars_fight::keeps_distance;

@@ -9,8 +9,8 @@ ghost use Rattle.tune_runs.specs.FightRun.{Loads, NamesFight, IsRefusal, IsLoadR
 
 use crate::fault::RunFault;
 use crate::fight_text::read_fight_text;
+use crate::given::rules_of;
 use crate::lines::result_line;
-use crate::raw_rules::rules_of;
 use mars_core::{Arena, Outcome, PackedCells, Side};
 use mars_fight::keeps_distance;
 use rc_instr::{LoadFault, OutOfMemory, Outlet, Rules, Warrior, read_loadfile};

@@ -3,11 +3,11 @@ ghost use Rattle.std.specs.Prelude.{◌≡◌, ◌+◌, ◌==◌, length, positi
 ghost use Rattle.mars_core.specs.declared.side.Side.{Side};
 ghost use Rattle.rc_instr.specs.Rules.{rules_view};
 ghost use Rattle.tune_runs.specs.FightText.{cut_at, number_before, after_word, raw_rules, rules_line, mover_line, fight_line, parted, fight_words};
-ghost use Rattle.tune_runs.specs.FightWords.{words_said};
+ghost use Rattle.tune_runs.specs.Given.{words_said};
 
-use crate::raw_rules::RawRules;
+use crate::given::RawRules;
 use mars_core::Side;
-use mars_fight::padded_decimal;
+use rc_instr::padded_decimal;
 
 // What a fight text says. The load files are slices of the text.
 #[derive(Clone, Copy)]

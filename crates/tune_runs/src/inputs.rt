@@ -4,18 +4,18 @@ ghost use Rattle.rc_instr.specs.Warrior.{Fits};
 ghost use Rattle.rc_asm.specs.Assembly.{Assembles};
 ghost use Rattle.mars_fight.specs.Listed.{IsFight};
 ghost use Rattle.mars_fight.specs.Schedule.{fights_of};
-ghost use Rattle.tune_template.specs.Limits.{MOST_OPPONENTS};
+ghost use Rattle.tune_problem.specs.Limits.{MOST_OPPONENTS};
 ghost use Rattle.tune_runs.specs.TuneRun.{IsTemplate, AreOpponents, Means, IsTemplateRefusal, IsRefusalOf, AreRefused, HasNoFights, IsTuneRefusal};
-ghost use Rattle.tune_runs.specs.TuneTexts.{texts_given};
+ghost use Rattle.tune_runs.specs.Given.{texts_given};
 
 use crate::asm::warrior_of;
 use crate::fault::RunFault;
-use crate::limits;
-use crate::tune_texts::TuneTexts;
+use crate::given::TuneTexts;
 use mars_fight::{Schedule, ScheduleFaultKind};
 use rc_instr::{Rules, Warrior};
 use std::alloc::Global;
-use tune_template::{Inputs, Template, TemplateKind};
+use tune_problem::{Inputs, limits};
+use tune_template::{Template, TemplateKind};
 
 /// Reads the inputs of a tuning of one part of a template's settings.
 ///

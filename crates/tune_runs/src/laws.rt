@@ -1,16 +1,16 @@
 //! Laws of tunings and their certificates. A law is a function with an empty body: its contract is
 //! what is proved.
-ghost use Rattle.std.specs.Prelude.{◌≡◌, ◌+◌, ◌≤◌, ℕ, ℤ, List, Option, Some, true};
+ghost use Rattle.std.specs.Prelude.{◌≡◌, ◌+◌, ◌≤◌, ℕ, ℤ, Bool, List, [], Option, Some, true};
 ghost use Rattle.std.specs.Io.KnownBytes.{Appends};
-ghost use Rattle.mars_fight.specs.Records.{records_of};
-ghost use Rattle.tune_template.specs.Instances.{InputsView};
+ghost use Rattle.tables.specs.Records.{records_of};
+ghost use Rattle.tune_problem.specs.Inputs.{InputsView};
 ghost use Rattle.tune_problem.specs.Problem.{problem_of};
 ghost use Rattle.tune_cert.specs.CertText.{cert_text};
 ghost use Rattle.tune_problem.specs.Valid.{cert_of};
 ghost use Rattle.tune_cert.specs.Spelling.{Spells};
 ghost use Rattle.tune_search.specs.Found.{IsSearch};
 ghost use Rattle.tune_runs.specs.Report.{report_text, report_for};
-ghost use Rattle.tune_problem.specs.Parts.{first_setting, IsOutcome, IsBestPart};
+ghost use Rattle.tune_problem.specs.BestPart.{first_setting, IsOutcome, IsBestPart};
 ghost use Rattle.tune_runs.specs.TuneRun.{Texts, of_part, Means, IsTuning, IsTuneRefusal, WritesTuning};
 ghost use Rattle.tune_cert.specs.Verdict.{IsRightVerdict};
 ghost use Rattle.tune_runs.specs.CheckRun.{WritesVerdict, Accepts, IsShown, check_line};
@@ -31,6 +31,24 @@ pub fn a_written_certificate_is_accepted()
         → Spells (records_of (cert_text (cert_of f))) (cert_of f) }
     ensures accepted { (t : Texts) (method : Method) (i : InputsView) (f : Found) (v : Verdict) → Means t i → IsSearch (problem_of i) method f
         → IsRightVerdict (problem_of i) (records_of (cert_text (cert_of f))) v → v ≡ Verdict.Accepted f.best f.total }
+{}
+
+/// States that a tuning can be repeated: from empty writers the same texts and the same method give
+/// the same bytes of the report and of the certificate.
+pub fn equal_tunings_write_equal_bytes()
+    ensures { (t : Texts) (method : Method) (report cert report_too cert_too : List ℕ)
+        → WritesTuning t method (Some []) (Some report) (Some []) (Some cert)
+        → WritesTuning t method (Some []) (Some report_too) (Some []) (Some cert_too)
+        → (report ≡ report_too) × (cert ≡ cert_too) }
+{}
+
+/// States that a check of the texts of a tuning accepts the bytes of its certificate, and names the
+/// best setting and the total of its report.
+pub fn a_tuning_is_accepted_by_its_check()
+    ensures { (t : Texts) (method : Method) (bytes : List ℕ) (is_accepted : Bool) (report report_after out out_after : Option (List ℕ))
+        → WritesTuning t method report report_after (Some []) (Some bytes) → WritesVerdict t bytes is_accepted out out_after
+        → (is_accepted ≡ true) × ((i : InputsView) × (f : Found) × (values : List ℤ) × IsTuning t method i f values
+        × Appends report report_after (report_text (report_for i f values)) × Appends out out_after (check_line (Verdict.Accepted f.best f.total))) }
 {}
 
 /// States the certified optimum: if a tuning wrote its certificate and its report, and a check of

@@ -1,6 +1,7 @@
 //! The report of a tuning, six lines.
 ghost use Rattle.std.specs.Prelude.{◌≡◌, ◌++◌, ◌<◌, ◌*◌, ℤ, List, map, length, slice_get, Some, IfOk, OnOk};
-ghost use Rattle.tune_template.specs.Instances.{constants_of, settings_of};
+ghost use Rattle.tune_template.specs.Instances.{constants_of};
+ghost use Rattle.tune_problem.specs.Inputs.{settings_of};
 ghost use Rattle.tune_problem.specs.Problem.{problem_of};
 ghost use Rattle.tune_problem.specs.Optimum.{candidates_of};
 ghost use Rattle.tune_runs.specs.Report.{number_line, share_line, constant_text, constants_text, constants_or_none, constants_line, report_text, report_for};
@@ -9,7 +10,7 @@ use itoa::Buffer;
 use rc_instr::OutOfMemory;
 use std::alloc::Global;
 use tune_cert::{Found, greatest_total};
-use tune_template::Inputs;
+use tune_problem::Inputs;
 
 // Makes the report of what a search found.
 #[tactic(auto, unfolding(crate::specs::Report::report_text))]

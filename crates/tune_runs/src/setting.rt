@@ -6,8 +6,8 @@ ghost use Rattle.tune_runs.specs.SettingRun.{index_meant, IsSettingOf, IsSetting
 
 use crate::asm::loadfile_of;
 use crate::fault::RunFault;
+use crate::given::WhichSetting;
 use crate::inputs::template_of;
-use crate::which_setting::WhichSetting;
 use rc_asm::AsmKind;
 use rc_instr::{Outlet, Rules, Warrior};
 use std::alloc::Global;

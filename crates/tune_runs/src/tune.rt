@@ -1,5 +1,5 @@
 //! A tuning: from texts to the certificate of the best setting, and a report.
-ghost use Rattle.std.specs.Prelude.{◌≡◌, ◌≢◌, ◌↔◌, ◌≤◌, ◌<◌, ◌^◌, ◌⊎◌, map, length, false, IfOk, IfErr, OnOk, IsErrOf, IsTrue};
+ghost use Rattle.std.specs.Prelude.{◌≡◌, ◌≢◌, ◌↔◌, ◌≤◌, ◌<◌, ◌^◌, ◌⊎◌, map, length, true, false, IfOk, IfErr, OnOk, IsErrOf, IsTrue};
 ghost use Rattle.std.specs.Io.KnownBytes.{Appends};
 ghost use Rattle.tune_cert.specs.CertText.{cert_text};
 ghost use Rattle.tune_problem.specs.Problem.{problem_of};
@@ -9,18 +9,18 @@ ghost use Rattle.tune_search.specs.Limits.{MOST_CAPACITY};
 ghost use Rattle.tune_search.specs.Method.{HasCapacity};
 ghost use Rattle.tune_search.specs.Found.{IsSearch};
 ghost use Rattle.tune_runs.specs.TuneRun.{texts, HasNoCandidate, IsTuneRun, WritesTuning};
-ghost use Rattle.tune_runs.specs.TuneTexts.{texts_given};
+ghost use Rattle.tune_runs.specs.Given.{texts_given};
 
 use crate::fault::RunFault;
+use crate::given::TuneTexts;
 use crate::inputs::inputs_of;
 use crate::report::report_of;
-use crate::tune_texts::TuneTexts;
 use rc_instr::{Outlet, Rules};
 use std::alloc::Global;
 use std::io::Write;
 use tune_cert::{CertFault, Found, Silent, Watcher, write_cert};
+use tune_problem::{Inputs, Part};
 use tune_search::{Method, search_by};
-use tune_template::{Inputs, Part};
 
 /// Finds the optimum of a template, and writes its certificate, then the report.
 ///
@@ -79,9 +79,9 @@ pub fn tune_run<W: Write, V: Write>(
     )
 }
 
-/// Finds the optimum of one part of a template's settings by `method`, and writes its certificate,
-/// then the report, as `tune_run` does, as if the template had no other settings. Both count settings
-/// from 0 within the part. Tells `watcher` how far the search is.
+/// Does for one part of a template's settings what `tune_run` does for all of them, by `method`, and
+/// tells `watcher` how far the search is. The certificate and the report count settings from 0
+/// within the part.
 ///
 /// By either method the best setting and its total are the same. The capacity, if `method` has one,
 /// is 1 to 65536. Neither outlet may have failed.
@@ -147,6 +147,8 @@ fn write_both<W: Write, V: Write>(
     ensures refused { IfErr result (λ e. e ≢ RunFault.Write → (e ≡ RunFault.OutOfMemory) × (report.new ≡ report.old) × (cert.new ≡ cert.old)) }
     ensures write { IsErrOf result RunFault.Write ↔ (IsTrue report.new.failed ⊎ IsTrue cert.new.failed) }
     ensures order { IsTrue cert.new.failed → report.new ≡ report.old }
+    ensures before { (report.new ≡ report.old) ⊎ (cert.new.flushed ≡ true) }
+    ensures flushed { OnOk result (cert.new.flushed ≡ true) }
 {
     match write_cert(alloc, found, cert) {
         Ok(()) => {}

@@ -1,6 +1,6 @@
 use Rattle.std.proofs.Common.{Err, ap, ◌∙◌}
 use Rattle.std.proofs.lemmas.Result.{err_from_is_err_and}
-use Rattle.tune_runs.specs.TuneTexts.{texts_given}
+use Rattle.tune_runs.specs.Given.{texts_given}
 use Rattle.tune_runs.proofs.Endings.{refused_tuning, search_refused}
 use Rattle.tune_runs.proofs.tune.tune_by_run.Goals as goal
 

@@ -1,10 +1,12 @@
-//! Rules as they were given, not yet checked.
+//! What runs are given besides bytes: rules, texts, and which setting is meant.
 ghost use Rattle.std.specs.Prelude.{◌≡◌, ◌↔◌, IsOk, IfOk, IfErr};
 ghost use Rattle.rc_instr.specs.Rules.{IsRules};
 ghost use Rattle.rc_instr.specs.RulesRefusal.{IsFirstBroken};
-ghost use Rattle.tune_runs.specs.RawRules.{rules_given};
+ghost use Rattle.tune_runs.specs.Given.{rules_given};
 
+use mars_core::Side;
 use rc_instr::{Rules, RulesError};
+use tune_problem::Part;
 
 /// The five numbers of rules, in any range.
 #[derive(Clone, Copy)]
@@ -19,6 +21,41 @@ pub struct RawRules {
     pub length: u32,
     /// The least distance between two warriors in cells.
     pub distance: u32,
+}
+
+/// Two Redcode texts, the rules of their fight, and how it begins.
+#[derive(Clone, Copy)]
+pub struct DuelTexts<'a> {
+    /// The text of the candidate, which is loaded at address 0.
+    pub candidate: &'a [u8],
+    pub opponent: &'a [u8],
+    pub rules: &'a Rules,
+    /// The address at which the opponent is loaded.
+    pub position: u32,
+    /// Who moves first.
+    pub first: Side,
+}
+
+/// Which setting of a template is meant.
+#[derive(Clone, Copy, Debug, PartialEq, Eq)]
+pub enum WhichSetting {
+    /// The setting of the start values.
+    Start,
+    /// The setting at this index, from 0. The first constant changes slowest, and values rise.
+    Index(u32),
+}
+
+/// The texts of a tuning, its rules, and the part of the template's settings that it searches.
+#[derive(Clone, Copy)]
+pub struct TuneTexts<'a> {
+    /// A Redcode text with `;@tune` lines.
+    pub template: &'a [u8],
+    /// The Redcode texts of the opponents, at most 64.
+    pub opponents: &'a [Vec<u8>],
+    /// A table of fights.
+    pub schedule: &'a [u8],
+    pub rules: &'a Rules,
+    pub part: Part,
 }
 
 /// Checks raw rules.

@@ -1,0 +1,26 @@
+-- What runs are given, as the definitions have it.
+use Rattle.std.specs.Prelude.{map}
+use Rattle.rc_instr.specs.Rules.{RulesView, rules_view}
+use Rattle.tune_runs.specs.FightText.{FightWords}
+use Rattle.tune_runs.specs.DuelRun.{Duel, duel}
+use Rattle.tune_runs.specs.TuneRun.{Texts, part_texts}
+use Rattle.tune_runs.specs.declared.fight_text.FightText.{FightText}
+use Rattle.tune_runs.specs.declared.given.RawRules.{RawRules}
+use Rattle.tune_runs.specs.declared.given.DuelTexts.{DuelTexts}
+use Rattle.tune_runs.specs.declared.given.TuneTexts.{TuneTexts}
+
+-- Five numbers, as rules that need not be any.
+abbrev pub rules_given : RawRules → RulesView
+rules_given raw = rules_view raw.core raw.cycles raw.tasks raw.length raw.distance
+
+-- What a fight text says.
+abbrev pub words_said : FightText → FightWords
+words_said t = record { rules = rules_given t.rules; position = t.position; first = t.first; candidate = t.candidate.now; opponent = t.opponent.now }
+
+-- A duel.
+abbrev pub duel_given : DuelTexts → Duel
+duel_given t = duel t.candidate.now t.opponent.now t.rules.now t.position t.first
+
+-- The texts of a tuning.
+abbrev pub texts_given : TuneTexts → Texts
+texts_given t = part_texts t.template.now (map (λ o. o.items) t.opponents.now) t.schedule.now t.rules.now t.part
