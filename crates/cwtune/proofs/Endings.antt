@@ -3,7 +3,7 @@ use Rattle.std.proofs.Common.{◌≡◌, ◌⊎◌, ◌≤◌, ◌∙◌, ℕ, L
 use native.Mathlib.Omega.{arith}
 use Rattle.rc_instr.specs.Outlet.{OutletView}
 use Rattle.rc_instr.specs.Rules.{RulesView}
-use Rattle.tune_template.specs.declared.part.Part.{Part}
+use Rattle.tune_problem.specs.declared.part.Part.{Part}
 use Rattle.tune_runs.specs.TuneRun.{Texts, part_texts}
 use Rattle.tune_runs.specs.CheckRun.{WritesVerdict}
 use Rattle.cwtune.specs.CommandLine.{AskForFight}

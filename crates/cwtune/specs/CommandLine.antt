@@ -1,7 +1,9 @@
 -- What the words of a command line ask for.
-use Rattle.std.specs.Prelude.{◌≡◌, ℕ, ◌≤◌, ◌<◌, ◌^◌, List, [], ◌∷◌, ◌++◌, codes}
+use Rattle.std.specs.Prelude.{◌≡◌, ℕ, ◌≤◌, ◌<◌, ◌^◌, ◌||◌, Bool, List, [], ◌∷◌, ◌++◌, codes, IsTrue}
+use Rattle.std.specs.List.{list_any}
+use Rattle.std.specs.Str.{bytes_eq}
 use Rattle.std.specs.Fmt.{decimal}
-use Rattle.tune_template.specs.declared.part.Part.{Part}
+use Rattle.tune_problem.specs.declared.part.Part.{Part}
 use Rattle.tune_search.specs.Method.{HasCapacity}
 use Rattle.cwtune.specs.declared.command_line.Request.{Request}
 use Rattle.cwtune.specs.declared.command_line.Request.TheVariants.{Tune}
@@ -11,6 +13,15 @@ abbrev pub AskForFight : List (List ℕ) → Type 0
 AskForFight [] = Unit {0}
 AskForFight (word ∷ []) = word ≡ codes "fight"
 AskForFight (word ∷ next ∷ more) = ⊥
+
+-- A word that asks for help, or for the version.
+abbrev pub is_help_word : List ℕ → Bool
+is_help_word word =
+    bytes_eq word (codes "help") || (bytes_eq word (codes "--help") || (bytes_eq word (codes "-h")
+    || (bytes_eq word (codes "--version") || bytes_eq word (codes "-V"))))
+
+abbrev pub AsksForHelp : List (List ℕ) → Type 0
+AsksForHelp words = IsTrue (list_any is_help_word words)
 
 -- The capacity of a search is 1 to `MOST_CAPACITY`.
 abbrev pub IsRequest : Request → Type 0

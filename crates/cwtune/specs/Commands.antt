@@ -2,13 +2,13 @@
 use Rattle.std.specs.Prelude.{◌≡◌, ℕ, Bool, List, Option, Some, None, Result, Ok, Err, IsErrOf, IsTrue}
 use Rattle.rc_instr.specs.Outlet.{OutletView}
 use Rattle.rc_instr.specs.Rules.{RulesView}
-use Rattle.tune_template.specs.declared.part.Part.{Part}
+use Rattle.tune_problem.specs.declared.part.Part.{Part}
 use Rattle.tune_runs.specs.AsmRun.{WritesWarrior}
 use Rattle.tune_runs.specs.SettingRun.{WritesSetting}
 use Rattle.tune_runs.specs.TuneRun.{part_texts, WritesTuning}
 use Rattle.tune_runs.specs.CheckRun.{WritesVerdict}
 use Rattle.tune_search.specs.declared.method.Method.{Method}
-use Rattle.tune_runs.specs.declared.which_setting.WhichSetting.{WhichSetting}
+use Rattle.tune_runs.specs.declared.given.WhichSetting.{WhichSetting}
 use Rattle.cwtune.specs.declared.ending.Ending.{Ending}
 use Rattle.cwtune.specs.declared.ending.Ending.TheVariants.{Refused, Misused, Failed}
 

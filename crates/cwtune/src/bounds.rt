@@ -1,8 +1,10 @@
 //! Why a text is refused, in words, and the limits that faults are about.
 
 use crate::command_line::TuneWords;
+use crate::help_lines::tell_help;
+use crate::range_line::{tell_bad_range, tell_neighbours};
 use crate::telling::{
-    records_in, tell, tell_broken, tell_most, tell_reason, tell_record, tell_source,
+    line_at, records_in, tell, tell_broken, tell_most, tell_reason, tell_record, tell_source,
 };
 use itoa::Buffer;
 use mars_fight::{ScheduleFault, ScheduleFaultKind};
@@ -50,17 +52,19 @@ pub(crate) fn tell_asm<V: Write>(
 ) {
     tell_source(err, file, text, fault.line);
     match fault.kind {
-        AsmKind::Warrior(WarriorError::TooLong) => tell_most(
-            err,
-            "the most instructions of a warrior are",
-            u64::from(rules.length()),
-        ),
+        AsmKind::Warrior(WarriorError::TooLong) => {
+            let mut buffer = Buffer::new();
+            let most = buffer.format(rules.length());
+            tell(err, &["  a warrior has at most ", most, " instructions\n"]);
+        }
         AsmKind::TextTooLong => tell_bytes_of(err, text),
         kind => tell_reason(err, alloc, kind),
     }
     if fault.kind == AsmKind::Expand(ExpandKind::DuplicateName) {
         tell(err, &["  a word that is not an opcode is a label\n"]);
     }
+    let line = line_at(text, fault.line.saturating_sub(1));
+    tell_help(err, alloc, file, text, line, fault.kind);
 }
 
 // Writes how long a text may be, and how long this one is.
@@ -76,12 +80,20 @@ pub(crate) fn tell_template<V: Write>(
     text: &[u8],
     fault: TemplateFault,
 ) {
+    let line = line_at(text, fault.line.saturating_sub(1));
     tell_source(err, file, text, fault.line);
     match fault.kind {
-        TemplateKind::BadLine => tell(
-            err,
-            &["  a range line is `;@tune NAME LOW HIGH STEP START` and nothing else\n"],
-        ),
+        TemplateKind::BadLine => {
+            tell(
+                err,
+                &["  a range line is `;@tune NAME LOW HIGH STEP START` and nothing else\n"],
+            );
+            tell_bad_range(err, line);
+        }
+        TemplateKind::StartOutside => {
+            tell_reason(err, alloc, fault.kind);
+            tell_neighbours(err, line);
+        }
         TemplateKind::TooManyConstants => tell_broken(err, "a template has at most 8 constants", 9),
         TemplateKind::TooManyVectors => tell_settings(err, settings_up_to(alloc, text, fault.line)),
         TemplateKind::TextTooLong => tell_bytes_of(err, text),
@@ -129,7 +141,7 @@ pub(crate) fn tell_schedule<V: Write>(
         ScheduleFaultKind::NoSuchOpponent => {
             tell_most(
                 err,
-                "opponents are 0 to",
+                "indices of opponents are 0 to",
                 (words.opponents.len() as u64).saturating_sub(1),
             );
         }

@@ -3,7 +3,9 @@
 ghost use Rattle.std.specs.Prelude.{◌≡◌, ◌↔◌, ◌≤◌, length, IfOk, IfSome, IsTrue, IsErrOf};
 ghost use Rattle.cwtune.specs.CertFile.{BeginsAsCert, names_twice};
 
+use crate::beginning::begins_with;
 use crate::command_line::TuneWords;
+use crate::digest::{Digested, Digesting};
 use crate::replacing::{Place, place_at};
 use std::alloc::Global;
 use std::fs::{Metadata, OpenFile, OpenOptions};
@@ -41,7 +43,37 @@ enum Way<R: Files> {
     // As it comes, into an open file that is not a regular one.
     Stream(R::File),
     // As a whole, in the place of a regular file or of none.
-    Whole(Place<R>),
+    Whole(Whole<R>),
+}
+
+// A text that gets its name when it is whole.
+#[derive(Drop)]
+struct Whole<R: Files> {
+    place: Place<R>,
+    digesting: Digesting,
+    is_named: bool,
+}
+
+impl<R: Files> Whole<R> {
+    fn new(place: Place<R>) -> Whole<R> {
+        Whole {
+            place,
+            digesting: Digesting::new(),
+            is_named: false,
+        }
+    }
+
+    fn write(&mut self, piece: &[u8]) -> io::Result<()> {
+        self.place.write(piece)?;
+        self.digesting.add(piece);
+        Ok(())
+    }
+
+    fn finish(&mut self) -> io::Result<()> {
+        self.place.finish()?;
+        self.is_named = true;
+        Ok(())
+    }
 }
 
 impl<R: Files> CertFile<R> {
@@ -54,13 +86,21 @@ impl<R: Files> CertFile<R> {
         self.failure
     }
 
+    // Returns whether the text replaces a regular file or makes one.
+    pub(crate) fn is_whole(&self) -> bool {
+        match self.way {
+            Way::Whole(_) => true,
+            Way::Stream(_) => false,
+        }
+    }
+
     fn write_piece(&mut self, piece: &[u8]) -> io::Result<usize>
         ensures { IfOk result (λ n. n ≤ length piece.now) }
     {
         match &mut self.way {
             Way::Stream(file) => file.write(piece),
-            Way::Whole(place) => {
-                place.write(piece)?;
+            Way::Whole(whole) => {
+                whole.write(piece)?;
                 Ok(piece.len())
             }
         }
@@ -70,7 +110,17 @@ impl<R: Files> CertFile<R> {
     fn finish(&mut self) -> io::Result<()> {
         match &mut self.way {
             Way::Stream(_) => Ok(()),
-            Way::Whole(place) => place.finish(),
+            Way::Whole(whole) => whole.finish(),
+        }
+    }
+}
+
+impl<R: Files + Drop> CertFile<R> {
+    // Returns the size and the digest of the text if a regular file has it now.
+    pub(crate) fn digested(self) -> Option<Digested> {
+        match self.way {
+            Way::Whole(whole) if whole.is_named => Some(whole.digesting.end()),
+            _ => None,
         }
     }
 }
@@ -124,13 +174,13 @@ fn open_other<'a, R: Files + Copy>(
     }
 }
 
-// Opens CERT, which has no text that is not a certificate.
+// Opens CERT, which is empty, a certificate, or not there.
 fn open_checked<R: Files + Copy>(rt: R, alloc: Global, name: &str) -> io::Result<CertFile<R>> {
     match fs::metadata(&rt, name) {
         Ok(found) => open_found(rt, alloc, name, &found),
         Err(error) if error.kind() == io::ErrorKind::NotFound => {
             let place = place_at(rt, alloc, name, None)?;
-            Ok(CertFile::new(Way::Whole(place)))
+            Ok(CertFile::new(Way::Whole(Whole::new(place))))
         }
         Err(error) => Err(error),
     }
@@ -149,7 +199,7 @@ fn open_found<R: Files + Copy>(
     }
     drop(file);
     let place = place_at(rt, alloc, name, Some(found.mode()))?;
-    Ok(CertFile::new(Way::Whole(place)))
+    Ok(CertFile::new(Way::Whole(Whole::new(place))))
 }
 
 // Opens a file for writing. The handle is a copy, which the system never numbers as a standard
@@ -237,7 +287,5 @@ fn begins_as_cert_at<F: Files>(rt: &F, alloc: Global, name: &str) -> io::Result<
 fn begins_as_cert<R: Read>(alloc: Global, input: &mut R) -> io::Result<bool>
     ensures { IfOk result (λ yes. IfSome (R.remaining input.old) (λ text. IsTrue yes ↔ BeginsAsCert text)) }
 {
-    let mut front = Vec::new(alloc);
-    input.take(BEGINNING.len() as u64).read_to_end(&mut front)?;
-    Ok(front.as_slice() == BEGINNING)
+    begins_with(alloc, input, BEGINNING)
 }

@@ -1,10 +1,10 @@
 //! The command line, as the library `clap` reads it.
-ghost use Rattle.std.specs.Prelude.{◌≡◌, ◌↔◌, ◌≤◌, map, IfOk, IsTrue, string_bytes};
+ghost use Rattle.std.specs.Prelude.{◌≡◌, ◌↔◌, ◌≤◌, map, IfOk, IfSome, IsNone, IsTrue, string_bytes};
 ghost use Rattle.tune_search.specs.Limits.{MOST_CAPACITY};
 ghost use Rattle.tune_search.specs.Method.{HasCapacity};
 ghost use Rattle.cwtune.specs.CommandLine.{AskForFight, IsRequest};
 
-use crate::limits;
+use crate::help::{asks_for_help, command_in};
 use crate::options::{
     explain_option, fight_numbers, number, progress_option, rules_of, tune_options, with_rules,
 };
@@ -15,14 +15,14 @@ use clap::builder::ValueParser;
 use clap::{Arg, ArgAction, ArgMatches, Command, Error, value_parser};
 use mars_core::Side;
 use std::alloc::{AllocError, Global};
-use tune_runs::{Method, RawRules, WhichSetting};
-use tune_template::Part;
+use tune_runs::{Method, Part, RawRules, WhichSetting};
+use tune_search::limits;
 
 // The words for the sides, as in a schedule: candidate and opponent.
 const SIDES: [&str; 2] = ["c", "o"];
 
 // What `--version` says after the name: the version, and the kit that all proofs passed with.
-const VERSION: &str = "1.0.0 (proved with rattle-kit-13f)";
+pub(crate) const VERSION: &str = "1.0.0 (proved with rattle-kit-13f)";
 
 // The default of `--cache`.
 const DEFAULT_CAPACITY: u32 = 4096;
@@ -77,13 +77,17 @@ pub(crate) enum Request<'a> {
 }
 
 // Returns what the words after the program's name ask for, or `clap`'s answer: its help, or a usage
-// error. The plainest words for a fight are recognised without `clap`, so that they take no memory.
+// error. The shortest words for a fight are recognised without `clap`, so that they take no memory.
 pub(crate) fn request_of<'a>(alloc: Global, words: &'a [String]) -> Result<Request<'a>, Error>
     ensures fight { AskForFight (map string_bytes words.entry.now) → result ≡ Ok Request.Fight }
     ensures capacity { IfOk result IsRequest }
 {
     if ask_for_fight(words) {
         return Ok(Request::Fight);
+    }
+    let command = command_in(words);
+    if asks_for_help(words, command) {
+        give_help(alloc, command)?;
     }
     let matches = commands(alloc, duel(alloc)?)?.try_get_matches_from(words)?;
     match matches.subcommand() {
@@ -97,6 +101,17 @@ pub(crate) fn request_of<'a>(alloc: Global, words: &'a [String]) -> Result<Reque
         Some(("check", found)) => check_request(alloc, found),
         _ => Ok(Request::Fight),
     }
+}
+
+// Fails with the help of a command, or with that of the program for the empty word.
+fn give_help(alloc: Global, command: &str) -> Result<(), Error> {
+    let mut words = Vec::new(alloc);
+    if !command.is_empty() {
+        words.push(String::from_str(alloc, command)?)?;
+    }
+    words.push(String::from_str(alloc, "--help")?)?;
+    let _nothing = commands(alloc, duel(alloc)?)?.try_get_matches_from(words.as_slice())?;
+    Ok(())
 }
 
 // Makes the command `fight` without words of its own: the fight text is on standard input.
@@ -135,7 +150,7 @@ fn fight_request<'a>(
     ensures { IfOk result IsRequest }
 {
     let Some(candidate) = found.get_str("CANDIDATE") else {
-        return plain_request(alloc, words);
+        return request_without_files(alloc, words);
     };
     let Some(opponent) = found.get_str("OPPONENT") else {
         return Err(one_file(duel(alloc)?)?);
@@ -153,8 +168,8 @@ fn fight_request<'a>(
 }
 
 // Returns what `fight` without files asks for. It takes no words but `--explain`, so `clap` is
-// asked again for such a command: its answer to other words is what it was before there were files.
-fn plain_request<'a>(alloc: Global, words: &'a [String]) -> Result<Request<'a>, Error>
+// asked again for such a command, and reports any other word as unexpected.
+fn request_without_files<'a>(alloc: Global, words: &'a [String]) -> Result<Request<'a>, Error>
     ensures { IfOk result IsRequest }
 {
     let _nothing = commands(alloc, fight(alloc)?)?.try_get_matches_from(words)?;
@@ -371,15 +386,17 @@ fn method_of(found: &ArgMatches<'_>) -> Method
         return Method::PlayingAll;
     }
     Method::Dropping {
-        capacity: capacity_of(found),
+        capacity: capacity_meant(found.get_one::<u32>("cache")),
     }
 }
 
-// Returns the value of `--cache`, which `clap` keeps in its range, or the default.
-fn capacity_of(found: &ArgMatches<'_>) -> u32
-    ensures { (1 ≤ result) × (result ≤ MOST_CAPACITY) }
+// Returns the capacity that is given, which `clap` keeps in its range, or the default.
+fn capacity_meant(given: Option<u32>) -> u32
+    ensures within { (1 ≤ result) × (result ≤ MOST_CAPACITY) }
+    ensures given { IfSome given (λ n. 1 ≤ n → n ≤ MOST_CAPACITY → result ≡ n) }
+    ensures default { IsNone given → result ≡ 4096 }
 {
-    match found.get_one::<u32>("cache") {
+    match given {
         Some(capacity) if 1 <= capacity && capacity <= limits::MOST_CAPACITY => capacity,
         _ => DEFAULT_CAPACITY,
     }
@@ -406,7 +423,7 @@ fn tune_words<'a>(
     })
 }
 
-// Checks for the plainest words of a fight: none, or `fight` alone.
+// Checks for the shortest words of a fight: none, or `fight` alone.
 pub(crate) fn ask_for_fight(words: &[String]) -> bool
     ensures { IsTrue result ↔ AskForFight (map string_bytes words.now) }
 {

@@ -7,7 +7,7 @@ ghost use Rattle.cwtune.specs.Commands.{status_of};
 pub(crate) enum Ending {
     // An input is refused, or a certificate rejected.
     Refused,
-    // A usage error, a part that the template does not have, or a file CERT that is not
+    // A usage error, a part that the template does not have, or a CERT or CERT.inputs that is not
     // overwritten.
     Misused,
     // An I/O error, or out of memory.

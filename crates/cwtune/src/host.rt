@@ -1,11 +1,14 @@
 //! What the commands work with, and the lines on standard error with which they end.
 ghost use Rattle.std.specs.Prelude.{◌≡◌, ◌≢◌, ◌⊎◌, IfOk, IfErr};
-ghost use Rattle.tune_runs.specs.RawRules.{rules_given};
+ghost use Rattle.tune_runs.specs.Given.{rules_given};
 
 use crate::cert_file::{CertFile, NotOpened};
 use crate::command_line::{DuelWords, TuneWords};
+use crate::digest::Digested;
 use crate::ending::Ending;
 use crate::fault_line::{say_cert, say_file, say_run, say_text};
+use crate::inputs_file::{Barred, Tuning, check_old, name_beside, write_inputs};
+use crate::other_inputs::differences;
 use crate::reading::{TuneFiles, read_file};
 use crate::refusal::Refused;
 use crate::telling::tell;
@@ -15,7 +18,7 @@ use std::alloc::Global;
 use std::io;
 use std::io::Write;
 use std::rt::Files;
-use tune_runs::{DuelTexts, RawRules, RunFault, TuneTexts, rules_of};
+use tune_runs::{DuelTexts, Method, RawRules, RunFault, TuneTexts, rules_of};
 
 // What a command uses: files, memory, the witness, and standard error for the lines of faults.
 #[derive(Drop)]
@@ -170,12 +173,98 @@ impl<F: Files, T: Witness, V: Write> Host<'_, F, T, V> {
         Ending::Misused
     }
 
-    // Tells the witness if the certificate could not be written.
-    pub(crate) fn tell_loss<R: Files + Drop>(&mut self, name: &str, cert: Outlet<CertFile<R>>) {
+    // Returns the name of CERT.inputs, after a check that it is not a file of the tuning or another
+    // text. A certificate that is not a regular file has no such file.
+    pub(crate) fn inputs_beside<R: Files + Drop>(
+        &mut self,
+        words: &TuneWords<'_>,
+        cert: &CertFile<R>,
+    ) -> Result<Option<String>, Ending>
+        ensures { IfErr result (λ e. e ≢ Ending.Refused) }
+    {
+        if !cert.is_whole() {
+            return Ok(None);
+        }
+        let Ok(name) = name_beside(self.alloc, words.cert) else {
+            return Err(self.end_without_memory());
+        };
+        match check_old(self.rt, self.alloc, words, name.as_str()) {
+            Ok(()) => Ok(Some(name)),
+            Err(barred) => Err(self.end_barred(name.as_str(), &barred)),
+        }
+    }
+
+    // Says why CERT.inputs is not replaced.
+    fn end_barred(&mut self, name: &str, barred: &Barred) -> Ending
+        ensures { result ≢ Ending.Refused }
+    {
+        let reason = match barred {
+            Barred::Named => "is also a file of this command, and is not overwritten:",
+            Barred::NotInputs => "is a text of another kind, and is not overwritten:",
+            Barred::Unread(error) => return self.fail("read", name, error),
+        };
+        tell(self.err, &["error: CERT.inputs ", reason, " ", name, "\n"]);
+        Ending::Misused
+    }
+
+    // Ends the work on the files of a tuning, after the last byte of the certificate and of the
+    // report. `beside` is the name of CERT.inputs.
+    pub(crate) fn end_files<R: Files + Drop>(
+        &mut self,
+        words: &TuneWords<'_>,
+        texts: &TuneTexts<'_>,
+        method: Method,
+        cert: Outlet<CertFile<R>>,
+        beside: Option<String>,
+    ) {
+        if let (Some(name), Some(cert)) = (beside, self.end_cert(words, cert)) {
+            self.write_inputs(words, texts, method, &cert, name.as_str());
+        }
+    }
+
+    // Returns the size and the digest of the certificate if a regular file has it. If it could not
+    // be written, says which setting the search had found.
+    fn end_cert<R: Files + Drop>(
+        &mut self,
+        words: &TuneWords<'_>,
+        cert: Outlet<CertFile<R>>,
+    ) -> Option<Digested> {
         let is_lost = cert.failed();
         let file = cert.into_inner();
         if is_lost {
-            self.witness.lose(self.alloc, name, file.failure());
+            self.witness.finding().tell_found(self.err);
+            self.witness.lose(self.alloc, words.cert, file.failure());
+            return None;
+        }
+        file.digested()
+    }
+
+    // Writes CERT.inputs, whose name is `name`.
+    fn write_inputs(
+        &mut self,
+        words: &TuneWords<'_>,
+        texts: &TuneTexts<'_>,
+        method: Method,
+        cert: &Digested,
+        name: &str,
+    ) {
+        let tuning = Tuning {
+            words,
+            texts,
+            method,
+        };
+        if let Err(error) = write_inputs(self.rt, self.alloc, &tuning, cert, name) {
+            self.witness.fail(self.alloc, name, &error);
+        }
+    }
+
+    // Lets the witness say which inputs of a rejected certificate differ from its tuning's.
+    pub(crate) fn reject(&mut self, words: &TuneWords<'_>, texts: &TuneTexts<'_>, cert: &[u8]) {
+        if !self.witness.explains() {
+            return;
+        }
+        if let Ok(lines) = differences(self.rt, self.alloc, words, texts, cert) {
+            self.witness.reject(lines.as_slice());
         }
     }
 }

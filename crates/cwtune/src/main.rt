@@ -2,21 +2,31 @@
 //! constants, and checks certificates that a setting is the best.
 #![tactic(auto)]
 
-ghost use Rattle.std.specs.Prelude.{◌≡◌, false, IsTrue};
+ghost use Rattle.std.specs.Prelude.{◌≡◌, map, false, string_bytes, IsTrue};
+ghost use Rattle.cwtune.specs.Program.{IsProgramRun};
 
+mod beginning;
 mod bounds;
 mod cert_file;
 mod command_line;
 mod commands;
+mod digest;
 mod ending;
 mod fault_line;
+mod finding;
+mod help;
+mod help_lines;
 mod host;
-mod limits;
+mod inputs_file;
+mod line;
+mod names_in;
 mod notes;
 mod options;
+mod other_inputs;
 mod part_word;
 pub mod program;
 mod progress_line;
+mod range_line;
 mod reading;
 mod refusal;
 mod replacing;
@@ -64,6 +74,7 @@ fn run<R: Read, W: Write, V: Write>(
 ) -> u8
     requires out { out.old.failed ≡ false }
     requires err { err.old.failed ≡ false }
+    ensures { IsProgramRun (map string_bytes words.now) (R.remaining input.old) out.old out.new result }
 {
     let at_terminal = rt.stderr().is_terminal();
     let explains = at_terminal || is_given(words, "--explain");

@@ -1,4 +1,4 @@
-//! What a template, a schedule or the opponents say without any effect.
+//! Warnings: what has no effect in a template or a schedule.
 
 use crate::telling::{tell, tell_bytes, tell_source};
 use itoa::Buffer;
@@ -9,7 +9,7 @@ use std::alloc::Global;
 use std::io::Write;
 use tune_template::Template;
 
-// With which some editors begin a text.
+// Some editors begin a file with it.
 const BYTE_ORDER_MARK: &[u8] = b"\xef\xbb\xbf";
 
 // Writes the lines of a template that are like range lines and are none, and the constants that no
@@ -22,7 +22,7 @@ pub(crate) fn tell_template_notes<V: Write>(
 ) {
     tell_lost_ranges(err, file, text);
     if let Ok(template) = Template::read(alloc, text) {
-        tell_unused(err, file, text, template.names());
+        tell_unused(err, file, &template);
     }
 }
 
@@ -52,7 +52,8 @@ fn has_fight(fights: &[Fight], opponent: u32) -> bool {
     fights.iter().any(|fight| fight.opponent == opponent)
 }
 
-fn tell_lost_ranges<V: Write>(err: &mut Outlet<V>, file: &str, text: &[u8]) {
+// Writes the lines of a template that are like range lines and are none.
+pub(crate) fn tell_lost_ranges<V: Write>(err: &mut Outlet<V>, file: &str, text: &[u8]) {
     let mut number: u64 = 0;
     for line in text.split(|byte| *byte == b'\n') {
         number = number.saturating_add(1);
@@ -71,8 +72,8 @@ fn why_lost(line: &[u8]) -> &'static str {
     }
 }
 
-// Returns whether a line that is not a range line has a comment that begins as one does: behind
-// something else, such as a byte order mark, or in other letters.
+// Returns whether a line that is not a range line has a comment that begins as one does: after a
+// byte order mark or something else, or in other letters.
 fn has_lost_range(line: &[u8]) -> bool {
     if is_range(line) {
         return false;
@@ -110,9 +111,16 @@ fn begins_as_range(comment: &[u8]) -> bool {
     false
 }
 
-fn tell_unused<V: Write>(err: &mut Outlet<V>, file: &str, text: &[u8], names: &[Vec<u8>]) {
-    for name in names {
-        if !is_token(text, name.as_slice()) {
+// Writes which constants of a template no line uses, or that it has no range line.
+pub(crate) fn tell_unused<V: Write>(err: &mut Outlet<V>, file: &str, template: &Template) {
+    if template.names().is_empty() {
+        tell(
+            err,
+            &["  ", file, " has no range line, so it has one setting\n"],
+        );
+    }
+    for name in template.names() {
+        if !is_token(template.text(), name.as_slice()) {
             tell(err, &["  no line of ", file, " uses the constant "]);
             tell_bytes(err, name.as_slice());
             tell(err, &["\n"]);

@@ -1,14 +1,15 @@
 //! The options that several commands have.
+ghost use Rattle.std.specs.Prelude.{◌≡◌};
+ghost use Rattle.std.specs.Option.{unwrap_or};
 
 use crate::part_word::part_of;
 use crate::usage_error::BadValue;
 use clap::{Arg, ArgAction, ArgMatches, Command};
 use rc_instr::Rules;
 use std::alloc::{AllocError, Global};
-use tune_runs::RawRules;
-use tune_template::Part;
+use tune_runs::{Part, RawRules};
 
-// Returns whether a flag is among the words that `clap` has accepted. After `--` they are files.
+// Returns whether a flag is among the words before `--`. After it they are files.
 pub(crate) fn is_given(words: &[String], flag: &str) -> bool {
     for word in words {
         if word.as_str() == "--" {
@@ -109,46 +110,68 @@ fn number_in(word: &str) -> Option<u32> {
     }
 }
 
-// Returns the rules of the options, with the standard rules as defaults.
-pub(crate) fn rules_of<'a>(found: &ArgMatches<'a>) -> Result<RawRules, BadValue<'a>> {
+// The rules that options give.
+#[derive(Clone, Copy)]
+struct GivenRules {
+    core: Option<u32>,
+    cycles: Option<u32>,
+    tasks: Option<u32>,
+    length: Option<u32>,
+    distance: Option<u32>,
+}
+
+// Returns the rules that are given, with the standard rules as defaults.
+fn with_defaults(given: GivenRules) -> RawRules
+    ensures core { result.core ≡ unwrap_or given.core 8000 }
+    ensures cycles { result.cycles ≡ unwrap_or given.cycles 80000 }
+    ensures tasks { result.tasks ≡ unwrap_or given.tasks 8000 }
+    ensures length { result.length ≡ unwrap_or given.length 100 }
+    ensures distance { result.distance ≡ unwrap_or given.distance 100 }
+{
     let standard = Rules::standard();
-    let core = number_of(
-        found,
-        "core",
-        "--core <NUMBER>",
-        "a number from 8 to 65535 is wanted",
-    )?;
-    let cycles = number_of(
-        found,
-        "cycles",
-        "--cycles <NUMBER>",
-        "a number from 1 to 1000000 is wanted",
-    )?;
-    let tasks = number_of(
-        found,
-        "tasks",
-        "--tasks <NUMBER>",
-        "a number from 1 to 8000 is wanted",
-    )?;
-    let length = number_of(
-        found,
-        "length",
-        "--length <NUMBER>",
-        "a number from 1 to 200 is wanted",
-    )?;
-    let distance = number_of(
-        found,
-        "distance",
-        "--distance <NUMBER>",
-        "a number from the length to half the core size is wanted",
-    )?;
-    Ok(RawRules {
-        core: core.unwrap_or(standard.core()),
-        cycles: cycles.unwrap_or(standard.cycles()),
-        tasks: tasks.unwrap_or(standard.tasks()),
-        length: length.unwrap_or(standard.length()),
-        distance: distance.unwrap_or(standard.distance()),
-    })
+    RawRules {
+        core: given.core.unwrap_or(standard.core()),
+        cycles: given.cycles.unwrap_or(standard.cycles()),
+        tasks: given.tasks.unwrap_or(standard.tasks()),
+        length: given.length.unwrap_or(standard.length()),
+        distance: given.distance.unwrap_or(standard.distance()),
+    }
+}
+
+// Returns the rules of the options.
+pub(crate) fn rules_of<'a>(found: &ArgMatches<'a>) -> Result<RawRules, BadValue<'a>> {
+    Ok(with_defaults(GivenRules {
+        core: number_of(
+            found,
+            "core",
+            "--core <NUMBER>",
+            "a number from 8 to 65535 is wanted",
+        )?,
+        cycles: number_of(
+            found,
+            "cycles",
+            "--cycles <NUMBER>",
+            "a number from 1 to 1000000 is wanted",
+        )?,
+        tasks: number_of(
+            found,
+            "tasks",
+            "--tasks <NUMBER>",
+            "a number from 1 to 8000 is wanted",
+        )?,
+        length: number_of(
+            found,
+            "length",
+            "--length <NUMBER>",
+            "a number from 1 to 200 is wanted",
+        )?,
+        distance: number_of(
+            found,
+            "distance",
+            "--distance <NUMBER>",
+            "a number from the length to half the core size is wanted",
+        )?,
+    }))
 }
 
 // Returns the rules of a fight of two files, and the position.

@@ -1,13 +1,14 @@
 //! The option `--part` and its word `I/K`.
-ghost use Rattle.std.specs.Prelude.{◌≡◌, ◌≤◌, ◌<◌, ◌^◌, Some, IfSome};
-ghost use Rattle.tune_template.specs.declared.part.Part.{Part};
+ghost use Rattle.std.specs.Prelude.{◌≡◌, ◌≤◌, ◌<◌, ◌^◌, Some, IfSome, IsNone};
+ghost use Rattle.tune_problem.specs.Parts.{whole};
+ghost use Rattle.tune_problem.specs.declared.part.Part.{Part};
 ghost use Rattle.cwtune.specs.CommandLine.{part_word, IsCounted};
 
 use crate::usage_error::BadValue;
 use clap::{Arg, ArgAction, ArgMatches};
 use rc_instr::{after, decimal_at, decimal_of};
 use std::alloc::Global;
-use tune_template::Part;
+use tune_runs::Part;
 
 // Makes the option.
 pub(crate) fn part_option<'a>(alloc: Global) -> Arg<'a> {
@@ -22,16 +23,26 @@ pub(crate) fn part_option<'a>(alloc: Global) -> Arg<'a> {
 
 // Returns the part that the option says, or all settings without it.
 pub(crate) fn part_of<'a>(found: &ArgMatches<'a>) -> Result<Part, BadValue<'a>> {
-    let Some(word) = found.get_str("part") else {
-        return Ok(Part::whole());
-    };
-    match read_part(word.as_bytes()) {
+    let word = found.get_str("part");
+    match part_said(word) {
         Some(part) => Ok(part),
         None => Err(BadValue {
-            word,
+            word: word.unwrap_or(""),
             option: "--part <I/K>",
             wanted: "two numbers are wanted, as in 1/4, with I from 1 to K",
         }),
+    }
+}
+
+// Returns the part that a word says, or all settings without a word.
+fn part_said(word: Option<&str>) -> Option<Part>
+    ensures whole { IsNone word.entry → result ≡ Some whole }
+    ensures found { IfSome word.entry (λ w. IfSome result (λ p. (w.now ≡ part_word p) × IsCounted p)) }
+    ensures only { IfSome word.entry (λ w. (p : Part) → IsCounted p → w.now ≡ part_word p → result ≡ Some p) }
+{
+    match word {
+        Some(word) => read_part(word.as_bytes()),
+        None => Some(Part::whole()),
     }
 }
 

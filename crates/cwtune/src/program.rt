@@ -1,5 +1,6 @@
 //! The program, apart from `main`: words and three streams in, an exit status out.
-ghost use Rattle.std.specs.Prelude.{◌≡◌, ◌≢◌, ◌⊎◌, map, false, string_bytes, IfErr};
+ghost use Rattle.std.specs.Prelude.{◌≡◌, ◌≢◌, ◌⊎◌, map, false, string_bytes, IfErr, OnOk};
+ghost use Rattle.cwtune.specs.CommandLine.{AsksForHelp};
 ghost use Rattle.cwtune.specs.Commands.{IsEnded};
 ghost use Rattle.cwtune.specs.Program.{IsProgramRun};
 
@@ -7,21 +8,21 @@ use crate::command_line::{Request, request_of};
 use crate::commands::{asm, check, duel, fight, settings, tune};
 use crate::ending::{Ending, status_of};
 use crate::fault_line::say_run;
+use crate::help::mentions_help;
 use crate::host::Host;
 use crate::telling::tell;
-use crate::witness::Witness;
+use crate::witness::{Quiet, Witness};
 use clap::error::ErrorKind;
 use rc_instr::Outlet;
 use std::alloc::Global;
 use std::io;
 use std::io::{Read, Write};
 use std::rt::Files;
-use tune_cert::Silent;
 use tune_runs::RunFault;
 
 /// Runs the command that `words` ask for, and returns the exit status: 0 success or accepted, 1
 /// input refused or certificate rejected, 2 usage error, a part that the template does not have, or
-/// a file CERT that is not overwritten, 3 I/O error or out of memory.
+/// a CERT or CERT.inputs that is not overwritten, 3 I/O error or out of memory.
 ///
 /// - Without words, or with `fight`: reads a fight text from `input` and writes its result line.
 /// - `fight` and two files: checks the rules, reads the two Redcode files, and writes the result
@@ -30,10 +31,12 @@ use tune_runs::RunFault;
 ///   setting of a template.
 /// - `settings`: reads the template, and writes the number of its settings and its constants.
 /// - `tune`: checks the rules, reads the template, the schedule and the opponents, tries whether
-///   CERT can be replaced or made, finds the best setting, and writes the
-///   certificate, then the report. A file that is another word's, or that has a text and is not a
-///   certificate, stays. A regular file is replaced whole or not at all, and none is made if there
-///   is no certificate.
+///   CERT can be replaced or made, finds the best setting, and writes the certificate, then the
+///   report. A file that is another word's, or that has a text and is not a certificate, stays. A
+///   regular file is replaced whole or not at all, and none is made if there is no certificate.
+///   Beside a regular file CERT the file CERT.inputs says which inputs the certificate is for, as
+///   `docs/FORMATS.md` describes it; a text of that name that is not such a file stays, too. If the
+///   certificate was found and cannot be written, a line `found: ..` names the best setting.
 /// - `check`: checks the rules, reads the template, the schedule, the certificate and the
 ///   opponents, and writes the line of the verdict.
 /// - `--help`, `help`: writes the help text. `--version`: writes the version.
@@ -56,7 +59,7 @@ pub fn program<F: Files, R: Read, W: Write, V: Write>(
     let host = Host {
         rt,
         alloc,
-        witness: &mut Silent,
+        witness: &mut Quiet::new(alloc),
         err,
     };
     watched_program(host, words, input, out)
@@ -80,7 +83,7 @@ pub(crate) fn watched_program<F: Files, R: Read, W: Write, V: Write, T: Witness>
         Ok(Request::Settings { file }) => status_of(settings(host, file, out)),
         Ok(Request::Tune { words, method }) => status_of(tune(host, &words, method, out)),
         Ok(Request::Check(words)) => status_of(check(host, &words, out)),
-        Err(answer) => status_of(show(host, &answer, out)),
+        Err(answer) => status_of(show(host, words, &answer, out)),
     }
 }
 
@@ -100,10 +103,12 @@ pub(crate) fn end_without_words<V: Write>(err: &mut Outlet<V>, error: &io::Error
 // Prints what `clap` has to say: help on standard output, or a usage error on standard error.
 fn show<F: Files, W: Write, V: Write, T: Witness>(
     host: &mut Host<'_, F, T, V>,
+    words: &[String],
     answer: &clap::Error,
     out: &mut Outlet<W>,
 ) -> Result<(), Ending>
     requires { out.old.failed ≡ false }
+    ensures asked { OnOk result (AsksForHelp (map string_bytes words.now)) }
     ensures ended { IsEnded out.old out.new result }
     ensures known { IfErr result (λ e. e ≢ Ending.Refused) }
 {
@@ -113,7 +118,7 @@ fn show<F: Files, W: Write, V: Write, T: Witness>(
     let Ok(text) = answer.to_string(host.alloc) else {
         return Err(host.end_without_memory());
     };
-    if answer.use_stderr() {
+    if answer.use_stderr() || !mentions_help(words) {
         tell(host.err, &[text.as_str()]);
         return Err(Ending::Misused);
     }

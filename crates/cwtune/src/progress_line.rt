@@ -2,9 +2,10 @@
 ghost use Rattle.std.specs.Prelude.{◌≡◌, ◌<◌, ◌≤◌, ◌/◌};
 
 use crate::command_line::TuneWords;
-use crate::notes::{tell_idle, tell_template_notes};
+use crate::finding::Finding;
+use crate::notes::{tell_idle, tell_lost_ranges, tell_template_notes, tell_unused};
 use crate::refusal::{Refused, explain};
-use crate::telling::{tell, tell_error, tell_found};
+use crate::telling::{tell, tell_error, tell_line};
 use crate::witness::Witness;
 use itoa::Buffer;
 use rc_instr::Outlet;
@@ -13,9 +14,8 @@ use std::io;
 use std::io::Write;
 use std::rt::Clock;
 use std::time::{Duration, Instant};
-use tune_cert::{Best, Standing, Watcher};
-use tune_runs::{RunFault, TuneTexts};
-use tune_template::Inputs;
+use tune_cert::{Standing, Watcher};
+use tune_runs::{Inputs, RunFault, TuneTexts};
 
 // After how many fights of a setting the clock is read again: a reading takes as long as a few
 // turns, and sixteen of the longest fights take less than a second.
@@ -49,6 +49,13 @@ impl Style {
     }
 }
 
+// The names of a tuning's files.
+#[derive(Drop)]
+struct FileNames {
+    template: String,
+    opponents: Vec<String>,
+}
+
 // Shows progress by the clock, and writes explanations if it `explains`.
 #[derive(Drop)]
 pub(crate) struct Progress<C: Clock, V: Write> {
@@ -56,11 +63,15 @@ pub(crate) struct Progress<C: Clock, V: Write> {
     err: Outlet<V>,
     style: Style,
     explains: bool,
-    opponents: Vec<String>,
+    // Only if it explains.
+    files: Option<FileNames>,
+    // The setting whose fault is explained if none assembles, by its index in the template.
+    setting: u32,
     began: Option<Instant>,
     shown: Option<Instant>,
     // The last standing, with `fights` as last heard.
     standing: Standing,
+    finding: Finding,
 }
 
 impl<C: Clock, V: Write> Progress<C, V> {
@@ -77,7 +88,8 @@ impl<C: Clock, V: Write> Progress<C, V> {
             err,
             style,
             explains,
-            opponents: Vec::new(alloc),
+            files: None,
+            setting: 0,
             began: None,
             shown: None,
             standing: Standing {
@@ -86,6 +98,7 @@ impl<C: Clock, V: Write> Progress<C, V> {
                 fights: 0,
                 best: None,
             },
+            finding: Finding::new(alloc),
         }
     }
 
@@ -103,25 +116,55 @@ impl<C: Clock, V: Write> Progress<C, V> {
         self.shown = Some(now);
         let millis = millis_between(self.began, now);
         match self.style {
-            Style::Log => log_line(&mut self.err, &self.standing, millis),
-            _ => draw_line(&mut self.err, &self.standing, millis),
+            Style::Log => self.log_line(millis),
+            _ => self.draw_line(millis),
         }
+    }
+
+    // Writes the line over the one before, and clears the rest of that. A line that is wider than
+    // the terminal is cut, since lines are not wrapped meanwhile.
+    fn draw_line(&mut self, millis: u64) {
+        tell(&mut self.err, &["\r\x1b[?7l"]);
+        self.tell_standing(millis);
+        tell(&mut self.err, &["\x1b[K\x1b[?7h"]);
+    }
+
+    fn log_line(&mut self, millis: u64) {
+        self.tell_standing(millis);
+        tell(&mut self.err, &["\n"]);
+    }
+
+    // Writes percent, settings, fights, fights a second, the best setting, and the time left.
+    fn tell_standing(&mut self, millis: u64) {
+        let done = u64::from(self.standing.settings);
+        let count = u64::from(self.standing.count);
+        tell_done(&mut self.err, done, count);
+        tell_fights(&mut self.err, self.standing.fights, millis);
+        self.finding.tell_progress(&mut self.err);
+        tell_left(&mut self.err, done, count, millis);
     }
 }
 
 impl<C: Clock, V: Write> Watcher for Progress<C, V> {
-    // Says which opponents have no effect, and shows that the run has begun.
+    // Says which constants and opponents have no effect, and shows that the run has begun.
     fn begin(&mut self, inputs: &Inputs) {
-        if self.explains {
-            let fights = inputs.schedule().fights();
-            tell_idle(&mut self.err, self.opponents.as_slice(), fights);
+        if let Some(files) = &self.files {
+            tell_unused(&mut self.err, files.template.as_str(), inputs.template());
+            tell_idle(
+                &mut self.err,
+                files.opponents.as_slice(),
+                inputs.schedule().fights(),
+            );
         }
+        self.setting = inputs.index_in_template(inputs.start_number());
+        self.finding.begin(inputs);
         self.began = Instant::now(&self.clock).ok();
         self.standing.count = inputs.count();
         self.show();
     }
 
     fn see(&mut self, standing: Standing) {
+        self.finding.see(&standing);
         self.standing = standing;
         self.show();
     }
@@ -143,13 +186,19 @@ impl<C: Clock, V: Write> Watcher for Progress<C, V> {
 }
 
 impl<C: Clock, V: Write> Witness for Progress<C, V> {
-    // Says what has no effect in the template, and keeps the names of the opponents.
+    fn finding(&self) -> &Finding {
+        &self.finding
+    }
+
+    fn explains(&self) -> bool {
+        self.explains
+    }
+
+    // Says which lines of the template have no effect, and keeps the names of the files.
     fn name(&mut self, alloc: Global, words: &TuneWords<'_>, texts: &TuneTexts<'_>) {
         if self.explains {
-            tell_template_notes(&mut self.err, alloc, words.template, texts.template);
-            if let Ok(names) = copies_of(alloc, words.opponents.as_slice()) {
-                self.opponents = names;
-            }
+            tell_lost_ranges(&mut self.err, words.template, texts.template);
+            self.files = names_of(alloc, words).ok();
         }
     }
 
@@ -161,13 +210,17 @@ impl<C: Clock, V: Write> Witness for Progress<C, V> {
 
     fn refuse(&mut self, alloc: Global, refused: &Refused<'_>, fault: RunFault) {
         if self.explains {
-            explain(&mut self.err, alloc, refused, fault);
+            explain(&mut self.err, alloc, refused, fault, self.setting);
         }
     }
 
-    fn reject(&mut self) {
-        if self.explains {
-            tell(&mut self.err, &[OTHER_INPUTS]);
+    fn reject(&mut self, lines: &[String]) {
+        if !self.explains {
+            return;
+        }
+        tell(&mut self.err, &[OTHER_INPUTS]);
+        for line in lines {
+            tell_line(&mut self.err, line.as_str());
         }
     }
 
@@ -177,26 +230,22 @@ impl<C: Clock, V: Write> Witness for Progress<C, V> {
         }
     }
 
-    // Says what the search had found, too.
     fn lose(&mut self, alloc: Global, name: &str, failure: Option<io::Error>) {
-        if !self.explains {
-            return;
-        }
         if let Some(error) = failure {
-            tell_error(&mut self.err, alloc, name, &error);
-        }
-        if let Some(best) = self.standing.best {
-            tell_found(&mut self.err, best);
+            self.fail(alloc, name, &error);
         }
     }
 }
 
-fn copies_of(alloc: Global, names: &[&str]) -> Result<Vec<String>, AllocError> {
-    let mut copies = Vec::new(alloc);
-    for name in names {
-        copies.push(String::from_str(alloc, *name)?)?;
+fn names_of(alloc: Global, words: &TuneWords<'_>) -> Result<FileNames, AllocError> {
+    let mut opponents = Vec::new(alloc);
+    for name in words.opponents.as_slice() {
+        opponents.push(String::from_str(alloc, *name)?)?;
     }
-    Ok(copies)
+    Ok(FileNames {
+        template: String::from_str(alloc, words.template)?,
+        opponents,
+    })
 }
 
 // Returns whether the next line is due.
@@ -217,32 +266,6 @@ fn millis_between(began: Option<Instant>, now: Instant) -> u64 {
 fn millis_of(time: Duration) -> u64 {
     let millis = u64::from(time.subsec_millis());
     time.as_secs().saturating_mul(1000).saturating_add(millis)
-}
-
-// Writes the line over the one before, and clears the rest of that. A line that is wider than the
-// terminal is cut, since lines are not wrapped meanwhile.
-fn draw_line<V: Write>(err: &mut Outlet<V>, standing: &Standing, millis: u64) {
-    tell(err, &["\r\x1b[?7l"]);
-    tell_standing(err, standing, millis);
-    tell(err, &["\x1b[K\x1b[?7h"]);
-}
-
-fn log_line<V: Write>(err: &mut Outlet<V>, standing: &Standing, millis: u64) {
-    tell_standing(err, standing, millis);
-    tell(err, &["\n"]);
-}
-
-// Writes percent, settings, fights, fights a second, the best setting so far, and the time left.
-fn tell_standing<V: Write>(err: &mut Outlet<V>, standing: &Standing, millis: u64) {
-    let done = u64::from(standing.settings);
-    let count = u64::from(standing.count);
-    tell_done(err, done, count);
-    tell_fights(err, standing.fights, millis);
-    if let Some(best) = standing.best {
-        tell_number(err, ", best ", u64::from(best.vector), "");
-        tell_number(err, " total ", u64::from(best.total), "");
-    }
-    tell_left(err, done, count, millis);
 }
 
 fn tell_done<V: Write>(err: &mut Outlet<V>, done: u64, count: u64) {

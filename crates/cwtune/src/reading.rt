@@ -7,8 +7,7 @@ use std::alloc::Global;
 use std::io::Read;
 use std::rt::Files;
 use std::{fs, io};
-use tune_runs::TuneTexts;
-use tune_template::Part;
+use tune_runs::{Part, TuneTexts};
 
 // The most bytes of a text that is read: 1 GiB.
 const MOST_FILE_BYTES: u64 = 1_073_741_824;

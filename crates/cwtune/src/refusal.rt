@@ -8,7 +8,7 @@ use rc_asm::AsmFault;
 use rc_instr::{Outlet, Rules};
 use std::alloc::Global;
 use std::io::Write;
-use tune_runs::{DuelTexts, RawRules, RunFault, TuneTexts, inputs_of};
+use tune_runs::{DuelTexts, RawRules, RunFault, TuneTexts};
 use tune_template::Template;
 
 // What was refused: the words of a run, and the texts that it has read.
@@ -37,12 +37,14 @@ pub(crate) enum Refused<'a> {
     },
 }
 
-// Writes what helps with a fault, if anything does.
+// Writes what helps with a fault, if anything does. If no setting assembles, that is the fault of
+// `setting`, an index in the template.
 pub(crate) fn explain<V: Write>(
     err: &mut Outlet<V>,
     alloc: Global,
     refused: &Refused<'_>,
     fault: RunFault,
+    setting: u32,
 ) {
     match refused {
         Refused::Rules(raw) => explain_rules(err, *raw, fault),
@@ -52,7 +54,9 @@ pub(crate) fn explain<V: Write>(
         },
         Refused::Template { file, text } => explain_template(err, alloc, file, text, fault),
         Refused::Duel { words, texts } => explain_duel(err, alloc, words, texts, fault),
-        Refused::Tuning { words, texts } => explain_tuning(err, alloc, words, texts, fault),
+        Refused::Tuning { words, texts } => {
+            explain_tuning(err, alloc, words, texts, fault, setting);
+        }
     }
 }
 
@@ -73,7 +77,11 @@ fn explain_template<V: Write>(
         RunFault::Template(fault) => tell_template(err, alloc, file, text, fault),
         RunFault::NoSuchSetting { index: _ } => {
             if let Ok(template) = Template::read(alloc, text) {
-                tell_most(err, "settings are 0 to", u64::from(template.count() - 1));
+                tell_most(
+                    err,
+                    "indices of settings are 0 to",
+                    u64::from(template.count() - 1),
+                );
             }
         }
         _ => {}
@@ -106,6 +114,7 @@ fn explain_tuning<V: Write>(
     words: &TuneWords<'_>,
     texts: &TuneTexts<'_>,
     fault: RunFault,
+    setting: u32,
 ) {
     match fault {
         RunFault::TooManyOpponents => {
@@ -125,22 +134,26 @@ fn explain_tuning<V: Write>(
             }
         }
         RunFault::Schedule(fault) => tell_schedule(err, alloc, words, texts, fault),
-        RunFault::NoCandidate => explain_start(err, alloc, words, texts),
+        RunFault::NoCandidate => explain_setting(err, alloc, words, texts, setting),
         _ => {}
     }
 }
 
-// Writes the fault of one setting: the start setting, or the first of a part without it.
-fn explain_start<V: Write>(
+// Writes the fault of one setting.
+fn explain_setting<V: Write>(
     err: &mut Outlet<V>,
     alloc: Global,
     words: &TuneWords<'_>,
     texts: &TuneTexts<'_>,
+    setting: u32,
 ) {
-    let Ok(inputs) = inputs_of(alloc, texts) else {
+    let Ok(template) = Template::read(alloc, texts.template) else {
         return;
     };
-    let fault: AsmFault = match inputs.instance(alloc, inputs.start_number()) {
+    if setting >= template.count() {
+        return;
+    }
+    let fault: AsmFault = match template.instance(alloc, setting, texts.rules) {
         Ok(_) => return,
         Err(fault) => fault,
     };

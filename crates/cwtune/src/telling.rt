@@ -6,7 +6,12 @@ use std::alloc::Global;
 use std::fmt::Display;
 use std::io;
 use std::io::Write;
-use tune_cert::Best;
+
+// The most bytes of a line of text that are shown.
+const MOST_SHOWN: usize = 200;
+
+// The most bytes of a character of UTF-8 after its first.
+const MOST_FURTHER_BYTES: usize = 3;
 
 // Writes the parts of a line.
 pub(crate) fn tell<V: Write>(err: &mut Outlet<V>, parts: &[&str]) {
@@ -62,13 +67,9 @@ pub(crate) fn tell_reason<V: Write, D: Display + Drop>(
     }
 }
 
-// Writes the best setting that a search has found.
-pub(crate) fn tell_found<V: Write>(err: &mut Outlet<V>, best: Best) {
-    let mut first = Buffer::new();
-    let mut second = Buffer::new();
-    let setting = first.format(best.vector);
-    let total = second.format(best.total);
-    tell(err, &["  found: best ", setting, " total ", total, "\n"]);
+// Writes a line.
+pub(crate) fn tell_line<V: Write>(err: &mut Outlet<V>, line: &str) {
+    tell(err, &["  ", line, "\n"]);
 }
 
 // Writes the line of a text with its file and its number, from 1, or the file alone for line 0.
@@ -79,9 +80,18 @@ pub(crate) fn tell_source<V: Write>(err: &mut Outlet<V>, file: &str, text: &[u8]
     }
     let mut buffer = Buffer::new();
     let place = buffer.format(number);
+    let line = line_at(text, number - 1);
+    let front = shown(line);
     tell(err, &["  ", file, ", line ", place, ": "]);
-    tell_bytes(err, line_at(text, number - 1));
-    tell(err, &["\n"]);
+    tell_bytes(err, front);
+    tell(
+        err,
+        &[if front.len() == MOST_SHOWN {
+            "..\n"
+        } else {
+            "\n"
+        }],
+    );
 }
 
 // Writes the line of a record of a table, counted from 0. An empty line is not a record.
@@ -119,22 +129,22 @@ fn records_of(line: &[u8]) -> u64 {
     count
 }
 
-// Returns the line at an index, from 0, as a terminal can show it, or nothing if the text has
-// fewer.
-fn line_at(text: &[u8], index: u64) -> &[u8] {
+// Returns the line at an index, from 0, or nothing if the text has fewer.
+pub(crate) fn line_at(text: &[u8], index: u64) -> &[u8] {
     match text.split(|byte| *byte == b'\n').nth(index as usize) {
-        Some(line) => shown(line),
+        Some(line) => line,
         None => b"",
     }
 }
 
-// Returns a line without the carriage return at its end, if it has no other bytes that would steer
-// a terminal.
+// Returns the front of a line without the carriage return at its end, if it has no other bytes that
+// would steer a terminal.
 fn shown(line: &[u8]) -> &[u8] {
     let line = match line.strip_suffix(b"\r") {
         Some(front) => front,
         None => line,
     };
+    let line = front_of(line);
     if line
         .iter()
         .all(|byte| *byte == b'\t' || (*byte >= b' ' && *byte != 127))
@@ -143,4 +153,33 @@ fn shown(line: &[u8]) -> &[u8] {
     } else {
         b"(a terminal cannot show it)"
     }
+}
+
+// Returns the first characters of a line, at most `MOST_SHOWN` bytes.
+fn front_of(line: &[u8]) -> &[u8] {
+    let mut end = MOST_SHOWN;
+    for _byte in 0..MOST_FURTHER_BYTES {
+        if is_within_character(line, end) {
+            end = end.saturating_sub(1);
+        }
+    }
+    match line.get(..end) {
+        Some(front) => front,
+        None => line,
+    }
+}
+
+// Returns whether the byte at an index goes on with a character of UTF-8.
+fn is_within_character(line: &[u8], index: usize) -> bool {
+    match line.get(index) {
+        Some(byte) => *byte >> 6 == 2,
+        None => false,
+    }
+}
+
+// Writes a name in quotes.
+pub(crate) fn tell_name<V: Write>(err: &mut Outlet<V>, name: &[u8]) {
+    tell(err, &["`"]);
+    tell_bytes(err, name);
+    tell(err, &["`"]);
 }

@@ -1,15 +1,22 @@
 //! What the program tells of a run besides its result.
 
 use crate::command_line::TuneWords;
+use crate::finding::Finding;
 use crate::refusal::Refused;
 use std::alloc::Global;
 use std::io;
-use tune_cert::{Silent, Watcher};
-use tune_runs::{RunFault, TuneTexts};
+use tune_cert::{Standing, Watcher};
+use tune_runs::{Inputs, RunFault, TuneTexts};
 
 // A watcher that also hears what a run reads and why it fails. Of a fault it hears after the
 // fault's line, while the texts are still in memory. No result depends on it.
 pub(crate) trait Witness: Watcher {
+    // Returns what a search has found so far.
+    fn finding(&self) -> &Finding;
+
+    // Returns whether the lines of `reject` are shown.
+    fn explains(&self) -> bool;
+
     // Called before the texts of a tuning or a check are judged.
     fn name(&mut self, alloc: Global, words: &TuneWords<'_>, texts: &TuneTexts<'_>);
 
@@ -19,8 +26,8 @@ pub(crate) trait Witness: Watcher {
     // Called after a run that ended with a fault.
     fn refuse(&mut self, alloc: Global, refused: &Refused<'_>, fault: RunFault);
 
-    // Called after a certificate was rejected.
-    fn reject(&mut self);
+    // Called after a certificate was rejected, with what is known of its inputs.
+    fn reject(&mut self, lines: &[String]);
 
     // Called after a file could not be read or created, with what the system said.
     fn fail(&mut self, alloc: Global, name: &str, error: &io::Error);
@@ -29,14 +36,50 @@ pub(crate) trait Witness: Watcher {
     fn lose(&mut self, alloc: Global, name: &str, failure: Option<io::Error>);
 }
 
-impl Witness for Silent {
+// A witness that says nothing, and keeps what a search has found.
+#[derive(Drop)]
+pub(crate) struct Quiet {
+    finding: Finding,
+}
+
+impl Quiet {
+    pub(crate) fn new(alloc: Global) -> Quiet {
+        Quiet {
+            finding: Finding::new(alloc),
+        }
+    }
+}
+
+impl Watcher for Quiet {
+    fn begin(&mut self, inputs: &Inputs) {
+        self.finding.begin(inputs);
+    }
+
+    fn see(&mut self, standing: Standing) {
+        self.finding.see(&standing);
+    }
+
+    fn hear(&mut self, _fights: u64) {}
+
+    fn end(&mut self) {}
+}
+
+impl Witness for Quiet {
+    fn finding(&self) -> &Finding {
+        &self.finding
+    }
+
+    fn explains(&self) -> bool {
+        false
+    }
+
     fn name(&mut self, _alloc: Global, _words: &TuneWords<'_>, _texts: &TuneTexts<'_>) {}
 
     fn note(&mut self, _alloc: Global, _file: &str, _text: &[u8]) {}
 
     fn refuse(&mut self, _alloc: Global, _refused: &Refused<'_>, _fault: RunFault) {}
 
-    fn reject(&mut self) {}
+    fn reject(&mut self, _lines: &[String]) {}
 
     fn fail(&mut self, _alloc: Global, _name: &str, _error: &io::Error) {}
 

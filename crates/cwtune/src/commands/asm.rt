@@ -1,6 +1,6 @@
 //! The command `asm`: from a Redcode text, or a setting of a template, to a load file.
 ghost use Rattle.std.specs.Prelude.{◌≡◌, ◌≢◌, ◌↔◌, ℕ, List, false, IfErr, OnOk, IsErrOf, IsTrue};
-ghost use Rattle.tune_runs.specs.RawRules.{rules_given};
+ghost use Rattle.tune_runs.specs.Given.{rules_given};
 ghost use Rattle.cwtune.specs.Commands.{WritesLoadFile, IsEnded};
 
 use crate::command_line::AsmWords;

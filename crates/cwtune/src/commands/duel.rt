@@ -1,6 +1,6 @@
 //! The command `fight` with two files: from two Redcode texts to a result line.
 ghost use Rattle.std.specs.Prelude.{◌≡◌, ◌≢◌, ◌/◌, ℕ, List, false, IfErr, OnOk};
-ghost use Rattle.tune_runs.specs.RawRules.{rules_given};
+ghost use Rattle.tune_runs.specs.Given.{rules_given};
 ghost use Rattle.tune_runs.specs.DuelRun.{duel, position_meant, WritesDuel};
 ghost use Rattle.cwtune.specs.Commands.{IsEnded};
 

@@ -1,6 +1,7 @@
 //! The command `tune`: from texts to the certificate of the best setting, and a report.
-ghost use Rattle.std.specs.Prelude.{◌≡◌, false, IsErr, IsTrue, OnOk};
-ghost use Rattle.tune_runs.specs.RawRules.{rules_given};
+ghost use Rattle.std.specs.Prelude.{◌≡◌, ◌≢◌, ◌⊎◌, true, false, IfErr, IsErr, IsTrue, OnOk};
+ghost use Rattle.tune_runs.specs.Given.{rules_given, texts_given};
+ghost use Rattle.tune_runs.specs.TuneRun.{WritesTuning};
 ghost use Rattle.tune_search.specs.Method.{HasCapacity};
 ghost use Rattle.cwtune.specs.CertFile.{names_twice};
 ghost use Rattle.cwtune.specs.Commands.{WritesReport, IsEnded};
@@ -13,7 +14,7 @@ use crate::witness::Witness;
 use rc_instr::Outlet;
 use std::io::Write;
 use std::rt::Files;
-use tune_runs::{Method, tune_by_run};
+use tune_runs::{Method, TuneTexts, tune_by_run};
 
 // Runs the command on files. Checks the rules, reads the files, and opens CERT before their texts
 // are judged; if CERT is another word's file, nothing is written. The file gets its new text, whole
@@ -32,21 +33,48 @@ pub(crate) fn tune<F: Files, T: Witness, W: Write, V: Write>(
 {
     let rules = host.rules(words.rules)?;
     let files = host.read_tuning(words)?;
-    let mut cert = match open_cert(host.rt, host.alloc, words) {
-        Ok(file) => Outlet::new(file),
+    let file = match open_cert(host.rt, host.alloc, words) {
+        Ok(file) => file,
         Err(unopened) => return Err(host.end_unopened(words.cert, &unopened)),
     };
+    let beside = host.inputs_beside(words, &file)?;
+    let mut cert = Outlet::new(file);
     let texts = files.texts(&rules, words.part);
-    host.witness.name(host.alloc, words, &texts);
-    match tune_by_run(host.alloc, &texts, method, host.witness, out, &mut cert) {
+    match tune_into(host, words, &texts, method, out, &mut cert) {
         Ok(()) => {
-            drop(cert);
+            host.end_files(words, &texts, method, cert, beside);
             Ok(())
         }
-        Err(fault) => {
-            let ending = host.refuse_tuning(words, &texts, fault);
-            host.tell_loss(words.cert, cert);
+        Err(ending) => {
+            host.end_files(words, &texts, method, cert, beside);
             Err(ending)
         }
+    }
+}
+
+// Runs the tuning of texts that were read. The certificate goes to any writer; a tuning that is
+// refused gives it nothing.
+fn tune_into<F: Files, T: Witness, W: Write, V: Write, X: Write>(
+    host: &mut Host<'_, F, T, V>,
+    words: &TuneWords<'_>,
+    texts: &TuneTexts<'_>,
+    method: Method,
+    out: &mut Outlet<W>,
+    cert: &mut Outlet<X>,
+) -> Result<(), Ending>
+    requires capacity { HasCapacity method }
+    requires out { out.old.failed ≡ false }
+    requires cert { cert.old.failed ≡ false }
+    ensures done { OnOk result (WritesTuning (texts_given texts.now) method
+        out.old.bytes out.new.bytes cert.old.bytes cert.new.bytes) }
+    ensures ended { IsEnded out.old out.new result }
+    ensures unwritten { IfErr result (λ e. e ≢ Ending.Failed → cert.new ≡ cert.old) }
+    ensures flushed { OnOk result (cert.new.flushed ≡ true) }
+    ensures before { (out.new ≡ out.old) ⊎ (cert.new.flushed ≡ true) }
+{
+    host.witness.name(host.alloc, words, texts);
+    match tune_by_run(host.alloc, texts, method, host.witness, out, cert) {
+        Ok(()) => Ok(()),
+        Err(fault) => Err(host.refuse_tuning(words, texts, fault)),
     }
 }

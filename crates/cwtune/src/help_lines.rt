@@ -1,0 +1,207 @@
+//! Lines `help: ..` after the reason of a refusal: what to write in place of what is refused here.
+
+use crate::line::{Line, bad_byte, line_of};
+use crate::names_in::{Meaning, definition_of, has_ranges, like_name, range_of, unknown_name};
+use crate::telling::{tell, tell_bytes, tell_name};
+use itoa::Buffer;
+use rc_asm::AsmKind;
+use rc_expand::ExpandKind;
+use rc_instr::{Outlet, WarriorError};
+use rc_text::{EvalFault, LexFault};
+use std::alloc::Global;
+use std::io::Write;
+
+// Writes what helps with a text that does not assemble. `line` is the line at fault.
+pub(crate) fn tell_help<V: Write>(
+    err: &mut Outlet<V>,
+    alloc: Global,
+    file: &str,
+    text: &[u8],
+    line: &[u8],
+    kind: AsmKind,
+) {
+    match kind {
+        AsmKind::Expand(ExpandKind::Text(LexFault::BadByte)) => tell_byte(err, line),
+        AsmKind::Expand(ExpandKind::DuplicateName) => tell_duplicate(err, alloc, text, line),
+        AsmKind::Value(EvalFault::UnknownName) => tell_unknown(err, alloc, text, line),
+        _ => {}
+    }
+    if let Some(help) = help_of(kind, &line_of(alloc, line)) {
+        tell(err, &["  help: ", help, "\n"]);
+        if is_in_listings(kind) && !has_ranges(text) {
+            let way = "  help: or take pMARS's listing: pmars -r 0 ";
+            tell(err, &[way, file, " | tail -n +2 > listing.red\n"]);
+        }
+    }
+}
+
+// Returns whether pMARS may take a text that is refused here, so that its listing helps. The
+// listing of a template has no constants.
+fn is_in_listings(kind: AsmKind) -> bool {
+    match kind {
+        AsmKind::Expand(ExpandKind::Text(fault)) => fault == LexFault::NumberTooLarge,
+        AsmKind::Expand(_) | AsmKind::Value(_) | AsmKind::MissingOperand => true,
+        _ => false,
+    }
+}
+
+// Returns what to write in place of a construct of pMARS that is refused here.
+fn help_of(kind: AsmKind, line: &Line<'_>) -> Option<&'static str> {
+    match kind {
+        AsmKind::Expand(kind) => help_of_expansion(kind, line),
+        AsmKind::Value(fault) => help_of_value(fault, line),
+        AsmKind::UnknownOpcode if uses_p_space(line) => Some(NO_P_SPACE),
+        AsmKind::MissingOperand if line.has(b"org") => Some("write `ORG 0`"),
+        AsmKind::Warrior(WarriorError::BadStart) => Some("`ORG 0` starts at the first instruction"),
+        AsmKind::Warrior(WarriorError::Empty) => Some("`DAT 0` is the shortest warrior"),
+        _ => None,
+    }
+}
+
+const NO_P_SPACE: &str = "LDP, STP and PIN have no equivalent: there is no P-space";
+
+fn uses_p_space(line: &Line<'_>) -> bool {
+    line.has(b"ldp") || line.has(b"stp") || line.has(b"pin")
+}
+
+fn help_of_expansion(kind: ExpandKind, line: &Line<'_>) -> Option<&'static str> {
+    match kind {
+        ExpandKind::BadDirective => help_of_directive(line),
+        ExpandKind::CountRefused => help_of_count(line),
+        ExpandKind::ForWithoutRof => Some("close each FOR with a ROF, before END"),
+        ExpandKind::ForTooDeep => Some(
+            "write the lines of the innermost block out, as often as its count says",
+        ),
+        ExpandKind::DuplicateName if uses_p_space(line) => Some(NO_P_SPACE),
+        ExpandKind::Text(LexFault::NumberTooLarge) => Some("write the number modulo the core size"),
+        _ => None,
+    }
+}
+
+fn help_of_directive(line: &Line<'_>) -> Option<&'static str> {
+    match (line.position(b"equ"), line.position(b"rof")) {
+        (Some(0), _) => Some(
+            "an EQU has one line here: write its other lines at each use of the name",
+        ),
+        (Some(1), _) => Some("move the EQU before the FOR of the block"),
+        (Some(_), _) => Some("write an EQU line for each name"),
+        (None, Some(0)) => Some("write `;` before the words after ROF"),
+        (None, Some(_)) => Some("put the label on a line of its own, after ROF"),
+        (None, None) => None,
+    }
+}
+
+fn help_of_count(line: &Line<'_>) -> Option<&'static str> {
+    if line.has(b"CURLINE") {
+        Some("CURLINE has no value in a count: write the number of instructions before it")
+    } else if line.has_name_after(b"for") {
+        Some("a count uses numbers, EQU names, constants and counters of outer blocks")
+    } else {
+        None
+    }
+}
+
+fn help_of_value(fault: EvalFault, line: &Line<'_>) -> Option<&'static str> {
+    match fault {
+        EvalFault::Overflow => Some("write numbers modulo the core size"),
+        EvalFault::Syntax if line.begins_with(b"assert") => {
+            Some("`; assert`, with a space, is a comment")
+        }
+        EvalFault::Syntax if line.code.contains(&b'&') => {
+            Some("join the counter of the outer block first, as in `x&i&j`")
+        }
+        EvalFault::Syntax if line.has_bare_mode() => Some("a mode needs a number, as in `#0`"),
+        _ => None,
+    }
+}
+
+// Names that pMARS predefines, and this program does not.
+const PMARS_NAMES: [&[u8]; 4] = [b"ROUNDS", b"PSPACESIZE", b"READLIMIT", b"WRITELIMIT"];
+
+fn is_counter(alloc: Global, text: &[u8], name: &[u8]) -> bool {
+    match definition_of(alloc, text, name) {
+        Some(found) => found.meaning == Meaning::Counter,
+        None => false,
+    }
+}
+
+// Writes the byte that begins no token, its column, and what to do about it.
+fn tell_byte<V: Write>(err: &mut Outlet<V>, line: &[u8]) {
+    let Some((column, byte)) = bad_byte(line) else {
+        return;
+    };
+    let mut buffer = Buffer::new();
+    tell(err, &["  column ", buffer.format(column), ": "]);
+    match byte {
+        0xef if line.starts_with(b"\xef\xbb\xbf") => {
+            tell(
+                err,
+                &["a byte order mark\n  help: save the text without it\n"],
+            );
+        }
+        b'\x0c' => tell(err, &["a form feed\n  help: write a space\n"]),
+        b'=' => tell(
+            err,
+            &["`=`\n  help: write `NAME EQU VALUE` for each value\n"],
+        ),
+        b' '..=b'~' => {
+            tell_name(err, &[byte]);
+            tell(
+                err,
+                &["\n  help: prose needs a `;` before it, also in a block that is dropped\n"],
+            );
+        }
+        _ => tell(err, &["byte ", Buffer::new().format(byte), "\n"]),
+    }
+}
+
+// Writes which name of a line is also the constant of a range line.
+fn tell_duplicate<V: Write>(err: &mut Outlet<V>, alloc: Global, text: &[u8], line: &[u8]) {
+    for word in line_of(alloc, line).words.as_slice() {
+        if let Some(number) = range_of(text, *word) {
+            tell(err, &["  help: "]);
+            tell_name(err, *word);
+            let mut buffer = Buffer::new();
+            let number = buffer.format(number);
+            tell(
+                err,
+                &[
+                    " has its values in line ",
+                    number,
+                    ": take the EQU out, or rename the label\n",
+                ],
+            );
+            return;
+        }
+    }
+}
+
+// Writes which name has no value, and what is like it.
+fn tell_unknown<V: Write>(err: &mut Outlet<V>, alloc: Global, text: &[u8], line: &[u8]) {
+    let Some(name) = unknown_name(alloc, text, line) else {
+        return;
+    };
+    tell(err, &["  "]);
+    tell_name(err, name);
+    tell(err, &[" has no value\n"]);
+    if let Some(number) = range_of(text, name) {
+        let mut buffer = Buffer::new();
+        let number = buffer.format(number);
+        let help = ": `cwtune asm --setting start` makes a warrior of a template\n";
+        tell(err, &["  help: it is the constant of line ", number, help]);
+    } else if is_counter(alloc, text, name) {
+        tell(
+            err,
+            &["  help: a counter has no value in an EQU: write its text out in the block\n"],
+        );
+    } else if PMARS_NAMES.contains(&name) {
+        tell(err, &["  help: write the number that pMARS gives it\n"]);
+    } else if let Some(like) = like_name(alloc, text, name) {
+        tell(err, &["  help: "]);
+        tell_name(err, like);
+        tell(
+            err,
+            &[" is another name: capital and small letters differ\n"],
+        );
+    }
+}

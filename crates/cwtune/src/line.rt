@@ -1,0 +1,133 @@
+//! A line of Redcode as explanations look at it: its words, without its comment.
+
+use rc_text::{Lexer, NameClass, is_blank, is_same_word, name_class};
+use std::alloc::Global;
+
+// A line of a text, without its comment, and its words: names, opcodes without a modifier, numbers.
+#[derive(Drop)]
+pub(crate) struct Line<'a> {
+    pub(crate) code: &'a [u8],
+    pub(crate) words: Vec<&'a [u8]>,
+}
+
+// Reads a line. If memory runs out, the last words are missing.
+pub(crate) fn line_of<'a>(alloc: Global, line: &'a [u8]) -> Line<'a> {
+    let code = code_of(line);
+    let mut words = Vec::new(alloc);
+    for word in code.split(|byte| !is_word_byte(*byte)) {
+        let word = before_dot(word);
+        if !word.is_empty() {
+            let _ = words.push(word);
+        }
+    }
+    Line { code, words }
+}
+
+// Returns a line up to its comment. The assertion in a comment `;assert` is code.
+fn code_of(line: &[u8]) -> &[u8] {
+    let line = match line.strip_prefix(b";") {
+        Some(rest) if is_assertion(rest) => rest,
+        _ => line,
+    };
+    match line.split(|byte| *byte == b';').next() {
+        Some(code) => code,
+        None => b"",
+    }
+}
+
+fn is_assertion(comment: &[u8]) -> bool {
+    match comment.split(|byte| !is_word_byte(*byte)).next() {
+        Some(word) => is_same_word(word, b"assert"),
+        None => false,
+    }
+}
+
+fn is_word_byte(byte: u8) -> bool {
+    byte == b'_' || byte == b'.' || byte.is_ascii_alphanumeric()
+}
+
+fn before_dot(word: &[u8]) -> &[u8] {
+    match word.split(|byte| *byte == b'.').next() {
+        Some(front) => front,
+        None => word,
+    }
+}
+
+impl<'a> Line<'a> {
+    // Returns the index of the first of the words that is `name`, in any letters.
+    pub(crate) fn position(&self, name: &[u8]) -> Option<usize> {
+        let mut index: usize = 0;
+        for word in self.words.as_slice() {
+            if is_same_word(*word, name) {
+                return Some(index);
+            }
+            index = index.saturating_add(1);
+        }
+        None
+    }
+
+    pub(crate) fn has(&self, name: &[u8]) -> bool {
+        self.position(name).is_some()
+    }
+
+    pub(crate) fn begins_with(&self, name: &[u8]) -> bool {
+        self.position(name) == Some(0)
+    }
+
+    // Returns whether a name follows a word.
+    pub(crate) fn has_name_after(&self, word: &[u8]) -> bool {
+        match self.position(word) {
+            Some(index) => self
+                .words
+                .iter()
+                .skip(index)
+                .skip(1)
+                .any(|name| name_class(*name) == NameClass::Free),
+            None => false,
+        }
+    }
+
+    // Returns whether a mode has no number after it: it is the last sign, or a comma follows.
+    pub(crate) fn has_bare_mode(&self) -> bool {
+        let mut last: u8 = b' ';
+        for byte in self.code {
+            if *byte == b',' && is_mode(last) {
+                return true;
+            }
+            if !is_blank(*byte) {
+                last = *byte;
+            }
+        }
+        is_mode(last)
+    }
+}
+
+fn is_mode(byte: u8) -> bool {
+    b"#$@*{}<>".contains(&byte)
+}
+
+// Returns the column, from 1, of the byte of a line that begins no token, and that byte.
+pub(crate) fn bad_byte(line: &[u8]) -> Option<(usize, u8)> {
+    let mut lexer = Lexer::new(line);
+    let mut end: usize = 0;
+    for _token in 0..line.len() {
+        match lexer.next_token() {
+            Ok(Some(token)) => end = token.hi,
+            Ok(None) => return None,
+            Err(_) => return first_from(line, end),
+        }
+    }
+    None
+}
+
+// Returns the column and the byte of the first that is not a blank, from an index on.
+fn first_from(line: &[u8], start: usize) -> Option<(usize, u8)> {
+    let mut column = start;
+    for byte in line.iter().skip(start) {
+        column = column.saturating_add(1);
+        if !is_blank(*byte) {
+            return Some((column, *byte));
+        }
+    }
+    None
+}

@@ -1,0 +1,188 @@
+//! The names of a text: where one is defined, and which one of a line has no value.
+
+use crate::line::{Line, line_of};
+use rc_text::{NameClass, is_reserved_name, is_same_word, name_class};
+use std::alloc::Global;
+
+// The most lines that are looked into for a name without a value.
+const MOST_LINES: usize = 64;
+
+// What a name is.
+#[derive(Clone, Copy, PartialEq, Eq)]
+pub(crate) enum Meaning {
+    Label,
+    Equ,
+    // The counter of a block.
+    Counter,
+}
+
+// Where a name is defined: the line, and its number from 1.
+#[derive(Clone, Copy)]
+pub(crate) struct Definition<'a> {
+    pub(crate) meaning: Meaning,
+    pub(crate) line: &'a [u8],
+    pub(crate) number: u64,
+}
+
+// Returns where a name is defined first.
+pub(crate) fn definition_of<'a>(
+    alloc: Global,
+    text: &'a [u8],
+    name: &[u8],
+) -> Option<Definition<'a>> {
+    let mut number: u64 = 0;
+    for line in text.split(|byte| *byte == b'\n') {
+        number = number.saturating_add(1);
+        if let Some(meaning) = meaning_in(alloc, line, name) {
+            return Some(Definition {
+                meaning,
+                line,
+                number,
+            });
+        }
+    }
+    None
+}
+
+// Returns the number of the range line that names a constant.
+pub(crate) fn range_of<'a>(text: &'a [u8], name: &[u8]) -> Option<u64> {
+    let mut number: u64 = 0;
+    for line in text.split(|byte| *byte == b'\n') {
+        number = number.saturating_add(1);
+        if constant_in(line) == Some(name) {
+            return Some(number);
+        }
+    }
+    None
+}
+
+// Returns whether a text is a template with constants.
+pub(crate) fn has_ranges(text: &[u8]) -> bool {
+    text.split(|byte| *byte == b'\n')
+        .any(|line| constant_in(line).is_some())
+}
+
+// Returns the name of the constant of a range line.
+fn constant_in(line: &[u8]) -> Option<&[u8]> {
+    let rest = line.strip_prefix(b";@tune")?;
+    rest.split(|byte| *byte == b' ' || *byte == b'\t')
+        .find(|word| !word.is_empty())
+}
+
+// Returns a name of the text that differs from a name in capital and small letters alone.
+pub(crate) fn like_name<'a>(alloc: Global, text: &'a [u8], name: &[u8]) -> Option<&'a [u8]> {
+    for line in text.split(|byte| *byte == b'\n') {
+        if let Some(word) = like_in(alloc, line, name) {
+            return Some(word);
+        }
+    }
+    None
+}
+
+fn like_in<'a>(alloc: Global, line: &'a [u8], name: &[u8]) -> Option<&'a [u8]> {
+    if let Some(word) = constant_in(line) {
+        if is_like(word, name) {
+            return Some(word);
+        }
+    }
+    for word in line_of(alloc, line).words.as_slice() {
+        if is_like(*word, name) {
+            return Some(*word);
+        }
+    }
+    None
+}
+
+fn is_like(word: &[u8], name: &[u8]) -> bool {
+    word != name && is_same_word(word, name)
+}
+
+// Returns what a line makes of a name.
+fn meaning_in(alloc: Global, line: &[u8], name: &[u8]) -> Option<Meaning> {
+    let line = line_of(alloc, line);
+    if line.begins_with(b"assert") {
+        return None;
+    }
+    let mut is_there = false;
+    for word in line.words.as_slice() {
+        if is_reserved_name(*word) {
+            return if is_there {
+                Some(meaning_before(*word))
+            } else {
+                None
+            };
+        }
+        is_there = is_there || *word == name;
+    }
+    if is_there { Some(Meaning::Label) } else { None }
+}
+
+// Returns what a name before an opcode or a directive is.
+fn meaning_before(word: &[u8]) -> Meaning {
+    if is_same_word(word, b"equ") {
+        Meaning::Equ
+    } else if is_same_word(word, b"for") {
+        Meaning::Counter
+    } else {
+        Meaning::Label
+    }
+}
+
+// Returns the first name of a line that the text gives no value, also one in the text of an EQU
+// name. Joined names are not looked into.
+pub(crate) fn unknown_name<'a>(alloc: Global, text: &'a [u8], line: &'a [u8]) -> Option<&'a [u8]> {
+    let mut lines = Vec::new(alloc);
+    let _ = lines.push(line);
+    for index in 0..MOST_LINES {
+        let line = match lines.get(index) {
+            Some(line) => *line,
+            None => return None,
+        };
+        if let Some(name) = unknown_in(alloc, text, line, index > 0, &mut lines) {
+            return Some(name);
+        }
+    }
+    None
+}
+
+// Returns the first name of a line without a value, and adds the lines of its EQU names. In such a
+// line, which is in no block, a counter has no value.
+fn unknown_in<'a>(
+    alloc: Global,
+    text: &'a [u8],
+    line: &'a [u8],
+    is_equ: bool,
+    lines: &mut Vec<&'a [u8]>,
+) -> Option<&'a [u8]> {
+    let line = line_of(alloc, line);
+    if line.code.contains(&b'&') {
+        return None;
+    }
+    for word in line.words.iter().skip(operands_from(&line)) {
+        if name_class(*word) == NameClass::Free {
+            match definition_of(alloc, text, *word) {
+                None => return Some(*word),
+                Some(found) => match found.meaning {
+                    Meaning::Equ => {
+                        let _ = lines.push(found.line);
+                    }
+                    Meaning::Counter if is_equ => return Some(*word),
+                    _ => {}
+                },
+            }
+        }
+    }
+    None
+}
+
+// Returns the index of the first word after the opcode or the directive.
+fn operands_from(line: &Line<'_>) -> usize {
+    let mut index: usize = 0;
+    for word in line.words.as_slice() {
+        index = index.saturating_add(1);
+        if is_reserved_name(*word) || is_same_word(*word, b"assert") {
+            return index;
+        }
+    }
+    index
+}

@@ -1,0 +1,154 @@
+//! Which inputs of a rejected certificate differ from those of its tuning, as CERT.inputs says.
+
+use crate::command_line::TuneWords;
+use crate::digest::Digested;
+use crate::inputs_file::{digest_word, name_beside, part_word, rules_word};
+use crate::reading::read_file;
+use std::alloc::{AllocError, Global};
+use std::rt::Files;
+use std::str;
+use tune_runs::TuneTexts;
+
+// Returns a line for each input that differs from the tuning's. If none differs, or that is not
+// known, one line says so.
+pub(crate) fn differences<F: Files>(
+    rt: &F,
+    alloc: Global,
+    words: &TuneWords<'_>,
+    texts: &TuneTexts<'_>,
+    cert: &[u8],
+) -> Result<Vec<String>, AllocError> {
+    let name = name_beside(alloc, words.cert)?;
+    let mut comparison = Comparison {
+        alloc,
+        words,
+        texts,
+        lines: Vec::new(alloc),
+        opponents: 0,
+    };
+    match read_file(rt, alloc, name.as_str()) {
+        Ok(text) => comparison.compare(name.as_str(), text.as_slice(), cert)?,
+        Err(_) => comparison.say_unknown(name.as_str(), "cannot be read")?,
+    }
+    Ok(comparison.lines)
+}
+
+// The inputs of a check beside those of the tuning.
+#[derive(Drop)]
+struct Comparison<'a> {
+    alloc: Global,
+    words: &'a TuneWords<'a>,
+    texts: &'a TuneTexts<'a>,
+    lines: Vec<String>,
+    // The opponents of the tuning that were compared so far.
+    opponents: usize,
+}
+
+impl Comparison<'_> {
+    // Compares with what the file says, if it is of this certificate.
+    fn compare(&mut self, name: &str, text: &[u8], cert: &[u8]) -> Result<(), AllocError> {
+        let Ok(text) = str::from_utf8(text) else {
+            return self.say_unknown(name, "is not UTF-8");
+        };
+        let digest = digest_word(self.alloc, &Digested::of(cert))?;
+        let wanted = format!(in self.alloc; "cert {}", digest.as_str())?;
+        if !text.lines().any(|line| line == wanted.as_str()) {
+            return self.say_unknown(name, "is of another certificate");
+        }
+        for line in text.lines() {
+            if let Some((word, said)) = line.split_once(' ') {
+                self.compare_line(word, said)?;
+            }
+        }
+        self.end()
+    }
+
+    fn add(&mut self, line: String) -> Result<(), AllocError> {
+        self.lines.push(line)?;
+        Ok(())
+    }
+
+    fn say_unknown(&mut self, name: &str, why: &str) -> Result<(), AllocError> {
+        let line = format!(in self.alloc;
+            "{name} {why}, so it is not known which of these differs"
+        )?;
+        self.add(line)
+    }
+
+    fn compare_line(&mut self, word: &str, said: &str) -> Result<(), AllocError> {
+        match word {
+            "rules" => {
+                let rules = rules_word(self.alloc, self.words)?;
+                self.compare_word("rules", said, rules.as_str())
+            }
+            "part" => {
+                let part = part_word(self.alloc, self.words)?;
+                self.compare_word("part", said, part.as_str())
+            }
+            "template" => self.compare_text(said, self.words.template, self.texts.template, word),
+            "schedule" => self.compare_text(said, self.words.schedule, self.texts.schedule, word),
+            "opponent" => self.compare_opponent(said),
+            _ => Ok(()),
+        }
+    }
+
+    fn compare_word(&mut self, what: &str, said: &str, now: &str) -> Result<(), AllocError> {
+        if said == now {
+            return Ok(());
+        }
+        let line = format!(in self.alloc; "{what} {now}, and the tuning had {what} {said}")?;
+        self.add(line)
+    }
+
+    // Compares a text with the size and the digest of one of the tuning.
+    fn compare_text(
+        &mut self,
+        said: &str,
+        name: &str,
+        text: &[u8],
+        what: &str,
+    ) -> Result<(), AllocError> {
+        let digest = digest_word(self.alloc, &Digested::of(text))?;
+        if said.starts_with(digest.as_str()) {
+            return Ok(());
+        }
+        let line = format!(in self.alloc; "{name} is not the tuning's {what}")?;
+        self.add(line)
+    }
+
+    // Compares the next opponent.
+    fn compare_opponent(&mut self, said: &str) -> Result<(), AllocError> {
+        let index = self.opponents;
+        self.opponents = index.saturating_add(1);
+        match (
+            self.words.opponents.get(index),
+            self.texts.opponents.get(index),
+        ) {
+            (Some(name), Some(text)) => {
+                let what = format!(in self.alloc; "opponent {index}")?;
+                self.compare_text(said, *name, text.as_slice(), what.as_str())
+            }
+            _ => Ok(()),
+        }
+    }
+
+    // Compares the numbers of opponents, and says if nothing differs.
+    fn end(&mut self) -> Result<(), AllocError> {
+        let count = self.texts.opponents.len();
+        let tuned = self.opponents;
+        if tuned != count {
+            let line = format!(in self.alloc;
+                "the tuning had {tuned} opponents, and this check has {count}"
+            )?;
+            self.add(line)?;
+        }
+        if self.lines.is_empty() {
+            let line = String::from_str(
+                self.alloc,
+                "all of these are the tuning's, so the certificate itself is wrong",
+            )?;
+            self.add(line)?;
+        }
+        Ok(())
+    }
+}
