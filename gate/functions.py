@@ -63,7 +63,9 @@ def body_of(lines, at, indent):
     """Returns the first and the last line of the body of the function at line `at`, or None."""
     for first in range(at, len(lines)):
         line = lines[first].removeprefix(indent)
-        if not lines[first].startswith(indent) or line[:1] in ("", " "):
+        if lines[first] and not lines[first].startswith(indent):
+            return None  # the end of a trait, after a function without a body
+        if line[:1] in ("", " "):
             continue
         if line.endswith(";"):
             return None

@@ -12,7 +12,7 @@ from author.lib.endings import run_tool
 ROOT = pathlib.Path(__file__).resolve().parent.parent
 EDITS = "gate.edits"
 STEPS = [EDITS, "author.tests.run --plain", "gate.documents", "gate.play_cases", "gate.pipes",
-         "gate.terminals", "gate.cuts", "gate.runners", "release.try_release",
+         "gate.terminals", "gate.inputs_trials", "gate.cuts", "gate.runners", "release.try_release",
          "gate.refuse.two_devices", "gate.refuse.memory", "gate.refuse.writes",
          "gate.refuse.growth"]
 # Ends a step, and all that it has started, after 20 minutes; it says where it was.

@@ -39,6 +39,7 @@ CHECK = ["check", *RULES, "one.red", "both.csv", "one.cert", *WARRIORS]
 LONG = ["tune", "long.red", "far.csv", "CERT", "imp.red"]
 NOBODY = 65534
 NO_WRITE = end(3, err="failed: Write\n")
+NO_CERT = end(3, err="failed: Write\nfound: best 0 total 4\n")
 NO_CREATE = end(3, err="failed: create CERT\n")
 NO_READ = end(3, err="failed: read -\n")
 NO_MEMORY = end(3, err="failed: OutOfMemory\n")
@@ -129,7 +130,8 @@ def certificates_for_pipes(place):
     came, text = to_named_pipe(place, 2 * len(whole))
     yield "a named pipe gets the whole certificate", (0, b"", whole), (came.status, came.err, text)
     came = to_named_pipe(place, 10)
-    yield "a reader leaves amid the certificate: no report", (NO_WRITE, whole[:10]), came
+    lost = end(3, err="failed: Write\nfound: best 0 total 4 K=0\n")
+    yield "a reader leaves amid the certificate: no report", (lost, whole[:10]), came
     came = to_named_pipe(place, 2 * len(whole), preexec_fn=lambda: os.close(1))
     yield "a named pipe is not taken for a closed output", (NO_WRITE, whole), came
 
@@ -226,7 +228,7 @@ def limited(place):
     for most in [1, 10, len(CERT) - 1]:
         limit = lambda: resource.setrlimit(resource.RLIMIT_FSIZE, (most, most))
         came = place.run(TUNE, preexec_fn=limit, restore_signals=False)
-        yield f"a limit of {most} bytes", NO_WRITE, came
+        yield f"a limit of {most} bytes", NO_CERT, came
         came = place.run(TUNE, preexec_fn=limit)
         left = end(-signal.SIGXFSZ, files={"CERT.unfinished-1": CERT[:most]})
         yield f"a limit of {most} bytes that kills", left, came

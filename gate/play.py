@@ -2,6 +2,8 @@
 import os, pathlib, pty, subprocess, tempfile
 from typing import NamedTuple
 
+from . import inputs_file
+
 SECONDS = 60
 # Of a longer file the size is compared, and not the text.
 LONGEST = 1 << 24
@@ -66,8 +68,8 @@ class Place:
     def run(self, words, text=None, keep=False, seconds=SECONDS, terminal=False, **streams):
         """Runs the program with `text` as its standard input. Returns its end.
 
-        With `terminal` its standard error is one, and `err` of the end is what it showed. After the
-        run all files are as before it, unless `keep`.
+        With `terminal` its standard error is one, and `err` of the end is what it showed. A right
+        CERT.inputs is left out of the end. After the run all files are as before it, unless `keep`.
         """
         before = self.texts()
         if text is not None:
@@ -81,9 +83,17 @@ class Place:
         after = self.texts()
         changed = {name: after.get(name) for name in {**before, **after}
                    if before.get(name) != after.get(name)}
+        told = {name: text for name, text in changed.items()
+                if not self.is_right_inputs(name, text)}
         if not keep:
             self.put_back(before, changed)
-        return End(status, out, err, changed)
+        return End(status, out, err, told)
+
+    def is_right_inputs(self, name, text):
+        """Returns whether a file is a right CERT.inputs, beside a certificate."""
+        cert = self.folder / name.removesuffix(inputs_file.SUFFIX)
+        return (name.endswith(inputs_file.SUFFIX) and text is not None and cert.is_file()
+                and inputs_file.is_right(text, cert.read_bytes(), self.folder))
 
     def texts(self):
         """Returns the texts of the regular files in the folder by their names."""

@@ -28,7 +28,7 @@ comes once before the text, and a `tail` after it; `$n` in the text is the index
 beginning of that text, except for the whole.
 With `terminal = true` a case is played up to four times. At a terminal, and in a pipe with
 --explain, standard error is `err`, progress aside. In a pipe, also with --progress if the command
-has it, it is only the lines of `err` that begin with `refused` or `failed`.
+has it, it is only the lines of `err` that begin with `refused`, `failed` or `found`.
 
 Prints what failed, and as its last line `N passed, N failed`. The exit status is 1 if a case failed
 or there is none. A case that says anything else, or no `status`, is an error.
@@ -130,7 +130,7 @@ def ways(case):
     if not case.get("terminal"):
         return [case]
     name, words = case["name"], case["words"]
-    faults = "".join(re.findall(r"(?m)^(?:refused|failed).*\n", case.get("err", "")))
+    faults = "".join(re.findall(r"(?m)^(?:refused|failed|found).*\n", case.get("err", "")))
     piped = case | {"terminal": False}
     cases = [case | {"name": f"{name} (at a terminal)"},
              piped | {"name": f"{name} (--explain)", "words": [words[0], "--explain", *words[1:]]},

@@ -35,11 +35,11 @@ BEGUN = "0% 0 of 2 settings, 0 fights"
 LONG_BEGUN = b"0% 0 of 800000 settings, 0 fights"
 PROGRESS = rb"\r\x1b\[\?7l([^\r\n]*)\x1b\[K\x1b\[\?7h"
 AT_TERMINAL = f"\r\x1b[?7l{BEGUN}\x1b[K\x1b[?7h\r\x1b[K"
-LINE = rb"\d+% \d+ of 800000 settings, [1-9]\d* fights, \d+ a second, best \d+ total \d, " \
-       rb"\d+ (s|min|h) left"
+LINE = rb"\d+% \d+ of 800000 settings, [1-9]\d* fights, \d+ a second, best \d+ total \d" \
+       rb"( \w+=-?\d+)+, START \d, \d+ (s|min|h) left"
 MEANWHILE = rb"0% 0 of 1 settings, [1-9]\d* fights, \d+ a second"
-STEADY = rb"(\d+)% (\d+) of 40 settings, (\d+) fights, (\d+) a second, best 0 total \d+, " \
-         rb"(\d+) s left"
+STEADY = rb"(\d+)% (\d+) of 40 settings, (\d+) fights, (\d+) a second, best 0 total \d+ " \
+         rb"K=0, START \d+, (\d+) s left"
 CHECK = ["check", *RULES, "two.red", "both.csv", "two.cert", "dat.red", "imp.red"]
 SLOW = ["long.red", "far.csv", "CERT", "imp.red"]
 

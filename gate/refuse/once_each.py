@@ -1,8 +1,8 @@
 """Counts requests for memory, to see that no run repeats an assembly or makes a second arena.
 
-One more setting, row, `same` row or opponent costs one more assembly, and a run makes one arena,
-whatever its number of settings. `memory.py` takes the trials: names, and for each a list of
-what was wrong.
+One more setting, row, `same` row or opponent costs one more assembly, with up to 64 opponents, with
+the explanations of a terminal and without, and a run makes one arena, whatever its number of
+settings. `memory.py` takes the trials: names, and for each a list of what was wrong.
 """
 import os
 
@@ -18,6 +18,7 @@ LONG = "".join(f"e{number} EQU {number}\n" for number in range(40))
 REFUSED = IMP + "DAT 1/(1-(K+{0}-1)/{0})\n"
 CHECK = "check many.red one.csv many.cert dat.red"
 TUNE = "tune {} one.csv CERT dat.red"
+AT_TERMINAL = "--explain --progress "
 # For each thing of which there is one more: the command, the end of the template, and the
 # certificate's row of setting K > 0.
 KINDS = {
@@ -27,6 +28,8 @@ KINDS = {
     "a setting": (TUNE.format("many.red"), IMP + "DAT K\n", ""),
     "a setting of --all": (TUNE.format("--all many.red"), IMP + "DAT K\n", ""),
     "an opponent": (TUNE.format("one.red"), IMP, ""),
+    "an opponent at a terminal": (TUNE.format(AT_TERMINAL + "one.red"), IMP, ""),
+    "an opponent of no candidate": (TUNE.format(AT_TERMINAL + "none.red"), IMP, ""),
 }
 # Commands that make one arena. Its core and that of its snapshot, 4000 cells of 8 bytes each, are
 # the only requests of at least LARGE bytes.
@@ -51,10 +54,10 @@ def requests(program, library, words, files, text="", least=0):
     return int(came.err.splitlines()[-1])
 
 
-def requests_of_success(program, library, words, files, least=0):
-    """Returns the number of requests of a run, which has to succeed: it is run twice."""
+def requests_of_end(program, library, words, files, status=0, least=0):
+    """Returns the number of requests of a run, which has to end with `status`: it is run twice."""
     came = run(program, library, words, files)
-    if came.status != 0:
+    if came.status != status:
         raise Fault(f"{' '.join(words)} ended with status {came.status}: {came.err}", 1)
     return requests(program, library, words, files, least=least)
 
@@ -65,7 +68,8 @@ def many(count, before, after, row):
     return {
         "many.red": f";@tune K 0 {count - 1} 1 0\n{before}{after.format(count)}",
         "many.cert": f"cwcert,1,{count}\nbest,0,3\ncap,0,0:3\n{rows}",
-        "one.red": IMP, "dat.red": "DAT 0\n", "other.red": f"{before}DAT 0\n",
+        "one.red": IMP, "none.red": "DAT 1/0\n",
+        "dat.red": "DAT 0\n", "other.red": f"{before}DAT 0\n",
         "one.csv": "opponent,position,first\n0,30,c\n",
     }
 
@@ -74,11 +78,12 @@ def one_more(program, library, kind, before):
     """Returns how many requests one more of a kind costs, in texts that begin with `before`."""
     words, after, row = KINDS[kind]
     counts = []
-    for count in 10, 60:
-        opponents = ["other.red"] * (count if kind == "an opponent" else 0)
+    for count in 13, 63:
+        opponents = ["other.red"] * (count if kind.startswith("an opponent") else 0)
         files = many(count, before, after, row)
         every = [*with_rules(words), *opponents]
-        counts.append(requests_of_success(program, library, every, files))
+        status = 1 if "none.red" in words else 0
+        counts.append(requests_of_end(program, library, every, files, status))
     return (counts[1] - counts[0]) / 50
 
 
@@ -98,7 +103,7 @@ def trials(program, library):
                      {"one.red": IMP}) for cycles in ("=10000", "=40000")]
     yield "turns take no memory", [] if came[0] == came[1] else [f"requests: {came}"]
     for words in ARENAS:
-        came = [requests_of_success(program, library, with_rules(words),
-                                    many(count, "", IMP, "same,{},0\n"), LARGE)
+        came = [requests_of_end(program, library, with_rules(words),
+                                many(count, "", IMP, "same,{},0\n"), least=LARGE)
                 for count in (1, 60)]
         yield f"arenas: {words}", [] if came == [2, 2] else [f"large requests: {came}"]

@@ -1,10 +1,11 @@
 """Runs the program where its writes fail: python3 -m gate.refuse.writes [PROGRAM]
 
 The runs are those of `runs.py`, each with an older certificate in CERT, and with none. A step is a
-write of one byte, the flush of a certificate to the disk, or its new name. In each run one step,
-the first, the second and so on, goes wrong: it fails, the disk is full, it takes no byte, or the
+write of one byte, the flush of a file to the disk, or its new name. In each run one step, the
+first, the second and so on, goes wrong: it fails, the disk is full, it takes no byte, or the
 program is killed after it. Until a certificate has its name CERT is as it was, and nothing is on
-standard output. Only a kill leaves a file beside it. Needs `cc` and a system with LD_PRELOAD.
+standard output. CERT.inputs is written after the report; a step of it that fails does not change
+how the run ends. Only a kill leaves an unfinished file. Needs `cc` and a system with LD_PRELOAD.
 Prints what failed, and as its last line how many steps failed, and `N passed, N failed`. The exit
 status is 1 if a run failed.
 """
@@ -13,11 +14,11 @@ import concurrent.futures, os, signal, sys, tempfile
 from author.lib.endings import run_tool
 from author.lib.program import program_of
 
-from ..play import end, play
+from ..play import Place, end, play
 from ..tally import tally
 from .runs import FILES, TUNINGS, all_runs, library_of, with_rules
 
-BESIDE = "CERT.unfinished-1"
+BESIDE, BESIDE_INPUTS = "CERT.unfinished-1", "CERT.inputs.unfinished-1"
 FAILURES = ["FAIL", "FULL", "NOTHING", "KILL"]
 WITHOUT_CERT = {name: text for name, text in FILES.items() if name != "CERT"}
 
@@ -33,12 +34,22 @@ def steps_of(cert):
     return len(cert) + 2 if cert else 0
 
 
+def length_of_inputs(program, words, text):
+    """Returns how long CERT.inputs is, or 0 if a run makes none."""
+    with tempfile.TemporaryDirectory() as folder:
+        place = Place(program, folder, FILES)
+        place.run(words, text, keep=True)
+        return len(place.read("CERT.inputs") or b"")
+
+
 def expected_at(how, number, wanted):
     """Returns how a run has to end whose step `number` fails."""
     cert = wanted.files.get("CERT")
     first = steps_of(cert)
-    if number > first + len(wanted.out) or (how == "NOTHING" and first - 1 <= number <= first):
+    if how == "NOTHING" and first - 1 <= number <= first:
         return wanted
+    if number > first + len(wanted.out):
+        return wanted if how != "KILL" else end(-signal.SIGKILL, wanted.out, CERT=cert)
     done = number if how == "KILL" else number - 1
     out = wanted.out[: max(0, done - first)]
     left = {}
@@ -48,17 +59,36 @@ def expected_at(how, number, wanted):
         left = {BESIDE: cert[:done]}
     if how == "KILL":
         return end(-signal.SIGKILL, out, files=left)
-    return end(3, out, "failed: Write\n", left)
+    return end(3, out, "failed: Write\n" + found(wanted) * (number <= first), left)
+
+
+def found(wanted):
+    """Returns the line of the best setting of a tuning whose certificate cannot be written."""
+    lines = dict(line.split(" ", 1) for line in wanted.out.decode().splitlines())
+    constants = lines.get("constants", "-")
+    return (f"found: best {lines.get('best')} total {lines.get('total', '').split(' ')[0]}"
+            + f" {constants}" * (constants != "-") + "\n")
+
+
+def some_of(first, last):
+    """Returns some steps of CERT.inputs: the first and the last ones, and each fiftieth."""
+    steps = range(first, last + 1)
+    return sorted({*steps[:3], *steps[::50], *steps[-5:]})
 
 
 def fail_each(program, library, words, text, wanted):
     """Fails each step of a run in turn. Returns how many there were, and what was wrong."""
     wrong, count = [], 0
+    told = steps_of(wanted.files.get("CERT")) + len(wanted.out)
+    inputs = steps_of(b" " * length_of_inputs(program, words, text))
     for files in [FILES, WITHOUT_CERT] if "CERT" in words else [FILES]:
-        for number in range(1, steps_of(wanted.files.get("CERT")) + len(wanted.out) + 2):
+        for number in [*range(1, told + 1), *some_of(told + 1, told + inputs + 1)]:
             for how in FAILURES:
                 expected = expected_at(how, number, wanted)
+                if number > told + inputs:
+                    expected = wanted
                 came = run(program, library, words, text, files, **{how: str(number)})
+                came.files.pop(BESIDE_INPUTS, None)
                 count += expected != wanted
                 if came != expected:
                     wrong.append(f"{how} {number}: expected {expected}, came {came}")
@@ -68,7 +98,8 @@ def fail_each(program, library, words, text, wanted):
 def explain_flush(program, library):
     """Fails the flush of a certificate with --explain. Returns what was wrong, in a list."""
     words, wanted = TUNINGS[0]
-    said = "failed: Write\n  CERT: Input/output error (os error 5)\n  found: best 0 total 4\n"
+    said = ("  one.red has no range line, so it has one setting\nfailed: Write\n"
+            "found: best 0 total 4\n  CERT: Input/output error (os error 5)\n")
     came = run(program, library, [*with_rules(words), "--explain"], "", FILES,
                FAIL=str(steps_of(wanted.files["CERT"]) - 1))
     return [] if came == end(3, err=said) else [f"expected {said!r}, came {came}"]

@@ -1,0 +1,58 @@
+"""What the file CERT.inputs beside a certificate has to say, as docs/FORMATS.md describes it."""
+import hashlib, os, pathlib
+
+STANDARD = {"core": 8000, "cycles": 80000, "tasks": 8000, "length": 100, "distance": 100}
+SUFFIX = ".inputs"
+
+
+def digest_of(text):
+    """Returns the size and the SHA-256 digest of a text."""
+    return f"{len(text)} {hashlib.sha256(text).hexdigest()}"
+
+
+def read_words(words):
+    """Returns the options of a command `tune`, and its files."""
+    options, files, words = {}, [], list(words[1:])
+    while words:
+        word = words.pop(0)
+        if word == "--":
+            files += words
+            break
+        if word in ("--all", "--explain", "--progress"):
+            options[word[2:]] = True
+        elif word.startswith("--"):
+            name, _, value = word[2:].partition("=")
+            options[name] = value or words.pop(0)
+        else:
+            files.append(word)
+    return options, files
+
+
+def text_of(words, folder, version):
+    """Returns the text for a command `tune` that ran in a folder, which has all of its files."""
+    options, (template, schedule, cert, *opponents) = read_words(words)
+    rules = [options.get(name, number) for name, number in STANDARD.items()]
+    method = "all" if "all" in options else f"cache {options.get('cache', 4096)}"
+    digest = lambda name: digest_of(pathlib.Path(folder, name).read_bytes())
+    files = [("template", template), ("schedule", schedule)]
+    files += [("opponent", name) for name in opponents]
+    lines = ["cwtune inputs 1", f"program {version}", f"rules {' '.join(map(str, rules))}",
+             f"part {options.get('part', '1/1')}", f"method {method}", f"cert {digest(cert)}",
+             f"folder {os.path.realpath(folder)}"]
+    lines += [f"{word} {digest(name)} {name}" for word, name in files]
+    return "".join(f"{line}\n" for line in lines).encode()
+
+
+def is_right(text, cert, folder):
+    """Returns whether a text is the CERT.inputs of `cert` and of files in `folder` as they are."""
+    try:
+        lines = [line.split(" ", 1) for line in text.decode().splitlines()]
+        said = dict(lines)
+        files = [rest.split(" ", 2) for word, rest in lines
+                 if word in ("template", "schedule", "opponent")]
+        right = all(f"{size} {digest}" == digest_of(pathlib.Path(folder, name).read_bytes())
+                    for size, digest, name in files)
+        return (right and len(files) >= 3 and said["cert"] == digest_of(cert)
+                and said["folder"] == os.path.realpath(folder) and text.endswith(b"\n"))
+    except (KeyError, ValueError, OSError):
+        return False

@@ -1,0 +1,148 @@
+"""Tries the file CERT.inputs, which a tuning writes beside its certificate: python3 -m
+gate.inputs_trials [PROGRAM]
+
+Its text is compared with one that is made from the words and the files; nothing else of a run may
+depend on it. Prints what failed, and as its last line `N passed, N failed`. The exit status is 1 if
+a run failed.
+"""
+import os, pathlib, sys, tempfile
+
+from author.lib.endings import run_tool
+from author.lib.program import program_of, run_program
+
+from . import inputs, inputs_file
+from .inputs import RULES
+from .play import Place, end
+from .tally import compare, tally
+
+FILES = inputs.files("dat.red", "imp.red", "both.csv", "imps.red", "step.red", "empty.red")
+TUNE = ["tune", *RULES, "imps.red", "both.csv", "CERT", "dat.red", "imp.red"]
+OTHERS = [
+    ["tune", "--all", *TUNE[1:]],
+    ["tune", "--cache", "7", *TUNE[1:]],
+    ["tune", "--part=2/3", *TUNE[1:]],
+    ["tune", *RULES, "--", "./imps.red", "both.csv", "CERT", "imp.red", "dat.red"],
+    ["tune", "--core=400", "--distance", "50", "--length=50", "imps.red", "wide.csv", "CERT",
+     "dat.red"],
+]
+REPORT = "vectors 4\ncandidates 4\nbest 0\nconstants K=0\ntotal 4 of 6\nfights 2 of 8\n"
+OLD = "cwtune inputs 1\nof an older certificate\n"
+KIND = "error: CERT.inputs is a text of another kind, and is not overwritten: CERT.inputs\n"
+NAMED = "error: CERT.inputs is also a file of this command, and is not overwritten: CERT.inputs\n"
+
+
+class Trial(Place):
+    """A folder with the files of the trials."""
+
+    def __init__(self, program, folder, version):
+        wide = {"wide.csv": "opponent,position,first\n0,100,c\n"}
+        super().__init__(program, folder, FILES | wide)
+        self.version = version
+
+    def inputs(self, words):
+        """Runs a tuning. Returns CERT.inputs, and what it has to be."""
+        self.run(words, keep=True)
+        came = self.read("CERT.inputs")
+        wanted = inputs_file.text_of(words, self.folder, self.version)
+        return came, wanted
+
+
+def texts(place):
+    for words in [TUNE, *OTHERS]:
+        came, wanted = place.inputs(words)
+        yield compare(" ".join(words), wanted, came)
+
+
+def replaced(place):
+    """Has older files replaced."""
+    for name, old in [("an older one", OLD), ("an empty one", "")]:
+        place.write("CERT.inputs", old)
+        came, wanted = place.inputs(TUNE)
+        yield compare(f"{name} is replaced", wanted, came)
+    place.write("elsewhere", OLD)
+    (place.folder / "CERT.inputs").unlink()
+    (place.folder / "CERT.inputs").symlink_to("elsewhere")
+    came, wanted = place.inputs(TUNE)
+    yield compare("a link is followed", (wanted, wanted), (came, place.read("elsewhere")))
+    (place.folder / "CERT.inputs").unlink()
+
+
+def kept(place):
+    """Has files that stay as they are."""
+    good = end(0, REPORT, CERT=inputs.FILES["imps.cert"])
+    (place.folder / "CERT").unlink()
+    place.write("CERT.inputs", "a text\n")
+    yield compare("another text stays", end(2, err=KIND), place.run(TUNE))
+    place.write("CERT.inputs", OLD)
+    yield compare("a refused tuning leaves it",
+                  end(1, err="refused: Template line 1 EmptyRange\n"),
+                  place.run(["tune", *RULES, "empty.red", *TUNE[-4:]]))
+    words = [*TUNE[:-2], "/dev/null", *TUNE[-2:]]
+    words.remove("CERT")
+    yield compare("a device has none", end(0, REPORT), place.run(words))
+    (place.folder / "CERT.inputs").unlink()
+    (place.folder / "CERT.inputs").mkdir()
+    yield compare("a folder stays", good, place.run(TUNE))
+    (place.folder / "CERT.inputs").rmdir()
+    os.link(place.folder / "imp.red", place.folder / "CERT.inputs")
+    yield compare("a file of the tuning stays", end(2, err=NAMED), place.run(TUNE))
+    (place.folder / "CERT.inputs").unlink()
+
+
+def unwritable(place):
+    """Has a name that the file cannot hold."""
+    place.write("CERT.inputs", OLD)
+    place.write("a\nb", FILES["dat.red"])
+    words = [*TUNE[:-2], "a\nb", "imp.red"]
+    yield compare("an older one goes if a new one cannot be written",
+                  end(0, REPORT, CERT=inputs.FILES["imps.cert"], files={"CERT.inputs": None}),
+                  place.run(words))
+
+
+def checks(place):
+    """Checks with other inputs, at a terminal."""
+    (place.folder / "CERT.inputs").unlink(missing_ok=True)
+    place.run(TUNE, keep=True)
+    other = ["check", *RULES, "imps.red", "both.csv", "CERT", "imp.red", "dat.red"]
+    said = ("  a certificate holds only for its own template, schedule, opponents in order, rules "
+            "and part\n")
+    one = "  {} cannot be read, so it is not known which of these differs\n"
+    for name, words, lines in [
+        ("swapped opponents", other, "  imp.red is not the tuning's opponent 0\n"
+                                     "  dat.red is not the tuning's opponent 1\n"),
+        ("other rules", ["check", "--core=16", "--cycles=21", "--tasks=4", "--length=4",
+                         "--distance=4", "step.red", "both.csv", "CERT", "dat.red", "imp.red", "imp.red"],
+         "  rules 16 21 4 4 4, and the tuning had rules 16 20 4 4 4\n"
+         "  step.red is not the tuning's template\n"
+         "  the tuning had 2 opponents, and this check has 3\n"),
+    ]:
+        came = place.run(words, terminal=True)
+        yield compare(f"{name} at a terminal", said + lines, shown(came.err))
+        yield compare(f"{name} in a pipe", b"", place.run(words).err)
+    text = place.read("CERT")
+    place.write("CERT", text.replace(b"0:3", b"0:1"))
+    came = place.run(["check", *TUNE[1:]], terminal=True)
+    yield compare("a changed certificate",
+                  f"{said}  CERT.inputs is of another certificate, so it is not known which of "
+                  "these differs\n", shown(came.err))
+    (place.folder / "CERT.inputs").unlink()
+    came = place.run(["check", *TUNE[1:]], terminal=True)
+    yield compare("without CERT.inputs", said + one.format("CERT.inputs"), shown(came.err))
+
+
+def shown(err):
+    """Returns what a terminal shows, progress aside."""
+    return err.decode().rpartition("\x1b[K")[2]
+
+
+def main():
+    program = program_of(sys.argv[1:])
+    version = run_program(program, "--version").stdout.decode().removeprefix("cwtune ").strip()
+    with tempfile.TemporaryDirectory() as folder:
+        place = Trial(program, pathlib.Path(folder), version)
+        return tally([*texts(place), *replaced(place), *kept(place), *unwritable(place),
+                      *checks(place)])
+
+
+if __name__ == "__main__":
+    run_tool(main)
