@@ -42,6 +42,31 @@ class Item(NamedTuple):
         return " " in self.term.replace(", ", ",")
 
 
+# What the files of a tuning look like, and where more is said.
+FILES = [
+    Item("TEMPLATE", "A Redcode text with up to 8 range lines, each at the very front of its line "
+         "and without a comment: `;@tune NAME LOW HIGH STEP START`. The values of NAME are LOW, "
+         "LOW + STEP and so on, up to HIGH; START, one of them, is tried first. LOW and HIGH are "
+         "-65535 to 65535. There are at most 1000000 settings. If the text has an EQU for NAME, "
+         "take it out"),
+    Item("SCHEDULE", "The line `opponent,position,first`, then one for each fight, as `0,4000,c`: "
+         "which opponent, from 0; in which cell it is loaded, the candidate being at 0; and who "
+         "moves first, `c` the candidate or `o` the opponent. With a fourth field `weight` a fight "
+         "counts 1 to 1000 times. At most 10000 fights; `cwtune-series` writes some"),
+    Item("CERT", "The certificate, which `tune` replaces whole or not at all. A file that is "
+         "another word's, or a text that is not a certificate, is not overwritten"),
+    Item("CERT.inputs", "Which inputs the certificate is for: rules, part, method, and the size and the "
+         "SHA-256 digest of each file. The commands for authors read it; no check needs it"),
+    Item(f"/usr/share/{NAME}/examples", "Warriors, templates and scripts"),
+    Item(f"/usr/share/doc/{NAME}", "The documents: FORMATS has every format and every fault, "
+         "REDCODE the language, USING how many fights a tuning needs"),
+]
+FAULTS = ("A refusal is a line `refused: ..` on standard error with the names of the fault, and "
+          "the line or the record at fault. At a terminal, or with --explain, more lines say what is "
+          "wrong and what to write. If a certificate was found and cannot be written, `found: ..` "
+          "names the best setting.")
+
+
 class Page:
     """What a command of `cwtune` prints with `--help`."""
 
@@ -136,6 +161,7 @@ def manual(program, version):
     having = [name for name, page in program.commands.items() if "Rules" in page.parts]
     lines += [".SH RULES", f"The rules of a fight, options of {', '.join(having)}."]
     lines += roff_items(rules)
+    lines += [".SH FILES", *roff_items(FILES), ".SH DIAGNOSTICS", roff(FAULTS)]
     lines += [".SH EXIT STATUS", roff(program.top.after.partition(": ")[2]), ".SH EXAMPLES"]
     for what, command in EXAMPLES:
         lines += [roff(what), ".PP", ".RS", ".nf", f".B {roff(command)}", ".fi", ".RE", ".PP"]

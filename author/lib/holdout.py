@@ -5,18 +5,19 @@ the K best settings among those that played all fights of the tuning play R figh
 opponent, at random positions, moving first in every other fight; positions and first movers are the
 same for all settings. For each setting a line says its total in the tuning and in the fresh fights,
 the points as a part of the greatest total, in percent, and the standard error of that; then how
-much more than START it makes. With --schedule each opponent counts in the fresh fights as much as
-in the tuning. Give the rules and the opponents of the tuning.
+much more than START it makes. Each opponent counts in the fresh fights as much as in the tuning.
+Rules, schedule and opponents are those of the tuning, as CERT.inputs names them; without that file
+give them.
 
-Example: cwtune-holdout my.red my.cert dwarf.red scanner.red
+Example: cwtune-holdout my.red my.cert
 """
-import math, pathlib, random, tempfile
+import math, pathlib, random, sys, tempfile
 from typing import NamedTuple
 
-from . import tuning_files
+from . import cert_inputs, tuning_files
 from .endings import Fault, number_from
-from .program import (EXPLAIN, add_program, add_rules, add_words, command_parser, rules_of,
-                      run_program)
+from .program import (EXPLAIN, add_opponents_of_tuning, add_program, add_rules, add_words,
+                      command_parser, rules_of, run_program)
 
 MOST_FIGHTS = 10000
 
@@ -59,18 +60,18 @@ def schedule_of(asked):
     """Returns the text of a schedule of fresh fights."""
     dice, low = random.Random(asked.seed), asked.distance
     records = [f"{k},{dice.randint(low, asked.core - low)},{'co'[i % 2]}\n"
-               for k in range(len(asked.opponent)) for i in range(asked.rounds)]
+               for k in range(len(asked.opponents)) for i in range(asked.rounds)]
     return "opponent,position,first\n" + "".join(records)
 
 
 def shares_of(asked, fights):
     """Returns how much each opponent counts: by its fights' weights; without a schedule alike."""
     if not asked.schedule:
-        return [1] * len(asked.opponent)
-    if any(fight.opponent >= len(asked.opponent) for fight in fights):
+        return [1] * len(asked.opponents)
+    if any(fight.opponent >= len(asked.opponents) for fight in fights):
         raise Fault(f"{asked.schedule} has fights against more opponents than were given", 2)
     return [sum(fight.weight for fight in fights if fight.opponent == k)
-            for k in range(len(asked.opponent))]
+            for k in range(len(asked.opponents))]
 
 
 def run(*words):
@@ -88,7 +89,7 @@ def play(asked, rules, shares, folder, setting):
     template, schedule, cert = (pathlib.Path(folder, name) for name in ("t.red", "s.csv", "cert"))
     template.write_bytes(b";@tune ONE 0 0 1 0\n" + load)
     schedule.write_text(schedule_of(asked))
-    run(asked.program, "tune", *EXPLAIN, *rules, template, schedule, cert, *asked.opponent)
+    run(asked.program, "tune", *EXPLAIN, *rules, template, schedule, cert, *asked.opponents)
     made = tuning_files.Certificate(cert).points(0)
     rounds = range(asked.rounds)
     return Fresh([[made[k * asked.rounds + i] for i in rounds] for k in range(len(shares))], shares)
@@ -119,17 +120,21 @@ def make_parser():
     parser.add_argument("--seed", type=number_from(0), default=1, metavar="S",
                         help="another number gives other positions [default: 1]")
     parser.add_argument("--schedule", metavar="FILE",
-                        help="the schedule of the tuning; needed if it has weights")
+                        help="the schedule [default: that of the tuning]")
     add_program(parser)
-    add_rules(parser)
-    add_words(parser, "template", "cert", "opponent")
+    add_rules(parser, of_tuning=True)
+    add_words(parser, "template", "cert")
+    add_opponents_of_tuning(parser)
     return parser
 
 
 def read_words():
     parser = make_parser()
-    asked = parser.parse_args()
-    if asked.rounds * len(asked.opponent) > MOST_FIGHTS:
+    asked = parser.parse_intermixed_args()
+    asked.note = cert_inputs.settle(asked)
+    if not asked.opponents:
+        parser.error("give OPPONENT..: CERT.inputs names no opponents that are there")
+    if asked.rounds * len(asked.opponents) > MOST_FIGHTS:
         parser.error(f"the opponents times --rounds are more than {MOST_FIGHTS} fights")
     if asked.distance > asked.core - asked.distance:
         parser.error("--distance is more than half of --core")
@@ -160,3 +165,4 @@ def main():
     if dropped:
         print(f"{dropped} settings were dropped; one of these may be better than all but setting "
               f"{found.best} (tune --all)")
+    sys.stderr.write(asked.note)

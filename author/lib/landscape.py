@@ -11,7 +11,7 @@ Example: cwtune-landscape my.red my.cert totals.png --effects effects.png
 """
 import itertools, math, sys
 
-from . import tuning_files
+from . import cert_inputs, tuning_files
 from .endings import Fault, whole_file
 from .program import add_words, command_parser
 
@@ -188,7 +188,7 @@ def make_parser():
     add_words(parser, "template", "cert")
     parser.add_argument("picture", metavar="PICTURE", help="a name that ends with .png or .svg")
     parser.add_argument("--schedule", metavar="FILE",
-                        help="the schedule; needed for --opponent, or if it has weights")
+                        help="the schedule [default: that of the tuning]")
     parser.add_argument("--axes", metavar="A,B", help="the constants from left to right and "
                         "upwards [default: the last two, the last from left to right]")
     parser.add_argument("--opponent", type=int, metavar="N",
@@ -215,6 +215,7 @@ def main():
             parser.error(f"the picture's name has to end with .png or .svg: {picture}")
     template = tuning_files.Template(asked.template)
     found = tuning_files.Certificate(asked.cert)
+    note = cert_inputs.settle(asked)
     if not template.names or len(template.settings) != len(found.rows):
         parser.error("the template has no constants, or the certificate is not of that template")
     fights = found.fights(asked.schedule)
@@ -231,3 +232,4 @@ def main():
     save(draw_line(plot, table) if alone else draw_maps(plot, table, *places), title, asked.picture)
     if asked.effects:
         save(draw_effects(plot, table), title, asked.effects)
+    sys.stderr.write(note)

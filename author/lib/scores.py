@@ -1,12 +1,15 @@
 """Prints what a certificate says of each opponent, of the best settings and of the constants.
 
-Example: cwtune-scores my.cert fights.csv --template my.red
-"""
-import concurrent.futures, contextlib, os
+Schedule, template and rules are those of the tuning, as CERT.inputs names them; without that file
+give them.
 
-from . import tuning_files
+Example: cwtune-scores my.cert
+"""
+import concurrent.futures, contextlib, os, sys
+
+from . import cert_inputs, tuning_files
 from .endings import Fault, number_from
-from .program import add_program, add_rules, add_words, command_parser, load_of, rules_of
+from .program import (WORDS, add_program, add_rules, add_words, command_parser, load_of, rules_of)
 
 # With more settings than this none is assembled, to save time.
 MOST_ASSEMBLED = 2000
@@ -95,18 +98,24 @@ def print_idle(template, warriors):
 
 def make_parser():
     parser = command_parser(__doc__)
-    add_words(parser, "cert", "schedule")
-    parser.add_argument("--template", metavar="FILE",
-                        help="names constants, and shows the start setting too")
+    add_words(parser, "cert")
+    parser.add_argument("schedule", metavar="SCHEDULE", nargs="?",
+                        help=f"{WORDS['schedule']} [default: that of the tuning]")
+    parser.add_argument("--template", metavar="FILE", help="names constants, and shows the start "
+                        "setting too [default: that of the tuning]")
     parser.add_argument("--top", type=number_from(1), default=10, metavar="K",
                         help="how many of the best settings [default: 10]")
     add_program(parser)
-    add_rules(parser)
+    add_rules(parser, of_tuning=True)
     return parser
 
 
 def main():
-    asked = make_parser().parse_args()
+    parser = make_parser()
+    asked = parser.parse_intermixed_args()
+    note = cert_inputs.settle(asked)
+    if asked.schedule is None:
+        parser.error("give SCHEDULE: CERT.inputs names none that is there")
     found = tuning_files.Certificate(asked.cert)
     fights = found.fights(asked.schedule)
     template = tuning_files.Template(asked.template).of(found) if asked.template else None
@@ -118,3 +127,4 @@ def main():
     print_best(found, fights, template, asked.top)
     if template:
         print_idle(template, Warriors(found, asked))
+    sys.stderr.write(note)

@@ -14,9 +14,9 @@ CERT.parts is of other inputs; 3 a part has no result, or a file cannot be read 
 
 Example: cwtune-spread --jobs 4 my.red fights.csv my.cert dwarf.red scanner.red
 """
-import os, shutil, signal, sys, time
+import contextlib, os, shutil, signal, sys, time
 
-from . import tuning_files
+from . import cert_inputs, tuning_files
 from .endings import Fault, naming, number_from, whole_file
 from .program import (EXPLAIN, add_program, add_rules, add_words, command_parser, rules_of,
                       run_program)
@@ -265,10 +265,28 @@ def finish(args, folder, progress):
     verdict = check(args, folder) if args.check else ""
     with whole_file(args.cert) as file, folder.whole().open() as whole:
         shutil.copyfileobj(whole, file)
+    write_inputs(args)
     tell_start(args)
     print(*report_of(progress.done(), folder.count), sep="\n")
     print(verdict, end="", flush=True)
     folder.end()
+
+
+def write_inputs(args):
+    """Writes CERT.inputs beside a regular file CERT, as `tune` does. If that fails, an older one is
+    removed, and nothing else changes."""
+    if not os.path.isfile(args.cert):
+        return
+    name, files = cert_inputs.name_of(args.cert), [args.template, args.schedule, *args.opponent]
+    version = run_program(args.program, "--version").stdout.decode().removeprefix("cwtune ").strip()
+    method = "all" if args.all else f"cache {args.cache}"
+    try:
+        text = cert_inputs.text_of(version, rules_of(args), method, args.cert, files)
+        with whole_file(name, "wb") as file:
+            file.write(os.fsencode(text))
+    except (Fault, OSError, ValueError):
+        with contextlib.suppress(OSError):
+            os.unlink(name)
 
 
 def tell_start(args):

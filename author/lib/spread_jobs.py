@@ -5,7 +5,7 @@ from .endings import Fault
 
 JOB = """./cwtune tune --part={{}}/{parts} {options} t.red s.csv {{}}.{name}.cert {opponents} \
 >{{}}.{name}.report 2>{{}}.{name}.fault; s=$?; touch {{}}.{name}.cert; \
-echo $s >{{}}.{name}.status; [ $s -le 3 ]"""
+rm -f {{}}.{name}.cert.inputs; echo $s >{{}}.{name}.status; [ $s -le 3 ]"""
 PR_SET_PDEATHSIG = 1
 
 

@@ -15,8 +15,9 @@ from .endings import Fault, whole_file
 from .program import rules_of
 
 MARK, MADE_BY = "spread.json", "cwtune-spread 1"
-# What a run that was killed may leave: `tune` writes a certificate to a file beside it.
-UNFINISHED = r"\d+\.\d+\.\w+(\.unfinished-\d+)?|.*\.\d+\.new"
+# What a run that was killed may leave: `tune` writes a certificate to a file beside it, and then
+# CERT.inputs.
+UNFINISHED = r"\d+\.\d+\.\w+(\.inputs)?(\.unfinished-\d+)?|.*\.\d+\.new"
 OWN = rf"cwtune|[ts]\.(red|csv)|o\d+\.red|whole\.cert|\d+\.(cert|done)|{UNFINISHED}"
 NO_CANDIDATE = "refused: NoCandidate\n"
 
@@ -183,6 +184,7 @@ class Folder:
         if status == 0:
             report = report_in(self.file(number, "report"))
             cert = hash_of(self.file(number, "cert"))
+            self.file(number, "cert.inputs").unlink(missing_ok=True)
             self.file(number, "cert").replace(self.cert(number))
         elif (status, fault) != (1, NO_CANDIDATE):
             return fault or f"failed: it ended with status {status}\n"

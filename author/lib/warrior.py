@@ -10,9 +10,10 @@ Example: cwtune-warrior my.red my.cert > winner.red
 """
 import re, sys, tempfile
 
-from . import tuning_files
+from . import cert_inputs, tuning_files
 from .endings import Fault, number_from
-from .program import (WORDS, add_program, add_rules, add_words, command_parser, load_of, rules_of)
+from .program import (WORDS, Rules, add_program, add_rules, add_words, command_parser, load_of,
+                      rules_of)
 
 HEAD = b";redcode"
 # pMARS 0.9.2 reads no longer lines.
@@ -75,9 +76,12 @@ def setting_of(template, word):
     return setting
 
 
-def total_of_start(found, template):
-    """Returns the total of START, or None: with weights, or if it was dropped, it is not known."""
-    return found.total_of(template.start, found.fights(None)) if found.version == 1 else None
+def total_of_start(found, template, schedule):
+    """Returns the total of START, or None if it was dropped, or if there are weights and no
+    schedule is known."""
+    if found.version == 2 and schedule is None:
+        return None
+    return found.total_of(template.start, found.fights(schedule))
 
 
 def tell_foreign(text):
@@ -95,7 +99,7 @@ def make_parser():
     parser = command_parser(__doc__)
     parser.add_argument("--setting", metavar="W", help="the index of a setting, or `start`")
     add_program(parser)
-    add_rules(parser)
+    add_rules(parser, of_tuning=True)
     add_words(parser, "template")
     parser.add_argument("cert", metavar="CERT", nargs="?", help=WORDS["cert"])
     return parser
@@ -105,16 +109,21 @@ def main():
     parser = make_parser()
     asked = parser.parse_args()
     if (asked.cert is None) == (asked.setting is None):
-        parser.error("give a certificate, or --setting")
+        parser.error("give a certificate or --setting, and not both")
     template, totals = tuning_files.Template(asked.template), (None, None)
+    asked.schedule, note = None, ""
     if asked.cert is None:
+        cert_inputs.fill_rules(asked, Rules())
         setting = setting_of(template, asked.setting)
     else:
         found = tuning_files.Certificate(asked.cert)
+        note = cert_inputs.settle(asked)
         template.of(found)
-        setting, totals = found.best, (found.total, total_of_start(found, template))
+        setting = found.best
+        totals = found.total, total_of_start(found, template, asked.schedule)
     with open(asked.template, "rb") as file:
         text = text_of(file.read(), template, setting, totals)
     refuse_another(asked.program, rules_of(asked).words(), asked.template, setting, text)
     tell_foreign(text)
     sys.stdout.buffer.write(text)
+    sys.stderr.write(note)

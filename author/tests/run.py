@@ -12,7 +12,7 @@ from author.lib.endings import Fault, run_tool
 from author.lib.program import program_of
 from gate.tally import compare, tally
 
-from . import spreading, warriors
+from . import origins, spreading, warriors
 from .commands import AUTHOR, TUNING, command, run, said
 
 EXPECTED = pathlib.Path(__file__).resolve().parent / "expected"
@@ -111,9 +111,9 @@ def draw(python, words):
         png, svg = pathlib.Path(folder, "picture.png"), pathlib.Path(folder, "picture.svg")
         tool, template, cert, *rest = words.split()
         for picture in (png, svg):
-            fault = said(tool, template, cert, str(picture), *rest, python=python)
-            if fault:
-                return fault
+            status, out, err = run(tool, template, cert, str(picture), *rest, python=python)
+            if status:
+                return out + err
         if not png.read_bytes().startswith(b"\x89PNG"):
             return "not a PNG file\n"
         texts = re.findall(r"<text[^>]*>([^<]*)</text>", svg.read_text("utf-8"))
@@ -232,7 +232,8 @@ def main():
         for name, result in results.items():
             (EXPECTED / name).write_text(result, "utf-8")
     return tally([*stored(results), *helps(), *closed(), *refusals(rows, python), *signals(),
-                  *warriors.trials(program), *spreading.trials(program)])
+                  *warriors.trials(program), *origins.trials(program),
+                  *spreading.trials(program)])
 
 
 if __name__ == "__main__":

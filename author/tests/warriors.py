@@ -8,6 +8,7 @@ from author.lib import tuning_files, warrior
 from gate.play import Place
 from gate.tally import compare
 
+from . import origins
 from .commands import TUNING, run
 
 FIGHT = "opponent,position,first\n0,4000,c\n"
@@ -52,7 +53,8 @@ def warriors(program, folder):
     start = found.total_of(tuning_files.Template(TUNING / "step.red").start, found.fights(None))
     line = f";strategy cwtune: setting {found.best} of 21, total {found.total}; START {start}\n"
     yield "the best setting of a certificate", [] if (
-        came[0] == 0 and came[2] == "" and line in came[1]) else [repr(came)]
+        came[0] == 0 and came[2] == origins.note("step.cert.inputs is not there")
+        and line in came[1]) else [repr(came)]
     for name, text, said in [
         ("chain.red", CHAIN, "refused: with the values as EQU lines the text does not assemble: "),
         ("refused.red", b"DAT 1/0\n", "refused: setting 0 does not assemble: "),
@@ -62,7 +64,7 @@ def warriors(program, folder):
         yield f"{name} is refused", [] if (came[:2] == (1, "") and came[2].startswith(said)
                                            ) else [repr(came)]
     for words, said in [
-        (["step.red"], "give a certificate, or --setting"),
+        (["step.red"], "give a certificate or --setting, and not both"),
         (["stone.red", "step.cert"], "the certificate is not of that template"),
         (["step.red", "--setting", "21"], "the template has 21 settings, from 0"),
     ]:
@@ -123,7 +125,7 @@ def holdouts(program, folder):
     yield "cwtune-holdout", [] if came == (0, expected, "") else [f"{expected!r}, came {came!r}"]
     came = run("cwtune-holdout", *words[:-1], "none.red", folder=folder)
     yield "cwtune-holdout with no opponent", [] if (
-        came[:2] == (3, "") and came[2].startswith("failed: read none.red")) else [repr(came)]
+        came[:2] == (3, "") and came[2].startswith("failed: none.red: ")) else [repr(came)]
 
 
 def trials(program):
