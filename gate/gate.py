@@ -15,8 +15,9 @@ STEPS = [EDITS, "author.tests.run --plain", "gate.documents", "gate.play_cases",
          "gate.terminals", "gate.inputs_trials", "gate.cuts", "gate.runners", "release.try_release",
          "gate.refuse.two_devices", "gate.refuse.memory", "gate.refuse.writes",
          "gate.refuse.growth"]
-# Ends a step, and all that it has started, after 20 minutes; it says where it was.
-WATCHED = ["timeout", "--signal=ABRT", "--kill-after=5", "1200", sys.executable, "-X",
+# Ends a step, and all that it has started, after an hour; it says where it was. The edits of cwtune
+# are the longest: a round of twenty, in one check on one processor.
+WATCHED = ["timeout", "--signal=ABRT", "--kill-after=5", "3600", sys.executable, "-X",
            "faulthandler"]
 # With RT_JOBS set, `rt ci` gives each check one job, though processors are idle.
 ENVIRONMENT = {name: value for name, value in os.environ.items() if name != "RT_JOBS"}
