@@ -7,7 +7,7 @@ ghost use Rattle.mars_core.specs.State.{blank_of, start_of, turn_of, play_of, ta
 use crate::cell::Cell;
 use crate::cells::{Cells, PlainCells, load_code, read};
 use crate::fight_loop::decide;
-use crate::journal::PackedCells;
+use crate::packed_cells::PackedCells;
 use crate::side::Side;
 use crate::snapshot::Snapshot;
 use crate::tasks::Tasks;

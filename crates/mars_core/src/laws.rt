@@ -10,7 +10,7 @@ ghost use Rattle.mars_core.specs.declared.side.Side.{Side};
 ghost use Rattle.mars_core.specs.declared.arena.Outcome.{Outcome};
 
 use crate::arena::{Arena, Outcome};
-use crate::journal::PackedCells;
+use crate::packed_cells::PackedCells;
 use crate::side::Side;
 use rc_instr::Warrior;
 

@@ -2,7 +2,7 @@ use Rattle.std.proofs.Common.{◌≡◌, get_or, false, true, arith}
 use Rattle.std.proofs.lemmas.Grind.{common_steps}
 use Rattle.mars_core.specs.Packed.{is_marked}
 use Rattle.mars_core.proofs.Stores.{stored_first, stored_again}
-use Rattle.mars_core.proofs.journal.put.Goals as goal
+use Rattle.mars_core.proofs.packed_cells.put.Goals as goal
 
 pub returns-then-not-is_marked-clause-store : goal.returns-then-not-is_marked-clause-store
 returns-then-not-is_marked-clause-store c =
