@@ -1,0 +1,204 @@
+"""Climbs from START to a better setting of a template of any size.
+
+One constant after the other is tuned over its whole range by `cwtune tune`, with the others held
+at the best setting so far, until none of them gains. With --pairs the same is done with two
+constants at a time. So what is found is the best setting of each line (or plane) through it, which
+is exact, and need not be the best of all: only `cwtune tune` of the whole shows that.
+
+Each step goes to standard error, and at the end the template goes to standard output, with what was
+found as its START; with --box N each range is cut to N values on both sides of it, ready for an
+exact `cwtune tune`. Ctrl-C ends it with the best so far.
+
+Example: cwtune-seek my.red fights.csv dwarf.red scanner.red > better.red
+"""
+import itertools, math, pathlib, random, signal, sys, tempfile
+
+from .endings import Fault, number_from
+from .grid import Grid
+from .program import add_program, add_rules, add_words, command_parser, rules_of, run_program
+from .tuning_files import MOST_SETTINGS
+
+NO_CANDIDATE = b"refused: NoCandidate\n"
+
+
+class Enough(Exception):
+    """The fights of --fights were played."""
+
+
+class Tunings:
+    """The tunings of lines and planes of a grid, none of them twice, and their fights."""
+
+    def __init__(self, args, grid, folder):
+        self.args, self.grid, self.folder = args, grid, pathlib.Path(folder)
+        self.made, self.fights = {}, 0
+
+    def key(self, setting, free):
+        """Returns what a line through a setting is known by."""
+        return free, tuple(at for k, at in enumerate(setting) if k not in free)
+
+    def is_made(self, setting, free):
+        """Returns whether a line through a setting was tuned before."""
+        return self.key(setting, free) in self.made
+
+    def best(self, setting, free):
+        """Returns total, setting and number of fights of the best one of a line through a setting,
+        or None if none of the line assembles."""
+        key = self.key(setting, free)
+        if key not in self.made:
+            if self.args.fights and self.fights >= self.args.fights:
+                raise Enough
+            self.made[key] = self.tune(self.grid.line_through(setting, free))
+            self.fights += self.made[key][2] if self.made[key] else 0
+        return self.made[key]
+
+    def tune(self, text):
+        """Tunes a template. Returns total, setting and number of fights of its best setting."""
+        (self.folder / "template.red").write_bytes(text)
+        done = self.run()
+        if done.returncode == 1 and done.stderr.endswith(NO_CANDIDATE):
+            return None
+        if done.returncode != 0:
+            sys.stderr.buffer.write(done.stderr)
+            sys.exit(done.returncode if done.returncode > 0 else 3)
+        report = dict(line.split(" ", 1) for line in done.stdout.decode().splitlines())
+        return (int(report["total"].split()[0]), self.grid.setting_of(report["constants"]),
+                int(report["fights"].split()[0]))
+
+    def run(self):
+        """Runs `cwtune tune`, or `cwtune-spread` if there are several jobs."""
+        args, cert = self.args, str(self.folder / "cert")
+        files = [str(self.folder / "template.red"), args.schedule, cert, *args.opponent]
+        if args.jobs == 1:
+            return run_program(args.program, "tune", *rules_of(args).words(), "--", *files)
+        spread = str(pathlib.Path(__file__).resolve().parents[1] / "cwtune-spread")
+        return run_program(sys.executable, spread, f"--jobs={args.jobs}",
+                           f"--program={args.program}", *rules_of(args).words(), "--", *files)
+
+
+class Climb:
+    """A climb from a setting: where it is, and the total there, which is None at first."""
+
+    def __init__(self, tunings, setting):
+        self.tunings, self.grid = tunings, tunings.grid
+        self.setting, self.total = setting, None
+
+    def go(self, choices):
+        """Tunes one choice of constants after the other until none of them gains."""
+        idle = 0
+        for free in itertools.cycle(choices):
+            if idle == len(choices):
+                return
+            idle = 0 if self.step(free) else idle + 1
+
+    def step(self, free):
+        """Tunes the constants `free`, tells of it, and returns whether that gained."""
+        known = self.tunings.is_made(self.setting, free)
+        best = self.tunings.best(self.setting, free)
+        if best is None:
+            return False
+        total, setting, fights = best
+        first, gains = self.total is None, self.total is None or total > self.total
+        gain = "" if first else f" (+{total - self.total})" if gains else ""
+        if gains:
+            self.setting, self.total = setting, total
+        names = ",".join(self.grid.names[k] for k in free)
+        if gains or not known:
+            print(f"{names}: total {self.total}{gain} {self.grid.told(self.setting)}, "
+                  f"{0 if known else fights} fights", file=sys.stderr, flush=True)
+        return gains
+
+
+def choices_of(grid, pairs):
+    """Returns which constants are tuned together: each alone, or each two of them."""
+    if not pairs or len(grid.names) == 1:
+        choices = [(k,) for k in range(len(grid.names))]
+    else:
+        choices = list(itertools.combinations(range(len(grid.names)), 2))
+    for free in choices:
+        settings = math.prod(len(grid.values[k]) for k in free)
+        if settings > MOST_SETTINGS:
+            raise Fault(f"{','.join(grid.names[k] for k in free)}: {settings} settings, more than "
+                        f"the {MOST_SETTINGS} that `cwtune tune` takes", 2)
+    return choices
+
+
+def starts_of(grid, count, seed):
+    """Yields START, and then settings drawn from all."""
+    yield grid.start
+    draw = random.Random(seed)
+    for _ in range(count):
+        yield tuple(draw.choice(values) for values in grid.values)
+
+
+def seek(args, grid, tunings):
+    """Climbs from each start. Returns the climb that got highest, and why it ended."""
+    best, climb = None, None
+    choices = choices_of(grid, args.pairs)
+    try:
+        for setting in starts_of(grid, args.starts, args.seed):
+            climb = Climb(tunings, setting)
+            print(f"from {grid.told(setting)}", file=sys.stderr, flush=True)
+            climb.go(choices)
+            best = higher(best, climb)
+        return best, ""
+    except Enough:
+        return higher(best, climb), f", ended after {tunings.fights} fights (--fights)"
+    except KeyboardInterrupt:
+        return higher(best, climb), ", stopped"
+
+
+def higher(best, climb):
+    """Returns the climb with the greater total, of equal ones the first."""
+    if climb is None or climb.total is None:
+        return best
+    return climb if best is None or climb.total > best.total else best
+
+
+def tell_end(args, grid, tunings, best, ended):
+    """Says what was found, and what is certain of it."""
+    what = "plane" if args.pairs and len(grid.names) > 1 else "line"
+    print(f"found: total {best.total} {grid.told(best.setting)}, {tunings.fights} fights in "
+          f"{len(tunings.made)} tunings{ended}", file=sys.stderr)
+    if ended:
+        print("note: it is the best setting that was seen, and more may be gained", file=sys.stderr)
+    else:
+        print(f"note: it is the best of each {what} through it, and need not be the best of all "
+              f"{grid.count()} settings", file=sys.stderr)
+
+
+def make_parser():
+    parser = command_parser(__doc__)
+    parser.add_argument("--pairs", action="store_true",
+                        help="tune two constants at a time, at most a million settings")
+    parser.add_argument("--starts", type=number_from(0), default=0, metavar="N",
+                        help="climb from N random settings too [default: 0]")
+    parser.add_argument("--seed", type=number_from(0), default=1, metavar="N",
+                        help="draws other random settings [default: 1]")
+    parser.add_argument("--fights", type=number_from(1), metavar="N",
+                        help="stop after the tuning with which N fights are played")
+    parser.add_argument("--box", type=number_from(0), metavar="N",
+                        help="cut each range to N values on both sides of what is found")
+    parser.add_argument("--jobs", type=number_from(1), default=1, metavar="N",
+                        help="run each tuning on N processors, by cwtune-spread [default: 1]")
+    add_program(parser)
+    add_rules(parser)
+    add_words(parser, "template", "schedule", "opponent")
+    return parser
+
+
+def main():
+    signal.signal(signal.SIGTERM, signal.default_int_handler)
+    args = make_parser().parse_args()
+    grid = Grid(args.template)
+    with tempfile.TemporaryDirectory(prefix="cwtune-seek-") as folder:
+        tunings = Tunings(args, grid, folder)
+        best, ended = seek(args, grid, tunings)
+    if best is None:
+        raise Fault("no setting that was tried assembles")
+    tell_end(args, grid, tunings, best, ended)
+    values = grid.values if args.box is None else grid.box(best.setting, args.box)
+    settings = math.prod(map(len, values))
+    if args.box is not None and settings > MOST_SETTINGS:
+        raise Fault(f"a box of {settings} settings is more than the {MOST_SETTINGS} that `cwtune "
+                    "tune` takes: give a smaller --box", 2)
+    sys.stdout.buffer.write(grid.text(values, best.setting))

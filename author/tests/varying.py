@@ -1,0 +1,177 @@
+"""Plays `cwtune-vary` and `cwtune-seek` with the program.
+
+`run.py` counts what `trials` yields: names, and for each a list of what was wrong.
+"""
+import pathlib, subprocess, tempfile
+
+from author.lib import grid
+from gate.play import Place
+from gate.tally import compare
+
+from .commands import EXAMPLES, TUNING, run
+
+TEXT = """;redcode-94
+;name Two Numbers
+; STEP is not read here
+STEP EQU 5 ; of the bombs
+far: equ (-20)
+both EQU STEP+1
+        MOV  bomb, @bomb
+        ADD  #STEP, bomb
+        JMP  -2
+bomb    DAT  #STEP, #far
+i       FOR  2
+k       EQU  3
+        ROF
+        END
+late    EQU  7
+"""
+TEMPLATE = TEXT.replace("STEP EQU 5 ; of the bombs", "; of the bombs\n;@tune STEP 1 9 4 5")
+FAR = ";@tune far -30 10 10 -20"
+WARRIORS = [str(EXAMPLES / "warriors" / f"{name}.red")
+            for name in ["dwarf", "imp-ring", "scanner", "replicator", "core-clear"]]
+
+
+def varied(place, *words, name="two.red"):
+    """Returns status, standard output and standard error of `cwtune-vary`."""
+    return run("cwtune-vary", "--program", place.program, name, *words, folder=place.folder)
+
+
+def templates(place):
+    """Makes templates of texts."""
+    text = TEXT.replace("i       FOR  2\nk       EQU  3\n        ROF\n", "")
+    place.write("two.red", text)
+    made = TEMPLATE.replace("i       FOR  2\nk       EQU  3\n        ROF\n", "")
+    yield compare("one constant", (0, made, "note: 3 settings\n"), varied(place, "STEP=1:9:4"))
+    yield compare("two constants", (0, made.replace("far: equ (-20)", FAR), "note: 15 settings\n"),
+                  varied(place, "far=-30:10:10", "STEP=1:9:4"))
+    place.write("lines.red", text.replace("\n", "\r\n").encode())
+    yield compare("CR LF", (0, made.replace("\n", "\r\n")),
+                  run_bytes(place, "lines.red", "STEP=1:9:4"))
+    yield compare("too many settings for tune", (0, "note: 3000000 settings, more than the 1000000 "
+                  "that `cwtune tune` takes\n"), (
+        (came := varied(place, "STEP=1:3000", "far=-999:0"))[0], came[2]))
+    place.write("two.red", TEXT)
+    yield compare("the numbers of a text", (0, "STEP=5: line 4, 3 uses\nfar=-20: line 5, 1 use\n", ""),
+                  varied(place))
+    place.write("none.red", "MOV 0, 1\n")
+    yield compare("a text without numbers", (0, "", "note: no line `NAME EQU number`\n"),
+                  varied(place, name="none.red"))
+
+
+def run_bytes(place, name, *words):
+    """Returns the status and the output of `cwtune-vary`, line ends as they are."""
+    done = subprocess.run([*play_words(place), name, *words], cwd=place.folder, capture_output=True)
+    return done.returncode, done.stdout.decode()
+
+
+def play_words(place):
+    return ["python3", str(pathlib.Path(grid.__file__).parents[1] / "cwtune-vary"), "--program",
+            place.program]
+
+
+def refusals(place):
+    """Gives it what has no range."""
+    place.write("two.red", TEXT)
+    place.write("label.red", "K EQU 1\nMOV K, 1/K\nDAT 1/(K-1)\n")
+    place.write("joined.red", "K EQU 1\nx1 EQU 5\ni FOR 1\nDAT x&i, K\nROF\n")
+    place.write("ranges.red", ";@tune K 0 1 1 0\nMOV 0, 1\n")
+    for words, status, said in [
+        (["both=1:9"], 1, "refused: two.red, line 6: STEP+1 is not a plain number, so both can "
+         "have no range"),
+        (["step=1:9"], 1, "refused: two.red: no line `step EQU number`; STEP is one"),
+        (["k=1:9"], 1, "refused: two.red: no line `k EQU number`"),
+        (["late=1:9"], 1, "refused: two.red: no line `late EQU number`"),
+        (["STEP=1:9:3"], 1, "refused: two.red, line 4: STEP is 5, which is none of its values; the "
+         "nearest are 4 and 7"),
+        (["STEP=6:9:3"], 1, "refused: two.red, line 4: STEP is 5, which is none of its values; the "
+         "nearest are 6"),
+        (["STEP=1:9", "STEP=2:5"], 2, "cwtune-vary: error: a constant has one range"),
+        *(([f"STEP={word}"], 2, "cwtune-vary: error: argument NAME=LOW:HIGH:STEP: invalid range, "
+           f"as in STEP=5:4000:10, value: 'STEP={word}'") for word in ["1", "9:1", "1:9:0", "a:b"]),
+    ]:
+        yield compare(f"cwtune-vary {' '.join(words)}", (status, "", f"{said}\n"),
+                      varied(place, *words))
+    yield compare("a text that does not assemble", (1, "", "refused: label.red does not assemble: "
+                  "refused: Asm line 3 Value DivisionByZero\n"), varied(place, "K=1:2", name="label.red"))
+    yield compare("a template", (1, "", "refused: ranges.red: it has range lines, so it is a "
+                  "template already\n"), varied(place, name="ranges.red"))
+    yield compare("a missing file", 3, varied(place, name="none")[0])
+
+
+def sought(place, *words, template="stone.red"):
+    """Returns status, standard output and the lines of standard error of `cwtune-seek`."""
+    status, out, err = run("cwtune-seek", "--program", place.program, *words,
+                           str(TUNING / template), str(TUNING / "schedule.csv"), *WARRIORS,
+                           folder=place.folder)
+    return status, out, err.splitlines()
+
+
+def climbs(place):
+    """Climbs in the examples, and compares with what is known of them."""
+    status, out, lines = sought(place)
+    place.write("found.red", out)
+    found = grid.Grid(place.folder / "found.red")
+    whole = grid.Grid(TUNING / "stone.red")
+    yield compare("the template has what was found as START", (0, whole.values, True),
+                  (status, found.values, lines[-2].startswith("found: total ")))
+    total = int(lines[-2].split()[2].rstrip(","))
+    yield compare("START of the template has that total", total, total_of(place, "found.red"))
+    yield compare("no tuning of a line through it has a better one", [total] * 2, [
+        total_of(place, "line.red", found.line_through(found.start, (k,))) for k in range(2)])
+    yield compare("with two jobs the same is found", out, sought(place, "--jobs=2")[1])
+    again = sought(place, "--starts=2", "--seed=3")
+    yield compare("more starts find no less", (0, True), (
+        again[0], int(again[2][-2].split()[2].rstrip(",")) >= total))
+    boxed = sought(place, "--box=2")
+    place.write("box.red", boxed[1])
+    box = grid.Grid(place.folder / "box.red")
+    yield compare("a box is around it", (0, found.start, True), (
+        boxed[0], box.start, all(len(values) <= 5 for values in box.values)))
+    few = sought(place, "--fights=1")
+    yield compare("--fights ends it after a tuning", (0, True), (
+        few[0], few[2][-2].endswith(" in 1 tunings, ended after "
+                                    f"{few[2][-2].split(' fights in ')[0].split()[-1]} fights "
+                                    "(--fights)")))
+
+
+def total_of(place, name, text=None):
+    """Returns the best total of a template, which `cwtune tune` finds."""
+    if text is not None:
+        place.write(name, text)
+    start = grid.Grid(place.folder / name)
+    place.write(name, start.line_through(start.start, ()) if text is None else text)
+    came = place.run(["tune", name, str(TUNING / "schedule.csv"), "CERT", *WARRIORS])
+    return int(came.out.decode().split("total ")[1].split()[0])
+
+
+def refused_climbs(place):
+    """Gives `cwtune-seek` what it refuses."""
+    place.write("one.red", "MOV 0, 1\n")
+    place.write("none.red", ";@tune K 0 5 1 2\nDAT 1/0\n")
+    place.write("large.red", ";@tune A 0 9999 1 2\n;@tune B 0 9999 1 2\nDAT A, B\n")
+    schedule = str(TUNING / "schedule.csv")
+    for words, end in [
+        (["one.red"], (1, "", "refused: one.red: no range line, so there is nothing to seek\n")),
+        (["none.red"], (1, "", "from K=2\nrefused: no setting that was tried assembles\n")),
+        (["--pairs", "large.red"], (2, "", "error: A,B: 100000000 settings, more than the 1000000 "
+                                    "that `cwtune tune` takes\n")),
+        (["none"], (3, "", "failed: none: No such file or directory\n")),
+    ]:
+        yield compare(f"cwtune-seek {' '.join(words)}", end, run(
+            "cwtune-seek", "--program", place.program, *words, schedule, *WARRIORS,
+            folder=place.folder))
+    place.write("bad.red", ";@tune K 0 5 1 2\nMOV 1\n")
+    came = run("cwtune-seek", "--program", place.program, "bad.red", schedule, *WARRIORS,
+               folder=place.folder)
+    yield compare("a template that tune refuses", (1, ""), came[:2])
+
+
+def trials(program):
+    for plays in [templates, refusals, climbs, refused_climbs]:
+        with tempfile.TemporaryDirectory() as folder:
+            try:
+                for name, wrong in plays(Place(program, folder, {})):
+                    yield f"{plays.__name__}: {name}", wrong
+            except (OSError, ValueError, LookupError, subprocess.TimeoutExpired) as fault:
+                yield plays.__name__, [repr(fault)]
