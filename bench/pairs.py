@@ -13,6 +13,8 @@ import tempfile
 from author.lib.program import Rules
 from pmars.games import Game, fights_of
 
+from . import wide
+
 HERE = pathlib.Path(__file__).resolve().parent
 # In each folder, each warrior fights each other one.
 FOLDERS = {"examples": HERE.parent / "examples" / "warriors", "seen": HERE / "seen",
@@ -30,7 +32,8 @@ class WrongPoints(Exception):
 class Pair:
     """Two warriors, each a name and a load file, and the commands that play their series.
 
-    `best` has the least seconds of each program, `points` the candidate's points.
+    `best` has the least seconds of each program, `points` the candidate's points, and `outside` the
+    share of the turns of the first fight whose instruction has no class of its own.
     """
 
     def __init__(self, candidate, opponent, programs, folder):
@@ -43,6 +46,12 @@ class Pair:
         self.fights = min(MOST, max(FEWEST, int(FEWEST * FULL / max(seconds, 1e-3))))
         self.tune = game.tune_words(cwtune, fights_of(game.rules, SEED, self.fights))
         self.pmars = game.series_words(pmars, SEED, self.fights)
+        fight = wide.Fight(game.rules, (my_load, their_load), SEED)
+        fight.play()
+        self.outside = fight.outside()
+        _, came = processor_time(game.fight_words(cwtune, SEED, "c"))
+        if came != fight.result():
+            raise WrongPoints(f"{self.name}: cwtune has {came!r}, wide.py {fight.result()!r}")
 
     def play_tune(self):
         """Returns the seconds of the series by `cwtune tune`, and the candidate's points."""
@@ -102,12 +111,13 @@ def measured(warriors, programs, runs):
 
 def print_folder(name, cwtune, pmars, runs):
     """Prints a line per pair of warriors of a folder, the geometric mean and the least ratio."""
-    print(f"{name:<32}{'fights':>8}{'points':>8}{'ms':>10}{'pMARS ms':>10}{'ratio':>8}", flush=True)
+    heads = f"{'fights':>8}{'points':>8}{'wide':>8}{'ms':>10}{'pMARS ms':>10}{'ratio':>8}"
+    print(f"{name:<32}{heads}", flush=True)
     ratios = []
     for pair in measured(loads_of(cwtune, FOLDERS[name]), (cwtune, pmars), runs):
         mine, theirs = pair.best
         ratios.append(theirs / mine)
-        line = f"{pair.name:<32}{pair.fights:>8}{pair.points:>8}"
+        line = f"{pair.name:<32}{pair.fights:>8}{pair.points:>8}{pair.outside:>8.0%}"
         line += f"{mine * 1e3:>10.1f}{theirs * 1e3:>10.1f}"
         print(f"{line}{ratios[-1]:>8.2f}", flush=True)
     mean = math.exp(sum(map(math.log, ratios)) / len(ratios))
