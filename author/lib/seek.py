@@ -76,14 +76,19 @@ class Tunings:
 
 
 class Climb:
-    """A climb from a setting: where it is, and the total there, which is None at first."""
+    """A climb from a setting: where it is, and the total there, None if it does not assemble."""
 
     def __init__(self, tunings, setting):
         self.tunings, self.grid = tunings, tunings.grid
         self.setting, self.total = setting, None
 
     def go(self, choices):
-        """Tunes one choice of constants after the other until none of them gains."""
+        """Plays the fights of the first setting, and then tunes one choice of constants after the
+        other until none of them gains."""
+        alone = self.tunings.best(self.setting, ())
+        self.total = alone and alone[0]
+        told = f"total {self.total}" if alone else "does not assemble:"
+        print(f"start: {told} {self.grid.told(self.setting)}", file=sys.stderr, flush=True)
         idle = 0
         for free in itertools.cycle(choices):
             if idle == len(choices):
@@ -97,8 +102,8 @@ class Climb:
         if best is None:
             return False
         total, setting, fights = best
-        first, gains = self.total is None, self.total is None or total > self.total
-        gain = "" if first else f" (+{total - self.total})" if gains else ""
+        gains = self.total is None or total > self.total
+        gain = f" (+{total - (self.total or 0)})" if gains else ""
         if gains:
             self.setting, self.total = setting, total
         names = ",".join(self.grid.names[k] for k in free)
@@ -137,7 +142,6 @@ def seek(args, grid, tunings):
     try:
         for setting in starts_of(grid, args.starts, args.seed):
             climb = Climb(tunings, setting)
-            print(f"from {grid.told(setting)}", file=sys.stderr, flush=True)
             climb.go(choices)
             best = higher(best, climb)
         return best, ""
