@@ -60,8 +60,9 @@ def fight_end(text):
     return refused(f"Load opponent {load_fault(loaded)}")
 
 
-def cert_end(text):
-    """Returns how the check of a cut of `CERT` has to end: by its first malformed record."""
+def cert_end(text, share=""):
+    """Returns how the check of a cut of `CERT`, or of a share of it, has to end: by its first
+    malformed record."""
     records = [line for line in text.split(b"\n") if line]
     for row, record in enumerate(records):
         if not is_whole(row, record):
@@ -69,7 +70,7 @@ def cert_end(text):
     if len(records) < 2:
         return end(1, f"rejected row {len(records)} Malformed\n")
     if records == [line for line in CERT.split(b"\n") if line]:
-        return end(0, "accepted best 0 total 4\n")
+        return end(0, f"accepted {share}best 0 total 4\n")
     return end(1, "rejected row 0 RowCount\n")
 
 
@@ -126,9 +127,13 @@ def check_fight(program, text):
 
 
 def check_cert(program, text):
-    """Checks a cut of `CERT`. Returns what is wrong, in a list."""
-    words = ["check", *RULES, "imps.red", "both.csv", "x.cert", "dat.red", "imp.red"]
-    return compare("", cert_end(text), play(program, words, {**BENCHMARK, "x.cert": text}))[1]
+    """Checks a cut of `CERT`, and a share of it. Returns what is wrong, in a list."""
+    words = [*RULES, "imps.red", "both.csv", "x.cert", "dat.red", "imp.red"]
+    files = {**BENCHMARK, "x.cert": text}
+    whole = play(program, ["check", *words], files)
+    share = play(program, ["check", "--share=3/4", *words], files)
+    return [*compare("", cert_end(text), whole)[1],
+            *compare("", cert_end(text, "share 3/4 "), share)[1]]
 
 
 def main():

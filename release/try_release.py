@@ -28,11 +28,13 @@ COMMANDS = [("cwtune-scores a.cert fights.csv --template a.red", "best setting "
             ("cwtune-warrior a.red a.cert", ";redcode-94\n"),
             ("cwtune-holdout --rounds 2 a.red a.cert dwarf.red", "setting "),
             ("cwtune-spread --jobs 2 a.red fights.csv b.cert dwarf.red", "vectors 3\n"),
-            ("cwtune-files a.red a.cert", "a.red: template of 3 settings")]
+            ("cwtune-files a.red a.cert", "a.red: template of 3 settings"),
+            ("cwtune-vary dwarf.red", "step=4: line 12, "),
+            ("cwtune-seek a.red fights.csv dwarf.red", ";redcode-94\n")]
 COMPLETIONS = [("cwtune che", "check"), ("cwtune tune --ca", "--cache"),
                ("cwtune asm --se", "--setting"), ("cwtune check --pa", "--part"),
                ("cwtune fight --fi", "--first"), ("cwtune-scores --te", "--template"),
-               ("cwtune-spread --me", "--merge")]
+               ("cwtune-spread --me", "--merge"), ("cwtune-seek --st", "--starts")]
 
 
 def run(words, folder, path):

@@ -1,11 +1,9 @@
-"""Runs the parts of `cwtune-spread`, here or on other hosts. Each part writes files of its own."""
+"""Runs the pieces of `cwtune-spread`, here or on other hosts. Each writes files of its own."""
 import ctypes, pathlib, shutil, signal, subprocess
 
 from .endings import Fault
 
-JOB = """./cwtune tune --part={{}}/{parts} {options} t.red s.csv {{}}.{name}.cert {opponents} \
->{{}}.{name}.report 2>{{}}.{name}.fault; s=$?; touch {{}}.{name}.cert; \
-rm -f {{}}.{name}.cert.inputs; echo $s >{{}}.{name}.status; [ $s -le 3 ]"""
+JOB = "{words} >{piece}.report 2>{piece}.fault; s=$?; {after}echo $s >{piece}.status; [ $s -le 3 ]"
 PR_SET_PDEATHSIG = 1
 
 
@@ -15,11 +13,10 @@ def end_with_parent():
 
 
 class Here:
-    """Parts that run on this host, at most `jobs` side by side."""
+    """Pieces that run on this host, at most `jobs` side by side."""
 
-    def __init__(self, args, folder, options, todo):
-        self.folder, self.options = folder, options
-        self.jobs, self.todo, self.running = args.jobs, list(todo), {}
+    def __init__(self, args, folder, todo):
+        self.folder, self.jobs, self.todo, self.running = folder, args.jobs, list(todo), {}
 
     def are_running(self):
         while self.todo and len(self.running) < self.jobs:
@@ -29,15 +26,13 @@ class Here:
 
     def start(self, number):
         folder = self.folder
-        words = ["./cwtune", "tune", f"--part={number}/{folder.parts}", *self.options, "t.red",
-                 "s.csv", folder.file(number, "cert").name, *folder.names[3:]]
         with (folder.file(number, "report").open("wb") as report,
               folder.file(number, "fault").open("wb") as fault):
-            return subprocess.Popen(words, cwd=folder.path, stdin=subprocess.DEVNULL,
+            return subprocess.Popen(folder.words(number), cwd=folder.path, stdin=subprocess.DEVNULL,
                                     stdout=report, stderr=fault, preexec_fn=end_with_parent)
 
     def ended(self):
-        """Returns the parts that have ended since the last call, with their statuses."""
+        """Returns the pieces that have ended since the last call, with their statuses."""
         ended = [(n, job.returncode) for n, job in self.running.items() if job.poll() is not None]
         for number, _ in ended:
             del self.running[number]
@@ -50,20 +45,21 @@ class Here:
 
 
 class Hosts:
-    """Parts that GNU parallel runs on other hosts, over ssh and rsync."""
+    """Pieces that GNU parallel runs on other hosts, over ssh and rsync."""
 
-    def __init__(self, args, folder, options, todo):
+    def __init__(self, args, folder, todo):
         if not shutil.which("parallel"):
             raise Fault("--hosts needs GNU parallel (Debian package `parallel`)", 2)
         self.folder, self.todo, self.over = folder, list(todo), False
-        job = JOB.format(parts=folder.parts, options=" ".join(options), name=folder.name,
-                         opponents=" ".join(folder.names[3:]))
+        piece = f"{{}}.{folder.name}"
+        job = JOB.format(words=" ".join(folder.words("{}")), piece=piece,
+                         after=folder.AFTER.format(piece=piece))
         hosts = str(pathlib.Path(args.hosts).resolve(strict=True))
         words = ["parallel", "--will-cite", "--jobs", str(args.jobs), "--retries", "3",
                  "--sshloginfile", hosts, "--workdir", str(folder.path), "--cleanup"]
-        words += [word for name in folder.names for word in ("--basefile", name)]
-        words += [word for kind in ["cert", "report", "fault", "status"]
-                  for word in ("--return", f"{{}}.{folder.name}.{kind}")]
+        words += [word for copy in folder.copies for word in ("--basefile", copy.name)]
+        words += [word for kind in [*folder.KINDS, "status"]
+                  for word in ("--return", f"{piece}.{kind}")]
         self.parallel = subprocess.Popen([*words, job], cwd=folder.path, stdin=subprocess.PIPE,
                                          text=True, preexec_fn=end_with_parent)
         self.parallel.stdin.write("".join(f"{number}\n" for number in todo))
@@ -73,7 +69,7 @@ class Hosts:
         return not self.over
 
     def ended(self):
-        """Returns the parts that have ended since the last call, with their statuses."""
+        """Returns the pieces that have ended since the last call, with their statuses."""
         self.over = self.parallel.poll() is not None
         ended = [(n, int(s)) for n, s in zip(self.todo, map(self.status, self.todo)) if s]
         for number, _ in ended:
@@ -81,7 +77,7 @@ class Hosts:
         return ended
 
     def status(self, number):
-        """Returns the status that came back for a part, or nothing."""
+        """Returns the status that came back for a piece, or nothing."""
         path = self.folder.file(number, "status")
         text = path.read_text() if path.exists() else ""
         return text.strip() if text.endswith("\n") else ""

@@ -12,7 +12,7 @@ from author.lib.endings import Fault, run_tool
 from author.lib.program import program_of
 from gate.tally import compare, tally
 
-from . import origins, spreading, warriors
+from . import origins, sharing, spreading, varying, warriors
 from .commands import AUTHOR, TUNING, command, run, said
 
 EXPECTED = pathlib.Path(__file__).resolve().parent / "expected"
@@ -232,8 +232,8 @@ def main():
         for name, result in results.items():
             (EXPECTED / name).write_text(result, "utf-8")
     return tally([*stored(results), *helps(), *closed(), *refusals(rows, python), *signals(),
-                  *warriors.trials(program), *origins.trials(program),
-                  *spreading.trials(program)])
+                  *warriors.trials(program), *varying.trials(program), *origins.trials(program),
+                  *spreading.trials(program), *sharing.trials(program)])
 
 
 if __name__ == "__main__":

@@ -46,22 +46,28 @@ class Place(play.Place):
         """Returns the status of a check of CERT."""
         return self.run(["check", *words]).status
 
-    def done_parts(self):
-        return len(list(self.folder.glob("CERT.parts/*.done")))
+    def verdict(self, words):
+        """Returns the status of a check of CERT, and its line."""
+        came = self.run(["check", *words])
+        return came.status, came.out.decode()
 
-    def wait_for_parts(self, parts, job):
-        """Waits until so many parts are done, or the job has ended."""
-        while self.done_parts() < parts and job.poll() is None:
+    def done(self, kind="parts"):
+        """Returns how many parts are done, or how many shares."""
+        return len(list(self.folder.glob(f"CERT.{kind}/*.done")))
+
+    def wait_for(self, pieces, job, kind="parts"):
+        """Waits until `pieces` parts or shares are done, or the job has ended."""
+        while self.done(kind) < pieces and job.poll() is None:
             time.sleep(0.002)
 
-    def kill_at(self, parts, number, seconds, *words):
-        """Ends `cwtune-spread` by a signal, `seconds` after `parts` parts are done.
+    def kill_at(self, pieces, number, seconds, *words, kind="parts"):
+        """Ends `cwtune-spread` by a signal, `seconds` after `pieces` parts or shares are done.
 
         Returns what it said.
         """
         job = subprocess.Popen(self.words(words), cwd=self.folder, stdout=subprocess.DEVNULL,
                                stderr=subprocess.PIPE)
-        self.wait_for_parts(parts, job)
+        self.wait_for(pieces, job, kind)
         time.sleep(seconds)
         job.send_signal(number)
         return job.communicate()[1].decode()
@@ -71,7 +77,7 @@ class Place(play.Place):
         for _ in range(10):
             self.clear()
             said = self.kill_at(2, signal.SIGKILL, 0, "--jobs=1", "--parts=12", *DECOY)
-            if self.done_parts():
+            if self.done():
                 break
         else:
             raise ValueError(f"no kill left a part: {said}")
@@ -126,9 +132,9 @@ def other_inputs(place):
     ]:
         said = (f"error: the parts in CERT.parts are of other inputs ({other}): give --anew to "
                 "throw the parts away and begin again, or another CERT\n")
-        before = place.done_parts()
+        before = place.done()
         yield compare(f"parts of another {other} are refused", (2, "", said, before, None),
-                      (*place.spread(*words), place.done_parts(), place.read("CERT")))
+                      (*place.spread(*words), place.done(), place.read("CERT")))
     yield compare("so is another number of parts", 2, place.spread("--parts=7", *DECOY)[0])
     anew = place.spread("--anew", *turned)
     yield compare("--anew begins again", (0, False, 0),
@@ -174,7 +180,7 @@ def folders(place):
     (place.folder / "CERT.parts").unlink()
     job = subprocess.Popen(place.words(["--jobs=1", "--parts=12", *DECOY]), cwd=place.folder,
                            stdout=subprocess.DEVNULL)
-    place.wait_for_parts(1, job)
+    place.wait_for(1, job)
     job.send_signal(signal.SIGSTOP)
     said = "error: another cwtune-spread is at work in CERT.parts\n"
     yield compare("two at once", (2, "", said), place.spread(*DECOY))

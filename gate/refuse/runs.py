@@ -52,6 +52,9 @@ TEXTS = [
     (f"{CHECK} imps.cert dat.red imp.red", end(0, "accepted best 0 total 4\n")),
     (f"{CHECK} points.cert dat.red imp.red", end(1, "rejected row 4 WrongPoints\n")),
     (f"{CHECK} short.cert dat.red imp.red", end(1, "rejected row 0 RowCount\n")),
+    (f"{CHECK} --share=1/2 points.cert dat.red imp.red",
+     end(0, "accepted share 1/2 best 0 total 4\n")),
+    (f"{CHECK} --share=2/2 points.cert dat.red imp.red", end(1, "rejected row 4 WrongPoints\n")),
 ]
 
 

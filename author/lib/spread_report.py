@@ -1,0 +1,63 @@
+"""Puts the parts of a tuning together: the report and the certificate of the whole template."""
+from .endings import Fault
+
+
+def total_of(part):
+    return int(part.report["total"].split()[0])
+
+
+def best_of(parts):
+    """Returns the first of the parts with the greatest total."""
+    return max((part for part in parts if part.report), key=total_of)
+
+
+def index_of(part):
+    """Returns the index of the part's best setting within the whole template."""
+    return part.first + int(part.report["best"])
+
+
+def summed(parts, line, word):
+    return sum(int(part.report[line].split()[word]) for part in parts if part.report)
+
+
+def report_of(parts, count):
+    best = best_of(parts)
+    return [
+        f"vectors {count}",
+        f"candidates {summed(parts, 'candidates', 0)}",
+        f"best {index_of(best)}",
+        f"constants {best.report['constants']}",
+        f"total {best.report['total']}",
+        f"fights {summed(parts, 'fights', 0)} of {summed(parts, 'fights', 2)}",
+    ]
+
+
+def moved(part, row):
+    """Returns a row with its settings counted within the whole template."""
+    kind, setting, rest = row.split(",")
+    twin = str(int(rest) + part.first) if kind == "same" else rest
+    return f"{kind},{int(setting) + part.first},{twin}"
+
+
+def rows_of(folder, number, part):
+    """Yields the rows of a part. There has to be one for each of its settings."""
+    if not part.report:
+        yield from (f"refused,{v},-" for v in range(part.first, part.first + part.count))
+        return
+    head, _, *rows = folder.cert(number).read_text().splitlines()
+    if {head.split(",")[2], part.report["vectors"], str(len(rows))} != {str(part.count)}:
+        raise Fault(f"the certificate of part {number} has not {part.count} settings", 3)
+    for row in rows:
+        yield moved(part, row)
+
+
+def write_whole(folder, parts):
+    """Puts the certificate of the whole template together. `parts` are the parts by number."""
+    best = best_of(parts.values())
+    number = next(number for number, part in parts.items() if part is best)
+    with folder.cert(number).open() as file:
+        version = file.readline().split(",")[1]
+    with folder.whole().open("w") as file:
+        file.write(f"cwcert,{version},{folder.count}\nbest,{index_of(best)},{total_of(best)}\n")
+        for number, part in parts.items():
+            file.writelines(f"{row}\n" for row in rows_of(folder, number, part))

@@ -1,0 +1,125 @@
+"""The shares of a check by `cwtune-spread`, in the folder CERT.shares or beside CERT.
+
+Share I of K of a check looks at all of the certificate's form, and at the rows of its settings
+alone. A certificate is accepted exactly if all shares of one K accept it. `I.done` has the line
+that the check of share I printed.
+"""
+import csv, hashlib, pathlib, re
+
+from .endings import Fault
+from .program import rules_of
+from .spread_folder import Copy, Folder, copies_of
+
+ACCEPTED = re.compile(r"accepted share (\d+)/(\d+) best (\d+) total (\d+)\n")
+REJECTED = re.compile(r"rejected row (\d+) (\w+)\n")
+# Reasons of the form of a certificate and of its best row, which all shares find alike.
+OF_ALL = {"Malformed", "Version", "RowCount", "BestRow"}
+
+
+def is_verdict(line, status, number, shares):
+    """Returns whether a check of this share may print this line and end with this status."""
+    if accepted := ACCEPTED.fullmatch(line):
+        return status == 0 and accepted.group(1, 2) == (str(number), str(shares))
+    return status == 1 and REJECTED.fullmatch(line) is not None
+
+
+def verdict_of(lines, cert):
+    """Returns the line of the whole check from those of all shares.
+
+    Of several rejections it is the first in the order of a check: the refused and the cap rows come
+    before the rows that refer to others, so each share looks at its own in this order.
+    """
+    rejected = [REJECTED.fullmatch(line) for line in lines]
+    rejected = [(int(found[1]), found[2]) for found in rejected if found]
+    if rejected:
+        same = same_rows(cert) if len(rejected) > 1 else set()
+        row, reason = min(rejected, key=lambda it: (it[1] not in OF_ALL, it[0] in same, it[0]))
+        return f"rejected row {row} {reason}\n"
+    named = {ACCEPTED.fullmatch(line).group(3, 4) for line in lines}
+    if len(named) != 1:
+        raise Fault("the shares name different best settings", 3)
+    best, total = named.pop()
+    return f"accepted best {best} total {total}\n"
+
+
+def same_rows(cert):
+    """Returns the indices of the records that refer to another setting. Empty lines are none."""
+    with open(cert, encoding="utf-8-sig", errors="replace", newline="") as file:
+        records = (record for record in csv.reader(file) if record)
+        return {index for index, record in enumerate(records) if record[0] == "same"}
+
+
+class Jobs:
+    """The shares that the jobs of a cluster have written beside CERT.
+
+    Job I writes CERT.I.check: the SHA-256 digest of CERT, the line of the check, and the digest
+    again.
+    """
+
+    PIECE = "share"
+
+    def __init__(self, args, count):
+        self.told, self.count, self.pieces = args.cert, count, args.merge
+        with open(args.cert, "rb") as file:
+            self.digest = hashlib.file_digest(file, "sha256").hexdigest()
+
+    def piece(self, number):
+        """Returns the line of a share, or None if it has none of this certificate."""
+        try:
+            text = pathlib.Path(f"{self.told}.{number}.check").read_text()
+        except (FileNotFoundError, ValueError):
+            return None
+        before, *lines, after = [line + "\n" for line in text.split("\n")[:-1]] or ["", ""]
+        if not before.startswith(self.digest) or after != before or len(lines) != 1:
+            return None
+        status = 0 if ACCEPTED.fullmatch(lines[0]) else 1
+        return lines[0] if is_verdict(lines[0], status, number, self.pieces) else None
+
+    def see_the_same(self):
+        """Each job has seen it: it names the digest of CERT before and after its check."""
+
+    def end(self):
+        """Leaves the files of the jobs where they are."""
+
+
+class Shares(Folder):
+    """The folder CERT.shares, or another one."""
+
+    PIECE, INSTEAD = "share", "folder by --work"
+    UNFINISHED = r"\d+\.\d+\.\w+|.*\.\d+\.new"
+    OWN = rf"cwtune|[ts]\.(red|csv)|o\d+\.red|c\.cert|\d+\.done|{UNFINISHED}"
+    KINDS = ["report", "fault"]
+    AFTER = ""
+
+    def __init__(self, args, count, cert):
+        self.cert, self.rules = cert, rules_of(args)
+        copies = copies_of(args, Copy("certificate", "c.cert", cert))
+        pieces = args.shares or min(count, 8 * args.jobs)
+        super().__init__(args, args.work or f"{args.cert}.shares", copies,
+                         {"rules": self.rules._asdict()}, (pieces, count))
+        if args.shares and args.shares != self.pieces:
+            raise Fault(f"{self.told} has {self.pieces} shares: leave out --shares, or give --anew "
+                        "to throw them away and begin again", 2)
+
+    def words(self, number):
+        """Returns the words that check a share in the folder."""
+        return ["./cwtune", "check", f"--share={number}/{self.pieces}", *self.rules.words(),
+                "t.red", "s.csv", "c.cert", *self.opponents]
+
+    def keep(self, number, status):
+        """Keeps the line of a share, if that is a verdict. Returns the fault if it is not."""
+        line = self.file(number, "report").read_text(errors="replace")
+        if is_verdict(line, status, number, self.pieces):
+            self.write_done(number, line)
+            return None
+        fault = self.file(number, "fault").read_text(errors="surrogateescape")
+        return fault or f"failed: it ended with status {status}\n"
+
+    def piece(self, number):
+        """Returns the line of a share, or None if it is not done."""
+        return self.read_done(number)
+
+    def see_the_same(self):
+        """Refuses a certificate or another input that was changed while it was checked."""
+        if self.sources() != self.kept():
+            raise Fault("an input was changed during the check: repeat it with --anew", 3)

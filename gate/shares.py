@@ -1,0 +1,144 @@
+"""Checks certificates, whole ones and damaged ones, at once and in shares: python3 -m gate.shares
+[PROGRAM]
+
+All shares of one K have to accept a certificate exactly if the whole check does, with its best
+setting and total, and what they reject has to put together to its line. Each kind of damage is done
+to each row of the certificates of templates of at most six settings. Prints what failed, and as its
+last line `N passed, N failed`. The exit status is 1 if a check failed.
+"""
+import itertools, pathlib, sys, tempfile
+
+from author.lib.endings import run_tool
+from author.lib.program import program_of
+from author.lib.spread_shares import is_verdict, verdict_of
+
+from . import inputs
+from .inputs import RULES
+from .play import Place
+from .tally import compare, tally
+
+SHARES = [1, 2, 3, 7]
+# Templates with rows of all kinds: refused ones, and ones that share a warrior.
+TEMPLATES = {
+    "half.red": inputs.FILES["half.red"],
+    "tail.red": inputs.FILES["tail.red"],
+    "kinds.red": ";@tune K 0 5 1 4\nMOV 0, 1\nDAT 12/(K/2-1)\n",
+    "leaps.red": ";@tune K 0 5 1 5\nJMP K\nMOV 0, 1\nDAT 0\nJMP -1\n",
+}
+SCHEDULES = {
+    "both.csv": inputs.FILES["both.csv"],
+    "weights.csv": "opponent,position,first,weight\n0,4,c,1\n1,5,o,3\n1,6,c,2\n0,4,o,1\n",
+}
+METHODS = [["--all"], ["--cache=1"]]
+OPPONENTS = ["dat.red", "imp.red"]
+
+
+def tuned(place):
+    """Yields the words of a tuning, and its certificate."""
+    for template, schedule, method in itertools.product(TEMPLATES, SCHEDULES, METHODS):
+        words = [*RULES, template, schedule, "CERT", *OPPONENTS]
+        came = place.run(["tune", *method, *words], keep=True)
+        if came.status == 0:
+            yield words, place.read("CERT").decode()
+
+
+def damaged(text):
+    """Yields damaged certificates: each kind of damage to each record."""
+    records = text.splitlines()
+    for index, record in enumerate(records):
+        before, after = records[:index], records[index + 1:]
+        yield before + after
+        yield before + [record] + [record] + after
+        kind, *rest = record.split(",")
+        for other in DAMAGES[kind](*rest, len(records) - 2):
+            if other != record:
+                yield before + [other] + after
+
+
+def of_count(version, count, _):
+    return [f"cwcert,{3 - int(version)},{count}", f"cwcert,{version},{int(count) + 1}",
+            f"cwcert,{version},0{count}"]
+
+
+def of_best(best, total, count):
+    return [f"best,{(int(best) + 1) % count},{total}", f"best,{best},{int(total) + 1}",
+            f"best,{count},{total}", f"best,{best},"]
+
+
+def of_refused(setting, rest, count):
+    return [f"cap,{setting},-", f"same,{setting},{(int(setting) + 1) % count}",
+            f"refused,{int(setting) + 1},{rest}"]
+
+
+def of_same(setting, other, count):
+    return [f"cap,{setting},-", f"refused,{setting},-", f"same,{setting},{setting}",
+            f"same,{setting},{count}", *(f"same,{setting},{u}" for u in range(count))]
+
+
+def of_cap(setting, listing, count):
+    fights = [] if listing == "-" else listing.split(" ")
+    yield f"refused,{setting},-"
+    yield from (f"same,{setting},{u}" for u in range(count))
+    yield f"cap,{setting},-"
+    for k, fight in enumerate(fights):
+        index, points = fight.split(":")
+        others = [[f"{index}:{other}"] for other in (0, 1, 3)]
+        others += [[], [fight, fight], [f"{index}:2"], [f"{int(index) + 9}:{points}"]]
+        for other in others:
+            yield f"cap,{setting},{' '.join(fights[:k] + other + fights[k + 1:]) or '-'}"
+    if len(fights) > 1:
+        yield f"cap,{setting},{' '.join(reversed(fights))}"
+
+
+DAMAGES = {"cwcert": of_count, "best": of_best, "refused": of_refused, "same": of_same,
+           "cap": of_cap}
+
+
+def in_shares(place, words, shares):
+    """Returns the line and the status of a check in shares, as `cwtune-spread` puts them together,
+    or what a share printed in place of a verdict."""
+    lines = []
+    for number in range(1, shares + 1):
+        came = place.start(["check", f"--share={number}/{shares}", *words])
+        line = came.communicate()[0].decode()
+        if not is_verdict(line, came.returncode, number, shares):
+            return line, came.returncode
+        lines.append(line)
+    line = verdict_of(lines, place.folder / "CERT")
+    return line, 0 if line.startswith("accepted") else 1
+
+
+def whole(place, words):
+    """Returns the line and the status of the whole check."""
+    came = place.start(["check", *words])
+    return came.communicate()[0].decode(), came.returncode
+
+
+def trials(place):
+    """Yields for each certificate how its checks in shares differ from its whole check."""
+    certificates = list(tuned(place))
+    yield compare("certificates of all templates", len(TEMPLATES) * len(SCHEDULES) * len(METHODS),
+                  len(certificates))
+    accepted = rejected = 0
+    for words, text in certificates:
+        tried = {tuple(text.splitlines())} | {tuple(records) for records in damaged(text)}
+        for records in sorted(tried):
+            place.write("CERT", "".join(f"{record}\n" for record in records))
+            wanted = whole(place, words)
+            accepted, rejected = accepted + (wanted[1] == 0), rejected + (wanted[1] == 1)
+            came = {k: in_shares(place, words, k) for k in [*SHARES, len(records) + 3]}
+            yield compare(f"{' '.join(words)}: {' '.join(records)}", dict.fromkeys(came, wanted),
+                          came)
+    yield compare("some are accepted and at least 200 rejected", (True, True),
+                  (accepted >= len(certificates), rejected >= 200))
+
+
+def main():
+    program = program_of(sys.argv[1:])
+    files = inputs.files(*OPPONENTS) | TEMPLATES | SCHEDULES
+    with tempfile.TemporaryDirectory() as folder:
+        return tally(trials(Place(program, pathlib.Path(folder), files)))
+
+
+if __name__ == "__main__":
+    run_tool(main)
