@@ -1,6 +1,5 @@
 pub mod Parts
-pub mod Steps
-pub mod Whole
+pub mod LabelSteps
 pub mod LoadFile
 pub mod Outcomes
-pub mod FormFaults
+pub mod Numbers

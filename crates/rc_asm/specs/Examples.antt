@@ -1,6 +1,6 @@
 -- The definitions at concrete texts, computed.
-use Rattle.std.specs.Prelude.{◌≡◌, refl, ℕ, ℤ, pos, Bool, true, List, [], ◌∷◌, ◌++◌, codes, Option, Some, option_map, option_and_then}
-use Rattle.std.specs.Result.{result_ok}
+use Rattle.std.specs.Prelude.{◌≡◌, refl, ℕ, ℤ, pos, List, [], ◌∷◌, ◌++◌, codes, Option, Some, option_map, Result}
+use Rattle.std.specs.Result.{result_ok, result_err}
 use Rattle.rc_text.specs.Reading.{before_operand, after_operand}
 use Rattle.rc_instr.specs.Rules.{RulesView, rules_view}
 use Rattle.rc_instr.specs.DefaultModifier.{default_modifier_of}
@@ -29,83 +29,83 @@ use Rattle.rc_asm.specs.Words.{opcode_at, modifier_at}
 use Rattle.rc_asm.specs.Shape.{parts, with_operands, with_modifier, after_opcode, shape_of}
 use Rattle.rc_asm.specs.Names.{stands_for, names_of}
 use Rattle.rc_asm.specs.Instructions.{core_number, operand_at, instruction_of_parts, instruction_of_shape, instruction_at}
-use Rattle.rc_asm.specs.Lines.{instructions_from, holds_from, starts_from, start_value, no_starts}
-use Rattle.rc_asm.specs.Faults.{at_line, lines_fault}
+use Rattle.rc_asm.specs.Faults.{at_line}
+use Rattle.rc_asm.specs.Lines.{ReadingView, nothing_read, start_value, after_line, after_lines}
+use Rattle.rc_asm.specs.Assembly.{expand_fault, outcome_of}
+use Rattle.rc_instr.specs.Results.{with_fault, ◌>>=◌}
+use Rattle.rc_instr.specs.Checks.{warrior_of}
 
 -- The lines, each with a line feed.
 abbrev text_of : List (List ℕ) → List ℕ
 text_of [] = []
 text_of (l ∷ ls) = l ++ (10 ∷ text_of ls)
 
--- The instructions, whether all assertions hold, and the start.
-abbrev Shown : Type 0
-Shown = Option (List Instruction) × Bool × Option ℤ
+-- What the lines of a text give.
+abbrev reading_of : RulesView → List (List ℕ) → Result ReadingView AsmFault
+reading_of rules ls = do
+  lines ← with_fault expand_fault (expansion_of (text_of ls) [] rules)
+  after_lines (text_of ls) (names_of (text_of ls) [] rules lines) lines nothing_read
 
-abbrev shown_lines : RulesView → List ℕ → List Line → Shown
-shown_lines rules text lines =
-    let names = names_of text [] rules lines in
-    (instructions_from text names 0 lines, holds_from text names 0 lines, option_map start_value (starts_from text names 0 no_starts lines))
-
-abbrev shown : RulesView → List (List ℕ) → Option Shown
-shown rules ls = option_map (shown_lines rules (text_of ls)) (result_ok (expansion_of (text_of ls) [] rules))
+-- The instructions and the start.
+abbrev shown : RulesView → List (List ℕ) → Option (List Instruction × ℤ)
+shown rules ls = option_map (λ r. (r.code, start_value r.starts)) (result_ok (reading_of rules ls))
 
 abbrev code_of : List (List ℕ) → Option (List Instruction)
-code_of ls = option_and_then (λ s. s.0) (shown (rules_view 16 20 4 4 4) ls)
+code_of ls = option_map (λ s. s.0) (shown (rules_view 16 20 4 4 4) ls)
 
 abbrev fault_of : List (List ℕ) → Option AsmFault
-fault_of ls = option_and_then (λ lines. lines_fault (text_of ls) (names_of (text_of ls) [] (rules_view 16 20 4 4 4) lines) lines) (result_ok (expansion_of (text_of ls) [] (rules_view 16 20 4 4 4)))
+fault_of ls = result_err (outcome_of (text_of ls) [] (rules_view 16 20 4 4 4))
 
 abbrev i : Opcode → Modifier → Mode → ℕ → Mode → ℕ → Instruction
 i o m a x b y = record { opcode = o; modifier = m; a_mode = a; a_number = x; b_mode = b; b_number = y }
 
 -- An EQU name stands for tokens, not for a value; the one operand of DAT is its B-operand.
-with_equ : shown (rules_view 16 20 4 4 4) (codes "s EQU 2+3" ∷ codes "DAT #0, #s*2" ∷ []) ≡ Some (Some (i op.Dat mod'.F mode.Immediate 0 mode.Immediate 8 ∷ []), true, Some (pos 0))
-unfolding opcode_at modifier_at parts with_operands with_modifier after_opcode shape_of stands_for given_names core_number operand_at instruction_of_parts instruction_of_shape instruction_at default_modifier_of expansion_of heads_of equs_of line_of replaced unrolled is_taken count_of opening copied_line replaced_tokens is_free is_opcode word_of_name head_of is_opcode_word before_operand after_operand
+with_equ : shown (rules_view 16 20 4 4 4) (codes "s EQU 2+3" ∷ codes "DAT #0, #s*2" ∷ []) ≡ Some (i op.Dat mod'.F mode.Immediate 0 mode.Immediate 8 ∷ [], pos 0)
+unfolding after_line outcome_of warrior_of opcode_at modifier_at parts with_operands with_modifier after_opcode shape_of stands_for given_names core_number operand_at instruction_of_parts instruction_of_shape instruction_at default_modifier_of expansion_of heads_of equs_of line_of replaced unrolled is_taken count_of opening copied_line replaced_tokens is_free is_opcode word_of_name head_of is_opcode_word before_operand after_operand
 with_equ = refl
 
 -- Division rounds toward zero; a number is taken modulo the core size.
 negative_number : code_of (codes "DAT #-7/2" ∷ []) ≡ Some (i op.Dat mod'.F mode.Direct 0 mode.Immediate 13 ∷ [])
-unfolding opcode_at modifier_at parts with_operands with_modifier after_opcode shape_of stands_for given_names core_number operand_at instruction_of_parts instruction_of_shape instruction_at default_modifier_of expansion_of heads_of equs_of line_of replaced unrolled is_taken count_of opening copied_line replaced_tokens is_free is_opcode word_of_name head_of is_opcode_word before_operand after_operand
+unfolding after_line outcome_of warrior_of opcode_at modifier_at parts with_operands with_modifier after_opcode shape_of stands_for given_names core_number operand_at instruction_of_parts instruction_of_shape instruction_at default_modifier_of expansion_of heads_of equs_of line_of replaced unrolled is_taken count_of opening copied_line replaced_tokens is_free is_opcode word_of_name head_of is_opcode_word before_operand after_operand
 negative_number = refl
 
 -- A name with a joined counter can be a label; in an operand a label is a distance.
 joined_names : code_of (codes "i FOR 2" ∷ codes "x&i DAT #i" ∷ codes "ROF" ∷ codes "JMP x01" ∷ [])
     ≡ Some (i op.Dat mod'.F mode.Direct 0 mode.Immediate 1 ∷ i op.Dat mod'.F mode.Direct 0 mode.Immediate 2 ∷ i op.Jmp mod'.B mode.Direct 14 mode.Direct 0 ∷ [])
-unfolding opcode_at modifier_at parts with_operands with_modifier after_opcode shape_of stands_for given_names core_number operand_at instruction_of_parts instruction_of_shape instruction_at default_modifier_of expansion_of heads_of equs_of line_of replaced unrolled is_taken count_of opening copied_line replaced_tokens is_free is_opcode word_of_name head_of is_opcode_word before_operand after_operand
+unfolding after_line outcome_of warrior_of opcode_at modifier_at parts with_operands with_modifier after_opcode shape_of stands_for given_names core_number operand_at instruction_of_parts instruction_of_shape instruction_at default_modifier_of expansion_of heads_of equs_of line_of replaced unrolled is_taken count_of opening copied_line replaced_tokens is_free is_opcode word_of_name head_of is_opcode_word before_operand after_operand
 joined_names = refl
 
 -- Default modifiers, and CMP as SEQ.
 default_modifiers : code_of (codes "mov #1, 2" ∷ codes "add 1, #2" ∷ codes "cmp 1, 2" ∷ codes "slt #1, 2" ∷ [])
     ≡ Some (i op.Mov mod'.AB mode.Immediate 1 mode.Direct 2 ∷ i op.Add mod'.B mode.Direct 1 mode.Immediate 2 ∷ i op.Seq mod'.I mode.Direct 1 mode.Direct 2 ∷ i op.Slt mod'.AB mode.Immediate 1 mode.Direct 2 ∷ [])
-unfolding opcode_at modifier_at parts with_operands with_modifier after_opcode shape_of stands_for given_names core_number operand_at instruction_of_parts instruction_of_shape instruction_at default_modifier_of expansion_of heads_of equs_of line_of replaced unrolled is_taken count_of opening copied_line replaced_tokens is_free is_opcode word_of_name head_of is_opcode_word before_operand after_operand
+unfolding after_line outcome_of warrior_of opcode_at modifier_at parts with_operands with_modifier after_opcode shape_of stands_for given_names core_number operand_at instruction_of_parts instruction_of_shape instruction_at default_modifier_of expansion_of heads_of equs_of line_of replaced unrolled is_taken count_of opening copied_line replaced_tokens is_free is_opcode word_of_name head_of is_opcode_word before_operand after_operand
 default_modifiers = refl
 
 -- Precedence, comparison and negation.
 expressions : code_of (codes "DAT 2+3*4, (1<2)+!0" ∷ []) ≡ Some (i op.Dat mod'.F mode.Direct 14 mode.Direct 2 ∷ [])
-unfolding opcode_at modifier_at parts with_operands with_modifier after_opcode shape_of stands_for given_names core_number operand_at instruction_of_parts instruction_of_shape instruction_at default_modifier_of expansion_of heads_of equs_of line_of replaced unrolled is_taken count_of opening copied_line replaced_tokens is_free is_opcode word_of_name head_of is_opcode_word before_operand after_operand
+unfolding after_line outcome_of warrior_of opcode_at modifier_at parts with_operands with_modifier after_opcode shape_of stands_for given_names core_number operand_at instruction_of_parts instruction_of_shape instruction_at default_modifier_of expansion_of heads_of equs_of line_of replaced unrolled is_taken count_of opening copied_line replaced_tokens is_free is_opcode word_of_name head_of is_opcode_word before_operand after_operand
 expressions = refl
 
 -- A warrior with a header, an assertion, EQU, labels, ORG and END.
 dwarf : shown (rules_view 8000 80000 8000 100 100) (codes "From: a mail header" ∷ codes ";redcode-94" ∷ codes ";assert CORESIZE % 4 == 0" ∷ codes "step EQU 4" ∷ codes "  ORG start" ∷ codes "bomb DAT #0, #0" ∷ codes "start ADD #step, bomb" ∷ codes "  MOV bomb, @bomb" ∷ codes "  JMP start" ∷ codes "  END" ∷ [])
     ≡ Some (
-      Some (i op.Dat mod'.F mode.Immediate 0 mode.Immediate 0 ∷ i op.Add mod'.AB mode.Immediate 4 mode.Direct 7999 ∷ i op.Mov mod'.I mode.Direct 7998 mode.BIndirect 7998 ∷ i op.Jmp mod'.B mode.Direct 7998 mode.Direct 0 ∷ []),
-      true,
-      Some (pos 1),
+      i op.Dat mod'.F mode.Immediate 0 mode.Immediate 0 ∷ i op.Add mod'.AB mode.Immediate 4 mode.Direct 7999 ∷ i op.Mov mod'.I mode.Direct 7998 mode.BIndirect 7998 ∷ i op.Jmp mod'.B mode.Direct 7998 mode.Direct 0 ∷ [],
+      pos 1,
     )
-unfolding opcode_at modifier_at parts with_operands with_modifier after_opcode shape_of stands_for given_names core_number operand_at instruction_of_parts instruction_of_shape instruction_at default_modifier_of expansion_of heads_of equs_of line_of replaced unrolled is_taken count_of opening copied_line replaced_tokens is_free is_opcode word_of_name head_of is_opcode_word before_operand after_operand
+unfolding after_line outcome_of warrior_of opcode_at modifier_at parts with_operands with_modifier after_opcode shape_of stands_for given_names core_number operand_at instruction_of_parts instruction_of_shape instruction_at default_modifier_of expansion_of heads_of equs_of line_of replaced unrolled is_taken count_of opening copied_line replaced_tokens is_free is_opcode word_of_name head_of is_opcode_word before_operand after_operand
 dwarf = refl
 
 -- A malformed line is reported before an earlier line whose expression has no value.
 form_before_value : fault_of (codes "DAT x" ∷ codes "MOV 1" ∷ []) ≡ Some (at_line 2 MissingOperand)
-unfolding opcode_at modifier_at parts with_operands with_modifier after_opcode shape_of stands_for given_names core_number operand_at instruction_of_parts instruction_of_shape instruction_at default_modifier_of expansion_of heads_of equs_of line_of replaced unrolled is_taken count_of opening copied_line replaced_tokens is_free is_opcode word_of_name head_of is_opcode_word before_operand after_operand
+unfolding after_line outcome_of warrior_of opcode_at modifier_at parts with_operands with_modifier after_opcode shape_of stands_for given_names core_number operand_at instruction_of_parts instruction_of_shape instruction_at default_modifier_of expansion_of heads_of equs_of line_of replaced unrolled is_taken count_of opening copied_line replaced_tokens is_free is_opcode word_of_name head_of is_opcode_word before_operand after_operand
 form_before_value = refl
 
 -- A second comma is reported before a missing operand.
 two_commas : fault_of (codes "MOV ,," ∷ []) ≡ Some (at_line 1 ExtraText)
-unfolding opcode_at modifier_at parts with_operands with_modifier after_opcode shape_of stands_for given_names core_number operand_at instruction_of_parts instruction_of_shape instruction_at default_modifier_of expansion_of heads_of equs_of line_of replaced unrolled is_taken count_of opening copied_line replaced_tokens is_free is_opcode word_of_name head_of is_opcode_word before_operand after_operand
+unfolding after_line outcome_of warrior_of opcode_at modifier_at parts with_operands with_modifier after_opcode shape_of stands_for given_names core_number operand_at instruction_of_parts instruction_of_shape instruction_at default_modifier_of expansion_of heads_of equs_of line_of replaced unrolled is_taken count_of opening copied_line replaced_tokens is_free is_opcode word_of_name head_of is_opcode_word before_operand after_operand
 two_commas = refl
 
 -- A name without a value.
 unknown_name : fault_of (codes "NOP" ∷ codes "DAT x" ∷ []) ≡ Some (at_line 2 (Value UnknownName))
-unfolding opcode_at modifier_at parts with_operands with_modifier after_opcode shape_of stands_for given_names core_number operand_at instruction_of_parts instruction_of_shape instruction_at default_modifier_of expansion_of heads_of equs_of line_of replaced unrolled is_taken count_of opening copied_line replaced_tokens is_free is_opcode word_of_name head_of is_opcode_word before_operand after_operand
+unfolding after_line outcome_of warrior_of opcode_at modifier_at parts with_operands with_modifier after_opcode shape_of stands_for given_names core_number operand_at instruction_of_parts instruction_of_shape instruction_at default_modifier_of expansion_of heads_of equs_of line_of replaced unrolled is_taken count_of opening copied_line replaced_tokens is_free is_opcode word_of_name head_of is_opcode_word before_operand after_operand
 unknown_name = refl

@@ -11,7 +11,7 @@ use Rattle.rc_instr.specs.DefaultModifier.{default_modifier_of}
 use Rattle.rc_asm.specs.declared.fault.AsmKind.{AsmKind}
 use Rattle.rc_asm.specs.declared.fault.AsmKind.TheVariants.{Value}
 use Rattle.rc_asm.specs.declared.operand.Operand.{Operand}
-use Rattle.rc_expand.specs.Results.{mapped, with_fault, ◌>>=◌}
+use Rattle.rc_instr.specs.Results.{mapped, with_fault, ◌>>=◌}
 use Rattle.rc_asm.specs.Words.{mode_at}
 use Rattle.rc_asm.specs.Names.{NameValues, value_at}
 use Rattle.rc_asm.specs.Shape.{Shape, shape_of}

@@ -6,9 +6,8 @@ pub mod Words
 pub mod Shape
 pub mod Names
 pub mod Instructions
-pub mod Lines
 pub mod Faults
+pub mod Lines
 pub mod Assembly
 pub mod Seen
-pub mod Steps
 pub mod Examples

@@ -1,6 +1,6 @@
 -- The values of names in expressions (labels: 1994 draft; predefined names: pMARS). The address of
 -- a line is the number of lines of code before it.
-use Rattle.std.specs.Prelude.{ℕ, ◌+◌, ℤ, pos, ◌-ℤ◌, List, [], ◌∷◌, ◌++◌, map, Option, Some, Result, if◌then◌else◌, option_map}
+use Rattle.std.specs.Prelude.{◌≡◌, ℕ, ◌+◌, ℤ, pos, ◌-ℤ◌, List, [], ◌∷◌, ◌++◌, map, Option, Some, Result, if◌then◌else◌, option_map}
 use Rattle.std.specs.Option.{option_or}
 use Rattle.std.specs.Str.{bytes_eq}
 use Rattle.rc_text.specs.declared.token.Token.{Token}
@@ -29,6 +29,10 @@ labels_from source address (l ∷ ls) = map (λ t. (name_of source t, address)) 
 
 abbrev pub labels_of : List ℕ → List Line → Labels
 labels_of source lines = labels_from source 0 lines
+
+-- Both lists give every name the same address.
+abbrev pub Agree : Labels → Labels → Type 0
+Agree a b = (name : List ℕ) → entry_of a name ≡ entry_of b name
 
 -- What gives names their values: the constants, the rules, and the addresses of labels.
 pub record NameValues : Type 0 where

@@ -9,7 +9,7 @@ use Rattle.rc_instr.specs.declared.instruction.Opcode.TheVariants.{Dat, Jmp, Spl
 use Rattle.rc_instr.specs.declared.instruction.Modifier.{Modifier}
 use Rattle.rc_asm.specs.declared.fault.AsmKind.{AsmKind}
 use Rattle.rc_asm.specs.declared.fault.AsmKind.TheVariants.{UnknownOpcode, MissingOperand, ExtraText}
-use Rattle.rc_expand.specs.Results.{mapped, ◌>>=◌}
+use Rattle.rc_instr.specs.Results.{mapped, ◌>>=◌}
 use Rattle.rc_asm.specs.Words.{is_comma, opcode_at, modifier_at}
 
 -- The parts between commas; there is at least one.

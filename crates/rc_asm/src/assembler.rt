@@ -1,25 +1,20 @@
 //! The assembler: expansion, the values of the lines, their forms if that fails, and the warrior.
-ghost use Rattle.std.specs.Prelude.{◌≡◌, ◌≢◌, ◌↔◌, ◌<◌, ◌^◌, ◌-◌, ℕ, pos, All, IfErr, IfOk, MatchResult, Some, None, Ok, Err};
-ghost use Rattle.std.specs.Option.{option_or};
+ghost use Rattle.std.specs.Prelude.{◌≡◌, ◌↔◌, ℕ, pos, ◌<◌, ◌-◌, ◌^◌};
 ghost use Rattle.rc_expand.specs.Names.{table_in};
-ghost use Rattle.rc_instr.specs.Warrior.{IsBelow, IsWarrior, Fits};
-ghost use Rattle.rc_instr.specs.Rules.{IsRules};
-ghost use Rattle.rc_asm.specs.Steps.{IsStarted, IsWarriorFault, IsFaultOfLines};
-ghost use Rattle.rc_asm.specs.Names.{names_of};
+ghost use Rattle.rc_asm.specs.Faults.{Returns};
 ghost use Rattle.rc_asm.specs.Lines.{start_value};
-ghost use Rattle.rc_asm.specs.Assembly.{IsMadeOf, IsOutcome, outcome_of};
-ghost use Rattle.rc_asm.specs.Faults.{forms_fault};
-ghost use Rattle.rc_asm.specs.Seen.{seen_names};
-ghost use Rattle.rc_asm.specs.declared.fault.AsmKind.TheVariants.{OutOfMemory};
+ghost use Rattle.rc_asm.specs.Names.{names_of};
+ghost use Rattle.rc_asm.specs.Assembly.{warrior_of_reading, warrior_of_lines, outcome_of_lines, outcome_of};
+ghost use Rattle.rc_asm.specs.Seen.{seen_names, seen_reading};
 
-use crate::fault::{AsmFault, AsmKind, of_expansion};
+use crate::fault::{AsmFault, AsmKind, at_line, of_expansion};
 use crate::forms::check_forms;
 use crate::labels::Labels;
 use crate::reading::{Reading, read_lines};
 use crate::scope::Context;
 use crate::starts::Starts;
 use rc_expand::{Constants, GivenNames, Line, expand};
-use rc_instr::{Rules, Warrior, WarriorError};
+use rc_instr::{Rules, Warrior};
 use std::alloc::Global;
 
 // The bytes of a text, named as in `specs/Limits.antt`.
@@ -52,87 +47,21 @@ const MOST_BYTES: usize = 65_536;
 /// - `Warrior`, at line 0: no instruction, more than the rules allow, or a start outside the code.
 ///
 /// `OutOfMemory`, at line 0, can come at any point.
+#[tactic(auto, unfolding(crate::specs::Assembly::outcome_of))]
 pub fn assemble(
     alloc: Global,
     source: &[u8],
     constants: &Constants,
     rules: &Rules,
 ) -> Result<Warrior, AsmFault>
-    // Unless memory runs out, the result is the warrior of the definition, or the first fault.
-    ensures outcome { IsOutcome (outcome_of source.now (table_in constants.now) rules.now) result }
-    ensures is_warrior { IfOk result IsWarrior }
-    ensures fits { IfOk result (Fits rules.now) }
-    ensures memory { IfErr result (λ f. f.kind ≡ OutOfMemory → f.line ≡ 0) }
+    ensures { Returns (λ w. w) result (outcome_of source.now (table_in constants.now) rules.now) }
 {
     if source.len() > MOST_BYTES {
-        return Err(AsmFault {
-            line: 0,
-            kind: AsmKind::TextTooLong,
-        });
+        return Err(at_line(0, AsmKind::TextTooLong));
     }
     match expand(alloc, source, constants, rules) {
         Ok(expanded) => assemble_lines(alloc, source, constants, rules, expanded.lines.as_slice()),
         Err(fault) => Err(of_expansion(fault)),
-    }
-}
-
-// A start below 0 or above u32 becomes u32::MAX: no code is that long, so `try_new` says BadStart.
-fn start_number(starts: &Starts) -> u32
-    ensures { (k : ℕ) → k < 2 ^ 32 - 1 → (start_value starts.now ≡ pos k) ↔ (result ≡ k) }
-{
-    match u32::try_from(starts.value()) {
-        Ok(start) => start,
-        Err(_) => u32::MAX,
-    }
-}
-
-fn warrior_of(reading: Reading, rules: &Rules) -> Result<Warrior, WarriorError>
-    requires below { All (IsBelow rules.now.core) reading.code.items }
-    requires rules { IsRules rules.now }
-    ensures started { IfOk result (IsStarted rules.now reading.code.items reading.starts) }
-    ensures warrior { IfOk result IsWarrior }
-    ensures fits { IfOk result (Fits rules.now) }
-    ensures refused { IfErr result (λ e. IsWarriorFault e rules.now reading.code.items reading.starts) }
-{
-    let Reading { code, starts } = reading;
-    match Warrior::try_new(code, start_number(&starts), rules) {
-        Ok(warrior) => Ok(warrior),
-        Err(refused) => Err(refused.error),
-    }
-}
-
-// The values of the lines and the warrior. A fault is the first one if all lines are well formed.
-fn assemble_with(
-    alloc: Global,
-    source: &[u8],
-    context: &Context,
-    lines: &[Line],
-) -> Result<Warrior, AsmFault>
-    ensures made { IfOk result (IsMadeOf source.now (seen_names context.now) lines.now) }
-    ensures warrior { IfOk result IsWarrior }
-    ensures fits { IfOk result (Fits context.now.given.now.rules.now) }
-    ensures refused { IfErr result (λ f. f.kind ≢ OutOfMemory → forms_fault source.now lines.now ≡ None → IsFaultOfLines source.now (seen_names context.now) lines.now f) }
-    ensures memory { IfErr result (λ f. f.kind ≡ OutOfMemory → f.line ≡ 0) }
-{
-    prove!(0 < context.given.rules.core());
-    let reading = read_lines(alloc, source, context, lines)?;
-    match warrior_of(reading, context.given.rules) {
-        Ok(warrior) => Ok(warrior),
-        Err(error) => Err(AsmFault {
-            line: 0,
-            kind: AsmKind::Warrior(error),
-        }),
-    }
-}
-
-// Returns the fault of the first line that is malformed, or else `found`.
-fn first_fault(source: &[u8], lines: &[Line], found: AsmFault) -> AsmFault
-    ensures fault { Some result ≡ option_or (forms_fault source.now lines.now) (Some found) }
-    ensures memory { (found.kind ≡ OutOfMemory → found.line ≡ 0) → result.kind ≡ OutOfMemory → result.line ≡ 0 }
-{
-    match check_forms(source, lines) {
-        Ok(()) => found,
-        Err(malformed) => malformed,
     }
 }
 
@@ -145,12 +74,7 @@ fn assemble_lines(
     rules: &Rules,
     lines: &[Line],
 ) -> Result<Warrior, AsmFault>
-    ensures made { IfOk result (IsMadeOf source.now (names_of source.now (table_in constants.now) rules.now lines.now) lines.now) }
-    ensures warrior { IfOk result IsWarrior }
-    ensures fits { IfOk result (Fits rules.now) }
-    ensures refused { IfErr result (λ f. f.kind ≢ OutOfMemory →
-        IsFaultOfLines source.now (names_of source.now (table_in constants.now) rules.now lines.now) lines.now f) }
-    ensures memory { IfErr result (λ f. f.kind ≡ OutOfMemory → f.line ≡ 0) }
+    ensures { Returns (λ w. w) result (outcome_of_lines source.now (names_of source.now (table_in constants.now) rules.now lines.now) lines.now) }
 {
     let labels = Labels::of_lines(alloc, source, lines)?;
     let given = GivenNames { constants, rules };
@@ -160,6 +84,45 @@ fn assemble_lines(
     };
     match assemble_with(alloc, source, &context, lines) {
         Ok(warrior) => Ok(warrior),
-        Err(found) => Err(first_fault(source, lines, found)),
+        Err(found) => match check_forms(source, lines) {
+            Ok(()) => Err(found),
+            Err(malformed) => Err(malformed),
+        },
+    }
+}
+
+// Makes the warrior of lines that are well formed.
+fn assemble_with(
+    alloc: Global,
+    source: &[u8],
+    context: &Context,
+    lines: &[Line],
+) -> Result<Warrior, AsmFault>
+    ensures { Returns (λ w. w) result (warrior_of_lines source.now (seen_names context.now) lines.now) }
+{
+    prove!(0 < context.given.rules.core());
+    let reading = read_lines(alloc, source, context, lines)?;
+    warrior_of(reading, context.given.rules)
+}
+
+// Makes the warrior of what was read.
+fn warrior_of(reading: Reading, rules: &Rules) -> Result<Warrior, AsmFault>
+    ensures { Returns (λ w. w) result (warrior_of_reading rules.now (seen_reading reading)) }
+{
+    prove!(0 < rules.length());
+    let Reading { code, starts } = reading;
+    match Warrior::try_new(code, start_number(&starts), rules) {
+        Ok(warrior) => Ok(warrior),
+        Err(refused) => Err(at_line(0, AsmKind::Warrior(refused.error))),
+    }
+}
+
+// A start below 0 or above u32 becomes u32::MAX: no code is that long, so `try_new` says BadStart.
+fn start_number(starts: &Starts) -> u32
+    ensures { (k : ℕ) → k < 2 ^ 32 - 1 → (start_value starts.now ≡ pos k) ↔ (result ≡ k) }
+{
+    match u32::try_from(starts.value()) {
+        Ok(start) => start,
+        Err(_) => u32::MAX,
     }
 }

@@ -1,8 +1,7 @@
 //! Why a text does not assemble, and where.
-ghost use Rattle.std.specs.Prelude.{◌≡◌, ◌≢◌};
-ghost use Rattle.rc_asm.specs.declared.fault.AsmKind.TheVariants.{OutOfMemory, Expand};
+ghost use Rattle.std.specs.Prelude.{◌≡◌};
 ghost use Rattle.rc_asm.specs.Faults.{at_line};
-ghost use Rattle.rc_expand.specs.declared.fault.ExpandKind.TheVariants.{OutOfMemory as NoMemory};
+ghost use Rattle.rc_asm.specs.Assembly.{expand_fault};
 
 use rc_expand::{ExpandFault, ExpandKind};
 use rc_instr::WarriorError;
@@ -63,28 +62,6 @@ impl From<EvalFault> for AsmKind {
     }
 }
 
-impl From<AllocError> for AsmKind {
-    ghost use Rattle.std.specs.Prelude.{◌≡◌};
-    ghost use Rattle.rc_asm.specs.declared.fault.AsmKind.TheVariants.{OutOfMemory};
-
-    ghost from_gives = { λ _ k. k ≡ OutOfMemory };
-
-    fn from(_refused: AllocError) -> Self {
-        AsmKind::OutOfMemory
-    }
-}
-
-impl<T: Drop> From<AllocFailed<T>> for AsmKind {
-    ghost use Rattle.std.specs.Prelude.{◌≡◌};
-    ghost use Rattle.rc_asm.specs.declared.fault.AsmKind.TheVariants.{OutOfMemory};
-
-    ghost from_gives = { λ _ k. k ≡ OutOfMemory };
-
-    fn from(_refused: AllocFailed<T>) -> Self {
-        AsmKind::OutOfMemory
-    }
-}
-
 impl From<AllocError> for AsmFault {
     ghost use Rattle.std.specs.Prelude.{◌≡◌};
     ghost use Rattle.rc_asm.specs.declared.fault.AsmKind.TheVariants.{OutOfMemory};
@@ -92,37 +69,34 @@ impl From<AllocError> for AsmFault {
     ghost from_gives = { λ _ f. f ≡ record { line = 0; kind = OutOfMemory } };
 
     fn from(_refused: AllocError) -> Self {
-        AsmFault {
-            line: 0,
-            kind: AsmKind::OutOfMemory,
-        }
+        at_line(0, AsmKind::OutOfMemory)
     }
 }
 
-// Gives a fault its line. `OutOfMemory` is always at line 0.
+impl<T: Drop> From<AllocFailed<T>> for AsmFault {
+    ghost use Rattle.std.specs.Prelude.{◌≡◌};
+    ghost use Rattle.rc_asm.specs.declared.fault.AsmKind.TheVariants.{OutOfMemory};
+
+    ghost from_gives = { λ _ f. f ≡ record { line = 0; kind = OutOfMemory } };
+
+    fn from(_refused: AllocFailed<T>) -> Self {
+        at_line(0, AsmKind::OutOfMemory)
+    }
+}
+
+// Gives a fault its line.
 pub(crate) fn at_line(line: u64, kind: AsmKind) -> AsmFault
-    ensures fault { kind ≢ OutOfMemory → result ≡ at_line line kind }
-    ensures memory { kind ≡ OutOfMemory → result ≡ at_line 0 OutOfMemory }
+    ensures { result ≡ at_line line kind }
 {
-    match kind {
-        AsmKind::OutOfMemory => AsmFault { line: 0, kind },
-        _ => AsmFault { line, kind },
-    }
+    AsmFault { line, kind }
 }
 
-// Wraps a fault of the expansion. `OutOfMemory` stays `OutOfMemory`, at line 0.
+// Wraps a fault of the expansion. `OutOfMemory` stays `OutOfMemory`.
 pub(crate) fn of_expansion(fault: ExpandFault) -> AsmFault
-    ensures fault { fault.kind ≢ NoMemory → result ≡ at_line fault.line (Expand fault.kind) }
-    ensures memory { fault.kind ≡ NoMemory → result ≡ at_line 0 OutOfMemory }
+    ensures { result ≡ expand_fault fault }
 {
     match fault.kind {
-        ExpandKind::OutOfMemory => AsmFault {
-            line: 0,
-            kind: AsmKind::OutOfMemory,
-        },
-        kind => AsmFault {
-            line: fault.line,
-            kind: AsmKind::Expand(kind),
-        },
+        ExpandKind::OutOfMemory => at_line(fault.line, AsmKind::OutOfMemory),
+        kind => at_line(fault.line, AsmKind::Expand(kind)),
     }
 }

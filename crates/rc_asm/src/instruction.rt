@@ -1,6 +1,5 @@
 //! From the tokens of a line of code to its instruction.
-ghost use Rattle.std.specs.Prelude.{◌≡◌, ℕ, ◌<◌, ◌^◌, All, IfOk};
-ghost use Rattle.rc_instr.specs.Warrior.{IsBelow};
+ghost use Rattle.std.specs.Prelude.{◌≡◌, ◌<◌, ◌^◌};
 ghost use Rattle.rc_asm.specs.Instructions.{instruction_of_parts, instruction_of_shape, instruction_at};
 ghost use Rattle.rc_asm.specs.Seen.{seen_names, seen_shape};
 
@@ -21,8 +20,7 @@ pub(crate) fn instruction_at(
 ) -> Result<Instruction, AsmKind>
     requires small { address < 2 ^ 63 }
     requires core { 0 < context.now.given.now.rules.now.core }
-    ensures instruction { result ≡ instruction_at source.now (seen_names context.now) address tokens.now }
-    ensures below { IfOk result (IsBelow context.now.given.now.rules.now.core) }
+    ensures { result ≡ instruction_at source.now (seen_names context.now) address tokens.now }
 {
     let shape = shape_of(source, tokens)?;
     let instruction = instruction_of_shape(source, context, address, &shape)?;
@@ -31,8 +29,7 @@ pub(crate) fn instruction_at(
 
 #[tactic(auto, unfolding(crate::specs::Instructions::instruction_of_parts))]
 fn instruction_of_parts(shape: &Shape, a: Operand, b: Operand) -> Instruction
-    ensures instruction { result ≡ instruction_of_parts (seen_shape shape.now) a b }
-    ensures below { (m : ℕ) → a.number < m → b.number < m → IsBelow m result }
+    ensures { result ≡ instruction_of_parts (seen_shape shape.now) a b }
 {
     Instruction {
         opcode: shape.opcode,
@@ -57,8 +54,7 @@ fn instruction_of_shape(
 ) -> Result<Instruction, EvalFault>
     requires small { address < 2 ^ 63 }
     requires core { 0 < context.now.given.now.rules.now.core }
-    ensures instruction { result ≡ instruction_of_shape source.now (seen_names context.now) address (seen_shape shape.now) }
-    ensures below { IfOk result (IsBelow context.now.given.now.rules.now.core) }
+    ensures { result ≡ instruction_of_shape source.now (seen_names context.now) address (seen_shape shape.now) }
 {
     let a = operand_at(source, context, address, shape.sides.a)?;
     let b = operand_at(source, context, address, shape.sides.b)?;

@@ -35,7 +35,7 @@ impl<'a> Model for Labels<'a> {
 impl<'a> Labels<'a> {
     ghost use Rattle.std.specs.Prelude.{map, ◌++◌};
     ghost use Rattle.rc_asm.specs.Names.{Labels as LabelList};
-    ghost use Rattle.rc_asm.specs.Steps.{Agree};
+    ghost use Rattle.rc_asm.specs.Names.{Agree};
 
     // Adds the labels of one line. A name that is already in the table keeps its first address.
     fn insert_all(

@@ -1,7 +1,7 @@
 //! Operands: a mode and an expression become a mode and a number.
-ghost use Rattle.std.specs.Prelude.{◌≡◌, ◌<◌, ◌≤◌, ◌^◌, All, IfSome, IfOk, option_map};
+ghost use Rattle.std.specs.Prelude.{◌≡◌, ◌<◌, ◌^◌, option_map};
 ghost use Rattle.rc_instr.specs.Rules.{IsCoreSize};
-ghost use Rattle.rc_expand.specs.Results.{mapped};
+ghost use Rattle.rc_instr.specs.Results.{mapped};
 ghost use Rattle.rc_asm.specs.Names.{value_at};
 ghost use Rattle.rc_asm.specs.Instructions.{core_number, operand, operand_at};
 ghost use Rattle.rc_asm.specs.Seen.{seen_names};
@@ -28,8 +28,7 @@ pub(crate) fn operand_at(
 ) -> Result<Operand, EvalFault>
     requires small { address < 2 ^ 63 }
     requires core { 0 < context.now.given.now.rules.now.core }
-    ensures operand { result ≡ operand_at source.now (seen_names context.now) address (option_map (λ p. p.now) part.entry) }
-    ensures below { IfOk result (λ o. o.number < context.now.given.now.rules.now.core) }
+    ensures { result ≡ operand_at source.now (seen_names context.now) address (option_map (λ p. p.now) part.entry) }
 {
     match part {
         None => Ok(Operand {
@@ -50,8 +49,7 @@ pub(crate) fn operand_at(
 #[tactic(auto, unfolding(crate::specs::Instructions::core_number))]
 fn core_number(value: i64, core: u32) -> u16
     requires { IsCoreSize core }
-    ensures number { result ≡ core_number core value }
-    ensures below { result < core }
+    ensures { result ≡ core_number core value }
 {
     value.rem_euclid(i64::from(core)) as u16
 }
@@ -66,8 +64,7 @@ fn with_value(
     tokens: &[Token],
 ) -> Result<Operand, EvalFault>
     requires { address < 2 ^ 63 }
-    ensures operand { result ≡ mapped (operand context.now.given.now.rules.now.core mode) (value_at source.now (seen_names context.now) address address tokens.now) }
-    ensures below { IfOk result (λ o. o.number < context.now.given.now.rules.now.core) }
+    ensures { result ≡ mapped (operand context.now.given.now.rules.now.core mode) (value_at source.now (seen_names context.now) address address tokens.now) }
 {
     let value = value_at(source, context, address, address, tokens)?;
     Ok(Operand {

@@ -1,12 +1,10 @@
 //! The values of the lines, in order.
-ghost use Rattle.std.specs.Prelude.{◌≡◌, ◌≢◌, ◌<◌, ◌^◌, All, IfErr, IfOk, Some, None, length};
-ghost use Rattle.std.specs.Result.{result_err};
-ghost use Rattle.rc_instr.specs.Warrior.{IsBelow};
-ghost use Rattle.rc_asm.specs.Steps.{IsLineRead, AreLinesRead, fault_at};
-ghost use Rattle.rc_asm.specs.Faults.{assertion_fault, values_fault};
-ghost use Rattle.rc_asm.specs.Names.{value_at};
-ghost use Rattle.rc_asm.specs.Seen.{seen_names};
-ghost use Rattle.rc_asm.specs.declared.fault.AsmKind.TheVariants.{OutOfMemory};
+ghost use Rattle.std.specs.Prelude.{◌≡◌, ℤ, ◌<◌, ◌^◌, Result, length};
+ghost use Rattle.rc_instr.specs.Results.{with_fault};
+ghost use Rattle.rc_asm.specs.Faults.{Returns, at_line};
+ghost use Rattle.rc_asm.specs.Instructions.{instruction_at};
+ghost use Rattle.rc_asm.specs.Lines.{nothing_read, line_value, after_line, after_lines};
+ghost use Rattle.rc_asm.specs.Seen.{seen_names, seen_reading};
 
 use crate::fault::{AsmFault, AsmKind, at_line};
 use crate::instruction::instruction_at;
@@ -14,7 +12,6 @@ use crate::scope::{Context, value_at};
 use crate::starts::Starts;
 use rc_expand::{Line, LineWord};
 use rc_instr::Instruction;
-use rc_text::Token;
 use std::alloc::Global;
 
 // The code and the starts of the lines so far.
@@ -32,9 +29,7 @@ pub(crate) fn read_lines(
     lines: &[Line],
 ) -> Result<Reading, AsmFault>
     requires { 0 < context.now.given.now.rules.now.core }
-    ensures read { IfOk result (λ r. AreLinesRead source.now (seen_names context.now) lines.now r.code.items r.starts) }
-    ensures refused { IfErr result (λ f. f.kind ≢ OutOfMemory → values_fault source.now (seen_names context.now) 0 lines.now ≡ Some f) }
-    ensures memory { IfErr result (λ f. f.kind ≡ OutOfMemory → f.line ≡ 0) }
+    ensures { Returns seen_reading result (after_lines source.now (seen_names context.now) lines.now nothing_read) }
 {
     let mut reading = Reading {
         code: Vec::with_capacity(alloc, lines.len())?,
@@ -42,66 +37,82 @@ pub(crate) fn read_lines(
     };
     let mut rest = lines;
     while let Some((line, after)) = rest.split_first() {
-        match read_line(source, context, line, &mut reading) {
-            Ok(()) => {}
-            Err(kind) => return Err(at_line(line.number, kind)),
-        }
+        read_line(source, context, line, &mut reading)?;
         rest = after;
     }
     Ok(reading)
 }
 
-// Refuses an assertion without a value, or with the value 0.
-fn check_assertion(
-    source: &[u8],
-    context: &Context,
-    address: usize,
-    tokens: &[Token],
-) -> Result<(), AsmKind>
-    requires { address < 2 ^ 63 }
-    ensures { result_err result ≡ assertion_fault (value_at source.now (seen_names context.now) address 0 tokens.now) }
-{
-    let value = value_at(source, context, address, 0, tokens)?;
-    if value == 0 {
-        return Err(AsmKind::AssertFailed);
-    }
-    Ok(())
-}
-
+// Reads a line after those that gave `reading`.
+#[tactic(auto, unfolding(crate::specs::Lines::after_line))]
 fn read_line(
     source: &[u8],
     context: &Context,
     line: &Line,
     reading: &mut Reading,
-) -> Result<(), AsmKind>
+) -> Result<(), AsmFault>
     requires { 0 < context.now.given.now.rules.now.core }
-    ensures read { IfOk result (λ _. IsLineRead source.now (seen_names context.now) line.now reading.old.code.items reading.old.starts reading.new.code.items reading.new.starts) }
-    ensures faultless { IfOk result (λ _. fault_at source.now (seen_names context.now) (length reading.old.code.items) line.now ≡ None) }
-    ensures below { IfOk result (λ _. All (IsBelow context.now.given.now.rules.now.core) reading.old.code.items → All (IsBelow context.now.given.now.rules.now.core) reading.new.code.items) }
-    ensures refused { IfErr result (λ e. e ≢ OutOfMemory → fault_at source.now (seen_names context.now) (length reading.old.code.items) line.now ≡ Some e) }
+    ensures { Returns (λ _. seen_reading reading.new) result (after_line source.now (seen_names context.now) line.now (seen_reading reading.old)) }
 {
-    let tokens = line.tokens.as_slice();
     let address = reading.code.len();
     match line.word {
         LineWord::Code => {
-            let instruction = instruction_at(source, context, address, tokens)?;
+            let instruction = line_instruction(source, context, address, line)?;
             reading.code.push(instruction)?;
             Ok(())
         }
         LineWord::Org => {
-            let value = value_at(source, context, address, 0, tokens)?;
+            let value = line_value(source, context, address, line)?;
             reading.starts.org = Some(value);
             Ok(())
         }
-        LineWord::End => match tokens {
-            [] => Ok(()),
-            _ => {
-                let value = value_at(source, context, address, 0, tokens)?;
+        LineWord::End => {
+            if !line.tokens.as_slice().is_empty() {
+                let value = line_value(source, context, address, line)?;
                 reading.starts.end = Some(value);
-                Ok(())
             }
-        },
-        LineWord::Assert => check_assertion(source, context, address, tokens),
+            Ok(())
+        }
+        LineWord::Assert => {
+            let value = line_value(source, context, address, line)?;
+            if value == 0 {
+                return Err(at_line(line.number, AsmKind::AssertFailed));
+            }
+            Ok(())
+        }
         LineWord::Bare => Ok(()),
+    }
+}
+
+// Reads the instruction of a line of code at `address`.
+fn line_instruction(
+    source: &[u8],
+    context: &Context,
+    address: usize,
+    line: &Line,
+) -> Result<Instruction, AsmFault>
+    requires small { address < 2 ^ 63 }
+    requires core { 0 < context.now.given.now.rules.now.core }
+    ensures { result ≡ with_fault (at_line line.now.number) (instruction_at source.now (seen_names context.now) address line.now.tokens) }
+{
+    match instruction_at(source, context, address, line.tokens.as_slice()) {
+        Ok(instruction) => Ok(instruction),
+        Err(kind) => Err(at_line(line.number, kind)),
+    }
+}
+
+// Evaluates the expression of a line at `address`.
+fn line_value(
+    source: &[u8],
+    context: &Context,
+    address: usize,
+    line: &Line,
+) -> Result<i64, AsmFault>
+    requires { address < 2 ^ 63 }
+    ensures { result ≡ with_fault (at_line line.now.number) (line_value source.now (seen_names context.now) address line.now.tokens) }
+{
+    match value_at(source, context, address, 0, line.tokens.as_slice()) {
+        Ok(value) => Ok(value),
+        Err(fault) => Err(at_line(line.number, AsmKind::Value(fault))),
     }
 }

@@ -1,7 +1,6 @@
 //! The form of a line of code: opcode, modifier, operands.
-ghost use Rattle.std.specs.Prelude.{◌≡◌, ◌≢◌, ℕ, ◌∷◌, [], ◌<◌, length, take, drop, ◌+◌, option_map, List, Some, None, All, IfSome, IfNone, IfOk, IfErr};
-ghost use Rattle.rc_asm.specs.declared.fault.AsmKind.TheVariants.{OutOfMemory};
-ghost use Rattle.rc_expand.specs.Results.{mapped};
+ghost use Rattle.std.specs.Prelude.{◌≡◌, ℕ, ◌∷◌, [], ◌<◌, length, take, drop, ◌+◌, option_map, List, Some, None, All, IfSome, IfNone};
+ghost use Rattle.rc_instr.specs.Results.{mapped};
 ghost use Rattle.rc_asm.specs.Shape.{parts, parts_from, no_side, one_side, two_sides, sides_of, with_operands, with_modifier, after_opcode, shape_of};
 ghost use Rattle.rc_asm.specs.Seen.{seen_sides, seen_shape};
 
@@ -28,8 +27,7 @@ pub(crate) struct Shape<'a> {
 // Parses the tokens of a line of code.
 #[tactic(auto, unfolding(crate::specs::Shape::shape_of))]
 pub(crate) fn shape_of<'a>(source: &[u8], tokens: &'a [Token]) -> Result<Shape<'a>, AsmKind>
-    ensures shape { mapped seen_shape result ≡ shape_of source.now tokens.now }
-    ensures other { IfErr result (λ e. e ≢ OutOfMemory) }
+    ensures { mapped seen_shape result ≡ shape_of source.now tokens.now }
 {
     match tokens {
         [] => Err(AsmKind::UnknownOpcode),

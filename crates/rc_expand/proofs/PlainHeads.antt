@@ -20,7 +20,7 @@ use Rattle.rc_expand.specs.declared.line.Line.{Line}
 use Rattle.rc_expand.specs.declared.line.LineWord.TheVariants as line
 use Rattle.rc_expand.specs.Heads.Lines.{is_name_kind, is_reserved_class, is_unjoined, bytes_of, is_free, word_of_name, word_of_kind, no_labels, label_split, head_with_word, head_after_labels, head_of, line_of_tokens, line_then, lines_from}
 use Rattle.rc_expand.specs.Heads.Tree.{Blocks, NoLine, OneLine, line_before, blocks_of}
-use Rattle.rc_expand.specs.Results.{mapped, and_then}
+use Rattle.rc_instr.specs.Results.{mapped, and_then}
 use Rattle.rc_expand.specs.Heads.{text_lines, equs_from, equs_of, with_equs, heads_of}
 use Rattle.rc_expand.proofs.Reading.TextFaults.{no_fault}
 

@@ -7,7 +7,7 @@ use Rattle.rc_text.specs.declared.token.Token.{Token}
 use Rattle.rc_text.specs.Tokens.{tokens_of}
 use Rattle.rc_instr.specs.Rules.{RulesView}
 use Rattle.rc_expand.specs.Limits.{MOST_LINES, MOST_TOKENS, DEEPEST_EQU}
-use Rattle.rc_expand.specs.Results.{mapped, and_then}
+use Rattle.rc_instr.specs.Results.{mapped, and_then}
 use Rattle.rc_expand.specs.declared.heads.head.Head.{Head}
 use Rattle.rc_expand.specs.declared.heads.head.HeadWord.{HeadWord}
 use Rattle.rc_expand.specs.declared.heads.head.HeadWord.TheVariants as word

@@ -16,7 +16,7 @@ use Rattle.rc_expand.specs.declared.heads.head.HeadWord.TheVariants as word
 use Rattle.rc_expand.specs.declared.fault.ExpandFault.{ExpandFault}
 use Rattle.rc_expand.specs.declared.line.Line.{Line}
 use Rattle.rc_expand.specs.Limits.{MOST_JOINED, MOST_TOKENS, MOST_REPLACEMENTS, DEEPEST_BLOCK, DEEPEST_EQU}
-use Rattle.rc_expand.specs.Results.{mapped, and_then}
+use Rattle.rc_instr.specs.Results.{mapped, and_then}
 use Rattle.rc_expand.specs.Names.{Table, entry_of, is_taken}
 use Rattle.rc_expand.specs.Shared.{Shared}
 use Rattle.rc_expand.specs.Heads.{text_lines, equ_token, with_equ, equs_with, equs_from, equs_of, with_equs, heads_of}

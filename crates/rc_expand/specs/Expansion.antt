@@ -4,7 +4,7 @@ use Rattle.rc_text.specs.Symbols.{LiesIn}
 use Rattle.rc_instr.specs.Rules.{RulesView}
 use Rattle.rc_expand.specs.declared.fault.ExpandFault.{ExpandFault}
 use Rattle.rc_expand.specs.declared.line.Line.{Line}
-use Rattle.rc_expand.specs.Results.{◌>>=◌}
+use Rattle.rc_instr.specs.Results.{◌>>=◌}
 use Rattle.rc_expand.specs.Names.{Table}
 use Rattle.rc_expand.specs.Shared.{Shared}
 use Rattle.rc_expand.specs.Unroll.{unrolled}

@@ -13,7 +13,8 @@ use Rattle.rc_expand.specs.declared.heads.head.HeadWord.{HeadWord}
 use Rattle.rc_expand.specs.declared.heads.head.HeadWord.TheVariants as word
 use Rattle.rc_expand.specs.declared.fault.ExpandFault.{ExpandFault}
 use Rattle.rc_expand.specs.declared.fault.ExpandKind.TheVariants.{DuplicateName, BadDirective}
-use Rattle.rc_expand.specs.Results.{at_line, mapped, ◌>>=◌}
+use Rattle.rc_instr.specs.Results.{mapped, ◌>>=◌}
+use Rattle.rc_expand.specs.Results.{at_line}
 use Rattle.rc_expand.specs.Names.{Table, entry_of, is_taken}
 use Rattle.rc_expand.specs.Heads.Lines.{lines_from, plain_token}
 use Rattle.rc_expand.specs.Heads.Faults.{text_fault}

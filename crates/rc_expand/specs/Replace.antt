@@ -8,7 +8,8 @@ use Rattle.rc_expand.specs.declared.fault.ExpandKind.TheVariants.{EquTooDeep, To
 use Rattle.rc_expand.specs.declared.heads.head.HeadWord.{HeadWord}
 use Rattle.rc_expand.specs.declared.heads.head.HeadWord.TheVariants as word
 use Rattle.rc_expand.specs.Limits.{MOST_TOKENS, MOST_REPLACEMENTS, DEEPEST_EQU}
-use Rattle.rc_expand.specs.Results.{mapped, at_line, ◌>>=◌}
+use Rattle.rc_instr.specs.Results.{mapped, ◌>>=◌}
+use Rattle.rc_expand.specs.Results.{at_line}
 use Rattle.rc_expand.specs.Heads.Lines.{is_name_token, has_modifier}
 use Rattle.rc_expand.specs.Names.{entry_of}
 

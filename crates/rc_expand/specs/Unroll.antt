@@ -12,7 +12,8 @@ use Rattle.rc_expand.specs.declared.heads.head.HeadWord.TheVariants as word
 use Rattle.rc_expand.specs.declared.fault.ExpandFault.{ExpandFault}
 use Rattle.rc_expand.specs.declared.fault.ExpandKind.TheVariants.{BadDirective, TooManyLines}
 use Rattle.rc_expand.specs.Limits.{MOST_LINES}
-use Rattle.rc_expand.specs.Results.{at_line, mapped, ◌>>=◌}
+use Rattle.rc_instr.specs.Results.{mapped, ◌>>=◌}
+use Rattle.rc_expand.specs.Results.{at_line}
 use Rattle.rc_expand.specs.Shared.{Shared}
 use Rattle.rc_expand.specs.Heads.Lines.{bare_line}
 use Rattle.rc_expand.specs.Heads.Tree.{Blocks, NoLine, OneLine, Block}

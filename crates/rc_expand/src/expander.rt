@@ -1,6 +1,4 @@
 //! The expansion of a text: its lines are read, blocks are unrolled, and EQU names are replaced.
-ghost use Rattle.std.specs.Prelude.{◌≡◌, ◌≢◌, All, IfOk, IfErr, Ok, Err};
-ghost use Rattle.rc_expand.specs.declared.fault.ExpandKind.TheVariants.{OutOfMemory};
 ghost use Rattle.rc_expand.specs.Results.{Returns};
 ghost use Rattle.rc_expand.specs.Names.{table_in};
 ghost use Rattle.rc_expand.specs.Expansion.{expansion_of};
@@ -8,7 +6,7 @@ ghost use Rattle.rc_expand.specs.Expansion.{expansion_of};
 use crate::constants::Constants;
 use crate::context::Context;
 use crate::equ_tokens::links::link_equs;
-use crate::fault::{ExpandFault, memory_at_line_0};
+use crate::fault::ExpandFault;
 use crate::heads::read_heads;
 use crate::line::{Expanded, Lines};
 use crate::names::GivenNames;
@@ -43,24 +41,8 @@ use std::alloc::Global;
 ///
 /// It is proved that the result is the expansion, or the first fault with its line, unless memory
 /// runs out.
-pub fn expand(
-    alloc: Global,
-    source: &[u8],
-    constants: &Constants,
-    rules: &Rules,
-) -> Result<Expanded, ExpandFault>
-    ensures expansion { Returns (λ e. e.lines) result (expansion_of source.now (table_in constants.now) rules.now) }
-    ensures memory { IfErr result (λ f. f.kind ≡ OutOfMemory → f.line ≡ 0) }
-{
-    match expand_text(alloc, source, constants, rules) {
-        Ok(expanded) => Ok(expanded),
-        Err(found) => Err(memory_at_line_0(found)),
-    }
-}
-
-// Does what `expand` does, but promises no line for an `OutOfMemory`.
 #[tactic(auto, unfolding(crate::specs::Expansion::expansion_of))]
-fn expand_text(
+pub fn expand(
     alloc: Global,
     source: &[u8],
     constants: &Constants,

@@ -1,5 +1,5 @@
 //! Why a text cannot be expanded, and at which line.
-ghost use Rattle.std.specs.Prelude.{◌≡◌, ◌≢◌};
+ghost use Rattle.std.specs.Prelude.{◌≡◌};
 ghost use Rattle.rc_expand.specs.declared.fault.ExpandKind.TheVariants.{OutOfMemory};
 
 use rc_text::LexFault;
@@ -58,13 +58,10 @@ impl From<AllocError> for ExpandFault {
     ghost use Rattle.std.specs.Prelude.{◌≡◌};
     ghost use Rattle.rc_expand.specs.declared.fault.ExpandKind.TheVariants.{OutOfMemory};
 
-    ghost from_gives = { λ _ e. e.kind ≡ OutOfMemory };
+    ghost from_gives = { λ _ e. e ≡ record { line = 0; kind = OutOfMemory } };
 
     fn from(_error: AllocError) -> Self {
-        ExpandFault {
-            line: 0,
-            kind: ExpandKind::OutOfMemory,
-        }
+        out_of_memory()
     }
 }
 
@@ -72,30 +69,22 @@ impl<T: Drop> From<AllocFailed<T>> for ExpandFault {
     ghost use Rattle.std.specs.Prelude.{◌≡◌};
     ghost use Rattle.rc_expand.specs.declared.fault.ExpandKind.TheVariants.{OutOfMemory};
 
-    ghost from_gives = { λ _ e. e.kind ≡ OutOfMemory };
+    ghost from_gives = { λ _ e. e ≡ record { line = 0; kind = OutOfMemory } };
 
     fn from(_error: AllocFailed<T>) -> Self {
-        ExpandFault {
-            line: 0,
-            kind: ExpandKind::OutOfMemory,
-        }
+        out_of_memory()
     }
+}
+
+// Out of memory has no line.
+fn out_of_memory() -> ExpandFault
+    ensures { result ≡ record { line = 0; kind = OutOfMemory } }
+{
+    fault(0, ExpandKind::OutOfMemory)
 }
 
 pub(crate) fn fault(line: u64, kind: ExpandKind) -> ExpandFault
     ensures { result ≡ record { line = line; kind = kind } }
 {
     ExpandFault { line, kind }
-}
-
-// Sets the line of an `OutOfMemory` to 0. It is 0, but the contracts of the passes do not say so.
-pub(crate) fn memory_at_line_0(found: ExpandFault) -> ExpandFault
-    ensures kind { result.kind ≡ found.kind }
-    ensures memory { result.kind ≡ OutOfMemory → result.line ≡ 0 }
-    ensures fault { found.kind ≢ OutOfMemory → result ≡ found }
-{
-    match found.kind {
-        ExpandKind::OutOfMemory => fault(0, found.kind),
-        _ => found,
-    }
 }

@@ -21,7 +21,9 @@ use crate::fault::{ExpandFault, ExpandKind, fault};
 use crate::heads::blocks::BlockSlice;
 use crate::heads::head::{Head, HeadWord};
 use crate::unroll::opening::{begin_block, check_rof};
-use crate::unroll::reached::{Copying, Reached, inner_copies, is_short_line, make_line};
+use crate::unroll::reached::{
+    Copying, Reached, have_no_counter, inner_copies, is_short_line, make_line,
+};
 use crate::unroll::unrolling::{BlockCopies, Unrolling};
 
 // Unrolls the blocks of lines.
@@ -83,13 +85,12 @@ fn check_line(head: &Head, in_block: bool) -> Result<(), ExpandFault>
     Ok(())
 }
 
-// Checks a line as it is in `copies`. A line in many copies is made only if a ninth counter may be
-// joined to it.
+// Checks a line as it is in `copies`. It is made only if a ninth counter may be joined to it.
 fn check_copied_line(context: &Context, copies: &[Copying], head: &Head) -> Result<(), ExpandFault>
     ensures { Returns (λ u. u) result (checked_line (are_any (copies_in copies.now)) (line_in context.now.source.now (copies_in copies.now) head.now)) }
 {
     let in_block = !copies.is_empty();
-    if !in_block || is_short_line(head) {
+    if have_no_counter(copies) || is_short_line(head) {
         return check_line(head, in_block);
     }
     let made = make_line(context.alloc, context.source, copies, head)?;

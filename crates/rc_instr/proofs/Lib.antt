@@ -1,9 +1,11 @@
 pub mod Same
 pub mod WordTable
+pub mod CheckSteps
 pub mod Numerals
+pub mod LoadNumbers
+pub mod LoadReading
 pub mod Powers
-pub mod Lines
-pub mod Injective
 pub mod Loads
+pub mod BadLines
 pub mod Appends
 pub mod Pieces

@@ -14,7 +14,7 @@ use Rattle.rc_instr.specs.declared.instruction.Modifier.{Modifier}
 use Rattle.rc_instr.specs.declared.instruction.Modifier.TheVariants.{A, B, AB, BA, F, X, I}
 
 -- what a search finds has the word
-found_word : {X : Type 0} (text : X → List ℕ) (xs : List X) (word : List ℕ) (x : X) → find (λ y. bytes_eq word (text y)) xs ≡ Some x → word ≡ text x
+pub found_word : {X : Type 0} (text : X → List ℕ) (xs : List X) (word : List ℕ) (x : X) → find (λ y. bytes_eq word (text y)) xs ≡ Some x → word ≡ text x
 found_word text [] word x e = absurd (cc)
 found_word text (y ∷ ys) word x e = by_test (bytes_eq word (text y)) refl e (λ h. found_word text ys word x h) where
   by_test : (b : Bool) → bytes_eq word (text y) ≡ b → cond b (Some y) (find (λ z. bytes_eq word (text z)) ys) ≡ Some x

@@ -1,16 +1,18 @@
 -- A warrior is code and a start, and its load file is the one spelling of it: equal files, equal
 -- warriors. Rules are five numbers within limits; code that breaks them is refused for the first
 -- reason that applies. An outlet is a writer that gives up for good at its first failure.
+pub mod Results
 pub mod Instruction
 pub mod DefaultModifier
 pub mod Words
 pub mod Rules
-pub mod RulesRefusal
 pub mod Warrior
-pub mod WarriorRefusal
+pub mod Checks
 pub mod Digits
 pub mod Decimal
 pub mod LoadText
-pub mod LoadRefusal
+pub mod LoadReaders
+pub mod Loaded
+pub mod BadLine
 pub mod Appending
 pub mod Outlet

@@ -1,5 +1,7 @@
 -- The load file of a warrior: the one spelling that is written and read. pMARS can read it too.
-use Rattle.std.specs.Prelude.{ℕ, ◌-◌, ◌*◌, nat_le, if◌then◌else◌, List, [], ◌∷◌, ◌++◌, codes, flat_map}
+use Rattle.std.specs.Prelude.{ℕ, ◌-◌, ◌*◌, nat_le, if◌then◌else◌, List, [], ◌∷◌, ◌++◌, codes, flat_map, Option}
+use Rattle.std.specs.List.{find}
+use Rattle.std.specs.Str.{bytes_eq}
 use Rattle.std.specs.Fmt.{decimal}
 use Rattle.rc_instr.specs.Words.{opcode_text, modifier_text}
 use Rattle.rc_instr.specs.Warrior.{WarriorView}
@@ -16,6 +18,14 @@ mode_text APredecrement = codes "{"
 mode_text BPredecrement = codes "<"
 mode_text APostincrement = codes "}"
 mode_text BPostincrement = codes ">"
+
+-- All modes.
+abbrev pub modes : List Mode
+modes = Immediate ∷ Direct ∷ AIndirect ∷ BIndirect ∷ APredecrement ∷ BPredecrement ∷ APostincrement ∷ BPostincrement ∷ []
+
+-- The mode with this sign.
+abbrev pub mode_of : List ℕ → Option Mode
+mode_of sign = find (λ m. bytes_eq sign (mode_text m)) modes
 
 -- The number k in a core of m cells is written as k, or as k - m if 2k is above m.
 unfoldable pub number_text : ℕ → ℕ → List ℕ

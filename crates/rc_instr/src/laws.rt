@@ -1,18 +1,35 @@
-//! Laws of load files and of their words.
-ghost use Rattle.std.specs.Prelude.{◌≡◌, Some, MatchResult};
+//! Laws of rules, of warriors, and of load files and their words.
+ghost use Rattle.std.specs.Prelude.{◌≡◌, ◌↔◌, ℕ, List, Some, Ok, Err, MatchResult};
+ghost use Rattle.rc_instr.specs.Checks.{rules_of, warrior_of};
 ghost use Rattle.rc_instr.specs.Rules.{RulesView, IsRules};
 ghost use Rattle.rc_instr.specs.Warrior.{WarriorView, IsWarrior, Fits};
+ghost use Rattle.rc_instr.specs.Loaded.{load_meaning};
+ghost use Rattle.rc_instr.specs.BadLine.{IsFirstBadLine};
 ghost use Rattle.rc_instr.specs.Words.{opcode_text, modifier_text, opcode_named, modifier_named};
 ghost use Rattle.rc_instr.specs.LoadText.{load_text};
 ghost use Rattle.rc_instr.specs.declared.instruction.Opcode.{Opcode};
 ghost use Rattle.rc_instr.specs.declared.instruction.Modifier.{Modifier};
-ghost use Rattle.rc_instr.specs.declared.loadfile.fault.LoadFault.TheVariants.{OutOfMemory};
+ghost use Rattle.rc_instr.specs.declared.loadfile.fault.LoadFault.TheVariants.{OutOfMemory, Malformed};
 
 use crate::loadfile::{LoadFault, read_loadfile, write_loadfile};
 use crate::memory::OutOfMemory as MemoryRefused;
 use crate::rules::Rules;
 use crate::warrior::Warrior;
 use std::alloc::Global;
+
+/// Five numbers are given as rules exactly if each is within its limits, and they are given as they
+/// are.
+#[tactic(auto, using(crate::proofs::CheckSteps::rules_kept, crate::proofs::CheckSteps::rules_pass))]
+pub fn rules_are_within_their_limits()
+    ensures { (r w : RulesView) → rules_of r ≡ Ok w ↔ (w ≡ r) × IsRules r }
+{}
+
+/// Code and a start are given as a warrior exactly if they are one that fits the rules, and they
+/// are given as they are.
+#[tactic(auto, using(crate::proofs::CheckSteps::warrior_fits, crate::proofs::CheckSteps::warrior_passes))]
+pub fn a_warrior_fits_its_rules()
+    ensures { (r : RulesView) (p w : WarriorView) → IsRules r → warrior_of r p ≡ Ok w ↔ (w ≡ p) × IsWarrior p × Fits r p }
+{}
 
 /// Writes a load file of `warrior` and reads it back: the result is the same warrior. Fails only if
 /// out of memory.
@@ -24,6 +41,7 @@ pub fn load_text_reads_as_its_warrior(
     requires { Fits rules.now warrior.now }
     ensures { MatchResult result (λ w. w ≡ warrior.now) (λ e. e ≡ LoadFault.OutOfMemory) }
 {
+    prove!(0 < rules.core());
     prove!((warrior.start() as usize) < warrior.code().len());
     let mut text = Vec::new(alloc);
     match write_loadfile(alloc, warrior, rules, &mut text) {
@@ -36,6 +54,21 @@ pub fn load_text_reads_as_its_warrior(
 pub fn a_word_names_what_it_is_of()
     ensures opcode { (o : Opcode) → opcode_named (opcode_text o) ≡ Some o }
     ensures modifier { (m : Modifier) → modifier_named (modifier_text m) ≡ Some m }
+{}
+
+/// Bytes are the load file of a warrior under rules exactly if they are its one spelling, and it is
+/// a warrior that fits the rules.
+pub fn a_load_file_means_its_warrior()
+    ensures { (rules : RulesView) (bytes : List ℕ) (w : WarriorView) → IsRules rules
+        → load_meaning rules bytes ≡ Ok w ↔ (bytes ≡ load_text rules.core w) × IsWarrior w × Fits rules w }
+{}
+
+/// A line that is told as malformed is the first that is: what comes before it is the first line
+/// and lines of code, and it is neither.
+#[tactic(auto, using(crate::proofs::BadLines::first_bad))]
+pub fn a_malformed_line_is_the_first()
+    ensures { (rules : RulesView) (bytes : List ℕ) (line : ℕ) → IsRules rules → load_meaning rules bytes ≡ Err (LoadFault.Malformed line)
+        → IsFirstBadLine rules.core bytes line }
 {}
 
 /// Equal load files under equal rules mean equal warriors.

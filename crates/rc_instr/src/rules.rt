@@ -1,5 +1,5 @@
 //! The rules of a fight: five numbers within their limits.
-ghost use Rattle.std.specs.Prelude.{◌≡◌, ◌↔◌, IsOk, IfOk, IfErr};
+ghost use Rattle.std.specs.Prelude.{◌≡◌};
 ghost use Rattle.rc_instr.specs.Rules.{rules_view, IsRules};
 
 use std::alloc::AllocError;
@@ -54,7 +54,7 @@ impl Clone for Rules {
 impl Copy for Rules {}
 
 impl Rules {
-    ghost use Rattle.rc_instr.specs.RulesRefusal.{IsFirstBroken};
+    ghost use Rattle.rc_instr.specs.Checks.{rules_of};
 
     /// Checks five numbers and makes rules of them:
     ///
@@ -66,6 +66,7 @@ impl Rules {
     ///   `core`.
     ///
     /// The error names the first number, in this order, that is out of its limits.
+    #[tactic(auto, unfolding(crate::specs::Checks::rules_of))]
     pub fn try_new(
         core: u32,
         cycles: u32,
@@ -73,9 +74,7 @@ impl Rules {
         length: u32,
         distance: u32,
     ) -> Result<Rules, RulesError>
-        ensures ok { IsOk result ↔ IsRules (rules_view core cycles tasks length distance) }
-        ensures rules { IfOk result (λ r. r ≡ rules_view core cycles tasks length distance) }
-        ensures refused { IfErr result (λ e. IsFirstBroken e (rules_view core cycles tasks length distance)) }
+        ensures { result ≡ rules_of (rules_view core cycles tasks length distance) }
     {
         if core < 8 || core > 65535 {
             return Err(RulesError::Core);

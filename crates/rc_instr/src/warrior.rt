@@ -1,6 +1,8 @@
 //! Warriors: code, and the instruction where execution starts.
-ghost use Rattle.std.specs.Prelude.{◌≡◌, ◌↔◌, IfOk, IfErr, All, IsTrue};
-ghost use Rattle.rc_instr.specs.Warrior.{warrior_view, IsBelow, IsWarrior, Fits};
+ghost use Rattle.std.specs.Prelude.{◌≡◌, ◌↔◌, Err, IfOk, IfErr, IsTrue};
+ghost use Rattle.std.specs.List.{list_all};
+ghost use Rattle.rc_instr.specs.Warrior.{warrior_view, IsWarrior, Fits};
+ghost use Rattle.rc_instr.specs.Checks.{is_below};
 
 use crate::instruction::Instruction;
 use crate::rules::Rules;
@@ -85,10 +87,12 @@ pub struct Refused {
 }
 
 impl Warrior {
-    ghost use Rattle.rc_instr.specs.WarriorRefusal.{IsWarriorError, IsWarriorCheck};
+    ghost use Rattle.std.specs.Result.{result_err};
+    ghost use Rattle.rc_instr.specs.Checks.{warrior_of};
 
+    #[tactic(auto, unfolding(crate::specs::Checks::warrior_of))]
     fn refusal_of(code: &[Instruction], start: u32, rules: &Rules) -> Option<WarriorError>
-        ensures { IsWarriorCheck result rules.now (warrior_view code.now start) }
+        ensures { result ≡ result_err (warrior_of rules.now (warrior_view code.now start)) }
     {
         if code.is_empty() {
             Some(WarriorError::Empty)
@@ -115,8 +119,9 @@ impl Warrior {
     /// - `NumberTooLarge`: an A-number or B-number is not below the core size.
     pub fn try_new(code: Vec<Instruction>, start: u32, rules: &Rules) -> Result<Warrior, Refused>
         ensures ok { IfOk result (λ w. (w ≡ warrior_view code.items start) × IsWarrior w × Fits rules.now w) }
-        ensures refused { IfErr result (λ e. (e.code ≡ code.items) × IsWarriorError e.error rules.now (warrior_view code.items start)) }
+        ensures refused { IfErr result (λ e. (e.code ≡ code.items) × (warrior_of rules.now (warrior_view code.items start) ≡ Err e.error)) }
     {
+        prove!(0 < rules.length());
         match Warrior::refusal_of(code.as_slice(), start, rules) {
             Some(error) => Err(Refused {
                 code: Code::from_vec(code),
@@ -128,6 +133,7 @@ impl Warrior {
 
     /// Checks the warrior against `rules`: its length, and that its numbers are below the core
     /// size.
+    #[tactic(auto, using(crate::proofs::CheckSteps::all_below, crate::proofs::CheckSteps::below_all))]
     pub fn fits(&self, rules: &Rules) -> bool
         ensures { IsTrue result ↔ Fits rules.now self.now }
     {
@@ -153,7 +159,7 @@ impl Warrior {
 
 // Checks that every A-number and B-number is below `core`.
 fn are_below(code: &[Instruction], core: u32) -> bool
-    ensures { IsTrue result ↔ All (IsBelow core) code.now }
+    ensures { result ≡ list_all (is_below core) code.now }
 {
     code.iter().all(|i| u32::from(i.a_number) < core && u32::from(i.b_number) < core)
 }

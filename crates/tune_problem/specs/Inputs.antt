@@ -2,7 +2,7 @@
 use Rattle.std.specs.Prelude.{◌≤◌, ◌+◌, ◌-◌, ◌&&◌, nat_le, nat_lt, ℕ, ℤ, List, length, Option, option_and_then, slice_get, All, if◌then◌else◌}
 use Rattle.rc_instr.specs.Rules.{RulesView}
 use Rattle.rc_instr.specs.Warrior.{WarriorView, Fits}
-use Rattle.rc_asm.specs.Assembly.{assembled}
+use Rattle.rc_asm.specs.Assembly.{text_warrior}
 use Rattle.mars_fight.specs.declared.fight.Fight.{Fight}
 use Rattle.mars_fight.specs.Listed.{IsFight}
 use Rattle.tune_template.specs.Vectors.{vectors_of, start_index}
@@ -47,4 +47,4 @@ part_start i =
 
 -- The warrior of the setting at index v of the part, if the text assembles with its values.
 unfoldable pub warrior_of : InputsView → ℕ → Option WarriorView
-warrior_of i v = option_and_then (λ x. assembled i.template.text (constants_of i.template.ranges.names x) i.rules) (slice_get (settings_of i) v)
+warrior_of i v = option_and_then (λ x. text_warrior i.template.text (constants_of i.template.ranges.names x) i.rules) (slice_get (settings_of i) v)

@@ -1,3 +1,4 @@
+pub mod FightLoads
 pub mod Parting
 pub mod Refusals
 pub mod Repeats

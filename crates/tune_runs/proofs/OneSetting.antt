@@ -4,7 +4,7 @@ use Rattle.std.specs.Prelude.{option_and_then}
 use Rattle.std.proofs.lemmas.Option.{slice_get_past, none-some}
 use Rattle.rc_instr.specs.Rules.{RulesView}
 use Rattle.rc_instr.specs.Warrior.{WarriorView}
-use Rattle.rc_asm.specs.Assembly.{assembled}
+use Rattle.rc_asm.specs.Assembly.{text_warrior}
 use Rattle.tune_template.specs.Vectors.{vectors_of}
 use Rattle.tune_template.specs.Instances.{TemplateView, constants_of, instance_of}
 use Rattle.tune_runs.specs.TuneRun.{IsTemplate, IsTemplateRefusal}
@@ -34,7 +34,7 @@ template_refused BadPart source which rules r = absurd r
 past_none : (t : TemplateView) (rules : RulesView) (index : ℕ) → length (vectors_of t.ranges.spans) ≤ index → instance_of t rules index ≡ None
 unfolding instance_of
 past_none t rules index most =
-    ap (λ o. option_and_then (λ x. assembled t.text (constants_of t.ranges.names x) rules) o) (slice_get_past (vectors_of t.ranges.spans) index most)
+    ap (λ o. option_and_then (λ x. text_warrior t.text (constants_of t.ranges.names x) rules) o) (slice_get_past (vectors_of t.ranges.spans) index most)
 
 -- a text is one template, so a setting that has no warrior in one has none in another
 no_other : (source : List ℕ) (s t : TemplateView) (which : WhichSetting) (rules : RulesView) (w : WarriorView) → IsTemplate source s → IsTemplate source t

@@ -2,10 +2,10 @@
 use Rattle.std.specs.Prelude.{◌≡◌, ◌≢◌, ℕ, List, Option, Ok, Err}
 use Rattle.std.specs.Io.KnownBytes.{Appends}
 use Rattle.rc_instr.specs.Rules.{RulesView, IsRules}
-use Rattle.rc_instr.specs.RulesRefusal.{IsFirstBroken}
+use Rattle.rc_instr.specs.Checks.{rules_of}
 use Rattle.rc_instr.specs.Warrior.{WarriorView, IsWarrior, Fits}
 use Rattle.rc_instr.specs.LoadText.{load_text}
-use Rattle.rc_instr.specs.LoadRefusal.{IsUnreadable}
+use Rattle.rc_instr.specs.Loaded.{load_meaning}
 use Rattle.rc_instr.specs.declared.loadfile.fault.LoadFault.{LoadFault}
 use Rattle.rc_instr.specs.declared.loadfile.fault.LoadFault.TheVariants.{OutOfMemory as MemoryFault}
 use Rattle.mars_core.specs.State.{start_of}
@@ -39,13 +39,13 @@ outcome_for w candidate opponent =
 
 -- Why a load file is refused. Out of memory is not among the reasons.
 abbrev pub IsRefusedLoad : LoadFault → RulesView → List ℕ → Type 0
-IsRefusedLoad fault rules bytes = (fault ≢ MemoryFault) × IsUnreadable fault rules bytes
+IsRefusedLoad fault rules bytes = (fault ≢ MemoryFault) × (load_meaning rules bytes ≡ Err fault)
 
 -- What each fault says of a fight text: it applies, and those before it do not. Out of memory says
 -- nothing of the text.
 abbrev pub IsRefusal : RunFault → List ℕ → Type 0
 IsRefusal (FightText line) text = fight_words text ≡ Err line
-IsRefusal (Rules e) text = (w : FightWords) × (fight_words text ≡ Ok w) × IsFirstBroken e w.rules
+IsRefusal (Rules e) text = (w : FightWords) × (fight_words text ≡ Ok w) × (rules_of w.rules ≡ Err e)
 IsRefusal (Load Candidate fault) text =
     (w : FightWords) × (fight_words text ≡ Ok w) × IsRules w.rules × IsRefusedLoad fault w.rules w.candidate
 IsRefusal (Load Opponent fault) text =

@@ -1,10 +1,10 @@
 -- What the run of one setting of a template writes, and why it refuses.
-use Rattle.std.specs.Prelude.{◌≡◌, ◌≢◌, ◌<◌, ◌≤◌, ℕ, ℤ, List, length, slice_get, Option, Some, None}
+use Rattle.std.specs.Prelude.{◌≡◌, ◌≢◌, ◌<◌, ◌≤◌, ℕ, ℤ, List, length, slice_get, Option, Some, None, Err}
 use Rattle.std.specs.Io.KnownBytes.{Appends}
 use Rattle.rc_instr.specs.Rules.{RulesView}
 use Rattle.rc_instr.specs.Warrior.{WarriorView}
 use Rattle.rc_instr.specs.LoadText.{load_text}
-use Rattle.rc_asm.specs.Assembly.{IsAsmFault}
+use Rattle.rc_asm.specs.Assembly.{outcome_of}
 use Rattle.rc_asm.specs.declared.fault.AsmFault.{AsmFault}
 use Rattle.rc_asm.specs.declared.fault.AsmKind.TheVariants.{OutOfMemory as MemoryKind}
 use Rattle.tune_template.specs.declared.span.Span.{Span}
@@ -33,7 +33,7 @@ abbrev pub IsInstanceRefusal : TemplateView → RulesView → ℕ → AsmFault �
 IsInstanceRefusal t rules index fault =
     (fault.kind ≢ MemoryKind) × (index < length (vectors_of t.ranges.spans)) × (instance_of t rules index ≡ None)
     × ((values : List ℤ) → slice_get (vectors_of t.ranges.spans) index ≡ Some values
-    → IsAsmFault t.text (constants_of t.ranges.names values) rules fault)
+    → outcome_of t.text (constants_of t.ranges.names values) rules ≡ Err fault)
 
 -- What each fault says of the text and the setting: it applies, and those before it do not. Out of
 -- memory says nothing of them.

@@ -60,11 +60,13 @@ pub fn fight_run<W: Write>(alloc: Global, text: &[u8], out: &mut Outlet<W>) -> R
     Ok(())
 }
 
+#[tactic(auto, using(crate::proofs::FightLoads::loads, crate::proofs::FightLoads::is_loaded))]
 fn load(alloc: Global, bytes: &[u8], rules: &Rules, side: Side) -> Result<Warrior, RunFault>
     ensures found { IfOk result (λ w. Loads rules.now bytes.now w) }
     ensures only { (w : WarriorView) → Loads rules.now bytes.now w → MatchResult result (λ v. v ≡ w) (λ e. e ≡ RunFault.OutOfMemory) }
     ensures refused { IfErr result (λ e. IsLoadRefusal e side rules.now bytes.now) }
 {
+    prove!(0 < rules.core());
     match read_loadfile(alloc, bytes, rules) {
         Ok(warrior) => Ok(warrior),
         Err(LoadFault::OutOfMemory) => Err(RunFault::OutOfMemory),

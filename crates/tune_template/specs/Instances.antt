@@ -3,7 +3,7 @@ use Rattle.std.specs.Prelude.{ℕ, ℤ, List, [], ◌∷◌, Option, option_and_
 use Rattle.rc_instr.specs.Rules.{RulesView}
 use Rattle.rc_instr.specs.Warrior.{WarriorView}
 use Rattle.rc_expand.specs.Names.{Table}
-use Rattle.rc_asm.specs.Assembly.{assembled}
+use Rattle.rc_asm.specs.Assembly.{text_warrior}
 use Rattle.tune_template.specs.Ranges.{Ranges}
 use Rattle.tune_template.specs.Vectors.{vectors_of}
 
@@ -19,4 +19,4 @@ constants_of _ _ = []
 
 -- the warrior of setting v, if the text assembles with its values
 unfoldable pub instance_of : TemplateView → RulesView → ℕ → Option WarriorView
-instance_of t rules v = option_and_then (λ x. assembled t.text (constants_of t.ranges.names x) rules) (slice_get (vectors_of t.ranges.spans) v)
+instance_of t rules v = option_and_then (λ x. text_warrior t.text (constants_of t.ranges.names x) rules) (slice_get (vectors_of t.ranges.spans) v)

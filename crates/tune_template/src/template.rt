@@ -7,7 +7,8 @@ ghost use Rattle.tune_template.specs.Limits.{MOST_CONSTANTS, MOST_SETTINGS};
 ghost use Rattle.tune_template.specs.Lines.{lines_of};
 ghost use Rattle.tune_template.specs.Ranges.{Ranges, ranges, vector_count, line_added, ranges_from, ranges_of, HasRanges};
 ghost use Rattle.tune_template.specs.Vectors.{vectors_of, start_vector, start_index};
-ghost use Rattle.rc_asm.specs.Assembly.{IsAsmFault};
+ghost use Rattle.rc_asm.specs.Faults.{Returns as Assembled};
+ghost use Rattle.rc_asm.specs.Assembly.{outcome_of};
 ghost use Rattle.tune_template.specs.Instances.{TemplateView, constants_of, instance_of};
 ghost use Rattle.tune_template.specs.Steps.{seen_ranges, AreCounted, HasValues};
 
@@ -155,10 +156,10 @@ impl Template {
         ensures is_warrior { IfOk result IsWarrior }
         ensures fits { IfOk result (Fits rules.now) }
         ensures refused { IfErr result (λ f. f.kind ≢ NoRoomToAssemble → instance_of self.now rules.now index ≡ None) }
-        ensures fault { IfErr result (λ f. f.kind ≢ NoRoomToAssemble → (x : List ℤ) → slice_get (vectors_of self.now.ranges.spans) index ≡ Some x →
-            IsAsmFault self.now.text (constants_of self.now.ranges.names x) rules.now f) }
-        ensures memory { IfErr result (λ f. f.kind ≡ NoRoomToAssemble → f.line ≡ 0) }
+        ensures outcome { (x : List ℤ) → slice_get (vectors_of self.now.ranges.spans) index ≡ Some x
+            → Assembled (λ w. w) result (outcome_of self.now.text (constants_of self.now.ranges.names x) rules.now) }
     {
+        prove!(0 < rules.core());
         let vector = self.vector(index);
         let constants = Constants {
             names: self.names(),

@@ -22,7 +22,7 @@ use Rattle.rc_instr.specs.declared.instruction.Mode.TheVariants as mode
 use Rattle.rc_instr.specs.declared.instruction.Instruction.{Instruction}
 use Rattle.rc_asm.specs.declared.fault.AsmKind.TheVariants.{UnknownOpcode, Value}
 use Rattle.rc_asm.specs.declared.operand.Operand.{Operand}
-use Rattle.rc_expand.specs.Results.{mapped, and_then, with_fault}
+use Rattle.rc_instr.specs.Results.{mapped, and_then, with_fault}
 use Rattle.rc_asm.specs.Words.{is_plain, opcode_at, modifier_at, mode_of, mode_of_kind, mode_at, is_comma, is_comma_kind}
 use Rattle.rc_asm.specs.Shape.{parts_from, parts, sides, sides_of, Shape, shape, with_operands, with_modifier, after_opcode, shape_of}
 use Rattle.rc_asm.specs.Names.{NameValues, stands_for}

@@ -10,7 +10,8 @@ use Rattle.rc_expand.specs.declared.heads.head.Head.{Head}
 use Rattle.rc_expand.specs.declared.heads.head.HeadWord.{HeadWord}
 use Rattle.rc_expand.specs.declared.heads.head.HeadWord.TheVariants as word
 use Rattle.rc_expand.specs.declared.fault.ExpandKind.TheVariants.{ForTooDeep, RofWithoutFor, ForWithoutRof}
-use Rattle.rc_expand.specs.Results.{at_line, mapped}
+use Rattle.rc_instr.specs.Results.{mapped}
+use Rattle.rc_expand.specs.Results.{at_line}
 use Rattle.rc_expand.specs.Heads.Tree.{Blocks, NoLine, OneLine, Block, distances, Parts, line_before, rof_before, for_before, parts_by, parts_from, blocks_of, HaveDistances}
 use Rattle.rc_expand.specs.Heads.Nesting.{opens_or_closes}
 use Rattle.rc_expand.proofs.Reading.NestingSteps.{join, tree_before, mapped_twice, at_word, at_line_alone, at_for, opened_line}

@@ -10,7 +10,8 @@ use Rattle.rc_expand.specs.declared.heads.head.HeadWord.{HeadWord}
 use Rattle.rc_expand.specs.declared.heads.head.HeadWord.TheVariants as word
 use Rattle.rc_expand.specs.declared.fault.ExpandFault.{ExpandFault}
 use Rattle.rc_expand.specs.declared.fault.ExpandKind.TheVariants.{ForTooDeep}
-use Rattle.rc_expand.specs.Results.{at_line, mapped}
+use Rattle.rc_instr.specs.Results.{mapped}
+use Rattle.rc_expand.specs.Results.{at_line}
 use Rattle.rc_expand.specs.Heads.Tree.{Blocks, NoLine, OneLine, Block, lines_of, Parts, line_before, rof_before, for_before, parts_by, parts_from, blocks_of}
 use Rattle.rc_expand.specs.Heads.Nesting.{opens_or_closes, IsNested, Open, open_lines, AreOpen, outermost_line, AreBlocks}
 

@@ -6,7 +6,7 @@ use Rattle.rc_text.specs.Gaps.{is_line_end}
 use Rattle.rc_text.specs.Tokens.{tokens_of}
 use Rattle.rc_expand.specs.declared.fault.ExpandFault.{ExpandFault}
 use Rattle.rc_expand.specs.declared.heads.head.Head.{Head}
-use Rattle.rc_expand.specs.Results.{mapped}
+use Rattle.rc_instr.specs.Results.{mapped}
 use Rattle.rc_expand.specs.Heads.{text_lines}
 use Rattle.rc_expand.specs.Heads.Faults.{text_fault}
 use Rattle.rc_expand.specs.Heads.Lines.{choose, line_of_tokens, has_end, line_then, lines_from}

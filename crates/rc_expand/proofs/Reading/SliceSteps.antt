@@ -6,7 +6,7 @@ use Rattle.rc_expand.specs.Limits.{DEEPEST_BLOCK}
 use Rattle.rc_expand.specs.declared.heads.head.Head.{Head}
 use Rattle.rc_expand.specs.declared.heads.head.HeadWord.TheVariants as word
 use Rattle.rc_expand.specs.declared.fault.ExpandFault.{ExpandFault}
-use Rattle.rc_expand.specs.Results.{mapped}
+use Rattle.rc_instr.specs.Results.{mapped}
 use Rattle.rc_expand.specs.Heads.Tree.{Blocks, NoLine, OneLine, Block, lines_of, distances, blocks_of, blocks_or_none, tree_of, HaveDistances}
 use Rattle.rc_expand.specs.Heads.Nesting.{opens_or_closes, IsNested}
 use Rattle.rc_expand.proofs.Reading.NestingSteps.{said, tree_of_lines}

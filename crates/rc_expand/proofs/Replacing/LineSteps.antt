@@ -10,7 +10,8 @@ use Rattle.rc_expand.specs.declared.heads.head.Head.{Head}
 use Rattle.rc_expand.specs.declared.heads.head.HeadWord.{HeadWord}
 use Rattle.rc_expand.specs.declared.heads.head.HeadWord.TheVariants as word
 use Rattle.rc_expand.specs.declared.line.Line.{Line}
-use Rattle.rc_expand.specs.Results.{at_line, mapped, and_then}
+use Rattle.rc_instr.specs.Results.{mapped, and_then}
+use Rattle.rc_expand.specs.Results.{at_line}
 use Rattle.rc_expand.specs.Shared.{Shared}
 use Rattle.rc_expand.specs.Names.{entry_of, is_among, is_taken}
 use Rattle.rc_expand.specs.NameTables.{with_name, names_in}

@@ -4,7 +4,7 @@ use Rattle.std.proofs.lemmas.List.{drop_all}
 use Rattle.std.specs.Prelude.{Ok, Err}
 use Rattle.rc_text.specs.declared.token.Token.{Token}
 use Rattle.rc_expand.specs.declared.fault.ExpandFault.{ExpandFault}
-use Rattle.rc_expand.specs.Results.{and_then}
+use Rattle.rc_instr.specs.Results.{and_then}
 use Rattle.rc_expand.specs.Replace.{Equs, Replaced, token_or_body, equ_at, inner_at, replaced_within}
 use Rattle.rc_expand.proofs.Each.{split_at}
 

@@ -10,7 +10,8 @@ use Rattle.rc_text.specs.Reading.{evaluation_of}
 use Rattle.rc_expand.specs.declared.heads.head.Head.{Head}
 use Rattle.rc_expand.specs.declared.fault.ExpandFault.{ExpandFault}
 use Rattle.rc_expand.specs.declared.fault.ExpandKind.TheVariants.{BadDirective, CountRefused}
-use Rattle.rc_expand.specs.Results.{at_line, mapped, and_then}
+use Rattle.rc_instr.specs.Results.{mapped, and_then}
+use Rattle.rc_expand.specs.Results.{at_line}
 use Rattle.rc_expand.specs.Replace.{replaced_tokens}
 use Rattle.rc_expand.specs.Shared.{Shared}
 use Rattle.rc_expand.specs.Heads.Lines.{plain_token}

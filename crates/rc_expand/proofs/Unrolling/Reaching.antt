@@ -1,15 +1,16 @@
 -- Lines in copies: a copy changes neither the word of a line nor its number.
 use Rattle.std.proofs.Common.{◌≡◌, ℕ, suc, ◌≤◌, Bool, true, false, List, [], ◌∷◌, ◌++◌, length, Option, Some, None, refl, sym, ◌∙◌, ap, arith, ◌<◌, ◌+◌, take, get_or}
 use Rattle.std.proofs.lemmas.List.{take_more}
+use Rattle.std.proofs.lemmas.Bool.{and_parts}
 use Rattle.std.proofs.lemmas.Bool.Decides.{nat_tests}
-use Rattle.std.specs.Prelude.{Ok, option_map, not, ◌==◌}
+use Rattle.std.specs.Prelude.{Ok, option_map, is_none, not, ◌==◌}
 use Rattle.rc_text.specs.declared.token.Token.{Token}
 use Rattle.rc_expand.specs.declared.heads.head.Head.{Head}
 use Rattle.rc_expand.specs.declared.unroll.reached.Copying.{Copying}
 use Rattle.rc_expand.specs.Heads.Lines.{bare_line}
 use Rattle.rc_expand.specs.Unroll.{line_checked, checked_line, Unrolled, with_line, with_earlier}
 use Rattle.rc_expand.specs.Unroll.Copies.{Copy, are_any, or_spoiled, copied_line, line_by, line_in, all_of, copied_tokens, copied_rest}
-use Rattle.rc_expand.specs.Unroll.Reached.{seen_copy, copies_in, reached_part}
+use Rattle.rc_expand.specs.Unroll.Reached.{seen_copy, copies_in, have_no_counter, reached_part}
 use Rattle.rc_expand.specs.Unroll.Openings.{earlier_of}
 
 module _ (source : List ℕ) where
@@ -88,3 +89,14 @@ copies_more source cs i c h e =
     ap (λ l. line_in source (copies_in l) h) (take_more cs i c e)
     ∙ (ap (λ l. line_in source l h) (seen_more (take i cs) (get_or cs i c))
     ∙ line_more source (copies_in (take i cs)) (seen_copy (get_or cs i c)) h)
+
+no_counter : {A : Type 0} (f : A → List ℕ) (o : Option A) (source : List ℕ) (k : ℕ) (h : Head) → is_none o ≡ true → line_by source (option_map f o) k h ≡ h
+no_counter f None source k h e = refl
+no_counter f (Some counter) source k h e = absurd (cc)
+
+-- in copies without a counter it is the line itself
+pub uncounted : (source : List ℕ) (cs : List Copying) (h : Head) → have_no_counter cs ≡ true → line_in source (copies_in cs) h ≡ h
+uncounted source [] h e = refl
+uncounted source (c ∷ cs) h e =
+    let p = and_parts (is_none c.counter) (have_no_counter cs) e in
+    ap (λ g. line_in source (copies_in cs) g) (no_counter (λ b. b.now) c.counter source c.number h p.0) ∙ uncounted source cs h p.1

@@ -205,8 +205,3 @@ short_in source (c ∷ cs) h s = by_counter c.counter (λ g t. short_in source c
   by_counter (Some counter) ih =
       let st = stays_short source counter c.number h s in
       ih (copied_line source counter c.number h) st.short ∙ st.spoiled
-
--- outside of all copies it is the line itself
-pub outside_in : (source : List ℕ) (cs : List Copying) (h : Head) → length cs ≡ 0 → (line_in source (copies_in cs) h).spoiled ≡ h.spoiled
-outside_in source [] h e = refl
-outside_in source (c ∷ cs) h e = absurd (omega (arith, e))

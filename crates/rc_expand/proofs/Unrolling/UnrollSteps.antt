@@ -1,7 +1,7 @@
 -- The copies of a block, one after the other.
 use Rattle.std.proofs.Common.{◌≡◌, ℕ, suc, ◌+◌, ◌-◌, ◌≤◌, ◌<◌, ap, arith}
 use Rattle.std.specs.Prelude.{Ok}
-use Rattle.rc_expand.specs.Results.{and_then}
+use Rattle.rc_instr.specs.Results.{and_then}
 use Rattle.rc_expand.specs.Unroll.{Unrolled, Step, copies_from}
 
 -- a copy and the copies after it

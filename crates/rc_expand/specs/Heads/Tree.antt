@@ -7,7 +7,8 @@ use Rattle.rc_expand.specs.declared.heads.head.HeadWord.TheVariants as word
 use Rattle.rc_expand.specs.declared.fault.ExpandFault.{ExpandFault}
 use Rattle.rc_expand.specs.declared.fault.ExpandKind.TheVariants.{ForWithoutRof, RofWithoutFor, ForTooDeep}
 use Rattle.rc_expand.specs.Limits.{DEEPEST_BLOCK}
-use Rattle.rc_expand.specs.Results.{at_line, mapped}
+use Rattle.rc_instr.specs.Results.{mapped}
+use Rattle.rc_expand.specs.Results.{at_line}
 
 -- Lines as a tree, in reading order: no line; one that is neither FOR nor ROF, and the rest; or a
 -- block, which is a FOR, the lines inside and a ROF, and the rest.

@@ -11,7 +11,8 @@ use Rattle.rc_expand.specs.declared.line.LineWord.{LineWord}
 use Rattle.rc_expand.specs.declared.line.LineWord.TheVariants as line
 use Rattle.rc_expand.specs.declared.fault.ExpandFault.{ExpandFault}
 use Rattle.rc_expand.specs.declared.fault.ExpandKind.TheVariants.{DuplicateName}
-use Rattle.rc_expand.specs.Results.{mapped, at_line, ◌>>=◌}
+use Rattle.rc_instr.specs.Results.{mapped, ◌>>=◌}
+use Rattle.rc_expand.specs.Results.{at_line}
 use Rattle.rc_expand.specs.Shared.{Shared}
 use Rattle.rc_expand.specs.Names.{is_among, is_taken}
 use Rattle.rc_expand.specs.Heads.Lines.{label_token}

@@ -13,7 +13,8 @@ use Rattle.rc_expand.specs.declared.fault.ExpandKind.{ExpandKind}
 use Rattle.rc_expand.specs.declared.fault.ExpandKind.TheVariants.{DuplicateName, BadDirective, CountRefused}
 use Rattle.rc_expand.specs.declared.unroll.opening.BlockStart.{BlockStart}
 use Rattle.rc_expand.specs.Limits.{MOST_COPIES}
-use Rattle.rc_expand.specs.Results.{at_line, mapped, ◌>>=◌}
+use Rattle.rc_instr.specs.Results.{mapped, ◌>>=◌}
+use Rattle.rc_expand.specs.Results.{at_line}
 use Rattle.rc_expand.specs.Names.{entry_of, given_names, is_taken}
 use Rattle.rc_expand.specs.Shared.{Shared}
 use Rattle.rc_expand.specs.Heads.Lines.{is_colon, is_unjoined, plain_token}

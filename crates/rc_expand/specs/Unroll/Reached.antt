@@ -1,5 +1,6 @@
 -- What the code keeps of an unrolled line: the line of the text, and the copies that it is in.
-use Rattle.std.specs.Prelude.{Bool, true, false, List, map, option_map}
+use Rattle.std.specs.Prelude.{Bool, true, false, List, map, option_map, is_none}
+use Rattle.std.specs.List.{list_all}
 use Rattle.rc_expand.specs.declared.heads.head.Head.{Head}
 use Rattle.rc_expand.specs.declared.unroll.reached.Copying.{Copying}
 use Rattle.rc_expand.specs.Heads.Lines.{bare_line}
@@ -12,6 +13,10 @@ seen_copy c = record { counter = option_map (λ b. b.now) c.counter; number = c.
 
 abbrev pub copies_in : List Copying → List Copy
 copies_in cs = map seen_copy cs
+
+-- No copy has a counter: a line is in them as the text has it.
+abbrev pub have_no_counter : List Copying → Bool
+have_no_counter cs = list_all (λ c. is_none c.counter) cs
 
 -- A line itself, or the line of the labels before the counter of a FOR.
 abbrev pub reached_part : (is_earlier : Bool) → Head → Head

@@ -1,6 +1,7 @@
 //! The blocks of a text: for each FOR its ROF.
 ghost use Rattle.std.specs.Prelude.{◌≡◌, IfSome, IfNone};
-ghost use Rattle.rc_expand.specs.Results.{Returns, mapped};
+ghost use Rattle.rc_instr.specs.Results.{mapped};
+ghost use Rattle.rc_expand.specs.Results.{Returns};
 ghost use Rattle.rc_expand.specs.Heads.Tree.{NoLine, OneLine, Block, blocks_of, tree_of, distances, HaveDistances};
 
 use crate::fault::{ExpandFault, ExpandKind, fault};

@@ -4,7 +4,7 @@ ghost use Rattle.std.specs.Prelude.{◌≡◌, ◌++◌, ◌∷◌, [], IfOk, If
 ghost use Rattle.rc_expand.specs.Heads.Lines.{bare_line};
 ghost use Rattle.rc_expand.specs.Unroll.Copies.{line_in, stays_joinable, is_short, is_short_line};
 ghost use Rattle.rc_expand.specs.Unroll.Openings.{earlier_of};
-ghost use Rattle.rc_expand.specs.Unroll.Reached.{copies_in, reached_part};
+ghost use Rattle.rc_expand.specs.Unroll.Reached.{copies_in, have_no_counter, reached_part};
 ghost use Rattle.std.specs.List.{list_all};
 
 use crate::context::Context;
@@ -85,6 +85,13 @@ pub(crate) fn inner_copies<'a>(
     Ok(all)
 }
 
+// Checks that a line is in `copies` as the text has it.
+pub(crate) fn have_no_counter(copies: &[Copying]) -> bool
+    ensures { result ≡ have_no_counter copies.now }
+{
+    copies.iter().all(|copy| copy.counter.is_none())
+}
+
 // Checks for a line that is too short for a ninth counter to be joined to a name of it, in however
 // many copies.
 pub(crate) fn is_short_line(head: &Head) -> bool
@@ -141,11 +148,13 @@ impl<'a> Reached<'a> {
         self.head.number
     }
 
-    // Returns the line if it is as the text has it: in no copy, and not of earlier labels alone.
+    // Returns the line if it is as the text has it: no copy that it is in has a counter, and it is
+    // not of earlier labels alone.
+    #[tactic(auto, using(crate::proofs::Unrolling::Reaching::uncounted))]
     pub(crate) fn as_written(&self) -> Option<&'a Head>
         ensures { IfSome result (λ h. h.now ≡ self.now) }
     {
-        if self.copies.is_empty() && !self.is_earlier {
+        if !self.is_earlier && have_no_counter(&self.copies) {
             Some(self.head)
         } else {
             None

@@ -1,38 +1,23 @@
 //! Readers for the words of a load file: a mode, an opcode or a modifier at the front of bytes.
-ghost use Rattle.std.specs.Prelude.{◌≡◌, ℕ, List, ◌∷◌, ◌++◌, IfSome, IsSomeAnd};
-ghost use Rattle.rc_instr.specs.declared.instruction.Opcode.{Opcode};
-ghost use Rattle.rc_instr.specs.declared.instruction.Mode.{Mode};
-ghost use Rattle.rc_instr.specs.declared.instruction.Modifier.{Modifier};
-ghost use Rattle.rc_instr.specs.Words.{opcode_text, modifier_text};
-ghost use Rattle.rc_instr.specs.LoadText.{mode_text};
+ghost use Rattle.std.specs.Prelude.{◌≡◌, ◌∷◌, [], Some, None, MatchOption};
+ghost use Rattle.rc_instr.specs.LoadText.{mode_of};
+ghost use Rattle.rc_instr.specs.LoadReaders.{mode_at, opcode_at, modifier_at};
 
 use crate::decimal::after;
 use crate::instruction::{Mode, Modifier, Opcode};
 use crate::words::{modifier_of_letter, modifier_of_letters, opcode_of};
 
+#[tactic(auto, unfolding(crate::specs::LoadReaders::mode_at))]
 pub(crate) fn mode_at(bytes: &[u8]) -> Option<(Mode, &[u8])>
-    ensures found { IfSome result (λ x. bytes.now ≡ mode_text x.0 ++ x.1.now) }
-    ensures only { (mode : Mode) (rest : List ℕ) → bytes.now ≡ mode_text mode ++ rest
-        → IsSomeAnd result (λ x. (x.0 ≡ mode) × (x.1.now ≡ rest)) }
+    ensures { MatchOption result (mode_at bytes.now ≡ None) (λ x. mode_at bytes.now ≡ Some (x.0, x.1.now)) }
 {
-    match bytes {
-        [b'#', rest @ ..] => Some((Mode::Immediate, rest)),
-        [b'$', rest @ ..] => Some((Mode::Direct, rest)),
-        [b'*', rest @ ..] => Some((Mode::AIndirect, rest)),
-        [b'@', rest @ ..] => Some((Mode::BIndirect, rest)),
-        [b'{', rest @ ..] => Some((Mode::APredecrement, rest)),
-        [b'<', rest @ ..] => Some((Mode::BPredecrement, rest)),
-        [b'}', rest @ ..] => Some((Mode::APostincrement, rest)),
-        [b'>', rest @ ..] => Some((Mode::BPostincrement, rest)),
-        _ => None,
-    }
+    let (sign, rest) = bytes.split_first()?;
+    Some((mode_of(*sign)?, rest))
 }
 
-#[tactic(auto, using(crate::proofs::WordTable::opcode_found, crate::proofs::WordTable::opcode_ahead))]
+#[tactic(auto, unfolding(crate::specs::LoadReaders::opcode_at))]
 pub(crate) fn opcode_at(bytes: &[u8]) -> Option<(Opcode, &[u8])>
-    ensures found { IfSome result (λ x. bytes.now ≡ opcode_text x.0 ++ x.1.now) }
-    ensures only { (opcode : Opcode) (rest : List ℕ) → bytes.now ≡ opcode_text opcode ++ rest
-        → IsSomeAnd result (λ x. (x.0 ≡ opcode) × (x.1.now ≡ rest)) }
+    ensures { MatchOption result (opcode_at bytes.now ≡ None) (λ x. opcode_at bytes.now ≡ Some (x.0, x.1.now)) }
 {
     let (first, rest) = bytes.split_first()?;
     let (second, rest) = rest.split_first()?;
@@ -41,11 +26,9 @@ pub(crate) fn opcode_at(bytes: &[u8]) -> Option<(Opcode, &[u8])>
 }
 
 // Also reads the space after the modifier, since `A` alone begins `AB` too.
-#[tactic(auto, using(crate::proofs::WordTable::modifier_word_is, crate::proofs::WordTable::letter_ahead, crate::proofs::WordTable::letters_ahead))]
+#[tactic(auto, unfolding(crate::specs::LoadReaders::modifier_at))]
 pub(crate) fn modifier_at(bytes: &[u8]) -> Option<(Modifier, &[u8])>
-    ensures found { IfSome result (λ x. bytes.now ≡ modifier_text x.0 ++ 32 ∷ x.1.now) }
-    ensures only { (modifier : Modifier) (rest : List ℕ) → bytes.now ≡ modifier_text modifier ++ 32 ∷ rest
-        → IsSomeAnd result (λ x. (x.0 ≡ modifier) × (x.1.now ≡ rest)) }
+    ensures { MatchOption result (modifier_at bytes.now ≡ None) (λ x. modifier_at bytes.now ≡ Some (x.0, x.1.now)) }
 {
     let (first, rest) = bytes.split_first()?;
     let (second, rest) = rest.split_first()?;
@@ -53,4 +36,21 @@ pub(crate) fn modifier_at(bytes: &[u8]) -> Option<(Modifier, &[u8])>
         return Some((modifier_of_letter(*first)?, rest));
     }
     Some((modifier_of_letters(*first, *second)?, after(b' ', rest)?))
+}
+
+// Returns the mode of a sign.
+fn mode_of(sign: u8) -> Option<Mode>
+    ensures { result ≡ mode_of (sign ∷ []) }
+{
+    match sign {
+        b'#' => Some(Mode::Immediate),
+        b'$' => Some(Mode::Direct),
+        b'*' => Some(Mode::AIndirect),
+        b'@' => Some(Mode::BIndirect),
+        b'{' => Some(Mode::APredecrement),
+        b'<' => Some(Mode::BPredecrement),
+        b'}' => Some(Mode::APostincrement),
+        b'>' => Some(Mode::BPostincrement),
+        _ => None,
+    }
 }

@@ -1,6 +1,6 @@
 use Rattle.std.proofs.Common.{◌∙◌, ap}
 use Rattle.std.proofs.lemmas.Result.{err_from_is_err_and}
-use Rattle.rc_expand.specs.Results.{and_then}
+use Rattle.rc_instr.specs.Results.{and_then}
 use Rattle.rc_expand.specs.Unroll.Steps.{step_of_copy}
 use Rattle.rc_expand.proofs.Unrolling.UnrollSteps.{copies_step}
 use Rattle.rc_expand.proofs.unroll.+unroll.Goals as goal

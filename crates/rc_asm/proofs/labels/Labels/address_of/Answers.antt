@@ -1,6 +1,6 @@
 use Rattle.std.proofs.Common.{◌∙◌}
 use Rattle.rc_text.specs.Symbols.{name_of}
-use Rattle.rc_asm.proofs.Steps.{address_found}
+use Rattle.rc_asm.proofs.LabelSteps.{address_found}
 use Rattle.rc_asm.proofs.labels.Labels.address_of.Goals as goal
 
 pub returns-clause-address : goal.returns-clause-address

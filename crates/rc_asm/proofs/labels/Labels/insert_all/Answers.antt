@@ -1,6 +1,6 @@
 use Rattle.std.proofs.Common.{◌∙◌, refl}
 use Rattle.rc_text.specs.Symbols.{name_of}
-use Rattle.rc_asm.proofs.Steps.{label_inserted}
+use Rattle.rc_asm.proofs.LabelSteps.{label_inserted}
 use Rattle.rc_asm.proofs.labels.Labels.insert_all.Goals as goal
 
 pub loop-token-preserved : goal.loop-token-preserved

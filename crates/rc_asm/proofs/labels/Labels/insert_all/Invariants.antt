@@ -1,7 +1,7 @@
 use Rattle.std.proofs.Common.{◌++◌, map, length}
 use Rattle.rc_text.specs.Symbols.{name_of}
 use Rattle.rc_asm.specs.Names.{Labels}
-use Rattle.rc_asm.specs.Steps.{Agree}
+use Rattle.rc_asm.specs.Names.{Agree}
 use Rattle.rc_asm.proofs.labels.Labels.insert_all.Given as goal
 
 abbrev pub decreases-loop-token : goal.decreases-loop-token

@@ -1,7 +1,7 @@
 use Rattle.std.proofs.Common.{arith, ap, length, ◌∙◌, ◌++◌, map}
 use Rattle.rc_text.specs.Symbols.{name_of}
 use Rattle.rc_expand.specs.Names.{entry_of}
-use Rattle.rc_asm.proofs.Steps.{after_most, labels_next}
+use Rattle.rc_asm.proofs.LabelSteps.{after_most, labels_next}
 use Rattle.rc_asm.proofs.labels.Labels.of_lines.Goals as goal
 
 pub loop-line-preserved : goal.loop-line-preserved

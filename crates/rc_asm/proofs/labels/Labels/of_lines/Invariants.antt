@@ -1,6 +1,6 @@
 use Rattle.std.proofs.Common.{◌≤◌, ◌+◌, ◌++◌, length}
 use Rattle.rc_asm.specs.Names.{labels_from, labels_of}
-use Rattle.rc_asm.specs.Steps.{Agree}
+use Rattle.rc_asm.specs.Names.{Agree}
 use Rattle.rc_asm.proofs.labels.Labels.of_lines.Given as goal
 
 abbrev pub decreases-loop-line : goal.decreases-loop-line

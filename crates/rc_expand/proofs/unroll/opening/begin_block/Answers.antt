@@ -1,7 +1,7 @@
 use Rattle.std.proofs.Common.{◌∙◌, ap, sym}
 use Rattle.std.specs.Prelude.{Err, option_map}
 use Rattle.std.proofs.lemmas.Result.{err_from_is_err_and}
-use Rattle.rc_expand.specs.Results.{and_then, mapped}
+use Rattle.rc_instr.specs.Results.{and_then, mapped}
 use Rattle.rc_expand.specs.Shared.{shared}
 use Rattle.rc_expand.specs.Unroll.Openings.{earlier_of, counted_by, counter_name}
 use Rattle.rc_expand.proofs.Unrolling.CountSteps.{opening_spoiled, opening_tested}

@@ -1,6 +1,7 @@
 use Rattle.std.proofs.Common.{◌≡◌, sym, ◌∙◌, ap, arith, length, suc, ◌-◌}
 use Rattle.std.specs.Prelude.{Err, Some, ok_or}
-use Rattle.rc_expand.specs.Results.{at_line, mapped}
+use Rattle.rc_instr.specs.Results.{mapped}
+use Rattle.rc_expand.specs.Results.{at_line}
 use Rattle.rc_expand.specs.Heads.Lines.{plain_token}
 use Rattle.rc_expand.specs.Unroll.Openings.{counter_kind, counter_of}
 use Rattle.rc_expand.proofs.Unrolling.CountSteps.{counter_at}
