@@ -12,3 +12,4 @@ pub mod Duels
 pub mod Writable
 pub mod Certified
 pub mod AcceptedParts
+pub mod SharedChecks
