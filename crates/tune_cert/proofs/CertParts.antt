@@ -107,7 +107,7 @@ two_on : (number : ℕ) → 2 ≤ number → number ≡ suc (suc (number - 2))
 two_on number h = omega arith
 
 -- the records before that of a row have their forms
-rows_before : (behind : List Fields) (first second : Fields) (v : ℕ) → HasForm 0 first → HasForm 1 second → ((u : ℕ) → u < v → HasRow behind u)
+pub rows_before : (behind : List Fields) (first second : Fields) (v : ℕ) → HasForm 0 first → HasForm 1 second → ((u : ℕ) → u < v → HasRow behind u)
     → (k : ℕ) → k < suc (suc v) → ¬ (IsMalformed (first ∷ second ∷ behind) k)
 rows_before behind first second v a b before zero l = not_malformed (first ∷ second ∷ behind) 0 first refl a
 rows_before behind first second v a b before (suc zero) l = not_malformed (first ∷ second ∷ behind) 1 second refl b

@@ -1,34 +1,276 @@
--- All that is promised of a verdict.
-use Rattle.std.proofs.Common.{◌≡◌, ℕ, List, Result, Ok, Err, sym, subst}
-use Rattle.std.specs.Prelude.{IfOk}
+-- What a verdict on all rows promises.
+use Rattle.std.proofs.Common.{◌≡◌, inl, inr, ℕ, suc, ◌+◌, ◌-◌, ◌<◌, ◌≤◌, arith, Bool, true, false, List, [], ◌∷◌, length, Option, Some, None, refl, sym, ◌∙◌, ap, subst}
+use Rattle.std.proofs.Common.{append-nil}
+use Rattle.std.proofs.lemmas.Bool.{cases_lt}
+use Rattle.std.specs.List.{slice_get}
+use Rattle.std.proofs.lemmas.Option.{slice_get_within}
 use Rattle.tables.specs.Records.{Fields}
+use Rattle.tune_problem.specs.Parts.{part, whole, part_first, part_end}
 use Rattle.tune_problem.specs.Problem.{Problem, IsProblem}
-use Rattle.tune_problem.specs.Optimum.{IsOptimum, HasTotal}
+use Rattle.tune_problem.specs.Valid.{IsVersionOf, IsValid}
 use Rattle.tune_problem.specs.declared.cert.Cert.{Cert}
+use Rattle.tune_problem.specs.declared.cert.Row.{Row}
+use Rattle.tune_problem.specs.declared.cert.Row.TheVariants.{Refused, Same, Cap}
+use Rattle.tune_problem.specs.declared.part.Part.{Part}
 use Rattle.tune_problem.proofs.Certificates.{valid_is_optimum, valid_total}
-use Rattle.tune_cert.specs.Spelling.{Spells}
-use Rattle.tune_cert.specs.Verdict.{IsOptimal, IsRightVerdict}
-use Rattle.tune_cert.specs.Steps.{IsCertVerdict, IsFirstVerdict}
-use Rattle.tune_cert.specs.declared.fault.CheckFault.{CheckFault}
+use Rattle.tune_cert.proofs.ShareBounds.{whole_bounds}
+use Rattle.tune_cert.specs.CertText.{count_fields, best_fields, rows_fields, cert_fields}
+use Rattle.tune_cert.specs.Spelling.{Spells, IsMalformed, IsFirstMalformed, record_of}
+use Rattle.tune_cert.specs.Checks.{refers, alone_reason, same_reason, row_reason, reason_at, first_wrong, rows_failure, share_settings, first_failure, is_version_of, has_row_count, is_best_row}
+use Rattle.tune_cert.specs.Shares.{IsValidInShare}
+use Rattle.tune_cert.specs.Verdict.{verdict_by, verdict_on, IsVerdictOf, HasRowCount, IsBestRow, IsWrongRow, IsRejected, IsCheckedBefore, IsFirstRow, IsFirst, IsRightVerdict}
+use Rattle.tune_cert.specs.declared.verdict.Reason.{Reason}
+use Rattle.tune_cert.specs.declared.verdict.Reason.TheVariants.{Malformed, RowCount, BestRow, WrongPoints, RepeatedFight, CapTooHigh, NotSame, NotRefused, Version}
 use Rattle.tune_cert.specs.declared.verdict.Verdict.{Verdict}
 use Rattle.tune_cert.specs.declared.verdict.Verdict.TheVariants.{Accepted, Rejected}
-use Rattle.tune_cert.proofs.Verdicts.{answered, accepts, first_answered}
+use Rattle.tune_cert.proofs.CertParts.{rows_before}
+use Rattle.tune_cert.proofs.RowLists.{have_rows}
+use Rattle.tune_cert.proofs.OneSpelling.{one_spelled}
+use Rattle.tune_cert.proofs.RightRows.{IsOfRow, row_some}
+use Rattle.tune_cert.proofs.FirstWrong.{IsFound, none_each, found, two_walks_some, reason_here, wrong_row, Chain, at_version, at_count, at_best, at_rows, chain_some}
+use Rattle.tune_cert.proofs.ValidShares.{version_right, right_version, count_right, right_count, best_right, right_best, valid_if_none, none_if_valid, valid_in_shares, valid_of_shares, valid_if_whole}
 
--- what is accepted names the optimum
-optimal : (p : Problem) → IsProblem p → (c : Cert) (v : Verdict) → IsCertVerdict p c v → IsOptimal p v
-optimal p laws c (Accepted best total) h =
-    let best_is : IsOptimum p best = subst (λ (w : ℕ). IsOptimum p w) (sym h.1) (valid_is_optimum p laws c h.0) in
-    let has : HasTotal p best c.total = subst (λ (w : ℕ). HasTotal p w c.total) (sym h.1) (valid_total p laws c h.0) in
-    (best_is, subst (λ (t : ℕ). HasTotal p best t) (sym h.2) has)
-optimal p laws c (Rejected number reason) h = tt
+-- ---- records that spell a certificate have their forms
 
--- the verdict on the certificate that the records spell, if there is one
-pub right_if : (p : Problem) → IsProblem p → (records : List Fields) (c : Cert) (r : Result Verdict CheckFault) → Spells records c
-    → ((d : Cert) → Spells records d → c ≡ d) → IfOk r (IsCertVerdict p c) → IfOk r (IsFirstVerdict p c) → IfOk r (IsRightVerdict p records)
-right_if p laws records c (Ok v) s only h f = record {
-  holds = answered p records c v s h;
-  first = first_answered p records c v s f;
-  optimum = optimal p laws c v h;
-  accepted = λ d spelled valid. accepts p laws c d v (only d spelled) h valid;
-}
-right_if p laws records c (Err e) s only h f = tt
+no_more : (records : List Fields) (k : ℕ) → 2 ≤ k → length records ≤ k → IsMalformed records k → ⊥
+no_more records k two l (inl missing) = absurd (omega (arith, two, missing.0))
+no_more records k two l (inr bad) = absurd (omega (arith, l, slice_get_within records k bad.0 bad.1))
+
+length_fields : (rs : List Row) (v : ℕ) → length (rows_fields rs v) ≡ length rs
+unfolding rows_fields
+length_fields [] v = refl
+length_fields (r ∷ rs) v = ap suc (length_fields rs (v + 1))
+
+well_formed : (records : List Fields) (c : Cert) → Spells records c → (k : ℕ) → IsMalformed records k → ⊥
+unfolding cert_fields
+well_formed records c s k bad =
+    let behind = rows_fields c.rows 0 in
+    let first = count_fields c.version c.count in
+    let second = best_fields c.best c.total in
+    let here : IsMalformed (first ∷ second ∷ behind) k = subst (λ (r : List Fields). IsMalformed r k) s.text bad in
+    elim (cases_lt k (suc (suc (length c.rows)))) [
+      | inl inside ↦
+          rows_before behind first second (length c.rows) (c.version, c.count, s.cert.version, s.cert.count, refl) (c.best, c.total, s.cert.best, s.cert.total, refl)
+          (λ u l. have_rows c.rows behind [] (sym (append-nil behind)) s.cert.rows s.cert.few u l) k inside here
+      | inr outside ↦
+          no_more (first ∷ second ∷ behind) k (omega (arith, outside)) (omega (arith, outside, length_fields c.rows 0)) here
+    ]
+
+-- ---- the first wrong row
+
+module _ (p : Problem) (c : Cert) (rows_are : length c.rows ≡ p.count) where
+  inside : (v : ℕ) (row : Row) → slice_get c.rows v ≡ Some row → v < part_first whole p.count + (part_end whole p.count - part_first whole p.count)
+  inside v row at = let within = slice_get_within c.rows v row at in let bounds = whole_bounds p.count in omega (arith, within, rows_are, bounds.0, bounds.1)
+
+  low : (v : ℕ) → part_first whole p.count ≤ v
+  low v = let bounds = whole_bounds p.count in omega (arith, bounds.0)
+
+  -- a walk over all rows finds the first
+  by_walk : (check : ℕ → Row → Option Reason) (number : ℕ) (reason : Reason) → IsFound (reason_at check c.rows) (part_first whole p.count) (part_end whole p.count - part_first whole p.count) number reason
+      → (v : ℕ) × (row : Row) × (number ≡ record_of v) × (slice_get c.rows v ≡ Some row) × (check v row ≡ Some reason)
+      × ((u : ℕ) (r : Row) → u < v → slice_get c.rows u ≡ Some r → check u r ≡ None)
+  by_walk check number reason i =
+      let here = wrong_row check c.rows i.vector reason i.wrong in (
+        i.vector,
+        here.0,
+        i.number_is,
+        here.1,
+        here.2,
+        λ u r l at. reason_here check c.rows u r None at (i.before u (low u) l),
+      )
+
+  alone_all : (check : ℕ → Row → Option Reason) → first_wrong (reason_at check c.rows) (share_settings whole p.count) ≡ None → (u : ℕ) (r : Row) → slice_get c.rows u ≡ Some r → check u r ≡ None
+  alone_all check e u r at =
+      reason_here check c.rows u r None at (none_each (reason_at check c.rows) (part_end whole p.count - part_first whole p.count) (part_first whole p.count) e u (low u) (inside u r at))
+
+  -- the row that a check of refused and cap rows finds
+  alone_is : (v : ℕ) (row : Row) (reason : Reason) → alone_reason p c v row ≡ Some reason → (refers row ≡ false) × (row_reason p c v row ≡ Some reason)
+  alone_is v Refused reason e = (refl, e)
+  alone_is v (Same u) reason e = absurd (cc)
+  alone_is v (Cap row) reason e = (refl, e)
+
+  same_is : (v : ℕ) (row : Row) (reason : Reason) → same_reason p c v row ≡ Some reason → (refers row ≡ true) × (row_reason p c v row ≡ Some reason)
+  same_is v Refused reason e = absurd (cc)
+  same_is v (Same u) reason e = (refl, e)
+  same_is v (Cap row) reason e = absurd (cc)
+
+  -- what is checked before a refused or a cap row
+  before_alone : (v : ℕ) (row : Row) → refers row ≡ false → ((u : ℕ) (r : Row) → u < v → slice_get c.rows u ≡ Some r → alone_reason p c u r ≡ None)
+      → (u : ℕ) (r : Row) → slice_get c.rows u ≡ Some r → IsCheckedBefore u r v row → row_reason p c u r ≡ None
+  before_alone v Refused f h u Refused at l = h u Refused l at
+  before_alone v Refused f h u (Same s) at l = absurd l
+  before_alone v Refused f h u (Cap r) at l = h u (Cap r) l at
+  before_alone v (Same t) f h u r at l = absurd (cc)
+  before_alone v (Cap row) f h u Refused at l = h u Refused l at
+  before_alone v (Cap row) f h u (Same s) at l = absurd l
+  before_alone v (Cap row) f h u (Cap r) at l = h u (Cap r) l at
+
+  -- what is checked before a row that refers to another setting
+  before_same : (v : ℕ) (row : Row) → refers row ≡ true → ((u : ℕ) (r : Row) → slice_get c.rows u ≡ Some r → alone_reason p c u r ≡ None)
+      → ((u : ℕ) (r : Row) → u < v → slice_get c.rows u ≡ Some r → same_reason p c u r ≡ None)
+      → (u : ℕ) (r : Row) → slice_get c.rows u ≡ Some r → IsCheckedBefore u r v row → row_reason p c u r ≡ None
+  before_same v Refused f a h u r at l = absurd (cc)
+  before_same v (Cap row) f a h u r at l = absurd (cc)
+  before_same v (Same t) f a h u Refused at l = a u Refused at
+  before_same v (Same t) f a h u (Same s) at l = h u (Same s) l at
+  before_same v (Same t) f a h u (Cap r) at l = a u (Cap r) at
+
+  row_found : (number : ℕ) (reason : Reason) → rows_failure p (share_settings whole p.count) c ≡ Some (number, reason) → IsWrongRow p c number reason × IsFirstRow p c number
+  row_found number reason e = elim (two_walks_some _ _ _ e) [
+    | inl alone ↦
+        let i = by_walk (alone_reason p c) number reason (found (reason_at (alone_reason p c) c.rows) _ _ number reason alone) in
+        let is = alone_is i.0 i.1 reason i.4 in (
+          record { vector = i.0; number_is = i.2; row = i.1; here = i.3; wrong = is.1 },
+          record { vector = i.0; number_is = i.2; row = i.1; here = i.3; before = before_alone i.0 i.1 is.0 i.5 },
+        )
+    | inr same ↦
+        let i = by_walk (same_reason p c) number reason (found (reason_at (same_reason p c) c.rows) _ _ number reason same.1) in
+        let is = same_is i.0 i.1 reason i.4 in (
+          record { vector = i.0; number_is = i.2; row = i.1; here = i.3; wrong = is.1 },
+          record { vector = i.0; number_is = i.2; row = i.1; here = i.3; before = before_same i.0 i.1 is.0 (alone_all (alone_reason p c) same.0) i.5 },
+        )
+  ]
+
+-- ---- a rejection
+
+rejected_row : (p : Problem) (c : Cert) (number : ℕ) (reason : Reason) → IsOfRow reason → IsWrongRow p c number reason → IsRejected p c number reason
+rejected_row p c number Malformed o w = absurd o
+rejected_row p c number Version o w = absurd o
+rejected_row p c number RowCount o w = absurd o
+rejected_row p c number BestRow o w = absurd o
+rejected_row p c number WrongPoints o w = w
+rejected_row p c number RepeatedFight o w = w
+rejected_row p c number CapTooHigh o w = w
+rejected_row p c number NotSame o w = w
+rejected_row p c number NotRefused o w = w
+
+first_row : (p : Problem) (records : List Fields) (c : Cert) (number : ℕ) (reason : Reason) → IsOfRow reason → Spells records c
+    → IsVersionOf p c.version × HasRowCount p c × IsBestRow p c × IsFirstRow p c number → IsFirst p records (Rejected number reason)
+first_row p records c number Malformed o s f = absurd o
+first_row p records c number Version o s f = absurd o
+first_row p records c number RowCount o s f = absurd o
+first_row p records c number BestRow o s f = absurd o
+first_row p records c number WrongPoints o s f = (c, s, f)
+first_row p records c number RepeatedFight o s f = (c, s, f)
+first_row p records c number CapTooHigh o s f = (c, s, f)
+first_row p records c number NotSame o s f = (c, s, f)
+first_row p records c number NotRefused o s f = (c, s, f)
+
+fails_not : {P : Type 0} (b : Bool) → (P → b ≡ true) → b ≡ false → P → ⊥
+fails_not b h e x = let t = h x in let both : true ≡ false = sym t ∙ e in absurd (cc)
+
+module _ (p : Problem) (laws : IsProblem p) (records : List Fields) (c : Cert) (s : Spells records c) where
+  says : (number : ℕ) (reason : Reason)
+      → Chain (is_version_of p c.version) (has_row_count p c) (is_best_row p c.total (slice_get c.rows c.best)) (rows_failure p (share_settings whole p.count) c) number reason
+      → IsRejected p c number reason × IsFirst p records (Rejected number reason)
+  says number reason (at_version f n r) =
+      rw r (((n, λ (h : IsVersionOf p c.version). fails_not (is_version_of p c.version) (right_version p c.version) f h), (c, s, tt)))
+  says number reason (at_count v f n r) =
+      rw r (((n, λ (h : HasRowCount p c). fails_not (has_row_count p c) (right_count p c) f h), (c, s, version_right p c.version v)))
+  says number reason (at_best v k f n r) =
+      rw r (((n, λ (h : IsBestRow p c). fails_not (is_best_row p c.total (slice_get c.rows c.best)) (right_best p c) f h), (c, s, (version_right p c.version v, count_right p c k))))
+  says number reason (at_rows v k b e) =
+      let many = count_right p c k in
+      let i = row_found p c many.1 number reason e in
+      let w = i.0 in
+      let o = row_some p c w.vector w.row reason w.wrong in
+      (rejected_row p c number reason o w, first_row p records c number reason o s (version_right p c.version v, many, best_right p c b, i.1))
+
+  -- a certificate with a failure is not valid
+  not_valid : (x : ℕ × Reason) → first_failure p whole c ≡ Some x → (d : Cert) → Spells records d → IsValid p d → ⊥
+  not_valid x e d spelled valid =
+      let same : d ≡ c = one_spelled records d c spelled s in
+      let own : IsValid p c = subst (λ (k : Cert). IsValid p k) same valid in
+      let none = none_if_valid p whole c (valid_in_shares p c laws own whole) in
+      let both : None ≡ Some x = sym none ∙ e in
+      absurd (cc)
+
+  by_failure : (o : Option (ℕ × Reason)) → first_failure p whole c ≡ o → IsRightVerdict p records (verdict_by c o)
+  unfolding first_failure
+  by_failure None e =
+      let valid : IsValid p c = valid_if_whole p c (valid_if_none p whole c e) in
+      record {
+        holds = (c, s, valid, refl, refl);
+        first = tt;
+        optimum = (valid_is_optimum p laws c valid, valid_total p laws c valid);
+        accepted = λ d spelled _. let same : d ≡ c = one_spelled records d c spelled s in ap (λ (k : Cert). Accepted k.best k.total) (sym same);
+      }
+  by_failure (Some x) e =
+      let h = says x.0 x.1 (chain_some _ _ _ _ x.0 x.1 e) in
+      record {
+        holds = inr (c, s, h.0);
+        first = h.1;
+        optimum = tt;
+        accepted = λ d spelled valid. absurd (not_valid x e d spelled valid);
+      }
+
+pub right_verdict : (p : Problem) (records : List Fields) (v : Verdict) → IsProblem p → IsVerdictOf p whole records v → IsRightVerdict p records v
+right_verdict p records v laws (inl (c, s, is)) =
+    subst (λ (x : Verdict). IsRightVerdict p records x) (sym is) (by_failure p laws records c s (first_failure p whole c) refl)
+right_verdict p records v laws (inr (number, bad, is)) =
+    subst (λ (x : Verdict). IsRightVerdict p records x) (sym is) (record {
+      holds = inl (refl, bad.malformed);
+      first = bad;
+      optimum = tt;
+      accepted = λ d spelled valid. absurd (well_formed records d spelled number bad.malformed);
+    })
+
+-- ---- a share that accepts
+
+accepts_one : (c : Cert) (o : Option (ℕ × Reason)) (best total : ℕ) → Accepted best total ≡ verdict_by c o → (o ≡ None) × (best ≡ c.best) × (total ≡ c.total)
+accepts_one c None best total e = (refl, cc, cc)
+accepts_one c (Some x) best total e = absurd (cc)
+
+apart : (best total number : ℕ) (reason : Reason) → Accepted best total ≡ Rejected number reason → ⊥
+apart best total number reason e = cc
+
+-- what a share accepts is a certificate that is valid in it
+pub share_accepts : (p : Problem) (share : Part) (records : List Fields) (best total : ℕ) → IsVerdictOf p share records (Accepted best total)
+    → (c : Cert) × Spells records c × IsValidInShare p share c × (best ≡ c.best) × (total ≡ c.total)
+share_accepts p share records best total (inl (c, s, is)) =
+    let one = accepts_one c (first_failure p share c) best total is in
+    (c, s, valid_if_none p share c one.0, one.1, one.2)
+share_accepts p share records best total (inr (number, bad, is)) = absurd (apart best total number Malformed is)
+
+-- a valid certificate is accepted in each share
+pub accepted_in_share : (p : Problem) → IsProblem p → (share : Part) (records : List Fields) (v : Verdict) (c : Cert) → Spells records c → IsValid p c → IsVerdictOf p share records v
+    → v ≡ Accepted c.best c.total
+accepted_in_share p laws share records v c s valid (inl (d, t, is)) =
+    let same : d ≡ c = one_spelled records d c t s in
+    is ∙ (ap (verdict_on p share) same ∙ ap (verdict_by c) (none_if_valid p share c (valid_in_shares p c laws valid share)))
+accepted_in_share p laws share records v c s valid (inr (number, bad, is)) = absurd (well_formed records c s number bad.malformed)
+
+-- what all shares accept is a valid certificate
+pub shares_accept : (p : Problem) (shares : ℕ) (records : List Fields) → 1 ≤ shares
+    → ((n : ℕ) → 1 ≤ n → n ≤ shares → (best : ℕ) × (total : ℕ) × IsVerdictOf p (part n shares) records (Accepted best total))
+    → (c : Cert) × Spells records c × IsValid p c
+shares_accept p shares records some each =
+    let first = each 1 (omega arith) some in
+    let own = share_accepts p (part 1 shares) records first.0 first.1 first.2 in
+    let c = own.0 in (
+      c,
+      own.1,
+      valid_of_shares p c shares some (λ n one within.
+          let other = each n one within in
+          let here = share_accepts p (part n shares) records other.0 other.1 other.2 in
+          let same : here.0 ≡ c = one_spelled records here.0 c here.1 own.1 in
+          subst (λ (k : Cert). IsValidInShare p (part n shares) k) same here.2),
+    )
+
+-- the verdict of a share on a valid certificate
+pub valid_verdict : (p : Problem) → IsProblem p → (share : Part) (records : List Fields) (c : Cert) → Spells records c → IsValid p c → IsVerdictOf p share records (Accepted c.best c.total)
+valid_verdict p laws share records c s valid = inl (c, s, sym (ap (verdict_by c) (none_if_valid p share c (valid_in_shares p c laws valid share))))
+
+-- ---- records have one verdict
+
+one_malformed : (records : List Fields) (n m : ℕ) → IsFirstMalformed records n → IsFirstMalformed records m → n ≡ m
+one_malformed records n m a b = elim (cases_lt n m) [
+  | inl l ↦ absurd (b.first n l a.malformed)
+  | inr l ↦ elim (cases_lt m n) [ inl k ↦ absurd (a.first m k b.malformed) | inr k ↦ omega (arith, l, k) ]
+]
+
+pub one_verdict : (p : Problem) (share : Part) (records : List Fields) (v w : Verdict) → IsVerdictOf p share records v → IsVerdictOf p share records w → v ≡ w
+one_verdict p share records v w (inl (c, s, is)) (inl (d, t, js)) = is ∙ (ap (verdict_on p share) (one_spelled records c d s t) ∙ sym js)
+one_verdict p share records v w (inl (c, s, is)) (inr (m, bad, js)) = absurd (well_formed records c s m bad.malformed)
+one_verdict p share records v w (inr (n, bad, is)) (inl (d, t, js)) = absurd (well_formed records d t n bad.malformed)
+one_verdict p share records v w (inr (n, bad, is)) (inr (m, worse, js)) = is ∙ (ap (λ k. Rejected k Malformed) (one_malformed records n m bad worse) ∙ sym js)

@@ -1,7 +1,10 @@
 -- A certificate has one text, and a text spells at most one certificate. The verdict on bytes is
 -- Accepted exactly if they spell a valid certificate, and then names the optimum. A rejection names
--- the first record at which a check fails, and why.
+-- the first record at which a check fails, and why. A certificate is valid exactly if it is valid
+-- in each share of its rows.
 pub mod CertText
 pub mod Spelling
+pub mod Checks
 pub mod Verdict
+pub mod Shares
 pub mod Steps

@@ -1,6 +1,6 @@
 -- Words that only the contracts of private functions use: parts of certificates, checks under way,
 -- and a certificate that is being written.
-use Rattle.std.specs.Prelude.{◌≡◌, ℕ, suc, ◌+◌, ◌-◌, ◌*◌, ◌<◌, ◌≤◌, ◌^◌, List, length, slice_get, Option, Some, All, flat_map, [], ◌∷◌, Bool, true, false}
+use Rattle.std.specs.Prelude.{◌≡◌, ℕ, suc, ◌+◌, ◌-◌, ◌*◌, ◌<◌, ◌≤◌, ◌^◌, List, length, slice_get, Option, Some, All, flat_map, false}
 use Rattle.tables.specs.Records.{Fields}
 use Rattle.tune_cert.specs.CertText.{spaced_text, list_text, rows_fields, count_fields, best_fields}
 use Rattle.tune_cert.specs.Spelling.{FitsU32, IsVersion, IsItem, IsRow, HasForm}
@@ -10,27 +10,8 @@ use Rattle.tune_cert.specs.declared.fault.ReadFault.TheVariants.{Malformed, OutO
 use Rattle.std.specs.List.{sum_by}
 use Rattle.rc_instr.specs.Warrior.{WarriorView}
 use Rattle.tune_problem.specs.Problem.{Problem}
-use Rattle.tune_problem.specs.Optimum.{most_besides}
-use Rattle.tune_problem.specs.Valid.{listed_indices, listed_total, IsValid}
-use Rattle.tune_cert.specs.Verdict.{IsRejected, IsRightSame, IsFirstOfCap, IsFirstOfSame, IsFirstOfCert}
-use Rattle.tune_problem.specs.declared.cert.Cert.{Cert}
-use Rattle.tune_problem.specs.declared.cert.Row.TheVariants.{Refused, Same, Cap}
-use Rattle.tune_cert.specs.declared.verdict.Reason.{Reason}
-use Rattle.tune_cert.specs.declared.verdict.Verdict.{Verdict}
-use Rattle.tune_cert.specs.declared.verdict.Verdict.TheVariants.{Accepted, Rejected}
 use Rattle.csv.specs.Writing.{default_writer, writer_setup, fields_written, has_written}
 use Rattle.csv.specs.declared.writer.Writer.{Writer}
-
--- A row refers to another setting.
-abbrev pub refers : Row → Bool
-refers (Same u) = true
-refers Refused = false
-refers (Cap row) = false
-
--- No row refers to another setting.
-abbrev pub NoneRefer : List Row → Type 0
-NoneRefer [] = Unit {0}
-NoneRefer (row ∷ rows) = (refers row ≡ false) × NoneRefer rows
 
 -- The bytes spell these fights, each after a space.
 pub record AreSpaced (bytes : List ℕ) (items : List (ℕ × ℕ)) : Type 0 where
@@ -76,44 +57,9 @@ abbrev pub IsBadRow : List Fields → ReadFault → Type 0
 IsBadRow records OutOfMemory = Unit {0}
 IsBadRow records (Malformed row) = (2 ≤ row) × IsBadRecord records (row - 2)
 
--- A cap row lists the fights from a to n - 1, in order.
-abbrev pub ListsAll : ℕ → ℕ → List (ℕ × ℕ) → Type 0
-ListsAll n a [] = a ≡ n
-ListsAll n a (e ∷ row) = (e.0 ≡ a) × ListsAll n (a + 1) row
-
 -- The most that the fights of a row can give.
 abbrev pub listed_most : Problem → List (ℕ × ℕ) → ℕ
 listed_most p row = sum_by (λ e. 3 * p.weight e.0) row
-
--- The cap of a row: the scores that it lists, and the most that the other fights can give.
-abbrev pub listed_cap : Problem → List (ℕ × ℕ) → ℕ
-listed_cap p row = listed_total p row + most_besides p (listed_indices row)
-
--- What is checked of a refused or a cap row before each reason is right.
-abbrev pub IsFirstAlone : Problem → ℕ → Row → Reason → Type 0
-IsFirstAlone p v Refused reason = Unit {0}
-IsFirstAlone p v (Same u) reason = ⊥
-IsFirstAlone p v (Cap row) reason = IsFirstOfCap p v row reason
-
--- What is checked of a row that refers to another setting before each reason is right.
-abbrev pub IsFirstSame : Problem → Cert → ℕ → Row → Reason → Type 0
-IsFirstSame p c v Refused reason = ⊥
-IsFirstSame p c v (Same u) reason = IsFirstOfSame p c v u reason
-IsFirstSame p c v (Cap row) reason = ⊥
-
--- All rows that refer to other settings are right.
-pub record AreRightSame (p : Problem) (c : Cert) : Type 0 where
-  pub each : (v : ℕ) (row : Row) → slice_get c.rows v ≡ Some row → IsRightSame p c v row
-
--- The verdict on a certificate whose form is right.
-abbrev pub IsCertVerdict : Problem → Cert → Verdict → Type 0
-IsCertVerdict p c (Accepted best total) = IsValid p c × (best ≡ c.best) × (total ≡ c.total)
-IsCertVerdict p c (Rejected number reason) = IsRejected p c number reason
-
--- What is checked before a rejection is right.
-abbrev pub IsFirstVerdict : Problem → Cert → Verdict → Type 0
-IsFirstVerdict p c (Accepted best total) = Unit {0}
-IsFirstVerdict p c (Rejected number reason) = IsFirstOfCert p c number reason
 
 -- An entry for each setting, at its index: its warrior, or None if that was not needed yet.
 pub record AreAssembled (p : Problem) (warriors : List (Option WarriorView)) : Type 0 where

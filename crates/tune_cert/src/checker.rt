@@ -1,27 +1,23 @@
 //! Checks certificates.
-ghost use Rattle.std.specs.Prelude.{◌≡◌, ◌+◌, length, IfOk, IfSome, IfNone};
+ghost use Rattle.std.specs.Prelude.{◌≡◌, ◌+◌, ◌-◌, ◌<◌, ◌≤◌, ◌^◌, length, IfOk, IsTrue};
+ghost use Rattle.std.specs.List.{range_with_len};
 ghost use Rattle.mars_core.specs.Arena.{IsBlank};
 ghost use Rattle.tables.specs.Records.{records_of};
+ghost use Rattle.tune_problem.specs.Parts.{whole, part};
 ghost use Rattle.tune_problem.specs.Problem.{problem_of};
-ghost use Rattle.tune_cert.specs.Verdict.{IsWrongRow, AreRightAlone, IsFirstRow, IsRightVerdict};
-ghost use Rattle.tune_cert.specs.Steps.{AreRightSame, IsCertVerdict, IsFirstVerdict};
+ghost use Rattle.tune_cert.specs.Checks.{alone_reason, same_reason, reason_at, first_wrong, rows_failure, share_settings, fights_listed, is_version_of, has_row_count};
+ghost use Rattle.tune_cert.specs.Verdict.{verdict_on, IsVerdictOf};
 
 use crate::fault::{CheckFault, ReadFault};
 use crate::read::{read_cert, record_of};
 use crate::row_checks::{Claim, check_alone, check_same, is_best_row};
-use crate::telling::{before_rows, none_refer, refers, tell_row};
+use crate::share::Share;
+use crate::telling::{before_rows, refers, tell_row};
 use crate::verdict::{Reason, Verdict};
 use crate::warriors::no_warriors;
 use mars_core::{Arena, PackedCells};
 use std::alloc::Global;
-use tune_problem::{Cert, Inputs, Silent, Standing, Watcher, cert_version};
-
-// A record by its index, and what is wrong with it.
-#[derive(Clone, Copy)]
-struct Wrong {
-    index: u64,
-    reason: Reason,
-}
+use tune_problem::{Inputs, Silent, Standing, Watcher, cert_version};
 
 /// Checks the bytes of a certificate against the inputs of a tuning.
 ///
@@ -44,64 +40,74 @@ struct Wrong {
 ///
 /// `OutOfMemory` if an allocation failed.
 pub fn check(alloc: Global, inputs: &Inputs, bytes: &[u8]) -> Result<Verdict, CheckFault>
-    // What the verdict says of the bytes holds, everything that is checked before a rejection is
-    // right, an accepted certificate names the optimum and its total, whoever made it, and a valid
-    // one is accepted, unless memory runs out.
-    ensures verdict { IfOk result (IsRightVerdict (problem_of inputs.now) (records_of bytes.now)) }
+    // The verdict is that on the certificate that the bytes spell, or Malformed. `laws` has what it
+    // promises: what it says holds, everything that is checked before a rejection is right, an
+    // accepted certificate names the optimum and its total, and a valid one is accepted.
+    ensures verdict { IfOk result (IsVerdictOf (problem_of inputs.now) whole (records_of bytes.now)) }
 {
-    watched_check(alloc, inputs, bytes, &mut Silent)
+    check_share(alloc, inputs, Share::whole(), bytes, &mut Silent)
 }
 
-/// Checks a certificate as `check` does, and tells `watcher` after each fight and each row that is
-/// right how far the check is.
+/// Checks a certificate as `check` does, but of the rows only those of the share's settings, and
+/// tells `watcher` after each fight and each row that is right how far the check is.
+///
+/// A row that refers to another setting is judged by the row of that setting as listed, which may
+/// be of another share: it must have rising fights of the schedule, and its cap by the listed
+/// points must not beat the best. A certificate is valid exactly if all shares accept it, and each
+/// then names the same setting and total. Reads the whole certificate.
 ///
 /// # Errors
 ///
 /// `OutOfMemory` if an allocation failed.
-pub fn watched_check<T: Watcher>(
+pub fn check_share<T: Watcher>(
     alloc: Global,
     inputs: &Inputs,
+    share: Share,
     bytes: &[u8],
     watcher: &mut T,
 ) -> Result<Verdict, CheckFault>
-    // What the verdict says of the bytes holds, everything that is checked before a rejection is
-    // right, an accepted certificate names the optimum and its total, whoever made it, and a valid
-    // one is accepted, unless memory runs out.
-    ensures verdict { IfOk result (IsRightVerdict (problem_of inputs.now) (records_of bytes.now)) }
+    // The verdict is that of the share on the certificate that the bytes spell, or Malformed.
+    ensures verdict { IfOk result (IsVerdictOf (problem_of inputs.now) (part share.number share.shares) (records_of bytes.now)) }
 {
     match read_cert(alloc, bytes) {
-        Ok(cert) => check_cert(alloc, inputs, &cert, watcher),
+        Ok(cert) => check_cert(
+            alloc,
+            &Claim {
+                inputs,
+                cert: &cert,
+            },
+            share,
+            watcher,
+        ),
         Err(ReadFault::Malformed { row }) => Ok(rejected(row, Reason::Malformed)),
         Err(ReadFault::OutOfMemory) => Err(CheckFault::OutOfMemory),
     }
 }
 
-// Checks the refused and the cap rows, in order. A row that refers to another needs this done
-// first.
+// Returns the first wrong row of the refused and the cap rows from `first` to just before `end`.
 fn check_rows_alone<T: Watcher>(
     alloc: Global,
     arena: &mut Arena<PackedCells>,
-    inputs: &Inputs,
-    cert: &Cert,
+    claim: &Claim<'_>,
+    first: u32,
+    end: u32,
     standing: &mut Standing,
     watcher: &mut T,
-) -> Result<Option<Wrong>, CheckFault>
-    requires blank { IsBlank inputs.now.rules arena.old }
-    requires rows { length cert.now.rows ≡ (problem_of inputs.now).count }
-    ensures right { IfOk result (λ o. IfNone o (AreRightAlone (problem_of inputs.now) cert.now)) }
-    ensures wrong { IfOk result (λ o. IfSome o (λ w. IsWrongRow (problem_of inputs.now) cert.now w.index w.reason)) }
-    ensures first { IfOk result (λ o. IfSome o (λ w. IsFirstRow (problem_of inputs.now) cert.now w.index w.reason)) }
+) -> Result<Option<(u64, Reason)>, CheckFault>
+    requires blank { IsBlank claim.now.inputs.now.rules arena.old }
+    requires rows { length claim.now.cert.now.rows ≡ (problem_of claim.now.inputs.now).count }
+    requires inside { end ≤ (problem_of claim.now.inputs.now).count }
+    ensures wrong { IfOk result (λ o. o ≡ first_wrong (reason_at (alone_reason (problem_of claim.now.inputs.now) claim.now.cert.now) claim.now.cert.now.rows) (range_with_len first (end - first))) }
+
+    // No fight is played that these rows do not list, and none twice.
+    ensures most { arena.old.fights + fights_listed claim.now.cert.now.rows (range_with_len first (end - first)) < 2 ^ 64
+        → arena.new.fights ≤ arena.old.fights + fights_listed claim.now.cert.now.rows (range_with_len first (end - first)) }
 {
-    let rows = cert.rows.as_slice();
-    let count = inputs.count();
-    let claim = Claim { inputs, cert };
-    for vector in 0..count {
+    let rows = claim.cert.rows.as_slice();
+    for vector in first..end {
         let row = &rows[vector as usize];
-        if let Some(reason) = check_alone(alloc, arena, &claim, vector, row, watcher)? {
-            return Ok(Some(Wrong {
-                index: record_of(u64::from(vector)),
-                reason,
-            }));
+        if let Some(reason) = check_alone(alloc, arena, claim, vector, row, watcher)? {
+            return Ok(Some((record_of(u64::from(vector)), reason)));
         }
         if !refers(row) {
             tell_row(row, standing, watcher);
@@ -110,32 +116,26 @@ fn check_rows_alone<T: Watcher>(
     Ok(None)
 }
 
-// Checks the rows that refer to other settings, in order. All other rows are right by now.
-// Assembles each such row's setting, and once each setting that such rows refer to.
+// Returns the first wrong row of those from `first` to just before `end` that refer to other
+// settings. Assembles each such row's setting, and once each setting that such rows refer to.
 fn check_rows_same<T: Watcher>(
     alloc: Global,
-    inputs: &Inputs,
-    cert: &Cert,
+    claim: &Claim<'_>,
+    first: u32,
+    end: u32,
     standing: &mut Standing,
     watcher: &mut T,
-) -> Result<Option<Wrong>, CheckFault>
-    requires rows { length cert.now.rows ≡ (problem_of inputs.now).count }
-    requires alone { AreRightAlone (problem_of inputs.now) cert.now }
-    ensures right { IfOk result (λ o. IfNone o (AreRightSame (problem_of inputs.now) cert.now)) }
-    ensures wrong { IfOk result (λ o. IfSome o (λ w. IsWrongRow (problem_of inputs.now) cert.now w.index w.reason)) }
-    ensures first { IfOk result (λ o. IfSome o (λ w. IsFirstRow (problem_of inputs.now) cert.now w.index w.reason)) }
+) -> Result<Option<(u64, Reason)>, CheckFault>
+    requires rows { length claim.now.cert.now.rows ≡ (problem_of claim.now.inputs.now).count }
+    requires inside { end ≤ (problem_of claim.now.inputs.now).count }
+    ensures wrong { IfOk result (λ o. o ≡ first_wrong (reason_at (same_reason (problem_of claim.now.inputs.now) claim.now.cert.now) claim.now.cert.now.rows) (range_with_len first (end - first))) }
 {
-    let rows = cert.rows.as_slice();
-    let count = inputs.count();
-    let claim = Claim { inputs, cert };
-    let mut warriors = no_warriors(alloc, count)?;
-    for vector in 0..count {
+    let rows = claim.cert.rows.as_slice();
+    let mut warriors = no_warriors(alloc, claim.inputs.count())?;
+    for vector in first..end {
         let row = &rows[vector as usize];
-        if let Some(reason) = check_same(alloc, &claim, &mut warriors, vector, row)? {
-            return Ok(Some(Wrong {
-                index: record_of(u64::from(vector)),
-                reason,
-            }));
+        if let Some(reason) = check_same(alloc, claim, &mut warriors, vector, row)? {
+            return Ok(Some((record_of(u64::from(vector)), reason)));
         }
         if refers(row) {
             tell_row(row, standing, watcher);
@@ -144,69 +144,107 @@ fn check_rows_same<T: Watcher>(
     Ok(None)
 }
 
+// Checks that no row from `first` to just before `end` refers to another setting.
+fn none_refer(claim: &Claim<'_>, first: u32, end: u32) -> bool
+    requires inside { end ≤ length claim.now.cert.now.rows }
+    ensures { IsTrue result → None ≡ first_wrong (reason_at (same_reason (problem_of claim.now.inputs.now) claim.now.cert.now) claim.now.cert.now.rows) (range_with_len first (end - first)) }
+{
+    let rows = claim.cert.rows.as_slice();
+    for vector in first..end {
+        if refers(&rows[vector as usize]) {
+            return false;
+        }
+    }
+    true
+}
+
 fn rejected(index: u64, reason: Reason) -> Verdict
     ensures { result ≡ Verdict.Rejected index reason }
 {
     Verdict::Rejected { row: index, reason }
 }
 
-// Checks all rows, one for each setting. Makes the arena of their fights.
+// Returns the first wrong row of a share. Those that refer to other settings are checked last.
 fn check_rows<T: Watcher>(
     alloc: Global,
-    inputs: &Inputs,
-    cert: &Cert,
+    arena: &mut Arena<PackedCells>,
+    claim: &Claim<'_>,
+    share: Share,
     watcher: &mut T,
-) -> Result<Option<Wrong>, CheckFault>
-    requires rows { length cert.now.rows ≡ (problem_of inputs.now).count }
-    ensures alone { IfOk result (λ o. IfNone o (AreRightAlone (problem_of inputs.now) cert.now)) }
-    ensures same { IfOk result (λ o. IfNone o (AreRightSame (problem_of inputs.now) cert.now)) }
-    ensures wrong { IfOk result (λ o. IfSome o (λ w. IsWrongRow (problem_of inputs.now) cert.now w.index w.reason)) }
-    ensures first { IfOk result (λ o. IfSome o (λ w. IsFirstRow (problem_of inputs.now) cert.now w.index w.reason)) }
+) -> Result<Option<(u64, Reason)>, CheckFault>
+    requires blank { IsBlank claim.now.inputs.now.rules arena.old }
+    requires rows { length claim.now.cert.now.rows ≡ (problem_of claim.now.inputs.now).count }
+    ensures wrong { let p = problem_of claim.now.inputs.now in
+        IfOk result (λ o. o ≡ rows_failure p (share_settings (part share.number share.shares) p.count) claim.now.cert.now) }
+
+    // No fight is played that the rows of the share do not list, and none twice.
+    ensures most { let listed = fights_listed claim.now.cert.now.rows (share_settings (part share.number share.shares) (problem_of claim.now.inputs.now).count) in
+        arena.old.fights + listed < 2 ^ 64 → arena.new.fights ≤ arena.old.fights + listed }
 {
-    let mut arena = Arena::<PackedCells>::try_new(alloc, inputs.rules())?;
-    let mut standing = before_rows(cert, inputs.count());
+    let count = claim.inputs.count();
+    let first = share.first(count);
+    let end = share.end(count);
+    let mut standing = before_rows(claim.cert, end - first);
     if let Some(wrong) = check_rows_alone(
         alloc,
-        &mut arena,
-        inputs,
-        cert,
+        arena,
+        claim,
+        first,
+        end,
         &mut standing,
         watcher,
     )? {
         return Ok(Some(wrong));
     }
-    if none_refer(cert.rows.as_slice()) {
+    if none_refer(claim, first, end) {
         return Ok(None);
     }
-    check_rows_same(alloc, inputs, cert, &mut standing, watcher)
+    check_rows_same(alloc, claim, first, end, &mut standing, watcher)
 }
 
-// Checks a certificate whose form is right.
-#[tactic(auto, using(crate::proofs::Verdicts::certs))]
+// Checks whether the version is one for the schedule: version 1 is for schedules in which every
+// fight counts once.
+fn is_version_of(claim: &Claim<'_>) -> bool
+    ensures { result ≡ is_version_of (problem_of claim.now.inputs.now) claim.now.cert.now.version }
+{
+    if claim.cert.version == 1 {
+        return cert_version(claim.inputs) == 1;
+    }
+    true
+}
+
+// Checks whether there is a row for each setting, and the certificate claims this count.
+fn has_row_count(claim: &Claim<'_>) -> bool
+    ensures { result ≡ has_row_count (problem_of claim.now.inputs.now) claim.now.cert.now }
+{
+    let count = claim.inputs.count();
+    claim.cert.count == count && claim.cert.rows.as_slice().len() == count as usize
+}
+
+// Checks a certificate whose form is right. Makes the arena of its fights.
 fn check_cert<T: Watcher>(
     alloc: Global,
-    inputs: &Inputs,
-    cert: &Cert,
+    claim: &Claim<'_>,
+    share: Share,
     watcher: &mut T,
 ) -> Result<Verdict, CheckFault>
-    ensures verdict { IfOk result (IsCertVerdict (problem_of inputs.now) cert.now) }
-    ensures first { IfOk result (IsFirstVerdict (problem_of inputs.now) cert.now) }
+    ensures { IfOk result (λ v. v ≡ verdict_on (problem_of claim.now.inputs.now) (part share.number share.shares) claim.now.cert.now) }
 {
-    if cert.version == 1 && cert_version(inputs) != 1 {
+    if !is_version_of(claim) {
         return Ok(rejected(0, Reason::Version));
     }
-    let count = inputs.count();
-    if cert.count != count || cert.rows.as_slice().len() != count as usize {
+    if !has_row_count(claim) {
         return Ok(rejected(0, Reason::RowCount));
     }
-    if !is_best_row(&Claim { inputs, cert }) {
+    if !is_best_row(claim) {
         return Ok(rejected(1, Reason::BestRow));
     }
-    if let Some(wrong) = check_rows(alloc, inputs, cert, watcher)? {
-        return Ok(rejected(wrong.index, wrong.reason));
+    let mut arena = Arena::<PackedCells>::try_new(alloc, claim.inputs.rules())?;
+    match check_rows(alloc, &mut arena, claim, share, watcher)? {
+        Some((index, reason)) => Ok(rejected(index, reason)),
+        None => Ok(Verdict::Accepted {
+            best: claim.cert.best,
+            total: claim.cert.total,
+        }),
     }
-    Ok(Verdict::Accepted {
-        best: cert.best,
-        total: cert.total,
-    })
 }

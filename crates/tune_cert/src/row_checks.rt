@@ -1,15 +1,14 @@
 //! Checks single rows of a certificate.
-ghost use Rattle.std.specs.Prelude.{◌≡◌, ◌↔◌, ◌<◌, None, Some, IsTrue, IfOk, IfSome, IfNone, length, ◌+◌, ◌*◌, ◌≤◌, ◌^◌, ℕ, List, true, slice_get};
-ghost use Rattle.rc_instr.specs.Warrior.{Fits};
+ghost use Rattle.std.specs.Prelude.{◌≡◌, ◌↔◌, ◌<◌, ◌==◌, IsTrue, IfOk, IfSome, IfNone, None, Some, Option, length, ◌+◌, ◌*◌, ◌≤◌, ◌^◌, ℕ, List, true, slice_get};
 ghost use Rattle.mars_core.specs.Arena.{IsBlank};
 ghost use Rattle.mars_fight.specs.Limits.{MOST_FIGHTS, MOST_WEIGHT};
-ghost use Rattle.tune_problem.specs.Problem.{problem_of};
-ghost use Rattle.tune_problem.specs.Valid.{IsCapRow, IsRightRow, listed_total};
-ghost use Rattle.tune_cert.specs.Verdict.{Rises, HavePoints, IsWrongRefused, IsWrongCap, IsWrong, IsWrongSame, IsBestRow, IsRightAlone, IsFirstOfCap, AreRightAlone, IsRightSame, IsFirstOfSame};
-ghost use Rattle.tune_cert.specs.Steps.{IsFirstAlone, IsFirstSame, ListsAll, AreAssembled, listed_most, listed_cap};
-ghost use Rattle.tune_problem.specs.declared.cert.Row.TheVariants.{Cap, Same};
-ghost use Rattle.rc_instr.specs.Warrior.{WarriorView};
+ghost use Rattle.rc_instr.specs.Warrior.{Fits};
 ghost use Rattle.tune_problem.specs.Optimum.{beats};
+ghost use Rattle.tune_problem.specs.Problem.{problem_of};
+ghost use Rattle.tune_problem.specs.Valid.{listed_in, listed_total};
+ghost use Rattle.tune_problem.specs.declared.cert.Row.TheVariants.{Refused, Cap};
+ghost use Rattle.tune_cert.specs.Checks.{rises, are_fights, have_points, listed_cap, is_no_better, lists_all, is_best_row, cap_reason, alone_reason, same_reason, reference_reason};
+ghost use Rattle.tune_cert.specs.Steps.{AreAssembled, listed_most};
 
 use crate::fault::CheckFault;
 use crate::verdict::Reason;
@@ -30,8 +29,8 @@ pub(crate) struct Claim<'a> {
     pub(crate) cert: &'a Cert,
 }
 
-// Checks a refused or a cap row, and passes over a row that refers to another setting. `watcher`
-// hears of each fight.
+// Returns what is wrong with a refused or a cap row, and passes over a row that refers to another
+// setting. `watcher` hears of each fight.
 pub(crate) fn check_alone<T: Watcher>(
     alloc: Global,
     arena: &mut Arena<PackedCells>,
@@ -42,10 +41,11 @@ pub(crate) fn check_alone<T: Watcher>(
 ) -> Result<Option<Reason>, CheckFault>
     requires inside { vector < (problem_of claim.now.inputs.now).count }
     requires blank { IsBlank claim.now.inputs.now.rules arena.old }
-    ensures right { IfOk result (λ o. IfNone o (IsRightAlone (problem_of claim.now.inputs.now) claim.now.cert.now vector row.now)) }
-    ensures wrong { IfOk result (λ o. IfSome o (IsWrong (problem_of claim.now.inputs.now) claim.now.cert.now vector row.now)) }
-    ensures first { IfOk result (λ o. IfSome o (IsFirstAlone (problem_of claim.now.inputs.now) vector row.now)) }
+    ensures reason { IfOk result (λ o. o ≡ alone_reason (problem_of claim.now.inputs.now) claim.now.cert.now vector row.now) }
     ensures blank { IsBlank claim.now.inputs.now.rules arena.new }
+
+    // No fight is played that the row does not list, and none twice.
+    ensures most { arena.old.fights + listed_in row.now < 2 ^ 64 → arena.new.fights ≤ arena.old.fights + listed_in row.now }
 {
     match row {
         Row::Refused => check_refused(alloc, claim, vector),
@@ -54,8 +54,8 @@ pub(crate) fn check_alone<T: Watcher>(
     }
 }
 
-// Checks a row that refers to another setting, and passes over any other row. `warriors` has those
-// of the settings to which rows referred before.
+// Returns what is wrong with a row that refers to another setting, and passes over any other row.
+// `warriors` has those of the settings to which rows referred before.
 pub(crate) fn check_same(
     alloc: Global,
     claim: &Claim<'_>,
@@ -66,10 +66,7 @@ pub(crate) fn check_same(
     requires inside { vector < (problem_of claim.now.inputs.now).count }
     requires assembled { AreAssembled (problem_of claim.now.inputs.now) warriors.old.items }
     requires rows { length claim.now.cert.now.rows ≡ (problem_of claim.now.inputs.now).count }
-    requires alone { AreRightAlone (problem_of claim.now.inputs.now) claim.now.cert.now }
-    ensures right { IfOk result (λ o. IfNone o (IsRightSame (problem_of claim.now.inputs.now) claim.now.cert.now vector row.now)) }
-    ensures wrong { IfOk result (λ o. IfSome o (IsWrong (problem_of claim.now.inputs.now) claim.now.cert.now vector row.now)) }
-    ensures first { IfOk result (λ o. IfSome o (IsFirstSame (problem_of claim.now.inputs.now) claim.now.cert.now vector row.now)) }
+    ensures reason { IfOk result (λ o. o ≡ same_reason (problem_of claim.now.inputs.now) claim.now.cert.now vector row.now) }
     ensures assembled { AreAssembled (problem_of claim.now.inputs.now) warriors.new.items }
 {
     match row {
@@ -81,8 +78,7 @@ pub(crate) fn check_same(
 // Checks whether the row of the best setting lists every fight in order, with scores that add up to
 // the total.
 pub(crate) fn is_best_row(claim: &Claim<'_>) -> bool
-    ensures yes { IsTrue result → IsBestRow (problem_of claim.now.inputs.now) claim.now.cert.now }
-    ensures no { IsBestRow (problem_of claim.now.inputs.now) claim.now.cert.now → IsTrue result }
+    ensures { result ≡ is_best_row (problem_of claim.now.inputs.now) claim.now.cert.now.total (slice_get claim.now.cert.now.rows claim.now.cert.now.best) }
 {
     let Some(listed) = cap_row(claim.cert, claim.cert.best) else {
         return false;
@@ -95,7 +91,7 @@ pub(crate) fn is_best_row(claim: &Claim<'_>) -> bool
 
 // Checks whether the fights of a cap row rise, so that none is listed twice.
 fn is_rising(listed: &[(u32, u8)]) -> bool
-    ensures { IsTrue result ↔ Rises 0 listed.now }
+    ensures { result ≡ rises 0 listed.now }
 {
     let mut next: u64 = 0;
     for (index, _) in listed {
@@ -103,6 +99,19 @@ fn is_rising(listed: &[(u32, u8)]) -> bool
             return false;
         }
         next = u64::from(*index) + 1;
+    }
+    true
+}
+
+// Checks whether every listed fight exists.
+fn are_fights(inputs: &Inputs, listed: &[(u32, u8)]) -> bool
+    ensures { result ≡ are_fights (problem_of inputs.now) listed.now }
+{
+    let fights = fight_count(inputs);
+    for (index, _) in listed {
+        if *index >= fights {
+            return false;
+        }
     }
     true
 }
@@ -118,7 +127,7 @@ fn have_points<T: Watcher>(
 ) -> bool
     requires blank { IsBlank inputs.now.rules arena.old }
     requires fits { Fits inputs.now.rules warrior.now }
-    ensures points { IsTrue result ↔ HavePoints (problem_of inputs.now) warrior.now listed.now }
+    ensures points { result ≡ have_points (problem_of inputs.now) warrior.now listed.now }
     ensures blank { IsBlank inputs.now.rules arena.new }
 
     // Each listed fight is played once, if all have the listed points, and no other is.
@@ -146,43 +155,12 @@ fn check_refused(
     vector: u32,
 ) -> Result<Option<Reason>, CheckFault>
     requires inside { vector < (problem_of claim.now.inputs.now).count }
-    ensures right { IfOk result (λ o. IfNone o ((problem_of claim.now.inputs.now).warrior vector ≡ None)) }
-    ensures wrong { IfOk result (λ o. IfSome o (IsWrongRefused (problem_of claim.now.inputs.now) vector)) }
+    ensures { IfOk result (λ o. o ≡ alone_reason (problem_of claim.now.inputs.now) claim.now.cert.now vector Refused) }
 {
     match setting_warrior(alloc, claim.inputs, vector)? {
         Some(_) => Ok(Some(Reason::NotRefused)),
         None => Ok(None),
     }
-}
-
-// Checks a cap row whose fights rise against the warrior of its setting.
-fn check_fights<T: Watcher>(
-    arena: &mut Arena<PackedCells>,
-    claim: &Claim<'_>,
-    vector: u32,
-    warrior: &Warrior,
-    listed: &[(u32, u8)],
-    watcher: &mut T,
-) -> Option<Reason>
-    requires blank { IsBlank claim.now.inputs.now.rules arena.old }
-    requires fits { Fits claim.now.inputs.now.rules warrior.now }
-    requires candidate { (problem_of claim.now.inputs.now).warrior vector ≡ Some warrior.now }
-    requires rising { Rises 0 listed.now }
-    ensures right { IfNone result (IsRightRow (problem_of claim.now.inputs.now) claim.now.cert.now vector (Cap listed.now)) }
-    ensures wrong { IfSome result (IsWrongCap (problem_of claim.now.inputs.now) claim.now.cert.now vector listed.now) }
-    ensures first { IfSome result (IsFirstOfCap (problem_of claim.now.inputs.now) vector listed.now) }
-    ensures blank { IsBlank claim.now.inputs.now.rules arena.new }
-{
-    if !have_points(arena, claim.inputs, warrior, listed, watcher) {
-        return Some(Reason::WrongPoints);
-    }
-    if vector == claim.cert.best {
-        return None;
-    }
-    if is_above(listed_cap(claim.inputs, listed), vector, claim.cert) {
-        return Some(Reason::CapTooHigh);
-    }
-    None
 }
 
 // Checks a cap row: its fights, then its points, then its cap.
@@ -196,10 +174,9 @@ fn check_cap<T: Watcher>(
 ) -> Result<Option<Reason>, CheckFault>
     requires inside { vector < (problem_of claim.now.inputs.now).count }
     requires blank { IsBlank claim.now.inputs.now.rules arena.old }
-    ensures right { IfOk result (λ o. IfNone o (IsRightRow (problem_of claim.now.inputs.now) claim.now.cert.now vector (Cap listed.now))) }
-    ensures wrong { IfOk result (λ o. IfSome o (IsWrongCap (problem_of claim.now.inputs.now) claim.now.cert.now vector listed.now)) }
-    ensures first { IfOk result (λ o. IfSome o (IsFirstOfCap (problem_of claim.now.inputs.now) vector listed.now)) }
+    ensures reason { IfOk result (λ o. o ≡ cap_reason (problem_of claim.now.inputs.now) claim.now.cert.now vector listed.now) }
     ensures blank { IsBlank claim.now.inputs.now.rules arena.new }
+    ensures most { arena.old.fights + length listed.now < 2 ^ 64 → arena.new.fights ≤ arena.old.fights + length listed.now }
 {
     if !is_rising(listed) {
         return Ok(Some(Reason::RepeatedFight));
@@ -207,7 +184,16 @@ fn check_cap<T: Watcher>(
     let Some(warrior) = setting_warrior(alloc, claim.inputs, vector)? else {
         return Ok(Some(Reason::WrongPoints));
     };
-    Ok(check_fights(arena, claim, vector, &warrior, listed, watcher))
+    if !have_points(arena, claim.inputs, &warrior, listed, watcher) {
+        return Ok(Some(Reason::WrongPoints));
+    }
+    if vector == claim.cert.best {
+        return Ok(None);
+    }
+    if is_no_better(claim, vector, listed) {
+        return Ok(None);
+    }
+    Ok(Some(Reason::CapTooHigh))
 }
 
 fn is_same_code(one: &[Instruction], other: &[Instruction]) -> bool
@@ -232,8 +218,9 @@ fn is_same_warrior(one: &Warrior, other: &Warrior) -> bool
     one.start() == other.start() && is_same_code(one.code(), other.code())
 }
 
-// Checks the row of setting `vector` that refers to setting `other`, whose row is right: `other`
-// must have a cap row and the same warrior, and the cap must not beat the best for `vector` either.
+// Checks the row of setting `vector` that refers to setting `other`: that must have a cap row of
+// rising fights and the same warrior, and the cap must not beat the best for `vector` either. Takes
+// the listed points as they are: whether they are right is a check of the row of `other`.
 fn check_reference(
     alloc: Global,
     claim: &Claim<'_>,
@@ -244,10 +231,7 @@ fn check_reference(
     requires inside { vector < (problem_of claim.now.inputs.now).count }
     requires assembled { AreAssembled (problem_of claim.now.inputs.now) warriors.old.items }
     requires rows { length claim.now.cert.now.rows ≡ (problem_of claim.now.inputs.now).count }
-    requires alone { AreRightAlone (problem_of claim.now.inputs.now) claim.now.cert.now }
-    ensures right { IfOk result (λ o. IfNone o (IsRightRow (problem_of claim.now.inputs.now) claim.now.cert.now vector (Same other))) }
-    ensures wrong { IfOk result (λ o. IfSome o (IsWrongSame (problem_of claim.now.inputs.now) claim.now.cert.now vector other)) }
-    ensures first { IfOk result (λ o. IfSome o (IsFirstOfSame (problem_of claim.now.inputs.now) claim.now.cert.now vector other)) }
+    ensures reason { IfOk result (λ o. o ≡ reference_reason (problem_of claim.now.inputs.now) claim.now.cert.now vector other (slice_get claim.now.cert.now.rows other)) }
     ensures assembled { AreAssembled (problem_of claim.now.inputs.now) warriors.new.items }
 {
     let Some(listed) = cap_row(claim.cert, other) else {
@@ -266,15 +250,21 @@ fn check_reference(
     if !is_same_warrior(&own, theirs) {
         return Ok(Some(Reason::NotSame));
     }
-    if is_above(listed_cap(claim.inputs, listed), vector, claim.cert) {
-        return Ok(Some(Reason::CapTooHigh));
+    if !is_rising(listed) {
+        return Ok(Some(Reason::NotSame));
     }
-    Ok(None)
+    if !are_fights(claim.inputs, listed) {
+        return Ok(Some(Reason::NotSame));
+    }
+    if is_no_better(claim, vector, listed) {
+        return Ok(None);
+    }
+    Ok(Some(Reason::CapTooHigh))
 }
 
 // Checks whether a cap row lists each of the `fights` fights, in order.
 fn lists_all(fights: u32, listed: &[(u32, u8)]) -> bool
-    ensures { IsTrue result ↔ ListsAll fights 0 listed.now }
+    ensures { result ≡ lists_all fights 0 listed.now }
 {
     let mut next: u64 = 0;
     for (index, _) in listed {
@@ -326,7 +316,8 @@ fn listed_most(inputs: &Inputs, listed: &[(u32, u8)]) -> u32
 // Returns the cap of a row: the scores that it lists, and the most that the other fights can give.
 #[tactic(auto, using(crate::proofs::ListedCaps::besides_row))]
 fn listed_cap(inputs: &Inputs, listed: &[(u32, u8)]) -> u32
-    requires row { (w : WarriorView) × IsCapRow (problem_of inputs.now) w 0 listed.now }
+    requires rising { rises 0 listed.now ≡ true }
+    requires fights { are_fights (problem_of inputs.now) listed.now ≡ true }
     ensures { result ≡ listed_cap (problem_of inputs.now) listed.now }
 {
     let greatest = greatest_total(inputs);
@@ -334,16 +325,19 @@ fn listed_cap(inputs: &Inputs, listed: &[(u32, u8)]) -> u32
     listed_total(inputs, listed) + (greatest - most)
 }
 
-// Checks whether `cap` of setting `vector` beats the best setting of the certificate.
-fn is_above(cap: u32, vector: u32, cert: &Cert) -> bool
-    ensures { result ≡ beats cap vector cert.now.total cert.now.best }
+// Checks whether the cap of a row, as one of setting `vector`, does not beat the best setting of
+// the certificate.
+fn is_no_better(claim: &Claim<'_>, vector: u32, listed: &[(u32, u8)]) -> bool
+    requires rising { rises 0 listed.now ≡ true }
+    requires fights { are_fights (problem_of claim.now.inputs.now) listed.now ≡ true }
+    ensures { result ≡ is_no_better (problem_of claim.now.inputs.now) claim.now.cert.now vector listed.now }
 {
-    beats(
-        cap,
+    !beats(
+        listed_cap(claim.inputs, listed),
         vector,
         Best {
-            vector: cert.best,
-            total: cert.total,
+            vector: claim.cert.best,
+            total: claim.cert.total,
         },
     )
 }

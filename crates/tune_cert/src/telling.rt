@@ -1,7 +1,7 @@
 //! What the checker tells a watcher.
-ghost use Rattle.std.specs.Prelude.{◌≡◌, ◌+◌, ◌%◌, ◌^◌, ◌↔◌, Some, IsTrue};
+ghost use Rattle.std.specs.Prelude.{◌≡◌, ◌+◌, ◌%◌, ◌^◌, Some};
 ghost use Rattle.tune_problem.specs.Valid.{listed_in};
-ghost use Rattle.tune_cert.specs.Steps.{refers, NoneRefer};
+ghost use Rattle.tune_cert.specs.Checks.{refers};
 
 use tune_problem::{Best, Cert, Row, Standing, Watcher};
 
@@ -28,18 +28,6 @@ pub(crate) fn refers(row: &Row) -> bool
         Row::Same(_) => true,
         _ => false,
     }
-}
-
-// Checks whether no row refers to another setting.
-pub(crate) fn none_refer(rows: &[Row]) -> bool
-    ensures { IsTrue result ↔ NoneRefer rows.now }
-{
-    for row in rows {
-        if refers(row) {
-            return false;
-        }
-    }
-    true
 }
 
 fn listed_count(row: &Row) -> u64

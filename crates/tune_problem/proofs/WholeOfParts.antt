@@ -38,7 +38,7 @@ module _ (n k : ℕ) (some : 1 ≤ k) where
           let before : m ≡ suc m - 1 = omega arith in
           (suc m, omega arith, omega arith, subst (λ x. x * n / k ≤ u) before l, h)
 
-  in_a_part : (u : ℕ) → u < n → (i : ℕ) × (1 ≤ i) × (i ≤ k) × ((i - 1) * n / k ≤ u) × (u < i * n / k)
+  pub in_a_part : (u : ℕ) → u < n → (i : ℕ) × (1 ≤ i) × (i ≤ k) × ((i - 1) * n / k ≤ u) × (u < i * n / k)
   in_a_part u h =
       let end : k * n / k ≡ n = mul-div_cancel_left n (omega (arith, some)) in
       among k u (omega (arith, h, end))

@@ -13,3 +13,4 @@ pub mod Duels
 pub mod Writable
 pub mod Certified
 pub mod AcceptedParts
+pub mod SharedChecks

@@ -6,7 +6,8 @@ use Rattle.rc_instr.specs.Outlet.{OutletView}
 use Rattle.tables.specs.Records.{records_of}
 use Rattle.tune_problem.specs.Inputs.{InputsView}
 use Rattle.tune_problem.specs.Problem.{problem_of}
-use Rattle.tune_cert.specs.Verdict.{IsRightVerdict}
+use Rattle.tune_problem.specs.declared.part.Part.{Part}
+use Rattle.tune_cert.specs.Verdict.{IsVerdictOf, IsRightVerdict}
 use Rattle.tune_cert.specs.declared.verdict.Reason.{Reason}
 use Rattle.tune_cert.specs.declared.verdict.Reason.TheVariants.{Malformed, RowCount, BestRow, WrongPoints, RepeatedFight, CapTooHigh, NotSame, NotRefused, Version}
 use Rattle.tune_cert.specs.declared.verdict.Verdict.{Verdict}
@@ -26,10 +27,19 @@ reason_text NotSame = codes "NotSame"
 reason_text NotRefused = codes "NotRefused"
 reason_text Version = codes "Version"
 
+-- ` best W total T`, to the end of the line.
+unfoldable pub best_text : ℕ → ℕ → List ℕ
+best_text best total = codes " best " ++ decimal best ++ codes " total " ++ decimal total ++ 10 ∷ []
+
 -- `accepted best W total T`, or `rejected row R REASON`.
 abbrev pub check_line : Verdict → List ℕ
-check_line (Accepted best total) = codes "accepted best " ++ decimal best ++ codes " total " ++ decimal total ++ 10 ∷ []
+check_line (Accepted best total) = codes "accepted" ++ best_text best total
 check_line (Rejected row reason) = codes "rejected row " ++ decimal row ++ 32 ∷ reason_text reason ++ 10 ∷ []
+
+-- The line of a share: `accepted share I/K best W total T`, or the line of a rejection.
+abbrev pub share_line : Part → Verdict → List ℕ
+share_line share (Accepted best total) = codes "accepted share " ++ decimal share.number ++ codes "/" ++ decimal share.parts ++ best_text best total
+share_line share (Rejected row reason) = check_line (Rejected row reason)
 
 abbrev pub accepts : Verdict → Bool
 accepts (Accepted best total) = true
@@ -40,6 +50,15 @@ abbrev pub WritesVerdict : Texts → List ℕ → Bool → Option (List ℕ) →
 WritesVerdict t cert accepted old new =
     (i : InputsView) × (verdict : Verdict) × Means t i × IsRightVerdict (problem_of i) (records_of cert) verdict
     × (accepted ≡ accepts verdict) × Appends old new (check_line verdict)
+
+-- The verdict of a share on the bytes, for the inputs in the texts.
+abbrev pub IsVerdictFor : Texts → Part → List ℕ → Verdict → Type 0
+IsVerdictFor t share cert verdict = (i : InputsView) × Means t i × IsVerdictOf (problem_of i) share (records_of cert) verdict
+
+-- The line of a share's verdict on the bytes was written; `accepted` says whether it accepts.
+abbrev pub WritesShare : Texts → Part → List ℕ → Bool → Option (List ℕ) → Option (List ℕ) → Type 0
+WritesShare t share cert accepted old new =
+    (verdict : Verdict) × IsVerdictFor t share cert verdict × (accepted ≡ accepts verdict) × Appends old new (share_line share verdict)
 
 -- The right verdict on the bytes accepts them, with this best setting and total.
 abbrev pub Accepts : Texts → List ℕ → ℕ → ℕ → Type 0

@@ -1,17 +1,18 @@
 //! A check: from texts and a certificate to the line of the verdict.
 ghost use Rattle.std.specs.Prelude.{◌≡◌, ◌≢◌, map, true, false, IfOk, IfErr};
-ghost use Rattle.tune_runs.specs.TuneRun.{texts};
+ghost use Rattle.tune_runs.specs.TuneRun.{texts, IsTuneRefusal};
 ghost use Rattle.tune_runs.specs.Given.{texts_given};
-ghost use Rattle.tune_runs.specs.CheckRun.{accepts, IsCheckRun, WritesVerdict};
+ghost use Rattle.tune_problem.specs.Parts.{part};
+ghost use Rattle.tune_runs.specs.CheckRun.{accepts, IsCheckRun, IsVerdictFor, WritesVerdict, WritesShare};
 
 use crate::fault::RunFault;
 use crate::given::TuneTexts;
 use crate::inputs::inputs_of;
-use crate::lines::verdict_line;
+use crate::lines::{share_line, verdict_line};
 use rc_instr::{Outlet, Rules};
 use std::alloc::Global;
 use std::io::Write;
-use tune_cert::{Silent, Verdict, Watcher, watched_check};
+use tune_cert::{Share, Silent, Verdict, Watcher, check_share};
 use tune_problem::Part;
 
 /// Checks a certificate of a tuning, whoever made it, and writes the line of the verdict. Returns
@@ -87,14 +88,64 @@ pub fn check_part_run<T: Watcher, W: Write>(
     ensures verdict { IfOk result (λ accepted. WritesVerdict (texts_given given.now) cert.now accepted out.old.bytes out.new.bytes) }
     ensures run { IsCheckRun (texts_given given.now) result out.old out.new }
 {
-    let inputs = inputs_of(alloc, given)?;
-    watcher.begin(&inputs);
-    let checked = watched_check(alloc, &inputs, cert, watcher);
-    watcher.end();
-    let verdict = checked?;
+    let verdict = verdict_given(alloc, given, Share::whole(), cert, watcher)?;
     let line = verdict_line(alloc, verdict)?;
     out.write_all(line.as_slice())?;
     Ok(is_accepted(&verdict))
+}
+
+/// Checks a share of the rows of a certificate, and writes the line of the verdict. Returns whether
+/// the share accepts it.
+///
+/// The line is `accepted share I/K best W total T`, or `rejected row R REASON` as in a check of all
+/// rows. If all shares of one number accept the same bytes, a check of all rows accepts them, too,
+/// with the same best setting and total. With a part, the share is of that part's settings. The
+/// rest is as for `check_part_run`.
+///
+/// # Errors
+///
+/// Those of `check_part_run`.
+pub fn check_share_run<T: Watcher, W: Write>(
+    alloc: Global,
+    given: &TuneTexts<'_>,
+    share: Share,
+    watcher: &mut T,
+    cert: &[u8],
+    out: &mut Outlet<W>,
+) -> Result<bool, RunFault>
+    requires { out.old.failed ≡ false }
+
+    // What was written is the line of the share's verdict on the certificate, for the inputs in the
+    // texts.
+    ensures verdict { IfOk result (λ accepted. WritesShare (texts_given given.now) (part share.number share.shares) cert.now accepted out.old.bytes out.new.bytes) }
+
+    // Only texts without a meaning are refused, and then nothing was written.
+    ensures run { IsCheckRun (texts_given given.now) result out.old out.new }
+{
+    let verdict = verdict_given(alloc, given, share, cert, watcher)?;
+    let line = share_line(alloc, share, verdict)?;
+    out.write_all(line.as_slice())?;
+    Ok(is_accepted(&verdict))
+}
+
+// Checks a share of a certificate for the inputs in the texts. Tells `watcher` when the check begins
+// and when it has ended.
+fn verdict_given<T: Watcher>(
+    alloc: Global,
+    given: &TuneTexts<'_>,
+    share: Share,
+    cert: &[u8],
+    watcher: &mut T,
+) -> Result<Verdict, RunFault>
+    ensures verdict { IfOk result (IsVerdictFor (texts_given given.now) (part share.number share.shares) cert.now) }
+    ensures refused { IfErr result (λ e. IsTuneRefusal e (texts_given given.now)) }
+    ensures candidate { IfErr result (λ e. (e ≢ RunFault.NoCandidate) × (e ≢ RunFault.Write)) }
+{
+    let inputs = inputs_of(alloc, given)?;
+    watcher.begin(&inputs);
+    let checked = check_share(alloc, &inputs, share, cert, watcher);
+    watcher.end();
+    Ok(checked?)
 }
 
 fn is_accepted(verdict: &Verdict) -> bool

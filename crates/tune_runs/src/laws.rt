@@ -4,7 +4,9 @@ ghost use Rattle.std.specs.Prelude.{◌≡◌, ◌+◌, ◌≤◌, ℕ, ℤ, Boo
 ghost use Rattle.std.specs.Io.KnownBytes.{Appends};
 ghost use Rattle.tables.specs.Records.{records_of};
 ghost use Rattle.tune_problem.specs.Inputs.{InputsView};
+ghost use Rattle.tune_problem.specs.Parts.{part};
 ghost use Rattle.tune_problem.specs.Problem.{problem_of};
+ghost use Rattle.tune_problem.specs.declared.part.Part.{Part};
 ghost use Rattle.tune_cert.specs.CertText.{cert_text};
 ghost use Rattle.tune_problem.specs.Valid.{cert_of};
 ghost use Rattle.tune_cert.specs.Spelling.{Spells};
@@ -13,7 +15,7 @@ ghost use Rattle.tune_runs.specs.Report.{report_text, report_for};
 ghost use Rattle.tune_problem.specs.BestPart.{first_setting, IsOutcome, IsBestPart};
 ghost use Rattle.tune_runs.specs.TuneRun.{Texts, of_part, Means, IsTuning, IsTuneRefusal, WritesTuning};
 ghost use Rattle.tune_cert.specs.Verdict.{IsRightVerdict};
-ghost use Rattle.tune_runs.specs.CheckRun.{WritesVerdict, Accepts, IsShown, check_line};
+ghost use Rattle.tune_runs.specs.CheckRun.{WritesVerdict, WritesShare, Accepts, IsShown, check_line, share_line};
 
 use crate::fault::RunFault;
 use tune_cert::{Found, Verdict};
@@ -79,4 +81,18 @@ pub fn accepted_parts_name_the_optimum()
     ensures none { (t : Texts) (parts : ℕ) → 1 ≤ parts
         → ((n : ℕ) → 1 ≤ n → n ≤ parts → IsTuneRefusal RunFault.NoCandidate (of_part t n parts))
         → IsTuneRefusal RunFault.NoCandidate (of_part t 1 1) }
+{}
+
+/// States that a check can be shared: if each of `shares` shares of the same bytes, checked for the
+/// same texts, wrote a line of acceptance, then a check of all rows accepts these bytes, and each
+/// line names its best setting and total: the optimum. The other way round, bytes that a check of
+/// all rows accepts are accepted by each share, with the same setting and total.
+pub fn accepted_shares_name_the_optimum()
+    ensures optimum { (t : Texts) (shares : ℕ) (bytes : List ℕ) (out out_after : ℕ → Option (List ℕ)) → 1 ≤ shares
+        → ((n : ℕ) → 1 ≤ n → n ≤ shares → WritesShare t (part n shares) bytes true (out n) (out_after n))
+        → (best total : ℕ) × Accepts t bytes best total
+        × ((n : ℕ) → 1 ≤ n → n ≤ shares → Appends (out n) (out_after n) (share_line (part n shares) (Verdict.Accepted best total))) }
+    ensures each { (t : Texts) (share : Part) (bytes : List ℕ) (best total : ℕ) (is_accepted : Bool) (out out_after : Option (List ℕ))
+        → Accepts t bytes best total → WritesShare t share bytes is_accepted out out_after
+        → (is_accepted ≡ true) × Appends out out_after (share_line share (Verdict.Accepted best total)) }
 {}

@@ -7,5 +7,6 @@ mod methods;
 mod parts;
 mod settings;
 mod settings_text;
+mod shares;
 mod tuning;
 mod watched;

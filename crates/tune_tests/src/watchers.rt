@@ -3,7 +3,7 @@
 use crate::searches::{THREE, inputs_of};
 use std::process::Abort;
 use std::test::Fail;
-use tune_cert::{Best, Standing, Verdict, Watcher, watched_check};
+use tune_cert::{Best, Share, Standing, Verdict, Watcher, check_share};
 use tune_problem::Inputs;
 use tune_search::{Method, search_by};
 
@@ -84,7 +84,7 @@ fn a_check_stops_at_what_is_wrong(rt: HostRuntime) -> Result<(), Fail> {
     let inputs = inputs_of(rt.alloc(), b";@tune K 0 1 1 0\nMOV 0, 1\nDAT K")?;
     for &(cert, fights) in &WRONG {
         let mut notes = Notes::new();
-        watched_check(rt.alloc(), &inputs, cert, &mut notes)?;
+        check_share(rt.alloc(), &inputs, Share::whole(), cert, &mut notes)?;
         assert_eq!(rt; notes.fights, fights);
     }
     Ok(())
@@ -137,7 +137,7 @@ fn a_check_tells_how_far_it_is(rt: HostRuntime) -> Result<(), Fail> {
     let inputs = inputs_of(rt.alloc(), b";@tune K 0 3 1 2\nMOV 0, 1")?;
     let cert: &[u8] = b"cwcert,1,4\nbest,0,4\ncap,0,0:3 1:1\nsame,1,2\ncap,2,0:3 1:1\nsame,3,2\n";
     let mut notes = Notes::new();
-    let verdict = watched_check(rt.alloc(), &inputs, cert, &mut notes)?;
+    let verdict = check_share(rt.alloc(), &inputs, Share::whole(), cert, &mut notes)?;
     assert_eq!(rt; verdict, Verdict::Accepted { best: 0, total: 4 });
     let best = Some(Best {
         vector: 0,

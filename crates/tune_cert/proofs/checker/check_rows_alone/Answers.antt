@@ -1,44 +1,54 @@
-use Rattle.std.proofs.Common.{◌∙◌, ap, sym, subst, IfSome, IfNone}
+use Rattle.std.proofs.Common.{◌≡◌, ◌∙◌, ◌-◌, ◌<◌, ap, sym, arith, length, Some, slice_get}
 use Rattle.tune_problem.specs.Problem.{problem_of}
+use Rattle.tune_problem.specs.Valid.{listed_in}
+use Rattle.tune_cert.specs.Checks.{alone_reason}
 use Rattle.tune_cert.specs.Spelling.{record_of}
-use Rattle.tune_cert.specs.Verdict.{IsWrong, IsRightAlone}
-use Rattle.tune_cert.specs.Steps.{IsFirstAlone}
-use Rattle.tune_cert.proofs.RowSteps.{row_here, one_more, first_alone}
+use Rattle.tune_cert.proofs.RowWalks.{row_here, right_here, wrong_here, fights_step, played_within}
 use Rattle.tune_cert.proofs.checker.check_rows_alone.Goals as goal
+
+pub returns-in_err-reason-clause-most : goal.returns-in_err-reason-clause-most
+returns-in_err-reason-clause-most g c = λ room.
+    let rows = c.args.claim.now.cert.now.rows in
+    let v = c.loop-vector.vector in
+    let row = c.index-rows-vector.result in
+    let l : v < length rows = omega (arith, c.loop-vector-test.true, c.requires.inside, c.requires.rows) in
+    let at : slice_get rows v ≡ Some row = row_here rows c.as_slice-rows.result.now v row c.as_slice-rows.ensures l c.index-rows-vector.is in
+    let within = played_within _ _ _ _ (listed_in row) _ c.check_alone.new.arena.fights room (c.loop-vector.invariant.most room) (fights_step rows v c.args.end row c.loop-vector-test.true at) c.in_err-reason.ensures.most in
+    omega (arith, within)
 
 pub returns-in-Some-clause-wrong : goal.returns-in-Some-clause-wrong
 returns-in-Some-clause-wrong g c =
-    let p = problem_of c.args.inputs.now in
-    let cert = c.args.cert.now in
+    let p = problem_of c.args.claim.now.inputs.now in
+    let cert = c.args.claim.now.cert.now in
     let v = c.loop-vector.vector in
     let row = c.index-rows-vector.result in
-    record {
-      vector = v;
-      number_is = c.record_of.ensures ∙ ap record_of c.from.ensures;
-      row = row;
-      here = row_here cert.rows c.as_slice-rows.result.now c.count-count.result v row c.as_slice-rows.ensures (c.count-count.ensures.count ∙ sym c.requires.rows) c.loop-vector-test.true c.index-rows-vector.is;
-      wrong = subst (λ o. IfSome o (IsWrong p cert v row)) c.in-Some.is c.in_ok-reason.ensures.wrong;
-    }
+    let l : v < length cert.rows = omega (arith, c.loop-vector-test.true, c.requires.inside, c.requires.rows) in
+    let at : slice_get cert.rows v ≡ Some row = row_here cert.rows c.as_slice-rows.result.now v row c.as_slice-rows.ensures l c.index-rows-vector.is in
+    ap (λ n. Some (n, c.in-Some.reason)) (c.record_of.ensures ∙ ap record_of c.from.ensures)
+    ∙ sym (c.loop-vector.invariant.wrong ∙ wrong_here (alone_reason p cert) cert.rows v c.args.end row c.in-Some.reason c.loop-vector-test.true at (sym c.in-Some.is ∙ c.in_ok-reason.ensures.reason))
 
-pub returns-in-Some-clause-first : goal.returns-in-Some-clause-first
-returns-in-Some-clause-first g c =
-    let p = problem_of c.args.inputs.now in
-    let cert = c.args.cert.now in
+pub returns-in-Some-clause-most : goal.returns-in-Some-clause-most
+returns-in-Some-clause-most g c = λ room.
+    let rows = c.args.claim.now.cert.now.rows in
     let v = c.loop-vector.vector in
     let row = c.index-rows-vector.result in
-    let here = row_here cert.rows c.as_slice-rows.result.now c.count-count.result v row c.as_slice-rows.ensures (c.count-count.ensures.count ∙ sym c.requires.rows) c.loop-vector-test.true c.index-rows-vector.is in
-    let first = subst (λ o. IfSome o (IsFirstAlone p v row)) c.in-Some.is c.in_ok-reason.ensures.first in
-    first_alone p cert v c.record_of.result row c.in-Some.reason c.loop-vector.invariant.right (c.record_of.ensures ∙ ap record_of c.from.ensures) here first
+    let l : v < length rows = omega (arith, c.loop-vector-test.true, c.requires.inside, c.requires.rows) in
+    let at : slice_get rows v ≡ Some row = row_here rows c.as_slice-rows.result.now v row c.as_slice-rows.ensures l c.index-rows-vector.is in
+    let within = played_within _ _ _ _ (listed_in row) _ c.check_alone.new.arena.fights room (c.loop-vector.invariant.most room) (fights_step rows v c.args.end row c.loop-vector-test.true at) c.in_ok-reason.ensures.most in
+    omega (arith, within)
 
 pub loop-vector-preserved : goal.loop-vector-preserved
 loop-vector-preserved g c =
-    let p = problem_of c.args.inputs.now in
-    let cert = c.args.cert.now in
+    let p = problem_of c.args.claim.now.inputs.now in
+    let cert = c.args.claim.now.cert.now in
     let v = c.loop-vector.vector in
     let row = c.index-rows-vector.result in
-    let here = row_here cert.rows c.as_slice-rows.result.now c.count-count.result v row c.as_slice-rows.ensures (c.count-count.ensures.count ∙ sym c.requires.rows) c.loop-vector-test.true c.index-rows-vector.is in
-    let right = subst (λ o. IfNone o (IsRightAlone p cert v row)) c.in_default.is c.in_ok-reason.ensures.right in
+    let l : v < length cert.rows = omega (arith, c.loop-vector-test.true, c.requires.inside, c.requires.rows) in
+    let at : slice_get cert.rows v ≡ Some row = row_here cert.rows c.as_slice-rows.result.now v row c.as_slice-rows.ensures l c.index-rows-vector.is in
     record {
       blank = c.check_alone.ensures.blank;
-      right = one_more (IsRightAlone p cert) cert.rows v row here right c.loop-vector.invariant.right;
+      wrong = c.loop-vector.invariant.wrong
+          ∙ right_here (alone_reason p cert) cert.rows v c.args.end row c.loop-vector-test.true at (sym c.in_default.is ∙ c.in_ok-reason.ensures.reason);
+      most = λ room. played_within _ _ _ _ (listed_in row) _ c.check_alone.new.arena.fights room (c.loop-vector.invariant.most room) (fights_step cert.rows v c.args.end row c.loop-vector-test.true at)
+          c.in_ok-reason.ensures.most;
     }

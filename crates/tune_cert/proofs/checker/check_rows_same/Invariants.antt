@@ -1,13 +1,14 @@
-use Rattle.std.proofs.Common.{◌≡◌, ◌<◌, ℕ, Some, slice_get}
+use Rattle.std.proofs.Common.{◌≡◌, ◌-◌}
+use Rattle.std.specs.List.{range_with_len}
 use Rattle.tune_problem.specs.Problem.{problem_of}
-use Rattle.tune_cert.specs.Verdict.{IsRightSame}
+use Rattle.tune_cert.specs.Checks.{same_reason, reason_at, first_wrong}
 use Rattle.tune_cert.specs.Steps.{AreAssembled}
-use Rattle.tune_problem.specs.declared.cert.Row.{Row}
 use Rattle.tune_cert.proofs.checker.check_rows_same.Given as goal
 
--- the rows so far that refer to other vectors are right
+-- the first wrong row is that of the rows from here
 abbrev pub invariant-loop-vector : goal.invariant-loop-vector
 invariant-loop-vector g l = record {
-  right : (v : ℕ) (row : Row) → v < l.vector → slice_get l.fn.cert.rows v ≡ Some row → IsRightSame (problem_of l.fn.inputs) l.fn.cert v row;
-  assembled : AreAssembled (problem_of l.fn.inputs) l.warriors.items;
+  wrong : first_wrong (reason_at (same_reason (problem_of l.fn.claim.inputs.now) l.fn.claim.cert.now) l.fn.claim.cert.now.rows) (range_with_len l.fn.first (l.fn.end - l.fn.first))
+      ≡ first_wrong (reason_at (same_reason (problem_of l.fn.claim.inputs.now) l.fn.claim.cert.now) l.fn.claim.cert.now.rows) (range_with_len l.vector (l.fn.end - l.vector));
+  assembled : AreAssembled (problem_of l.fn.claim.inputs.now) l.warriors.items;
 }

@@ -1,70 +1,80 @@
-use Rattle.std.proofs.Common.{◌≡◌, ◌<◌, ◌∙◌, sym, ap, arith, refl, length, true, false, Some, ℕ, subst}
+use Rattle.std.proofs.Common.{◌≡◌, ◌<◌, ◌∙◌, sym, arith, length, Some, None, true, false}
 use Rattle.std.proofs.lemmas.Option.{slice_get_within, get_or_from_slice_get}
 use Rattle.tune_problem.specs.Problem.{problem_of}
-use Rattle.tune_problem.specs.Optimum.{cap_of, beats}
-use Rattle.tune_problem.specs.Valid.{listed_indices}
 use Rattle.tune_problem.specs.declared.cert.Row.TheVariants.{Cap}
-use Rattle.tune_problem.proofs.Certificates.{some_is}
-use Rattle.tune_cert.proofs.RowChecks.{listed_is_cap}
+use Rattle.tune_cert.specs.Checks.{share_warrior}
+use Rattle.tune_cert.proofs.EqualWarriors.{share_test, none_shared, shared_none}
+use Rattle.tune_cert.proofs.Reasons.{to_itself, to_another, to_falling, to_no_fights, to_fine, to_high}
 use Rattle.tune_cert.proofs.row_checks.check_reference.Goals as goal
 
-pub listed_cap-requires : goal.listed_cap-requires
-listed_cap-requires c =
-    let p = problem_of c.args.claim.now.inputs.now in
-    let row = c.requires.alone.each c.args.other (Cap c.in-Some.listed.now) c.in-Some.ensures.some in
-    record { row = (row.0, row.2) }
+pub returns-then-other-vector-clause-reason : goal.returns-then-other-vector-clause-reason
+returns-then-other-vector-clause-reason c =
+    to_itself (problem_of c.args.claim.now.inputs.now) c.args.claim.now.cert.now c.args.vector c.args.other c.in-Some.listed.now c.in-Some.ensures.some c.if-other-vector.true
 
-pub returns-then-is_above-clause-wrong : goal.returns-then-is_above-clause-wrong
-returns-then-is_above-clause-wrong c =
+pub returns-in_default-2-clause-reason : goal.returns-in_default-2-clause-reason
+returns-in_default-2-clause-reason c =
     let p = problem_of c.args.claim.now.inputs.now in
-    let row = c.requires.alone.each c.args.other (Cap c.in-Some.listed.now) c.in-Some.ensures.some in
-    let cap : c.listed_cap.result ≡ cap_of p row.0 (listed_indices c.in-Some.listed.now) =
-    c.listed_cap.ensures ∙ listed_is_cap p row.0 c.in-Some.listed.now row.2 in (
-      row.0,
-      c.in-Some.listed.now,
-      row.1,
-      c.in-Some.ensures.some,
-      subst (λ (n : ℕ). beats n c.args.vector c.args.claim.now.cert.now.total c.args.claim.now.cert.now.best ≡ true) cap (sym c.is_above.ensures ∙ c.if-is_above.true),
-    )
+    to_another p c.args.claim.now.cert.now c.args.vector c.args.other c.in-Some.listed.now c.in-Some.ensures.some
+    (none_shared (p.warrior c.args.vector) (p.warrior c.args.other) (sym c.in_ok-own.ensures.warrior ∙ c.in_default-2.is))
 
-pub returns-clause-right : goal.returns-clause-right
-returns-clause-right c =
-    let p = problem_of c.args.claim.now.inputs.now in
-    let row = c.requires.alone.each c.args.other (Cap c.in-Some.listed.now) c.in-Some.ensures.some in
-    let cap : c.listed_cap.result ≡ cap_of p row.0 (listed_indices c.in-Some.listed.now) =
-    c.listed_cap.ensures ∙ listed_is_cap p row.0 c.in-Some.listed.now row.2 in
+pub assemble_once-requires-clause-inside : goal.assemble_once-requires-clause-inside
+assemble_once-requires-clause-inside c =
     let within : c.args.other < length c.args.claim.now.cert.now.rows = slice_get_within c.args.claim.now.cert.now.rows c.args.other (Cap c.in-Some.listed.now) c.in-Some.ensures.some in
+    omega (arith, within, c.requires.rows)
+
+pub index-requires : goal.index-requires
+index-requires c =
+    let within : c.args.other < length c.args.claim.now.cert.now.rows = slice_get_within c.args.claim.now.cert.now.rows c.args.other (Cap c.in-Some.listed.now) c.in-Some.ensures.some in
+    let many = c.in_ok-assemble_once.ensures.assembled.as_many in
+    omega (arith, within, c.requires.rows, many)
+
+pub returns-in_default-index-clause-reason : goal.returns-in_default-index-clause-reason
+returns-in_default-index-clause-reason c =
+    let p = problem_of c.args.claim.now.inputs.now in
+    let theirs : p.warrior c.args.other ≡ None =
+    sym (get_or_from_slice_get c.assemble_once.new.warriors.items c.args.other (p.warrior c.args.other) c.index.result.now c.in_ok-assemble_once.ensures.warrior)
+    ∙ sym c.index.ensures ∙ c.in_default-index.is in
+    to_another p c.args.claim.now.cert.now c.args.vector c.args.other c.in-Some.listed.now c.in-Some.ensures.some (shared_none (p.warrior c.args.vector) (p.warrior c.args.other) theirs)
+
+pub returns-then-not-is_same_warrior-clause-reason : goal.returns-then-not-is_same_warrior-clause-reason
+returns-then-not-is_same_warrior-clause-reason c =
+    let p = problem_of c.args.claim.now.inputs.now in
     let theirs : p.warrior c.args.other ≡ Some c.in-Some-index.theirs =
     sym (get_or_from_slice_get c.assemble_once.new.warriors.items c.args.other (p.warrior c.args.other) c.index.result.now c.in_ok-assemble_once.ensures.warrior)
     ∙ sym c.index.ensures ∙ c.in-Some-index.is in
     let own : p.warrior c.args.vector ≡ Some c.in-Some-2.own = sym c.in_ok-own.ensures.warrior ∙ c.in-Some-2.is in
-    let equal = c.if-not-is_same_warrior.ensures.0 refl in
-    let one = some_is _ _ (sym theirs ∙ row.1) in (
-      row.0,
-      c.in-Some.listed.now,
-      c.if-other-vector.false,
-      omega (arith, within, c.requires.rows),
-      own ∙ ap (λ x. Some x) (equal ∙ one),
-      row.1,
-      c.in-Some.ensures.some,
-      subst (λ (n : ℕ). beats n c.args.vector c.args.claim.now.cert.now.total c.args.claim.now.cert.now.best ≡ false) cap (sym c.is_above.ensures ∙ c.if-is_above.false),
-    )
+    let apart : share_warrior (p.warrior c.args.vector) (p.warrior c.args.other) ≡ false =
+    share_test _ _ c.in-Some-2.own c.in-Some-index.theirs false own theirs c.if-not-is_same_warrior.ensures.0 c.if-not-is_same_warrior.ensures.1 in
+    to_another p c.args.claim.now.cert.now c.args.vector c.args.other c.in-Some.listed.now c.in-Some.ensures.some apart
 
-pub returns-then-is_above-clause-first : goal.returns-then-is_above-clause-first
-returns-then-is_above-clause-first c =
+pub returns-then-not-is_rising-clause-reason : goal.returns-then-not-is_rising-clause-reason
+returns-then-not-is_rising-clause-reason c =
+    to_falling (problem_of c.args.claim.now.inputs.now) c.args.claim.now.cert.now c.args.vector c.args.other c.in-Some.listed.now c.in-Some.ensures.some (sym c.if-not-is_rising.ensures)
+
+pub returns-then-not-are_fights-clause-reason : goal.returns-then-not-are_fights-clause-reason
+returns-then-not-are_fights-clause-reason c =
+    to_no_fights (problem_of c.args.claim.now.inputs.now) c.args.claim.now.cert.now c.args.vector c.args.other c.in-Some.listed.now c.in-Some.ensures.some (sym c.if-not-are_fights.ensures)
+
+pub returns-then-is_no_better-clause-reason : goal.returns-then-is_no_better-clause-reason
+returns-then-is_no_better-clause-reason c =
     let p = problem_of c.args.claim.now.inputs.now in
-    let within : c.args.other < length c.args.claim.now.cert.now.rows = slice_get_within c.args.claim.now.cert.now.rows c.args.other (Cap c.in-Some.listed.now) c.in-Some.ensures.some in
     let theirs : p.warrior c.args.other ≡ Some c.in-Some-index.theirs =
     sym (get_or_from_slice_get c.assemble_once.new.warriors.items c.args.other (p.warrior c.args.other) c.index.result.now c.in_ok-assemble_once.ensures.warrior)
     ∙ sym c.index.ensures ∙ c.in-Some-index.is in
     let own : p.warrior c.args.vector ≡ Some c.in-Some-2.own = sym c.in_ok-own.ensures.warrior ∙ c.in-Some-2.is in
-    let equal = c.if-not-is_same_warrior.ensures.0 refl in
-    record {
-      other = c.if-other-vector.false;
-      inside = omega (arith, within, c.requires.rows);
-      row = c.in-Some.listed.now;
-      here = c.in-Some.ensures.some;
-      warrior = c.in-Some-index.theirs;
-      has = own ∙ ap (λ x. Some x) equal;
-      other_has = theirs;
-    }
+    let one : share_warrior (p.warrior c.args.vector) (p.warrior c.args.other) ≡ true =
+    share_test _ _ c.in-Some-2.own c.in-Some-index.theirs true own theirs c.if-not-is_same_warrior.ensures.0 c.if-not-is_same_warrior.ensures.1 in
+    to_fine p c.args.claim.now.cert.now c.args.vector c.args.other c.in-Some.listed.now c.in-Some.ensures.some c.if-other-vector.false one
+    (sym c.if-not-is_rising.ensures) (sym c.if-not-are_fights.ensures) (sym c.if-is_no_better.ensures)
+
+pub returns-clause-reason : goal.returns-clause-reason
+returns-clause-reason c =
+    let p = problem_of c.args.claim.now.inputs.now in
+    let theirs : p.warrior c.args.other ≡ Some c.in-Some-index.theirs =
+    sym (get_or_from_slice_get c.assemble_once.new.warriors.items c.args.other (p.warrior c.args.other) c.index.result.now c.in_ok-assemble_once.ensures.warrior)
+    ∙ sym c.index.ensures ∙ c.in-Some-index.is in
+    let own : p.warrior c.args.vector ≡ Some c.in-Some-2.own = sym c.in_ok-own.ensures.warrior ∙ c.in-Some-2.is in
+    let one : share_warrior (p.warrior c.args.vector) (p.warrior c.args.other) ≡ true =
+    share_test _ _ c.in-Some-2.own c.in-Some-index.theirs true own theirs c.if-not-is_same_warrior.ensures.0 c.if-not-is_same_warrior.ensures.1 in
+    to_high p c.args.claim.now.cert.now c.args.vector c.args.other c.in-Some.listed.now c.in-Some.ensures.some c.if-other-vector.false one
+    (sym c.if-not-is_rising.ensures) (sym c.if-not-are_fights.ensures) (sym c.if-is_no_better.ensures)

@@ -1,0 +1,185 @@
+-- What a check looks at, in its order: each test, and the reason to reject if it fails.
+use Rattle.std.specs.Prelude.{ℕ, ◌+◌, ◌-◌, Bool, true, false, not, ◌&&◌, ◌||◌, ◌==◌, if◌then◌else◌, nat_lt, nat_le, is_none, List, [], ◌∷◌, length, slice_get, Option, Some, None, option_map, option_and_then}
+use Rattle.std.specs.List.{list_all, sum_by, range_with_len}
+use Rattle.rc_instr.specs.Instruction.{same_instruction}
+use Rattle.rc_instr.specs.Warrior.{WarriorView}
+use Rattle.rc_instr.specs.declared.instruction.Instruction.{Instruction}
+use Rattle.tune_problem.specs.Parts.{part_first, part_end}
+use Rattle.tune_problem.specs.Problem.{Problem}
+use Rattle.tune_problem.specs.Optimum.{all_fights, beats, most_besides}
+use Rattle.tune_problem.specs.Valid.{listed_indices, listed_total, listed_in}
+use Rattle.tune_problem.specs.declared.cert.Cert.{Cert}
+use Rattle.tune_problem.specs.declared.cert.Row.{Row}
+use Rattle.tune_problem.specs.declared.cert.Row.TheVariants.{Refused, Same, Cap}
+use Rattle.tune_problem.specs.declared.part.Part.{Part}
+use Rattle.tune_cert.specs.Spelling.{record_of}
+use Rattle.tune_cert.specs.declared.verdict.Reason.{Reason}
+use Rattle.tune_cert.specs.declared.verdict.Reason.TheVariants.{RowCount, BestRow, WrongPoints, RepeatedFight, CapTooHigh, NotSame, NotRefused, Version}
+
+-- The reason, if the test fails.
+abbrev pub unless : Bool → Reason → Option Reason
+unless true reason = None
+unless false reason = Some reason
+
+-- The first failure in a list of checks.
+abbrev pub first_of : {A : Type 0} → List (Option A) → Option A
+first_of [] = None
+first_of (None ∷ checks) = first_of checks
+first_of (Some failure ∷ checks) = Some failure
+
+-- ---- one row
+
+-- A row refers to another setting.
+abbrev pub refers : Row → Bool
+refers (Same u) = true
+refers Refused = false
+refers (Cap row) = false
+
+-- The indices of the fights rise, from a or more, so that none is listed twice.
+abbrev pub rises : ℕ → List (ℕ × ℕ) → Bool
+rises a [] = true
+rises a (e ∷ row) = nat_le a e.0 && rises (e.0 + 1) row
+
+-- Every listed fight exists.
+abbrev pub are_fights : Problem → List (ℕ × ℕ) → Bool
+are_fights p row = list_all (λ e. nat_lt e.0 p.fights) row
+
+-- Every listed fight exists, and gives the warrior the listed points.
+abbrev pub have_points : Problem → WarriorView → List (ℕ × ℕ) → Bool
+have_points p w row = list_all (λ e. nat_lt e.0 p.fights && (e.1 == p.points w e.0)) row
+
+-- A setting assembles, and its warrior has the listed points.
+abbrev pub has_points : Problem → Option WarriorView → List (ℕ × ℕ) → Bool
+has_points p None row = false
+has_points p (Some w) row = have_points p w row
+
+-- The cap of a row: the scores that it lists, and the most that the other fights can give.
+abbrev pub listed_cap : Problem → List (ℕ × ℕ) → ℕ
+listed_cap p row = listed_total p row + most_besides p (listed_indices row)
+
+-- The cap of a row, as one of setting v, does not beat the best setting.
+abbrev pub is_no_better : Problem → Cert → ℕ → List (ℕ × ℕ) → Bool
+is_no_better p c v row = not (beats (listed_cap p row) v c.total c.best)
+
+abbrev pub same_code : List Instruction → List Instruction → Bool
+same_code [] [] = true
+same_code [] (j ∷ others) = false
+same_code (i ∷ code) [] = false
+same_code (i ∷ code) (j ∷ others) = same_instruction i j && same_code code others
+
+-- Two settings assemble, to equal warriors.
+abbrev pub share_warrior : Option WarriorView → Option WarriorView → Bool
+share_warrior None other = false
+share_warrior (Some w) None = false
+share_warrior (Some w) (Some x) = (w.start == x.start) && same_code w.code x.code
+
+-- What is wrong with the cap row of setting v.
+unfoldable pub cap_reason : Problem → Cert → ℕ → List (ℕ × ℕ) → Option Reason
+cap_reason p c v row =
+    first_of (
+    unless (rises 0 row) RepeatedFight
+    ∷ unless (has_points p (p.warrior v) row) WrongPoints
+    ∷ unless ((v == c.best) || is_no_better p c v row) CapTooHigh
+    ∷ []
+    )
+
+-- What is wrong with the row of setting v if it refers to setting u, which has a cap row. That row
+-- is taken as listed: whether it has its points is a check of its own setting.
+unfoldable pub listed_reason : Problem → Cert → ℕ → ℕ → List (ℕ × ℕ) → Option Reason
+listed_reason p c v u row =
+    first_of (
+    unless (not (u == v) && (share_warrior (p.warrior v) (p.warrior u) && (rises 0 row && are_fights p row))) NotSame
+    ∷ unless (is_no_better p c v row) CapTooHigh
+    ∷ []
+    )
+
+-- What is wrong with the row of setting v if it refers to setting u, by the row of that one.
+abbrev pub reference_reason : Problem → Cert → ℕ → ℕ → Option Row → Option Reason
+reference_reason p c v u None = Some NotSame
+reference_reason p c v u (Some Refused) = Some NotSame
+reference_reason p c v u (Some (Same t)) = Some NotSame
+reference_reason p c v u (Some (Cap row)) = listed_reason p c v u row
+
+-- What is wrong with the row of setting v: the first reason that applies.
+abbrev pub row_reason : Problem → Cert → ℕ → Row → Option Reason
+row_reason p c v Refused = unless (is_none (p.warrior v)) NotRefused
+row_reason p c v (Same u) = reference_reason p c v u (slice_get c.rows u)
+row_reason p c v (Cap row) = cap_reason p c v row
+
+-- The same of refused and cap rows alone, and of rows that refer to other settings alone.
+abbrev pub alone_reason : Problem → Cert → ℕ → Row → Option Reason
+alone_reason p c v row = if refers row then None else row_reason p c v row
+
+abbrev pub same_reason : Problem → Cert → ℕ → Row → Option Reason
+same_reason p c v row = if refers row then row_reason p c v row else None
+
+-- ---- the rows of a share
+
+-- The settings of a share, out of `count`.
+abbrev pub share_settings : Part → ℕ → List ℕ
+share_settings share count = range_with_len (part_first share count) (part_end share count - part_first share count)
+
+-- A reason, at a record.
+abbrev pub at_record : ℕ → Option Reason → Option (ℕ × Reason)
+at_record number reason = option_map (λ r. (number, r)) reason
+
+-- What is wrong with the row of setting v, by a check of rows.
+abbrev pub reason_at : (ℕ → Row → Option Reason) → List Row → ℕ → Option Reason
+reason_at check rows v = option_and_then (check v) (slice_get rows v)
+
+-- The first wrong row of some settings.
+abbrev pub first_wrong : (ℕ → Option Reason) → List ℕ → Option (ℕ × Reason)
+first_wrong reason [] = None
+first_wrong reason (v ∷ settings) = first_of (at_record (record_of v) (reason v) ∷ first_wrong reason settings ∷ [])
+
+-- The first wrong row of a share: the refused and the cap rows are checked first, in order, and
+-- then those that refer to other settings.
+abbrev pub rows_failure : Problem → List ℕ → Cert → Option (ℕ × Reason)
+rows_failure p settings c =
+    first_of (
+    first_wrong (reason_at (alone_reason p c) c.rows) settings
+    ∷ first_wrong (reason_at (same_reason p c) c.rows) settings
+    ∷ []
+    )
+
+-- The number of fights that the row of setting v lists.
+abbrev pub listed_by : Option Row → ℕ
+listed_by None = 0
+listed_by (Some row) = listed_in row
+
+-- The number of fights that the rows of some settings list together.
+abbrev pub fights_listed : List Row → List ℕ → ℕ
+fights_listed rows settings = sum_by (λ v. listed_by (slice_get rows v)) settings
+
+-- ---- the certificate
+
+-- Version 1 is for schedules in which every fight counts once.
+abbrev pub is_version_of : Problem → ℕ → Bool
+is_version_of p version = not (version == 1) || list_all (λ k. p.weight k == 1) (all_fights p)
+
+-- The certificate claims the number of settings, and has as many rows.
+abbrev pub has_row_count : Problem → Cert → Bool
+has_row_count p c = (c.count == p.count) && (length c.rows == p.count)
+
+-- A cap row lists the fights from a to n - 1, in order.
+abbrev pub lists_all : ℕ → ℕ → List (ℕ × ℕ) → Bool
+lists_all n a [] = a == n
+lists_all n a (e ∷ row) = (e.0 == a) && lists_all n (a + 1) row
+
+-- The row of the best setting lists every fight in order, and its scores add up to the total.
+abbrev pub is_best_row : Problem → ℕ → Option Row → Bool
+is_best_row p total None = false
+is_best_row p total (Some Refused) = false
+is_best_row p total (Some (Same u)) = false
+is_best_row p total (Some (Cap row)) = lists_all p.fights 0 row && (listed_total p row == total)
+
+-- What is wrong with a certificate, and at which record, as far as a check of a share sees.
+unfoldable pub first_failure : Problem → Part → Cert → Option (ℕ × Reason)
+first_failure p share c =
+    first_of (
+    at_record 0 (unless (is_version_of p c.version) Version)
+    ∷ at_record 0 (unless (has_row_count p c) RowCount)
+    ∷ at_record 1 (unless (is_best_row p c.total (slice_get c.rows c.best)) BestRow)
+    ∷ rows_failure p (share_settings share p.count) c
+    ∷ []
+    )

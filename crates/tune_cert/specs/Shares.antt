@@ -1,0 +1,35 @@
+-- Certificates that are valid in a share of their rows.
+use Rattle.std.specs.Prelude.{◌≡◌, ◌≢◌, ℕ, ◌<◌, ◌≤◌, true, List, length, slice_get, Some}
+use Rattle.rc_instr.specs.Warrior.{WarriorView}
+use Rattle.tune_problem.specs.Parts.{part_first, part_end}
+use Rattle.tune_problem.specs.Problem.{Problem}
+use Rattle.tune_problem.specs.Optimum.{all_fights}
+use Rattle.tune_problem.specs.Valid.{listed_indices, listed_total, IsVersionOf, IsRightRow, IsNoBetter}
+use Rattle.tune_problem.specs.declared.cert.Cert.{Cert}
+use Rattle.tune_problem.specs.declared.cert.Row.{Row}
+use Rattle.tune_problem.specs.declared.cert.Row.TheVariants.{Refused, Same, Cap}
+use Rattle.tune_problem.specs.declared.part.Part.{Part}
+use Rattle.tune_cert.specs.Checks.{rises, are_fights, listed_cap}
+
+-- A refused or a cap row is right as in any certificate. A row that refers to another setting is
+-- right by the row that it names as listed: that has rising fights of the schedule, and its cap by
+-- the listed points, as one of v, does not beat the best setting.
+abbrev pub IsRightInShare : Problem → Cert → ℕ → Row → Type 0
+IsRightInShare p c v Refused = IsRightRow p c v Refused
+IsRightInShare p c v (Cap row) = IsRightRow p c v (Cap row)
+IsRightInShare p c v (Same u) =
+    (w : WarriorView) × (row : List (ℕ × ℕ)) × (u ≢ v) × (p.warrior v ≡ Some w) × (p.warrior u ≡ Some w)
+    × (slice_get c.rows u ≡ Some (Cap row)) × (rises 0 row ≡ true) × (are_fights p row ≡ true) × IsNoBetter c (listed_cap p row) v
+
+-- A certificate is valid in a share if its version, its number of rows and its best row are those
+-- of a valid one, and the rows of the share's settings are right.
+pub record IsValidInShare (p : Problem) (share : Part) (c : Cert) : Type 0 where
+  pub version_is : IsVersionOf p c.version
+  pub count_is : c.count ≡ p.count
+  pub rows_are : length c.rows ≡ p.count
+  pub best_row : List (ℕ × ℕ)
+  pub best_at : slice_get c.rows c.best ≡ Some (Cap best_row)
+  pub every : listed_indices best_row ≡ all_fights p
+  pub sums : listed_total p best_row ≡ c.total
+  pub right : (v : ℕ) (row : Row) → part_first share p.count ≤ v → v < part_end share p.count → slice_get c.rows v ≡ Some row
+      → IsRightInShare p c v row
