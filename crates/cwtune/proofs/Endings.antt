@@ -1,14 +1,19 @@
 -- How runs of the program end.
-use Rattle.std.proofs.Common.{◌≡◌, ◌⊎◌, ◌≤◌, ◌∙◌, ℕ, List, Option, Result, Ok, Err, OnOk, IsErrOf, IsTrue, false, refl, ap}
+use Rattle.std.proofs.Common.{◌≡◌, ◌⊎◌, ◌≤◌, ◌∙◌, ℕ, List, Option, Result, Ok, Err, OnOk, IfOk, IsErrOf, IsTrue, true, false, refl, ap, sym, subst, inl, inr}
+use Rattle.std.specs.Prelude.{codes}
+use Rattle.std.specs.Str.{bytes_eq}
 use native.Mathlib.Omega.{arith}
+use Rattle.mars_core.specs.declared.side.Side.{Side}
 use Rattle.rc_instr.specs.Outlet.{OutletView}
 use Rattle.rc_instr.specs.Rules.{RulesView}
 use Rattle.tune_problem.specs.declared.part.Part.{Part}
-use Rattle.tune_runs.specs.TuneRun.{Texts, part_texts}
-use Rattle.tune_runs.specs.CheckRun.{WritesVerdict}
-use Rattle.cwtune.specs.CommandLine.{AskForFight}
-use Rattle.cwtune.specs.Commands.{WritesCheckLine, status_of}
-use Rattle.cwtune.specs.Program.{IsProgramRun}
+use Rattle.tune_runs.specs.DuelRun.{duel, WritesDuel}
+use Rattle.tune_runs.specs.SettingsRun.{WritesSettings}
+use Rattle.tune_runs.specs.declared.given.WhichSetting.{WhichSetting}
+use Rattle.tune_search.specs.declared.method.Method.{Method}
+use Rattle.cwtune.specs.CommandLine.{AskForFight, AsksForHelp, command_of, is_command}
+use Rattle.cwtune.specs.Commands.{IsEnded, WritesFightIn, WritesSomeDuel, WritesLoadFile, WritesSomeLoadFile, WritesSomeSettings, WritesReport, WritesSomeReport, WritesCheckLine, WritesSomeCheckLine, status_of}
+use Rattle.cwtune.specs.Program.{IsProgramRun, IsSuccess}
 use Rattle.cwtune.specs.declared.ending.Ending.{Ending}
 use Rattle.cwtune.specs.declared.ending.Ending.TheVariants.{Refused, Misused, Failed}
 
@@ -37,21 +42,100 @@ at_most (Err Refused) status is = omega (arith, is)
 at_most (Err Misused) status is = omega (arith, is)
 at_most (Err Failed) status is = omega (arith, is)
 
+-- what a result promises of its value holds of the value
+pub named_at : {A X : Type 0} (P : A → Type 0) (r : Result A X) (x : A) → r ≡ Ok x → IfOk r P → P x
+named_at P r x is h = subst (λ q. IfOk q P) is h
+
 -- what is promised of a fight holds of words that ask for none
-pub other_run : {X : Type 0} (words : List (List ℕ)) (input : Option (List ℕ)) (old new : OutletView) (ended : Result X Ending) (status : ℕ)
+other_run : {X : Type 0} (words : List (List ℕ)) (input : Option (List ℕ)) (old new : OutletView) (ended : Result X Ending) (status : ℕ)
     → status ≡ status_of ended → (AskForFight words → ⊥) → (IsErrOf ended Misused → new ≡ old)
-    → (IsErrOf ended Refused → (new ≡ old) ⊎ ((t : Texts) × (cert : List ℕ) × WritesVerdict t cert false old.bytes new.bytes))
-    → (IsTrue new.failed → IsErrOf ended Failed) → IsProgramRun words input old new status
-other_run words input old new ended status is other misused unwritten failed = record {
+    → (IsErrOf ended Refused → (new ≡ old) ⊎ WritesSomeCheckLine false old.bytes new.bytes) → (IsTrue new.failed → IsErrOf ended Failed)
+    → (status ≡ 0 → AsksForHelp words ⊎ IsSuccess words input old.bytes new.bytes) → IsProgramRun words input old new status
+other_run words input old new ended status is other misused unwritten failed success = record {
   done = λ asked e. absurd (other asked);
   refused = λ asked e. absurd (other asked);
   understood = λ asked e. other asked;
+  success = success;
   misused = λ e. misused (misused_at ended status is e);
   unwritten = λ e. unwritten (refused_at ended status is e);
   failed = λ f. is ∙ ap status_of (failed f);
   status = at_most ended status is;
 }
 
-pub line_of_check : (rules : RulesView) (part : Part) (old new : Option (List ℕ)) → WritesCheckLine rules part false old new
-    → (t : Texts) × (cert : List ℕ) × WritesVerdict t cert false old new
-line_of_check rules part old new (template, opponents, schedule, cert, wrote) = (part_texts template opponents schedule rules part, cert, wrote)
+-- a run that writes nothing unless it succeeds
+quiet_run : {X : Type 0} (words : List (List ℕ)) (input : Option (List ℕ)) (old new : OutletView) (ended : Result X Ending) (status : ℕ)
+    → status ≡ status_of ended → (AskForFight words → ⊥) → IsEnded old new ended
+    → (status ≡ 0 → AsksForHelp words ⊎ IsSuccess words input old.bytes new.bytes) → IsProgramRun words input old new status
+quiet_run words input old new ended status is other ended_so success =
+    other_run words input old new ended status is other ended_so.misused (λ e. inl (ended_so.refused e)) ended_so.failed success
+
+same_word : (word named other : List ℕ) → named ≡ word → IsTrue (bytes_eq other other) → named ≡ other → IsTrue (bytes_eq word other)
+same_word word named other is same e = subst (λ w. IsTrue (bytes_eq w other)) (sym e ∙ is) same
+
+-- a command succeeds if it wrote what its own field says
+pub success_of : (word : List ℕ) (words : List (List ℕ)) (input old new : Option (List ℕ)) → command_of words ≡ word → IsTrue (is_command word)
+    → (IsTrue (bytes_eq word (codes "fight")) → WritesFightIn input old new ⊎ WritesSomeDuel old new)
+    → (IsTrue (bytes_eq word (codes "asm")) → WritesSomeLoadFile old new)
+    → (IsTrue (bytes_eq word (codes "settings")) → WritesSomeSettings old new)
+    → (IsTrue (bytes_eq word (codes "tune")) → WritesSomeReport old new)
+    → (IsTrue (bytes_eq word (codes "check")) → WritesSomeCheckLine true old new) → IsSuccess words input old new
+success_of word words input old new named known fight asm settings tune check = record {
+  known = subst (λ w. IsTrue (is_command w)) (sym named) known;
+  fight = λ e. fight (same_word word (command_of words) (codes "fight") named refl e);
+  asm = λ e. asm (same_word word (command_of words) (codes "asm") named refl e);
+  settings = λ e. settings (same_word word (command_of words) (codes "settings") named refl e);
+  tune = λ e. tune (same_word word (command_of words) (codes "tune") named refl e);
+  check = λ e. check (same_word word (command_of words) (codes "check") named refl e);
+}
+
+no : {P : Type 0} → IsTrue false → P
+no e = absurd (cc)
+
+pub fight_success : (words : List (List ℕ)) (input old new : Option (List ℕ)) → command_of words ≡ codes "fight"
+    → WritesFightIn input old new ⊎ WritesSomeDuel old new → IsSuccess words input old new
+fight_success words input old new named wrote = success_of (codes "fight") words input old new named refl (λ _. wrote) no no no no
+
+pub duel_run : {X : Type 0} (words : List (List ℕ)) (input : Option (List ℕ)) (old new : OutletView) (rules : RulesView) (position : ℕ) (first : Side)
+    (ended : Result X Ending) (status : ℕ) → status ≡ status_of ended → (AskForFight words → ⊥) → IsEnded old new ended → command_of words ≡ codes "fight"
+    → OnOk ended ((c : List ℕ) × (o : List ℕ) × WritesDuel (duel c o rules position first) old.bytes new.bytes) → IsProgramRun words input old new status
+duel_run words input old new rules position first ended status is other ended_so named wrote =
+    quiet_run words input old new ended status is other ended_so (λ e. let (c, o, line) = done_at ended status is wrote e in
+    inr (fight_success words input old.bytes new.bytes named (inr (c, o, rules, position, first, line))))
+
+pub asm_run : {X : Type 0} (words : List (List ℕ)) (input : Option (List ℕ)) (old new : OutletView) (setting : Option WhichSetting) (rules : RulesView)
+    (ended : Result X Ending) (status : ℕ) → status ≡ status_of ended → (AskForFight words → ⊥) → IsEnded old new ended → command_of words ≡ codes "asm"
+    → OnOk ended ((source : List ℕ) × WritesLoadFile source setting rules old.bytes new.bytes) → IsProgramRun words input old new status
+asm_run words input old new setting rules ended status is other ended_so named wrote =
+    quiet_run words input old new ended status is other ended_so (λ e. let (source, text) = done_at ended status is wrote e in
+    inr (success_of (codes "asm") words input old.bytes new.bytes named refl no (λ _. (source, setting, rules, text)) no no no))
+
+pub settings_run : {X : Type 0} (words : List (List ℕ)) (input : Option (List ℕ)) (old new : OutletView) (ended : Result X Ending) (status : ℕ)
+    → status ≡ status_of ended → (AskForFight words → ⊥) → IsEnded old new ended → command_of words ≡ codes "settings"
+    → OnOk ended ((source : List ℕ) × WritesSettings source old.bytes new.bytes) → IsProgramRun words input old new status
+settings_run words input old new ended status is other ended_so named wrote =
+    quiet_run words input old new ended status is other ended_so (λ e. let text = done_at ended status is wrote e in
+    inr (success_of (codes "settings") words input old.bytes new.bytes named refl no no (λ _. text) no no))
+
+pub tune_run : {X : Type 0} (words : List (List ℕ)) (input : Option (List ℕ)) (old new : OutletView) (method : Method) (rules : RulesView) (part : Part)
+    (ended : Result X Ending) (status : ℕ) → status ≡ status_of ended → (AskForFight words → ⊥) → IsEnded old new ended → command_of words ≡ codes "tune"
+    → OnOk ended (WritesReport method rules part old.bytes new.bytes) → IsProgramRun words input old new status
+tune_run words input old new method rules part ended status is other ended_so named wrote =
+    quiet_run words input old new ended status is other ended_so (λ e. let text = done_at ended status is wrote e in
+    inr (success_of (codes "tune") words input old.bytes new.bytes named refl no no no (λ _. (method, rules, part, text)) no))
+
+pub check_run : {X : Type 0} (words : List (List ℕ)) (input : Option (List ℕ)) (old new : OutletView) (rules : RulesView) (part : Part)
+    (ended : Result X Ending) (status : ℕ) → status ≡ status_of ended → (AskForFight words → ⊥)
+    → (IsErrOf ended Refused → (new ≡ old) ⊎ WritesCheckLine rules part false old.bytes new.bytes) → (IsErrOf ended Misused → new ≡ old)
+    → (IsTrue new.failed → IsErrOf ended Failed) → command_of words ≡ codes "check"
+    → OnOk ended (WritesCheckLine rules part true old.bytes new.bytes) → IsProgramRun words input old new status
+check_run words input old new rules part ended status is other refused misused failed named wrote =
+    other_run words input old new ended status is other misused
+    (λ e. elim (refused e) [ inl same ↦ inl same | inr line ↦ inr (rules, part, line) ]) failed
+    (λ e. let line = done_at ended status is wrote e in
+    inr (success_of (codes "check") words input old.bytes new.bytes named refl no no no no (λ _. (rules, part, line))))
+
+pub help_run : {X : Type 0} (words : List (List ℕ)) (input : Option (List ℕ)) (old new : OutletView) (ended : Result X Ending) (status : ℕ)
+    → status ≡ status_of ended → (AskForFight words → ⊥) → IsEnded old new ended → OnOk ended (AsksForHelp words)
+    → IsProgramRun words input old new status
+help_run words input old new ended status is other ended_so asked =
+    quiet_run words input old new ended status is other ended_so (λ e. inl (done_at ended status is asked e))

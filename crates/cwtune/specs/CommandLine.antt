@@ -1,18 +1,37 @@
 -- What the words of a command line ask for.
-use Rattle.std.specs.Prelude.{◌≡◌, ℕ, ◌≤◌, ◌<◌, ◌^◌, ◌||◌, Bool, List, [], ◌∷◌, ◌++◌, codes, IsTrue}
+use Rattle.std.specs.Prelude.{if◌then◌else◌, ◌≡◌, ℕ, ◌≤◌, ◌<◌, ◌^◌, ◌||◌, Bool, List, [], ◌∷◌, ◌++◌, codes, IsTrue}
 use Rattle.std.specs.List.{list_any}
 use Rattle.std.specs.Str.{bytes_eq}
 use Rattle.std.specs.Fmt.{decimal}
 use Rattle.tune_problem.specs.declared.part.Part.{Part}
 use Rattle.tune_search.specs.Method.{HasCapacity}
 use Rattle.cwtune.specs.declared.command_line.Request.{Request}
-use Rattle.cwtune.specs.declared.command_line.Request.TheVariants.{Tune}
+use Rattle.cwtune.specs.declared.command_line.Request.TheVariants.{Fight, Duel, Asm, Settings, Tune, Check}
 
 -- No word, or `fight` alone, asks for the fight on standard input. Words are given as their bytes.
 abbrev pub AskForFight : List (List ℕ) → Type 0
 AskForFight [] = Unit {0}
 AskForFight (word ∷ []) = word ≡ codes "fight"
 AskForFight (word ∷ next ∷ more) = ⊥
+
+-- The command that the words name: the first of them; `fight` if there is none, or if it is `--`.
+abbrev pub command_of : List (List ℕ) → List ℕ
+command_of [] = codes "fight"
+command_of (word ∷ more) = if bytes_eq word (codes "--") then codes "fight" else word
+
+abbrev pub is_command : List ℕ → Bool
+is_command word =
+    bytes_eq word (codes "fight") || (bytes_eq word (codes "asm") || (bytes_eq word (codes "settings")
+    || (bytes_eq word (codes "tune") || bytes_eq word (codes "check"))))
+
+-- The command of a request.
+abbrev pub command_word : Request → List ℕ
+command_word Fight = codes "fight"
+command_word (Duel words) = codes "fight"
+command_word (Asm words) = codes "asm"
+command_word (Settings file) = codes "settings"
+command_word (Tune words method) = codes "tune"
+command_word (Check words) = codes "check"
 
 -- A word that asks for help, or for the version.
 abbrev pub is_help_word : List ℕ → Bool

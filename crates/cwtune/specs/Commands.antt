@@ -3,14 +3,23 @@ use Rattle.std.specs.Prelude.{◌≡◌, ℕ, Bool, List, Option, Some, None, Re
 use Rattle.rc_instr.specs.Outlet.{OutletView}
 use Rattle.rc_instr.specs.Rules.{RulesView}
 use Rattle.tune_problem.specs.declared.part.Part.{Part}
+use Rattle.mars_core.specs.declared.side.Side.{Side}
 use Rattle.tune_runs.specs.AsmRun.{WritesWarrior}
+use Rattle.tune_runs.specs.DuelRun.{duel, WritesDuel}
+use Rattle.tune_runs.specs.FightRun.{WritesFight}
 use Rattle.tune_runs.specs.SettingRun.{WritesSetting}
+use Rattle.tune_runs.specs.SettingsRun.{WritesSettings}
 use Rattle.tune_runs.specs.TuneRun.{part_texts, WritesTuning}
 use Rattle.tune_runs.specs.CheckRun.{WritesVerdict}
 use Rattle.tune_search.specs.declared.method.Method.{Method}
 use Rattle.tune_runs.specs.declared.given.WhichSetting.{WhichSetting}
+use Rattle.cwtune.specs.Input.{IsInput}
 use Rattle.cwtune.specs.declared.ending.Ending.{Ending}
 use Rattle.cwtune.specs.declared.ending.Ending.TheVariants.{Refused, Misused, Failed}
+
+-- The result line of the fight in the input was written.
+abbrev pub WritesFightIn : Option (List ℕ) → Option (List ℕ) → Option (List ℕ) → Type 0
+WritesFightIn input old new = (text : List ℕ) × IsInput input text × WritesFight text old new
 
 -- The load file of a text was written, or that of a setting of a template.
 abbrev pub WritesLoadFile : List ℕ → Option WhichSetting → RulesView → Option (List ℕ) → Option (List ℕ) → Type 0
@@ -28,6 +37,25 @@ abbrev pub WritesCheckLine : RulesView → Part → Bool → Option (List ℕ) �
 WritesCheckLine rules part accepted old new =
     (template : List ℕ) × (opponents : List (List ℕ)) × (schedule : List ℕ) × (cert : List ℕ)
     × WritesVerdict (part_texts template opponents schedule rules part) cert accepted old new
+
+-- What a command wrote, for some files and some values of its options.
+abbrev pub WritesSomeDuel : Option (List ℕ) → Option (List ℕ) → Type 0
+WritesSomeDuel old new =
+    (candidate : List ℕ) × (opponent : List ℕ) × (rules : RulesView) × (position : ℕ) × (first : Side)
+    × WritesDuel (duel candidate opponent rules position first) old new
+
+abbrev pub WritesSomeLoadFile : Option (List ℕ) → Option (List ℕ) → Type 0
+WritesSomeLoadFile old new =
+    (source : List ℕ) × (setting : Option WhichSetting) × (rules : RulesView) × WritesLoadFile source setting rules old new
+
+abbrev pub WritesSomeSettings : Option (List ℕ) → Option (List ℕ) → Type 0
+WritesSomeSettings old new = (source : List ℕ) × WritesSettings source old new
+
+abbrev pub WritesSomeReport : Option (List ℕ) → Option (List ℕ) → Type 0
+WritesSomeReport old new = (method : Method) × (rules : RulesView) × (part : Part) × WritesReport method rules part old new
+
+abbrev pub WritesSomeCheckLine : Bool → Option (List ℕ) → Option (List ℕ) → Type 0
+WritesSomeCheckLine accepted old new = (rules : RulesView) × (part : Part) × WritesCheckLine rules part accepted old new
 
 -- The exit status of a command.
 abbrev pub status_of : {X : Type 0} → Result X Ending → ℕ

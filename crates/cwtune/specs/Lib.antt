@@ -1,5 +1,5 @@
--- The words of a command line ask for a run, or for one of two answers of `clap`. A text is what an
--- input held. A tuning overwrites only a certificate. What a run writes depends on its status.
+-- The words of a command line name a command, or ask for help. A text is what an input held. A
+-- tuning overwrites only a certificate. What a run writes depends on its command and its status.
 pub mod Input
 pub mod CertFile
 pub mod CommandLine

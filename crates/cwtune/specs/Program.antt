@@ -1,22 +1,34 @@
 -- What a run of the program writes on standard output, by its exit status.
-use Rattle.std.specs.Prelude.{◌≡◌, ◌≢◌, ◌⊎◌, ◌≤◌, ℕ, List, Option, false, IsTrue}
+use Rattle.std.specs.Prelude.{◌≡◌, ◌≢◌, ◌⊎◌, ◌≤◌, ◌||◌, ℕ, Bool, List, Option, true, false, codes, IsTrue}
+use Rattle.std.specs.Str.{bytes_eq}
 use Rattle.rc_instr.specs.Outlet.{OutletView}
-use Rattle.tune_runs.specs.FightRun.{WritesFight, IsRefusedText}
-use Rattle.tune_runs.specs.TuneRun.{Texts}
-use Rattle.tune_runs.specs.CheckRun.{WritesVerdict}
-use Rattle.cwtune.specs.CommandLine.{AskForFight}
+use Rattle.tune_runs.specs.FightRun.{IsRefusedText}
+use Rattle.cwtune.specs.CommandLine.{AskForFight, AsksForHelp, command_of, is_command}
+use Rattle.cwtune.specs.Commands.{WritesFightIn, WritesSomeDuel, WritesSomeLoadFile, WritesSomeSettings, WritesSomeReport, WritesSomeCheckLine}
 use Rattle.cwtune.specs.Input.{IsInput}
+
+-- What the command that the words name wrote, if it succeeded. For `check` that is the line of an
+-- accepted certificate.
+pub record IsSuccess (words : List (List ℕ)) (input old new : Option (List ℕ)) : Type 0 where
+  pub known : IsTrue (is_command (command_of words))
+  pub fight : command_of words ≡ codes "fight" → WritesFightIn input old new ⊎ WritesSomeDuel old new
+  pub asm : command_of words ≡ codes "asm" → WritesSomeLoadFile old new
+  pub settings : command_of words ≡ codes "settings" → WritesSomeSettings old new
+  pub tune : command_of words ≡ codes "tune" → WritesSomeReport old new
+  pub check : command_of words ≡ codes "check" → WritesSomeCheckLine true old new
 
 -- A run of these words, with this input, that ends with a status.
 pub record IsProgramRun (words : List (List ℕ)) (input : Option (List ℕ)) (old new : OutletView) (ended : ℕ) : Type 0 where
   -- if the words ask for a fight, status 0 means that the result line of the fight in the input was
   -- written, and status 1 that the input is refused and nothing was written
-  pub done : AskForFight words → ended ≡ 0 → (text : List ℕ) × IsInput input text × WritesFight text old.bytes new.bytes
+  pub done : AskForFight words → ended ≡ 0 → WritesFightIn input old.bytes new.bytes
   pub refused : AskForFight words → ended ≡ 1 → (text : List ℕ) × IsInput input text × IsRefusedText text × (new ≡ old)
   pub understood : AskForFight words → ended ≢ 2
-  -- whatever the words are, nothing is written if they or an input are refused, except the line of
-  -- a rejected certificate; and a failed write gives status 3
+  -- whatever the words are, status 0 means that their command succeeded, or that help was asked for
+  pub success : ended ≡ 0 → AsksForHelp words ⊎ IsSuccess words input old.bytes new.bytes
+  -- nothing is written if the words or an input are refused, except the line of a rejected
+  -- certificate; and a failed write gives status 3
   pub misused : ended ≡ 2 → new ≡ old
-  pub unwritten : ended ≡ 1 → (new ≡ old) ⊎ ((t : Texts) × (cert : List ℕ) × WritesVerdict t cert false old.bytes new.bytes)
+  pub unwritten : ended ≡ 1 → (new ≡ old) ⊎ WritesSomeCheckLine false old.bytes new.bytes
   pub failed : IsTrue new.failed → ended ≡ 3
   pub status : ended ≤ 3

@@ -1,16 +1,17 @@
 //! The command line, as the library `clap` reads it.
-ghost use Rattle.std.specs.Prelude.{◌≡◌, ◌↔◌, ◌≤◌, map, IfOk, IfSome, IsNone, IsTrue, string_bytes};
+ghost use Rattle.std.specs.Prelude.{◌≡◌, ◌≤◌, map, IfOk, IfSome, IsNone, string_bytes};
 ghost use Rattle.tune_search.specs.Limits.{MOST_CAPACITY};
 ghost use Rattle.tune_search.specs.Method.{HasCapacity};
-ghost use Rattle.cwtune.specs.CommandLine.{AskForFight, IsRequest};
+ghost use Rattle.cwtune.specs.CommandLine.{AskForFight, IsRequest, command_of, command_word};
 
+use crate::command_word::{ask_for_fight, is_named};
 use crate::help::{asks_for_help, command_in};
 use crate::options::{
     explain_option, fight_numbers, number, progress_option, rules_of, tune_options, with_rules,
 };
 use crate::part_word::part_option;
 use crate::setting_word::which_setting;
-use crate::usage_error::{BadValue, bad_value, one_file};
+use crate::usage_error::{BadValue, bad_value, not_first, one_file};
 use clap::builder::ValueParser;
 use clap::{Arg, ArgAction, ArgMatches, Command, Error, value_parser};
 use mars_core::Side;
@@ -80,6 +81,7 @@ pub(crate) enum Request<'a> {
 // error. The shortest words for a fight are recognised without `clap`, so that they take no memory.
 pub(crate) fn request_of<'a>(alloc: Global, words: &'a [String]) -> Result<Request<'a>, Error>
     ensures fight { AskForFight (map string_bytes words.entry.now) → result ≡ Ok Request.Fight }
+    ensures named { IfOk result (λ r. command_of (map string_bytes words.entry.now) ≡ command_word r) }
     ensures capacity { IfOk result IsRequest }
 {
     if ask_for_fight(words) {
@@ -89,6 +91,17 @@ pub(crate) fn request_of<'a>(alloc: Global, words: &'a [String]) -> Result<Reque
     if asks_for_help(words, command) {
         give_help(alloc, command)?;
     }
+    let request = parsed_request(alloc, words)?;
+    if is_named(words, &request) {
+        return Ok(request);
+    }
+    Err(not_first(commands(alloc, duel(alloc)?)?)?)
+}
+
+// Parses the words.
+fn parsed_request<'a>(alloc: Global, words: &'a [String]) -> Result<Request<'a>, Error>
+    ensures { IfOk result IsRequest }
+{
     let matches = commands(alloc, duel(alloc)?)?.try_get_matches_from(words)?;
     match matches.subcommand() {
         Some(("fight", found)) => fight_request(alloc, words, found),
@@ -421,15 +434,4 @@ fn tune_words<'a>(
         opponents,
         part,
     })
-}
-
-// Checks for the shortest words of a fight: none, or `fight` alone.
-pub(crate) fn ask_for_fight(words: &[String]) -> bool
-    ensures { IsTrue result ↔ AskForFight (map string_bytes words.now) }
-{
-    match words {
-        [] => true,
-        [word] => word.as_str() == "fight",
-        _ => false,
-    }
 }

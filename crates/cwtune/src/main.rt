@@ -9,6 +9,7 @@ mod beginning;
 mod bounds;
 mod cert_file;
 mod command_line;
+mod command_word;
 mod commands;
 mod digest;
 mod ending;
@@ -35,7 +36,7 @@ mod telling;
 mod usage_error;
 mod witness;
 
-use command_line::ask_for_fight;
+use command_word::ask_for_fight;
 use host::Host;
 use options::is_given;
 use progress_line::{Progress, Style};

@@ -37,3 +37,12 @@ pub(crate) fn one_file(command: Command<'_>) -> Result<Error, AllocError> {
         "OPPONENT is missing: a fight has two files, or none and its text on standard input",
     )
 }
+
+// Makes the usage error of a command that is not the first word.
+pub(crate) fn not_first(command: Command<'_>) -> Result<Error, AllocError> {
+    let mut command = command;
+    command.error(
+        ErrorKind::InvalidSubcommand,
+        "the command has to be the first word",
+    )
+}

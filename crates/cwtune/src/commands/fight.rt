@@ -1,7 +1,7 @@
 //! The command `fight`: from a fight text to a result line.
 ghost use Rattle.std.specs.Prelude.{◌≡◌, ◌≢◌, false, List, ℕ, IfErr, IsErrOf, OnOk};
-ghost use Rattle.tune_runs.specs.FightRun.{WritesFight, IsRefusedText};
-ghost use Rattle.cwtune.specs.Commands.{IsEnded};
+ghost use Rattle.tune_runs.specs.FightRun.{IsRefusedText};
+ghost use Rattle.cwtune.specs.Commands.{WritesFightIn, IsEnded};
 ghost use Rattle.cwtune.specs.Input.{IsInput};
 
 use crate::ending::Ending;
@@ -20,7 +20,7 @@ pub(crate) fn fight<F: Files, R: Read, T: Witness, W: Write, V: Write>(
     out: &mut Outlet<W>,
 ) -> Result<(), Ending>
     requires { out.old.failed ≡ false }
-    ensures done { OnOk result ((text : List ℕ) × IsInput (R.remaining input.old) text × WritesFight text out.old.bytes out.new.bytes) }
+    ensures done { OnOk result (WritesFightIn (R.remaining input.old) out.old.bytes out.new.bytes) }
     ensures refused { IsErrOf result Ending.Refused → (text : List ℕ) × IsInput (R.remaining input.old) text × IsRefusedText text }
     ensures ended { IsEnded out.old out.new result }
     ensures understood { IfErr result (λ e. e ≢ Ending.Misused) }

@@ -1,50 +1,68 @@
-use Rattle.std.proofs.Common.{◌≢◌, ◌∙◌, IfErr, inl, inr, ap, subst, refl}
+use Rattle.std.proofs.Common.{◌≡◌, ◌≢◌, ◌∙◌, IfErr, inl, inr, map, string_bytes, ap, subst, refl}
 use Rattle.cwtune.specs.declared.ending.Ending.TheVariants.{Misused}
+use Rattle.cwtune.specs.CommandLine.{AskForFight, command_of, command_word}
 use Rattle.cwtune.specs.Commands.{status_of}
-use Rattle.cwtune.proofs.Endings.{done_at, refused_at, misused_at, at_most, other_run, line_of_check}
+use Rattle.cwtune.proofs.Endings.{done_at, refused_at, misused_at, at_most, named_at, fight_success, duel_run, asm_run, settings_run, tune_run, check_run, help_run}
 use Rattle.cwtune.proofs.program.watched_program.Goals as goal
 
 pub returns-in-Ok-Fight : goal.returns-in-Ok-Fight
-returns-in-Ok-Fight g c = record {
-  done = λ asked. done_at _ _ c.status_of.ensures c.fight.ensures.done;
-  refused = λ asked e. let refused = refused_at _ _ c.status_of.ensures e in let (text, is, why) = c.fight.ensures.refused refused in
-      (text, is, why, c.fight.ensures.ended.refused refused);
-  understood = λ asked e. subst (λ r. IfErr r (λ x. x ≢ Misused)) (misused_at _ _ c.status_of.ensures e) c.fight.ensures.understood refl;
-  misused = λ e. c.fight.ensures.ended.misused (misused_at _ _ c.status_of.ensures e);
-  unwritten = λ e. inl (c.fight.ensures.ended.refused (refused_at _ _ c.status_of.ensures e));
-  failed = λ f. c.status_of.ensures ∙ ap status_of (c.fight.ensures.ended.failed f);
-  status = at_most _ _ c.status_of.ensures;
-}
+returns-in-Ok-Fight g c =
+    let words = map string_bytes c.args.words.now in
+    let named = named_at (λ r. command_of words ≡ command_word r) _ _ c.in-Ok-Fight.is c.request_of.ensures.named ∙ ap command_word c.in-Ok-Fight.field-0-is in
+    record {
+      done = λ asked. done_at _ _ c.status_of.ensures c.fight.ensures.done;
+      refused = λ asked e. let refused = refused_at _ _ c.status_of.ensures e in let (text, is, why) = c.fight.ensures.refused refused in
+          (text, is, why, c.fight.ensures.ended.refused refused);
+      understood = λ asked e. subst (λ r. IfErr r (λ x. x ≢ Misused)) (misused_at _ _ c.status_of.ensures e) c.fight.ensures.understood refl;
+      success = λ e. inr (fight_success words _ _ _ named (inl (done_at _ _ c.status_of.ensures c.fight.ensures.done e)));
+      misused = λ e. c.fight.ensures.ended.misused (misused_at _ _ c.status_of.ensures e);
+      unwritten = λ e. inl (c.fight.ensures.ended.refused (refused_at _ _ c.status_of.ensures e));
+      failed = λ f. c.status_of.ensures ∙ ap status_of (c.fight.ensures.ended.failed f);
+      status = at_most _ _ c.status_of.ensures;
+    }
 
 -- words that ask for a fight give `Request::Fight`, so no other arm is reached by them
 pub returns-in-Ok-Duel : goal.returns-in-Ok-Duel
-returns-in-Ok-Duel g c = other_run _ _ _ _ _ _ c.status_of-in-Ok-Duel.ensures
-    (λ asked. let fight = c.request_of.ensures.fight asked in let other = c.in-Ok-Duel.is in cc)
-    c.duel.ensures.ended.misused (λ e. inl (c.duel.ensures.ended.refused e)) c.duel.ensures.ended.failed
+returns-in-Ok-Duel g c =
+    let words = map string_bytes c.args.words.now in
+    let other : AskForFight words → ⊥ = λ asked. let fight = c.request_of.ensures.fight asked in let not_fight = c.in-Ok-Duel.is in cc in
+    let named = named_at (λ r. command_of words ≡ command_word r) _ _ c.in-Ok-Duel.is c.request_of.ensures.named ∙ ap command_word c.in-Ok-Duel.field-0-is in
+    duel_run words _ _ _ _ _ _ _ _ c.status_of-in-Ok-Duel.ensures
+    other c.duel.ensures.ended named c.duel.ensures.done
 
 pub returns-in-Ok-Asm : goal.returns-in-Ok-Asm
-returns-in-Ok-Asm g c = other_run _ _ _ _ _ _ c.status_of-in-Ok-Asm.ensures
-    (λ asked. let fight = c.request_of.ensures.fight asked in let other = c.in-Ok-Asm.is in cc)
-    c.asm.ensures.ended.misused (λ e. inl (c.asm.ensures.ended.refused e)) c.asm.ensures.ended.failed
+returns-in-Ok-Asm g c =
+    let words = map string_bytes c.args.words.now in
+    let other : AskForFight words → ⊥ = λ asked. let fight = c.request_of.ensures.fight asked in let not_fight = c.in-Ok-Asm.is in cc in
+    let named = named_at (λ r. command_of words ≡ command_word r) _ _ c.in-Ok-Asm.is c.request_of.ensures.named ∙ ap command_word c.in-Ok-Asm.field-0-is in
+    asm_run words _ _ _ _ _ _ _ c.status_of-in-Ok-Asm.ensures
+    other c.asm.ensures.ended named c.asm.ensures.done
 
 pub returns-in-Ok-Settings : goal.returns-in-Ok-Settings
-returns-in-Ok-Settings g c = other_run _ _ _ _ _ _ c.status_of-in-Ok-Settings.ensures
-    (λ asked. let fight = c.request_of.ensures.fight asked in let other = c.in-Ok-Settings.is in cc)
-    c.settings.ensures.ended.misused (λ e. inl (c.settings.ensures.ended.refused e)) c.settings.ensures.ended.failed
+returns-in-Ok-Settings g c =
+    let words = map string_bytes c.args.words.now in
+    let other : AskForFight words → ⊥ = λ asked. let fight = c.request_of.ensures.fight asked in let not_fight = c.in-Ok-Settings.is in cc in
+    let named = named_at (λ r. command_of words ≡ command_word r) _ _ c.in-Ok-Settings.is c.request_of.ensures.named ∙ ap command_word c.in-Ok-Settings.field-0-is in
+    settings_run words _ _ _ _ _ c.status_of-in-Ok-Settings.ensures
+    other c.settings.ensures.ended named c.settings.ensures.done
 
 pub returns-in-Ok-Tune : goal.returns-in-Ok-Tune
-returns-in-Ok-Tune g c = other_run _ _ _ _ _ _ c.status_of-in-Ok-Tune.ensures
-    (λ asked. let fight = c.request_of.ensures.fight asked in let other = c.in-Ok-Tune.is in cc)
-    c.tune.ensures.ended.misused (λ e. inl (c.tune.ensures.ended.refused e)) c.tune.ensures.ended.failed
+returns-in-Ok-Tune g c =
+    let words = map string_bytes c.args.words.now in
+    let other : AskForFight words → ⊥ = λ asked. let fight = c.request_of.ensures.fight asked in let not_fight = c.in-Ok-Tune.is in cc in
+    let named = named_at (λ r. command_of words ≡ command_word r) _ _ c.in-Ok-Tune.is c.request_of.ensures.named ∙ ap command_word c.in-Ok-Tune.field-0-is in
+    tune_run words _ _ _ _ _ _ _ _ c.status_of-in-Ok-Tune.ensures
+    other c.tune.ensures.ended named c.tune.ensures.done
 
 pub returns-in-Ok-Check : goal.returns-in-Ok-Check
-returns-in-Ok-Check g c = other_run _ _ _ _ _ _ c.status_of-in-Ok-Check.ensures
-    (λ asked. let fight = c.request_of.ensures.fight asked in let other = c.in-Ok-Check.is in cc)
-    c.check.ensures.misused
-    (λ e. elim (c.check.ensures.refused e) [ inl same ↦ inl same | inr wrote ↦ inr (line_of_check _ _ _ _ wrote) ])
-    c.check.ensures.failed
+returns-in-Ok-Check g c =
+    let words = map string_bytes c.args.words.now in
+    let other : AskForFight words → ⊥ = λ asked. let fight = c.request_of.ensures.fight asked in let not_fight = c.in-Ok-Check.is in cc in
+    let named = named_at (λ r. command_of words ≡ command_word r) _ _ c.in-Ok-Check.is c.request_of.ensures.named ∙ ap command_word c.in-Ok-Check.field-0-is in
+    check_run words _ _ _ _ _ _ _ c.status_of-in-Ok-Check.ensures
+    other c.check.ensures.refused c.check.ensures.misused c.check.ensures.failed named c.check.ensures.done
 
 pub returns-in-Err : goal.returns-in-Err
-returns-in-Err g c = other_run _ _ _ _ _ _ c.status_of-in-Err.ensures
+returns-in-Err g c = help_run (map string_bytes c.args.words.now) _ _ _ _ _ c.status_of-in-Err.ensures
     (λ asked. let fight = c.request_of.ensures.fight asked in let other = c.in-Err.is in cc)
-    c.show.ensures.ended.misused (λ e. inl (c.show.ensures.ended.refused e)) c.show.ensures.ended.failed
+    c.show.ensures.ended c.show.ensures.asked

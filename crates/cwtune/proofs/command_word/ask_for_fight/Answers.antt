@@ -3,7 +3,7 @@ use Rattle.std.proofs.lemmas.Slice.Eq.{slice_eq-Decides}
 use Rattle.std.proofs.lemmas.Bool.Decides.{Decides-eqb}
 use Rattle.cwtune.specs.CommandLine.{AskForFight}
 use Rattle.cwtune.proofs.Words.{one_item}
-use Rattle.cwtune.proofs.command_line.ask_for_fight.Goals as goal
+use Rattle.cwtune.proofs.command_word.ask_for_fight.Goals as goal
 
 pub returns-in-len1 : goal.returns-in-len1
 returns-in-len1 c =
