@@ -1,5 +1,5 @@
 """Runs the program in a folder, and says how what came of it differs from what was expected."""
-import os, pathlib, pty, subprocess, tempfile
+import contextlib, os, pathlib, pty, subprocess, tempfile
 from typing import NamedTuple
 
 from . import inputs_file
@@ -137,7 +137,14 @@ def text_of(path):
     return path.read_bytes() if size <= LONGEST else f"{size} bytes".encode()
 
 
+@contextlib.contextmanager
+def in_folder(program, files):
+    """Makes a new folder with these files."""
+    with tempfile.TemporaryDirectory() as folder:
+        yield Place(program, folder, files)
+
+
 def play(program, words, files, **more):
     """Runs the program in a new folder with these files. Returns its end."""
-    with tempfile.TemporaryDirectory() as folder:
-        return Place(program, folder, files).run(words, keep=True, **more)
+    with in_folder(program, files) as place:
+        return place.run(words, keep=True, **more)

@@ -6,7 +6,7 @@ setting and total, and what they reject has to put together to its line. Each ki
 to each row of the certificates of templates of at most six settings. Prints what failed, and as its
 last line `N passed, N failed`. The exit status is 1 if a check failed.
 """
-import itertools, pathlib, sys, tempfile
+import concurrent.futures, os, sys
 
 from author.lib.endings import run_tool
 from author.lib.program import program_of
@@ -14,7 +14,7 @@ from author.lib.spread_shares import is_verdict, verdict_of
 
 from . import inputs
 from .inputs import RULES
-from .play import Place
+from .play import in_folder, play
 from .tally import compare, tally
 
 SHARES = [1, 2, 3, 7]
@@ -29,17 +29,18 @@ SCHEDULES = {
     "both.csv": inputs.FILES["both.csv"],
     "weights.csv": "opponent,position,first,weight\n0,4,c,1\n1,5,o,3\n1,6,c,2\n0,4,o,1\n",
 }
-METHODS = [["--all"], ["--cache=1"]]
 OPPONENTS = ["dat.red", "imp.red"]
+FILES = inputs.files(*OPPONENTS) | TEMPLATES | SCHEDULES
+# The certificates: a template, a schedule and a method.
+TUNINGS = [("half.red", "both.csv", "--cache=2"), ("tail.red", "weights.csv", "--all"),
+           ("kinds.red", "weights.csv", "--cache=4"), ("leaps.red", "both.csv", "--all"),
+           ("leaps.red", "weights.csv", "--cache=1")]
 
 
-def tuned(place):
-    """Yields the words of a tuning, and its certificate."""
-    for template, schedule, method in itertools.product(TEMPLATES, SCHEDULES, METHODS):
-        words = [*RULES, template, schedule, "CERT", *OPPONENTS]
-        came = place.run(["tune", *method, *words], keep=True)
-        if came.status == 0:
-            yield words, place.read("CERT").decode()
+def tuned(program, template, schedule, method):
+    """Tunes a template. Returns the words of a check, and the certificate."""
+    words = [*RULES, template, schedule, "CERT", *OPPONENTS]
+    return words, play(program, ["tune", method, *words], FILES).files["CERT"].decode()
 
 
 def damaged(text):
@@ -94,50 +95,53 @@ DAMAGES = {"cwcert": of_count, "best": of_best, "refused": of_refused, "same": o
            "cap": of_cap}
 
 
+def line_of(place, *words):
+    """Returns what a check prints, and its status."""
+    job = place.start(["check", *words])
+    return job.communicate()[0].decode(), job.returncode
+
+
 def in_shares(place, words, shares):
     """Returns the line and the status of a check in shares, as `cwtune-spread` puts them together,
     or what a share printed in place of a verdict."""
     lines = []
     for number in range(1, shares + 1):
-        came = place.start(["check", f"--share={number}/{shares}", *words])
-        line = came.communicate()[0].decode()
-        if not is_verdict(line, came.returncode, number, shares):
-            return line, came.returncode
+        line, status = line_of(place, f"--share={number}/{shares}", *words)
+        if not is_verdict(line, status, number, shares):
+            return line, status
         lines.append(line)
     line = verdict_of(lines, place.folder / "CERT")
     return line, 0 if line.startswith("accepted") else 1
 
 
-def whole(place, words):
-    """Returns the line and the status of the whole check."""
-    came = place.start(["check", *words])
-    return came.communicate()[0].decode(), came.returncode
+def compared(program, words, records):
+    """Checks a certificate at once and in shares. Returns the status of the first, and a result."""
+    text = "".join(f"{record}\n" for record in records)
+    with in_folder(program, {**FILES, "CERT": text}) as place:
+        wanted = line_of(place, *words)
+        came = {k: in_shares(place, words, k) for k in [*SHARES, len(records) + 3]}
+    name = f"{' '.join(words)}: {' '.join(records)}"
+    return wanted[1], compare(name, dict.fromkeys(came, wanted), came)
 
 
-def trials(place):
+def trials(program):
     """Yields for each certificate how its checks in shares differ from its whole check."""
-    certificates = list(tuned(place))
-    yield compare("certificates of all templates", len(TEMPLATES) * len(SCHEDULES) * len(METHODS),
-                  len(certificates))
-    accepted = rejected = 0
-    for words, text in certificates:
+    jobs = []
+    for tuning in TUNINGS:
+        words, text = tuned(program, *tuning)
         tried = {tuple(text.splitlines())} | {tuple(records) for records in damaged(text)}
-        for records in sorted(tried):
-            place.write("CERT", "".join(f"{record}\n" for record in records))
-            wanted = whole(place, words)
-            accepted, rejected = accepted + (wanted[1] == 0), rejected + (wanted[1] == 1)
-            came = {k: in_shares(place, words, k) for k in [*SHARES, len(records) + 3]}
-            yield compare(f"{' '.join(words)}: {' '.join(records)}", dict.fromkeys(came, wanted),
-                          came)
-    yield compare("some are accepted and at least 200 rejected", (True, True),
-                  (accepted >= len(certificates), rejected >= 200))
+        jobs += [(words, records) for records in sorted(tried)]
+    with concurrent.futures.ThreadPoolExecutor(os.cpu_count()) as pool:
+        ends = list(pool.map(lambda job: compared(program, *job), jobs))
+    yield from (result for _, result in ends)
+    statuses = [status for status, _ in ends]
+    yield compare("some are accepted, at least 200 are rejected, and none is refused otherwise",
+                  (True, True, {0, 1}), (statuses.count(0) >= len(TUNINGS),
+                                         statuses.count(1) >= 200, set(statuses)))
 
 
 def main():
-    program = program_of(sys.argv[1:])
-    files = inputs.files(*OPPONENTS) | TEMPLATES | SCHEDULES
-    with tempfile.TemporaryDirectory() as folder:
-        return tally(trials(Place(program, pathlib.Path(folder), files)))
+    return tally(trials(program_of(sys.argv[1:])))
 
 
 if __name__ == "__main__":
