@@ -7,6 +7,10 @@ proof of every other function is a hole, unless it calls itself or is in a cycle
 is refused if a goal of the function that it changes stays open, or if one of that function's proof
 files fails, and not only because the edit took a name away.
 
+A goal that stays open shows what the clause refuses. A proof file that fails shows only that this
+proof is not one of the wrong body: another one might be. So each round says how many of its edits a
+proof file refused, and --names says which.
+
 An edit is a file in the format of `rt must-fail`, with a line `function: PATH`, as a check prints
 the function. Each `old:` text occurs once in its file, in the name's line or in the body of that
 function. Each round has the crate's edit in gate/harmless/, too, which must not be refused. With
@@ -238,11 +242,12 @@ def kept_at(key):
     return pathlib.Path(cache, "cwtune-edits", key)
 
 
-def keep(key):
-    """Notes that a round was judged as it should be. What cannot be noted is tried again."""
+def keep(key, by_proofs):
+    """Notes that a round was judged as it should be, and which of its edits a proof file refused.
+    What cannot be noted is tried again."""
     try:
         kept_at(key).parent.mkdir(parents=True, exist_ok=True)
-        kept_at(key).touch()
+        kept_at(key).write_text(" ".join(by_proofs))
     except OSError:
         pass
 
@@ -251,14 +256,23 @@ def judge(crate, number, edits, options):
     """Tries a round. Returns how many edits it has, what is wrong, and its name."""
     label, key = f"{crate.name}, round {number}: {len(edits)} edits", sum_of(crate, edits)
     if kept_at(key).exists() and not options.anew and not options.control:
-        return len(edits) + 1, [], f"{label}, judged before"
+        told = told_of(kept_at(key).read_text().split(), options)
+        return len(edits) + 1, [], f"{label}, judged before{told}"
     faults = faults_without_edits(edits, check(crate, edits, [])) if options.control else []
     log = options.logs and pathlib.Path(options.logs, f"{crate.name}-{number}.log")
     every = [*edits, crate.harmless]
-    faults += faults_of(crate, edits, check(crate, every, every, log))
+    text = check(crate, every, every, log)
+    faults += faults_of(crate, edits, text)
+    by_proofs = [edit.name for edit in edits if not OPEN.match(words_on(edit, read_check(text)[0]))]
     if not faults:
-        keep(key)
-    return len(edits) + 1, faults, label
+        keep(key, by_proofs)
+    return len(edits) + 1, faults, label + told_of(by_proofs, options)
+
+
+def told_of(by_proofs, options):
+    """Returns how many edits a proof file refused, and with --names which."""
+    names = f": {' '.join(by_proofs)}" if options.names and by_proofs else ""
+    return f", {len(by_proofs)} refused by a proof file{names}"
 
 
 def load_kit():
@@ -305,6 +319,8 @@ def words():
     parser.add_argument("--jobs", type=number_from(1), default=lanes(), metavar="N",
                         help="checks side by side (default: by processors and memory)")
     parser.add_argument("--logs", metavar="FOLDER", help="write what each check says there")
+    parser.add_argument("--names", action="store_true",
+                        help="name the edits that a proof file refused, and no open goal")
     return parser.parse_args()
 
 
