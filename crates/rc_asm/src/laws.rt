@@ -34,6 +34,6 @@ pub fn an_assembled_warrior_fits_its_rules()
 /// refused for one of them.
 #[tactic(auto, using(crate::proofs::Numbers::numbers_below))]
 pub fn numbers_are_below_the_core_size()
-    ensures { (source : List ℕ) (names : NameValues) (lines : List Line) (r : ReadingView) → 0 < names.rules.core → after_lines source names lines nothing_read ≡ Ok r
+    ensures { (text : List ℕ) (names : NameValues) (lines : List Line) (r : ReadingView) → 0 < names.rules.core → after_lines text names lines nothing_read ≡ Ok r
         → All (IsBelow names.rules.core) r.code }
 {}
