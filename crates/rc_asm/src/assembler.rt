@@ -1,6 +1,7 @@
 //! The assembler: expansion, the values of the lines, their forms if that fails, and the warrior.
-ghost use Rattle.std.specs.Prelude.{◌≡◌, ◌↔◌, ℕ, pos, ◌<◌, ◌-◌, ◌^◌};
+ghost use Rattle.std.specs.Prelude.{IfOk, ◌≡◌, ◌↔◌, ℕ, pos, ◌<◌, ◌-◌, ◌^◌};
 ghost use Rattle.rc_expand.specs.Names.{table_in};
+ghost use Rattle.rc_instr.specs.Warrior.{Fits};
 ghost use Rattle.rc_asm.specs.Faults.{Returns};
 ghost use Rattle.rc_asm.specs.Lines.{start_value};
 ghost use Rattle.rc_asm.specs.Names.{names_of};
@@ -54,7 +55,8 @@ pub fn assemble(
     constants: &Constants,
     rules: &Rules,
 ) -> Result<Warrior, AsmFault>
-    ensures { Returns (λ w. w) result (outcome_of source.now (table_in constants.now) rules.now) }
+    ensures outcome { Returns (λ w. w) result (outcome_of source.now (table_in constants.now) rules.now) }
+    ensures fits { IfOk result (Fits rules.now) }
 {
     if source.len() > MOST_BYTES {
         return Err(at_line(0, AsmKind::TextTooLong));
@@ -74,7 +76,8 @@ fn assemble_lines(
     rules: &Rules,
     lines: &[Line],
 ) -> Result<Warrior, AsmFault>
-    ensures { Returns (λ w. w) result (outcome_of_lines source.now (names_of source.now (table_in constants.now) rules.now lines.now) lines.now) }
+    ensures outcome { Returns (λ w. w) result (outcome_of_lines source.now (names_of source.now (table_in constants.now) rules.now lines.now) lines.now) }
+    ensures fits { IfOk result (Fits rules.now) }
 {
     let labels = Labels::of_lines(alloc, source, lines)?;
     let given = GivenNames { constants, rules };
@@ -98,7 +101,8 @@ fn assemble_with(
     context: &Context,
     lines: &[Line],
 ) -> Result<Warrior, AsmFault>
-    ensures { Returns (λ w. w) result (warrior_of_lines source.now (seen_names context.now) lines.now) }
+    ensures outcome { Returns (λ w. w) result (warrior_of_lines source.now (seen_names context.now) lines.now) }
+    ensures fits { IfOk result (Fits context.now.given.now.rules.now) }
 {
     prove!(0 < context.given.rules.core());
     let reading = read_lines(alloc, source, context, lines)?;
@@ -107,7 +111,8 @@ fn assemble_with(
 
 // Makes the warrior of what was read.
 fn warrior_of(reading: Reading, rules: &Rules) -> Result<Warrior, AsmFault>
-    ensures { Returns (λ w. w) result (warrior_of_reading rules.now (seen_reading reading)) }
+    ensures outcome { Returns (λ w. w) result (warrior_of_reading rules.now (seen_reading reading)) }
+    ensures fits { IfOk result (Fits rules.now) }
 {
     prove!(0 < rules.length());
     let Reading { code, starts } = reading;
