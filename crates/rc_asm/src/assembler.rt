@@ -8,7 +8,7 @@ ghost use Rattle.rc_asm.specs.Names.{names_of};
 ghost use Rattle.rc_asm.specs.Assembly.{warrior_of_reading, warrior_of_lines, outcome_of_lines, outcome_of};
 ghost use Rattle.rc_asm.specs.Seen.{seen_names, seen_reading};
 
-use crate::fault::{AsmFault, AsmKind, at_line, of_expansion};
+use crate::fault::{AsmFault, AsmKind, at_line, of_expansion, of_warrior};
 use crate::forms::check_forms;
 use crate::labels::Labels;
 use crate::reading::{Reading, read_lines};
@@ -118,7 +118,7 @@ fn warrior_of(reading: Reading, rules: &Rules) -> Result<Warrior, AsmFault>
     let Reading { code, starts } = reading;
     match Warrior::try_new(code, start_number(&starts), rules) {
         Ok(warrior) => Ok(warrior),
-        Err(refused) => Err(at_line(0, AsmKind::Warrior(refused.error))),
+        Err(refused) => Err(of_warrior(refused.error)),
     }
 }
 

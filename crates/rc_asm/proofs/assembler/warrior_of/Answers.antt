@@ -19,4 +19,4 @@ pub returns-in-Err-clause-outcome : goal.returns-in-Err-clause-outcome
 returns-in-Err-clause-outcome c = λ _.
     let r = c.args.rules.now in
     let same = same_start r c.args.reading.code.items (start_value c.args.reading.starts) c.start_number.result c.length.ensures.rules c.start_number.ensures in
-    ap (with_fault (λ e. at_line 0 (Warrior e))) (sym same ∙ c.in-Err.ensures.refused.1) ∙ ap Err (sym c.at_line.ensures)
+    ap (with_fault (λ e. at_line 0 (Warrior e))) (sym same ∙ c.in-Err.ensures.refused.1) ∙ ap Err (sym c.of_warrior.ensures)
