@@ -1,13 +1,14 @@
 //! The assembler: expansion, the values of the lines, their forms if that fails, and the warrior.
-ghost use Rattle.std.specs.Prelude.{◌≡◌, ◌↔◌, ℕ, pos, ◌<◌, ◌-◌, ◌^◌};
+ghost use Rattle.std.specs.Prelude.{IfOk, ◌≡◌, ◌↔◌, ℕ, pos, ◌<◌, ◌-◌, ◌^◌};
 ghost use Rattle.rc_expand.specs.Names.{table_in};
+ghost use Rattle.rc_instr.specs.Warrior.{Fits};
 ghost use Rattle.rc_asm.specs.Faults.{Returns};
 ghost use Rattle.rc_asm.specs.Lines.{start_value};
 ghost use Rattle.rc_asm.specs.Names.{names_of};
 ghost use Rattle.rc_asm.specs.Assembly.{warrior_of_reading, warrior_of_lines, outcome_of_lines, outcome_of};
 ghost use Rattle.rc_asm.specs.Seen.{seen_names, seen_reading};
 
-use crate::fault::{AsmFault, AsmKind, at_line, of_expansion};
+use crate::fault::{AsmFault, AsmKind, at_line, of_expansion, of_warrior};
 use crate::forms::check_forms;
 use crate::labels::Labels;
 use crate::reading::{Reading, read_lines};
@@ -54,7 +55,8 @@ pub fn assemble(
     constants: &Constants,
     rules: &Rules,
 ) -> Result<Warrior, AsmFault>
-    ensures { Returns (λ w. w) result (outcome_of source.now (table_in constants.now) rules.now) }
+    ensures outcome { Returns (λ w. w) result (outcome_of source.now (table_in constants.now) rules.now) }
+    ensures fits { IfOk result (Fits rules.now) }
 {
     if source.len() > MOST_BYTES {
         return Err(at_line(0, AsmKind::TextTooLong));
@@ -74,7 +76,8 @@ fn assemble_lines(
     rules: &Rules,
     lines: &[Line],
 ) -> Result<Warrior, AsmFault>
-    ensures { Returns (λ w. w) result (outcome_of_lines source.now (names_of source.now (table_in constants.now) rules.now lines.now) lines.now) }
+    ensures outcome { Returns (λ w. w) result (outcome_of_lines source.now (names_of source.now (table_in constants.now) rules.now lines.now) lines.now) }
+    ensures fits { IfOk result (Fits rules.now) }
 {
     let labels = Labels::of_lines(alloc, source, lines)?;
     let given = GivenNames { constants, rules };
@@ -98,7 +101,8 @@ fn assemble_with(
     context: &Context,
     lines: &[Line],
 ) -> Result<Warrior, AsmFault>
-    ensures { Returns (λ w. w) result (warrior_of_lines source.now (seen_names context.now) lines.now) }
+    ensures outcome { Returns (λ w. w) result (warrior_of_lines source.now (seen_names context.now) lines.now) }
+    ensures fits { IfOk result (Fits context.now.given.now.rules.now) }
 {
     prove!(0 < context.given.rules.core());
     let reading = read_lines(alloc, source, context, lines)?;
@@ -107,13 +111,14 @@ fn assemble_with(
 
 // Makes the warrior of what was read.
 fn warrior_of(reading: Reading, rules: &Rules) -> Result<Warrior, AsmFault>
-    ensures { Returns (λ w. w) result (warrior_of_reading rules.now (seen_reading reading)) }
+    ensures outcome { Returns (λ w. w) result (warrior_of_reading rules.now (seen_reading reading)) }
+    ensures fits { IfOk result (Fits rules.now) }
 {
     prove!(0 < rules.length());
     let Reading { code, starts } = reading;
     match Warrior::try_new(code, start_number(&starts), rules) {
         Ok(warrior) => Ok(warrior),
-        Err(refused) => Err(at_line(0, AsmKind::Warrior(refused.error))),
+        Err(refused) => Err(of_warrior(refused.error)),
     }
 }
 

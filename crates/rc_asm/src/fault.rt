@@ -1,5 +1,6 @@
 //! Why a text does not assemble, and where.
 ghost use Rattle.std.specs.Prelude.{◌≡◌};
+ghost use Rattle.rc_asm.specs.declared.fault.AsmKind.TheVariants.{Warrior};
 ghost use Rattle.rc_asm.specs.Faults.{at_line};
 ghost use Rattle.rc_asm.specs.Assembly.{expand_fault};
 
@@ -99,4 +100,11 @@ pub(crate) fn of_expansion(fault: ExpandFault) -> AsmFault
         ExpandKind::OutOfMemory => at_line(fault.line, AsmKind::OutOfMemory),
         kind => at_line(fault.line, AsmKind::Expand(kind)),
     }
+}
+
+// Wraps the reason why code is not a warrior, which has no line.
+pub(crate) fn of_warrior(error: WarriorError) -> AsmFault
+    ensures { result ≡ at_line 0 (Warrior error) }
+{
+    at_line(0, AsmKind::Warrior(error))
 }

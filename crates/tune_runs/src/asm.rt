@@ -63,7 +63,6 @@ pub fn warrior_of(alloc: Global, source: &[u8], rules: &Rules) -> Result<Warrior
         names: &names,
         values: &values,
     };
-    prove!(0 < rules.core());
     match assemble(alloc, source, &constants, rules) {
         Ok(warrior) => Ok(warrior),
         Err(fault) => match fault.kind {

@@ -1,5 +1,7 @@
 //! Reading load files.
+ghost use Rattle.std.specs.Prelude.{IfOk};
 ghost use Rattle.rc_instr.specs.Rules.{IsCoreSize};
+ghost use Rattle.rc_instr.specs.Warrior.{Fits};
 ghost use Rattle.rc_instr.specs.Results.{Returns};
 ghost use Rattle.rc_instr.specs.Loaded.{IsMemory, code_of, load_meaning};
 
@@ -22,7 +24,8 @@ use std::alloc::Global;
 /// - `OutOfMemory`: an allocation failed.
 #[tactic(auto, using(crate::proofs::CheckSteps::warrior_passes), unfolding(crate::specs::Loaded::load_meaning))]
 pub fn read_loadfile(alloc: Global, bytes: &[u8], rules: &Rules) -> Result<Warrior, LoadFault>
-    ensures { Returns IsMemory (λ w. w) result (load_meaning rules.now bytes.now) }
+    ensures meaning { Returns IsMemory (λ w. w) result (load_meaning rules.now bytes.now) }
+    ensures fits { IfOk result (Fits rules.now) }
 {
     let (start, lines) = match start_at(bytes) {
         Some(found) => found,

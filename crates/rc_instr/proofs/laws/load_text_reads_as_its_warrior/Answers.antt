@@ -8,4 +8,4 @@ pub returns-in-Ok : goal.returns-in-Ok
 returns-in-Ok c =
     let text : c.as_slice.result.now ≡ load_text c.args.rules.now.core c.args.warrior.now =
     c.as_slice.ensures.value ∙ c.in-Ok.ensures.ok ∙ ap (λ x. x ++ load_text c.args.rules.now.core c.args.warrior.now) c.new-text.ensures.items in
-    read_back _ _ _ c.read_loadfile.ensures (ap (load_meaning c.args.rules.now) text ∙ means c.args.rules.now c.args.warrior.now c.core.ensures.rules c.code.ensures.warrior c.requires)
+    read_back _ _ _ c.read_loadfile.ensures.meaning (ap (load_meaning c.args.rules.now) text ∙ means c.args.rules.now c.args.warrior.now c.core.ensures.rules c.code.ensures.warrior c.requires)

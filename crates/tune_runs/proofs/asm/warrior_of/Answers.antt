@@ -1,13 +1,9 @@
 use Rattle.std.proofs.Common.{[], ap, sym, ◌∙◌}
 use Rattle.rc_asm.specs.declared.fault.AsmFault.{AsmFault}
-use Rattle.rc_asm.proofs.Outcomes.{text_fits}
 use Rattle.tune_runs.proofs.asm.warrior_of.Goals as goal
-
-pub returns-in-Ok-clause-fits : goal.returns-in-Ok-clause-fits
-returns-in-Ok-clause-fits c = (text_fits c.args.source.now [] c.args.rules.now c.in-Ok.warrior c.core.ensures.rules c.in-Ok.ensures).1
 
 pub returns-in_default : goal.returns-in_default
 returns-in_default c =
     let k = c.in_default.not-OutOfMemory in
-    let f = c.in-Err.ensures (λ q. k (ap (λ (g : AsmFault). g.kind) q)) in
+    let f = c.in-Err.ensures.outcome (λ q. k (ap (λ (g : AsmFault). g.kind) q)) in
     record { warrior = tt; fits = tt; refused = (k, λ w a. (let e = sym f ∙ a in absurd (cc)), f) }

@@ -13,7 +13,7 @@ returns-clause-warrior c =
     let same : k ≡ constants_of t.ranges.names c.vector-vector.result = same_table c.names.result.now c.as_slice.result.now ∙ (ap (λ n. constants_of n c.as_slice.result.now) c.names.ensures ∙ ap (constants_of t.ranges.names) c.as_slice.ensures) in
     let text : c.deref.result.now ≡ t.text = c.deref.ensures.value ∙ ap (λ t. t.text) c.self.view_is in
     found_instance t c.args.rules.now c.args.index c.vector-vector.result k c.vector-vector.ensures same c.assemble.result
-    (subst (λ s. Returns (λ w. w) c.assemble.result (outcome_of s k c.args.rules.now)) text c.assemble.ensures)
+    (subst (λ s. Returns (λ w. w) c.assemble.result (outcome_of s k c.args.rules.now)) text c.assemble.ensures.outcome)
 
 pub returns-clause-refused : goal.returns-clause-refused
 returns-clause-refused c =
@@ -22,7 +22,7 @@ returns-clause-refused c =
     let same : k ≡ constants_of t.ranges.names c.vector-vector.result = same_table c.names.result.now c.as_slice.result.now ∙ (ap (λ n. constants_of n c.as_slice.result.now) c.names.ensures ∙ ap (constants_of t.ranges.names) c.as_slice.ensures) in
     let text : c.deref.result.now ≡ t.text = c.deref.ensures.value ∙ ap (λ t. t.text) c.self.view_is in
     no_instance t c.args.rules.now c.args.index c.vector-vector.result k c.vector-vector.ensures same c.assemble.result
-    (subst (λ s. Returns (λ w. w) c.assemble.result (outcome_of s k c.args.rules.now)) text c.assemble.ensures)
+    (subst (λ s. Returns (λ w. w) c.assemble.result (outcome_of s k c.args.rules.now)) text c.assemble.ensures.outcome)
 
 pub returns-clause-outcome : goal.returns-clause-outcome
 returns-clause-outcome c =
@@ -31,7 +31,7 @@ returns-clause-outcome c =
     let same : k ≡ constants_of t.ranges.names c.vector-vector.result = same_table c.names.result.now c.as_slice.result.now ∙ (ap (λ n. constants_of n c.as_slice.result.now) c.names.ensures ∙ ap (constants_of t.ranges.names) c.as_slice.ensures) in
     let text : c.deref.result.now ≡ t.text = c.deref.ensures.value ∙ ap (λ t. t.text) c.self.view_is in
     instance_outcome t c.args.rules.now c.args.index c.vector-vector.result k c.vector-vector.ensures same c.assemble.result
-    (subst (λ s. Returns (λ w. w) c.assemble.result (outcome_of s k c.args.rules.now)) text c.assemble.ensures)
+    (subst (λ s. Returns (λ w. w) c.assemble.result (outcome_of s k c.args.rules.now)) text c.assemble.ensures.outcome)
 
 pub returns-clause-is_warrior : goal.returns-clause-is_warrior
 returns-clause-is_warrior c =
@@ -40,7 +40,7 @@ returns-clause-is_warrior c =
     let same : k ≡ constants_of t.ranges.names c.vector-vector.result = same_table c.names.result.now c.as_slice.result.now ∙ (ap (λ n. constants_of n c.as_slice.result.now) c.names.ensures ∙ ap (constants_of t.ranges.names) c.as_slice.ensures) in
     let text : c.deref.result.now ≡ t.text = c.deref.ensures.value ∙ ap (λ t. t.text) c.self.view_is in
     let fit = fit_instance t c.args.rules.now c.args.index c.vector-vector.result k c.vector-vector.ensures same c.assemble.result c.core.ensures.rules
-    (subst (λ s. Returns (λ w. w) c.assemble.result (outcome_of s k c.args.rules.now)) text c.assemble.ensures) in
+    (subst (λ s. Returns (λ w. w) c.assemble.result (outcome_of s k c.args.rules.now)) text c.assemble.ensures.outcome) in
     fit.0
 
 pub returns-clause-fits : goal.returns-clause-fits
@@ -50,5 +50,5 @@ returns-clause-fits c =
     let same : k ≡ constants_of t.ranges.names c.vector-vector.result = same_table c.names.result.now c.as_slice.result.now ∙ (ap (λ n. constants_of n c.as_slice.result.now) c.names.ensures ∙ ap (constants_of t.ranges.names) c.as_slice.ensures) in
     let text : c.deref.result.now ≡ t.text = c.deref.ensures.value ∙ ap (λ t. t.text) c.self.view_is in
     let fit = fit_instance t c.args.rules.now c.args.index c.vector-vector.result k c.vector-vector.ensures same c.assemble.result c.core.ensures.rules
-    (subst (λ s. Returns (λ w. w) c.assemble.result (outcome_of s k c.args.rules.now)) text c.assemble.ensures) in
+    (subst (λ s. Returns (λ w. w) c.assemble.result (outcome_of s k c.args.rules.now)) text c.assemble.ensures.outcome) in
     fit.1
