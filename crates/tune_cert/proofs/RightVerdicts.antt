@@ -115,7 +115,7 @@ module _ (p : Problem) (c : Cert) (rows_are : length c.rows ≡ p.count) where
   before_same v (Same t) f a h u (Same s) at l = h u (Same s) l at
   before_same v (Same t) f a h u (Cap r) at l = a u (Cap r) at
 
-  row_found : (number : ℕ) (reason : Reason) → rows_failure p (share_settings whole p.count) c ≡ Some (number, reason) → IsWrongRow p c number reason × IsFirstRow p c number
+  row_found : (number : ℕ) (reason : Reason) → rows_failure p c (share_settings whole p.count) ≡ Some (number, reason) → IsWrongRow p c number reason × IsFirstRow p c number
   row_found number reason e = elim (two_walks_some _ _ _ e) [
     | inl alone ↦
         let i = by_walk (alone_reason p c) number reason (found (reason_at (alone_reason p c) c.rows) _ _ number reason alone) in
@@ -161,7 +161,7 @@ fails_not b h e x = let t = h x in let both : true ≡ false = sym t ∙ e in ab
 
 module _ (p : Problem) (laws : IsProblem p) (records : List Fields) (c : Cert) (s : Spells records c) where
   says : (number : ℕ) (reason : Reason)
-      → Chain (is_version_of p c.version) (has_row_count p c) (is_best_row p c.total (slice_get c.rows c.best)) (rows_failure p (share_settings whole p.count) c) number reason
+      → Chain (is_version_of p c.version) (has_row_count p c) (is_best_row p c.total (slice_get c.rows c.best)) (rows_failure p c (share_settings whole p.count)) number reason
       → IsRejected p c number reason × IsFirst p records (Rejected number reason)
   says number reason (at_version f n r) =
       rw r (((n, λ (h : IsVersionOf p c.version). fails_not (is_version_of p c.version) (right_version p c.version) f h), (c, s, tt)))

@@ -88,15 +88,15 @@ same_none p c v (Cap row) e = refl
 
 -- the first failure by the four checks
 pub chain_by : (p : Problem) (share : Part) (c : Cert) (a b d : Bool) (o : Option (ℕ × Reason)) → is_version_of p c.version ≡ a → has_row_count p c ≡ b
-    → is_best_row p c.total (slice_get c.rows c.best) ≡ d → rows_failure p (share_settings share p.count) c ≡ o → first_failure p share c ≡ chain a b d o
+    → is_best_row p c.total (slice_get c.rows c.best) ≡ d → rows_failure p c (share_settings share p.count) ≡ o → first_failure p share c ≡ chain a b d o
 unfolding first_failure
 chain_by p share c a b d o e f g h =
-    let rows = rows_failure p (share_settings share p.count) c in
+    let rows = rows_failure p c (share_settings share p.count) in
     let best = is_best_row p c.total (slice_get c.rows c.best) in
     ap (λ x. chain x (has_row_count p c) best rows) e ∙ (ap (λ x. chain a x best rows) f ∙ (ap (λ x. chain a b x rows) g ∙ ap (chain a b d) h))
 
 module _ (p : Problem) (share : Part) (c : Cert) where
-  row_right : rows_failure p (share_settings share p.count) c ≡ None → (v : ℕ) (row : Row) → part_first share p.count ≤ v → v < part_end share p.count → slice_get c.rows v ≡ Some row
+  row_right : rows_failure p c (share_settings share p.count) ≡ None → (v : ℕ) (row : Row) → part_first share p.count ≤ v → v < part_end share p.count → slice_get c.rows v ≡ Some row
       → IsRightInShare p c v row
   row_right e v row low high at =
       let inside : v < part_first share p.count + (part_end share p.count - part_first share p.count) = omega (arith, low, high) in
@@ -123,7 +123,7 @@ module _ (p : Problem) (share : Part) (c : Cert) where
         right = row_right checks.3;
       }
 
-  rows_none : IsValidInShare p share c → rows_failure p (share_settings share p.count) c ≡ None
+  rows_none : IsValidInShare p share c → rows_failure p c (share_settings share p.count) ≡ None
   rows_none valid =
       let first = part_first share p.count in
       let each : (v : ℕ) (row : Row) → first ≤ v → v < first + (part_end share p.count - first) → slice_get c.rows v ≡ Some row → row_reason p c v row ≡ None =

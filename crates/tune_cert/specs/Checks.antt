@@ -115,9 +115,13 @@ same_reason p c v row = if refers row then row_reason p c v row else None
 
 -- ---- the rows of a share
 
+-- The settings from `first` to just before `end`.
+abbrev pub settings_between : ℕ → ℕ → List ℕ
+settings_between first end = range_with_len first (end - first)
+
 -- The settings of a share, out of `count`.
 abbrev pub share_settings : Part → ℕ → List ℕ
-share_settings share count = range_with_len (part_first share count) (part_end share count - part_first share count)
+share_settings share count = settings_between (part_first share count) (part_end share count)
 
 -- A reason, at a record.
 abbrev pub at_record : ℕ → Option Reason → Option (ℕ × Reason)
@@ -132,15 +136,17 @@ abbrev pub first_wrong : (ℕ → Option Reason) → List ℕ → Option (ℕ ×
 first_wrong reason [] = None
 first_wrong reason (v ∷ settings) = first_of (at_record (record_of v) (reason v) ∷ first_wrong reason settings ∷ [])
 
--- The first wrong row of a share: the refused and the cap rows are checked first, in order, and
--- then those that refer to other settings.
-abbrev pub rows_failure : Problem → List ℕ → Cert → Option (ℕ × Reason)
-rows_failure p settings c =
-    first_of (
-    first_wrong (reason_at (alone_reason p c) c.rows) settings
-    ∷ first_wrong (reason_at (same_reason p c) c.rows) settings
-    ∷ []
-    )
+-- The first wrong row of those that refer to no other setting, and of those that do.
+abbrev pub wrong_alone : Problem → Cert → List ℕ → Option (ℕ × Reason)
+wrong_alone p c settings = first_wrong (reason_at (alone_reason p c) c.rows) settings
+
+abbrev pub wrong_same : Problem → Cert → List ℕ → Option (ℕ × Reason)
+wrong_same p c settings = first_wrong (reason_at (same_reason p c) c.rows) settings
+
+-- The first wrong row of some settings: the refused and the cap rows are checked first, in order,
+-- and then those that refer to other settings.
+abbrev pub rows_failure : Problem → Cert → List ℕ → Option (ℕ × Reason)
+rows_failure p c settings = first_of (wrong_alone p c settings ∷ wrong_same p c settings ∷ [])
 
 -- The number of fights that the row of setting v lists.
 abbrev pub listed_by : Option Row → ℕ
@@ -180,6 +186,6 @@ first_failure p share c =
     at_record 0 (unless (is_version_of p c.version) Version)
     ∷ at_record 0 (unless (has_row_count p c) RowCount)
     ∷ at_record 1 (unless (is_best_row p c.total (slice_get c.rows c.best)) BestRow)
-    ∷ rows_failure p (share_settings share p.count) c
+    ∷ rows_failure p c (share_settings share p.count)
     ∷ []
     )

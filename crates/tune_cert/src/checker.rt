@@ -1,11 +1,10 @@
 //! Checks certificates.
-ghost use Rattle.std.specs.Prelude.{◌≡◌, ◌+◌, ◌-◌, ◌<◌, ◌≤◌, ◌^◌, length, IfOk, IsTrue};
-ghost use Rattle.std.specs.List.{range_with_len};
+ghost use Rattle.std.specs.Prelude.{◌≡◌, ◌+◌, ◌<◌, ◌≤◌, ◌^◌, length, IfOk, IsTrue};
 ghost use Rattle.mars_core.specs.Arena.{IsBlank};
 ghost use Rattle.tables.specs.Records.{records_of};
 ghost use Rattle.tune_problem.specs.Parts.{whole, part};
 ghost use Rattle.tune_problem.specs.Problem.{problem_of};
-ghost use Rattle.tune_cert.specs.Checks.{alone_reason, same_reason, reason_at, first_wrong, rows_failure, share_settings, fights_listed, is_version_of, has_row_count};
+ghost use Rattle.tune_cert.specs.Checks.{wrong_alone, wrong_same, rows_failure, settings_between, share_settings, fights_listed, is_version_of, has_row_count};
 ghost use Rattle.tune_cert.specs.Verdict.{verdict_on, IsVerdictOf};
 
 use crate::fault::{CheckFault, ReadFault};
@@ -97,11 +96,11 @@ fn check_rows_alone<T: Watcher>(
     requires blank { IsBlank claim.now.inputs.now.rules arena.old }
     requires rows { length claim.now.cert.now.rows ≡ (problem_of claim.now.inputs.now).count }
     requires inside { end ≤ (problem_of claim.now.inputs.now).count }
-    ensures wrong { IfOk result (λ o. o ≡ first_wrong (reason_at (alone_reason (problem_of claim.now.inputs.now) claim.now.cert.now) claim.now.cert.now.rows) (range_with_len first (end - first))) }
+    ensures wrong { IfOk result (λ o. o ≡ wrong_alone (problem_of claim.now.inputs.now) claim.now.cert.now (settings_between first end)) }
 
     // No fight is played that these rows do not list, and none twice.
-    ensures most { arena.old.fights + fights_listed claim.now.cert.now.rows (range_with_len first (end - first)) < 2 ^ 64
-        → arena.new.fights ≤ arena.old.fights + fights_listed claim.now.cert.now.rows (range_with_len first (end - first)) }
+    ensures most { let listed = fights_listed claim.now.cert.now.rows (settings_between first end) in
+        arena.old.fights + listed < 2 ^ 64 → arena.new.fights ≤ arena.old.fights + listed }
 {
     let rows = claim.cert.rows.as_slice();
     for vector in first..end {
@@ -128,7 +127,7 @@ fn check_rows_same<T: Watcher>(
 ) -> Result<Option<(u64, Reason)>, CheckFault>
     requires rows { length claim.now.cert.now.rows ≡ (problem_of claim.now.inputs.now).count }
     requires inside { end ≤ (problem_of claim.now.inputs.now).count }
-    ensures wrong { IfOk result (λ o. o ≡ first_wrong (reason_at (same_reason (problem_of claim.now.inputs.now) claim.now.cert.now) claim.now.cert.now.rows) (range_with_len first (end - first))) }
+    ensures wrong { IfOk result (λ o. o ≡ wrong_same (problem_of claim.now.inputs.now) claim.now.cert.now (settings_between first end)) }
 {
     let rows = claim.cert.rows.as_slice();
     let mut warriors = no_warriors(alloc, claim.inputs.count())?;
@@ -147,7 +146,7 @@ fn check_rows_same<T: Watcher>(
 // Checks that no row from `first` to just before `end` refers to another setting.
 fn none_refer(claim: &Claim<'_>, first: u32, end: u32) -> bool
     requires inside { end ≤ length claim.now.cert.now.rows }
-    ensures { IsTrue result → None ≡ first_wrong (reason_at (same_reason (problem_of claim.now.inputs.now) claim.now.cert.now) claim.now.cert.now.rows) (range_with_len first (end - first)) }
+    ensures { IsTrue result → None ≡ wrong_same (problem_of claim.now.inputs.now) claim.now.cert.now (settings_between first end) }
 {
     let rows = claim.cert.rows.as_slice();
     for vector in first..end {
@@ -175,7 +174,7 @@ fn check_rows<T: Watcher>(
     requires blank { IsBlank claim.now.inputs.now.rules arena.old }
     requires rows { length claim.now.cert.now.rows ≡ (problem_of claim.now.inputs.now).count }
     ensures wrong { let p = problem_of claim.now.inputs.now in
-        IfOk result (λ o. o ≡ rows_failure p (share_settings (part share.number share.shares) p.count) claim.now.cert.now) }
+        IfOk result (λ o. o ≡ rows_failure p claim.now.cert.now (share_settings (part share.number share.shares) p.count)) }
 
     // No fight is played that the rows of the share do not list, and none twice.
     ensures most { let listed = fights_listed claim.now.cert.now.rows (share_settings (part share.number share.shares) (problem_of claim.now.inputs.now).count) in

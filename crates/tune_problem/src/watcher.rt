@@ -7,7 +7,7 @@ use crate::inputs::Inputs;
 pub struct Standing {
     /// The number of settings that are done.
     pub settings: u32,
-    /// The number of settings in all.
+    /// The number of settings in all. In a check of a share, those of the share.
     pub count: u32,
     /// The number of fights played so far.
     pub fights: u64,
