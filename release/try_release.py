@@ -33,6 +33,7 @@ COMMANDS = [("cwtune-scores a.cert fights.csv --template a.red", "best setting "
             ("cwtune-seek a.red fights.csv dwarf.red", ";redcode-94\n")]
 COMPLETIONS = [("cwtune che", "check"), ("cwtune tune --ca", "--cache"),
                ("cwtune asm --se", "--setting"), ("cwtune check --pa", "--part"),
+               ("cwtune check --sh", "--share"),
                ("cwtune fight --fi", "--first"), ("cwtune-scores --te", "--template"),
                ("cwtune-spread --me", "--merge"), ("cwtune-seek --st", "--starts")]
 

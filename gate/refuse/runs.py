@@ -50,6 +50,8 @@ TEXTS = [
     ("asm zero.red", end(1, err="refused: Asm line 1 Value DivisionByZero\n")),
     ("asm open.red", end(1, err="refused: Asm line 1 Expand ForWithoutRof\n")),
     (f"{CHECK} imps.cert dat.red imp.red", end(0, "accepted best 0 total 4\n")),
+    ("check --share 2/2 imps.red both.csv imps.cert dat.red imp.red",
+     end(0, "accepted share 2/2 best 0 total 4\n")),
     (f"{CHECK} points.cert dat.red imp.red", end(1, "rejected row 4 WrongPoints\n")),
     (f"{CHECK} short.cert dat.red imp.red", end(1, "rejected row 0 RowCount\n")),
     (f"{CHECK} --share=1/2 points.cert dat.red imp.red",

@@ -7,6 +7,7 @@ use Rattle.mars_core.specs.declared.side.Side.{Side}
 use Rattle.rc_instr.specs.Outlet.{OutletView}
 use Rattle.rc_instr.specs.Rules.{RulesView}
 use Rattle.tune_problem.specs.declared.part.Part.{Part}
+use Rattle.tune_cert.specs.declared.share.Share.{Share}
 use Rattle.tune_runs.specs.DuelRun.{duel, WritesDuel}
 use Rattle.tune_runs.specs.SettingsRun.{WritesSettings}
 use Rattle.tune_runs.specs.declared.given.WhichSetting.{WhichSetting}
@@ -124,15 +125,15 @@ tune_run words input old new method rules part ended status is other ended_so na
     inr (success_of (codes "tune") words input old.bytes new.bytes named refl no no no (λ _. (method, rules, part, text)) no))
 
 pub check_run : {X : Type 0} (words : List (List ℕ)) (input : Option (List ℕ)) (old new : OutletView) (rules : RulesView) (part : Part)
-    (ended : Result X Ending) (status : ℕ) → status ≡ status_of ended → (AskForFight words → ⊥)
-    → (IsErrOf ended Refused → (new ≡ old) ⊎ WritesCheckLine rules part false old.bytes new.bytes) → (IsErrOf ended Misused → new ≡ old)
+    (share : Option Share) (ended : Result X Ending) (status : ℕ) → status ≡ status_of ended → (AskForFight words → ⊥)
+    → (IsErrOf ended Refused → (new ≡ old) ⊎ WritesCheckLine rules part share false old.bytes new.bytes) → (IsErrOf ended Misused → new ≡ old)
     → (IsTrue new.failed → IsErrOf ended Failed) → command_of words ≡ codes "check"
-    → OnOk ended (WritesCheckLine rules part true old.bytes new.bytes) → IsProgramRun words input old new status
-check_run words input old new rules part ended status is other refused misused failed named wrote =
+    → OnOk ended (WritesCheckLine rules part share true old.bytes new.bytes) → IsProgramRun words input old new status
+check_run words input old new rules part share ended status is other refused misused failed named wrote =
     other_run words input old new ended status is other misused
-    (λ e. elim (refused e) [ inl same ↦ inl same | inr line ↦ inr (rules, part, line) ]) failed
+    (λ e. elim (refused e) [ inl same ↦ inl same | inr line ↦ inr (rules, part, share, line) ]) failed
     (λ e. let line = done_at ended status is wrote e in
-    inr (success_of (codes "check") words input old.bytes new.bytes named refl no no no no (λ _. (rules, part, line))))
+    inr (success_of (codes "check") words input old.bytes new.bytes named refl no no no no (λ _. (rules, part, share, line))))
 
 pub help_run : {X : Type 0} (words : List (List ℕ)) (input : Option (List ℕ)) (old new : OutletView) (ended : Result X Ending) (status : ℕ)
     → status ≡ status_of ended → (AskForFight words → ⊥) → IsEnded old new ended → OnOk ended (AsksForHelp words)

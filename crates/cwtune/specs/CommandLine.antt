@@ -31,7 +31,7 @@ command_word (Duel words) = codes "fight"
 command_word (Asm words) = codes "asm"
 command_word (Settings file) = codes "settings"
 command_word (Tune words method) = codes "tune"
-command_word (Check words) = codes "check"
+command_word (Check words share) = codes "check"
 
 -- A word that asks for help, or for the version.
 abbrev pub is_help_word : List ℕ → Bool

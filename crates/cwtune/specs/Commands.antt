@@ -2,15 +2,17 @@
 use Rattle.std.specs.Prelude.{◌≡◌, ℕ, Bool, List, Option, Some, None, Result, Ok, Err, IsErrOf, IsTrue}
 use Rattle.rc_instr.specs.Outlet.{OutletView}
 use Rattle.rc_instr.specs.Rules.{RulesView}
+use Rattle.tune_problem.specs.Parts.{part}
 use Rattle.tune_problem.specs.declared.part.Part.{Part}
+use Rattle.tune_cert.specs.declared.share.Share.{Share}
 use Rattle.mars_core.specs.declared.side.Side.{Side}
 use Rattle.tune_runs.specs.AsmRun.{WritesWarrior}
 use Rattle.tune_runs.specs.DuelRun.{duel, WritesDuel}
 use Rattle.tune_runs.specs.FightRun.{WritesFight}
 use Rattle.tune_runs.specs.SettingRun.{WritesSetting}
 use Rattle.tune_runs.specs.SettingsRun.{WritesSettings}
-use Rattle.tune_runs.specs.TuneRun.{part_texts, WritesTuning}
-use Rattle.tune_runs.specs.CheckRun.{WritesVerdict}
+use Rattle.tune_runs.specs.TuneRun.{Texts, part_texts, WritesTuning}
+use Rattle.tune_runs.specs.CheckRun.{WritesVerdict, WritesShare}
 use Rattle.tune_search.specs.declared.method.Method.{Method}
 use Rattle.tune_runs.specs.declared.given.WhichSetting.{WhichSetting}
 use Rattle.cwtune.specs.Input.{IsInput}
@@ -32,11 +34,16 @@ WritesReport method rules part old new =
     (template : List ℕ) × (opponents : List (List ℕ)) × (schedule : List ℕ) × (cert : Option (List ℕ)) × (written : Option (List ℕ))
     × WritesTuning (part_texts template opponents schedule rules part) method old new cert written
 
+-- The line of the verdict on a certificate was written, or that of a share's verdict.
+abbrev pub WritesVerdictOf : Option Share → Texts → List ℕ → Bool → Option (List ℕ) → Option (List ℕ) → Type 0
+WritesVerdictOf None t cert accepted old new = WritesVerdict t cert accepted old new
+WritesVerdictOf (Some share) t cert accepted old new = WritesShare t (part share.number share.shares) cert accepted old new
+
 -- The line of a check of some texts and a certificate was written.
-abbrev pub WritesCheckLine : RulesView → Part → Bool → Option (List ℕ) → Option (List ℕ) → Type 0
-WritesCheckLine rules part accepted old new =
+abbrev pub WritesCheckLine : RulesView → Part → Option Share → Bool → Option (List ℕ) → Option (List ℕ) → Type 0
+WritesCheckLine rules part share accepted old new =
     (template : List ℕ) × (opponents : List (List ℕ)) × (schedule : List ℕ) × (cert : List ℕ)
-    × WritesVerdict (part_texts template opponents schedule rules part) cert accepted old new
+    × WritesVerdictOf share (part_texts template opponents schedule rules part) cert accepted old new
 
 -- What a command wrote, for some files and some values of its options.
 abbrev pub WritesSomeDuel : Option (List ℕ) → Option (List ℕ) → Type 0
@@ -55,7 +62,8 @@ abbrev pub WritesSomeReport : Option (List ℕ) → Option (List ℕ) → Type 0
 WritesSomeReport old new = (method : Method) × (rules : RulesView) × (part : Part) × WritesReport method rules part old new
 
 abbrev pub WritesSomeCheckLine : Bool → Option (List ℕ) → Option (List ℕ) → Type 0
-WritesSomeCheckLine accepted old new = (rules : RulesView) × (part : Part) × WritesCheckLine rules part accepted old new
+WritesSomeCheckLine accepted old new =
+    (rules : RulesView) × (part : Part) × (share : Option Share) × WritesCheckLine rules part share accepted old new
 
 -- The exit status of a command.
 abbrev pub status_of : {X : Type 0} → Result X Ending → ℕ

@@ -1,14 +1,13 @@
 -- What a run of the program writes on standard output, by its exit status.
-use Rattle.std.specs.Prelude.{◌≡◌, ◌≢◌, ◌⊎◌, ◌≤◌, ◌||◌, ℕ, Bool, List, Option, true, false, codes, IsTrue}
-use Rattle.std.specs.Str.{bytes_eq}
+use Rattle.std.specs.Prelude.{◌≡◌, ◌≢◌, ◌⊎◌, ◌≤◌, ℕ, List, Option, true, false, codes, IsTrue}
 use Rattle.rc_instr.specs.Outlet.{OutletView}
 use Rattle.tune_runs.specs.FightRun.{IsRefusedText}
 use Rattle.cwtune.specs.CommandLine.{AskForFight, AsksForHelp, command_of, is_command}
 use Rattle.cwtune.specs.Commands.{WritesFightIn, WritesSomeDuel, WritesSomeLoadFile, WritesSomeSettings, WritesSomeReport, WritesSomeCheckLine}
 use Rattle.cwtune.specs.Input.{IsInput}
 
--- What the command that the words name wrote, if it succeeded. For `check` that is the line of an
--- accepted certificate.
+-- What the command that the words name wrote, if it succeeded. For `check` that is the line of a
+-- certificate that is accepted, or of a share that is.
 pub record IsSuccess (words : List (List ℕ)) (input old new : Option (List ℕ)) : Type 0 where
   pub known : IsTrue (is_command (command_of words))
   pub fight : command_of words ≡ codes "fight" → WritesFightIn input old new ⊎ WritesSomeDuel old new
@@ -27,7 +26,7 @@ pub record IsProgramRun (words : List (List ℕ)) (input : Option (List ℕ)) (o
   -- whatever the words are, status 0 means that their command succeeded, or that help was asked for
   pub success : ended ≡ 0 → AsksForHelp words ⊎ IsSuccess words input old.bytes new.bytes
   -- nothing is written if the words or an input are refused, except the line of a rejected
-  -- certificate; and a failed write gives status 3
+  -- certificate or share; and a failed write gives status 3
   pub misused : ended ≡ 2 → new ≡ old
   pub unwritten : ended ≡ 1 → (new ≡ old) ⊎ WritesSomeCheckLine false old.bytes new.bytes
   pub failed : IsTrue new.failed → ended ≡ 3

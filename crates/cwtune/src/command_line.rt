@@ -7,15 +7,18 @@ ghost use Rattle.cwtune.specs.CommandLine.{AskForFight, IsRequest, command_of, c
 use crate::command_word::{ask_for_fight, is_named};
 use crate::help::{asks_for_help, command_in};
 use crate::options::{
-    explain_option, fight_numbers, number, progress_option, rules_of, tune_options, with_rules,
+    check_options, explain_option, fight_numbers, number, progress_option, rules_of, tune_options,
+    with_rules,
 };
 use crate::part_word::part_option;
 use crate::setting_word::which_setting;
+use crate::share_word::share_option;
 use crate::usage_error::{BadValue, bad_value, not_first, one_file};
 use clap::builder::ValueParser;
 use clap::{Arg, ArgAction, ArgMatches, Command, Error, value_parser};
 use mars_core::Side;
 use std::alloc::{AllocError, Global};
+use tune_cert::Share;
 use tune_runs::{Method, Part, RawRules, WhichSetting};
 use tune_search::limits;
 
@@ -73,8 +76,11 @@ pub(crate) enum Request<'a> {
         words: TuneWords<'a>,
         method: Method,
     },
-    // Checks a certificate of a tuning.
-    Check(TuneWords<'a>),
+    // Checks a certificate of a tuning, or a share of it.
+    Check {
+        words: TuneWords<'a>,
+        share: Option<Share>,
+    },
 }
 
 // Returns what the words after the program's name ask for, or `clap`'s answer: its help, or a usage
@@ -351,17 +357,20 @@ fn tune_request<'a>(alloc: Global, found: &ArgMatches<'a>) -> Result<Request<'a>
 }
 
 fn check<'a>(alloc: Global) -> Result<Command<'a>, AllocError> {
-    let command = Command::new(alloc, "check").about(
-        "Check a certificate: print `accepted best W total T` or `rejected row R REASON`",
-    );
+    let command = Command::new(alloc, "check")
+        .about("Check a certificate: print `accepted best W total T` or `rejected row R REASON`")
+        .arg(share_option(alloc))?;
     with_files(alloc, command, "File of the certificate")
 }
 
 fn check_request<'a>(alloc: Global, found: &ArgMatches<'a>) -> Result<Request<'a>, Error>
     ensures { IfOk result IsRequest }
 {
-    match tune_options(found) {
-        Ok((rules, part)) => Ok(Request::Check(tune_words(alloc, found, rules, part)?)),
+    match check_options(found) {
+        Ok((rules, part, share)) => Ok(Request::Check {
+            words: tune_words(alloc, found, rules, part)?,
+            share,
+        }),
         Err(bad) => Err(bad_value(alloc, bad, check(alloc)?, "cwtune check")?),
     }
 }

@@ -47,6 +47,6 @@ fn word_for(request: &Request<'_>) -> &'static str
             words: _,
             method: _,
         } => "tune",
-        Request::Check(_) => "check",
+        Request::Check { words: _, share: _ } => "check",
     }
 }

@@ -10,13 +10,14 @@ const COMMANDS: [&str; 5] = ["fight", "asm", "settings", "tune", "check"];
 const RULES: [&str; 5] = ["--core", "--cycles", "--tasks", "--length", "--distance"];
 
 // The other options that take a value, each with its command.
-const VALUED: [(&str, &str); 6] = [
+const VALUED: [(&str, &str); 7] = [
     ("fight", "--position"),
     ("fight", "--first"),
     ("asm", "--setting"),
     ("tune", "--part"),
     ("tune", "--cache"),
     ("check", "--part"),
+    ("check", "--share"),
 ];
 
 // Returns whether a word asks for help or for the version. Without such a word no run that only

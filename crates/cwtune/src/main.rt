@@ -32,6 +32,7 @@ mod reading;
 mod refusal;
 mod replacing;
 mod setting_word;
+mod share_word;
 mod telling;
 mod usage_error;
 mod witness;

@@ -3,10 +3,12 @@ ghost use Rattle.std.specs.Prelude.{◌≡◌};
 ghost use Rattle.std.specs.Option.{unwrap_or};
 
 use crate::part_word::part_of;
+use crate::share_word::share_of;
 use crate::usage_error::BadValue;
 use clap::{Arg, ArgAction, ArgMatches, Command};
 use rc_instr::Rules;
 use std::alloc::{AllocError, Global};
+use tune_cert::Share;
 use tune_runs::{Part, RawRules};
 
 // Returns whether a flag is among the words before `--`. After it they are files.
@@ -188,9 +190,18 @@ pub(crate) fn fight_numbers<'a>(
     Ok((rules, position))
 }
 
-// Returns the rules and the part of a tuning, or of a check.
+// Returns the rules and the part of a tuning.
 pub(crate) fn tune_options<'a>(found: &ArgMatches<'a>) -> Result<(RawRules, Part), BadValue<'a>> {
     let rules = rules_of(found)?;
     let part = part_of(found)?;
     Ok((rules, part))
+}
+
+// Returns the rules, the part and the share of a check.
+pub(crate) fn check_options<'a>(
+    found: &ArgMatches<'a>,
+) -> Result<(RawRules, Part, Option<Share>), BadValue<'a>> {
+    let (rules, part) = tune_options(found)?;
+    let share = share_of(found)?;
+    Ok((rules, part, share))
 }

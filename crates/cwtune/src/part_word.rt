@@ -47,7 +47,7 @@ fn part_said(word: Option<&str>) -> Option<Part>
 }
 
 // Reads the word `I/K`, two decimals without leading zeros. Returns `None` unless I is 1 to K.
-fn read_part(word: &[u8]) -> Option<Part>
+pub(crate) fn read_part(word: &[u8]) -> Option<Part>
     ensures found { IfSome result (λ p. (word.now ≡ part_word p) × IsCounted p) }
     ensures only { (p : Part) → IsCounted p → word.now ≡ part_word p → result ≡ Some p }
 {

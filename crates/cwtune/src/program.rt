@@ -38,7 +38,7 @@ use tune_runs::RunFault;
 ///   `docs/FORMATS.md` describes it; a text of that name that is not such a file stays, too. If the
 ///   certificate was found and cannot be written, a line `found: ..` names the best setting.
 /// - `check`: checks the rules, reads the template, the schedule, the certificate and the
-///   opponents, and writes the line of the verdict.
+///   opponents, and writes the line of the verdict, or of the verdict on a share.
 /// - `--help`, `help`: writes the help text. `--version`: writes the version.
 ///
 /// A text may have at most 1073741824 bytes. On standard error goes a line `refused: ..` for an
@@ -82,7 +82,7 @@ pub(crate) fn watched_program<F: Files, R: Read, W: Write, V: Write, T: Witness>
         Ok(Request::Asm(words)) => status_of(asm(host, &words, out)),
         Ok(Request::Settings { file }) => status_of(settings(host, file, out)),
         Ok(Request::Tune { words, method }) => status_of(tune(host, &words, method, out)),
-        Ok(Request::Check(words)) => status_of(check(host, &words, out)),
+        Ok(Request::Check { words, share }) => status_of(check(host, &words, share, out)),
         Err(answer) => status_of(show(host, words, &answer, out)),
     }
 }

@@ -1,8 +1,8 @@
 //! The command `check`: from texts and a certificate to the line of the verdict.
-ghost use Rattle.std.specs.Prelude.{◌≡◌, ◌⊎◌, true, false, OnOk, IsErrOf, IsTrue};
-ghost use Rattle.tune_runs.specs.CheckRun.{WritesVerdict};
+ghost use Rattle.std.specs.Prelude.{◌≡◌, ◌⊎◌, true, false, IfOk, OnOk, IsErrOf, IsTrue};
+ghost use Rattle.tune_runs.specs.CheckRun.{IsCheckRun};
 ghost use Rattle.tune_runs.specs.Given.{rules_given, texts_given};
-ghost use Rattle.cwtune.specs.Commands.{WritesCheckLine};
+ghost use Rattle.cwtune.specs.Commands.{WritesCheckLine, WritesVerdictOf};
 
 use crate::command_line::TuneWords;
 use crate::ending::Ending;
@@ -10,20 +10,23 @@ use crate::host::Host;
 use crate::reading::TuneFiles;
 use crate::witness::Witness;
 use rc_instr::Outlet;
+use std::alloc::Global;
 use std::io::Write;
 use std::rt::Files;
-use tune_runs::{TuneTexts, check_part_run};
+use tune_cert::{Share, Watcher};
+use tune_runs::{RunFault, TuneTexts, check_part_run, check_share_run};
 
 // Runs the command on files. Checks the rules, then reads the files in the order of the words:
 // template, schedule, certificate, opponents.
 pub(crate) fn check<F: Files, T: Witness, W: Write, V: Write>(
     host: &mut Host<'_, F, T, V>,
     words: &TuneWords<'_>,
+    share: Option<Share>,
     out: &mut Outlet<W>,
 ) -> Result<(), Ending>
     requires { out.old.failed ≡ false }
-    ensures done { OnOk result (WritesCheckLine (rules_given words.now.rules) words.now.part true out.old.bytes out.new.bytes) }
-    ensures refused { IsErrOf result Ending.Refused → (out.new ≡ out.old) ⊎ WritesCheckLine (rules_given words.now.rules) words.now.part false out.old.bytes out.new.bytes }
+    ensures done { OnOk result (WritesCheckLine (rules_given words.now.rules) words.now.part share true out.old.bytes out.new.bytes) }
+    ensures refused { IsErrOf result Ending.Refused → (out.new ≡ out.old) ⊎ WritesCheckLine (rules_given words.now.rules) words.now.part share false out.old.bytes out.new.bytes }
     ensures misused { IsErrOf result Ending.Misused → out.new ≡ out.old }
     ensures failed { IsTrue out.new.failed → IsErrOf result Ending.Failed }
 {
@@ -38,7 +41,7 @@ pub(crate) fn check<F: Files, T: Witness, W: Write, V: Write>(
         opponents,
     };
     let texts = files.texts(&rules, words.part);
-    check_texts(host, words, &texts, cert.as_slice(), out)
+    check_texts(host, words, &texts, share, cert.as_slice(), out)
 }
 
 // Checks the certificate of a tuning of texts that were read.
@@ -46,22 +49,43 @@ fn check_texts<F: Files, T: Witness, W: Write, V: Write>(
     host: &mut Host<'_, F, T, V>,
     words: &TuneWords<'_>,
     texts: &TuneTexts<'_>,
+    share: Option<Share>,
     cert: &[u8],
     out: &mut Outlet<W>,
 ) -> Result<(), Ending>
     requires { out.old.failed ≡ false }
-    ensures done { OnOk result (WritesVerdict (texts_given texts.now) cert.now true out.old.bytes out.new.bytes) }
-    ensures refused { IsErrOf result Ending.Refused → (out.new ≡ out.old) ⊎ WritesVerdict (texts_given texts.now) cert.now false out.old.bytes out.new.bytes }
+    ensures done { OnOk result (WritesVerdictOf share (texts_given texts.now) cert.now true out.old.bytes out.new.bytes) }
+    ensures refused { IsErrOf result Ending.Refused → (out.new ≡ out.old) ⊎ WritesVerdictOf share (texts_given texts.now) cert.now false out.old.bytes out.new.bytes }
     ensures misused { IsErrOf result Ending.Misused → out.new ≡ out.old }
     ensures failed { IsTrue out.new.failed → IsErrOf result Ending.Failed }
 {
     host.witness.name(host.alloc, words, texts);
-    match check_part_run(host.alloc, texts, host.witness, cert, out) {
+    match verdict_on(host.alloc, texts, share, host.witness, cert, out) {
         Ok(true) => Ok(()),
         Ok(false) => {
             host.reject(words, texts, cert);
             Err(Ending::Refused)
         }
         Err(fault) => Err(host.refuse_tuning(words, texts, fault)),
+    }
+}
+
+// Checks the certificate, or a share of it, and writes the line of the verdict. Returns whether it
+// is accepted.
+fn verdict_on<T: Watcher, W: Write>(
+    alloc: Global,
+    texts: &TuneTexts<'_>,
+    share: Option<Share>,
+    watcher: &mut T,
+    cert: &[u8],
+    out: &mut Outlet<W>,
+) -> Result<bool, RunFault>
+    requires { out.old.failed ≡ false }
+    ensures verdict { IfOk result (λ accepted. WritesVerdictOf share (texts_given texts.now) cert.now accepted out.old.bytes out.new.bytes) }
+    ensures run { IsCheckRun (texts_given texts.now) result out.old out.new }
+{
+    match share {
+        Some(share) => check_share_run(alloc, texts, share, watcher, cert, out),
+        None => check_part_run(alloc, texts, watcher, cert, out),
     }
 }
