@@ -1,4 +1,4 @@
--- Tables of names: each name occurs once, and the first entry with a name counts.
+-- Tables of names. Each name occurs once: adding one that is there changes nothing.
 use Rattle.std.specs.Prelude.{◌≡◌, ℕ, List, [], ◌∷◌, ◌++◌, map, Option, Some, None, if◌then◌else◌, is_some, option_map, flat_map, slice_get}
 use Rattle.std.specs.Global.{Vec}
 use Rattle.rc_text.specs.declared.token.Token.{Token}

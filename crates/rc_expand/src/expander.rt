@@ -22,21 +22,23 @@ use std::alloc::Global;
 /// `&`. EQU lines are dropped, and EQU names are replaced by their tokens. (FOR, ROF, EQU and `&`
 /// are from pMARS.)
 ///
-/// Refuses, pass by pass, and in each pass the first line that is wrong:
+/// Refuses the first fault of these checks. Each is made over all lines before the next begins, the
+/// last two over the lines in the order in which they are unrolled:
 ///
 /// - `Text`: a byte or a decimal that is not a token, up to the line with END.
-/// - `ForTooDeep`: more than 8 nested blocks; `RofWithoutFor`, `ForWithoutRof`: a FOR or a ROF
-///   without its partner.
-/// - `BadDirective`, `DuplicateName`: an EQU line without exactly one plain name before EQU, or
-///   whose name is taken.
+/// - The first FOR nested more than 8 deep (`ForTooDeep`) or ROF without a FOR (`RofWithoutFor`);
+///   then the outermost FOR without a ROF (`ForWithoutRof`).
+/// - `BadDirective`, `DuplicateName`: an EQU line outside of blocks without exactly one plain name
+///   before EQU, or whose name is taken: a constant, a predefined name or an earlier EQU name.
 /// - While blocks are unrolled: `BadDirective` for a ninth counter joined to a name, a counter that
 ///   is not a plain name, an EQU in a block, or, after the lines of its block, a ROF with labels or
 ///   tokens beside it; `DuplicateName` for a counter that is taken; `EquTooDeep`, `TooManyTokens`
 ///   or `CountRefused` for a count that cannot be replaced, has no value or is above 4096;
 ///   `TooManyLines` for more than 4096 lines and copies.
 /// - In each unrolled line, first `DuplicateName`: a label or an EQU name that is defined before,
-///   or is a constant or a predefined name; then `EquTooDeep`: EQU names nested more than 16 deep;
-///   `TooManyTokens`: more than 4096 tokens or EQU replacements in a line.
+///   or is a constant or a predefined name; then, whichever is met first, `EquTooDeep`: EQU names
+///   nested more than 16 deep; or `TooManyTokens`: more than 4096 tokens or EQU replacements in a
+///   line.
 /// - `OutOfMemory`, at line 0, if memory runs out.
 ///
 /// It is proved that the result is the expansion, or the first fault with its line, unless memory

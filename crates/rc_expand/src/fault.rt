@@ -12,7 +12,8 @@ pub enum ExpandKind {
     /// The text has a byte or a decimal that is not a token.
     #[error("{0}")]
     Text(LexFault),
-    /// A label, a counter or an EQU name is already defined, or is a constant or a predefined name.
+    /// A label or an EQU name is already defined; a counter is an EQU name or the counter of an
+    /// enclosing block; or one of them is a constant or a predefined name.
     #[error("name already defined")]
     DuplicateName,
     /// A FOR has no ROF.

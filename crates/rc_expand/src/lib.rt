@@ -1,4 +1,4 @@
-//! Expansion of Redcode: EQU names, FOR blocks and joined names are replaced by plain lines.
+//! Expansion of Redcode: to lines without EQU names, FOR blocks and joined names.
 //!
 //! It goes in three passes, each over the whole text: `heads` reads the lines, `unroll` copies the
 //! lines of blocks, and `replace` puts the tokens of EQU names in place.

@@ -74,8 +74,8 @@ fn append<'a>(
     out.push(line)
 }
 
-// Refuses an EQU in a block and a spoiled line. Reads only the number, the word and `spoiled`, which
-// are known of a short line before it is made.
+// Refuses an EQU in a block and a spoiled line. Reads only the number, the word and `spoiled`.
+// Copying changes none of these in a short line, so the line of the text will do.
 fn check_line(head: &Head, in_block: bool) -> Result<(), ExpandFault>
     ensures { Returns (λ u. u) result (line_checked head.now.number head.now.word in_block head.now.spoiled) }
 {

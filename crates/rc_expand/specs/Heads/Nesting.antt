@@ -21,7 +21,7 @@ IsNested n (OneLine h rest) = (opens_or_closes h.word ≡ false) × IsNested n r
 IsNested zero (Block f inside r rest) = ⊥
 IsNested (suc n) (Block f inside r rest) = (f.word ≡ word.For) × IsNested n inside × (r.word ≡ word.Rof) × IsNested (suc n) rest
 
--- An open block: the lines before its FOR, from the FOR around it on, and the FOR.
+-- An open block: its FOR, and the lines between it and the FOR around it, or the beginning.
 pub record Open : Type 0 where
   pub before : Blocks
   pub opens : Head

@@ -60,8 +60,8 @@ module _ (source : List ℕ) where
   copied_tokens counter k [] = Some []
   copied_tokens counter k (t ∷ ts) = copied_from counter k false t ts
 
-  -- The copy of the tokens from `at` on begins with this name, and goes on at this index; or, with
-  -- None, a ninth counter would be joined to a name.
+  -- With `Some (name, next)` the copy of the tokens from `at` on is the name, and then the copy of
+  -- those from `next` on. With None a ninth counter would be joined to a name.
   abbrev pub BeginsCopy : List ℕ → ℕ → List Token → (at : ℕ) → Option (Token × ℕ) → Type 0
   BeginsCopy counter k ts at o =
       copied_tokens counter k (drop at ts) ≡ option_and_then (λ p. option_map (λ r. p.0 ∷ r) (copied_tokens counter k (drop p.1 ts))) o

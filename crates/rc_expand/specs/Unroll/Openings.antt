@@ -32,7 +32,7 @@ earlier_of [] = []
 earlier_of (l ∷ []) = []
 earlier_of (l ∷ m ∷ ls) = l ∷ earlier_of (m ∷ ls)
 
--- What the code keeps of the FOR `f`.
+-- The opening that the code's `BlockStart` stands for; the earlier labels are those of the FOR `f`.
 abbrev pub seen_start : (f : Head) → BlockStart → Opening
 seen_start f s = record { counter = option_map (λ b. b.now) s.counter; earlier = earlier_of f.labels; count = s.count }
 

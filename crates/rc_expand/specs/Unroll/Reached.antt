@@ -7,10 +7,11 @@ use Rattle.rc_expand.specs.Heads.Lines.{bare_line}
 use Rattle.rc_expand.specs.Unroll.Copies.{Copy}
 use Rattle.rc_expand.specs.Unroll.Openings.{earlier_of}
 
--- The copies that a line is in, the outermost first.
+-- The copy that a `Copying` of the code stands for.
 abbrev pub seen_copy : Copying → Copy
 seen_copy c = record { counter = option_map (λ b. b.now) c.counter; number = c.number }
 
+-- The copies that a line is in, the outermost first.
 abbrev pub copies_in : List Copying → List Copy
 copies_in cs = map seen_copy cs
 

@@ -45,7 +45,7 @@ pub(crate) fn begin_block<'a>(
 }
 
 // Checks for a label that is the counter of an enclosing block and nothing else. Copying made it a
-// number; a name written with `&` would still show it.
+// number. A name written with `&` became a number with joined counters, which is not accepted.
 fn is_enclosing(label: &[Token]) -> bool
     ensures { result ≡ is_enclosing label.now }
 {
@@ -93,7 +93,7 @@ fn counter_token<'a>(source: &[u8], head: &'a Head) -> Result<Option<&'a Token>,
     }
 }
 
-// Converts the value of a count. One below 0 makes no copies, and one above `MOST_COPIES` is
+// Converts the value of a count. One below 1 makes no copies, and one above `MOST_COPIES` is
 // refused.
 fn small_count(value: i64) -> Option<u16>
     ensures { result ≡ small_count value }
