@@ -320,7 +320,7 @@ def words():
                         help="checks side by side (default: by processors and memory)")
     parser.add_argument("--logs", metavar="FOLDER", help="write what each check says there")
     parser.add_argument("--names", action="store_true",
-                        help="name the edits that a proof file refused, and no open goal")
+                        help="name the edits that only a proof file refused")
     return parser.parse_args()
 
 

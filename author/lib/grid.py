@@ -13,7 +13,8 @@ class Grid:
         ranges = [(k, *read_range(path, k + 1, line)) for k, line in enumerate(self.lines)
                   if is_range_line(line)]
         if not ranges:
-            raise Fault(f"{path}: no range line, so there is nothing to seek")
+            raise Fault(f"{path}: no range line, which begins `;@tune` at the left margin "
+                        "(cwtune-vary makes a template of a text with EQU lines)")
         self.places, self.names, self.values, start = zip(*ranges)
         self.start = tuple(start)
         if len(set(self.names)) < len(self.names):

@@ -5,7 +5,8 @@ the K best settings among those that played all fights of the tuning play R figh
 opponent, at random positions, moving first in every other fight; positions and first movers are the
 same for all settings. For each setting a line says its total in the tuning and in the fresh fights,
 the points as a part of the greatest total, in percent, and the standard error of that; then how
-much more than START it makes. Each opponent counts in the fresh fights as much as in the tuning.
+much more than START the best one makes, or with --against than another warrior, as the text that
+the template was made of. Each opponent counts in the fresh fights as much as in the tuning.
 Rules, schedule and opponents are those of the tuning, as CERT.inputs names them; without that file
 give them.
 
@@ -83,9 +84,9 @@ def run(*words):
     return done.stdout
 
 
-def play(asked, rules, shares, folder, setting):
-    """Returns what a setting makes in the fresh fights."""
-    load = run(asked.program, "asm", *EXPLAIN, *rules, "--setting", str(setting), asked.template)
+def play(asked, rules, shares, folder, *text):
+    """Returns what a warrior makes in the fresh fights. `text` are words of `cwtune asm`."""
+    load = run(asked.program, "asm", *EXPLAIN, *rules, *text)
     template, schedule, cert = (pathlib.Path(folder, name) for name in ("t.red", "s.csv", "cert"))
     template.write_bytes(b";@tune ONE 0 0 1 0\n" + load)
     schedule.write_text(schedule_of(asked))
@@ -102,13 +103,13 @@ def print_line(name, total, greatest, fresh, constants):
     print(f"{name}: tuning {tuned}, fresh {fresh} {constants}", flush=True)
 
 
-def print_gain(setting, more):
-    """Says in words whether a setting is better than START in the fresh fights."""
+def print_gain(other, setting, more):
+    """Says in words whether a setting is better than another warrior in the fresh fights."""
     gain, error = more.mean(), more.error()
     said = "no difference that these fights show"
     if abs(gain) > 2 * error:
         said = "a gain" if gain > 0 else "a loss"
-    print(f"over the start, setting {setting}: {gain:+.1f}% +- {error:.1f}, {said}")
+    print(f"over {other}, setting {setting}: {gain:+.1f}% +- {error:.1f}, {said}")
 
 
 def make_parser():
@@ -121,6 +122,8 @@ def make_parser():
                         help="another number gives other positions [default: 1]")
     parser.add_argument("--schedule", metavar="FILE",
                         help="the schedule [default: that of the tuning]")
+    parser.add_argument("--against", metavar="FILE",
+                        help="compare with the warrior of this Redcode text, and not with START")
     add_program(parser)
     add_rules(parser, of_tuning=True)
     add_words(parser, "template", "cert")
@@ -133,7 +136,8 @@ def read_words():
     asked = parser.parse_intermixed_args()
     asked.note = cert_inputs.settle(asked)
     if not asked.opponents:
-        parser.error("give OPPONENT..: CERT.inputs names no opponents that are there")
+        why = asked.note.removeprefix("note: ").partition(",")[0].strip()
+        parser.error(f"give OPPONENT..: {why or 'the opponents of the tuning are not there'}")
     if asked.rounds * len(asked.opponents) > MOST_FIGHTS:
         parser.error(f"the opponents times --rounds are more than {MOST_FIGHTS} fights")
     if asked.distance > asked.core - asked.distance:
@@ -151,17 +155,23 @@ def main():
     with tempfile.TemporaryDirectory() as folder:
         made = {}
         for total, v in full[: asked.top]:
-            made[v] = play(asked, rules, shares, folder, v)
+            made[v] = play(asked, rules, shares, folder, "--setting", str(v), asked.template)
             print_line(f"setting {v}", total, fights.greatest, made[v], template.constants(v))
-        start, total = template.start, found.total_of(template.start, fights)
-        if found.points(start) is not None:
-            made[start] = made.get(start) or play(asked, rules, shares, folder, start)
-            print_line(f"start {start}", total, fights.greatest, made[start],
+        best = made[found.best]
+        if asked.against:
+            other = play(asked, rules, shares, folder, "--", asked.against)
+            print(f"{asked.against}: fresh {other}")
+            print_gain(asked.against, found.best, best.minus(other))
+        elif found.points(start := template.start) is None:
+            print(f"start {start}: does not assemble")
+        elif start == found.best:
+            print(f"setting {start} is START: the tuning found nothing better")
+        else:
+            other = made.get(start) or play(asked, rules, shares, folder, "--setting", str(start),
+                                            asked.template)
+            print_line(f"start {start}", found.total_of(start, fights), fights.greatest, other,
                        template.constants(start))
-    if start not in made:
-        print(f"start {start}: does not assemble")
-    elif start != found.best:
-        print_gain(found.best, made[found.best].minus(made[start]))
+            print_gain("the start", found.best, best.minus(other))
     if dropped:
         print(f"{dropped} settings were dropped; one of these may be better than all but setting "
               f"{found.best} (tune --all)")

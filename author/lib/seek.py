@@ -2,8 +2,8 @@
 
 One constant after the other is tuned over its whole range by `cwtune tune`, with the others held
 at the best setting so far, until none of them gains. With --pairs the same is done with two
-constants at a time. So what is found is the best setting of each line (or plane) through it, which
-is exact, and need not be the best of all: only `cwtune tune` of the whole shows that.
+constants at a time. So no setting of a line (or plane) through what is found has a greater total,
+which is exact; a setting elsewhere may have one: only `cwtune tune` of the whole shows that.
 
 Each step goes to standard error, and at the end the template goes to standard output, with what was
 found as its START; with --box N each range is cut to N values on both sides of it, ready for an
@@ -30,10 +30,10 @@ class Tunings:
 
     def __init__(self, args, grid, folder):
         self.args, self.grid, self.folder = args, grid, pathlib.Path(folder)
-        self.made, self.fights = {}, 0
+        self.made, self.fights, self.greatest = {}, 0, ""
 
     def key(self, setting, free):
-        """Returns what a line through a setting is known by."""
+        """Returns the key of a line: its free constants, and the values of the others."""
         return free, tuple(at for k, at in enumerate(setting) if k not in free)
 
     def is_made(self, setting, free):
@@ -61,7 +61,8 @@ class Tunings:
             sys.stderr.buffer.write(done.stderr)
             sys.exit(done.returncode if done.returncode > 0 else 3)
         report = dict(line.split(" ", 1) for line in done.stdout.decode().splitlines())
-        return (int(report["total"].split()[0]), self.grid.setting_of(report["constants"]),
+        total, _, self.greatest = report["total"].split()
+        return (int(total), self.grid.setting_of(report["constants"]),
                 int(report["fights"].split()[0]))
 
     def run(self):
@@ -80,14 +81,15 @@ class Climb:
 
     def __init__(self, tunings, setting):
         self.tunings, self.grid = tunings, tunings.grid
-        self.setting, self.total = setting, None
+        self.setting, self.total, self.first = setting, None, None
 
     def go(self, choices):
         """Plays the fights of the first setting, and then tunes one choice of constants after the
         other until none of them gains."""
         alone = self.tunings.best(self.setting, ())
         self.total = alone and alone[0]
-        told = f"total {self.total}" if alone else "does not assemble:"
+        self.first = self.total
+        told = f"total {self.total} of {self.tunings.greatest}" if alone else "does not assemble:"
         print(f"start: {told} {self.grid.told(self.setting)}", file=sys.stderr, flush=True)
         idle = 0
         for free in itertools.cycle(choices):
@@ -160,14 +162,18 @@ def higher(best, climb):
 
 def tell_end(args, grid, tunings, best, ended):
     """Says what was found, and what is certain of it."""
-    what = "plane" if args.pairs and len(grid.names) > 1 else "line"
-    print(f"found: total {best.total} {grid.told(best.setting)}, {tunings.fights} fights in "
-          f"{len(tunings.made)} tunings{ended}", file=sys.stderr)
+    free = min(len(grid.names), 2 if args.pairs else 1)
+    print(f"found: total {best.total} of {tunings.greatest} {grid.told(best.setting)}, "
+          f"{tunings.fights} fights in {len(tunings.made)} tunings{ended}", file=sys.stderr)
+    if best.setting == grid.start:
+        print("note: it is START, so nothing was gained", file=sys.stderr)
     if ended:
         print("note: it is the best setting that was seen, and more may be gained", file=sys.stderr)
+    elif free == len(grid.names):
+        print(f"note: none of all {grid.count()} settings has a greater total", file=sys.stderr)
     else:
-        print(f"note: it is the best of each {what} through it, and need not be the best of all "
-              f"{grid.count()} settings", file=sys.stderr)
+        print(f"note: no setting of a {'plane' if free == 2 else 'line'} through it has a greater "
+              f"total; one of the other {grid.count()} settings may", file=sys.stderr)
 
 
 def make_parser():
@@ -177,7 +183,7 @@ def make_parser():
     parser.add_argument("--starts", type=number_from(0), default=0, metavar="N",
                         help="climb from N random settings too [default: 0]")
     parser.add_argument("--seed", type=number_from(0), default=1, metavar="N",
-                        help="draws other random settings [default: 1]")
+                        help="the seed of the random settings [default: 1]")
     parser.add_argument("--fights", type=number_from(1), metavar="N",
                         help="stop after the tuning with which N fights are played")
     parser.add_argument("--box", type=number_from(0), metavar="N",
@@ -198,7 +204,8 @@ def main():
         tunings = Tunings(args, grid, folder)
         best, ended = seek(args, grid, tunings)
     if best is None:
-        raise Fault("no setting that was tried assembles")
+        raise Fault("no setting that was tried assembles; `cwtune asm --setting start` says why of "
+                    "START")
     tell_end(args, grid, tunings, best, ended)
     values = grid.values if args.box is None else grid.box(best.setting, args.box)
     settings = math.prod(map(len, values))

@@ -32,7 +32,8 @@ def main():
     parser = make_parser()
     asked = parser.parse_args()
     if not asked.distance <= asked.seed <= asked.core - asked.distance:
-        parser.error("pMARS takes a seed from the distance to the core size less the distance")
+        parser.error(f"SEED {asked.seed} is not {asked.distance} to {asked.core - asked.distance}, "
+                     "the positions that pMARS takes")
     if asked.rounds * asked.opponents > 10000:
         parser.error("a schedule has 1 to 10000 fights")
     print("opponent,position,first")

@@ -4,12 +4,13 @@ The settings are split into parts, and each part is tuned by `cwtune tune --part
 of the whole template is printed as `tune` prints it, and CERT is written, the certificate of the
 whole template. This command need not be trusted: `cwtune check` checks CERT. With --check that is
 done before CERT is written, in shares by `cwtune check --share`, on the same processors or hosts.
-With --check-only a CERT that is there already, from wherever, is checked so, and nothing is tuned.
+With --check-only a CERT that is there already, from wherever, is checked that way, and nothing is
+tuned.
 A job of a check holds the whole certificate in memory, 1 GiB of it at most.
 
-What is done stays in the folders CERT.parts and CERT.shares until all is. After Ctrl-C or a crash
-repeat the command to run the rest, with any --jobs. --anew throws it away. What is of other inputs
-is refused.
+What is done stays in the folders CERT.parts and CERT.shares until all is done. After Ctrl-C or a
+crash repeat the command to run the rest, with any --jobs. --anew throws it away. A folder made of
+other inputs is refused.
 
 Exit status, as that of `cwtune`: 0 done; 1 an input is refused, or CERT rejected; 2 usage error, or
 a folder is of other inputs; 3 a job has no result, or a file cannot be read or written.
@@ -178,7 +179,8 @@ def go_on(folder, progress):
 
 
 def say_missing(folder, progress, faults):
-    """Ends if a piece has no result: as `cwtune` did if it refused it, else with status 3."""
+    """If a piece has no result, ends: as its `cwtune` ended if that refused an input, else with
+    status 3."""
     missing = [number for number, piece in progress.pieces.items() if piece is None]
     if not missing:
         return

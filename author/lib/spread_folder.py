@@ -18,7 +18,7 @@ MARK, MADE_BY = "spread.json", "cwtune-spread 1"
 
 
 class Copy(NamedTuple):
-    """An input: what it is, the name of its copy, which needs no quoting, and where it is."""
+    """An input: its kind, the name of its copy, which needs no quoting, and its path."""
 
     kind: str
     name: str
@@ -40,8 +40,8 @@ def hash_of(path):
 class Folder:
     """A folder that `cwtune-spread` made, locked until `cwtune-spread` ends.
 
-    Its kinds say how a piece is called, what else its pieces depend on (`settled`), and which files
-    are its own.
+    Its subclasses say how a piece is called, what else its pieces depend on (`settled`), and which
+    files are its own.
     """
 
     def __init__(self, args, told, copies, settled, pieces):

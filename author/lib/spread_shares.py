@@ -1,7 +1,7 @@
 """The shares of a check by `cwtune-spread`, in the folder CERT.shares or beside CERT.
 
-Share I of K of a check looks at all of the certificate's form, and at the rows of its settings
-alone. A certificate is accepted exactly if all shares of one K accept it. `I.done` has the line
+Share I of K of a check looks at all of the certificate's form and, of the rows, only at those of
+its own settings. A certificate is accepted exactly if all shares of one K accept it. `I.done` has the line
 that the check of share I printed.
 """
 import csv, hashlib, pathlib, re
@@ -64,19 +64,19 @@ class Jobs:
             self.digest = hashlib.file_digest(file, "sha256").hexdigest()
 
     def piece(self, number):
-        """Returns the line of a share, or None if it has none of this certificate."""
+        """Returns the line of a share, or None if its job left none for this certificate."""
         try:
             text = pathlib.Path(f"{self.told}.{number}.check").read_text()
         except (FileNotFoundError, ValueError):
             return None
-        before, *lines, after = [line + "\n" for line in text.split("\n")[:-1]] or ["", ""]
-        if not before.startswith(self.digest) or after != before or len(lines) != 1:
+        lines = text.splitlines(keepends=True)
+        if len(lines) != 3 or lines[0] != lines[2] or not lines[0].startswith(self.digest):
             return None
-        status = 0 if ACCEPTED.fullmatch(lines[0]) else 1
-        return lines[0] if is_verdict(lines[0], status, number, self.pieces) else None
+        status = 0 if ACCEPTED.fullmatch(lines[1]) else 1
+        return lines[1] if is_verdict(lines[1], status, number, self.pieces) else None
 
     def see_the_same(self):
-        """Each job has seen it: it names the digest of CERT before and after its check."""
+        """Does nothing: `piece` takes only a line between two digests of CERT as it is now."""
 
     def end(self):
         """Leaves the files of the jobs where they are."""

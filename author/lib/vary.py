@@ -7,7 +7,7 @@ numbers of the text that can have one are listed.
 
 Example: cwtune-vary my.red STEP=5:4000:10 FIRST=0:20:1 > my-template.red
 """
-import difflib, math, re, sys, tempfile
+import argparse, difflib, math, re, sys, tempfile
 from typing import NamedTuple
 
 from .endings import Fault
@@ -40,14 +40,16 @@ def range_from(word):
     """Reads NAME=LOW:HIGH:STEP for argparse. Without `:STEP` the step is 1."""
     found = re.fullmatch(rf"({NAME})=(-?[0-9]{{1,5}}):(-?[0-9]{{1,5}})(?::([0-9]{{1,5}}))?", word)
     if not found:
-        raise ValueError
+        raise argparse.ArgumentTypeError(f"{word} is not of the form NAME=LOW:HIGH:STEP, as "
+                                         "STEP=5:4000:10, without blanks")
     low, high, step = int(found[2]), int(found[3]), int(found[4] or 1)
-    if step == 0 or low > high or max(abs(low), abs(high)) > 65535:
-        raise ValueError
+    if step == 0:
+        raise argparse.ArgumentTypeError(f"{word}: the step is 0")
+    if low > high:
+        raise argparse.ArgumentTypeError(f"{word}: {low} is above {high}")
+    if max(abs(low), abs(high)) > 65535:
+        raise argparse.ArgumentTypeError(f"{word}: values are -65535 to 65535")
     return Range(found[1], range(low, high + 1, step))
-
-
-range_from.__name__ = "range, as in STEP=5:4000:10,"
 
 
 def code_of(line):
@@ -106,8 +108,8 @@ def equ_of(path, equs, wanted):
     """Returns the line of the EQU that gets a range, whose number has to be one of its values."""
     found = [equ for equ in equs if equ.name == wanted.name]
     if not found:
-        near = near_name(wanted.name, [equ.name for equ in equs])
-        hint = f"; {near} is one" if near else ""
+        near = near_name(wanted.name, [equ.name for equ in equs if equ.value is not None])
+        hint = f"; did you mean {near}?" if near else ""
         raise Fault(f"{path}: no line `{wanted.name} EQU number`{hint}")
     equ = found[0]
     if equ.value is None:
@@ -115,10 +117,11 @@ def equ_of(path, equs, wanted):
                     f"{equ.name} can have no range")
     values = wanted.values
     if equ.value not in values:
-        below = [v for v in values if v < equ.value]
-        near = [*below[-1:], *[v for v in values if v > equ.value][:1]]
+        below, above = ([v for v in values if v < equ.value], [v for v in values if v > equ.value])
+        near = [*below[-1:], *above[:1]]
+        verb = "are" if len(near) > 1 else "is"
         raise Fault(f"{path}, line {equ.line}: {equ.name} is {equ.value}, which is none of its "
-                    f"values; the nearest are {' and '.join(map(str, near))}")
+                    f"values; the nearest {verb} {' and '.join(map(str, near))}")
     return equ
 
 
@@ -174,7 +177,8 @@ def make_parser():
     add_rules(parser)
     parser.add_argument("warrior", metavar="WARRIOR", help="a Redcode text with EQU lines")
     parser.add_argument("ranges", metavar="NAME=LOW:HIGH:STEP", nargs="*", type=range_from,
-                        help="a constant and its values: LOW, LOW + STEP and so on, up to HIGH")
+                        default=[], help="a constant and its values: LOW, LOW + STEP and so on, up "
+                        "to HIGH; without :STEP the step is 1")
     return parser
 
 
@@ -182,8 +186,8 @@ def main():
     parser = make_parser()
     asked = parser.parse_intermixed_args()
     names = [wanted.name for wanted in asked.ranges]
-    if len(set(names)) < len(names):
-        parser.error("a constant has one range")
+    if twice := [name for k, name in enumerate(names) if name in names[:k]]:
+        parser.error(f"{twice[0]} has two ranges")
     if len(names) > MOST_CONSTANTS:
         parser.error(f"a template has at most {MOST_CONSTANTS} constants")
     with open(asked.warrior, "rb") as file:

@@ -33,7 +33,7 @@ def inserted(template, setting, totals):
     """
     total, start = totals
     of = f", total {total}" if total is not None else ""
-    of += f"; START {start}" if start is not None else ""
+    of += f"; total of START {start}" if start is not None else ""
     names = zip(template.names, template.settings[setting])
     return [f";strategy cwtune: setting {setting} of {len(template.settings)}{of}",
             *(equ_line(name, value) for name, value in names)]
@@ -108,8 +108,10 @@ def make_parser():
 def main():
     parser = make_parser()
     asked = parser.parse_args()
-    if (asked.cert is None) == (asked.setting is None):
-        parser.error("give a certificate or --setting, and not both")
+    if asked.cert is None and asked.setting is None:
+        parser.error("CERT is missing: give it, or --setting W")
+    if asked.cert is not None and asked.setting is not None:
+        parser.error("give CERT or --setting, and not both")
     template, totals = tuning_files.Template(asked.template), (None, None)
     asked.schedule, note = None, ""
     if asked.cert is None:

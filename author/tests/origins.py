@@ -60,7 +60,7 @@ def readers(program, folder):
     yield compare("cwtune-scores by CERT.inputs", (0, True, ""),
                   (status, "start setting 0, total 15, 1 less than the best K=0\n" in out, err))
     status, out, err = command(program, "cwtune-warrior t.red cert", folder)
-    line = ";strategy cwtune: setting 1 of 2, total 16; START 15\n"
+    line = ";strategy cwtune: setting 1 of 2, total 16; total of START 15\n"
     yield compare("cwtune-warrior by CERT.inputs", (0, True, ""), (status, line in out, err))
     (folder / "below").mkdir()
     status, out, err = command(program, "cwtune-scores ../cert", folder / "below")
@@ -90,8 +90,9 @@ def unknown(program, folder):
         said = note(f"cert.inputs {why}")
         yield compare(f"CERT.inputs: {name}", (0, GAIN, said), command(program, given, folder))
         status, out, err = command(program, HOLDOUT, folder)
-        yield compare(f"CERT.inputs: {name}, no opponents", (2, "", True),
-                      (status, out, err.endswith("names no opponents that are there\n")))
+        yield compare(f"CERT.inputs: {name}, no opponents", (
+            2, "", f"cwtune-holdout: error: give OPPONENT..: cert.inputs {why}\n"),
+            (status, out, err))
 
 
 def writers(program, folder):

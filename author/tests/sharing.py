@@ -111,7 +111,8 @@ def kept_shares(place):
 
 
 def other_folders(place):
-    """Has another one at work in the folder, or somebody else's files there."""
+    """Tries a folder in which another `cwtune-spread` is at work, and one with somebody else's
+    files."""
     _, line = tuned(place)
     (place.folder / "mine").mkdir()
     place.write("mine/precious.txt", b"mine\n")
@@ -133,7 +134,7 @@ def other_folders(place):
 
 
 def with_a_tuning(place):
-    """Checks what a tuning in parts found, and kills it between."""
+    """Checks what a tuning in parts found, and kills it between tuning and check."""
     _, line = tuned(place)
     (place.folder / "CERT").unlink()
     came = place.spread("--check", "--parts=4", *DECOY)
@@ -182,6 +183,9 @@ def merged(place):
     yield compare("--check-only --merge", (0, line, ""), place.spread("--merge=3", *ONLY))
     yield compare("of another number of shares", (
         3, "", "failed: no result of 4 of 4 shares: 1 2 3 4\n"), place.spread("--merge=4", *ONLY))
+    (place.folder / "CERT.2.check").write_text(place.read("CERT.2.check").decode().split("\n")[0])
+    yield compare("of a job that was cut", (3, "", "failed: no result of 1 of 3 shares: 2\n"),
+                  place.spread("--merge=3", *ONLY))
     place.write("CERT", cert + b"\n")
     yield compare("of another certificate", (3, "", "failed: no result of 3 of 3 shares: 1 2 3\n"),
                   place.spread("--merge=3", *ONLY))

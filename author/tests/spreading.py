@@ -312,7 +312,8 @@ def merged(place):
 def screen_of(place, words):
     """Returns what `cwtune-spread` shows on a terminal."""
     screen, terminal = pty.openpty()
-    job = subprocess.Popen(place.words(words), cwd=place.folder, stdout=subprocess.DEVNULL, stderr=terminal)
+    job = subprocess.Popen(place.words(words), cwd=place.folder, stdout=subprocess.DEVNULL,
+                           stderr=terminal)
     os.close(terminal)
     text = shown(screen)
     job.wait()

@@ -52,8 +52,8 @@ def templates(place):
                   "that `cwtune tune` takes\n"), (
         (came := varied(place, "STEP=1:3000", "far=-999:0"))[0], came[2]))
     place.write("two.red", TEXT)
-    yield compare("the numbers of a text", (0, "STEP=5: line 4, 3 uses\nfar=-20: line 5, 1 use\n", ""),
-                  varied(place))
+    yield compare("the numbers of a text", (
+        0, "STEP=5: line 4, 3 uses\nfar=-20: line 5, 1 use\n", ""), varied(place))
     place.write("none.red", "MOV 0, 1\n")
     yield compare("a text without numbers", (0, "", "note: no line `NAME EQU number`\n"),
                   varied(place, name="none.red"))
@@ -79,21 +79,26 @@ def refusals(place):
     for words, status, said in [
         (["both=1:9"], 1, "refused: two.red, line 6: STEP+1 is not a plain number, so both can "
          "have no range"),
-        (["step=1:9"], 1, "refused: two.red: no line `step EQU number`; STEP is one"),
+        (["step=1:9"], 1, "refused: two.red: no line `step EQU number`; did you mean STEP?"),
         (["k=1:9"], 1, "refused: two.red: no line `k EQU number`"),
         (["late=1:9"], 1, "refused: two.red: no line `late EQU number`"),
         (["STEP=1:9:3"], 1, "refused: two.red, line 4: STEP is 5, which is none of its values; the "
          "nearest are 4 and 7"),
         (["STEP=6:9:3"], 1, "refused: two.red, line 4: STEP is 5, which is none of its values; the "
-         "nearest are 6"),
-        (["STEP=1:9", "STEP=2:5"], 2, "cwtune-vary: error: a constant has one range"),
-        *(([f"STEP={word}"], 2, "cwtune-vary: error: argument NAME=LOW:HIGH:STEP: invalid range, "
-           f"as in STEP=5:4000:10, value: 'STEP={word}'") for word in ["1", "9:1", "1:9:0", "a:b"]),
+         "nearest is 6"),
+        (["STEP=1:9", "STEP=2:5"], 2, "cwtune-vary: error: STEP has two ranges"),
+        *(([word], 2, f"cwtune-vary: error: argument NAME=LOW:HIGH:STEP: {word}{said}")
+          for word, said in [
+              *((word, " is not of the form NAME=LOW:HIGH:STEP, as STEP=5:4000:10, without blanks")
+                for word in ["STEP=1", "STEP=a:b", "STEP"]),
+              ("STEP=9:1", ": 9 is above 1"), ("STEP=1:9:0", ": the step is 0"),
+              ("STEP=1:99999", ": values are -65535 to 65535")]),
     ]:
         yield compare(f"cwtune-vary {' '.join(words)}", (status, "", f"{said}\n"),
                       varied(place, *words))
-    yield compare("a text that does not assemble", (1, "", "refused: label.red does not assemble: "
-                  "refused: Asm line 3 Value DivisionByZero\n"), varied(place, "K=1:2", name="label.red"))
+    said = "refused: label.red does not assemble: refused: Asm line 3 Value DivisionByZero\n"
+    yield compare("a text that does not assemble", (1, "", said),
+                  varied(place, "K=1:2", name="label.red"))
     yield compare("a template", (1, "", "refused: ranges.red: it has range lines, so it is a "
                   "template already\n"), varied(place, name="ranges.red"))
     yield compare("a missing file", 3, varied(place, name="none")[0])
@@ -130,9 +135,10 @@ def climbs(place):
         boxed[0], box.start, all(len(values) <= 5 for values in box.values)))
     few = sought(place, "--fights=1")
     yield compare("--fights ends it after a tuning", (
-        0, "found: total 12 STEP=3045 FIRST=3000, 10 fights in 1 tunings, ended after 10 fights "
-        "(--fights)", "note: it is the best setting that was seen, and more may be gained"),
-        (few[0], *few[2][-2:]))
+        0, "found: total 12 of 30 STEP=3045 FIRST=3000, 10 fights in 1 tunings, ended after 10 "
+        "fights (--fights)", "note: it is START, so nothing was gained",
+        "note: it is the best setting that was seen, and more may be gained"),
+        (few[0], *few[2][-3:]))
 
 
 def total_of(place, name, text=None):
@@ -152,9 +158,11 @@ def refused_climbs(place):
     place.write("large.red", ";@tune A 0 9999 1 2\n;@tune B 0 9999 1 2\nDAT A, B\n")
     schedule = str(TUNING / "schedule.csv")
     for words, end in [
-        (["one.red"], (1, "", "refused: one.red: no range line, so there is nothing to seek\n")),
+        (["one.red"], (1, "", "refused: one.red: no range line, which begins `;@tune` at the left "
+                       "margin (cwtune-vary makes a template of a text with EQU lines)\n")),
         (["none.red"], (1, "", "start: does not assemble: K=2\n"
-                        "refused: no setting that was tried assembles\n")),
+                        "refused: no setting that was tried assembles; `cwtune asm --setting "
+                        "start` says why of START\n")),
         (["--pairs", "large.red"], (2, "", "error: A,B: 100000000 settings, more than the 1000000 "
                                     "that `cwtune tune` takes\n")),
         (["none"], (3, "", "failed: none: No such file or directory\n")),

@@ -51,7 +51,8 @@ def warriors(program, folder):
     came = run("cwtune-warrior", "--program", program, "step.red", "step.cert")
     found = tuning_files.Certificate(TUNING / "step.cert")
     start = found.total_of(tuning_files.Template(TUNING / "step.red").start, found.fights(None))
-    line = f";strategy cwtune: setting {found.best} of 21, total {found.total}; START {start}\n"
+    line = (f";strategy cwtune: setting {found.best} of 21, total {found.total}; "
+            f"total of START {start}\n")
     yield "the best setting of a certificate", [] if (
         came[0] == 0 and came[2] == origins.note("step.cert.inputs is not there")
         and line in came[1]) else [repr(came)]
@@ -64,7 +65,8 @@ def warriors(program, folder):
         yield f"{name} is refused", [] if (came[:2] == (1, "") and came[2].startswith(said)
                                            ) else [repr(came)]
     for words, said in [
-        (["step.red"], "give a certificate or --setting, and not both"),
+        (["step.red"], "CERT is missing: give it, or --setting W"),
+        (["step.red", "step.cert", "--setting", "0"], "give CERT or --setting, and not both"),
         (["stone.red", "step.cert"], "the certificate is not of that template"),
         (["step.red", "--setting", "21"], "the template has 21 settings, from 0"),
     ]:
@@ -116,13 +118,19 @@ def holdouts(program, folder):
     (folder / "t.red").write_text(";@tune K 1 2 1 1\nMOV 0, K\n")
     (folder / "s.csv").write_text(FIGHT)
     (folder / "dat.red").write_text("DAT 0\n")
-    Place(program, folder, {}).run(["tune", "--all", "t.red", "s.csv", "cert", "dat.red"], keep=True)
+    Place(program, folder, {}).run(["tune", "--all", "t.red", "s.csv", "cert", "dat.red"],
+                                   keep=True)
     words = ["--program", program, "--rounds", "20", "t.red", "cert", "dat.red"]
     expected = "".join(f"setting {v}: tuning 3 of 3 (100.0%), fresh 60 of 60 (100.0% +- 0.0) "
                        f"K={v + 1}\n" for v in (0, 1))
-    expected += expected.splitlines(True)[0].replace("setting", "start")
-    came = run("cwtune-holdout", *words, folder=folder)
-    yield "cwtune-holdout", [] if came == (0, expected, "") else [f"{expected!r}, came {came!r}"]
+    yield compare("cwtune-holdout", (
+        0, f"{expected}setting 0 is START: the tuning found nothing better\n", ""),
+        run("cwtune-holdout", *words, folder=folder))
+    came = run("cwtune-holdout", "--against", "dat.red", *words, folder=folder)
+    # Of two warriors that die at once the one that moves second wins: ten of twenty fights.
+    yield compare("cwtune-holdout --against a warrior", (
+        0, f"{expected}dat.red: fresh 30 of 60 (50.0% +- 11.5)\n"
+        "over dat.red, setting 0: +50.0% +- 11.5, a gain\n", ""), came)
     came = run("cwtune-holdout", *words[:-1], "none.red", folder=folder)
     yield "cwtune-holdout with no opponent", [] if (
         came[:2] == (3, "") and came[2].startswith("failed: none.red: ")) else [repr(came)]
