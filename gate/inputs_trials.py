@@ -111,7 +111,8 @@ def checks(place):
         ("swapped opponents", other, "  imp.red is not the tuning's opponent 0\n"
                                      "  dat.red is not the tuning's opponent 1\n"),
         ("other rules", ["check", "--core=16", "--cycles=21", "--tasks=4", "--length=4",
-                         "--distance=4", "step.red", "both.csv", "CERT", "dat.red", "imp.red", "imp.red"],
+                         "--distance=4", "step.red", "both.csv", "CERT", "dat.red", "imp.red",
+                         "imp.red"],
          "  rules 16 21 4 4 4, and the tuning had rules 16 20 4 4 4\n"
          "  step.red is not the tuning's template\n"
          "  the tuning had 2 opponents, and this check has 3\n"),

@@ -2,9 +2,9 @@
 [PROGRAM]
 
 All shares of one K have to accept a certificate exactly if the whole check does, with its best
-setting and total, and their rejections, put together, have to give its line. Each kind of damage is done
-to each row of the certificates of templates of at most six settings. Prints what failed, and as its
-last line `N passed, N failed`. The exit status is 1 if a check failed.
+setting and total, and their rejections, put together, have to give its line. Each kind of damage is
+done to each row of the certificates of templates of at most six settings. Prints what failed, and
+as its last line `N passed, N failed`. The exit status is 1 if a check failed.
 """
 import concurrent.futures, os, sys
 

@@ -1,8 +1,8 @@
 """The shares of a check by `cwtune-spread`, in the folder CERT.shares or beside CERT.
 
 Share I of K of a check looks at all of the certificate's form and, of the rows, only at those of
-its own settings. A certificate is accepted exactly if all shares of one K accept it. `I.done` has the line
-that the check of share I printed.
+its own settings. A certificate is accepted exactly if all shares of one K accept it. `I.done` has
+the line that the check of share I printed.
 """
 import csv, hashlib, pathlib, re
 
