@@ -8,7 +8,7 @@ use Rattle.lru.specs.LruCache.{promoted}
 use Rattle.rc_instr.specs.Rules.{IsRules, RulesView}
 use Rattle.rc_instr.specs.Warrior.{Fits, IsWarrior, WarriorView}
 use Rattle.rc_instr.specs.LoadText.{load_text}
-use Rattle.rc_instr.proofs.Loads.{load_law}
+use Rattle.rc_instr.proofs.Loads.{one_warrior}
 use Rattle.tune_problem.specs.Problem.{Problem}
 use Rattle.tune_problem.specs.declared.cert.Row.{Row}
 use Rattle.tune_problem.proofs.Certificates.{some_is}
@@ -40,7 +40,7 @@ module _ (p : Problem) (rules : RulesView) (hold : IsRules rules) (method : Meth
   same_warrior : (e : List ℕ × ℕ) → IsKnown p rules method rows k e → test e.0 ≡ true → p.warrior e.1 ≡ Some w
   same_warrior e h t =
       let text : load_text rules.core w ≡ load_text rules.core h.warrior = alike_text (load_text rules.core w) e.0 t ∙ h.text in
-      let same : w ≡ h.warrior = load_law rules w h.warrior hold made h.is_warrior fits h.fits text in
+      let same : w ≡ h.warrior = one_warrior rules w h.warrior hold made h.is_warrior fits h.fits text in
       h.candidate ∙ ap Some (sym same)
 
   pub found : (known : List (List ℕ × ℕ)) (u : ℕ) → AllByRecursion (IsKnown p rules method rows k) known → lookup test known ≡ Some u → Recalled known u
