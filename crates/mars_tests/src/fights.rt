@@ -1,5 +1,6 @@
 //! Tests of `mars_fight`: schedules and fights in a core of 16 cells with distance 4, and the texts
 //! of faults.
+use crate::machine::rules_of;
 use crate::warriors::IMP;
 use mars_core::{Arena, PackedCells, Side};
 use mars_fight::{Fight, Schedule, ScheduleFault, ScheduleFaultKind as Kind, keeps_distance, play};
@@ -109,7 +110,7 @@ const AT_EIGHT: Fight = Fight {
 
 #[test]
 fn one_arena_for_many_fights(rt: HostRuntime) -> Result<(), Fail> {
-    let rules = Rules::try_new(16, 20, 4, 4, 4)?;
+    let rules = rules_of(16, 20, 4)?;
     let imp = read_loadfile(rt.alloc(), IMP, &rules)?;
     let lowers_a_cell = read_loadfile(rt.alloc(), b"ORG 0\nMOV.I $0, <1\nDAT.F $0, $4\n", &rules)?;
     let mut arena = Arena::<PackedCells>::try_new(rt.alloc(), &rules)?;

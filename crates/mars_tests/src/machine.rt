@@ -1,18 +1,27 @@
 //! Tests of `mars_core`: steps and fights worked out by hand from the 1994 draft, each on plain and
 //! on packed cells, and arenas that are reset.
-ghost use Rattle.std.specs.Prelude.{◌≡◌, ◌≤◌, ◌<◌, ◌+◌};
+ghost use Rattle.std.specs.Prelude.{◌≡◌, ◌≤◌, ◌<◌, ◌+◌, IfOk};
+ghost use Rattle.rc_instr.specs.Rules.{rules_view};
 ghost use Rattle.rc_instr.specs.Warrior.{Fits};
 ghost use Rattle.mars_core.specs.Arena.{IsBlank};
 
 use crate::warriors::{DAT, IMP};
 use mars_core::laws::a_reset_sets_few_cells;
 use mars_core::{Arena, Cells, Outcome, PackedCells, PlainCells, Side};
-use rc_instr::{Instruction, Rules, Warrior, read_loadfile};
+use rc_instr::{Instruction, Rules, RulesError, Warrior, read_loadfile};
 use std::test::Fail;
+
+// Makes rules of length 4 and distance 4.
+#[tactic(auto, using(crate::proofs::RulesMade::are_given))]
+pub(crate) fn rules_of(core: u32, cycles: u32, tasks: u32) -> Result<Rules, RulesError>
+    ensures { IfOk result (λ r. r ≡ rules_view core cycles tasks 4 4) }
+{
+    Rules::try_new(core, cycles, tasks, 4, 4)
+}
 
 // Reads the first instruction of a load file.
 fn instruction(rt: &HostRuntime, core: u32, text: &[u8]) -> Result<Instruction, Fail> {
-    let rules = Rules::try_new(core, 20, 4, 4, 4)?;
+    let rules = rules_of(core, 20, 4)?;
     let warrior = read_loadfile(rt.alloc(), text, &rules)?;
     Ok(warrior.code()[0])
 }
@@ -46,7 +55,7 @@ fn steps(rt: &HostRuntime, core: u32, code: &[u8], at: u32) -> Result<(Step, Ste
     requires core { 16 ≤ core }
     requires at { at < core }
 {
-    let rules = Rules::try_new(core, 20, 4, 4, 4)?;
+    let rules = rules_of(core, 20, 4)?;
     let candidate = read_loadfile(rt.alloc(), code, &rules)?;
     let opponent = read_loadfile(rt.alloc(), DAT, &rules)?;
     let mut plain = Arena::<PlainCells>::try_new(rt.alloc(), &rules)?;
@@ -245,7 +254,7 @@ pub(crate) fn plays(
     tasks: u32,
     first: Side,
 ) -> Result<(Played, Played), Fail> {
-    let rules = Rules::try_new(16, cycles, tasks, 4, 4)?;
+    let rules = rules_of(16, cycles, tasks)?;
     let candidate = read_loadfile(rt.alloc(), texts.0, &rules)?;
     let opponent = read_loadfile(rt.alloc(), texts.1, &rules)?;
     let mut plain = Arena::<PlainCells>::try_new(rt.alloc(), &rules)?;
@@ -292,7 +301,7 @@ fn resets<C: Cells>(arena: &mut Arena<C>, imp: &Warrior, copier: &Warrior) -> (u
 
 #[test]
 fn a_reset_of_packed_cells_sets_few(rt: HostRuntime) -> Result<(), Fail> {
-    let rules = Rules::try_new(16, 20, 4, 4, 4)?;
+    let rules = rules_of(16, 20, 4)?;
     let imp = read_loadfile(rt.alloc(), IMP, &rules)?;
     let copier = read_loadfile(rt.alloc(), b"ORG 0\nMOV.I $0, <1\nDAT.F $0, $4\n", &rules)?;
     let mut plain = Arena::<PlainCells>::try_new(rt.alloc(), &rules)?;
@@ -311,7 +320,7 @@ fn a_reset_of_packed_cells_sets_few(rt: HostRuntime) -> Result<(), Fail> {
 // Nothing was loaded, so the opponent has no task.
 #[test]
 fn a_fight_without_tasks_is_over_at_once(rt: HostRuntime) -> Result<(), Fail> {
-    let rules = Rules::try_new(16, 20, 4, 4, 4)?;
+    let rules = rules_of(16, 20, 4)?;
     let mut arena = Arena::<PackedCells>::try_new(rt.alloc(), &rules)?;
     let over = Outcome {
         points: 3,
