@@ -54,8 +54,8 @@ TEXTS = [
      end(0, "accepted share 2/2 best 0 total 4\n")),
     (f"{CHECK} points.cert dat.red imp.red", end(1, "rejected row 4 WrongPoints\n")),
     (f"{CHECK} short.cert dat.red imp.red", end(1, "rejected row 0 RowCount\n")),
-    (f"{CHECK} --share=1/2 points.cert dat.red imp.red",
-     end(0, "accepted share 1/2 best 0 total 4\n")),
+    # setting 1 has the fights of setting 2 as they are listed, which would beat the best
+    (f"{CHECK} --share=1/2 points.cert dat.red imp.red", end(1, "rejected row 3 CapTooHigh\n")),
     (f"{CHECK} --share=2/2 points.cert dat.red imp.red", end(1, "rejected row 4 WrongPoints\n")),
 ]
 
