@@ -98,7 +98,7 @@ fn check_rows_alone<T: Watcher>(
     requires inside { end ≤ (problem_of claim.now.inputs.now).count }
     ensures wrong { IfOk result (λ o. o ≡ wrong_alone (problem_of claim.now.inputs.now) claim.now.cert.now (settings_between first end)) }
 
-    // No fight is played that these rows do not list, and none twice.
+    // At most as many fights are played as these rows list.
     ensures most { let listed = fights_listed claim.now.cert.now.rows (settings_between first end) in
         arena.old.fights + listed < 2 ^ 64 → arena.new.fights ≤ arena.old.fights + listed }
 {
@@ -176,7 +176,7 @@ fn check_rows<T: Watcher>(
     ensures wrong { let p = problem_of claim.now.inputs.now in
         IfOk result (λ o. o ≡ rows_failure p claim.now.cert.now (share_settings (part share.number share.shares) p.count)) }
 
-    // No fight is played that the rows of the share do not list, and none twice.
+    // At most as many fights are played as the rows of the share list.
     ensures most { let listed = fights_listed claim.now.cert.now.rows (share_settings (part share.number share.shares) (problem_of claim.now.inputs.now).count) in
         arena.old.fights + listed < 2 ^ 64 → arena.new.fights ≤ arena.old.fights + listed }
 {

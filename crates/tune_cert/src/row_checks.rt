@@ -44,7 +44,7 @@ pub(crate) fn check_alone<T: Watcher>(
     ensures reason { IfOk result (λ o. o ≡ alone_reason (problem_of claim.now.inputs.now) claim.now.cert.now vector row.now) }
     ensures blank { IsBlank claim.now.inputs.now.rules arena.new }
 
-    // No fight is played that the row does not list, and none twice.
+    // At most as many fights are played as the row lists.
     ensures most { arena.old.fights + listed_in row.now < 2 ^ 64 → arena.new.fights ≤ arena.old.fights + listed_in row.now }
 {
     match row {

@@ -19,8 +19,8 @@ pub enum Reason {
     /// The cap of a row beats the best setting, so the row does not show that its setting is not
     /// better.
     CapTooHigh,
-    /// A row refers to itself, to a row that is not a cap row, or to a setting with another
-    /// warrior.
+    /// A row refers to itself, to a setting that does not exist, to a row that is not a cap row of
+    /// rising fights that exist, or to a setting with another warrior.
     NotSame,
     /// The row says refused, but the setting assembles.
     NotRefused,
@@ -28,14 +28,15 @@ pub enum Reason {
     Version,
 }
 
-/// What `check` says of a certificate.
+/// What a check says of a certificate, or of a share of its rows.
 #[derive(Clone, Copy, Debug, PartialEq, Eq)]
 pub enum Verdict {
-    /// The certificate is valid: its best setting is the optimum.
+    /// All that was looked at is right. In a check of all rows the certificate is then valid, and
+    /// its best setting is the optimum.
     Accepted {
-        /// The index of the optimum, from 0.
+        /// The index of the certificate's best setting, from 0.
         best: u32,
-        /// The total of the optimum.
+        /// The total of that setting.
         total: u32,
     },
     /// The certificate is not valid.

@@ -98,8 +98,8 @@ pub fn check_part_run<T: Watcher, W: Write>(
 /// the share accepts it.
 ///
 /// The line is `accepted share I/K best W total T`, or `rejected row R REASON` as in a check of all
-/// rows. If all shares of one number accept the same bytes, a check of all rows accepts them, too,
-/// with the same best setting and total. With a part, the share is of that part's settings. The
+/// rows. If all K shares accept the same bytes, a check of all rows accepts them, too, with the same
+/// best setting and total. With a part, the share is of that part's settings. The
 /// rest is as for `check_part_run`.
 ///
 /// # Errors
