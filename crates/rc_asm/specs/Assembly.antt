@@ -21,8 +21,8 @@ use Rattle.rc_asm.specs.Faults.{at_line, forms_of}
 use Rattle.rc_asm.specs.Names.{NameValues, names_of}
 use Rattle.rc_asm.specs.Lines.{ReadingView, nothing_read, after_lines, start_value}
 
--- The index of the instruction where `code` starts. A value below 0 is no index: the length of the
--- code is none either.
+-- The index of the instruction where `code` starts. A value below 0 becomes the length of the code,
+-- which is no index of an instruction.
 abbrev pub start_index : List Instruction → ℤ → ℕ
 start_index code (pos n) = n
 start_index code (negsuc n) = length code

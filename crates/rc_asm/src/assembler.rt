@@ -11,15 +11,13 @@ ghost use Rattle.rc_asm.specs.Seen.{seen_names, seen_reading};
 use crate::fault::{AsmFault, AsmKind, at_line, of_expansion, of_warrior};
 use crate::forms::check_forms;
 use crate::labels::Labels;
+use crate::limits::MOST_BYTES;
 use crate::reading::{Reading, read_lines};
 use crate::scope::Context;
 use crate::starts::Starts;
 use rc_expand::{Constants, GivenNames, Line, expand};
 use rc_instr::{Rules, Warrior};
 use std::alloc::Global;
-
-// The bytes of a text, named as in `specs/Limits.antt`.
-const MOST_BYTES: usize = 65_536;
 
 /// Assembles a Redcode text to a warrior under `rules`, with `constants` as further names.
 ///

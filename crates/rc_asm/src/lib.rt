@@ -7,6 +7,7 @@ mod forms;
 mod instruction;
 mod labels;
 pub mod laws;
+pub mod limits;
 mod operand;
 mod reading;
 mod scope;

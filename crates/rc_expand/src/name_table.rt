@@ -4,7 +4,7 @@ ghost use Rattle.std.specs.Hash as fed;
 ghost use Rattle.std.specs.Str.{bytes_eq};
 ghost use Rattle.rc_text.specs.Symbols.{name_of, counter_text};
 ghost use Rattle.rc_expand.specs.Names.{entry_of};
-ghost use Rattle.rc_expand.specs.NameTables.{joined_name, with_name, at_index};
+ghost use Rattle.rc_expand.specs.NameTables.{joined_name, spelled_bytes, with_name, at_index};
 
 use crate::names::{counter_text, is_joined_name, name_of};
 use indexmap::{Equivalent, IndexMap};
@@ -19,6 +19,17 @@ use std::marker::Model;
 enum Spelling<'a> {
     Written(&'a [u8]),
     Copied(Vec<u8>),
+}
+
+impl<'a> Spelling<'a> {
+    fn bytes(&self) -> &[u8]
+        ensures { result.now ≡ spelled_bytes self.now }
+    {
+        match self {
+            Spelling::Written(bytes) => bytes,
+            Spelling::Copied(bytes) => bytes.as_slice(),
+        }
+    }
 }
 
 /// A name in a table.
@@ -37,17 +48,6 @@ impl<'a> Model for KeptName<'a> {
     ghost view = { λ n. spelled_bytes n.spelling };
 }
 
-impl<'a> KeptName<'a> {
-    fn as_slice(&self) -> &[u8]
-        ensures { result.now ≡ self.now }
-    {
-        match &self.spelling {
-            Spelling::Written(bytes) => bytes,
-            Spelling::Copied(bytes) => bytes.as_slice(),
-        }
-    }
-}
-
 impl<'a> PartialEq for KeptName<'a> {
     ghost use Rattle.std.specs.Str.{bytes_eq};
     ghost use Rattle.std.specs.Cmp.{partial_equiv_from_equiv};
@@ -58,7 +58,7 @@ impl<'a> PartialEq for KeptName<'a> {
     ghost laws = { partial_equiv_from_equiv nat_list_eq_equiv };
 
     fn eq(&self, other: &KeptName<'a>) -> bool {
-        self.as_slice() == other.as_slice()
+        self.spelling.bytes() == other.spelling.bytes()
     }
 }
 
@@ -79,7 +79,7 @@ impl<'a> Hash for KeptName<'a> {
     ghost respects_eq = { λ x y h. ap (flat_map fed.u8) ((bytes_decides x y).0 h) };
 
     fn hash<H: Hasher>(&self, state: &mut H) {
-        feed_bytes(self.as_slice(), state);
+        feed_bytes(self.spelling.bytes(), state);
     }
 }
 
@@ -124,7 +124,7 @@ impl<'q, 'a> Equivalent<KeptName<'a>> for JoinedName<'q> {
     ghost respects_eq = { λ n x y. nat_list_eq_equiv.congr (joined_name n.bytes.now n.counters.now) x y };
 
     fn equivalent(&self, key: &KeptName<'a>) -> bool {
-        is_joined_name(self.bytes, self.counters, key.as_slice())
+        is_joined_name(self.bytes, self.counters, key.spelling.bytes())
     }
 }
 

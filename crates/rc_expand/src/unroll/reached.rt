@@ -44,7 +44,8 @@ impl<'a> Model for Reached<'a> {
     ghost view = { λ r. reached_part r.is_earlier (line_in r.source.now (copies_in r.copies.items) r.head.now) };
 }
 
-// Makes a line as it is in `copies`, the outermost first. Each is made of the one before.
+// Makes a line as it is in `copies`, the outermost first. The first copy with a counter is made of
+// the text's line itself, which is not cloned; each further one of the copy before.
 pub(crate) fn make_line(
     alloc: Global,
     source: &[u8],
@@ -53,7 +54,28 @@ pub(crate) fn make_line(
 ) -> Result<Head, AllocError>
     ensures { IfOk result (λ h. h ≡ line_in source.now (copies_in copies.now) head.now) }
 {
-    let mut made = clone_head(alloc, head)?;
+    match copies.split_first() {
+        None => clone_head(alloc, head),
+        Some((copy, inner)) => match copy.counter {
+            None => make_line(alloc, source, inner, head),
+            Some(counter) => {
+                let made = copy_line(alloc, source, counter, copy.number, head)?;
+                copy_further(alloc, source, inner, made)
+            }
+        },
+    }
+}
+
+// Copies a line for each of `copies` that has a counter.
+fn copy_further(
+    alloc: Global,
+    source: &[u8],
+    copies: &[Copying],
+    line: Head,
+) -> Result<Head, AllocError>
+    ensures { IfOk result (λ h. h ≡ line_in source.now (copies_in copies.now) line) }
+{
+    let mut made = line;
     for i in 0..copies.len() {
         if let Some(counter) = copies[i].counter {
             made = copy_line(alloc, source, counter, copies[i].number, &made)?;
