@@ -1,15 +1,18 @@
 -- The fights of a schedule have opponents, at positions of the rules, and weights.
-use Rattle.std.proofs.Common.{◌≡◌, ◌≤◌, ◌<◌, ◌+◌, ℕ, true, false, List, [], ◌∷◌, drop, Some, None, Ok, Err, refl, ap, arith, All}
-use Rattle.std.specs.Prelude.{Bool, Option, Result, option_and_then, nat_lt, nat_le, ◌&&◌, if◌then◌else◌, length}
+use Rattle.std.proofs.Common.{◌≡◌, ◌≤◌, ◌<◌, ◌+◌, ℕ, true, false, List, [], ◌∷◌, drop, Some, None, Ok, Err, refl, ap, arith, subst, All}
+use Rattle.std.specs.Prelude.{Bool, Option, Result, nat_lt, nat_le, ◌&&◌, if◌then◌else◌, length}
 use Rattle.std.proofs.lemmas.Bool.Decides.{nat_tests}
 use Rattle.std.proofs.lemmas.List.Elements.{All-cons, All-nil, All-weaker}
 use Rattle.rc_instr.specs.Rules.{RulesView}
-use Rattle.mars_core.specs.declared.side.Side.{Side}
-use Rattle.tables.specs.Records.{Fields}
+use Rattle.tables.specs.Records.{Fields, records_of}
+use Rattle.rc_instr.proofs.CheckSteps.{at_most}
 use Rattle.mars_fight.specs.Listed.{IsPosition, IsWeight, IsFight}
 use Rattle.rc_instr.specs.Decimal.{padded_decimal}
 use Rattle.mars_fight.specs.Limits.{MOST_FIGHTS, MOST_WEIGHT}
-use Rattle.mars_fight.specs.Schedule.{opponent_of, position_of, mover_named, weight_of, fight_made, unweighted_fight, weighted_fight, fight_of, fights_in, with_first, within_limit, header_of, fights_under, scheduled}
+use Rattle.mars_fight.specs.Schedule.{opponent_of, position_of, mover_named, weight_of, fight_made, unweighted_fight, weighted_fight, fight_of, fights_from, header_of, scheduled, schedule_of}
+use Rattle.mars_fight.specs.Faults.{at_row}
+use Rattle.rc_instr.specs.Results.{with_fault, and_then, check}
+use Rattle.mars_fight.specs.declared.fault.ScheduleFaultKind.TheVariants.{Empty, TooMany}
 use Rattle.mars_fight.specs.declared.fight.Fight.{Fight}
 use Rattle.mars_fight.specs.declared.record.Columns.{Columns}
 use Rattle.mars_fight.specs.declared.record.Columns.TheVariants.{Unweighted, Weighted}
@@ -53,28 +56,21 @@ weight_within (Some number) x e =
     let high : number ≤ MOST_WEIGHT = grind (arith, nat_tests, two.1) in
     record { least = omega (arith, t.1); most = omega (arith, t.1) }
 
--- the parts that a fight is made of
-record AreParts (o p : Result ℕ ScheduleFaultKind) (w : Result ℕ ScheduleFaultKind) (fight : Fight) : Type 0 where
-  opponent : o ≡ Ok fight.opponent
-  position : p ≡ Ok fight.position
-  weight : w ≡ Ok fight.weight
+-- a chain with a value had one first
+went_on : {A B E : Type 0} (r : Result A E) (f : A → Result B E) (y : B) → and_then f r ≡ Ok y → (x : A) × (r ≡ Ok x) × (f x ≡ Ok y)
+went_on (Ok x) f y e = (x, refl, e)
+went_on (Err q) f y e = absurd (cc)
 
--- a fight has the opponent, the position and the weight of its fields
-parts : (o p : Result ℕ ScheduleFaultKind) (f : Result Side ScheduleFaultKind) (w : Result ℕ ScheduleFaultKind) (fight : Fight) → fight_made o p f w ≡ Ok fight → AreParts o p w fight
-parts (Err kind) p f w fight e = absurd (cc)
-parts (Ok o) (Err kind) f w fight e = absurd (cc)
-parts (Ok o) (Ok p) (Err kind) w fight e = absurd (cc)
-parts (Ok o) (Ok p) (Ok f) (Err kind) fight e = absurd (cc)
-parts (Ok o) (Ok p) (Ok f) (Ok w) fight e =
-    let same : record { opponent = o; position = p; first = f; weight = w } ≡ fight = cc in
-    record { opponent = ap (λ (g : Fight). Ok g.opponent) same; position = ap (λ (g : Fight). Ok g.position) same; weight = ap (λ (g : Fight). Ok g.weight) same }
-
--- such a fight may be listed
-made_fight : (r : RulesView) (n : ℕ) (o p : Option ℕ) (f : Result Side ScheduleFaultKind) (weight : Result ℕ ScheduleFaultKind) (fight : Fight)
-    → ((x : ℕ) → weight ≡ Ok x → IsWeight x) → fight_made (opponent_of n o) (position_of r p) f weight ≡ Ok fight → IsFight r n fight
-made_fight r n o p f weight fight h e =
-    let a = parts (opponent_of n o) (position_of r p) f weight fight e in
-    record { opponent = opponent_below n o fight.opponent a.opponent; position = position_within r p fight.position a.position; weight = h fight.weight a.weight }
+-- a fight of fields may be listed
+made_fight : (r : RulesView) (n : ℕ) (a b c : List ℕ) (last : Result ℕ ScheduleFaultKind) (fight : Fight)
+    → ((x : ℕ) → last ≡ Ok x → IsWeight x) → fight_made r n a b c last ≡ Ok fight → IsFight r n fight
+made_fight r n a b c last fight h e =
+    let o = went_on (opponent_of n (padded_decimal a)) _ fight e in
+    let p = went_on (position_of r (padded_decimal b)) _ fight o.2 in
+    let f = went_on (mover_named c) _ fight p.2 in
+    let w = went_on last _ fight f.2 in
+    let same : record { opponent = o.0; position = p.0; first = f.0; weight = w.0 } ≡ fight = let q = w.2 in cc in
+    subst (IsFight r n) same (record { opponent = opponent_below n (padded_decimal a) o.0 o.1; position = position_within r (padded_decimal b) p.0 p.1; weight = h w.0 w.1 })
 
 -- a fight counts once without a weight
 one_within : (x : ℕ) → ◌≡◌ {A = Result ℕ ScheduleFaultKind} (Ok 1) (Ok x) → IsWeight x
@@ -87,7 +83,7 @@ unweighted_placed : (r : RulesView) (n : ℕ) (fields : Fields) (fight : Fight) 
 unweighted_placed r n [] fight e = absurd (cc)
 unweighted_placed r n (a ∷ []) fight e = absurd (cc)
 unweighted_placed r n (a ∷ b ∷ []) fight e = absurd (cc)
-unweighted_placed r n (a ∷ b ∷ c ∷ []) fight e = made_fight r n (padded_decimal a) (padded_decimal b) (mover_named c) (Ok 1) fight one_within e
+unweighted_placed r n (a ∷ b ∷ c ∷ []) fight e = made_fight r n a b c (Ok 1) fight one_within e
 unweighted_placed r n (a ∷ b ∷ c ∷ d ∷ more) fight e = absurd (cc)
 
 -- the fight of four fields may be listed
@@ -97,7 +93,7 @@ weighted_placed r n (a ∷ []) fight e = absurd (cc)
 weighted_placed r n (a ∷ b ∷ []) fight e = absurd (cc)
 weighted_placed r n (a ∷ b ∷ c ∷ []) fight e = absurd (cc)
 weighted_placed r n (a ∷ b ∷ c ∷ d ∷ []) fight e =
-    made_fight r n (padded_decimal a) (padded_decimal b) (mover_named c) (weight_of (padded_decimal d)) fight (weight_within (padded_decimal d)) e
+    made_fight r n a b c (weight_of (padded_decimal d)) fight (weight_within (padded_decimal d)) e
 weighted_placed r n (a ∷ b ∷ c ∷ d ∷ g ∷ more) fight e = absurd (cc)
 
 -- the fight of a record may be listed
@@ -106,40 +102,57 @@ unfolding fight_of
 fight_placed r n Unweighted fields fight e = unweighted_placed r n fields fight e
 fight_placed r n Weighted fields fight e = weighted_placed r n fields fight e
 
--- a fight that may be listed, in front of such fights
-placed_first : (r : RulesView) (n : ℕ) (x : Result Fight ScheduleFaultKind) (o : Option (List Fight)) (fights : List Fight)
-    → ((fight : Fight) → x ≡ Ok fight → IsFight r n fight) → ((more : List Fight) → o ≡ Some more → All (IsFight r n) more)
-    → with_first x o ≡ Some fights → All (IsFight r n) fights
-placed_first r n (Err kind) o fights p q e = absurd (cc)
-placed_first r n (Ok f) None fights p q e = absurd (cc)
-placed_first r n (Ok f) (Some more) fights p q e =
-    let same : f ∷ more ≡ fights = cc in
-    rw (← same) (All-cons (IsFight r n) f more (p f refl) (q more refl))
+-- a fault at a row is no fight
+fight_at : (row : ℕ) (x : Result Fight ScheduleFaultKind) (fight : Fight) → with_fault (at_row row) x ≡ Ok fight → x ≡ Ok fight
+fight_at row (Ok f) fight e = let same : f ≡ fight = cc in ap Ok same
+fight_at row (Err k) fight e = absurd (cc)
 
 -- the fights of records may be listed
-in_placed : (r : RulesView) (n : ℕ) (m : Columns) (rows : List Fields) (fights : List Fight) → fights_in r n m rows ≡ Some fights → All (IsFight r n) fights
-in_placed r n m [] fights e = let same : [] ≡ fights = cc in rw (← same) (All-nil (IsFight r n))
-in_placed r n m (fields ∷ rows) fights e =
-    placed_first r n (fight_of r n m fields) (fights_in r n m rows) fights (λ f h. fight_placed r n m fields f h) (λ more h. in_placed r n m rows more h) e
-
--- a test does not change the fights
-few_of : (b : Bool) (xs fights : List Fight) → ◌≡◌ {A = Option (List Fight)} (if b then Some xs else None) (Some fights) → ◌≡◌ {A = Option (List Fight)} (Some xs) (Some fights)
-few_of true xs fights e = e
-few_of false xs fights e = absurd (cc)
-
--- the limit does not change the fights
-then_few : (o : Option (List Fight)) (fights : List Fight) → option_and_then within_limit o ≡ Some fights → o ≡ Some fights
-then_few None fights e = absurd (cc)
-then_few (Some xs) fights e = few_of (nat_lt 0 (length xs) && nat_le (length xs) MOST_FIGHTS) xs fights e
-
--- the fights under a header may be listed
-under_fights : (r : RulesView) (n : ℕ) (header : Option Columns) (rows : List Fields) (fights : List Fight) → fights_under r n header rows ≡ Some fights → All (IsFight r n) fights
-under_fights r n None rows fights e = absurd (cc)
-under_fights r n (Some m) rows fights e = in_placed r n m rows fights (then_few (fights_in r n m rows) fights e)
+in_placed : (r : RulesView) (n : ℕ) (m : Columns) (row : ℕ) (rows : List Fields) (fights : List Fight) → fights_from r n m row rows ≡ Ok fights → All (IsFight r n) fights
+in_placed r n m row [] fights e = let same : [] ≡ fights = cc in rw (← same) (All-nil (IsFight r n))
+in_placed r n m row (fields ∷ rows) fights e =
+    let c = went_on (check (nat_le row MOST_FIGHTS) (at_row row TooMany)) _ fights e in
+    let f = went_on (with_fault (at_row row) (fight_of r n m fields)) _ fights c.2 in
+    let fs = went_on (fights_from r n m (row + 1) rows) _ fights f.2 in
+    let same : f.0 ∷ fs.0 ≡ fights = let q = fs.2 in cc in
+    subst (All (IsFight r n)) same (All-cons (IsFight r n) f.0 fs.0 (fight_placed r n m fields f.0 (fight_at row (fight_of r n m fields) f.0 f.1)) (in_placed r n m (row + 1) rows fs.0 fs.1))
 
 -- each fight of a schedule may be listed
-pub scheduled_fights : (r : RulesView) (n : ℕ) (rows : List Fields) (fights : List Fight) → scheduled r n rows ≡ Some fights → All (IsFight r n) fights
-scheduled_fights r n rows fights e = under_fights r n (header_of rows) (drop 1 rows) fights e
+pub scheduled_fights : (r : RulesView) (n : ℕ) (rows : List Fields) (fights : List Fight) → scheduled r n rows ≡ Ok fights → All (IsFight r n) fights
+scheduled_fights r n rows fights e =
+    let h = went_on (header_of rows) _ fights e in
+    let fs = went_on (fights_from r n h.0 1 (drop 1 rows)) _ fights h.2 in
+    let c = went_on (check (nat_lt 0 (length fs.0)) (at_row 0 Empty)) _ fights fs.2 in
+    let same : fs.0 ≡ fights = let q = c.2 in cc in
+    subst (All (IsFight r n)) same (in_placed r n h.0 1 (drop 1 rows) fs.0 fs.1)
+
+-- there is a fight for each record, and no record after `MOST_FIGHTS`
+few_from : (r : RulesView) (n : ℕ) (m : Columns) (row : ℕ) (rows : List Fields) (fights : List Fight) → row ≤ MOST_FIGHTS + 1 → fights_from r n m row rows ≡ Ok fights → row + length fights ≤ MOST_FIGHTS + 1
+few_from r n m row [] fights h e = let same : [] ≡ fights = cc in omega (arith, h, ap length same)
+few_from r n m row (fields ∷ rows) fights h e =
+    let c = went_on (check (nat_le row MOST_FIGHTS) (at_row row TooMany)) _ fights e in
+    let f = went_on (with_fault (at_row row) (fight_of r n m fields)) _ fights c.2 in
+    let fs = went_on (fights_from r n m (row + 1) rows) _ fights f.2 in
+    let same : f.0 ∷ fs.0 ≡ fights = let q = fs.2 in cc in
+    let few : row ≤ MOST_FIGHTS = at_most row MOST_FIGHTS (passed (nat_le row MOST_FIGHTS) c.1) in
+    let more = few_from r n m (row + 1) rows fs.0 (omega (arith, few)) fs.1 in
+    omega (arith, more, ap length same)
+  where
+    passed : (b : Bool) → check b (at_row row TooMany) ≡ Ok tt → b ≡ true
+    passed true q = refl
+    passed false q = absurd (cc)
+
+-- the fights of a schedule may be listed, and are at most `MOST_FIGHTS`
+pub listed : (r : RulesView) (n : ℕ) (bytes : List ℕ) (fights : List Fight) → schedule_of r n bytes ≡ Ok fights → All (IsFight r n) fights × (length fights ≤ MOST_FIGHTS)
+unfolding schedule_of
+listed r n bytes fights e =
+    let rows = records_of bytes in
+    let h = went_on (header_of rows) _ fights e in
+    let fs = went_on (fights_from r n h.0 1 (drop 1 rows)) _ fights h.2 in
+    let c = went_on (check (nat_lt 0 (length fs.0)) (at_row 0 Empty)) _ fights fs.2 in
+    let same : fs.0 ≡ fights = let q = c.2 in cc in
+    let few = few_from r n h.0 1 (drop 1 rows) fs.0 (omega arith) fs.1 in
+    (scheduled_fights r n rows fights e, omega (arith, few, ap length same))
 
 -- the weights of such fights
 pub are_weights : (r : RulesView) (n : ℕ) (fights : List Fight) → All (IsFight r n) fights → All (λ (f : Fight). IsWeight f.weight) fights

@@ -1,58 +1,50 @@
 -- Going through the records of a schedule.
-use Rattle.std.proofs.Common.{◌≡◌, ◌<◌, ◌+◌, ℕ, List, [], ◌∷◌, ◌++◌, length, drop, Some, Ok, Err, refl, sym, ◌∙◌, arith, append_assoc}
+use Rattle.std.proofs.Common.{◌≡◌, ◌<◌, ◌≤◌, ◌+◌, ℕ, false, List, [], ◌∷◌, ◌++◌, Ok, Err, refl, sym, ◌∙◌, ap, arith, append_assoc, length, length-append}
+use Rattle.std.specs.Prelude.{Result, nat_le}
+use Rattle.std.proofs.lemmas.Bool.Decides.{nat_tests}
+use borrow.Author.Tests.{le-leb}
+use Rattle.rc_instr.specs.Results.{mapped, and_then}
 use Rattle.rc_instr.specs.Rules.{RulesView}
 use Rattle.tables.specs.Records.{Fields}
 use Rattle.mars_fight.specs.Limits.{MOST_FIGHTS}
-use Rattle.mars_fight.specs.Schedule.{fight_of, fights_in, header_of}
-use Rattle.mars_fight.specs.ScheduleRefusal.{AreFightsRead, IsHeaderAlone, IsScheduleFault}
+use Rattle.mars_fight.specs.Faults.{at_row}
+use Rattle.mars_fight.specs.Schedule.{fight_of, fights_from}
 use Rattle.mars_fight.specs.declared.fight.Fight.{Fight}
 use Rattle.mars_fight.specs.declared.record.Columns.{Columns}
+use Rattle.mars_fight.specs.declared.fault.ScheduleFault.{ScheduleFault}
 use Rattle.mars_fight.specs.declared.fault.ScheduleFaultKind.{ScheduleFaultKind}
-use Rattle.mars_fight.proofs.Meant.{fights_in-append, as_many}
-use Rattle.mars_fight.proofs.Faults.{wrong_fault}
+use Rattle.mars_fight.specs.declared.fault.ScheduleFaultKind.TheVariants.{TooMany}
 
--- one more record that means a fight gives one more fight
-one_meant : (r : RulesView) (n : ℕ) (m : Columns) (before : List Fields) (fields : Fields) (fights : List Fight) (fight : Fight)
-    → fights_in r n m before ≡ Some fights → fight_of r n m fields ≡ Ok fight → fights_in r n m (before ++ fields ∷ []) ≡ Some (fights ++ fight ∷ [])
-one_meant r n m before fields fights fight meant means =
-    let one : fights_in r n m (fields ∷ []) ≡ Some (fight ∷ []) = rw means refl in
-    fights_in-append r n m before (fields ∷ []) ∙ rw (meant, one) refl
+-- nothing was read yet
+pub begun : (all : Result (List Fight) ScheduleFault) → all ≡ mapped (λ fights. [] ++ fights) all
+begun (Ok fights) = refl
+begun (Err e) = refl
+
+-- one more fight was read
+pub pushed : (read : List Fight) (fight : Fight) (more all : Result (List Fight) ScheduleFault) → all ≡ and_then (λ fights. Ok (fight ∷ fights)) more
+    → mapped (λ fights. read ++ fights) all ≡ mapped (λ fights. (read ++ fight ∷ []) ++ fights) more
+pushed read fight (Ok fights) all e = ap (mapped (λ xs. read ++ xs)) e ∙ ap Ok (sym (append_assoc read (fight ∷ []) fights))
+pushed read fight (Err f) all e = ap (mapped (λ xs. read ++ xs)) e
+
+module _ (r : RulesView) (n : ℕ) (m : Columns) (row : ℕ) (fields : Fields) (rest : List Fields) where
+  -- a record that is a fight, and those after it
+  pub one_read : (fight : Fight) → row ≤ MOST_FIGHTS → fight_of r n m fields ≡ Ok fight → fights_from r n m row (fields ∷ rest) ≡ and_then (λ fights. Ok (fight ∷ fights)) (fights_from r n m (row + 1) rest)
+  one_read fight few e = rw (le-leb row MOST_FIGHTS few, e) refl
+
+  -- a record that is no fight
+  pub wrong_at : (kind : ScheduleFaultKind) → row ≤ MOST_FIGHTS → fight_of r n m fields ≡ Err kind → fights_from r n m row (fields ∷ rest) ≡ Err (at_row row kind)
+  wrong_at kind few e = rw (le-leb row MOST_FIGHTS few, e) refl
+
+  -- a record after `MOST_FIGHTS` fights
+  pub one_too_many : MOST_FIGHTS < row → fights_from r n m row (fields ∷ rest) ≡ Err (at_row row TooMany)
+  one_too_many many =
+      let no : nat_le row MOST_FIGHTS ≡ false = grind (arith, nat_tests, many) in
+      rw no refl
 
 -- one more record is read
-pub one_read : (r : RulesView) (n : ℕ) (m : Columns) (rows : List Fields) (fights : List Fight) (fields : Fields) (rest : List Fields) (fight : Fight)
-    → AreFightsRead r n m rows fights (fields ∷ rest) → fight_of r n m fields ≡ Ok fight → AreFightsRead r n m rows (fights ++ fight ∷ []) rest
-one_read r n m rows fights fields rest fight h means = record {
-  before = h.before ++ fields ∷ [];
-  headed = h.headed;
-  parted = h.parted ∙ sym (append_assoc h.before (fields ∷ []) rest);
-  meant = one_meant r n m h.before fields fights fight h.meant means;
-}
-
--- if nothing comes after the header, there is one record
-header_alone : (m : Columns) (rows : List Fields) → header_of rows ≡ Some m → drop 1 rows ≡ [] → length rows ≡ 1
-header_alone m [] headed e = absurd (cc)
-header_alone m (a ∷ rows) headed e = let none : rows ≡ [] = e in rw none refl
-
--- no record comes after the header
-pub none_listed : (r : RulesView) (n : ℕ) (m : Columns) (rows : List Fields) (fights : List Fight) → AreFightsRead r n m rows fights [] → length fights ≡ 0 → IsHeaderAlone rows
-none_listed r n m rows fights h none =
-    let k = as_many r n m h.before fights h.meant in
-    record { columns = m; headed = h.headed; alone = header_alone m rows h.headed (h.parted ∙ nothing h.before (omega arith)) }
-  where
-    nothing : (before : List Fields) → length before ≡ 0 → before ++ [] ≡ []
-    nothing [] e = refl
-    nothing (a ∷ before) e = absurd (omega arith)
-
--- a record that means no fight, and what is wrong with it
-pub wrong_at : (r : RulesView) (n : ℕ) (m : Columns) (rows : List Fields) (fights : List Fight) (fields : Fields) (rest : List Fields) (row : ℕ) (kind : ScheduleFaultKind)
-    → AreFightsRead r n m rows fights (fields ∷ rest) → length fights < MOST_FIGHTS → row ≡ length fights + 1 → fight_of r n m fields ≡ Err kind → IsScheduleFault r n rows row kind
-wrong_at r n m rows fights fields rest row kind h few at means = wrong_fault r n rows row kind (record {
-  columns = m;
-  fights = fights;
-  fields = fields;
-  rest = rest;
-  read = h;
-  few = few;
-  number = at;
-  wrong = means;
-})
+pub one_more : (r : RulesView) (n : ℕ) (m : Columns) (read : List Fight) (fields : Fields) (rest : List Fields) (fight : Fight) (all : Result (List Fight) ScheduleFault)
+    → all ≡ mapped (λ more. read ++ more) (fights_from r n m (length read + 1) (fields ∷ rest)) → length read < MOST_FIGHTS → fight_of r n m fields ≡ Ok fight
+    → all ≡ mapped (λ more. (read ++ fight ∷ []) ++ more) (fights_from r n m (length (read ++ fight ∷ []) + 1) rest)
+one_more r n m read fields rest fight all so_far few e =
+    let k : length (read ++ fight ∷ []) ≡ length read + 1 = length-append read (fight ∷ []) in
+    rw k (so_far ∙ pushed read fight _ _ (one_read r n m (length read + 1) fields rest fight (omega (arith, few)) e))

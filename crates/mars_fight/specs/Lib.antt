@@ -3,6 +3,6 @@
 -- A fight gives the candidate the points of the machine's outcome, and leaves a blank arena blank.
 pub mod Limits
 pub mod Listed
+pub mod Faults
 pub mod Schedule
-pub mod ScheduleRefusal
 pub mod Play

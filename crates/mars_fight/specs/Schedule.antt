@@ -1,6 +1,8 @@
--- The fights of a schedule.
-use Rattle.std.specs.Prelude.{ℕ, ◌+◌, ◌==◌, nat_lt, nat_le, ◌&&◌, if◌then◌else◌, Bool, Option, Some, None, option_and_then, Result, Ok, Err, List, [], ◌∷◌, length, drop, codes, bytes_eq}
+-- The fights of a schedule, or its first fault: by record, and in a record from the left.
+use Rattle.std.specs.Prelude.{ℕ, ◌+◌, ◌==◌, nat_lt, nat_le, ◌&&◌, if◌then◌else◌, Bool, Option, Some, None, Result, Ok, Err, List, [], ◌∷◌, length, drop, codes, bytes_eq}
 use Rattle.std.specs.Str.{byte}
+use Rattle.std.specs.Option.{ok_or}
+use Rattle.rc_instr.specs.Results.{with_fault, ◌>>=◌, check}
 use Rattle.rc_instr.specs.Rules.{RulesView}
 use Rattle.mars_core.specs.declared.side.Side.{Side}
 use Rattle.mars_core.specs.declared.side.Side.TheVariants.{Candidate, Opponent}
@@ -11,7 +13,9 @@ use Rattle.mars_fight.specs.declared.fight.Fight.{Fight}
 use Rattle.mars_fight.specs.declared.record.Columns.{Columns}
 use Rattle.mars_fight.specs.declared.record.Columns.TheVariants.{Unweighted, Weighted}
 use Rattle.mars_fight.specs.declared.fault.ScheduleFaultKind.{ScheduleFaultKind}
-use Rattle.mars_fight.specs.declared.fault.ScheduleFaultKind.TheVariants.{FieldCount, BadNumber, NoSuchOpponent, BadPosition, BadFirst, BadWeight}
+use Rattle.mars_fight.specs.declared.fault.ScheduleFaultKind.TheVariants.{Header, FieldCount, BadNumber, NoSuchOpponent, BadPosition, BadFirst, Empty, TooMany, BadWeight}
+use Rattle.mars_fight.specs.declared.fault.ScheduleFault.{ScheduleFault}
+use Rattle.mars_fight.specs.Faults.{at_row}
 
 -- the names of the first three fields
 abbrev pub names_fight : List ℕ → List ℕ → List ℕ → Bool
@@ -23,10 +27,10 @@ columns_of (a ∷ b ∷ c ∷ []) = if names_fight a b c then Some Unweighted el
 columns_of (a ∷ b ∷ c ∷ d ∷ []) = if names_fight a b c && bytes_eq d (codes "weight") then Some Weighted else None
 columns_of _ = None
 
--- the first record is the header
-abbrev pub header_of : List Fields → Option Columns
-header_of [] = None
-header_of (first ∷ records) = columns_of first
+-- the columns that the first record names: it must be a header
+abbrev pub header_of : List Fields → Result Columns ScheduleFault
+header_of [] = Err (at_row 0 Header)
+header_of (first ∷ records) = ok_or (columns_of first) (at_row 0 Header)
 
 -- the index of one of `opponents` opponents
 abbrev pub opponent_of : ℕ → Option ℕ → Result ℕ ScheduleFaultKind
@@ -49,24 +53,24 @@ abbrev pub weight_of : Option ℕ → Result ℕ ScheduleFaultKind
 weight_of None = Err BadNumber
 weight_of (Some number) = if nat_le 1 number && nat_le number MOST_WEIGHT then Ok number else Err BadWeight
 
--- the fight of its parts, or the fault of the leftmost faulty one
-abbrev pub fight_made : Result ℕ ScheduleFaultKind → Result ℕ ScheduleFaultKind → Result Side ScheduleFaultKind → Result ℕ ScheduleFaultKind → Result Fight ScheduleFaultKind
-fight_made (Err kind) position first weight = Err kind
-fight_made (Ok opponent) (Err kind) first weight = Err kind
-fight_made (Ok opponent) (Ok position) (Err kind) weight = Err kind
-fight_made (Ok opponent) (Ok position) (Ok first) (Err kind) = Err kind
-fight_made (Ok opponent) (Ok position) (Ok first) (Ok weight) = Ok (record { opponent = opponent; position = position; first = first; weight = weight })
+-- the fight of three fields and of what `last` says of the weight, or the fault of the leftmost
+-- faulty field
+abbrev pub fight_made : RulesView → ℕ → (a b c : List ℕ) → (last : Result ℕ ScheduleFaultKind) → Result Fight ScheduleFaultKind
+fight_made rules opponents a b c last = do
+  opponent ← opponent_of opponents (padded_decimal a)
+  position ← position_of rules (padded_decimal b)
+  first ← mover_named c
+  weight ← last
+  Ok (record { opponent = opponent; position = position; first = first; weight = weight })
 
 -- the fight of a record without a weight, which has three fields: it counts once
 abbrev pub unweighted_fight : RulesView → ℕ → Fields → Result Fight ScheduleFaultKind
-unweighted_fight rules opponents (a ∷ b ∷ c ∷ []) =
-    fight_made (opponent_of opponents (padded_decimal a)) (position_of rules (padded_decimal b)) (mover_named c) (Ok 1)
+unweighted_fight rules opponents (a ∷ b ∷ c ∷ []) = fight_made rules opponents a b c (Ok 1)
 unweighted_fight rules opponents _ = Err FieldCount
 
 -- the fight of a record with a weight, which has four fields
 abbrev pub weighted_fight : RulesView → ℕ → Fields → Result Fight ScheduleFaultKind
-weighted_fight rules opponents (a ∷ b ∷ c ∷ d ∷ []) =
-    fight_made (opponent_of opponents (padded_decimal a)) (position_of rules (padded_decimal b)) (mover_named c) (weight_of (padded_decimal d))
+weighted_fight rules opponents (a ∷ b ∷ c ∷ d ∷ []) = fight_made rules opponents a b c (weight_of (padded_decimal d))
 weighted_fight rules opponents _ = Err FieldCount
 
 -- the fight of a record with the fields that the header names, or what is wrong with it
@@ -74,32 +78,25 @@ unfoldable pub fight_of : RulesView → ℕ → Columns → Fields → Result Fi
 fight_of rules opponents Unweighted fields = unweighted_fight rules opponents fields
 fight_of rules opponents Weighted fields = weighted_fight rules opponents fields
 
--- a fight before the fights after it; None if either has a fault
-abbrev pub with_first : Result Fight ScheduleFaultKind → Option (List Fight) → Option (List Fight)
-with_first (Err kind) fights = None
-with_first (Ok fight) None = None
-with_first (Ok fight) (Some fights) = Some (fight ∷ fights)
+-- the fights of records of which the first is record `row`, in order, or the first fault; record 1
+-- comes after the header
+abbrev pub fights_from : RulesView → ℕ → Columns → (row : ℕ) → List Fields → Result (List Fight) ScheduleFault
+fights_from rules opponents columns row [] = Ok []
+fights_from rules opponents columns row (fields ∷ records) = do
+  _ ← check (nat_le row MOST_FIGHTS) (at_row row TooMany)
+  fight ← with_fault (at_row row) (fight_of rules opponents columns fields)
+  fights ← fights_from rules opponents columns (row + 1) records
+  Ok (fight ∷ fights)
 
--- the fights of the records, in order, if every record is a fight
-abbrev pub fights_in : RulesView → ℕ → Columns → List Fields → Option (List Fight)
-fights_in rules opponents columns [] = Some []
-fights_in rules opponents columns (fields ∷ records) = with_first (fight_of rules opponents columns fields) (fights_in rules opponents columns records)
+-- the fights of records that begin with the header: at least one
+abbrev pub scheduled : RulesView → ℕ → List Fields → Result (List Fight) ScheduleFault
+scheduled rules opponents records = do
+  columns ← header_of records
+  fights ← fights_from rules opponents columns 1 (drop 1 records)
+  _ ← check (nat_lt 0 (length fights)) (at_row 0 Empty)
+  Ok fights
 
--- 1 to `MOST_FIGHTS` fights
-abbrev pub within_limit : List Fight → Option (List Fight)
-within_limit fights = if nat_lt 0 (length fights) && nat_le (length fights) MOST_FIGHTS then Some fights else None
-
--- the fights of the records after a header
-abbrev pub fights_under : RulesView → ℕ → Option Columns → List Fields → Option (List Fight)
-fights_under rules opponents None records = None
-fights_under rules opponents (Some columns) records = option_and_then within_limit (fights_in rules opponents columns records)
-
--- the fights of records that begin with the header
-abbrev pub scheduled : RulesView → ℕ → List Fields → Option (List Fight)
-scheduled rules opponents records = fights_under rules opponents (header_of records) (drop 1 records)
-
--- the fights of a schedule for `opponents` opponents under these rules: 1 to `MOST_FIGHTS`, in
--- the order of the text. None if the text is not a schedule. A fight that is listed twice counts
--- twice.
-unfoldable pub fights_of : RulesView → ℕ → List ℕ → Option (List Fight)
-fights_of rules opponents bytes = scheduled rules opponents (records_of bytes)
+-- the fights of a schedule for `opponents` opponents under these rules, in the order of the text,
+-- or its first fault. A fight that is listed twice counts twice.
+unfoldable pub schedule_of : RulesView → ℕ → List ℕ → Result (List Fight) ScheduleFault
+schedule_of rules opponents bytes = scheduled rules opponents (records_of bytes)

@@ -1,4 +1,7 @@
 //! Why a schedule is refused.
+ghost use Rattle.std.specs.Prelude.{◌≡◌};
+ghost use Rattle.mars_fight.specs.Faults.{at_row};
+
 use rc_instr::OutOfMemory;
 use std::alloc::AllocFailed;
 use thiserror::Error;
@@ -50,28 +53,31 @@ pub struct ScheduleFault {
 
 impl From<OutOfMemory> for ScheduleFault {
     ghost use Rattle.std.specs.Prelude.{◌≡◌};
-    ghost use Rattle.mars_fight.specs.ScheduleRefusal.{no_memory};
+    ghost use Rattle.mars_fight.specs.Faults.{at_row};
+    ghost use Rattle.mars_fight.specs.declared.fault.ScheduleFaultKind.TheVariants.{OutOfMemory};
 
-    ghost from_gives = { λ _ e. e ≡ no_memory };
+    ghost from_gives = { λ _ e. e ≡ at_row 0 OutOfMemory };
 
     fn from(_refused: OutOfMemory) -> ScheduleFault {
-        ScheduleFault {
-            row: 0,
-            kind: ScheduleFaultKind::OutOfMemory,
-        }
+        at_row(0, ScheduleFaultKind::OutOfMemory)
     }
 }
 
 impl<T: Drop> From<AllocFailed<T>> for ScheduleFault {
     ghost use Rattle.std.specs.Prelude.{◌≡◌};
-    ghost use Rattle.mars_fight.specs.ScheduleRefusal.{no_memory};
+    ghost use Rattle.mars_fight.specs.Faults.{at_row};
+    ghost use Rattle.mars_fight.specs.declared.fault.ScheduleFaultKind.TheVariants.{OutOfMemory};
 
-    ghost from_gives = { λ _ e. e ≡ no_memory };
+    ghost from_gives = { λ _ e. e ≡ at_row 0 OutOfMemory };
 
     fn from(_refused: AllocFailed<T>) -> ScheduleFault {
-        ScheduleFault {
-            row: 0,
-            kind: ScheduleFaultKind::OutOfMemory,
-        }
+        at_row(0, ScheduleFaultKind::OutOfMemory)
     }
+}
+
+// Gives a fault its record.
+pub(crate) fn at_row(row: u64, kind: ScheduleFaultKind) -> ScheduleFault
+    ensures { result ≡ at_row row kind }
+{
+    ScheduleFault { row, kind }
 }

@@ -1,14 +1,13 @@
 //! Schedules: lists of fights.
-ghost use Rattle.std.specs.Prelude.{◌≡◌, ◌≢◌, ℕ, ◌<◌, ◌≤◌, ◌*◌, ◌↔◌, true, Some, None, length, drop, IfOk, IfErr, OnOk, IsTrue, All};
-ghost use Rattle.rc_instr.specs.Rules.{RulesView};
+ghost use Rattle.std.specs.Prelude.{◌≡◌, ◌<◌, ◌≤◌, ◌*◌, ◌↔◌, length, drop, IfOk, OnOk, IsTrue, All};
 ghost use Rattle.tables.specs.Records.{records_of};
 ghost use Rattle.mars_fight.specs.Limits.{MOST_FIGHTS, MOST_WEIGHT};
 ghost use Rattle.mars_fight.specs.Listed.{IsFight, IsPlain, IsWeight, greatest_total};
 ghost use Rattle.mars_fight.specs.declared.fight.Fight.{Fight};
-ghost use Rattle.mars_fight.specs.Schedule.{fights_of, header_of, scheduled};
-ghost use Rattle.mars_fight.specs.ScheduleRefusal.{IsScheduleFault};
+ghost use Rattle.mars_fight.specs.Faults.{Returns};
+ghost use Rattle.mars_fight.specs.Schedule.{header_of, scheduled, schedule_of};
 
-use crate::fault::{ScheduleFault, ScheduleFaultKind};
+use crate::fault::{ScheduleFault, ScheduleFaultKind, at_row};
 use crate::fight::{Fight, MOST_POINTS};
 use crate::limits;
 use crate::record::{Columns, read_columns, read_fight};
@@ -59,22 +58,14 @@ impl Schedule {
     /// - `BadNumber`: the opponent, the position or the weight is not 1 to 9 digits.
     /// - `NoSuchOpponent`, `BadPosition`, `BadFirst`, `BadWeight`: the field has no such value.
     /// - `OutOfMemory`, at record 0: an allocation failed.
-    #[tactic(auto, using(crate::proofs::Faults::fault_none), unfolding(crate::specs::Schedule::fights_of))]
+    #[tactic(auto, unfolding(crate::specs::Schedule::schedule_of))]
     pub fn read(
         alloc: Global,
         bytes: &[u8],
         opponents: u32,
         rules: &Rules,
     ) -> Result<Schedule, ScheduleFault>
-        // What is read are the fights that the definition gives. A text is refused only if it gives
-        // none, or if memory runs out.
-        ensures ok { IfOk result (λ s. fights_of rules.now opponents bytes.now ≡ Some s) }
-        ensures refused { IfErr result (λ e. e.kind ≢ ScheduleFaultKind.OutOfMemory → fights_of rules.now opponents bytes.now ≡ None) }
-
-        // What a fault says is true of its record, and all records before it are fights.
-        ensures fault { IfErr result (λ e. IsScheduleFault rules.now opponents (records_of bytes.now) e.row e.kind) }
-
-        // What is read fits.
+        ensures fights { Returns (λ s. s) result (schedule_of rules.now opponents bytes.now) }
         ensures fit { IfOk result (λ s. All (IsFight rules.now opponents) s) }
     {
         let fights = read_fights(alloc, bytes, opponents, rules)?;
@@ -132,23 +123,17 @@ fn greatest_of(fights: &[Fight]) -> u32
     greatest
 }
 
-fn fault_at(row: u64, kind: ScheduleFaultKind) -> ScheduleFault
-    ensures { result ≡ record { row = row; kind = kind } }
-{
-    ScheduleFault { row, kind }
-}
-
 // Reads the first record, which must be a header.
 fn read_header(records: &mut Records, fields: &mut ByteRecord) -> Result<Columns, ScheduleFault>
-    ensures ok { IfOk result (λ columns. (header_of records.old ≡ Some columns) × (drop 1 records.old ≡ records.new)) }
-    ensures fault { IfErr result (λ e. (rules : RulesView) (opponents : ℕ) → IsScheduleFault rules opponents records.old e.row e.kind) }
+    ensures columns { Returns (λ columns. columns) result (header_of records.old) }
+    ensures rest { OnOk result (drop 1 records.old ≡ records.new) }
 {
     if records.read(fields)? {
         if let Some(columns) = read_columns(fields) {
             return Ok(columns);
         }
     }
-    Err(fault_at(0, ScheduleFaultKind::Header))
+    Err(at_row(0, ScheduleFaultKind::Header))
 }
 
 // Reads the header and the fights after it: at least 1, at most `MOST_FIGHTS`.
@@ -158,9 +143,8 @@ fn read_fights(
     opponents: u32,
     rules: &Rules,
 ) -> Result<Vec<Fight>, ScheduleFault>
-    ensures found { IfOk result (λ v. scheduled rules.now opponents (records_of bytes.now) ≡ Some v.items) }
+    ensures fights { Returns (λ v. v.items) result (scheduled rules.now opponents (records_of bytes.now)) }
     ensures few { IfOk result (λ v. (0 < length v.items) × (length v.items ≤ MOST_FIGHTS)) }
-    ensures fault { IfErr result (λ e. IsScheduleFault rules.now opponents (records_of bytes.now) e.row e.kind) }
 {
     let mut records = Records::new(alloc, bytes);
     let mut fields = ByteRecord::new(alloc);
@@ -168,15 +152,15 @@ fn read_fights(
     let mut fights = Vec::new(alloc);
     while records.read(&mut fields)? {
         if fights.len() == limits::MOST_FIGHTS {
-            return Err(fault_at(limits::MOST_FIGHTS as u64 + 1, ScheduleFaultKind::TooMany));
+            return Err(at_row(limits::MOST_FIGHTS as u64 + 1, ScheduleFaultKind::TooMany));
         }
         match read_fight(&fields, columns, opponents, rules) {
             Ok(fight) => fights.push(fight)?,
-            Err(kind) => return Err(fault_at(fights.len() as u64 + 1, kind)),
+            Err(kind) => return Err(at_row(fights.len() as u64 + 1, kind)),
         }
     }
     if fights.is_empty() {
-        return Err(fault_at(0, ScheduleFaultKind::Empty));
+        return Err(at_row(0, ScheduleFaultKind::Empty));
     }
     Ok(fights)
 }

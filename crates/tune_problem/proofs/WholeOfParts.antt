@@ -11,7 +11,8 @@ use Rattle.tune_problem.specs.Inputs.{InputsView, settings_of, warrior_of}
 use Rattle.tune_problem.proofs.PartSteps.{part_inside, part_len, part_get, whole_list}
 use Rattle.tune_problem.specs.Problem.{Problem, problem_of}
 use Rattle.tune_problem.specs.Optimum.{IsOptimum, HasTotal, total_of}
-use Rattle.tune_problem.specs.BestPart.{in_part, setting_count, first_setting, IsOutcome, AreOutcomes, IsBestPart}
+use Rattle.tune_template.specs.Instances.{setting_count}
+use Rattle.tune_problem.specs.BestPart.{in_part, first_setting, IsOutcome, AreOutcomes, IsBestPart}
 
 -- ---- where the parts are
 
@@ -52,21 +53,21 @@ same_first o w s v t a b = ap first (sym a ∙ b)
 
 -- ---- a setting of a part is one of the whole
 
-module _ (i : InputsView) (k : ℕ) (some : 1 ≤ k) (few : k ≤ setting_count i) where
+module _ (i : InputsView) (k : ℕ) (some : 1 ≤ k) (few : k ≤ setting_count i.template) where
   abbrev pub Whole : Problem
   Whole = problem_of (in_part i 1 1)
 
   abbrev pub Piece : ℕ → Problem
   Piece m = problem_of (in_part i m k)
 
-  is_part : (m : ℕ) → 1 ≤ m → m ≤ k → IsPart (part m k) (setting_count i)
+  is_part : (m : ℕ) → 1 ≤ m → m ≤ k → IsPart (part m k) (setting_count i.template)
   is_part m one within = record { some = one; within = within; few = few }
 
-  whole_count : Whole.count ≡ setting_count i
+  whole_count : Whole.count ≡ setting_count i.template
   unfolding settings_of
   whole_count = ap length (whole_list (vectors_of i.template.ranges.spans))
 
-  piece_count : (m : ℕ) → 1 ≤ m → m ≤ k → (Piece m).count ≡ part_end (part m k) (setting_count i) - first_setting i m k
+  piece_count : (m : ℕ) → 1 ≤ m → m ≤ k → (Piece m).count ≡ part_end (part m k) (setting_count i.template) - first_setting i m k
   unfolding settings_of
   piece_count m one within = part_len (part m k) (vectors_of i.template.ranges.spans) (is_part m one within)
 
@@ -92,7 +93,7 @@ module _ (i : InputsView) (k : ℕ) (some : 1 ≤ k) (few : k ≤ setting_count 
 
   in_part_of : (u : ℕ) (other : WarriorView) → u < Whole.count → Whole.warrior u ≡ Some other → InPart u other
   in_part_of u other inside c =
-      let found = in_a_part (setting_count i) k some u (omega (arith, inside, whole_count)) in
+      let found = in_a_part (setting_count i.template) k some u (omega (arith, inside, whole_count)) in
       let m = found.0 in
       let low = found.3 in
       let high = found.4 in
@@ -149,7 +150,7 @@ module _ (i : InputsView) (k : ℕ) (some : 1 ≤ k) (few : k ≤ setting_count 
       own_candidate : Whole.warrior (first_setting i j k + v) ≡ Some own.0.warrior
       own_candidate = sym (same_warrior j v best.some best.within own.0.inside) ∙ own.0.candidate
 
-      own_inside : first_setting i j k + v < part_end (part j k) (setting_count i)
+      own_inside : first_setting i j k + v < part_end (part j k) (setting_count i.template)
       own_inside =
           let low = own.0.inside in
           let count = piece_count j best.some best.within in
@@ -170,7 +171,7 @@ module _ (i : InputsView) (k : ℕ) (some : 1 ≤ k) (few : k ≤ setting_count 
           let same : w ≡ v = same_first (outcome m) w s v t out (ap outcome (sym e) ∙ here) in
           subst (λ n. first_setting i n k + v ≤ u) (sym e) (subst (λ n. first_setting i m k + n ≤ u) same after)
       behind u m w s (inr l) out after low =
-          let apart = ends_before (setting_count i) k some j m (omega (arith, l)) l in
+          let apart = ends_before (setting_count i.template) k some j m (omega (arith, l)) l in
           let inside = own_inside in
           omega (arith, apart, inside, low)
 
@@ -190,7 +191,7 @@ module _ (i : InputsView) (k : ℕ) (some : 1 ≤ k) (few : k ≤ setting_count 
       pub best_is_optimum : IsOptimum Whole (first_setting i j k + v)
       best_is_optimum = record {
         warrior = own.0.warrior;
-        inside = (let inside = own_inside in let end = part_inside (part j k) (setting_count i) (is_part j best.some best.within) in omega (arith, inside, end, whole_count));
+        inside = (let inside = own_inside in let end = part_inside (part j k) (setting_count i.template) (is_part j best.some best.within) in omega (arith, inside, end, whole_count));
         candidate = own_candidate;
         greatest = most;
         first = foremost;

@@ -1,6 +1,6 @@
 -- Tunings of parts, and what they say of the whole.
-use Rattle.std.specs.Prelude.{◌≡◌, ℕ, ◌<◌, ◌≤◌, Option, Some, None, length}
-use Rattle.tune_template.specs.Vectors.{vectors_of}
+use Rattle.std.specs.Prelude.{◌≡◌, ℕ, ◌<◌, ◌≤◌, Option, Some, None}
+use Rattle.tune_template.specs.Instances.{setting_count}
 use Rattle.tune_problem.specs.Parts.{part, part_first}
 use Rattle.tune_problem.specs.Inputs.{InputsView, with_part}
 use Rattle.tune_problem.specs.Problem.{Problem, problem_of}
@@ -10,13 +10,9 @@ use Rattle.tune_problem.specs.Optimum.{IsOptimum, HasTotal}
 abbrev pub in_part : InputsView → ℕ → ℕ → InputsView
 in_part i number parts = with_part i (part number parts)
 
--- The number of the template's settings.
-abbrev pub setting_count : InputsView → ℕ
-setting_count i = length (vectors_of i.template.ranges.spans)
-
 -- Where a part begins.
 abbrev pub first_setting : InputsView → ℕ → ℕ → ℕ
-first_setting i number parts = part_first (part number parts) (setting_count i)
+first_setting i number parts = part_first (part number parts) (setting_count i.template)
 
 -- How a tuning ends: with the optimum and its total, or without a candidate.
 abbrev pub IsOutcome : Problem → Option (ℕ × ℕ) → Type 0

@@ -6,7 +6,8 @@ ghost use Rattle.tune_problem.specs.Inputs.{InputsView};
 ghost use Rattle.tune_problem.specs.Problem.{Problem, IsProblem, problem_of};
 ghost use Rattle.tune_problem.specs.Optimum.{IsOptimum, HasTotal};
 ghost use Rattle.tune_problem.specs.Valid.{IsValid};
-ghost use Rattle.tune_problem.specs.BestPart.{in_part, setting_count, first_setting, IsOutcome, AreOutcomes, IsBestPart};
+ghost use Rattle.tune_template.specs.Instances.{setting_count};
+ghost use Rattle.tune_problem.specs.BestPart.{in_part, first_setting, IsOutcome, AreOutcomes, IsBestPart};
 
 use crate::cert::Cert;
 
@@ -34,10 +35,10 @@ pub fn a_valid_certificate_names_the_optimum()
 ///
 /// A setting's index in the whole is its index in its part, counted on from where the part begins.
 pub fn the_best_part_has_the_optimum()
-    ensures optimum { (i : InputsView) (parts : ℕ) (outcome : ℕ → Option (ℕ × ℕ)) (number best total : ℕ) → 1 ≤ parts → parts ≤ setting_count i
+    ensures optimum { (i : InputsView) (parts : ℕ) (outcome : ℕ → Option (ℕ × ℕ)) (number best total : ℕ) → 1 ≤ parts → parts ≤ setting_count i.template
         → AreOutcomes i parts outcome → IsBestPart parts outcome number best total
         → IsOutcome (problem_of (in_part i 1 1)) (Some (first_setting i number parts + best, total)) }
-    ensures none { (i : InputsView) (parts : ℕ) (outcome : ℕ → Option (ℕ × ℕ)) → 1 ≤ parts → parts ≤ setting_count i
+    ensures none { (i : InputsView) (parts : ℕ) (outcome : ℕ → Option (ℕ × ℕ)) → 1 ≤ parts → parts ≤ setting_count i.template
         → AreOutcomes i parts outcome → ((number : ℕ) → 1 ≤ number → number ≤ parts → outcome number ≡ None)
         → IsOutcome (problem_of (in_part i 1 1)) None }
 {}

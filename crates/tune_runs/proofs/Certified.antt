@@ -23,13 +23,14 @@ use Rattle.tune_runs.specs.Report.{report_text, report_for}
 use Rattle.tune_runs.specs.TuneRun.{Texts, Means, IsTuning, WritesTuning}
 use Rattle.tune_cert.specs.Verdict.{IsRightVerdict}
 use Rattle.tune_runs.specs.CheckRun.{accepts, check_line, WritesVerdict}
-use Rattle.tune_runs.proofs.Meaning.{one_meaning}
-use Rattle.tune_runs.proofs.Writable.{few_fights, most_points, writable}
+use Rattle.tune_runs.proofs.Meaning.{one_meaning, made_of}
+use Rattle.tune_runs.proofs.Writable.{most_points, writable}
+use Rattle.mars_fight.proofs.Listed.{listed}
 
 pub spelled : (t : Texts) (method : Method) (i : InputsView) (f : Found) → Means t i → IsSearch (problem_of i) method f → Spells (records_of (cert_text (cert_of f))) (cert_of f)
 spelled t method i f m s =
-    let most : greatest_of (problem_of i) ≤ MOST_TOTAL = subst (λ (n : ℕ). n ≤ MOST_TOTAL) (greatest_is i) (most_points _ _ _ i.schedule m.schedule) in
-    written (cert_of f) (writable (problem_of i) (inputs_problem i) (few_fights _ _ _ i.schedule m.schedule) most method f s)
+    let most : greatest_of (problem_of i) ≤ MOST_TOTAL = subst (λ (n : ℕ). n ≤ MOST_TOTAL) (greatest_is i) (most_points _ _ _ i.schedule (made_of t i m).schedule) in
+    written (cert_of f) (writable (problem_of i) (inputs_problem i) (listed _ _ _ i.schedule (made_of t i m).schedule).1 most method f s)
 
 pub accepted : (t : Texts) (method : Method) (i : InputsView) (f : Found) (v : Verdict) → Means t i → IsSearch (problem_of i) method f →
     IsRightVerdict (problem_of i) (records_of (cert_text (cert_of f))) v → v ≡ Accepted f.best f.total

@@ -1,15 +1,9 @@
-pub mod FightLoads
 pub mod Parting
-pub mod Refusals
 pub mod Repeats
-pub mod Opponents
 pub mod Constants
 pub mod Meaning
 pub mod Tunings
 pub mod Endings
-pub mod OneSetting
-pub mod Templates
-pub mod Duels
 pub mod Writable
 pub mod Certified
 pub mod AcceptedParts

@@ -1,39 +1,72 @@
--- The texts of a tuning have one meaning.
-use Rattle.std.proofs.Common.{◌≡◌, List, [], ◌∷◌, ℕ, refl, sym, ◌∙◌, ap}
-use Rattle.rc_instr.specs.Rules.{RulesView}
-use Rattle.rc_instr.specs.Warrior.{WarriorView}
-use Rattle.rc_asm.proofs.Outcomes.{one_warrior}
-use Rattle.tune_template.specs.Instances.{TemplateView}
+-- What the meaning of the texts of a tuning is made of.
+use Rattle.std.proofs.Common.{◌≡◌, ℕ, Bool, true, false, length, Ok, refl, sym, ◌∙◌, ap, subst}
+use Rattle.std.specs.Prelude.{◌&&◌, nat_le}
+use Rattle.std.proofs.lemmas.Bool.{and_parts}
+use borrow.Author.Tests.{le-leb}
+use Rattle.rc_instr.specs.Results.{with_fault, check}
+use Rattle.rc_instr.proofs.CheckSteps.{at_most}
+use Rattle.rc_asm.proofs.Outcomes.{went_on, ok_of}
+use Rattle.mars_fight.specs.Schedule.{schedule_of}
+use Rattle.tune_template.specs.Instances.{setting_count, template_of}
+use Rattle.tune_problem.specs.Limits.{MOST_OPPONENTS}
 use Rattle.tune_problem.specs.Inputs.{InputsView}
-use Rattle.tune_runs.specs.TuneRun.{Texts, IsTemplate, AreOpponents, Means}
-
--- a text is one template
-pub template_one : (text : List ℕ) (a b : TemplateView) → IsTemplate text a → IsTemplate text b → a ≡ b
-template_one text a b p q =
-    let ranges_same : a.ranges ≡ b.ranges = cc in
-    ap (λ x. record { text = x; ranges = a.ranges }) (p.0 ∙ sym q.0) ∙ ap (λ y. record { text = b.text; ranges = y }) ranges_same
-
-opponents_one : (rules : RulesView) (texts : List (List ℕ)) (us vs : List WarriorView) → AreOpponents rules texts us → AreOpponents rules texts vs → us ≡ vs
-opponents_one rules [] [] [] a b = refl
-opponents_one rules [] [] (v ∷ vs) a b = absurd b
-opponents_one rules [] (u ∷ us) vs a b = absurd a
-opponents_one rules (t ∷ ts) [] vs a b = absurd a
-opponents_one rules (t ∷ ts) (u ∷ us) [] a b = absurd b
-opponents_one rules (t ∷ ts) (u ∷ us) (v ∷ vs) a b =
-    let first : u ≡ v = one_warrior t [] rules u v a.0 b.0 in
-    let rest : us ≡ vs = opponents_one rules ts us vs a.1 b.1 in
-    ap (λ x. x ∷ us) first ∙ ap (λ xs. v ∷ xs) rest
+use Rattle.tune_problem.specs.Parts.{IsPart}
+use Rattle.tune_problem.specs.declared.part.Part.{Part}
+use Rattle.tune_runs.specs.Runs.{template_fault, schedule_fault}
+use Rattle.tune_runs.specs.TuneRun.{Texts, opponents_from, is_part, meaning_of, Means}
+use Rattle.tune_runs.specs.declared.fault.RunFault.TheVariants.{TooManyOpponents, Part as BadPart}
 
 pub one_meaning : (t : Texts) (i j : InputsView) → Means t i → Means t j → i ≡ j
-one_meaning t i j m n =
-    let template : i.template ≡ j.template = template_one t.template i.template j.template m.template n.template in
-    let opponents : i.opponents ≡ j.opponents = opponents_one t.rules t.opponents i.opponents j.opponents m.opponents n.opponents in
-    let fights = sym m.schedule ∙ n.schedule in
-    let schedule : i.schedule ≡ j.schedule = cc in
-    let rules : i.rules ≡ j.rules = m.rules ∙ sym n.rules in
-    let part : i.part ≡ j.part = m.part ∙ sym n.part in
-    ap (λ x. record { template = x; opponents = i.opponents; schedule = i.schedule; rules = i.rules; part = i.part }) template
-    ∙ ap (λ x. record { template = j.template; opponents = x; schedule = i.schedule; rules = i.rules; part = i.part }) opponents
-    ∙ ap (λ x. record { template = j.template; opponents = j.opponents; schedule = x; rules = i.rules; part = i.part }) schedule
-    ∙ ap (λ x. record { template = j.template; opponents = j.opponents; schedule = j.schedule; rules = x; part = i.part }) rules
-    ∙ ap (λ x. record { template = j.template; opponents = j.opponents; schedule = j.schedule; rules = j.rules; part = x }) part
+one_meaning t i j m n = let same = sym m ∙ n in cc
+
+-- a test that was passed
+passed : {E : Type 0} (b : Bool) (e : E) → check b e ≡ Ok tt → b ≡ true
+passed true e h = refl
+passed false e h = absurd (cc)
+
+-- a part is one of those that the test lets through
+pub part_passes : (p : Part) (count : ℕ) → IsPart p count → is_part p count ≡ true
+part_passes p count h = rw (le-leb 1 p.number h.some, le-leb p.number p.parts h.within, le-leb p.parts count h.few) refl
+
+pub is_a_part : (p : Part) (count : ℕ) → is_part p count ≡ true → IsPart p count
+is_a_part p count e =
+    let one = and_parts (nat_le 1 p.number) (nat_le p.number p.parts && nat_le p.parts count) e in
+    let two = and_parts (nat_le p.number p.parts) (nat_le p.parts count) one.1 in
+    record { some = at_most _ _ one.0; within = at_most _ _ two.0; few = at_most _ _ two.1 }
+
+-- each step of the meaning of texts
+pub record IsMadeOf (t : Texts) (i : InputsView) : Type 0 where
+  pub few : nat_le (length t.opponents) MOST_OPPONENTS ≡ true
+  pub template : template_of t.template ≡ Ok i.template
+  pub opponents : opponents_from t.rules 0 t.opponents ≡ Ok i.opponents
+  pub schedule : schedule_of t.rules (length t.opponents) t.schedule ≡ Ok i.schedule
+  pub parted : IsPart t.part (setting_count i.template)
+  pub rules : i.rules ≡ t.rules
+  pub part : i.part ≡ t.part
+
+pub made_of : (t : Texts) (i : InputsView) → Means t i → IsMadeOf t i
+unfolding meaning_of
+made_of t i m =
+    let n = went_on (check (nat_le (length t.opponents) MOST_OPPONENTS) TooManyOpponents) _ i m in
+    let x = went_on (with_fault template_fault (template_of t.template)) _ i n.2 in
+    let o = went_on (opponents_from t.rules 0 t.opponents) _ i x.2 in
+    let s = went_on (with_fault schedule_fault (schedule_of t.rules (length t.opponents) t.schedule)) _ i o.2 in
+    let p = went_on (check (is_part t.part (setting_count x.0)) BadPart) _ i s.2 in
+    let same : record { template = x.0; opponents = o.0; schedule = s.0; rules = t.rules; part = t.part } ≡ i = let q = p.2 in cc in
+    subst (IsMadeOf t) same (record {
+      few = passed _ TooManyOpponents n.1;
+      template = ok_of template_fault (template_of t.template) x.0 x.1;
+      opponents = o.1;
+      schedule = ok_of schedule_fault (schedule_of t.rules (length t.opponents) t.schedule) s.0 s.1;
+      parted = is_a_part t.part (setting_count x.0) (passed _ BadPart p.1);
+      rules = refl;
+      part = refl;
+    })
+
+pub means : (t : Texts) (i : InputsView) → IsMadeOf t i → Means t i
+unfolding meaning_of
+means t i m =
+    let p = part_passes t.part (setting_count i.template) m.parted in
+    rw (m.few, m.template, m.opponents, m.schedule, p)
+    (ap (λ x. Ok (record { template = i.template; opponents = i.opponents; schedule = i.schedule; rules = x; part = t.part })) (sym m.rules)
+    ∙ ap (λ x. Ok (record { template = i.template; opponents = i.opponents; schedule = i.schedule; rules = i.rules; part = x })) (sym m.part))

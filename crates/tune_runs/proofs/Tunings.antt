@@ -1,154 +1,135 @@
--- Tunings that are refused.
-use Rattle.std.proofs.Common.{◌≡◌, ◌≢◌, ◌⊎◌, ℕ, zero, suc, ◌<◌, ◌≤◌, List, [], ◌∷◌, Some, None, length, slice_get, inr, refl, sym, Result, Ok, Err, IfErr, ◌∙◌, ap, subst, arith}
+-- Every template has a part 1 of 1.
+use Rattle.std.proofs.Common.{◌≡◌, ◌≢◌, ◌⊎◌, ◌<◌, ◌+◌, ℕ, Bool, true, false, List, [], ◌∷◌, length, inl, inr, refl, sym, Result, Ok, Err, IfErr, ◌∙◌, ap, subst, arith}
+use Rattle.std.specs.Prelude.{nat_le}
+use Rattle.rc_instr.specs.Results.{with_fault, and_then, check}
+use Rattle.rc_instr.specs.Outlet.{OutletView}
 use Rattle.rc_instr.specs.Rules.{RulesView}
-use Rattle.rc_instr.specs.Warrior.{WarriorView}
-use Rattle.rc_asm.specs.Assembly.{Assembles}
-use Rattle.mars_fight.specs.Schedule.{fights_of}
-use Rattle.mars_fight.specs.declared.fight.Fight.{Fight}
-use Rattle.tune_problem.specs.Limits.{MOST_OPPONENTS}
-use Rattle.tune_problem.specs.declared.part.Part.{Part}
-use Rattle.tune_problem.specs.Parts.{whole, IsPart}
+use Rattle.rc_asm.specs.Assembly.{outcome_of}
+use Rattle.rc_asm.specs.declared.fault.AsmKind.{AsmKind}
+use Rattle.rc_asm.specs.declared.fault.AsmKind.TheVariants as asm
+use Rattle.rc_asm.proofs.Outcomes.{ok_of}
+use Rattle.mars_fight.specs.Schedule.{schedule_of}
+use Rattle.mars_fight.specs.declared.fault.ScheduleFaultKind.{ScheduleFaultKind}
+use Rattle.mars_fight.specs.declared.fault.ScheduleFaultKind.TheVariants as schedule
+use Rattle.tune_template.specs.declared.fault.TemplateFault.{TemplateFault}
+use Rattle.tune_template.specs.declared.fault.TemplateKind.{TemplateKind}
+use Rattle.tune_template.specs.declared.fault.TemplateKind.TheVariants as template
+use Rattle.tune_template.specs.Ranges.{Ranges, ranges_of}
+use Rattle.tune_template.specs.Instances.{TemplateView, setting_count, template_of}
 use Rattle.tune_template.proofs.RangeLaws.{some_setting}
-use Rattle.tune_template.specs.Instances.{TemplateView}
-use Rattle.tune_problem.specs.Inputs.{InputsView}
-use Rattle.tune_problem.specs.Optimum.{IsCandidate}
-use Rattle.tune_problem.specs.Problem.{Problem, problem_of}
-use Rattle.tune_problem.specs.declared.cert.Found.{Found}
-use Rattle.tune_search.specs.declared.fault.SearchFault.{SearchFault}
-use Rattle.tune_search.specs.declared.fault.SearchFault.TheVariants.{NoCandidate as NoneFound}
-use Rattle.tune_runs.specs.TuneRun.{Texts, setting_count, IsTemplate, AreOpponents, Means, HasNoCandidate, IsTemplateRefusal, AreRefused, HasNoFights, IsTuneRefusal}
+use Rattle.tune_problem.specs.Limits.{MOST_OPPONENTS}
+use Rattle.tune_problem.specs.Parts.{whole, IsPart}
+use Rattle.tune_problem.specs.declared.part.Part.{Part}
+use Rattle.tune_runs.specs.Runs.{opponent_fault, template_fault, schedule_fault, IsMemory}
+use Rattle.tune_runs.specs.TuneRun.{Texts, opponents_from, is_part, meaning_of, HasNoCandidate}
 use Rattle.tune_runs.specs.declared.fault.RunFault.{RunFault}
-use Rattle.tune_runs.proofs.Meaning.{template_one, one_meaning}
-use Rattle.tune_runs.specs.declared.fault.RunFault.TheVariants.{FightText, Rules, Load, Position, Asm, TooManyOpponents, Template, Opponent, Schedule, NoCandidate, Write, OutOfMemory, Part as BadPart, NoSuchSetting}
+use Rattle.tune_runs.specs.declared.fault.RunFault.TheVariants.{TooManyOpponents, NoCandidate, Write, OutOfMemory, Part as BadPart}
+use Rattle.tune_runs.proofs.Meaning.{part_passes}
 
-pub template_refused : (e : RunFault) (t : Texts) → length t.opponents ≤ MOST_OPPONENTS → IsTemplateRefusal e t.template → IsTuneRefusal e t
-template_refused (FightText line) t few r = absurd r
-template_refused (Rules error) t few r = absurd r
-template_refused (Load side fault) t few r = absurd r
-template_refused Position t few r = absurd r
-template_refused (Asm fault) t few r = absurd r
-template_refused TooManyOpponents t few r = absurd r
-template_refused (Template fault) t few r = (few, r)
-template_refused (NoSuchSetting index) t few r = absurd r
-template_refused (Opponent index fault) t few r = absurd r
-template_refused (Schedule fault) t few r = absurd r
-template_refused NoCandidate t few r = absurd r
-template_refused Write t few r = absurd r
-template_refused OutOfMemory t few r = tt
-template_refused BadPart t few r = absurd r
+-- a chain with a fault has it in its first step, or after a value
+went_wrong : {A B E : Type 0} (r : Result A E) (f : A → Result B E) (e : E) → and_then f r ≡ Err e → (r ≡ Err e) ⊎ ((x : A) × (r ≡ Ok x) × (f x ≡ Err e))
+went_wrong (Ok x) f e h = inr (x, refl, h)
+went_wrong (Err q) f e h = let same : q ≡ e = cc in inl (ap Err same)
 
-pub opponents_refused : (e : RunFault) (t : Texts) (view : TemplateView) → length t.opponents ≤ MOST_OPPONENTS → IsTemplate t.template view
-    → AreRefused e t.rules t.opponents → IsTuneRefusal e t
-opponents_refused (FightText line) t view few is r = absurd r
-opponents_refused (Rules error) t view few is r = absurd r
-opponents_refused (Load side fault) t view few is r = absurd r
-opponents_refused Position t view few is r = absurd r
-opponents_refused (Asm fault) t view few is r = absurd r
-opponents_refused TooManyOpponents t view few is r = absurd r
-opponents_refused (Template fault) t view few is r = absurd r
-opponents_refused (NoSuchSetting index) t view few is r = absurd r
-opponents_refused (Opponent index fault) t view few is r = (view, few, is, r)
-opponents_refused (Schedule fault) t view few is r = absurd r
-opponents_refused NoCandidate t view few is r = absurd r
-opponents_refused Write t view few is r = absurd r
-opponents_refused OutOfMemory t view few is r = tt
-opponents_refused BadPart t view few is r = absurd r
+-- no fault of a template is BadPart
+of_template : (line : ℕ) (kind : TemplateKind) → template_fault (record { line = line; kind = kind }) ≡ BadPart → ⊥
+of_template line template.BadLine e = cc
+of_template line template.DuplicateName e = cc
+of_template line template.ReservedName e = cc
+of_template line template.EmptyRange e = cc
+of_template line template.StartOutside e = cc
+of_template line template.TooManyConstants e = cc
+of_template line template.TooManyVectors e = cc
+of_template line template.TextTooLong e = cc
+of_template line template.OutOfMemory e = cc
 
-pub schedule_refused : (e : RunFault) (t : Texts) (view : TemplateView) (opponents : List WarriorView) → length t.opponents ≤ MOST_OPPONENTS → IsTemplate t.template view
-    → AreOpponents t.rules t.opponents opponents → HasNoFights e t.rules (length t.opponents) t.schedule → IsTuneRefusal e t
-schedule_refused (FightText line) t view opponents few is are r = absurd r
-schedule_refused (Rules error) t view opponents few is are r = absurd r
-schedule_refused (Load side fault) t view opponents few is are r = absurd r
-schedule_refused Position t view opponents few is are r = absurd r
-schedule_refused (Asm fault) t view opponents few is are r = absurd r
-schedule_refused TooManyOpponents t view opponents few is are r = absurd r
-schedule_refused (Template fault) t view opponents few is are r = absurd r
-schedule_refused (NoSuchSetting index) t view opponents few is are r = absurd r
-schedule_refused (Opponent index fault) t view opponents few is are r = absurd r
-schedule_refused (Schedule fault) t view opponents few is are r = (view, opponents, few, is, are, r)
-schedule_refused NoCandidate t view opponents few is are r = absurd r
-schedule_refused Write t view opponents few is are r = absurd r
-schedule_refused OutOfMemory t view opponents few is are r = tt
-schedule_refused BadPart t view opponents few is are r = absurd r
+of_schedule : (row : ℕ) (kind : ScheduleFaultKind) → schedule_fault (record { row = row; kind = kind }) ≡ BadPart → ⊥
+of_schedule row schedule.Header e = cc
+of_schedule row schedule.FieldCount e = cc
+of_schedule row schedule.BadNumber e = cc
+of_schedule row schedule.NoSuchOpponent e = cc
+of_schedule row schedule.BadPosition e = cc
+of_schedule row schedule.BadFirst e = cc
+of_schedule row schedule.Empty e = cc
+of_schedule row schedule.TooMany e = cc
+of_schedule row schedule.OutOfMemory e = cc
+of_schedule row schedule.BadWeight e = cc
 
-pub part_refused : (t : Texts) (view : TemplateView) (opponents : List WarriorView) (schedule : List Fight) → length t.opponents ≤ MOST_OPPONENTS → IsTemplate t.template view
-    → AreOpponents t.rules t.opponents opponents → fights_of t.rules (length t.opponents) t.schedule ≡ Some schedule → (IsPart t.part (setting_count view) → ⊥)
-    → IsTuneRefusal BadPart t
-part_refused t view opponents schedule few is are read bad = (view, opponents, schedule, few, is, are, read, bad)
+of_opponent : (index line : ℕ) (kind : AsmKind) → opponent_fault index (record { line = line; kind = kind }) ≡ BadPart → ⊥
+of_opponent index line (asm.Expand k) e = cc
+of_opponent index line asm.UnknownOpcode e = cc
+of_opponent index line asm.MissingOperand e = cc
+of_opponent index line asm.ExtraText e = cc
+of_opponent index line (asm.Value f) e = cc
+of_opponent index line asm.AssertFailed e = cc
+of_opponent index line (asm.Warrior w) e = cc
+of_opponent index line asm.TextTooLong e = cc
+of_opponent index line asm.OutOfMemory e = cc
 
--- each of the texts assembles
-opponent_assembles : (rules : RulesView) (texts : List (List ℕ)) (ws : List WarriorView) (k : ℕ) (text : List ℕ) → AreOpponents rules texts ws
-    → slice_get texts k ≡ Some text → (w : WarriorView) × Assembles text [] rules w
-opponent_assembles rules [] ws k text are at = absurd (cc)
-opponent_assembles rules (x ∷ xs) [] k text are at = absurd are
-opponent_assembles rules (x ∷ xs) (w ∷ ws) zero text are at = let e : x ≡ text = cc in (w, subst (λ y. Assembles y [] rules w) e are.0)
-opponent_assembles rules (x ∷ xs) (w ∷ ws) (suc k) text are at = opponent_assembles rules xs ws k text are.1 at
+wraps : {A E : Type 0} (wrap : E → RunFault) (r : Result A E) → ((f : E) → wrap f ≡ BadPart → ⊥) → with_fault wrap r ≡ Err BadPart → ⊥
+wraps wrap (Ok x) other h = cc
+wraps wrap (Err f) other h = other f (let same : wrap f ≡ BadPart = cc in same)
 
--- no other inputs have a candidate, where these have none
-no_candidate : (t : Texts) (i j : InputsView) (v : ℕ) → Means t i → Means t j → HasNoCandidate j → v < (problem_of i).count → IsCandidate (problem_of i) v → ⊥
-no_candidate t i j v m n none inside c =
-    let same : i ≡ j = one_meaning t i j m n in
-    let within : v < (problem_of j).count = subst (λ x. v < (problem_of x).count) same inside in
-    let found : None ≡ Some c.0 = sym (none v within) ∙ (ap (λ x. (problem_of x).warrior v) (sym same) ∙ c.1) in
-    cc
+of_opponents : (rules : RulesView) (index : ℕ) (texts : List (List ℕ)) → opponents_from rules index texts ≡ Err BadPart → ⊥
+of_opponents rules index [] h = cc
+of_opponents rules index (text ∷ texts) h = elim (went_wrong (with_fault (opponent_fault index) (outcome_of text [] rules)) _ BadPart h) [
+  | inl one ↦ wraps (opponent_fault index) (outcome_of text [] rules) (λ f e. of_opponent index f.line f.kind e) one
+  | inr more ↦ elim (went_wrong (opponents_from rules (index + 1) texts) _ BadPart more.2) [
+    | inl others ↦ of_opponents rules (index + 1) texts others
+    | inr none ↦ let q = none.2 in cc
+  ]
+]
 
--- if a search ends with NoCandidate, no setting has a warrior
-pub none_found : (p : Problem) (r : Result Found SearchFault) (e : SearchFault) → r ≡ Err e → e ≡ NoneFound
-    → IfErr r (λ x. x ≡ NoneFound → (v : ℕ) → v < p.count → p.warrior v ≡ None) → (v : ℕ) → v < p.count → p.warrior v ≡ None
-none_found p r e is same none = subst (λ (x : Result Found SearchFault). IfErr x (λ y. y ≡ NoneFound → (v : ℕ) → v < p.count → p.warrior v ≡ None)) is none same
+too_many : (b : Bool) → check b TooManyOpponents ≡ Err BadPart → ⊥
+too_many true h = cc
+too_many false h = cc
 
--- the part that a meaning has is one of the template's
-not_parted : (t : Texts) (i : InputsView) (view : TemplateView) → Means t i → IsTemplate t.template view → (IsPart t.part (setting_count view) → ⊥) → ⊥
-not_parted t i view m is bad =
-    let same : i.template ≡ view = template_one t.template i.template view m.template is in
-    bad (subst (λ x. IsPart t.part (setting_count x)) same m.parted)
+-- part 1 of 1 is a part of any settings
+whole_passes : (p : Part) (count : ℕ) → p ≡ whole → 0 < count → is_part p count ≡ true
+whole_passes p count is some = part_passes p count (subst (λ (q : Part). IsPart q count) (sym is) (record { some = omega arith; within = omega arith; few = omega (arith, some) }))
 
--- texts that have a meaning and a candidate are refused for want of memory alone
-pub refused_means : (e : RunFault) (t : Texts) (i : InputsView) (v : ℕ) → IsTuneRefusal e t → Means t i → v < (problem_of i).count
-    → IsCandidate (problem_of i) v → (e ≡ Write) ⊎ (e ≡ OutOfMemory)
-refused_means (FightText line) t i v r m inside c = absurd r
-refused_means (Rules error) t i v r m inside c = absurd r
-refused_means (Load side fault) t i v r m inside c = absurd r
-refused_means Position t i v r m inside c = absurd r
-refused_means (Asm fault) t i v r m inside c = absurd r
-refused_means TooManyOpponents t i v r m inside c = let few = m.few in absurd (omega arith)
-refused_means (Template fault) t i v (few, (known, wrong)) m inside c = let read = m.template.1 in absurd (cc)
-refused_means (NoSuchSetting index) t i v r m inside c = absurd r
-refused_means (Opponent index fault) t i v (view, few, is, (before, text, are, at, (known, none, first))) m inside c =
-    let a = opponent_assembles t.rules t.opponents i.opponents index text m.opponents at in absurd (none a.0 a.1)
-refused_means (Schedule fault) t i v (view, opponents, few, is, are, (known, none, true)) m inside c = let read = m.schedule in absurd (cc)
-refused_means NoCandidate t i v r m inside c = absurd (no_candidate t i r.0 v m r.1 r.2 inside c)
-refused_means Write t i v r m inside c = absurd r
-refused_means OutOfMemory t i v r m inside c = inr refl
-refused_means BadPart t i v (view, opponents, schedule, few, is, are, read, bad) m inside c = absurd (not_parted t i view m is bad)
+some_settings : (text : List ℕ) (t : TemplateView) → template_of text ≡ Ok t → 0 < setting_count t
+some_settings text t e = by_ranges (ranges_of text) refl e where
+  by_ranges : (r : Result Ranges TemplateFault) → ranges_of text ≡ r → and_then (λ x. Ok (record { text = text; ranges = x })) r ≡ Ok t → 0 < setting_count t
+  by_ranges (Err f) is h = absurd (cc)
+  by_ranges (Ok r) is h =
+      let same : record { text = text; ranges = r } ≡ t = cc in
+      subst (λ (x : TemplateView). 0 < setting_count x) same (some_setting text r is)
 
--- texts that have a meaning are refused for want of memory, or as a template without a candidate
-pub refused_inputs : (e : RunFault) (t : Texts) (i : InputsView) → IsTuneRefusal e t → (e ≡ NoCandidate → ⊥) → Means t i → (e ≡ Write) ⊎ (e ≡ OutOfMemory)
-refused_inputs (FightText line) t i r some m = absurd r
-refused_inputs (Rules error) t i r some m = absurd r
-refused_inputs (Load side fault) t i r some m = absurd r
-refused_inputs Position t i r some m = absurd r
-refused_inputs (Asm fault) t i r some m = absurd r
-refused_inputs TooManyOpponents t i r some m = let few = m.few in absurd (omega arith)
-refused_inputs (Template fault) t i (few, (known, wrong)) some m = let read = m.template.1 in absurd (cc)
-refused_inputs (NoSuchSetting index) t i r some m = absurd r
-refused_inputs (Opponent index fault) t i (view, few, is, (before, text, are, at, (known, none, first))) some m =
-    let a = opponent_assembles t.rules t.opponents i.opponents index text m.opponents at in absurd (none a.0 a.1)
-refused_inputs (Schedule fault) t i (view, opponents, few, is, are, (known, none, true)) some m = let read = m.schedule in absurd (cc)
-refused_inputs NoCandidate t i r some m = absurd (some refl)
-refused_inputs Write t i r some m = absurd r
-refused_inputs OutOfMemory t i r some m = inr refl
-refused_inputs BadPart t i (view, opponents, schedule, few, is, are, read, bad) some m = absurd (not_parted t i view m is bad)
+whole_parted : (t : Texts) → t.part ≡ whole → meaning_of t ≡ Err BadPart → ⊥
+unfolding meaning_of
+whole_parted t is h = elim (went_wrong (check (nat_le (length t.opponents) MOST_OPPONENTS) TooManyOpponents) _ BadPart h) [
+  | inl a ↦ too_many _ a
+  | inr n ↦ elim (went_wrong (with_fault template_fault (template_of t.template)) _ BadPart n.2) [
+    | inl a ↦ wraps template_fault (template_of t.template) (λ f e. of_template f.line f.kind e) a
+    | inr x ↦ elim (went_wrong (opponents_from t.rules 0 t.opponents) _ BadPart x.2) [
+      | inl a ↦ of_opponents t.rules 0 t.opponents a
+      | inr o ↦ elim (went_wrong (with_fault schedule_fault (schedule_of t.rules (length t.opponents) t.schedule)) _ BadPart o.2) [
+        | inl a ↦ wraps schedule_fault (schedule_of t.rules (length t.opponents) t.schedule) (λ f e. of_schedule f.row f.kind e) a
+        | inr s ↦
+            let yes = whole_passes t.part (setting_count x.0) is (some_settings t.template x.0 (ok_of template_fault (template_of t.template) x.0 x.1)) in
+            let p = rw yes at s.2 in
+            cc
+      ]
+    ]
+  ]
+]
 
--- every template has a part 1 of 1
-whole_parted : (t : Texts) → t.part ≡ whole → IsTuneRefusal BadPart t → ⊥
-whole_parted t is (view, opponents, schedule, few, tem, are, read, bad) =
-    let some : 0 < setting_count view = some_setting t.template view.ranges tem.1 in
-    bad (subst (λ (p : Part). IsPart p (setting_count view)) (sym is) (record { some = omega arith; within = omega arith; few = omega arith }))
-
-pub never_unparted : {X : Type 0} (Says : RunFault → Type 0) (r : Result X RunFault) (t : Texts) → t.part ≡ whole → ((e : RunFault) → Says e → IsTuneRefusal e t)
-    → IfErr r (λ e. e ≢ Write → Says e) → IfErr r (λ e. e ≢ BadPart)
-never_unparted Says (Ok x) t is says h = tt
-never_unparted Says (Err e) t is says h = λ same.
+not_part : (e : RunFault) (t : Texts) → t.part ≡ whole → (e ≢ Write → (¬ IsMemory e) → (meaning_of t ≡ Err e) ⊎ ((e ≡ NoCandidate) × HasNoCandidate t)) → e ≢ BadPart
+not_part e t is says = λ same.
     let other : e ≢ Write = (λ w. let q : BadPart ≡ Write = sym same ∙ w in cc) in
-    whole_parted t is (subst (λ (x : RunFault). IsTuneRefusal x t) same (says e (h other)))
+    let known : e ≢ OutOfMemory = (λ w. let q : BadPart ≡ OutOfMemory = sym same ∙ w in cc) in
+    elim (says other known) [
+      | inl a ↦ whole_parted t is (a ∙ ap (λ f. Err f) same)
+      | inr b ↦ let q : BadPart ≡ NoCandidate = sym same ∙ b.0 in cc
+    ]
+
+pub tuning_parted : {X : Type 0} (r : Result X RunFault) (t : Texts) → t.part ≡ whole
+    → IfErr r (λ e. e ≢ Write → (¬ IsMemory e) → (meaning_of t ≡ Err e) ⊎ ((e ≡ NoCandidate) × HasNoCandidate t)) → IfErr r (λ e. e ≢ BadPart)
+tuning_parted (Ok x) t is h = tt
+tuning_parted (Err e) t is h = not_part e t is h
+
+pub check_parted : {X : Type 0} (r : Result X RunFault) (t : Texts) (old new : OutletView) → t.part ≡ whole
+    → IfErr r (λ e. e ≢ Write → (new ≡ old) × ((¬ IsMemory e) → meaning_of t ≡ Err e)) → IfErr r (λ e. e ≢ BadPart)
+check_parted (Ok x) t old new is h = tt
+check_parted (Err e) t old new is h = not_part e t is (λ other known. inl ((h other).1 known))

@@ -1,18 +1,15 @@
 -- What a search found can be written down as a certificate.
-use Rattle.std.proofs.Common.{◌≡◌, ℕ, suc, ◌+◌, ◌*◌, ◌^◌, ◌<◌, ◌≤◌, arith, Bool, true, false, ◌&&◌, nat_lt, if◌then◌else◌, List, [], ◌∷◌, Option, Some, None, All, length, drop, refl, sym, subst, inl, inr}
-use Rattle.std.specs.Prelude.{nat_le, option_and_then}
+use Rattle.std.proofs.Common.{◌≡◌, ℕ, suc, ◌+◌, ◌*◌, ◌^◌, ◌<◌, ◌≤◌, arith, List, [], ◌∷◌, Some, Ok, All, length, refl, sym, subst, inl, inr}
 use Rattle.std.specs.List.{slice_get, sum_by}
 use Rattle.std.proofs.lemmas.List.Sums.{sum_by-le}
-use Rattle.std.proofs.lemmas.Bool.Decides.{nat_tests}
 use Rattle.std.proofs.lemmas.List.Elements.{All-nil, All-cons}
 use Rattle.rc_instr.specs.Rules.{RulesView}
 use Rattle.rc_instr.specs.Warrior.{WarriorView}
 use Rattle.mars_fight.specs.Limits.{MOST_FIGHTS, MOST_TOTAL, MOST_WEIGHT}
 use Rattle.mars_fight.specs.Play.{ArePoints}
-use Rattle.tables.specs.Records.{records_of}
-use Rattle.mars_fight.specs.Schedule.{header_of, fights_in, fights_under, within_limit, fights_of}
-use Rattle.mars_fight.specs.Listed.{IsFight, greatest_total}
-use Rattle.mars_fight.proofs.Listed.{scheduled_fights}
+use Rattle.mars_fight.specs.Schedule.{schedule_of}
+use Rattle.mars_fight.specs.Listed.{greatest_total}
+use Rattle.mars_fight.proofs.Listed.{listed}
 use Rattle.mars_fight.specs.declared.fight.Fight.{Fight}
 use Rattle.tune_template.specs.Limits.{MOST_SETTINGS}
 use Rattle.tune_problem.specs.Problem.{Problem, IsProblem}
@@ -26,42 +23,14 @@ use Rattle.tune_problem.proofs.CapRows.{total_few}
 use Rattle.tune_search.specs.Found.{IsSearch}
 use Rattle.tune_search.specs.declared.method.Method.{Method}
 
--- a schedule has at most `MOST_FIGHTS` fights
-kept : (b : Bool) (x y : List Fight) → (if b then Some x else None) ≡ Some y → (b ≡ true) × (x ≡ y)
-kept true x y e = (refl, cc)
-kept false x y e = absurd (cc)
-
-limited : (x y : List Fight) → within_limit x ≡ Some y → length y ≤ MOST_FIGHTS
-limited x y e =
-    let k = kept (nat_lt 0 (length x) && nat_le (length x) MOST_FIGHTS) x y e in
-    let few : length x ≤ MOST_FIGHTS = grind (arith, nat_tests, k.0) in
-    subst (λ (l : List Fight). length l ≤ MOST_FIGHTS) k.1 few
-
-limited_of : (o : Option (List Fight)) (y : List Fight) → option_and_then within_limit o ≡ Some y → length y ≤ MOST_FIGHTS
-limited_of None y e = absurd (cc)
-limited_of (Some x) y e = limited x y e
-
--- fights under a header, whatever it says of the columns
-by_header : {K : Type 0} (under : Option K → Option (List Fight)) (header : Option K) (y : List Fight) → (under None ≡ Some y → length y ≤ MOST_FIGHTS)
-    → ((columns : K) → under (Some columns) ≡ Some y → length y ≤ MOST_FIGHTS) → under header ≡ Some y → length y ≤ MOST_FIGHTS
-by_header under None y none some e = none e
-by_header under (Some columns) y none some e = some columns e
-
-pub few_fights : (rules : RulesView) (opponents : ℕ) (bytes : List ℕ) (fights : List Fight) → fights_of rules opponents bytes ≡ Some fights → length fights ≤ MOST_FIGHTS
-unfolding fights_of
-few_fights rules opponents bytes fights e =
-    by_header (λ header. fights_under rules opponents header (drop 1 (records_of bytes))) (header_of (records_of bytes)) fights (λ none. absurd (cc))
-    (λ columns some. limited_of (fights_in rules opponents columns (drop 1 (records_of bytes))) fights some) e
-
 -- the fights of a schedule cannot give more than `MOST_TOTAL`
-pub most_points : (rules : RulesView) (opponents : ℕ) (bytes : List ℕ) (fights : List Fight) → fights_of rules opponents bytes ≡ Some fights → greatest_total fights ≤ MOST_TOTAL
-unfolding fights_of greatest_total
+pub most_points : (rules : RulesView) (opponents : ℕ) (bytes : List ℕ) (fights : List Fight) → schedule_of rules opponents bytes ≡ Ok fights → greatest_total fights ≤ MOST_TOTAL
+unfolding greatest_total
 most_points rules opponents bytes fights e =
-    let all : All (IsFight rules opponents) fights = scheduled_fights rules opponents (records_of bytes) fights e in
-    let few : length fights ≤ MOST_FIGHTS = few_fights rules opponents bytes fights e in
+    let of_schedule = listed rules opponents bytes fights e in
     let most : sum_by (λ (f : Fight). 3 * f.weight) fights ≤ length fights * (3 * MOST_WEIGHT) =
-    sum_by-le (λ (f : Fight). 3 * f.weight) (3 * MOST_WEIGHT) fights (λ k d l. let h = all k d l in omega (arith, h.weight.most)) in
-    omega (arith, few, most)
+    sum_by-le (λ (f : Fight). 3 * f.weight) (3 * MOST_WEIGHT) fights (λ k d l. let h = of_schedule.0 k d l in omega (arith, h.weight.most)) in
+    omega (arith, of_schedule.1, most)
 
 -- a version that a search writes can be written down
 is_version : (p : Problem) (version : ℕ) → IsOwnVersion p version → IsVersion version

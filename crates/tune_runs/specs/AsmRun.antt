@@ -1,24 +1,23 @@
--- What the run of an assembly writes, and why it refuses.
-use Rattle.std.specs.Prelude.{◌≡◌, ◌≢◌, Err, ℕ, List, [], Option}
-use Rattle.std.specs.Io.KnownBytes.{Appends}
+-- What the run of an assembly writes, or why it refuses.
+use Rattle.std.specs.Prelude.{ℕ, List, [], Option, Result, Ok}
+use Rattle.rc_instr.specs.Results.{with_fault, ◌>>=◌}
 use Rattle.rc_instr.specs.Rules.{RulesView}
 use Rattle.rc_instr.specs.Warrior.{WarriorView}
 use Rattle.rc_instr.specs.LoadText.{load_text}
-use Rattle.rc_asm.specs.Assembly.{outcome_of, Assembles}
-use Rattle.rc_asm.specs.declared.fault.AsmKind.TheVariants.{OutOfMemory as MemoryKind}
+use Rattle.rc_asm.specs.Assembly.{outcome_of}
+use Rattle.tune_runs.specs.Runs.{asm_fault, Writes}
 use Rattle.tune_runs.specs.declared.fault.RunFault.{RunFault}
-use Rattle.tune_runs.specs.declared.fault.RunFault.TheVariants.{Asm, OutOfMemory}
 
-abbrev pub HasNoWarrior : List ℕ → RulesView → Type 0
-HasNoWarrior source rules = (w : WarriorView) → Assembles source [] rules w → ⊥
+-- The warrior to which a text without open constants assembles.
+abbrev pub warrior_of : List ℕ → RulesView → Result WarriorView RunFault
+warrior_of source rules = with_fault asm_fault (outcome_of source [] rules)
 
--- A text is refused if it does not assemble, with the fault that comes first. Out of memory says
--- nothing of the text.
-abbrev pub IsAsmRefusal : RunFault → List ℕ → RulesView → Type 0
-IsAsmRefusal (Asm fault) source rules = (fault.kind ≢ MemoryKind) × HasNoWarrior source rules × (outcome_of source [] rules ≡ Err fault)
-IsAsmRefusal OutOfMemory source rules = Unit {0}
-IsAsmRefusal _ source rules = ⊥
+-- Its load file.
+unfoldable pub asm_answer : List ℕ → RulesView → Result (Unit {0} × List ℕ) RunFault
+asm_answer source rules = do
+  w ← warrior_of source rules
+  Ok (tt, load_text rules.core w)
 
--- The load file of the warrior that the text assembles to was written.
+-- The load file was written.
 abbrev pub WritesWarrior : List ℕ → RulesView → Option (List ℕ) → Option (List ℕ) → Type 0
-WritesWarrior source rules old new = (w : WarriorView) × Assembles source [] rules w × Appends old new (load_text rules.core w)
+WritesWarrior source rules old new = Writes (asm_answer source rules) tt old new

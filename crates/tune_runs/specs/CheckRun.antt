@@ -1,5 +1,5 @@
 -- What the run of a check writes.
-use Rattle.std.specs.Prelude.{◌≡◌, ◌≢◌, ◌↔◌, ◌⊎◌, ℕ, Bool, true, false, List, ◌∷◌, [], ◌++◌, codes, Option, Some, None, Result, IfErr, IsErrOf, IsTrue}
+use Rattle.std.specs.Prelude.{◌≡◌, ◌≢◌, ◌↔◌, ℕ, Bool, true, false, List, ◌∷◌, [], ◌++◌, codes, Option, Some, None, Result, Err, IfErr, IsOk, IsErrOf, IsTrue}
 use Rattle.std.specs.Fmt.{decimal}
 use Rattle.std.specs.Io.KnownBytes.{Appends}
 use Rattle.rc_instr.specs.Outlet.{OutletView}
@@ -12,9 +12,10 @@ use Rattle.tune_cert.specs.declared.verdict.Reason.{Reason}
 use Rattle.tune_cert.specs.declared.verdict.Reason.TheVariants.{Malformed, RowCount, BestRow, WrongPoints, RepeatedFight, CapTooHigh, NotSame, NotRefused, Version}
 use Rattle.tune_cert.specs.declared.verdict.Verdict.{Verdict}
 use Rattle.tune_cert.specs.declared.verdict.Verdict.TheVariants.{Accepted, Rejected}
-use Rattle.tune_runs.specs.TuneRun.{Texts, Means, IsTuneRefusal}
+use Rattle.tune_runs.specs.TuneRun.{Texts, meaning_of, Means, HasNoCandidate}
+use Rattle.tune_runs.specs.Runs.{IsMemory}
 use Rattle.tune_runs.specs.declared.fault.RunFault.{RunFault}
-use Rattle.tune_runs.specs.declared.fault.RunFault.TheVariants.{NoCandidate, Write, OutOfMemory}
+use Rattle.tune_runs.specs.declared.fault.RunFault.TheVariants.{Write}
 
 abbrev pub reason_text : Reason → List ℕ
 reason_text Malformed = codes "Malformed"
@@ -68,12 +69,12 @@ Accepts t cert best total = (i : InputsView) × Means t i × IsRightVerdict (pro
 -- total, or no setting assembles.
 abbrev pub IsShown : Texts → List ℕ → Option (ℕ × ℕ) → Type 0
 IsShown t cert (Some best) = Accepts t cert best.0 best.1
-IsShown t cert None = IsTuneRefusal NoCandidate t
+IsShown t cert None = HasNoCandidate t
 
 -- How the run of a check ends, beyond what it writes if it succeeds.
 pub record IsCheckRun {X : Type 0} (t : Texts) (result : Result X RunFault) (old new : OutletView) : Type 0 where
-  -- refused texts have no meaning, and nothing was written
-  pub refused : IfErr result (λ e. e ≢ Write → (e ≢ NoCandidate) × IsTuneRefusal e t × (new ≡ old))
+  -- `Write`: the writer failed. The texts have a meaning, and what is out is not said.
+  pub stopped : IsErrOf result Write → IsOk (meaning_of t)
   pub write : IsErrOf result Write ↔ IsTrue new.failed
-  -- texts that have a meaning are not refused
-  pub meaning : (i : InputsView) → Means t i → IfErr result (λ e. (e ≡ Write) ⊎ (e ≡ OutOfMemory))
+  -- any other fault is that of the texts, unless memory ran out, and nothing was written
+  pub refused : IfErr result (λ e. e ≢ Write → (new ≡ old) × ((¬ IsMemory e) → meaning_of t ≡ Err e))

@@ -1,10 +1,11 @@
 -- Texts mean something: a fight text the fight of two warriors, the texts of a tuning its inputs. A
 -- result line, a report and a check line say what came of them. A run over bytes writes exactly the
 -- text that the definitions give, or refuses with the first fault that applies.
+pub mod Runs
 pub mod FightText
 pub mod ResultLine
-pub mod FightRun
 pub mod AsmRun
+pub mod FightRun
 pub mod Report
 pub mod TuneRun
 pub mod CheckRun

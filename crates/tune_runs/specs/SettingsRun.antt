@@ -1,12 +1,13 @@
 -- What `settings_run` writes of a template.
-use Rattle.std.specs.Prelude.{ℕ, List, [], ◌∷◌, ◌++◌, Option, codes}
+use Rattle.std.specs.Prelude.{ℕ, List, [], ◌∷◌, ◌++◌, Option, Result, Ok, codes}
 use Rattle.std.specs.Fmt.{decimal, signed_decimal}
-use Rattle.std.specs.Io.KnownBytes.{Appends}
+use Rattle.rc_instr.specs.Results.{with_fault, ◌>>=◌}
 use Rattle.tune_template.specs.declared.span.Span.{Span}
 use Rattle.tune_template.specs.Spans.{span_value}
-use Rattle.tune_template.specs.Instances.{TemplateView}
+use Rattle.tune_template.specs.Instances.{TemplateView, setting_count, template_of}
 use Rattle.tune_runs.specs.Report.{number_line}
-use Rattle.tune_runs.specs.TuneRun.{IsTemplate, setting_count}
+use Rattle.tune_runs.specs.Runs.{template_fault, Writes}
+use Rattle.tune_runs.specs.declared.fault.RunFault.{RunFault}
 
 -- ` VALUES START` and a line feed: the number of a constant's values, and the one to begin with.
 unfoldable pub span_text : Span → List ℕ
@@ -24,6 +25,12 @@ constant_lines _ _ = []
 unfoldable pub settings_text : TemplateView → List ℕ
 settings_text t = number_line (codes "vectors ") (setting_count t) ++ constant_lines t.ranges.names t.ranges.spans
 
--- `source` is a template, and the text of its settings was appended.
+-- The text of the settings of a template, or its fault.
+abbrev pub settings_answer : List ℕ → Result (Unit {0} × List ℕ) RunFault
+settings_answer source = do
+  t ← with_fault template_fault (template_of source)
+  Ok (tt, settings_text t)
+
+-- The text was written.
 abbrev pub WritesSettings : List ℕ → Option (List ℕ) → Option (List ℕ) → Type 0
-WritesSettings source old new = (t : TemplateView) × IsTemplate source t × Appends old new (settings_text t)
+WritesSettings source old new = Writes (settings_answer source) tt old new

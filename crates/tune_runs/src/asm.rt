@@ -1,12 +1,14 @@
 //! An assembly: from a Redcode text to a load file.
-ghost use Rattle.std.specs.Prelude.{◌≡◌, ◌≢◌, ◌↔◌, ◌⊎◌, [], false, IfOk, IfErr, OnOk, IsErrOf, IsTrue};
-ghost use Rattle.rc_instr.specs.Warrior.{WarriorView, Fits};
+ghost use Rattle.std.specs.Prelude.{◌≡◌, ◌≢◌, [], false, IfOk, IfErr};
+ghost use Rattle.rc_instr.specs.Warrior.{Fits};
 ghost use Rattle.rc_instr.specs.LoadText.{load_text};
-ghost use Rattle.rc_asm.specs.Assembly.{Assembles};
-ghost use Rattle.tune_runs.specs.AsmRun.{IsAsmRefusal, WritesWarrior};
+ghost use Rattle.rc_asm.specs.Faults.{Returns as Assembled};
+ghost use Rattle.rc_asm.specs.Assembly.{outcome_of};
+ghost use Rattle.tune_runs.specs.AsmRun.{warrior_of, asm_answer};
+ghost use Rattle.tune_runs.specs.Runs.{Returns, IsRun};
 
 use crate::fault::RunFault;
-use rc_asm::{AsmKind, assemble};
+use rc_asm::{AsmFault, assemble};
 use rc_expand::Constants;
 use rc_instr::{OutOfMemory, Outlet, Rules, Warrior, write_loadfile};
 use std::alloc::Global;
@@ -29,21 +31,20 @@ pub fn asm_run<W: Write>(
 ) -> Result<(), RunFault>
     requires { out.old.failed ≡ false }
 
-    // What was written is the load file of the warrior that the text assembles to.
-    ensures warrior { OnOk result (WritesWarrior source.now rules.now out.old.bytes out.new.bytes) }
+    ensures run { IsRun (asm_answer source.now rules.now) result out.old out.new }
+{
+    let text = asm_text(alloc, source, rules)?;
+    out.write_all(text.as_slice())?;
+    Ok(())
+}
 
-    // A refused text does not assemble, and nothing was written.
-    ensures refused { IfErr result (λ e. e ≢ RunFault.Write → IsAsmRefusal e source.now rules.now × (out.new ≡ out.old)) }
-    ensures write { IsErrOf result RunFault.Write ↔ IsTrue out.new.failed }
-
-    // A text that assembles is not refused.
-    ensures meaning { (w : WarriorView) → Assembles source.now [] rules.now w
-        → IfErr result (λ e. (e ≡ RunFault.Write) ⊎ (e ≡ RunFault.OutOfMemory)) }
+#[tactic(auto, unfolding(crate::specs::AsmRun::asm_answer))]
+fn asm_text(alloc: Global, source: &[u8], rules: &Rules) -> Result<Vec<u8>, RunFault>
+    ensures answer { Returns (λ file. (tt, file.items)) result (asm_answer source.now rules.now) }
+    ensures unwritten { IfErr result (λ e. e ≢ RunFault.Write) }
 {
     let warrior = warrior_of(alloc, source, rules)?;
-    let file = loadfile_of(alloc, &warrior, rules)?;
-    out.write_all(file.as_slice())?;
-    Ok(())
+    Ok(loadfile_of(alloc, &warrior, rules)?)
 }
 
 /// Assembles a text that has no open constants.
@@ -53,9 +54,17 @@ pub fn asm_run<W: Write>(
 /// `Asm` if the text does not assemble, with the first fault and its line, from 1, or 0 if the
 /// fault has no line. `OutOfMemory` if an allocation failed.
 pub fn warrior_of(alloc: Global, source: &[u8], rules: &Rules) -> Result<Warrior, RunFault>
-    ensures warrior { IfOk result (Assembles source.now [] rules.now) }
+    ensures warrior { Returns (λ w. w) result (warrior_of source.now rules.now) }
     ensures fits { IfOk result (Fits rules.now) }
-    ensures refused { IfErr result (λ e. IsAsmRefusal e source.now rules.now) }
+    ensures unwritten { IfErr result (λ e. e ≢ RunFault.Write) }
+{
+    Ok(assembled(alloc, source, rules)?)
+}
+
+// Assembles a text that has no open constants.
+pub(crate) fn assembled(alloc: Global, source: &[u8], rules: &Rules) -> Result<Warrior, AsmFault>
+    ensures warrior { Assembled (λ w. w) result (outcome_of source.now [] rules.now) }
+    ensures fits { IfOk result (Fits rules.now) }
 {
     let names: [Vec<u8>; 0] = [];
     let values: [i64; 0] = [];
@@ -63,13 +72,7 @@ pub fn warrior_of(alloc: Global, source: &[u8], rules: &Rules) -> Result<Warrior
         names: &names,
         values: &values,
     };
-    match assemble(alloc, source, &constants, rules) {
-        Ok(warrior) => Ok(warrior),
-        Err(fault) => match fault.kind {
-            AsmKind::OutOfMemory => Err(RunFault::OutOfMemory),
-            _ => Err(RunFault::Asm(fault)),
-        },
-    }
+    assemble(alloc, source, &constants, rules)
 }
 
 pub(crate) fn loadfile_of(

@@ -1,6 +1,7 @@
 //! A check: from texts and a certificate to the line of the verdict.
-ghost use Rattle.std.specs.Prelude.{◌≡◌, ◌≢◌, map, true, false, IfOk, IfErr};
-ghost use Rattle.tune_runs.specs.TuneRun.{texts, IsTuneRefusal};
+ghost use Rattle.std.specs.Prelude.{◌≡◌, ◌≢◌, map, true, false, IfOk, IfErr, Err};
+ghost use Rattle.tune_runs.specs.TuneRun.{texts, meaning_of};
+ghost use Rattle.tune_runs.specs.Runs.{IsMemory};
 ghost use Rattle.tune_runs.specs.Given.{texts_given};
 ghost use Rattle.tune_problem.specs.Parts.{part};
 ghost use Rattle.tune_runs.specs.CheckRun.{accepts, IsCheckRun, IsVerdictFor, WritesVerdict, WritesShare};
@@ -138,8 +139,8 @@ fn verdict_given<T: Watcher>(
     watcher: &mut T,
 ) -> Result<Verdict, RunFault>
     ensures verdict { IfOk result (IsVerdictFor (texts_given given.now) (part share.number share.shares) cert.now) }
-    ensures refused { IfErr result (λ e. IsTuneRefusal e (texts_given given.now)) }
-    ensures candidate { IfErr result (λ e. (e ≢ RunFault.NoCandidate) × (e ≢ RunFault.Write)) }
+    ensures refused { IfErr result (λ e. (¬ IsMemory e) → meaning_of (texts_given given.now) ≡ Err e) }
+    ensures others { IfErr result (λ e. (e ≢ RunFault.NoCandidate) × (e ≢ RunFault.Write)) }
 {
     let inputs = inputs_of(alloc, given)?;
     watcher.begin(&inputs);

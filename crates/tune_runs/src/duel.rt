@@ -1,17 +1,16 @@
 //! A fight of two texts: from two Redcode texts to a result line.
-ghost use Rattle.std.specs.Prelude.{◌≡◌, ◌≢◌, ◌↔◌, ◌⊎◌, ◌/◌, false, IfOk, IfErr, OnOk, IsErrOf, IsTrue};
-ghost use Rattle.rc_instr.specs.Warrior.{WarriorView, Fits};
-ghost use Rattle.rc_asm.specs.Assembly.{Assembles};
+ghost use Rattle.std.specs.Prelude.{◌≡◌, ◌≢◌, false, IfOk, IfErr};
+ghost use Rattle.rc_instr.specs.Warrior.{Fits};
 ghost use Rattle.mars_fight.specs.Listed.{IsPosition};
-ghost use Rattle.tune_runs.specs.DuelRun.{NamesDuel, IsDuelRefusal, WritesDuel};
+ghost use Rattle.tune_runs.specs.Runs.{Returns, IsRun};
+ghost use Rattle.tune_runs.specs.DuelRun.{duel_named, duel_answer};
 ghost use Rattle.tune_runs.specs.Given.{duel_given};
 
 use crate::asm::warrior_of;
 use crate::fault::RunFault;
-use crate::fight::{NamedFight, play};
+use crate::fight::{NamedFight, line_of};
 use crate::given::DuelTexts;
 use crate::inputs::opponent_of;
-use crate::lines::result_line;
 use mars_fight::keeps_distance;
 use rc_instr::Outlet;
 use std::alloc::Global;
@@ -36,33 +35,28 @@ pub fn duel_run<W: Write>(
 ) -> Result<(), RunFault>
     requires { out.old.failed ≡ false }
 
-    // What was written is the result line of the duel.
-    ensures line { OnOk result (WritesDuel (duel_given given.now) out.old.bytes out.new.bytes) }
-
-    // The fault of a refusal holds, those before it do not, and nothing was written.
-    ensures refused { IfErr result (λ e. e ≢ RunFault.Write →
-        IsDuelRefusal e (duel_given given.now) × (out.new ≡ out.old)) }
-    ensures write { IsErrOf result RunFault.Write ↔ IsTrue out.new.failed }
-
-    // Texts that assemble, at a position that keeps the distance, are not refused.
-    ensures meaning { (c o : WarriorView) → NamesDuel (duel_given given.now) c o
-        → IfErr result (λ e. (e ≡ RunFault.Write) ⊎ (e ≡ RunFault.OutOfMemory)) }
+    ensures run { IsRun (duel_answer (duel_given given.now)) result out.old out.new }
 {
-    let fight = fight_of(alloc, given)?;
-    let outcome = play(alloc, &fight)?;
-    let line = result_line(alloc, outcome)?;
+    let line = duel_line(alloc, given)?;
     out.write_all(line.as_slice())?;
     Ok(())
 }
 
+fn duel_line(alloc: Global, given: &DuelTexts<'_>) -> Result<Vec<u8>, RunFault>
+    ensures answer { Returns (λ line. (tt, line.items)) result (duel_answer (duel_given given.now)) }
+    ensures unwritten { IfErr result (λ e. e ≢ RunFault.Write) }
+{
+    let fight = fight_of(alloc, given)?;
+    line_of(alloc, &fight)
+}
+
 // Assembles both texts and checks the position, in the order of the faults.
-#[tactic(auto, using(crate::proofs::Duels::candidate_refused, crate::proofs::Duels::opponent_refused))]
+#[tactic(auto, unfolding(crate::specs::DuelRun::duel_named))]
 fn fight_of(alloc: Global, given: &DuelTexts<'_>) -> Result<NamedFight, RunFault>
-    ensures found { IfOk result (λ f. NamesDuel (duel_given given.now) f.candidate f.opponent
-        × (f.rules ≡ given.now.rules.now) × (f.position ≡ given.now.position) × (f.first ≡ given.now.first)) }
+    ensures fight { Returns (λ f. f) result (duel_named (duel_given given.now)) }
     ensures fits { IfOk result (λ f. Fits f.rules f.candidate × Fits f.rules f.opponent) }
     ensures apart { IfOk result (λ f. IsPosition f.rules f.position) }
-    ensures refused { IfErr result (λ e. IsDuelRefusal e (duel_given given.now)) }
+    ensures unwritten { IfErr result (λ e. e ≢ RunFault.Write) }
 {
     let rules = given.rules;
     let candidate = warrior_of(alloc, given.candidate, rules)?;

@@ -2,16 +2,17 @@
 ghost use Rattle.std.specs.Prelude.{◌≡◌};
 ghost use Rattle.tune_runs.specs.declared.fault.RunFault.TheVariants.{Write as WriteFault, OutOfMemory as MemoryFault};
 ghost use Rattle.tune_runs.specs.TuneRun.{fault_of};
+ghost use Rattle.tune_runs.specs.Runs.{asm_fault, opponent_fault, template_fault, schedule_fault, load_fault};
 
 use mars_core::Side;
-use mars_fight::ScheduleFault;
-use rc_asm::AsmFault;
+use mars_fight::{ScheduleFault, ScheduleFaultKind};
+use rc_asm::{AsmFault, AsmKind};
 use rc_instr::{LoadFault, OutOfMemory as MemoryRefused, RulesError, WriteFailed};
 use std::alloc::{AllocError, AllocFailed};
 use thiserror::Error;
 use tune_cert::CheckFault;
 use tune_search::SearchFault;
-use tune_template::TemplateFault;
+use tune_template::{TemplateFault, TemplateKind};
 
 /// Why a run ends without its answer. If several faults apply, the first in this order is returned,
 /// except that `Part` comes before `NoCandidate`, and `Position` last in a fight of two texts.
@@ -100,6 +101,39 @@ impl From<WriteFailed> for RunFault {
     }
 }
 
+impl From<AsmFault> for RunFault {
+    ghost from_gives = { λ f e. e ≡ asm_fault f };
+
+    fn from(fault: AsmFault) -> RunFault {
+        match fault.kind {
+            AsmKind::OutOfMemory => RunFault::OutOfMemory,
+            _ => RunFault::Asm(fault),
+        }
+    }
+}
+
+impl From<TemplateFault> for RunFault {
+    ghost from_gives = { λ f e. e ≡ template_fault f };
+
+    fn from(fault: TemplateFault) -> RunFault {
+        match fault.kind {
+            TemplateKind::OutOfMemory => RunFault::OutOfMemory,
+            _ => RunFault::Template(fault),
+        }
+    }
+}
+
+impl From<ScheduleFault> for RunFault {
+    ghost from_gives = { λ f e. e ≡ schedule_fault f };
+
+    fn from(fault: ScheduleFault) -> RunFault {
+        match fault.kind {
+            ScheduleFaultKind::OutOfMemory => RunFault::OutOfMemory,
+            _ => RunFault::Schedule(fault),
+        }
+    }
+}
+
 impl From<SearchFault> for RunFault {
     ghost from_gives = { λ s e. e ≡ fault_of s };
 
@@ -118,5 +152,25 @@ impl From<CheckFault> for RunFault {
         match fault {
             CheckFault::OutOfMemory => RunFault::OutOfMemory,
         }
+    }
+}
+
+// Wraps the fault of the opponent at this index.
+pub(crate) fn opponent_fault(index: u32, fault: AsmFault) -> RunFault
+    ensures { result ≡ opponent_fault index fault }
+{
+    match fault.kind {
+        AsmKind::OutOfMemory => RunFault::OutOfMemory,
+        _ => RunFault::Opponent { index, fault },
+    }
+}
+
+// Wraps the fault of a load file.
+pub(crate) fn load_fault(side: Side, fault: LoadFault) -> RunFault
+    ensures { result ≡ load_fault side fault }
+{
+    match fault {
+        LoadFault::OutOfMemory => RunFault::OutOfMemory,
+        _ => RunFault::Load { side, fault },
     }
 }

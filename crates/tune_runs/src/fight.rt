@@ -1,19 +1,20 @@
 //! A fight: from a fight text to a result line.
-ghost use Rattle.std.specs.Prelude.{◌≡◌, ◌≢◌, ◌↔◌, ◌⊎◌, false, IfOk, IfErr, OnOk, MatchResult, IsErrOf, IsTrue, Ok};
-ghost use Rattle.rc_instr.specs.Warrior.{WarriorView, Fits};
-ghost use Rattle.mars_core.specs.State.{start_of};
-ghost use Rattle.mars_core.specs.Fight.{outcome_of};
+ghost use Rattle.std.specs.Prelude.{◌≡◌, ◌≢◌, false, IfOk, IfErr, MatchResult};
+ghost use Rattle.rc_instr.specs.Results.{with_fault};
+ghost use Rattle.rc_instr.specs.Warrior.{Fits};
+ghost use Rattle.rc_instr.specs.Loaded.{load_meaning};
 ghost use Rattle.mars_fight.specs.Listed.{IsPosition};
-ghost use Rattle.tune_runs.specs.FightText.{FightWords};
-ghost use Rattle.tune_runs.specs.FightRun.{Loads, NamesFight, IsRefusal, IsLoadRefusal, WritesFight, outcome_for};
+ghost use Rattle.tune_runs.specs.ResultLine.{result_line};
+ghost use Rattle.tune_runs.specs.Runs.{load_fault, IsMemory, Returns, IsRun};
+ghost use Rattle.tune_runs.specs.FightRun.{fight_named, outcome_for, fight_answer};
 
-use crate::fault::RunFault;
+use crate::fault::{RunFault, load_fault};
 use crate::fight_text::read_fight_text;
 use crate::given::rules_of;
 use crate::lines::result_line;
 use mars_core::{Arena, Outcome, PackedCells, Side};
 use mars_fight::keeps_distance;
-use rc_instr::{LoadFault, OutOfMemory, Outlet, Rules, Warrior, read_loadfile};
+use rc_instr::{OutOfMemory, Outlet, Rules, Warrior, read_loadfile};
 use std::alloc::Global;
 use std::io::Write;
 
@@ -42,44 +43,50 @@ pub(crate) struct NamedFight {
 pub fn fight_run<W: Write>(alloc: Global, text: &[u8], out: &mut Outlet<W>) -> Result<(), RunFault>
     requires { out.old.failed ≡ false }
 
-    // What was written is the result line of the fight in the text.
-    ensures line { OnOk result (WritesFight text.now out.old.bytes out.new.bytes) }
-
-    // The fault of a refusal holds, those before it do not, and nothing was written.
-    ensures refused { IfErr result (λ e. e ≢ RunFault.Write → IsRefusal e text.now × (out.new ≡ out.old)) }
-    ensures write { IsErrOf result RunFault.Write ↔ IsTrue out.new.failed }
-
-    // A text that names a fight is not refused.
-    ensures meaning { (w : FightWords) (c o : WarriorView) → NamesFight text.now w c o
-        → IfErr result (λ e. (e ≡ RunFault.Write) ⊎ (e ≡ RunFault.OutOfMemory)) }
+    ensures run { IsRun (fight_answer text.now) result out.old out.new }
 {
-    let fight = read_fight(alloc, text)?;
-    let outcome = play(alloc, &fight)?;
-    let line = result_line(alloc, outcome)?;
+    let line = fight_line(alloc, text)?;
     out.write_all(line.as_slice())?;
     Ok(())
 }
 
-#[tactic(auto, using(crate::proofs::FightLoads::loads, crate::proofs::FightLoads::is_loaded))]
-fn load(alloc: Global, bytes: &[u8], rules: &Rules, side: Side) -> Result<Warrior, RunFault>
-    ensures found { IfOk result (λ w. Loads rules.now bytes.now w) }
-    ensures only { (w : WarriorView) → Loads rules.now bytes.now w → MatchResult result (λ v. v ≡ w) (λ e. e ≡ RunFault.OutOfMemory) }
-    ensures refused { IfErr result (λ e. IsLoadRefusal e side rules.now bytes.now) }
+fn fight_line(alloc: Global, text: &[u8]) -> Result<Vec<u8>, RunFault>
+    ensures answer { Returns (λ line. (tt, line.items)) result (fight_answer text.now) }
+    ensures unwritten { IfErr result (λ e. e ≢ RunFault.Write) }
 {
-    prove!(0 < rules.core());
+    let fight = read_fight(alloc, text)?;
+    line_of(alloc, &fight)
+}
+
+// Plays a fight and makes its result line.
+pub(crate) fn line_of(alloc: Global, fight: &NamedFight) -> Result<Vec<u8>, RunFault>
+    requires candidate { Fits fight.now.rules fight.now.candidate }
+    requires opponent { Fits fight.now.rules fight.now.opponent }
+    requires position { IsPosition fight.now.rules fight.now.position }
+    ensures { MatchResult result (λ line. line.items ≡ result_line (outcome_for fight.now)) IsMemory }
+{
+    let outcome = play(alloc, fight)?;
+    Ok(result_line(alloc, outcome)?)
+}
+
+fn load(alloc: Global, bytes: &[u8], rules: &Rules, side: Side) -> Result<Warrior, RunFault>
+    ensures warrior { Returns (λ w. w) result (with_fault (load_fault side) (load_meaning rules.now bytes.now)) }
+    ensures fits { IfOk result (Fits rules.now) }
+    ensures unwritten { IfErr result (λ e. e ≢ RunFault.Write) }
+{
     match read_loadfile(alloc, bytes, rules) {
         Ok(warrior) => Ok(warrior),
-        Err(LoadFault::OutOfMemory) => Err(RunFault::OutOfMemory),
-        Err(fault) => Err(RunFault::Load { side, fault }),
+        Err(fault) => Err(load_fault(side, fault)),
     }
 }
 
 // Parses a fight text and checks everything in it, in the order of the faults.
+#[tactic(auto, unfolding(crate::specs::FightRun::fight_named))]
 fn read_fight(alloc: Global, text: &[u8]) -> Result<NamedFight, RunFault>
-    ensures found { IfOk result (λ f. (w : FightWords) × NamesFight text.now w f.candidate f.opponent
-        × (w.rules ≡ f.rules) × (w.position ≡ f.position) × (w.first ≡ f.first)) }
-    ensures only { (w : FightWords) (c o : WarriorView) → NamesFight text.now w c o → IfErr result (λ e. e ≡ RunFault.OutOfMemory) }
-    ensures refused { IfErr result (λ e. IsRefusal e text.now) }
+    ensures fight { Returns (λ f. f) result (fight_named text.now) }
+    ensures fits { IfOk result (λ f. Fits f.rules f.candidate × Fits f.rules f.opponent) }
+    ensures apart { IfOk result (λ f. IsPosition f.rules f.position) }
+    ensures unwritten { IfErr result (λ e. e ≢ RunFault.Write) }
 {
     let words = match read_fight_text(text) {
         Ok(words) => words,
@@ -103,12 +110,11 @@ fn read_fight(alloc: Global, text: &[u8]) -> Result<NamedFight, RunFault>
     })
 }
 
-pub(crate) fn play(alloc: Global, fight: &NamedFight) -> Result<Outcome, OutOfMemory>
+fn play(alloc: Global, fight: &NamedFight) -> Result<Outcome, OutOfMemory>
     requires candidate { Fits fight.now.rules fight.now.candidate }
     requires opponent { Fits fight.now.rules fight.now.opponent }
     requires position { IsPosition fight.now.rules fight.now.position }
-    ensures { IfOk result (λ o. o ≡ outcome_of fight.now.rules.tasks
-        (start_of fight.now.rules.core fight.now.candidate fight.now.opponent fight.now.position) fight.now.first fight.now.rules.cycles) }
+    ensures { IfOk result (λ o. o ≡ outcome_for fight.now) }
 {
     let mut arena = Arena::<PackedCells>::try_new(alloc, &fight.rules)?;
     arena.load(&fight.candidate, &fight.opponent, fight.position);

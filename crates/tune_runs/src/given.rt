@@ -1,6 +1,5 @@
 //! What runs are given besides bytes: rules, texts, and which setting is meant.
-ghost use Rattle.std.specs.Prelude.{◌≡◌, ◌↔◌, Err, IsOk, IfOk, IfErr};
-ghost use Rattle.rc_instr.specs.Rules.{IsRules};
+ghost use Rattle.std.specs.Prelude.{◌≡◌, IfOk};
 ghost use Rattle.rc_instr.specs.Checks.{rules_of};
 ghost use Rattle.tune_runs.specs.Given.{rules_given};
 
@@ -65,11 +64,10 @@ pub struct TuneTexts<'a> {
 /// The first that applies: `Core` unless the core size is 8 to 65535, `Cycles` unless they are 1 to
 /// 1000000, `Tasks` unless they are 1 to 8000, `Length` unless it is 1 to 200, `Distance` unless it
 /// is from the length to half the core size.
-#[tactic(auto, using(rc_instr::proofs::CheckSteps::rules_kept, rc_instr::proofs::CheckSteps::rules_pass))]
+#[tactic(auto, using(rc_instr::proofs::CheckSteps::rules_kept))]
 pub fn rules_of(raw: RawRules) -> Result<Rules, RulesError>
-    ensures ok { IsOk result ↔ IsRules (rules_given raw) }
+    ensures result { result ≡ rules_of (rules_given raw) }
     ensures rules { IfOk result (λ r. r ≡ rules_given raw) }
-    ensures refused { IfErr result (λ e. rules_of (rules_given raw) ≡ Err e) }
 {
     Rules::try_new(raw.core, raw.cycles, raw.tasks, raw.length, raw.distance)
 }

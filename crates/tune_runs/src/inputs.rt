@@ -1,21 +1,22 @@
 //! Reads the texts of a tuning into its inputs.
-ghost use Rattle.std.specs.Prelude.{◌≡◌, ◌≢◌, ◌≤◌, ◌<◌, [], length, map, All, IfOk, IfErr, Some, Err};
+ghost use Rattle.std.specs.Prelude.{◌≡◌, ◌≢◌, ◌≤◌, [], length, map, All, IfOk, IfErr};
+ghost use Rattle.rc_instr.specs.Results.{with_fault};
 ghost use Rattle.rc_instr.specs.Warrior.{Fits};
-ghost use Rattle.rc_asm.specs.Assembly.{Assembles};
-ghost use Rattle.mars_fight.specs.Listed.{IsFight};
-ghost use Rattle.mars_fight.specs.Schedule.{fights_of};
+ghost use Rattle.rc_asm.specs.Assembly.{outcome_of};
+ghost use Rattle.tune_template.specs.Instances.{template_of};
 ghost use Rattle.tune_problem.specs.Limits.{MOST_OPPONENTS};
-ghost use Rattle.tune_runs.specs.TuneRun.{IsTemplate, AreOpponents, Means, IsTemplateRefusal, IsRefusalOf, AreRefused, HasNoFights, IsTuneRefusal};
+ghost use Rattle.tune_runs.specs.Runs.{opponent_fault, template_fault, Returns};
+ghost use Rattle.tune_runs.specs.TuneRun.{opponents_from, meaning_of};
 ghost use Rattle.tune_runs.specs.Given.{texts_given};
 
-use crate::asm::warrior_of;
-use crate::fault::RunFault;
+use crate::asm::assembled;
+use crate::fault::{RunFault, opponent_fault};
 use crate::given::TuneTexts;
-use mars_fight::{Schedule, ScheduleFaultKind};
+use mars_fight::Schedule;
 use rc_instr::{Rules, Warrior};
 use std::alloc::Global;
 use tune_problem::{Inputs, limits};
-use tune_template::{Template, TemplateKind};
+use tune_template::Template;
 
 /// Reads the inputs of a tuning of one part of a template's settings.
 ///
@@ -25,23 +26,18 @@ use tune_template::{Template, TemplateKind};
 /// text, `Opponent` with the index of the first that does not assemble and its fault, `Schedule`
 /// with the fault of its text, `Part` if there is no such part. `OutOfMemory` if an allocation
 /// failed.
-#[tactic(auto, using(crate::proofs::Tunings::template_refused, crate::proofs::Tunings::opponents_refused, crate::proofs::Tunings::schedule_refused, crate::proofs::Tunings::part_refused))]
+#[tactic(auto, unfolding(crate::specs::TuneRun::meaning_of))]
 pub fn inputs_of(alloc: Global, given: &TuneTexts<'_>) -> Result<Inputs, RunFault>
-    ensures inputs { IfOk result (λ i. Means (texts_given given.now) i) }
-    ensures refused { IfErr result (λ e. IsTuneRefusal e (texts_given given.now)) }
-    ensures candidate { IfErr result (λ e. (e ≢ RunFault.NoCandidate) × (e ≢ RunFault.Write)) }
+    ensures inputs { Returns (λ i. i) result (meaning_of (texts_given given.now)) }
+    ensures others { IfErr result (λ e. (e ≢ RunFault.NoCandidate) × (e ≢ RunFault.Write)) }
 {
     if given.opponents.len() > limits::MOST_OPPONENTS {
         return Err(RunFault::TooManyOpponents);
     }
     let template = template_of(alloc, given.template)?;
     let warriors = opponents_of(alloc, given.opponents, given.rules)?;
-    let schedule = schedule_of(
-        alloc,
-        given.schedule,
-        given.opponents.len() as u32,
-        given.rules,
-    )?;
+    let count = given.opponents.len() as u32;
+    let schedule = Schedule::read(alloc, given.schedule, count, given.rules)?;
     match Inputs::new(template, warriors, schedule, *given.rules).part(given.part) {
         Some(inputs) => Ok(inputs),
         None => Err(RunFault::Part),
@@ -54,35 +50,10 @@ pub fn inputs_of(alloc: Global, given: &TuneTexts<'_>) -> Result<Inputs, RunFaul
 ///
 /// `Template` with the fault of the text. `OutOfMemory` if an allocation failed.
 pub fn template_of(alloc: Global, text: &[u8]) -> Result<Template, RunFault>
-    ensures template { IfOk result (λ t. IsTemplate text.now t) }
-    ensures refused { IfErr result (λ e. IsTemplateRefusal e text.now) }
+    ensures template { Returns (λ t. t) result (with_fault template_fault (template_of text.now)) }
+    ensures others { IfErr result (λ e. (e ≢ RunFault.NoCandidate) × (e ≢ RunFault.Write)) }
 {
-    match Template::read(alloc, text) {
-        Ok(template) => Ok(template),
-        Err(fault) => match fault.kind {
-            TemplateKind::OutOfMemory => Err(RunFault::OutOfMemory),
-            _ => Err(RunFault::Template(fault)),
-        },
-    }
-}
-
-fn schedule_of(
-    alloc: Global,
-    text: &[u8],
-    opponents: u32,
-    rules: &Rules,
-) -> Result<Schedule, RunFault>
-    ensures schedule { IfOk result (λ s. fights_of rules.now opponents text.now ≡ Some s) }
-    ensures fights { IfOk result (λ s. All (IsFight rules.now opponents) s) }
-    ensures refused { IfErr result (λ e. HasNoFights e rules.now opponents text.now) }
-{
-    match Schedule::read(alloc, text, opponents, rules) {
-        Ok(schedule) => Ok(schedule),
-        Err(fault) => match fault.kind {
-            ScheduleFaultKind::OutOfMemory => Err(RunFault::OutOfMemory),
-            _ => Err(RunFault::Schedule(fault)),
-        },
-    }
+    Ok(Template::read(alloc, text)?)
 }
 
 // Assembles one opponent. `index` is its place among all, for the fault.
@@ -92,31 +63,31 @@ pub(crate) fn opponent_of(
     index: u32,
     rules: &Rules,
 ) -> Result<Warrior, RunFault>
-    ensures warrior { IfOk result (λ w. Assembles text.now [] rules.now w) }
+    ensures warrior { Returns (λ w. w) result (with_fault (opponent_fault index) (outcome_of text.now [] rules.now)) }
     ensures fits { IfOk result (Fits rules.now) }
-    ensures refused { IfErr result (λ e. IsRefusalOf index e rules.now text.now) }
+    ensures others { IfErr result (λ e. (e ≢ RunFault.NoCandidate) × (e ≢ RunFault.Write)) }
 {
-    match warrior_of(alloc, text, rules) {
+    match assembled(alloc, text, rules) {
         Ok(warrior) => Ok(warrior),
-        Err(RunFault::Asm(fault)) => Err(RunFault::Opponent { index, fault }),
-        Err(_) => Err(RunFault::OutOfMemory),
+        Err(fault) => Err(opponent_fault(index, fault)),
     }
 }
 
 // Assembles all opponents, at most `MOST_OPPONENTS`, up to the first that does not assemble.
-#[tactic(auto, using(crate::proofs::Opponents::opponents_more, crate::proofs::Opponents::opponents_end, crate::proofs::Opponents::opponents_whole))]
 fn opponents_of(alloc: Global, sources: &[Vec<u8>], rules: &Rules) -> Result<Vec<Warrior>, RunFault>
     requires few { length sources.now ≤ MOST_OPPONENTS }
-    ensures warriors { IfOk result (λ ws. AreOpponents rules.now (map (λ s. s.items) sources.now) ws.items) }
+    ensures warriors { Returns (λ ws. ws.items) result (opponents_from rules.now 0 (map (λ s. s.items) sources.now)) }
     ensures count { IfOk result (λ ws. length ws.items ≡ length sources.now) }
     ensures fit { IfOk result (λ ws. All (Fits rules.now) ws.items) }
-    ensures refused { IfErr result (λ e. AreRefused e rules.now (map (λ s. s.items) sources.now)) }
+    ensures others { IfErr result (λ e. (e ≢ RunFault.NoCandidate) × (e ≢ RunFault.Write)) }
 {
     let mut warriors = Vec::new(alloc);
-    for source in sources {
+    let mut rest = sources;
+    while let Some((source, after)) = rest.split_first() {
         let index = warriors.len() as u32;
         let warrior = opponent_of(alloc, source.as_slice(), index, rules)?;
         warriors.push(warrior)?;
+        rest = after;
     }
     Ok(warriors)
 }

@@ -13,11 +13,10 @@ ghost use Rattle.tune_cert.specs.Spelling.{Spells};
 ghost use Rattle.tune_search.specs.Found.{IsSearch};
 ghost use Rattle.tune_runs.specs.Report.{report_text, report_for};
 ghost use Rattle.tune_problem.specs.BestPart.{first_setting, IsOutcome, IsBestPart};
-ghost use Rattle.tune_runs.specs.TuneRun.{Texts, of_part, Means, IsTuning, IsTuneRefusal, WritesTuning};
+ghost use Rattle.tune_runs.specs.TuneRun.{Texts, of_part, Means, HasNoCandidate, IsTuning, WritesTuning};
 ghost use Rattle.tune_cert.specs.Verdict.{IsRightVerdict};
 ghost use Rattle.tune_runs.specs.CheckRun.{WritesVerdict, WritesShare, Accepts, IsShown, check_line, share_line};
 
-use crate::fault::RunFault;
 use tune_cert::{Found, Verdict};
 use tune_search::Method;
 
@@ -79,8 +78,8 @@ pub fn accepted_parts_name_the_optimum()
         → IsBestPart parts outcome number best total
         → (i : InputsView) × Means (of_part t 1 1) i × IsOutcome (problem_of i) (Some (first_setting i number parts + best, total)) }
     ensures none { (t : Texts) (parts : ℕ) → 1 ≤ parts
-        → ((n : ℕ) → 1 ≤ n → n ≤ parts → IsTuneRefusal RunFault.NoCandidate (of_part t n parts))
-        → IsTuneRefusal RunFault.NoCandidate (of_part t 1 1) }
+        → ((n : ℕ) → 1 ≤ n → n ≤ parts → HasNoCandidate (of_part t n parts))
+        → HasNoCandidate (of_part t 1 1) }
 {}
 
 /// States that a check can be shared: if each of `shares` shares of the same bytes, checked for the

@@ -1,14 +1,14 @@
 //! A setting: from a template to the load file of one of its settings.
-ghost use Rattle.std.specs.Prelude.{◌≡◌, ◌≢◌, ◌↔◌, ◌⊎◌, ◌≤◌, ◌<◌, length, false, IfOk, IfErr, OnOk, IsErrOf, IsTrue};
-ghost use Rattle.rc_instr.specs.Warrior.{WarriorView, Fits};
+ghost use Rattle.std.specs.Prelude.{◌≡◌, ◌≢◌, ◌≤◌, ◌<◌, length, false, IfOk, IfErr};
+ghost use Rattle.rc_instr.specs.Warrior.{Fits};
 ghost use Rattle.tune_template.specs.Vectors.{vectors_of};
-ghost use Rattle.tune_runs.specs.SettingRun.{index_meant, IsSettingOf, IsSettingRefusal, WritesSetting};
+ghost use Rattle.tune_runs.specs.Runs.{Returns, IsRun};
+ghost use Rattle.tune_runs.specs.SettingRun.{index_meant, setting_warrior, setting_answer};
 
 use crate::asm::loadfile_of;
 use crate::fault::RunFault;
 use crate::given::WhichSetting;
 use crate::inputs::template_of;
-use rc_asm::AsmKind;
 use rc_instr::{Outlet, Rules, Warrior};
 use std::alloc::Global;
 use std::io::Write;
@@ -35,47 +35,44 @@ pub fn setting_run<W: Write>(
 ) -> Result<(), RunFault>
     requires { out.old.failed ≡ false }
 
-    // What was written is the load file of the setting's warrior.
-    ensures warrior { OnOk result (WritesSetting source.now which rules.now out.old.bytes out.new.bytes) }
-
-    // The fault of a refusal holds, those before it do not, and nothing was written.
-    ensures refused { IfErr result (λ e. e ≢ RunFault.Write → IsSettingRefusal e source.now which rules.now × (out.new ≡ out.old)) }
-    ensures write { IsErrOf result RunFault.Write ↔ IsTrue out.new.failed }
-
-    // A setting that has a warrior is not refused.
-    ensures meaning { (w : WarriorView) → IsSettingOf source.now which rules.now w
-        → IfErr result (λ e. (e ≡ RunFault.Write) ⊎ (e ≡ RunFault.OutOfMemory)) }
+    ensures run { IsRun (setting_answer source.now which rules.now) result out.old out.new }
 {
-    let warrior = warrior_at(alloc, source, which, rules)?;
-    let file = loadfile_of(alloc, &warrior, rules)?;
-    out.write_all(file.as_slice())?;
+    let text = setting_text(alloc, source, which, rules)?;
+    out.write_all(text.as_slice())?;
     Ok(())
 }
 
+fn setting_text(
+    alloc: Global,
+    source: &[u8],
+    which: WhichSetting,
+    rules: &Rules,
+) -> Result<Vec<u8>, RunFault>
+    ensures answer { Returns (λ file. (tt, file.items)) result (setting_answer source.now which rules.now) }
+    ensures unwritten { IfErr result (λ e. e ≢ RunFault.Write) }
+{
+    let warrior = warrior_at(alloc, source, which, rules)?;
+    Ok(loadfile_of(alloc, &warrior, rules)?)
+}
+
 // Makes the warrior of a setting.
-#[tactic(auto, using(crate::proofs::OneSetting::template_refused))]
+#[tactic(auto, unfolding(crate::specs::SettingRun::setting_warrior))]
 fn warrior_at(
     alloc: Global,
     source: &[u8],
     which: WhichSetting,
     rules: &Rules,
 ) -> Result<Warrior, RunFault>
-    ensures warrior { IfOk result (IsSettingOf source.now which rules.now) }
+    ensures warrior { Returns (λ w. w) result (setting_warrior source.now which rules.now) }
     ensures fits { IfOk result (Fits rules.now) }
-    ensures refused { IfErr result (λ e. IsSettingRefusal e source.now which rules.now) }
+    ensures unwritten { IfErr result (λ e. e ≢ RunFault.Write) }
 {
     let template = template_of(alloc, source)?;
     let index = match index_of(&template, which) {
         Ok(index) => index,
         Err(index) => return Err(RunFault::NoSuchSetting { index }),
     };
-    match template.instance(alloc, index, rules) {
-        Ok(warrior) => Ok(warrior),
-        Err(fault) => match fault.kind {
-            AsmKind::OutOfMemory => Err(RunFault::OutOfMemory),
-            _ => Err(RunFault::Asm(fault)),
-        },
-    }
+    Ok(template.instance(alloc, index, rules)?)
 }
 
 // Returns the index of the setting that is meant, or an index that no setting has.

@@ -1,8 +1,7 @@
 //! The settings of a template: from a template to the number of its settings, and its constants.
-ghost use Rattle.std.specs.Prelude.{◌≡◌, ◌≢◌, ◌↔◌, ◌⊎◌, false, IfErr, OnOk, IsErrOf, IsTrue};
-ghost use Rattle.tune_template.specs.Instances.{TemplateView};
-ghost use Rattle.tune_runs.specs.TuneRun.{IsTemplate, IsTemplateRefusal};
-ghost use Rattle.tune_runs.specs.SettingsRun.{WritesSettings};
+ghost use Rattle.std.specs.Prelude.{◌≡◌, ◌≢◌, false, IfErr};
+ghost use Rattle.tune_runs.specs.Runs.{Returns, IsRun};
+ghost use Rattle.tune_runs.specs.SettingsRun.{settings_answer};
 
 use crate::fault::RunFault;
 use crate::inputs::template_of;
@@ -28,20 +27,17 @@ pub fn settings_run<W: Write>(
 ) -> Result<(), RunFault>
     requires { out.old.failed ≡ false }
 
-    // What was written is the number of settings and the constants of the template.
-    ensures settings { OnOk result (WritesSettings source.now out.old.bytes out.new.bytes) }
-
-    // After a fault other than `Write` the text is no template, as the fault says, and nothing was
-    // written.
-    ensures refused { IfErr result (λ e. e ≢ RunFault.Write → IsTemplateRefusal e source.now × (out.new ≡ out.old)) }
-    ensures write { IsErrOf result RunFault.Write ↔ IsTrue out.new.failed }
-
-    // With a template the run succeeds, or ends with `Write` or `OutOfMemory`.
-    ensures meaning { (t : TemplateView) → IsTemplate source.now t
-        → IfErr result (λ e. (e ≡ RunFault.Write) ⊎ (e ≡ RunFault.OutOfMemory)) }
+    ensures run { IsRun (settings_answer source.now) result out.old out.new }
 {
-    let template = template_of(alloc, source)?;
-    let text = settings_text_of(alloc, &template)?;
+    let text = text_of(alloc, source)?;
     out.write_all(text.as_slice())?;
     Ok(())
+}
+
+fn text_of(alloc: Global, source: &[u8]) -> Result<Vec<u8>, RunFault>
+    ensures answer { Returns (λ text. (tt, text.items)) result (settings_answer source.now) }
+    ensures unwritten { IfErr result (λ e. e ≢ RunFault.Write) }
+{
+    let template = template_of(alloc, source)?;
+    Ok(settings_text_of(alloc, &template)?)
 }

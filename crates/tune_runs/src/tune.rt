@@ -7,8 +7,8 @@ ghost use Rattle.tune_problem.specs.Valid.{cert_of};
 ghost use Rattle.tune_cert.specs.Spelling.{IsVersion};
 ghost use Rattle.tune_search.specs.Limits.{MOST_CAPACITY};
 ghost use Rattle.tune_search.specs.Method.{HasCapacity};
-ghost use Rattle.tune_search.specs.Found.{IsSearch};
-ghost use Rattle.tune_runs.specs.TuneRun.{texts, HasNoCandidate, IsTuneRun, WritesTuning};
+ghost use Rattle.tune_search.specs.Found.{IsSearch, NoneAssembles};
+ghost use Rattle.tune_runs.specs.TuneRun.{texts, IsTuneRun, WritesTuning};
 ghost use Rattle.tune_runs.specs.Given.{texts_given};
 
 use crate::fault::RunFault;
@@ -122,7 +122,7 @@ fn find<T: Watcher>(
 ) -> Result<Found, RunFault>
     requires { HasCapacity method }
     ensures found { IfOk result (IsSearch (problem_of inputs.now) method) }
-    ensures none { IfErr result (λ e. (e ≡ RunFault.OutOfMemory) ⊎ ((e ≡ RunFault.NoCandidate) × HasNoCandidate inputs.now)) }
+    ensures none { IfErr result (λ e. (e ≡ RunFault.OutOfMemory) ⊎ ((e ≡ RunFault.NoCandidate) × NoneAssembles (problem_of inputs.now))) }
 {
     watcher.begin(inputs);
     let searched = search_by(alloc, inputs, method, watcher);

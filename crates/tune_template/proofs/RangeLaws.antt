@@ -18,11 +18,14 @@ use Rattle.tune_template.specs.declared.fault.TemplateKind.{TemplateKind}
 use Rattle.tune_template.specs.declared.fault.TemplateKind.TheVariants.{DuplicateName, EmptyRange, StartOutside, TooManyConstants, TooManyVectors, TextTooLong}
 use Rattle.tune_template.specs.Limits.{MOST_CONSTANTS, MOST_SETTINGS}
 use Rattle.tune_template.specs.Lines.{lines_of, words_of, is_range_line}
-use Rattle.tune_template.specs.Ranges.{Ranges, ranges, name_checked, span_after, span_said, with_range, worded, range_added, vector_count, at_line, then_from, ranges_from, ranges_of, HasRanges, signed_number, step_number}
+use Rattle.tune_template.specs.Ranges.{Ranges, ranges, name_checked, span_said, with_range, worded, next_range, vector_count, line_added, ranges_from, ranges_of, HasRanges, signed_number, step_number}
 use Rattle.tune_template.specs.Spans.{is_outside, span_of}
 use Rattle.tune_template.specs.Vectors.{vectors_of}
 use Rattle.tune_template.proofs.Counts.{count_push}
 use Rattle.tune_template.proofs.VectorSteps.{some_times, vectors_len}
+use Rattle.tune_template.specs.Faults.{at_line}
+use Rattle.rc_instr.specs.Results.{mapped, with_fault, and_then, check}
+use Rattle.rc_asm.proofs.Outcomes.{went_on}
 use Rattle.tune_template.specs.Laws.{first_word, name_on, are_distinct, AreOfLines}
 
 ok_same : {A E : Type 0} (x y : A) (r : Result A E) → r ≡ Ok x → r ≡ Ok y → x ≡ y
@@ -46,49 +49,37 @@ record Passes (names : List (List ℕ)) (name : List ℕ) (x : Span) : Type 0 wh
   new : is_among names name ≡ false
   some : 0 < x.count
 
-checked : (names : List (List ℕ)) (name : List ℕ) (c : NameClass) (s : Result Span TemplateKind) (x : Span) → (s ≡ Ok x → 0 < x.count) → class_of name ≡ c
-    → span_after (name_checked names c name) s ≡ Ok x → Passes names name x
-checked names name NoName s x some is e = cc
-checked names name Reserved s x some is e = cc
-checked names name Predefined s x some is e = cc
-checked names name Free s x some is e = by_among (is_among names name) refl e where
-  by_among : (b : Bool) → is_among names name ≡ b → span_after (if b then Err DuplicateName else Ok tt) s ≡ Ok x → Passes names name x
-  by_among true a h = cc
-  by_among false a h = record { free = is; new = a; some = some h }
+checked : (names : List (List ℕ)) (name : List ℕ) (c : NameClass) → class_of name ≡ c → name_checked names c name ≡ Ok tt → (class_of name ≡ Free) × (is_among names name ≡ false)
+checked names name NoName is e = absurd (cc)
+checked names name Reserved is e = absurd (cc)
+checked names name Predefined is e = absurd (cc)
+checked names name Free is e = by_among (is_among names name) refl e where
+  by_among : (b : Bool) → is_among names name ≡ b → ◌≡◌ {A = Result (Unit {0}) TemplateKind} (if b then Err DuplicateName else Ok tt) (Ok tt) → (class_of name ≡ Free) × (is_among names name ≡ false)
+  by_among true a h = absurd (cc)
+  by_among false a h = (is, a)
 
 said : (names : List (List ℕ)) (name : List ℕ) (low high : Option ℤ) (step : Option ℕ) (start : Option ℤ) (x : Span) → span_said names name low high step start ≡ Ok x → Passes names name x
-said names name (Some low) (Some high) (Some step) (Some start) x e = checked names name (class_of name) _ x (some_value low high step start x) refl e
+said names name (Some low) (Some high) (Some step) (Some start) x e =
+    let n = went_on (name_checked names (class_of name) name) (λ _. span_of low high step start) x e in
+    let c = checked names name (class_of name) refl n.1 in
+    record { free = c.0; new = c.1; some = some_value low high step start x n.2 }
 said names name None high step start x e = cc
 said names name (Some low) None step start x e = cc
 said names name (Some low) (Some high) None start x e = cc
 said names name (Some low) (Some high) (Some step) None x e = cc
 
--- what one more range adds
-record Adds (r t : Ranges) (name : List ℕ) : Type 0 where
-  span : Span
-  names : t.names ≡ r.names ++ (name ∷ [])
-  spans : t.spans ≡ r.spans ++ (span ∷ [])
-  passes : Passes r.names name span
-
-with_adds : (r t : Ranges) (name : List ℕ) (s : Result Span TemplateKind) → ((x : Span) → s ≡ Ok x → Passes r.names name x) → with_range r name s ≡ Ok t → Adds r t name
-with_adds r t name (Err k) p e = cc
-with_adds r t name (Ok x) p e = by_count (nat_lt MOST_SETTINGS (vector_count r.spans * x.count)) e where
-  by_count : (b : Bool) → (if b then Err TooManyVectors else Ok (ranges (r.names ++ (name ∷ [])) (r.spans ++ (x ∷ [])))) ≡ Ok t → Adds r t name
-  by_count true h = cc
-  by_count false h =
-      let same : ranges (r.names ++ (name ∷ [])) (r.spans ++ (x ∷ [])) ≡ t = ok_same _ t _ refl h in
-      record { span = x; names = sym (ap (λ q. q.names) same); spans = sym (ap (λ q. q.spans) same); passes = p x refl }
-
-worded_adds : (r t : Ranges) (words : List (List ℕ)) → worded r words ≡ Ok t → Adds r t (first_word words)
+worded_passes : (r : Ranges) (words : List (List ℕ)) (next : List ℕ × Span) → worded r words ≡ Ok next → (next.0 ≡ first_word words) × Passes r.names next.0 next.1
 unfolding worded
-worded_adds r t [] e = cc
-worded_adds r t (a ∷ []) e = cc
-worded_adds r t (a ∷ b ∷ []) e = cc
-worded_adds r t (a ∷ b ∷ c ∷ []) e = cc
-worded_adds r t (a ∷ b ∷ c ∷ d ∷ []) e = cc
-worded_adds r t (a ∷ b ∷ c ∷ d ∷ f ∷ []) e =
-    with_adds r t a (span_said r.names a (signed_number b) (signed_number c) (step_number d) (signed_number f)) (λ x. said r.names a (signed_number b) (signed_number c) (step_number d) (signed_number f) x) e
-worded_adds r t (a ∷ b ∷ c ∷ d ∷ f ∷ g ∷ gs) e = cc
+worded_passes r [] next e = absurd (cc)
+worded_passes r (a ∷ []) next e = absurd (cc)
+worded_passes r (a ∷ b ∷ []) next e = absurd (cc)
+worded_passes r (a ∷ b ∷ c ∷ []) next e = absurd (cc)
+worded_passes r (a ∷ b ∷ c ∷ d ∷ []) next e = absurd (cc)
+worded_passes r (a ∷ b ∷ c ∷ d ∷ f ∷ []) next e =
+    let s = went_on (span_said r.names a (signed_number b) (signed_number c) (step_number d) (signed_number f)) (λ s. Ok (a, s)) next e in
+    let same : (a, s.0) ≡ next = let q = s.2 in cc in
+    subst (λ (n : List ℕ × Span). (n.0 ≡ a) × Passes r.names n.0 n.1) same (refl, said r.names a (signed_number b) (signed_number c) (step_number d) (signed_number f) s.0 s.1)
+worded_passes r (a ∷ b ∷ c ∷ d ∷ f ∷ g ∷ gs) next e = absurd (cc)
 
 -- the names so far, in order, and settings
 record Good (r : Ranges) : Type 0 where
@@ -124,51 +115,64 @@ distinct_push (n ∷ ns) m d s =
     let q = both_false (bytes_eq n m) (is_among ns m) s in
     rw (among_push ns m n (not_true (is_among ns n) p.0) (nat_list_eq_equiv.symm m n ∙ q.0), distinct_push ns m p.1 q.1)
 
-one_more : (r t : Ranges) (line : List ℕ) → Good r → range_added r line ≡ Ok t → Good t × (t.names ≡ r.names ++ (name_on line ∷ []))
-one_more r t line g e = by_room (nat_lt (length r.names) MOST_CONSTANTS) refl e where
-  by_room : (b : Bool) → nat_lt (length r.names) MOST_CONSTANTS ≡ b → (if b then worded r (words_of (drop 6 line)) else Err TooManyConstants) ≡ Ok t → Good t × (t.names ≡ r.names ++ (name_on line ∷ []))
-  by_room false n h = cc
-  by_room true n h =
-      let a = worded_adds r t (words_of (drop 6 line)) h in
-      let room : length r.names < MOST_CONSTANTS = ltb-true (length r.names) MOST_CONSTANTS n in
-      let distinct : are_distinct t.names ≡ true = ap are_distinct a.names ∙ distinct_push r.names (name_on line) g.distinct a.passes.new in (
-        record {
-          free = All-same (λ name. class_of name ≡ Free) t.names _ a.names (All-push (λ name. class_of name ≡ Free) r.names (name_on line) g.free a.passes.free);
-          distinct = distinct;
-          few = omega (arith, room, ap length a.names, length-append r.names (name_on line ∷ []));
-          some = subst (λ (n : ℕ). 0 < n) (sym (ap vector_count a.spans ∙ count_push r.spans a.span)) (some_times (vector_count r.spans) a.span.count g.some a.passes.some);
-        },
-        a.names,
-      )
+one_more : (r : Ranges) (next : List ℕ × Span) (line : List ℕ) → Good r → next_range r line ≡ Ok next → Good (with_range r next) × (next.0 ≡ name_on line)
+one_more r next line g e =
+    let n = went_on (check (nat_lt (length r.names) MOST_CONSTANTS) TooManyConstants) _ next e in
+    let w = went_on (worded r (words_of (drop 6 line))) _ next n.2 in
+    let m = went_on (check (nat_le (vector_count r.spans * w.0.1.count) MOST_SETTINGS) TooManyVectors) _ next w.2 in
+    let same : w.0 ≡ next = let q = m.2 in cc in
+    let p = subst (λ (x : List ℕ × Span). (x.0 ≡ name_on line) × Passes r.names x.0 x.1) same (worded_passes r (words_of (drop 6 line)) w.0 w.1) in
+    let room : length r.names < MOST_CONSTANTS = ltb-true (length r.names) MOST_CONSTANTS (passed (nat_lt (length r.names) MOST_CONSTANTS) n.1) in (
+      record {
+        free = All-push (λ name. class_of name ≡ Free) r.names next.0 g.free p.1.free;
+        distinct = distinct_push r.names next.0 g.distinct p.1.new;
+        few = omega (arith, room, length-append r.names (next.0 ∷ []));
+        some = subst (λ (n : ℕ). 0 < n) (sym (count_push r.spans next.1)) (some_times (vector_count r.spans) next.1.count g.some p.1.some);
+      },
+      p.0,
+    )
+  where
+    passed : (b : Bool) → check b TooManyConstants ≡ Ok tt → b ≡ true
+    passed true h = refl
+    passed false h = absurd (cc)
+
+-- what a line adds
+line_adds : (n : ℕ) (r t : Ranges) (line : List ℕ) → Good r → line_added n r line ≡ Ok t → Good t × (t.names ≡ r.names ++ map name_on (filter is_range_line (line ∷ [])))
+line_adds n r t line g e = by_line (is_range_line line) e where
+  by_next : (x : Result (List ℕ × Span) TemplateKind) → next_range r line ≡ x → mapped (with_range r) (with_fault (at_line n) x) ≡ Ok t → Good t × (t.names ≡ r.names ++ name_on line ∷ [])
+  by_next (Err k) a h = absurd (cc)
+  by_next (Ok next) a h =
+      let same : with_range r next ≡ t = cc in
+      let m = one_more r next line g a in
+      subst (λ (q : Ranges). Good q × (q.names ≡ r.names ++ name_on line ∷ [])) same (m.0, ap (λ x. r.names ++ x ∷ []) m.1)
+
+  by_line : (b : Bool) → (if b then mapped (with_range r) (with_fault (at_line n) (next_range r line)) else Ok r) ≡ Ok t
+      → Good t × (t.names ≡ r.names ++ map name_on (if b then line ∷ [] else []))
+  by_line false h = let same : r ≡ t = cc in (subst Good same g, ap (λ q. q.names) (sym same) ∙ sym (append-nil r.names))
+  by_line true h = by_next (next_range r line) refl h
+
+-- the names of range lines, one line after the other
+named_after : (line : List ℕ) (lines : List (List ℕ)) → map name_on (filter is_range_line (line ∷ [])) ++ map name_on (filter is_range_line lines) ≡ map name_on (filter is_range_line (line ∷ lines))
+named_after line lines = by_line (is_range_line line) where
+  by_line : (b : Bool) → map name_on (if b then line ∷ [] else []) ++ map name_on (filter is_range_line lines) ≡ map name_on (if b then line ∷ filter is_range_line lines else filter is_range_line lines)
+  by_line true = refl
+  by_line false = refl
 
 from : (n : ℕ) (r s : Ranges) (lines : List (List ℕ)) → Good r → ranges_from n r lines ≡ Ok s → Good s × (s.names ≡ r.names ++ map name_on (filter is_range_line lines))
 from n r s [] g e =
     let same : r ≡ s = ok_same r s _ refl e in (subst Good same g, ap (λ q. q.names) (sym same) ∙ sym (append-nil r.names))
-from n r s (line ∷ lines) g e = by_line (λ q. from (n + 1) q s lines) (is_range_line line) e where
-  by_added : ((q : Ranges) → Good q → ranges_from (n + 1) q lines ≡ Ok s → Good s × (s.names ≡ q.names ++ map name_on (filter is_range_line lines)))
-      → (x : Result Ranges TemplateKind) → range_added r line ≡ x → then_from (at_line n x) (λ q. ranges_from (n + 1) q lines) ≡ Ok s
-      → Good s × (s.names ≡ r.names ++ (name_on line ∷ map name_on (filter is_range_line lines)))
-  by_added later (Err k) a h = cc
-  by_added later (Ok t) a h =
-      let m = one_more r t line g a in
-      let f = later t m.0 h in
-      (f.0, f.1 ∙ (ap (λ l. l ++ map name_on (filter is_range_line lines)) m.1 ∙ append_assoc r.names (name_on line ∷ []) (map name_on (filter is_range_line lines))))
-
-  by_line : ((q : Ranges) → Good q → ranges_from (n + 1) q lines ≡ Ok s → Good s × (s.names ≡ q.names ++ map name_on (filter is_range_line lines)))
-      → (b : Bool) → then_from (if b then at_line n (range_added r line) else Ok r) (λ q. ranges_from (n + 1) q lines) ≡ Ok s
-      → Good s × (s.names ≡ r.names ++ map name_on (if b then line ∷ filter is_range_line lines else filter is_range_line lines))
-  by_line later false h = later r g h
-  by_line later true h = by_added later (range_added r line) refl h
+from n r s (line ∷ lines) g e =
+    let t = went_on (line_added n r line) (λ t. ranges_from (n + 1) t lines) s e in
+    let m = line_adds n r t.0 line g t.1 in
+    let f = from (n + 1) t.0 s lines m.0 t.2 in
+    (f.0, f.1 ∙ (ap (λ l. l ++ map name_on (filter is_range_line lines)) m.1 ∙ (append_assoc r.names _ _ ∙ ap (λ l. r.names ++ l) (named_after line lines))))
 
 good_lines : (text : List ℕ) (r : Ranges) → HasRanges text r → Good r × (r.names ≡ map name_on (filter is_range_line (lines_of text)))
 unfolding ranges_of
-good_lines text r e = by_length (nat_le (length text) MOST_BYTES) e where
-  by_length : (b : Bool) → (if b then ranges_from 1 (ranges [] []) (lines_of text) else Err (record { line = 0; kind = TextTooLong })) ≡ Ok r
-      → Good r × (r.names ≡ map name_on (filter is_range_line (lines_of text)))
-  by_length false h = cc
-  by_length true h =
-      let none : Good (ranges [] []) = record { free = All-nil (λ name. class_of name ≡ Free); distinct = refl; few = omega arith; some = omega arith } in
-      from 1 (ranges [] []) r (lines_of text) none h
+good_lines text r e =
+    let c = went_on (check (nat_le (length text) MOST_BYTES) (at_line 0 TextTooLong)) (λ _. ranges_from 1 (ranges [] []) (lines_of text)) r e in
+    let none : Good (ranges [] []) = record { free = All-nil (λ name. class_of name ≡ Free); distinct = refl; few = omega arith; some = omega arith } in
+    from 1 (ranges [] []) r (lines_of text) none c.2
 
 pub of_lines : (text : List ℕ) (r : Ranges) → HasRanges text r → AreOfLines text r
 of_lines text r e = let f = good_lines text r e in record { names = f.1; free = f.0.free; distinct = f.0.distinct; few = f.0.few }

@@ -5,6 +5,7 @@
 pub mod Limits
 pub mod Lines
 pub mod Spans
+pub mod Faults
 pub mod Ranges
 pub mod Vectors
 pub mod Instances

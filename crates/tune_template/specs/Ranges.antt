@@ -10,6 +10,8 @@ use Rattle.tune_template.specs.declared.span.Span.{Span}
 use Rattle.tune_template.specs.declared.fault.TemplateKind.{TemplateKind}
 use Rattle.tune_template.specs.declared.fault.TemplateKind.TheVariants.{BadLine, DuplicateName, ReservedName, TooManyConstants, TooManyVectors, TextTooLong}
 use Rattle.tune_template.specs.declared.fault.TemplateFault.{TemplateFault}
+use Rattle.rc_instr.specs.Results.{mapped, with_fault, ◌>>=◌, check}
+use Rattle.tune_template.specs.Faults.{at_line}
 use Rattle.tune_template.specs.Limits.{MOST_CONSTANTS, MOST_SETTINGS}
 use Rattle.tune_template.specs.Lines.{lines_of, words_of, is_range_line}
 use Rattle.tune_template.specs.Spans.{span_of}
@@ -55,50 +57,49 @@ name_checked names Reserved name = Err ReservedName
 name_checked names Predefined name = Err ReservedName
 name_checked names Free name = if is_among names name then Err DuplicateName else Ok tt
 
--- a fault of the name comes before one of the span
-abbrev pub span_after : Result (Unit {0}) TemplateKind → Result Span TemplateKind → Result Span TemplateKind
-span_after (Ok u) s = s
-span_after (Err k) s = Err k
-
--- the span of the next constant; a word that is not a number comes before the name's fault
+-- the span of the next constant: a word that is not a number is reported first, then the name's
+-- fault, then the span's
 abbrev pub span_said : List (List ℕ) → List ℕ → Option ℤ → Option ℤ → Option ℕ → Option ℤ → Result Span TemplateKind
-span_said names name (Some low) (Some high) (Some step) (Some start) = span_after (name_checked names (class_of name) name) (span_of low high step start)
+span_said names name (Some low) (Some high) (Some step) (Some start) = do
+  _ ← name_checked names (class_of name) name
+  span_of low high step start
 span_said names name _ _ _ _ = Err BadLine
 
--- one more constant, unless there are then more than `MOST_SETTINGS` settings
-abbrev pub with_range : Ranges → List ℕ → Result Span TemplateKind → Result Ranges TemplateKind
-with_range r name (Err k) = Err k
-with_range r name (Ok s) = if nat_lt MOST_SETTINGS (vector_count r.spans * s.count) then Err TooManyVectors else Ok (ranges (r.names ++ (name ∷ [])) (r.spans ++ (s ∷ [])))
-
 -- five words: NAME LOW HIGH STEP START
-unfoldable pub worded : Ranges → List (List ℕ) → Result Ranges TemplateKind
-worded r (name ∷ low ∷ high ∷ step ∷ start ∷ []) = with_range r name (span_said r.names name (signed_number low) (signed_number high) (step_number step) (signed_number start))
+unfoldable pub worded : Ranges → List (List ℕ) → Result (List ℕ × Span) TemplateKind
+worded r (name ∷ low ∷ high ∷ step ∷ start ∷ []) = do
+  s ← span_said r.names name (signed_number low) (signed_number high) (step_number step) (signed_number start)
+  Ok (name, s)
 worded r _ = Err BadLine
 
--- one more range line, unless there are `MOST_CONSTANTS` constants already
-abbrev pub range_added : Ranges → List ℕ → Result Ranges TemplateKind
-range_added r line = if nat_lt (length r.names) MOST_CONSTANTS then worded r (words_of (drop 6 line)) else Err TooManyConstants
+-- the range that a range line adds to those so far, or its first fault
+abbrev pub next_range : Ranges → List ℕ → Result (List ℕ × Span) TemplateKind
+next_range r line = do
+  _ ← check (nat_lt (length r.names) MOST_CONSTANTS) TooManyConstants
+  next ← worded r (words_of (drop 6 line))
+  _ ← check (nat_le (vector_count r.spans * next.1.count) MOST_SETTINGS) TooManyVectors
+  Ok next
 
-abbrev pub at_line : {A : Type 0} → ℕ → Result A TemplateKind → Result A TemplateFault
-at_line n (Ok x) = Ok x
-at_line n (Err k) = Err (record { line = n; kind = k })
+-- the ranges and one more
+abbrev pub with_range : Ranges → List ℕ × Span → Ranges
+with_range r next = ranges (r.names ++ (next.0 ∷ [])) (r.spans ++ (next.1 ∷ []))
 
 -- a range line adds its constant; any other line adds nothing
 abbrev pub line_added : ℕ → Ranges → List ℕ → Result Ranges TemplateFault
-line_added n r line = if is_range_line line then at_line n (range_added r line) else Ok r
-
-abbrev pub then_from : Result Ranges TemplateFault → (Ranges → Result Ranges TemplateFault) → Result Ranges TemplateFault
-then_from (Ok r) next = next r
-then_from (Err f) next = Err f
+line_added n r line = if is_range_line line then mapped (with_range r) (with_fault (at_line n) (next_range r line)) else Ok r
 
 -- the ranges so far, and those of these lines, which begin with line n
 abbrev pub ranges_from : ℕ → Ranges → List (List ℕ) → Result Ranges TemplateFault
 ranges_from n r [] = Ok r
-ranges_from n r (line ∷ lines) = then_from (line_added n r line) (λ s. ranges_from (n + 1) s lines)
+ranges_from n r (line ∷ lines) = do
+  more ← line_added n r line
+  ranges_from (n + 1) more lines
 
--- the ranges of a text of at most `MOST_BYTES` bytes
+-- the ranges of a text of at most `MOST_BYTES` bytes, or its first fault
 unfoldable pub ranges_of : List ℕ → Result Ranges TemplateFault
-ranges_of text = if nat_le (length text) MOST_BYTES then ranges_from 1 (ranges [] []) (lines_of text) else Err (record { line = 0; kind = TextTooLong })
+ranges_of text = do
+  _ ← check (nat_le (length text) MOST_BYTES) (at_line 0 TextTooLong)
+  ranges_from 1 (ranges [] []) (lines_of text)
 
 -- the text is a template with these ranges
 abbrev pub HasRanges : List ℕ → Ranges → Type 0

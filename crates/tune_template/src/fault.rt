@@ -1,5 +1,6 @@
 //! Why a template is refused, and where.
 ghost use Rattle.std.specs.Prelude.{◌≡◌};
+ghost use Rattle.tune_template.specs.Faults.{at_line};
 
 use std::alloc::{AllocError, AllocFailed};
 use thiserror::Error;
@@ -47,50 +48,31 @@ pub struct TemplateFault {
 
 impl From<AllocError> for TemplateFault {
     ghost use Rattle.std.specs.Prelude.{◌≡◌};
+    ghost use Rattle.tune_template.specs.Faults.{at_line};
     ghost use Rattle.tune_template.specs.declared.fault.TemplateKind.TheVariants.{OutOfMemory};
 
-    ghost from_gives = { λ _ f. f ≡ record { line = 0; kind = OutOfMemory } };
+    ghost from_gives = { λ _ f. f ≡ at_line 0 OutOfMemory };
 
     fn from(_refused: AllocError) -> Self {
-        TemplateFault {
-            line: 0,
-            kind: TemplateKind::OutOfMemory,
-        }
+        at_line(0, TemplateKind::OutOfMemory)
     }
 }
 
 impl<T: Drop> From<AllocFailed<T>> for TemplateFault {
     ghost use Rattle.std.specs.Prelude.{◌≡◌};
+    ghost use Rattle.tune_template.specs.Faults.{at_line};
     ghost use Rattle.tune_template.specs.declared.fault.TemplateKind.TheVariants.{OutOfMemory};
 
-    ghost from_gives = { λ _ f. f ≡ record { line = 0; kind = OutOfMemory } };
+    ghost from_gives = { λ _ f. f ≡ at_line 0 OutOfMemory };
 
     fn from(_refused: AllocFailed<T>) -> Self {
-        TemplateFault {
-            line: 0,
-            kind: TemplateKind::OutOfMemory,
-        }
+        at_line(0, TemplateKind::OutOfMemory)
     }
 }
 
-impl From<AllocError> for TemplateKind {
-    ghost use Rattle.std.specs.Prelude.{◌≡◌};
-    ghost use Rattle.tune_template.specs.declared.fault.TemplateKind.TheVariants.{OutOfMemory};
-
-    ghost from_gives = { λ _ k. k ≡ OutOfMemory };
-
-    fn from(_refused: AllocError) -> Self {
-        TemplateKind::OutOfMemory
-    }
-}
-
-impl<T: Drop> From<AllocFailed<T>> for TemplateKind {
-    ghost use Rattle.std.specs.Prelude.{◌≡◌};
-    ghost use Rattle.tune_template.specs.declared.fault.TemplateKind.TheVariants.{OutOfMemory};
-
-    ghost from_gives = { λ _ k. k ≡ OutOfMemory };
-
-    fn from(_refused: AllocFailed<T>) -> Self {
-        TemplateKind::OutOfMemory
-    }
+// Gives a fault its line.
+pub(crate) fn at_line(line: u64, kind: TemplateKind) -> TemplateFault
+    ensures { result ≡ at_line line kind }
+{
+    TemplateFault { line, kind }
 }

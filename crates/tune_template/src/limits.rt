@@ -6,6 +6,3 @@ pub(crate) const MOST_CONSTANTS: usize = 8;
 
 // The settings of a template.
 pub(crate) const MOST_SETTINGS: u64 = 1_000_000;
-
-// The bytes of a text, which `specs/Limits.antt` of `rc_asm` has.
-pub(crate) const MOST_BYTES: usize = 65_536;

@@ -1,15 +1,17 @@
 //! The range lines of a template.
-ghost use Rattle.std.specs.Prelude.{◌≡◌, ◌≢◌, ◌<◌, ◌≤◌, ◌*◌, ◌∷◌, ◌++◌, [], map, length, MatchOption, IfOk, IfErr, OnOk, Ok, Err};
+ghost use Rattle.std.specs.Prelude.{◌≡◌, ◌<◌, ◌≤◌, ◌*◌, ◌∷◌, [], map, length, MatchOption, IfOk, OnOk, Ok, Err};
 ghost use Rattle.std.specs.Str.{bytes_eq};
 ghost use Rattle.rc_text.specs.NameClasses.{class_of};
 ghost use Rattle.rc_expand.specs.Names.{is_among};
-ghost use Rattle.tune_template.specs.declared.fault.TemplateKind.TheVariants.{BadLine, OutOfMemory};
-ghost use Rattle.tune_template.specs.Limits.{MOST_CONSTANTS};
+ghost use Rattle.rc_instr.specs.Results.{mapped};
+ghost use Rattle.tune_template.specs.declared.fault.TemplateKind.TheVariants.{BadLine};
+ghost use Rattle.tune_template.specs.Faults.{Returns};
+ghost use Rattle.tune_template.specs.Limits.{MOST_CONSTANTS, MOST_SETTINGS};
 ghost use Rattle.tune_template.specs.Lines.{words_of};
-ghost use Rattle.tune_template.specs.Ranges.{Ranges, ranges, worded, name_checked, span_said, signed_number, step_number, with_range, range_added};
+ghost use Rattle.tune_template.specs.Ranges.{Ranges, ranges, worded, name_checked, span_said, signed_number, step_number, with_range, next_range};
 ghost use Rattle.tune_template.specs.Steps.{seen_ranges, HasValues, AreCounted};
 
-use crate::fault::TemplateKind;
+use crate::fault::{TemplateFault, TemplateKind};
 use crate::limits;
 use crate::lines::first_word;
 use crate::numbers::{signed_number, step_number};
@@ -47,45 +49,47 @@ impl Reading {
         }
     }
 
-    // Adds a constant, if there are not too many settings then.
-    fn push(&mut self, alloc: Global, name: &[u8], span: Span) -> Result<(), TemplateKind>
+    // Adds a constant and its span.
+    pub(crate) fn push(
+        &mut self,
+        alloc: Global,
+        name: &[u8],
+        span: Span,
+    ) -> Result<(), TemplateFault>
         requires counted { AreCounted (seen_ranges self.old) self.old.count }
         requires room { length self.old.names.items < MOST_CONSTANTS }
         requires values { HasValues span }
-        ensures added { OnOk result (with_range (seen_ranges self.old) name.now (Ok span) ≡ Ok (seen_ranges self.new)) }
+        requires few { self.old.count * span.count ≤ MOST_SETTINGS }
+        ensures added { Returns (λ u. seen_ranges self.new) result (Ok (with_range (seen_ranges self.old) (name.now, span))) }
         ensures counted { OnOk result (AreCounted (seen_ranges self.new) self.new.count) }
-        ensures refused { IfErr result (λ k. k ≢ OutOfMemory → with_range (seen_ranges self.old) name.now (Ok span) ≡ Err k) }
     {
-        let count = u64::from(self.count) * u64::from(span.count);
-        if count > limits::MOST_SETTINGS {
-            return Err(TemplateKind::TooManyVectors);
-        }
         self.names.push(name.to_vec(alloc)?)?;
         self.spans.push(span)?;
-        self.count = count as u32;
+        self.count *= span.count;
         Ok(())
     }
 
-    // Adds the constant of a range line.
+    // Reads the constant of a range line and its span, which are the next ones.
     #[tactic(auto, unfolding(crate::specs::Ranges::worded))]
-    pub(crate) fn add(&mut self, alloc: Global, line: &[u8]) -> Result<(), TemplateKind>
+    pub(crate) fn next_range<'a>(&self, line: &'a [u8]) -> Result<(&'a [u8], Span), TemplateKind>
         requires line { 6 ≤ length line.now }
-        requires counted { AreCounted (seen_ranges self.old) self.old.count }
-        ensures added { OnOk result (range_added (seen_ranges self.old) line.now ≡ Ok (seen_ranges self.new)) }
-        ensures counted { OnOk result (AreCounted (seen_ranges self.new) self.new.count) }
-        ensures refused { IfErr result (λ k. k ≢ OutOfMemory → range_added (seen_ranges self.old) line.now ≡ Err k) }
+        requires counted { AreCounted (seen_ranges self.now) self.now.count }
+        ensures next { mapped (λ p. (p.0.now, p.1)) result ≡ next_range (seen_ranges self.now) line.now }
+        ensures room { OnOk result (length self.now.names.items < MOST_CONSTANTS) }
+        ensures values { IfOk result (λ p. HasValues p.1 × (self.now.count * p.1.count ≤ MOST_SETTINGS)) }
     {
         if self.names.len() >= limits::MOST_CONSTANTS {
             return Err(TemplateKind::TooManyConstants);
         }
         let (_, rest) = line.split_at(6);
-        match five_words(rest) {
-            None => Err(TemplateKind::BadLine),
-            Some(words) => {
-                let span = span_said(&self.names, &words)?;
-                self.push(alloc, words.name, span)
-            }
+        let Some(words) = five_words(rest) else {
+            return Err(TemplateKind::BadLine);
+        };
+        let span = span_said(&self.names, &words)?;
+        if u64::from(self.count) * u64::from(span.count) > limits::MOST_SETTINGS {
+            return Err(TemplateKind::TooManyVectors);
         }
+        Ok((words.name, span))
     }
 }
 

@@ -2,22 +2,22 @@
 ghost use Rattle.std.specs.Prelude.{◌≡◌, ◌≢◌, ◌<◌, ◌≤◌, ◌/◌, ◌%◌, ◌++◌, ◌∷◌, [], ℕ, ℤ, List, length, map, slice_get, option_map, Some, None, Ok, Err, IfOk, IfErr, OnOk, All};
 ghost use Rattle.rc_instr.specs.Warrior.{IsWarrior, Fits};
 ghost use Rattle.rc_asm.specs.declared.fault.AsmKind.TheVariants.{OutOfMemory as NoRoomToAssemble};
-ghost use Rattle.tune_template.specs.declared.fault.TemplateKind.TheVariants.{OutOfMemory};
+ghost use Rattle.tune_template.specs.Faults.{Returns};
 ghost use Rattle.tune_template.specs.Limits.{MOST_CONSTANTS, MOST_SETTINGS};
 ghost use Rattle.tune_template.specs.Lines.{lines_of};
-ghost use Rattle.tune_template.specs.Ranges.{Ranges, ranges, vector_count, line_added, ranges_from, ranges_of, HasRanges};
+ghost use Rattle.tune_template.specs.Ranges.{Ranges, ranges, vector_count, line_added, ranges_from};
 ghost use Rattle.tune_template.specs.Vectors.{vectors_of, start_vector, start_index};
 ghost use Rattle.rc_asm.specs.Faults.{Returns as Assembled};
 ghost use Rattle.rc_asm.specs.Assembly.{outcome_of};
-ghost use Rattle.tune_template.specs.Instances.{TemplateView, constants_of, instance_of};
+ghost use Rattle.tune_template.specs.Instances.{constants_of, instance_of, template_of};
 ghost use Rattle.tune_template.specs.Steps.{seen_ranges, AreCounted, HasValues};
 
-use crate::fault::{TemplateFault, TemplateKind};
-use crate::limits;
+use crate::fault::{TemplateFault, TemplateKind, at_line};
 use crate::lines::{first_line, is_range_line};
 use crate::range::Reading;
 use crate::span::Span;
 use crate::vector::Vector;
+use rc_asm::limits::MOST_BYTES;
 use rc_asm::{AsmFault, assemble};
 use rc_expand::Constants;
 use rc_instr::{Rules, Warrior};
@@ -73,15 +73,10 @@ impl Template {
     /// `OutOfMemory`, at line 0, can come at any point.
     #[tactic(auto, unfolding(crate::specs::Ranges::ranges_of))]
     pub fn read(alloc: Global, bytes: &[u8]) -> Result<Template, TemplateFault>
-        ensures read { IfOk result (λ t. (t.text ≡ bytes.now) × HasRanges bytes.now t.ranges) }
-        ensures refused { IfErr result (λ f. f.kind ≢ OutOfMemory → ranges_of bytes.now ≡ Err f) }
-        ensures memory { IfErr result (λ f. f.kind ≡ OutOfMemory → f.line ≡ 0) }
+        ensures { Returns (λ t. t) result (template_of bytes.now) }
     {
-        if bytes.len() > limits::MOST_BYTES {
-            return Err(TemplateFault {
-                line: 0,
-                kind: TemplateKind::TextTooLong,
-            });
+        if bytes.len() > MOST_BYTES {
+            return Err(at_line(0, TemplateKind::TextTooLong));
         }
         let text = bytes.to_vec(alloc)?;
         let Reading {
@@ -169,17 +164,6 @@ impl Template {
     }
 }
 
-// Gives a fault its line. `OutOfMemory` is always at line 0.
-fn at_line(line: u64, kind: TemplateKind) -> TemplateFault
-    ensures fault { kind ≢ OutOfMemory → result ≡ record { line = line; kind = kind } }
-    ensures memory { kind ≡ OutOfMemory → result ≡ record { line = 0; kind = OutOfMemory } }
-{
-    match kind {
-        TemplateKind::OutOfMemory => TemplateFault { line: 0, kind },
-        _ => TemplateFault { line, kind },
-    }
-}
-
 // Adds the constant of a line, if it is a range line.
 fn add_line(
     reading: &mut Reading,
@@ -188,25 +172,21 @@ fn add_line(
     line: &[u8],
 ) -> Result<(), TemplateFault>
     requires counted { AreCounted (seen_ranges reading.old) reading.old.count }
-    ensures added { OnOk result (line_added number (seen_ranges reading.old) line.now ≡ Ok (seen_ranges reading.new)) }
+    ensures added { Returns (λ u. seen_ranges reading.new) result (line_added number (seen_ranges reading.old) line.now) }
     ensures counted { OnOk result (AreCounted (seen_ranges reading.new) reading.new.count) }
-    ensures refused { IfErr result (λ f. f.kind ≢ OutOfMemory → line_added number (seen_ranges reading.old) line.now ≡ Err f) }
-    ensures memory { IfErr result (λ f. f.kind ≡ OutOfMemory → f.line ≡ 0) }
 {
     if !is_range_line(line) {
         return Ok(());
     }
-    match reading.add(alloc, line) {
-        Ok(()) => Ok(()),
+    match reading.next_range(line) {
+        Ok((name, span)) => reading.push(alloc, name, span),
         Err(kind) => Err(at_line(number, kind)),
     }
 }
 
 fn read_lines(alloc: Global, bytes: &[u8]) -> Result<Reading, TemplateFault>
-    ensures read { IfOk result (λ r. ranges_from 1 (ranges [] []) (lines_of bytes.now) ≡ Ok (seen_ranges r)) }
+    ensures read { Returns seen_ranges result (ranges_from 1 (ranges [] []) (lines_of bytes.now)) }
     ensures counted { IfOk result (λ r. AreCounted (seen_ranges r) r.count) }
-    ensures refused { IfErr result (λ f. f.kind ≢ OutOfMemory → ranges_from 1 (ranges [] []) (lines_of bytes.now) ≡ Err f) }
-    ensures memory { IfErr result (λ f. f.kind ≡ OutOfMemory → f.line ≡ 0) }
 {
     let mut reading = Reading::new(alloc);
     let mut number: u64 = 1;

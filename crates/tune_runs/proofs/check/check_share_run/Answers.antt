@@ -8,4 +8,4 @@ pub returns-in_err-verdict-clause-run : goal.returns-in_err-verdict-clause-run
 returns-in_err-verdict-clause-run g c =
     let p = err_from_is_err_and c.from_residual.result c.from_residual.ensures.1 in
     refused_check _ _ c.in_err-verdict.field-0.0 (texts_given c.args.given.now) _ (p.1 ∙ ap (λ e. Err e) p.2)
-    c.requires c.in_err-verdict.ensures.candidate.0 c.in_err-verdict.ensures.refused
+    c.requires c.in_err-verdict.ensures.others.1 c.in_err-verdict.ensures.refused

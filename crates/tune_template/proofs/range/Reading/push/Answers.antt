@@ -5,5 +5,4 @@ use Rattle.tune_template.proofs.range.Reading.push.Goals as goal
 
 pub returns-clause-counted : goal.returns-clause-counted
 returns-clause-counted c =
-    counted_more (seen_ranges c.args.self.now) c.args.self.now.count _ c.args.self.now.names.items _ _ c.args.span _ c.in_ok-push.ensures.items c.in_ok-push-2.ensures.items refl c.requires.counted c.requires.room c.requires.values
-    (rw (c.from.ensures, c.from-2.ensures) refl) (omega (arith, c.if-count-gt-MOST_SETTINGS.false))
+    counted_more (seen_ranges c.args.self.now) c.args.self.now.count _ c.args.self.now.names.items _ _ c.args.span _ c.in_ok-push.ensures.items c.in_ok-push-2.ensures.items refl c.requires.counted c.requires.room c.requires.values refl c.requires.few

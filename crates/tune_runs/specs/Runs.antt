@@ -1,0 +1,76 @@
+-- How runs end.
+use Rattle.std.specs.Prelude.{◌≡◌, ◌≢◌, ◌↔◌, ℕ, List, Option, Result, Ok, Err, IfOk, IfErr, IsOk, IsErrOf, IsTrue}
+use Rattle.std.specs.Io.KnownBytes.{Appends}
+use Rattle.rc_instr.specs.Results.{Returns as ReturnsBut}
+use Rattle.rc_instr.specs.Outlet.{OutletView}
+use Rattle.rc_instr.specs.declared.loadfile.fault.LoadFault.{LoadFault}
+use Rattle.rc_instr.specs.declared.loadfile.fault.LoadFault.TheVariants.{OutOfMemory as LoadMemory}
+use Rattle.rc_asm.specs.declared.fault.AsmFault.{AsmFault}
+use Rattle.rc_asm.specs.declared.fault.AsmKind.{AsmKind}
+use Rattle.rc_asm.specs.declared.fault.AsmKind.TheVariants.{OutOfMemory as AsmMemory}
+use Rattle.mars_core.specs.declared.side.Side.{Side}
+use Rattle.mars_fight.specs.declared.fault.ScheduleFault.{ScheduleFault}
+use Rattle.mars_fight.specs.declared.fault.ScheduleFaultKind.{ScheduleFaultKind}
+use Rattle.mars_fight.specs.declared.fault.ScheduleFaultKind.TheVariants.{OutOfMemory as ScheduleMemory}
+use Rattle.tune_template.specs.declared.fault.TemplateFault.{TemplateFault}
+use Rattle.tune_template.specs.declared.fault.TemplateKind.{TemplateKind}
+use Rattle.tune_template.specs.declared.fault.TemplateKind.TheVariants.{OutOfMemory as TemplateMemory}
+use Rattle.tune_runs.specs.declared.fault.RunFault.{RunFault}
+use Rattle.tune_runs.specs.declared.fault.RunFault.TheVariants.{Load, Asm, Template, Opponent, Schedule, Write, OutOfMemory}
+
+-- ---- faults within faults of runs; out of memory is never inside another fault
+
+abbrev pub asm_fault : AsmFault → RunFault
+asm_fault fault = by_kind fault.kind
+  where
+    by_kind : AsmKind → RunFault
+    by_kind AsmMemory = OutOfMemory
+    by_kind _ = Asm fault
+
+abbrev pub opponent_fault : ℕ → AsmFault → RunFault
+opponent_fault index fault = by_kind fault.kind
+  where
+    by_kind : AsmKind → RunFault
+    by_kind AsmMemory = OutOfMemory
+    by_kind _ = Opponent index fault
+
+abbrev pub template_fault : TemplateFault → RunFault
+template_fault fault = by_kind fault.kind
+  where
+    by_kind : TemplateKind → RunFault
+    by_kind TemplateMemory = OutOfMemory
+    by_kind _ = Template fault
+
+abbrev pub schedule_fault : ScheduleFault → RunFault
+schedule_fault fault = by_kind fault.kind
+  where
+    by_kind : ScheduleFaultKind → RunFault
+    by_kind ScheduleMemory = OutOfMemory
+    by_kind _ = Schedule fault
+
+abbrev pub load_fault : Side → LoadFault → RunFault
+load_fault side LoadMemory = OutOfMemory
+load_fault side fault = Load side fault
+
+-- ---- endings
+
+abbrev pub IsMemory : RunFault → Type 0
+IsMemory fault = fault ≡ OutOfMemory
+
+-- A call returns what the definition gives, seen through `view`, unless memory runs out.
+abbrev pub Returns : {A B : Type 0} → (view : A → B) → (result : Result A RunFault) → (definition : Result B RunFault) → Type 0
+Returns view result definition = ReturnsBut IsMemory view result definition
+
+-- The answer has this value, and all bytes of its text were appended.
+abbrev pub Writes : {X : Type 0} → Result (X × List ℕ) RunFault → X → Option (List ℕ) → Option (List ℕ) → Type 0
+Writes answer x old new = (text : List ℕ) × (answer ≡ Ok (x, text)) × Appends old new text
+
+-- How a run ends. Its answer is a value and the text to be written, or a fault.
+pub record IsRun {X : Type 0} (answer : Result (X × List ℕ) RunFault) (result : Result X RunFault) (old new : OutletView) : Type 0 where
+  -- it returns the value, and the whole text was written
+  pub done : IfOk result (λ x. Writes answer x old.bytes new.bytes)
+  -- `Write`: the writer failed. There was an answer, and what is out is not said.
+  pub stopped : IsErrOf result Write → IsOk answer
+  pub write : IsErrOf result Write ↔ IsTrue new.failed
+  -- any other fault is the answer's, unless memory ran out, and nothing was written
+  pub refused : IfErr result (λ e. e ≢ Write → (new ≡ old) × ((¬ IsMemory e) → answer ≡ Err e))

@@ -1,0 +1,17 @@
+-- Faults at their lines.
+use Rattle.std.specs.Prelude.{◌≡◌, ℕ, Result}
+use Rattle.rc_instr.specs.Results.{Returns as ReturnsBut}
+use Rattle.tune_template.specs.declared.fault.TemplateFault.{TemplateFault}
+use Rattle.tune_template.specs.declared.fault.TemplateKind.{TemplateKind}
+use Rattle.tune_template.specs.declared.fault.TemplateKind.TheVariants.{OutOfMemory}
+
+abbrev pub at_line : ℕ → TemplateKind → TemplateFault
+at_line line kind = record { line = line; kind = kind }
+
+-- out of memory has no line
+abbrev pub IsMemory : TemplateFault → Type 0
+IsMemory fault = fault ≡ at_line 0 OutOfMemory
+
+-- a call returns what the definition gives, seen through `view`, unless memory runs out
+abbrev pub Returns : {A B : Type 0} → (view : A → B) → (result : Result A TemplateFault) → (definition : Result B TemplateFault) → Type 0
+Returns view result definition = ReturnsBut IsMemory view result definition
