@@ -11,6 +11,7 @@ pub mod Leads
 pub mod Steps
 pub mod Cached
 pub mod Recalls
+pub mod Copies
 pub mod Visiting
 pub mod Unique
 pub mod Finish
@@ -18,4 +19,7 @@ pub mod Apart
 pub mod OneAnswer
 pub mod Counted
 pub mod Answered
+pub mod Floors
+pub mod Rankings
+pub mod FoughtCaps
 pub mod PlayingAll

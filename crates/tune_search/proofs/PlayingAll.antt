@@ -6,14 +6,15 @@ use Rattle.std.proofs.lemmas.Option.{slice_get-get_or}
 use Rattle.std.proofs.lemmas.List.FromFn.{length-map-range_with_len, get_or-map-range_with_len}
 use Rattle.rc_instr.specs.Warrior.{WarriorView}
 use Rattle.tune_problem.specs.Problem.{Problem, IsProblem}
-use Rattle.tune_problem.specs.Optimum.{all_fights, candidates_of}
+use Rattle.tune_problem.specs.Optimum.{all_fights}
 use Rattle.tune_problem.specs.Valid.{IsCapRow, listed_fights, listed_indices}
 use Rattle.tune_problem.specs.declared.cert.Found.{Found}
 use Rattle.tune_problem.specs.declared.cert.Row.TheVariants.{Refused, Cap}
 use Rattle.tune_problem.proofs.CapRows.{whole}
 use Rattle.tune_search.specs.Plays.{played, row_of, row_with, rows_of}
-use Rattle.tune_search.specs.Order.{enough, fight_order}
-use Rattle.tune_search.specs.Visits.{IsFought, IsListed, place, visit}
+use Rattle.tune_search.specs.Order.{aim_at, enough, fight_order}
+use Rattle.tune_search.specs.Method.{the_best}
+use Rattle.tune_search.specs.Visits.{IsFought, IsListed, place, ranking_at, visit}
 use Rattle.tune_search.specs.Recent.{Has, IsRecalled, IsRecent}
 use Rattle.tune_search.specs.Found.{IsSearch, copied_fights}
 use Rattle.tune_search.specs.declared.method.Method.TheVariants.{PlayingAll}
@@ -50,7 +51,7 @@ row_played p w a (e ∷ row) h = let rest = row_played p w (e.0 + 1) row h.3 in 
 
 module _ (p : Problem) (f : Found) (s : IsSearch p PlayingAll f) where
   -- a setting that assembles is fought, and no copy
-  own : (v : ℕ) (w : WarriorView) → v < p.count → p.warrior v ≡ Some w → (f.copied ≢ Some v) × IsFought p PlayingAll f.rows v w
+  own : (v : ℕ) (w : WarriorView) → v < p.count → p.warrior v ≡ Some w → (f.copied ≢ Some v) × IsFought p the_best PlayingAll f.rows v w
   own v w l is =
       let h = s.shared v w l is in
       let none : h.recent ≡ [] = none_recent p (place p.start v) h.recent h.is_recent in
@@ -78,8 +79,8 @@ module _ (p : Problem) (f : Found) (s : IsSearch p PlayingAll f) where
         let order = fight_order p v in
         let permutes : IsPermutation (all_fights p) order = order_permutes p v laws in
         let many : length order ≡ p.fights = order_length p order permutes in
-        let all : take (enough p PlayingAll w order v h.lead) order ≡ order =
-        ap (λ j. take j order) (all_enough p w order v h.lead) ∙ take_all p.fights order (omega (arith, many)) in
+        let all : take (enough p PlayingAll (aim_at p the_best v) w order v (ranking_at p the_best v)) order ≡ order =
+        ap (λ j. take j order) (all_enough p (aim_at p the_best v) w order v (ranking_at p the_best v)) ∙ take_all p.fights order (omega (arith, many)) in
         let listed : IsListed p w order h.row = subst (λ (ks : List ℕ). IsListed p w ks h.row) all h.listed in
         let row : IsCapRow p w 0 h.row = listed_is_row p w order h.row (order_below p order permutes) listed in
         let indices : listed_indices h.row ≡ all_fights p = whole p laws w p.fights 0 h.row (omega arith) row (listed_length p w order h.row listed ∙ many) in

@@ -12,18 +12,21 @@ use Rattle.tune_problem.specs.declared.cert.Row.TheVariants.{Cap, Refused}
 use Rattle.tune_search.specs.Visits.{IsFought, place, visit}
 use Rattle.tune_search.specs.Sharing.{HasRowOf, IsExplained}
 use Rattle.tune_search.specs.Found.{copied_fights, listed_at}
+use Rattle.tune_search.specs.Findings.{IsFull}
 use Rattle.tune_search.specs.State.{IsKnown, IsWhole, is_filled}
 use Rattle.tune_problem.specs.declared.watcher.Best.{Best}
 use Rattle.tune_search.proofs.Slots.{slot_other, slot_same}
 use Rattle.tune_search.proofs.Leads.{by_then}
 use Rattle.tune_search.proofs.Places.{place_visit}
+use Rattle.tune_search.specs.declared.aim.Aim.{Aim}
+use Rattle.tune_search.specs.declared.fought.Fought.{Fought}
 use Rattle.tune_search.specs.declared.method.Method.{Method}
 
 abbrev bit : Bool → ℕ
 bit b = cond b 1 0
 
 -- the row of v is written, which was not before
-module _ (p : Problem) (rules : RulesView) (method : Method) (k v : ℕ) (at : v ≡ visit p.start k) (rows : List Row) (row : Row) (blank : slice_get rows v ≡ Some Refused) where
+module _ (p : Problem) (rules : RulesView) (aim : Aim) (method : Method) (k v : ℕ) (at : v ≡ visit p.start k) (rows : List Row) (row : Row) (blank : slice_get rows v ≡ Some Refused) where
   abbrev after : List Row
   after = slice_set rows v row
 
@@ -32,10 +35,8 @@ module _ (p : Problem) (rules : RulesView) (method : Method) (k v : ℕ) (at : v
       let same : slice_get rows u ≡ Some Refused = ap (slice_get rows) e ∙ blank in
       absurd (cc)
 
-  pub fought_stays : (u : ℕ) (w : WarriorView) → IsFought p method rows u w → IsFought p method after u w
+  pub fought_stays : (u : ℕ) (w : WarriorView) → IsFought p aim method rows u w → IsFought p aim method after u w
   fought_stays u w h = record {
-    lead = h.lead;
-    is_lead = h.is_lead;
     row = h.row;
     at = slot_other rows v u row (other_than u h.row h.at) ∙ h.at;
     listed = h.listed;
@@ -57,7 +58,7 @@ module _ (p : Problem) (rules : RulesView) (method : Method) (k v : ℕ) (at : v
     shared_stays u t true nu nt h = (keeps.yes_stays u nu h.0, slot_other rows v u row nu ∙ h.1 ∙ sym (slot_other rows v t row nt))
     shared_stays u t false nu nt h = (keeps.no_stays u nu h.0, slot_other rows v u row nu ∙ h.1)
 
-    explained_stays : (u : ℕ) (o : Option WarriorView) → u ≢ v → IsExplained p method rows old u o → IsExplained p method after new u o
+    explained_stays : (u : ℕ) (o : Option WarriorView) → u ≢ v → IsExplained p aim method rows old u o → IsExplained p aim method after new u o
     explained_stays u None ne h = (keeps.no_stays u ne h.0, slot_other rows v u row ne ∙ h.1)
     explained_stays u (Some w) ne h = record {
       recent = h.recent;
@@ -70,8 +71,6 @@ module _ (p : Problem) (rules : RulesView) (method : Method) (k v : ℕ) (at : v
           record {
             fought = fought_stays s.0 w s.2.fought;
             before = s.2.before;
-            lead = s.2.lead;
-            is_lead = s.2.is_lead;
             row = shared_stays u s.0 _ ne (other_than s.0 s.2.fought.row s.2.fought.at) s.2.row;
           },
         )
@@ -79,12 +78,12 @@ module _ (p : Problem) (rules : RulesView) (method : Method) (k v : ℕ) (at : v
     }
 
     -- all that were visited, and v
-    pub told_more : ((u : ℕ) → u < p.count → place p.start u < k → IsExplained p method rows old u (p.warrior u)) →
-        IsExplained p method after new v (p.warrior v) → (u : ℕ) → u < p.count → place p.start u < suc k → IsExplained p method after new u (p.warrior u)
+    pub told_more : ((u : ℕ) → u < p.count → place p.start u < k → IsExplained p aim method rows old u (p.warrior u)) →
+        IsExplained p aim method after new v (p.warrior v) → (u : ℕ) → u < p.count → place p.start u < suc k → IsExplained p aim method after new u (p.warrior u)
     told_more told one u l before =
         elim (by_then p k v at u before) [
           | inl b ↦ explained_stays u (p.warrior u) (λ e. let same : place p.start u ≡ k = ap (place p.start) (e ∙ at) ∙ place_visit p.start k in omega arith) (told u l b)
-          | inr e ↦ subst (λ (n : ℕ). IsExplained p method after new n (p.warrior n)) (sym e) one
+          | inr e ↦ subst (λ (n : ℕ). IsExplained p aim method after new n (p.warrior n)) (sym e) one
         ]
 
   pub left_more : ((u : ℕ) → u < p.count → k ≤ place p.start u → slice_get rows u ≡ Some Refused) →
@@ -92,25 +91,39 @@ module _ (p : Problem) (rules : RulesView) (method : Method) (k v : ℕ) (at : v
   left_more left u l later =
       slot_other rows v u row (λ e. let same : place p.start u ≡ k = ap (place p.start) (e ∙ at) ∙ place_visit p.start k in omega arith) ∙ left u l (omega arith)
 
-  known_one : (e : List ℕ × ℕ) → IsKnown p rules method rows k e → IsKnown p rules method after (suc k) e
+  known_one : (e : List ℕ × Fought) → IsKnown p rules aim method rows k e → IsKnown p rules aim method after (suc k) e
+  unfolding fought_stays
   known_one e h = record {
     warrior = h.warrior;
     inside = h.inside;
-    before = let b : place p.start e.1 < k = h.before in omega arith;
+    before = let b : place p.start e.1.vector < k = h.before in omega arith;
     candidate = h.candidate;
     is_warrior = h.is_warrior;
     fits = h.fits;
     text = h.text;
-    fought = fought_stays e.1 h.warrior h.fought;
+    fought = fought_stays e.1.vector h.warrior h.fought;
+    cap = h.cap;
   }
 
-  pub known_more : (known : List (List ℕ × ℕ)) → AllByRecursion (IsKnown p rules method rows k) known → AllByRecursion (IsKnown p rules method after (suc k)) known
+  pub known_more : (known : List (List ℕ × Fought)) → AllByRecursion (IsKnown p rules aim method rows k) known → AllByRecursion (IsKnown p rules aim method after (suc k)) known
   known_more [] h = tt
   known_more (e ∷ es) h = (known_one e h.0, known_more es h.1)
 
   pub whole_stays : (lead : Option Best) → IsWhole p rows lead → IsWhole p after lead
   whole_stays None h = tt
   whole_stays (Some lead) h = (h.0, slot_other rows v lead.vector row (other_than lead.vector h.0 h.1) ∙ h.1, h.2)
+
+  pub full_stays : (b : Best) → IsFull p rows b → IsFull p after b
+  full_stays b h = (
+    h.0,
+    h.1,
+    slot_other rows v h.0 row (other_than h.0 h.1 h.2) ∙ h.2,
+    h.3,
+    elim h.4 [
+      | inl e ↦ inl e
+      | inr s ↦ inr (slot_other rows v b.vector row (λ e. let same : slice_get rows b.vector ≡ Some Refused = ap (slice_get rows) e ∙ blank in absurd (cc)) ∙ s)
+    ],
+  )
 
   pub inside_rows : v < length rows
   inside_rows = slice_get_within rows v Refused blank

@@ -1,32 +1,11 @@
--- There is one lead, and one list of recent settings.
-use Rattle.std.proofs.Common.{◌≡◌, ◌≢◌, ℕ, zero, suc, ◌≤◌, arith, List, [], ◌∷◌, ◌++◌, Option, Some, None, take, refl, sym, ◌∙◌, ap, inl, inr, subst}
+-- There is one list of recent settings.
+use Rattle.std.proofs.Common.{◌≡◌, ◌≢◌, ℕ, zero, suc, List, [], ◌∷◌, ◌++◌, Option, Some, None, take, refl, sym, ◌∙◌, ap, inl, inr, subst}
 use Rattle.rc_instr.specs.Warrior.{WarriorView}
 use Rattle.tune_problem.specs.Problem.{Problem}
-use Rattle.tune_problem.proofs.Certificates.{Trails, trails}
-use Rattle.tune_search.specs.Visits.{IsBestAfter, IsLeadAfter, visit}
+use Rattle.tune_search.specs.Visits.{visit}
 use Rattle.tune_search.specs.Recent.{IsRecalled, IsRecent, NoneHas}
-use Rattle.tune_problem.specs.declared.watcher.Best.{Best}
 
 module _ (p : Problem) where
-  ahead : (k : ℕ) (a b : Best) → IsBestAfter p k a → IsBestAfter p k b → Trails b.total b.vector a.total a.vector
-  ahead k a b x y =
-      subst (λ (n : ℕ). Trails n b.vector a.total a.vector) y.scores (trails _ _ _ _ (x.best b.vector y.warrior y.inside y.visited y.candidate))
-
-  pub lead_one : (k : ℕ) (a b : Option Best) → IsLeadAfter p k a → IsLeadAfter p k b → a ≡ b
-  lead_one k None None x y = refl
-  lead_one k None (Some b) x y = let none : p.warrior b.vector ≡ None = x b.vector y.inside y.visited in let some = y.candidate in absurd (cc)
-  lead_one k (Some a) None x y = let none : p.warrior a.vector ≡ None = y a.vector x.inside x.visited in let some = x.candidate in absurd (cc)
-  lead_one k (Some a) (Some b) x y =
-      let f : Trails b.total b.vector a.total a.vector = ahead k a b x y in
-      let g : Trails a.total a.vector b.total b.vector = ahead k b a y x in
-      let f0 : b.total ≤ a.total = f.no_more in
-      let g0 : a.total ≤ b.total = g.no_more in
-      let even : a.total ≡ b.total = omega arith in
-      let f1 : a.vector ≤ b.vector = f.later (sym even) in
-      let g1 : b.vector ≤ a.vector = g.later even in
-      let same : a.vector ≡ b.vector = omega arith in
-      λ i. Some (record { total = even i; vector = same i })
-
   -- no two have one warrior
   abbrev pub Apart : List ℕ → Type 0
   Apart [] = Unit {0}

@@ -9,6 +9,7 @@ use Rattle.tune_problem.specs.Valid.{IsOwnVersion, IsValid, listed_in, listed_fi
 use Rattle.tune_problem.specs.declared.cert.Found.{Found}
 use Rattle.tune_problem.specs.declared.cert.Row.{Row}
 use Rattle.tune_problem.specs.declared.cert.Row.TheVariants.{Refused, Cap}
+use Rattle.tune_search.specs.Method.{the_best}
 use Rattle.tune_search.specs.Visits.{IsFought}
 use Rattle.tune_search.specs.Sharing.{IsVisited}
 use Rattle.tune_search.specs.declared.method.Method.{Method}
@@ -22,8 +23,11 @@ is_copied None v = false
 is_copied (Some u) v = u == v
 
 -- Setting v was fought if its row is a cap row, and not a copied one.
+abbrev pub is_fought : List Row → Option ℕ → ℕ → Bool
+is_fought rows copied v = is_cap (slice_get rows v) && not (is_copied copied v)
+
 abbrev pub was_fought : Found → ℕ → Bool
-was_fought f v = is_cap (slice_get f.rows v) && not (is_copied f.copied v)
+was_fought f v = is_fought f.rows f.copied v
 
 -- The number of settings that were fought.
 unfoldable pub fought_count : Found → ℕ
@@ -42,7 +46,7 @@ copied_fights rows (Some v) = listed_at (slice_get rows v)
 abbrev pub NoneAssembles : Problem → Type 0
 NoneAssembles p = (v : ℕ) → v < p.count → p.warrior v ≡ None
 
--- What a search by a method finds.
+-- What a search by a method finds that is asked for the best setting.
 pub record IsSearch (p : Problem) (method : Method) (f : Found) : Type 0 where
   -- the best setting is the optimum, and the rows are a valid certificate of it
   pub optimum : IsOptimum p f.best
@@ -55,10 +59,10 @@ pub record IsSearch (p : Problem) (method : Method) (f : Found) : Type 0 where
   -- a setting that does not assemble has the row `Refused`
   pub refused : (v : ℕ) → v < p.count → p.warrior v ≡ None → slice_get f.rows v ≡ Some Refused
   -- the fights of a fought setting are the first ones of its order, exactly as many as are enough
-  pub fought : (v : ℕ) (w : WarriorView) → v < p.count → p.warrior v ≡ Some w → was_fought f v ≡ true → IsFought p method f.rows v w
+  pub fought : (v : ℕ) (w : WarriorView) → v < p.count → p.warrior v ≡ Some w → was_fought f v ≡ true → IsFought p the_best method f.rows v w
   -- a setting is fought exactly if none of the settings that are recent at its visit has its
   -- warrior; otherwise it shares the fights of the one that has it
-  pub shared : (v : ℕ) (w : WarriorView) → v < p.count → p.warrior v ≡ Some w → IsVisited p method f.rows f.copied v w
+  pub shared : (v : ℕ) (w : WarriorView) → v < p.count → p.warrior v ≡ Some w → IsVisited p the_best method f.rows f.copied v w
   -- only a setting that assembles has a copied row; `shared` says whose row it copies
   pub copied : (v : ℕ) → f.copied ≡ Some v → (v < p.count) × (p.warrior v ≢ None)
   -- the number of fights played is that of the fights that all rows list, without the copied row's

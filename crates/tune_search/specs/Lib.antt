@@ -8,8 +8,11 @@ pub mod Method
 pub mod Plays
 pub mod Order
 pub mod Visits
+pub mod Ranking
 pub mod Recent
 pub mod Sharing
 pub mod Found
+pub mod Below
+pub mod Findings
 pub mod Cache
 pub mod State

@@ -1,11 +1,12 @@
 -- The order in which the fights of a setting are played, and how many of them are.
-use Rattle.std.specs.Prelude.{ℕ, Bool, true, false, not, ◌==◌, List, ◌++◌, map, take, Option, Some, None}
+use Rattle.std.specs.Prelude.{ℕ, ◌-◌, Bool, true, false, not, ◌&&◌, nat_le, ◌==◌, if◌then◌else◌, List, [], ◌∷◌, ◌++◌, map, take, slice_get, Option, Some, None}
 use Rattle.std.specs.List.{filter}
 use Rattle.rc_instr.specs.Warrior.{WarriorView}
 use Rattle.mars_core.specs.Fight.{least}
 use Rattle.tune_problem.specs.Problem.{Problem}
 use Rattle.tune_problem.specs.Optimum.{all_fights, cap_of, beats}
 use Rattle.tune_search.specs.Plays.{played}
+use Rattle.tune_search.specs.declared.aim.Aim.{Aim}
 use Rattle.tune_search.specs.declared.method.Method.{Method}
 use Rattle.tune_search.specs.declared.method.Method.TheVariants.{Dropping, PlayingAll}
 use Rattle.tune_problem.specs.declared.watcher.Best.{Best}
@@ -35,12 +36,29 @@ abbrev pub beats_lead : ℕ → ℕ → Option Best → Bool
 beats_lead c v None = true
 beats_lead c v (Some lead) = beats c v lead.total lead.vector
 
--- Whether setting v is dropped at cap c: the method drops settings, and c does not beat the lead.
-abbrev pub drops : Method → ℕ → ℕ → Option Best → Bool
-drops (Dropping capacity) c v lead = not (beats_lead c v lead)
-drops PlayingAll c v lead = false
+-- A setting in its place in a ranking: before the first that it beats.
+unfoldable pub ranked : Best → List Best → List Best
+ranked best [] = best ∷ []
+ranked best (x ∷ xs) = if beats best.total best.vector x.total x.vector then best ∷ x ∷ xs else x ∷ ranked best xs
+
+-- The last of the first `keep`, if there are so many: what a setting has to beat.
+abbrev pub last_kept : Aim → List Best → Option Best
+last_kept aim ranking = slice_get ranking (aim.keep - 1)
+
+-- Cap c of setting v contends: it reaches the floor, and beats the last that is kept.
+abbrev pub contends : Aim → ℕ → ℕ → List Best → Bool
+contends aim c v ranking = nat_le aim.floor c && beats_lead c v (last_kept aim ranking)
+
+-- What counts at the visit of setting v: no floor for the start setting, which plays all its fights.
+abbrev pub aim_at : Problem → Aim → ℕ → Aim
+aim_at p aim v = record { keep = aim.keep; floor = if v == p.start then 0 else aim.floor }
+
+-- Whether setting v is dropped at cap c: the method drops settings, and c does not contend.
+abbrev pub drops : Method → Aim → ℕ → ℕ → List Best → Bool
+drops (Dropping capacity) aim c v ranking = not (contends aim c v ranking)
+drops PlayingAll aim c v ranking = false
 
 -- How many fights of an order are played: the least number after which the setting is dropped, or
 -- all of them. It may be 0.
-unfoldable pub enough : Problem → Method → WarriorView → List ℕ → ℕ → Option Best → ℕ
-enough p method w order v lead = least (λ k. drops method (cap_of p w (take k order)) v lead) p.fights
+unfoldable pub enough : Problem → Method → Aim → WarriorView → List ℕ → ℕ → List Best → ℕ
+enough p method aim w order v ranking = least (λ k. drops method aim (cap_of p w (take k order)) v ranking) p.fights

@@ -4,11 +4,16 @@ use Rattle.rc_instr.specs.Warrior.{WarriorView}
 use Rattle.tune_problem.specs.Problem.{Problem}
 use Rattle.tune_problem.specs.declared.cert.Row.{Row}
 use Rattle.tune_problem.specs.declared.cert.Row.TheVariants.{Refused, Same}
-use Rattle.tune_search.specs.Visits.{place, IsLeadAfter, IsFought}
+use Rattle.tune_search.specs.Visits.{place, ranking_at, IsFought}
 use Rattle.tune_search.specs.Recent.{NoneHas, Has, IsRecent}
 use Rattle.tune_search.specs.Method.{capacity_of}
+use Rattle.tune_search.specs.declared.aim.Aim.{Aim}
 use Rattle.tune_search.specs.declared.method.Method.{Method}
 use Rattle.tune_problem.specs.declared.watcher.Best.{Best}
+
+-- The first of a ranking, which leads.
+abbrev pub first_of : List Best → Option Best
+first_of ranking = slice_get ranking 0
 
 -- Setting v is the lead.
 abbrev pub leads : ℕ → Option Best → Bool
@@ -27,22 +32,20 @@ HasRowOf rows copied u v true = (copied ≡ Some v) × (slice_get rows v ≡ sli
 HasRowOf rows copied u v false = (copied ≢ Some v) × (slice_get rows v ≡ Some (Same u))
 
 -- Setting v shares the fights of u, which was fought before.
-pub record Shares (p : Problem) (method : Method) (rows : List Row) (copied : Option ℕ) (u v : ℕ) (w : WarriorView) : Type 0 where
-  pub fought : IsFought p method rows u w
+pub record Shares (p : Problem) (aim : Aim) (method : Method) (rows : List Row) (copied : Option ℕ) (u v : ℕ) (w : WarriorView) : Type 0 where
+  pub fought : IsFought p aim method rows u w
   pub before : place p.start u < place p.start v
-  pub lead : Option Best
-  pub is_lead : IsLeadAfter p (place p.start v) lead
-  pub row : HasRowOf rows copied u v (copies p.start u v lead)
+  pub row : HasRowOf rows copied u v (copies p.start u v (first_of (ranking_at p aim v)))
 
 -- Setting v is fought exactly if none of the settings that are recent at its visit has its warrior.
 -- Otherwise it shares the fights of the one that has it.
-pub record IsVisited (p : Problem) (method : Method) (rows : List Row) (copied : Option ℕ) (v : ℕ) (w : WarriorView) : Type 0 where
+pub record IsVisited (p : Problem) (aim : Aim) (method : Method) (rows : List Row) (copied : Option ℕ) (v : ℕ) (w : WarriorView) : Type 0 where
   pub recent : List ℕ
   pub is_recent : IsRecent p (capacity_of method) (place p.start v) recent
-  pub row : (NoneHas p w recent × (copied ≢ Some v) × IsFought p method rows v w)
-      ⊎ ((u : ℕ) × Has p w u recent × Shares p method rows copied u v w)
+  pub row : (NoneHas p w recent × (copied ≢ Some v) × IsFought p aim method rows v w)
+      ⊎ ((u : ℕ) × Has p w u recent × Shares p aim method rows copied u v w)
 
 -- The row of setting v: refused if it does not assemble, else what its visit made.
-abbrev pub IsExplained : Problem → Method → List Row → Option ℕ → ℕ → Option WarriorView → Type 0
-IsExplained p method rows copied v None = (copied ≢ Some v) × (slice_get rows v ≡ Some Refused)
-IsExplained p method rows copied v (Some w) = IsVisited p method rows copied v w
+abbrev pub IsExplained : Problem → Aim → Method → List Row → Option ℕ → ℕ → Option WarriorView → Type 0
+IsExplained p aim method rows copied v None = (copied ≢ Some v) × (slice_get rows v ≡ Some Refused)
+IsExplained p aim method rows copied v (Some w) = IsVisited p aim method rows copied v w

@@ -10,19 +10,23 @@ use Rattle.mars_core.specs.Arena.{IsBlank}
 use Rattle.mars_fight.specs.Limits.{MOST_FIGHTS}
 use Rattle.tune_problem.specs.Inputs.{InputsView}
 use Rattle.tune_problem.specs.Problem.{Problem, problem_of}
-use Rattle.tune_problem.specs.Valid.{IsOwnVersion, listed_fights}
-use Rattle.tune_problem.specs.declared.cert.Found.{Found}
+use Rattle.tune_problem.specs.Optimum.{cap_of}
+use Rattle.tune_problem.specs.Valid.{IsOwnVersion, listed_fights, listed_indices}
 use Rattle.tune_problem.specs.declared.cert.Row.{Row}
 use Rattle.tune_problem.specs.declared.cert.Row.TheVariants.{Refused, Same, Cap}
-use Rattle.tune_search.specs.Order.{beats_lead, order_after, enough}
-use Rattle.tune_search.specs.Visits.{place, IsLeadAfter, IsFought}
+use Rattle.tune_search.specs.Order.{order_after, enough}
+use Rattle.tune_search.specs.Visits.{place, ranking_after, IsFought}
 use Rattle.tune_search.specs.Recent.{IsRecent}
-use Rattle.tune_search.specs.Sharing.{leads, IsExplained}
+use Rattle.tune_search.specs.Sharing.{first_of, leads, IsExplained}
 use Rattle.tune_search.specs.Found.{copied_fights}
-use Rattle.tune_search.specs.Method.{capacity_of}
+use Rattle.tune_search.specs.Findings.{IsFull}
+use Rattle.tune_search.specs.Method.{IsAim, capacity_of}
 use Rattle.tune_problem.specs.declared.watcher.Best.{Best}
 use Rattle.tune_search.specs.declared.candidate.Candidate.{Candidate}
 use Rattle.tune_search.specs.declared.fights.Challenge.{Challenge}
+use Rattle.tune_search.specs.declared.aim.Aim.{Aim}
+use Rattle.tune_search.specs.declared.fought.Fought.{Fought}
+use Rattle.tune_search.specs.declared.findings.Findings.{Findings}
 use Rattle.tune_search.specs.declared.method.Method.{Method}
 use Rattle.tune_search.specs.declared.state.State.{State}
 
@@ -37,26 +41,13 @@ pub record IsCandidateAt (i : InputsView) (v : ℕ) (c : Candidate) : Type 0 whe
 
 -- The fights of a challenge that are played: the first of its order, as many as are enough.
 abbrev pub fights_asked : Problem → Challenge → List ℕ
-fights_asked p c = take (enough p c.method c.entrant.now.warrior c.order.now c.entrant.now.vector c.lead) c.order.now
-
--- The lead after a visit that left setting v with cap c, given whether c beats the lead before.
-abbrev pub lead_by : ℕ → ℕ → Option Best → Bool → Option Best
-lead_by c v lead true = Some (record { total = c; vector = v })
-lead_by c v lead false = lead
-
-abbrev pub next_lead : ℕ → ℕ → Option Best → Option Best
-next_lead c v lead = lead_by c v lead (beats_lead c v lead)
-
--- The lead with setting v in its place, which has the same total.
-abbrev pub lead_taken : ℕ → Option Best → Option Best
-lead_taken v None = None
-lead_taken v (Some lead) = Some (record { total = lead.total; vector = v })
+fights_asked p c = take (enough p c.method c.aim c.entrant.now.warrior c.order.now c.entrant.now.vector c.ranking.now) c.order.now
 
 -- Fights with points, by the index of the fight.
 abbrev pub by_index : ℕ × ℕ → ℕ × ℕ → Ordering
 by_index x y = ordering_then (nat_cmp x.0 y.0) (nat_cmp x.1 y.1)
 
--- The lead's row lists every fight.
+-- The row of the lead lists every fight.
 abbrev pub IsWhole : Problem → List Row → Option Best → Type 0
 IsWhole p rows None = Unit {0}
 IsWhole p rows (Some lead) = (row : List (ℕ × ℕ)) × (slice_get rows lead.vector ≡ Some (Cap row)) × (length row ≡ p.fights)
@@ -67,15 +58,16 @@ IsCopied p k lead None = Unit {0}
 IsCopied p k lead (Some v) = (v < p.count) × (place p.start v < k) × (leads p.start lead ≡ false)
 
 -- A setting in the cache after k visits: it was fought, and is there under its load file.
-pub record IsKnown (p : Problem) (rules : RulesView) (method : Method) (rows : List Row) (k : ℕ) (e : List ℕ × ℕ) : Type 0 where
+pub record IsKnown (p : Problem) (rules : RulesView) (aim : Aim) (method : Method) (rows : List Row) (k : ℕ) (e : List ℕ × Fought) : Type 0 where
   pub warrior : WarriorView
-  pub inside : e.1 < p.count
-  pub before : place p.start e.1 < k
-  pub candidate : p.warrior e.1 ≡ Some warrior
+  pub inside : e.1.vector < p.count
+  pub before : place p.start e.1.vector < k
+  pub candidate : p.warrior e.1.vector ≡ Some warrior
   pub is_warrior : IsWarrior warrior
   pub fits : Fits rules warrior
   pub text : e.0 ≡ load_text rules.core warrior
-  pub fought : IsFought p method rows e.1 warrior
+  pub fought : IsFought p aim method rows e.1.vector warrior
+  pub cap : e.1.cap ≡ cap_of p warrior (listed_indices fought.row)
 
 abbrev pub is_filled : Row → Bool
 is_filled Refused = false
@@ -84,29 +76,32 @@ is_filled (Cap row) = true
 
 -- After k visits: the rows of the settings visited are explained, and the others are `Refused`. The
 -- order is that of the next visit.
-pub record IsUnderWay (p : Problem) (rules : RulesView) (method : Method) (k : ℕ) (rows : List Row) (lead : Option Best) (order : List ℕ) (fights candidates : ℕ) (copied : Option ℕ) (known : List (List ℕ × ℕ)) : Type 0 where
+pub record IsUnderWay (p : Problem) (rules : RulesView) (aim : Aim) (method : Method) (k : ℕ) (rows : List Row) (ranking : List Best) (order : List ℕ) (fights candidates : ℕ) (copied : Option ℕ) (known : List (List ℕ × Fought)) : Type 0 where
   pub rows_are : length rows ≡ p.count
-  pub lead_is : IsLeadAfter p k lead
-  pub whole : IsWhole p rows lead
-  pub told : (v : ℕ) → v < p.count → place p.start v < k → IsExplained p method rows copied v (p.warrior v)
+  pub ranking_is : ranking ≡ ranking_after p aim k
+  pub whole : IsWhole p rows (first_of ranking)
+  pub full : AllByRecursion (IsFull p rows) ranking
+  pub told : (v : ℕ) → v < p.count → place p.start v < k → IsExplained p aim method rows copied v (p.warrior v)
   pub left : (v : ℕ) → v < p.count → k ≤ place p.start v → slice_get rows v ≡ Some Refused
   pub order_is : order ≡ order_after p (k == 0) (p.warrior p.start)
-  pub recent : IsRecent p (capacity_of method) k (map (λ e. e.1) known)
-  pub all_known : AllByRecursion (IsKnown p rules method rows k) known
-  pub copied_is : IsCopied p k lead copied
+  pub recent : IsRecent p (capacity_of method) k (map (λ e. e.1.vector) known)
+  pub all_known : AllByRecursion (IsKnown p rules aim method rows k) known
+  pub copied_is : IsCopied p k (first_of ranking) copied
   pub work : fights + copied_fights rows copied ≡ listed_fights rows
   pub count : candidates ≡ count_by is_filled rows
   pub room : fights ≤ MOST_FIGHTS * k
 
-pub record IsState (i : InputsView) (method : Method) (k : ℕ) (s : State) : Type 0 where
+pub record IsState (i : InputsView) (aim : Aim) (method : Method) (k : ℕ) (s : State) : Type 0 where
   pub start_is : s.start ≡ (problem_of i).start
   pub start_inside : (problem_of i).start < (problem_of i).count
   pub method_is : s.method ≡ method
+  pub aim_is : s.aim ≡ aim
+  pub is_aim : IsAim aim
   pub capacity_is : s.cache.capacity ≡ capacity_of method
   pub version_is : IsOwnVersion (problem_of i) s.found.version
   pub blank : IsBlank i.rules s.arena
-  pub going : IsUnderWay (problem_of i) i.rules method k s.found.rows s.lead s.order.items s.arena.fights s.found.candidates s.found.copied s.cache.known
+  pub going : IsUnderWay (problem_of i) i.rules aim method k s.found.rows s.found.ranking s.order.items s.arena.fights s.found.candidates s.found.copied s.cache.known
 
--- What is found once the lead is the best setting.
-abbrev pub found_with : State → Best → Found
-found_with s best = record s.found { best = best.vector; total = best.total; fights = s.arena.fights }
+-- What is found at the end, with the count of fights.
+abbrev pub found_with : State → Findings
+found_with s = record s.found { fights = s.arena.fights }

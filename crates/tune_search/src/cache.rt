@@ -4,6 +4,7 @@ ghost use Rattle.std.specs.Map.{lookup};
 ghost use Rattle.lru.specs.LruCache.{promoted};
 ghost use Rattle.tune_search.specs.Cache.{cache_view, same_text};
 
+use crate::fought::Fought;
 use lru::LruCache;
 use std::alloc::{AllocError, AllocFailed, Global};
 use std::marker::Model;
@@ -13,7 +14,7 @@ use std::num::NonZeroUsize;
 // which `settings` cannot have, it stays empty.
 #[derive(Drop)]
 pub(crate) struct Cache {
-    settings: LruCache<Vec<u8>, u32>,
+    settings: LruCache<Vec<u8>, Fought>,
     capacity: u32,
 }
 
@@ -39,7 +40,7 @@ impl Cache {
     }
 
     // Returns the setting under a load file, and makes it the last used.
-    pub(crate) fn recall(&mut self, text: &[u8]) -> Option<u32>
+    pub(crate) fn recall(&mut self, text: &[u8]) -> Option<Fought>
         ensures value { result ≡ lookup (same_text text.now) self.old.known }
         ensures known { self.new ≡ cache_view (promoted (same_text text.now) self.old.known) self.old.capacity }
     {
@@ -57,8 +58,8 @@ impl Cache {
     pub(crate) fn remember(
         &mut self,
         text: Vec<u8>,
-        setting: u32,
-    ) -> Result<(), AllocFailed<(Vec<u8>, u32)>>
+        setting: Fought,
+    ) -> Result<(), AllocFailed<(Vec<u8>, Fought)>>
         requires { lookup (same_text text.items) self.old.known ≡ None }
         ensures { OnOk result (self.new ≡ cache_view (take self.old.capacity ((text.items, setting) ∷ self.old.known)) self.old.capacity) }
     {

@@ -9,6 +9,7 @@ ghost use Rattle.std.specs.List.Sorted.{IsPermutation};
 ghost use Rattle.tune_search.specs.Plays.{played};
 ghost use Rattle.tune_search.specs.State.{fights_asked};
 
+use crate::aim::Aim;
 use crate::candidate::Candidate;
 use crate::method::{Method, drops};
 use mars_core::{Arena, PackedCells};
@@ -25,13 +26,15 @@ pub(crate) struct Bout {
     pub(crate) cap: u32,
 }
 
-// A candidate, the order of its fights, the lead to beat, and the method that may drop it.
+// A candidate, the order of its fights, the aim and the ranking before it, and the method that may
+// drop it.
 #[derive(Clone, Copy)]
 pub(crate) struct Challenge<'a> {
     pub(crate) method: Method,
     pub(crate) entrant: &'a Candidate,
     pub(crate) order: &'a [u32],
-    pub(crate) lead: Option<Best>,
+    pub(crate) aim: Aim,
+    pub(crate) ranking: &'a [Best],
 }
 
 // Plays the fights of a challenge until the method drops the setting, or none is left. The arena's
@@ -44,6 +47,7 @@ pub(crate) fn play_enough<T: Watcher>(
     challenge: &Challenge<'_>,
     watcher: &mut T,
 ) -> Result<Bout, AllocError>
+    requires keep { 1 ≤ challenge.now.aim.keep }
     requires blank { IsBlank inputs.now.rules arena.old }
     requires fits { Fits inputs.now.rules challenge.now.entrant.now.warrior }
     requires all { length challenge.now.order.now ≡ (problem_of inputs.now).fights }
@@ -60,9 +64,10 @@ pub(crate) fn play_enough<T: Watcher>(
     for index in challenge.order {
         if drops(
             challenge.method,
+            challenge.aim,
             cap,
             challenge.entrant.vector,
-            challenge.lead,
+            challenge.ranking,
         ) {
             return Ok(Bout { listing, cap });
         }

@@ -2,19 +2,23 @@
 ghost use Rattle.std.specs.Prelude.{◌≡◌, ◌<◌, ◌≤◌, ◌*◌, ℕ, List, Option, Some, None, true};
 ghost use Rattle.rc_instr.specs.Warrior.{WarriorView};
 ghost use Rattle.tune_problem.specs.Problem.{Problem, IsProblem};
-ghost use Rattle.tune_search.specs.Visits.{IsLeadAfter};
 ghost use Rattle.tune_search.specs.Recent.{IsRecent};
-ghost use Rattle.tune_search.specs.Method.{capacity_of};
+ghost use Rattle.tune_search.specs.Method.{IsAim, capacity_of, the_best};
 ghost use Rattle.tune_search.specs.Plays.{rows_of};
-ghost use Rattle.tune_search.specs.Found.{IsSearch, was_fought, fought_count};
+ghost use Rattle.tune_search.specs.Visits.{ranking_after};
+ghost use Rattle.tune_search.specs.Ranking.{IsRanking};
+ghost use Rattle.tune_search.specs.Sharing.{first_of};
+ghost use Rattle.tune_search.specs.Found.{IsSearch, NoneAssembles, was_fought, fought_count};
+ghost use Rattle.tune_search.specs.Below.{IsValidBelow};
+ghost use Rattle.tune_search.specs.Findings.{AllBelow, IsSearchFrom, found_of};
 
+use crate::aim::Aim;
+use crate::findings::Findings;
 use crate::method::Method;
-use tune_problem::{Best, Found};
+use tune_problem::{Best, Found, Row};
 
-/// States that after any number of visits there is at most one value of the lead, `None` included,
-/// and at most one list of recent settings.
+/// States that after any number of visits there is at most one list of recent settings.
 pub fn visits_determine_the_rest()
-    ensures lead { (p : Problem) (k : ℕ) (a b : Option Best) → IsLeadAfter p k a → IsLeadAfter p k b → a ≡ b }
     ensures recent { (p : Problem) (capacity k : ℕ) (us vs : List ℕ) → IsRecent p capacity k us → IsRecent p capacity k vs → us ≡ vs }
 {}
 
@@ -46,4 +50,30 @@ pub fn playing_all_lists_every_fight()
     ensures rows { (p : Problem) (f : Found) → IsProblem p → IsSearch p Method.PlayingAll f → f.rows ≡ rows_of p }
     ensures work { (p : Problem) (f : Found) → IsProblem p → IsSearch p Method.PlayingAll f → f.fights ≡ f.candidates * p.fights }
     ensures copied { (p : Problem) (f : Found) → IsSearch p Method.PlayingAll f → f.copied ≡ None }
+{}
+
+/// States that what a search finds with keep 1 and the floor 0 is what `IsSearch` says, and that no
+/// setting assembles if it finds no best one.
+pub fn a_search_without_a_floor_is_a_search()
+    ensures found { (p : Problem) (method : Method) (f : Findings) (best : Best) → IsSearchFrom p the_best method f → first_of f.ranking ≡ Some best → IsSearch p method (found_of f best) }
+    ensures none { (p : Problem) (method : Method) (f : Findings) → IsSearchFrom p the_best method f → first_of f.ranking ≡ None → NoneAssembles p }
+{}
+
+/// States that a search with a floor finds the optimum if its total reaches the floor, and no best
+/// setting otherwise, by whatever method.
+pub fn a_floor_hides_only_what_is_below_it()
+    ensures reached { (p : Problem) (aim : Aim) (one other : Method) (f : Findings) (g : Found) → IsSearchFrom p aim one f → IsSearch p other g → aim.floor ≤ g.total
+        → first_of f.ranking ≡ Some (record { vector = g.best; total = g.total }) }
+    ensures missed { (p : Problem) (aim : Aim) (one other : Method) (f : Findings) (g : Found) → IsSearchFrom p aim one f → IsSearch p other g → g.total < aim.floor
+        → first_of f.ranking ≡ None }
+{}
+
+/// States that every candidate totals less than the floor if rows are a valid certificate of that.
+pub fn a_certificate_below_a_floor_is_right()
+    ensures { (p : Problem) (floor version : ℕ) (rows : List Row) → IsProblem p → IsValidBelow p floor version rows → AllBelow p floor }
+{}
+
+/// States that the ranking after any number of visits is the first of the settings visited.
+pub fn a_ranking_has_the_first_settings()
+    ensures { (p : Problem) (aim : Aim) (k : ℕ) → IsAim aim → k ≤ p.count → p.start < p.count → IsRanking p aim k (ranking_after p aim k) }
 {}

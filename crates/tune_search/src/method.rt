@@ -1,9 +1,10 @@
 //! The methods of a search.
-ghost use Rattle.std.specs.Prelude.{◌≡◌};
+ghost use Rattle.std.specs.Prelude.{◌≡◌, ◌≤◌};
 ghost use Rattle.tune_search.specs.Method.{capacity_of};
 ghost use Rattle.tune_search.specs.Order.{drops};
 
-use crate::lead::beats_lead;
+use crate::aim::Aim;
+use crate::ranking::contends;
 use tune_problem::Best;
 
 /// How a search goes. Both methods find the same setting, with the same total.
@@ -26,12 +27,13 @@ pub(crate) fn capacity_of(method: Method) -> u32
     }
 }
 
-// Checks whether setting `vector`, at cap `cap`, is dropped against the lead.
-pub(crate) fn drops(method: Method, cap: u32, vector: u32, lead: Option<Best>) -> bool
-    ensures { result ≡ drops method cap vector lead }
+// Checks whether setting `vector`, at cap `cap`, is dropped against the floor and the ranking.
+pub(crate) fn drops(method: Method, aim: Aim, cap: u32, vector: u32, ranking: &[Best]) -> bool
+    requires keep { 1 ≤ aim.keep }
+    ensures { result ≡ drops method aim cap vector ranking.now }
 {
     match method {
-        Method::Dropping { .. } => !beats_lead(cap, vector, lead),
+        Method::Dropping { .. } => !contends(aim, cap, vector, ranking),
         Method::PlayingAll => false,
     }
 }

@@ -1,36 +1,40 @@
 //! A search under way: what it has found, and what it needs for the next visit.
-ghost use Rattle.std.specs.Prelude.{◌≡◌, ◌+◌, ◌<◌, ◌≤◌, Some, None, replicate, OnOk, IfOk, IfErr};
+ghost use Rattle.std.specs.Prelude.{◌≡◌, ◌+◌, ◌<◌, ◌≤◌, None, replicate, OnOk, IfOk, IfErr};
 ghost use Rattle.std.specs.Map.{lookup};
 ghost use Rattle.tune_template.specs.Limits.{MOST_SETTINGS};
 ghost use Rattle.tune_problem.specs.Problem.{problem_of};
 ghost use Rattle.tune_search.specs.Cache.{same_text};
+ghost use Rattle.tune_search.specs.Method.{IsAim};
 ghost use Rattle.tune_search.specs.Visits.{visit};
 ghost use Rattle.tune_search.specs.State.{IsCandidateAt, IsState, found_with};
 
+use crate::aim::Aim;
 use crate::cache::Cache;
 use crate::candidate::{Candidate, candidate_at};
 use crate::fault::SearchFault;
 use crate::fights::{Challenge, play_enough};
-use crate::lead::{copies, lead_with, next_lead};
+use crate::findings::Findings;
+use crate::fought::Fought;
+use crate::lead::copies;
 use crate::method::{Method, capacity_of};
 use crate::order::{all_in_order, learn_order, sort_by_index, visited};
+use crate::ranking::{Ranking, aim_for};
 use mars_core::{Arena, PackedCells};
 use std::alloc::{AllocError, Global};
 use tune_problem::{
-    Best, Found, Inputs, Listing, Row, Rows, Watcher, cert_version, fight_count, part_size,
-    start_setting,
+    Inputs, Listing, Row, Rows, Watcher, cert_version, fight_count, part_size, start_setting,
 };
 
 #[derive(Drop)]
 pub(crate) struct State {
     pub(crate) method: Method,
+    pub(crate) aim: Aim,
     // Blank between visits. It counts the fights played.
     pub(crate) arena: Arena<PackedCells>,
     pub(crate) start: u32,
-    // What is found so far. A row is `Refused` until its setting is visited. The best setting, its
-    // total and the count of fights are set at the end.
-    pub(crate) found: Found,
-    pub(crate) lead: Option<Best>,
+    // What is found so far: the first of the ranking leads. A row is `Refused` until its setting is
+    // visited. The count of fights is set at the end.
+    pub(crate) found: Findings,
     // The order in which the next setting plays its fights.
     pub(crate) order: Vec<u32>,
     // The recent settings.
@@ -42,9 +46,11 @@ impl State {
     pub(crate) fn begin(
         alloc: Global,
         inputs: &Inputs,
+        aim: Aim,
         method: Method,
     ) -> Result<State, SearchFault>
-        ensures state { IfOk result (IsState inputs.now method 0) }
+        requires aim { IsAim aim }
+        ensures state { IfOk result (IsState inputs.now aim method 0) }
         ensures err { IfErr result (λ e. e ≡ SearchFault.OutOfMemory) }
     {
         let arena = Arena::<PackedCells>::try_new(alloc, inputs.rules())?;
@@ -53,18 +59,17 @@ impl State {
         let cache = Cache::with_capacity(alloc, capacity_of(method))?;
         Ok(State {
             method,
+            aim,
             arena,
             start: start_setting(inputs),
-            found: Found {
+            found: Findings {
                 version: cert_version(inputs),
-                best: 0,
-                total: 0,
+                ranking: Ranking::new(alloc),
                 rows: Rows::from_vec(rows),
                 fights: 0,
                 candidates: 0,
                 copied: None,
             },
-            lead: None,
             order,
             cache,
         })
@@ -82,8 +87,8 @@ impl State {
     ) -> Result<(), SearchFault>
         requires visits { visits < (problem_of inputs.now).count }
         requires few { (problem_of inputs.now).count ≤ MOST_SETTINGS }
-        requires state { IsState inputs.now self.old.method visits self.old }
-        ensures state { OnOk result (IsState inputs.now self.old.method (visits + 1) self.new) }
+        requires state { IsState inputs.now self.old.aim self.old.method visits self.old }
+        ensures state { OnOk result (IsState inputs.now self.old.aim self.old.method (visits + 1) self.new) }
         ensures err { IfErr result (λ e. e ≡ SearchFault.OutOfMemory) }
     {
         let vector = visited(self.start, visits);
@@ -94,14 +99,17 @@ impl State {
             return self.fight(alloc, inputs, visits, entrant, watcher);
         };
         self.found.candidates += 1;
-        if copies(self.start, other, vector, self.lead) {
-            let row = self.found.rows.as_slice()[other as usize].copy(alloc)?;
+        let copied = copies(self.start, other.vector, vector, self.found.ranking.first());
+        self.found.ranking.rank(self.aim, other.cap, vector)?;
+        if copied {
+            let row = self.found.rows.as_slice()[other.vector as usize].copy(alloc)?;
             self.found.rows.set(vector as usize, row);
-            self.lead = lead_with(vector, self.lead);
             self.found.copied = Some(vector);
             return Ok(());
         }
-        self.found.rows.set(vector as usize, Row::Same(other));
+        self.found
+            .rows
+            .set(vector as usize, Row::Same(other.vector));
         Ok(())
     }
 
@@ -116,49 +124,44 @@ impl State {
     ) -> Result<(), SearchFault>
         requires visits { visits < (problem_of inputs.now).count }
         requires few { (problem_of inputs.now).count ≤ MOST_SETTINGS }
-        requires state { IsState inputs.now self.old.method visits self.old }
+        requires state { IsState inputs.now self.old.aim self.old.method visits self.old }
         requires candidate { IsCandidateAt inputs.now (visit (problem_of inputs.now).start visits) entrant }
         requires unknown { lookup (same_text entrant.text.items) self.old.cache.known ≡ None }
-        ensures state { OnOk result (IsState inputs.now self.old.method (visits + 1) self.new) }
+        ensures state { OnOk result (IsState inputs.now self.old.aim self.old.method (visits + 1) self.new) }
         ensures err { IfErr result (λ e. e ≡ SearchFault.OutOfMemory) }
     {
         let challenge = Challenge {
             method: self.method,
             entrant: &entrant,
             order: &self.order,
-            lead: self.lead,
+            aim: aim_for(self.aim, visits == 0),
+            ranking: self.found.ranking.as_slice(),
         };
         let bout = play_enough(alloc, &mut self.arena, inputs, &challenge, watcher)?;
         let Candidate { vector, text, .. } = entrant;
         learn_order(alloc, &mut self.order, visits == 0, &bout.listing)?;
         self.found.candidates += 1;
-        self.lead = next_lead(bout.cap, vector, self.lead);
+        self.found.ranking.rank(self.aim, bout.cap, vector)?;
         let row = Row::Cap(Listing::from_vec(sort_by_index(bout.listing)));
         self.found.rows.set(vector as usize, row);
-        self.cache.remember(text, vector)?;
+        let cap = bout.cap;
+        self.cache.remember(text, Fought { vector, cap })?;
         Ok(())
     }
 
-    // Returns what was found, with the lead as the best setting, or `NoCandidate` if there is none.
-    pub(crate) fn finish(self) -> Result<Found, SearchFault>
-        ensures found { IfOk result (λ f. (best : Best) × (self.lead ≡ Some best) × (f ≡ found_with self best)) }
-        ensures none { IfErr result (λ e. (e ≡ SearchFault.NoCandidate) × (self.lead ≡ None)) }
+    // Returns what was found, or `NoCandidate` if no setting assembles.
+    pub(crate) fn finish(self) -> Result<Findings, SearchFault>
+        ensures found { IfOk result (λ f. f ≡ found_with self) }
+        ensures none { IfErr result (λ e. (e ≡ SearchFault.NoCandidate) × (self.found.candidates ≡ 0)) }
     {
-        let State {
-            arena,
-            found,
-            lead,
-            ..
-        } = self;
-        match lead {
-            None => Err(SearchFault::NoCandidate),
-            Some(lead) => Ok(Found {
-                best: lead.vector,
-                total: lead.total,
-                fights: arena.fights(),
-                ..found
-            }),
+        let State { arena, found, .. } = self;
+        if found.candidates == 0 {
+            return Err(SearchFault::NoCandidate);
         }
+        Ok(Findings {
+            fights: arena.fights(),
+            ..found
+        })
     }
 }
 

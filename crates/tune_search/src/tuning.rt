@@ -2,10 +2,13 @@
 ghost use Rattle.std.specs.Prelude.{◌≡◌, ◌≤◌, IfOk, IfErr};
 ghost use Rattle.tune_problem.specs.Problem.{problem_of};
 ghost use Rattle.tune_search.specs.Limits.{MOST_CAPACITY};
-ghost use Rattle.tune_search.specs.Method.{HasCapacity};
+ghost use Rattle.tune_search.specs.Method.{HasCapacity, IsAim};
 ghost use Rattle.tune_search.specs.Found.{IsSearch, NoneAssembles};
+ghost use Rattle.tune_search.specs.Findings.{IsSearchFrom};
 
+use crate::aim::Aim;
 use crate::fault::SearchFault;
+use crate::findings::Findings;
 use crate::lead::standing;
 use crate::method::Method;
 use crate::state::State;
@@ -66,10 +69,50 @@ pub fn search_by<T: Watcher>(
     ensures found { IfOk result (IsSearch (problem_of inputs.now) method) }
     ensures none { IfErr result (λ e. e ≡ SearchFault.NoCandidate → NoneAssembles (problem_of inputs.now)) }
 {
-    let mut state = State::begin(alloc, inputs, method)?;
+    let findings = search_from(alloc, inputs, Aim { keep: 1, floor: 0 }, method, watcher)?;
+    match findings.into_found() {
+        None => Err(SearchFault::NoCandidate),
+        Some(found) => Ok(found),
+    }
+}
+
+/// Finds the first `aim.keep` settings of the ranking by `method`, of those that total `aim.floor`
+/// or more. The ranking has the greatest total first, then the smaller index.
+///
+/// `Method::Dropping` drops a setting once its cap is below the floor, or does not beat the last of
+/// the first `keep` of those visited before it, if there are so many. The start setting plays all
+/// its fights, since the others learn their order from them. A setting that shares the fights of
+/// another is ranked with its total. A floor that some setting reaches saves fights. Tells `watcher`
+/// what `search_by` tells it, which is this search with keep 1 and the floor 0.
+///
+/// # Errors
+///
+/// Those of `search`: `NoCandidate` only if no setting assembles.
+pub fn search_from<T: Watcher>(
+    alloc: Global,
+    inputs: &Inputs,
+    aim: Aim,
+    method: Method,
+    watcher: &mut T,
+) -> Result<Findings, SearchFault>
+    requires aim { IsAim aim }
+    requires capacity { HasCapacity method }
+
+    // The ranking is exact, and each of its settings has a row with all fights, or one that refers to
+    // such a row. The rows are a valid certificate of the first of it, or show that each candidate
+    // totals less than the floor. The fights are those that the aim and the method ask for.
+    ensures found { IfOk result (IsSearchFrom (problem_of inputs.now) aim method) }
+    ensures none { IfErr result (λ e. e ≡ SearchFault.NoCandidate → NoneAssembles (problem_of inputs.now)) }
+{
+    let mut state = State::begin(alloc, inputs, aim, method)?;
     for visits in 0..part_size(inputs) {
         state.visit(alloc, inputs, visits, watcher)?;
-        watcher.see(standing(visits + 1, part_size(inputs), &state.arena, state.lead));
+        watcher.see(standing(
+            visits + 1,
+            part_size(inputs),
+            &state.arena,
+            state.found.ranking.first(),
+        ));
     }
     state.finish()
 }

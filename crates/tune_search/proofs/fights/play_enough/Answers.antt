@@ -29,7 +29,7 @@ loop-index-preserved g c =
     record {
       fought = c.in_ok-push.ensures.items ∙ played_more p w order i _ _ c.loop-index-test.true points c.loop-index.invariant.fought;
       holds = cap_more p w order i _ _ _ c.loop-index-test.true c.requires.once (same ∙ points) scores c.fight_weight.ensures.weight c.loop-index.invariant.holds;
-      kept = below_more _ _ c.loop-index.invariant.kept (ap (λ n. drops c.args.challenge.now.method n c.args.challenge.now.entrant.now.vector c.args.challenge.now.lead) (sym c.loop-index.invariant.holds) ∙ sym c.drops.ensures ∙ c.if-drops.false);
+      kept = below_more _ _ c.loop-index.invariant.kept (ap (λ n. drops c.args.challenge.now.method c.args.challenge.now.aim n c.args.challenge.now.entrant.now.vector c.args.challenge.now.ranking.now) (sym c.loop-index.invariant.holds) ∙ sym c.drops.ensures ∙ c.if-drops.false);
       blank = c.fight_points-points.ensures.blank;
       counted = one_counted _ _ _ _ _ _ c.in_ok-push.ensures.items c.fight_points-points.ensures.fights c.loop-index.invariant.counted;
     }

@@ -15,7 +15,7 @@ invariant-loop-index g l =
     record {
       fought : l.listing.items ≡ played p w (take l.index-index l.challenge.order.now);
       holds : l.cap ≡ cap_of p w (take l.index-index l.challenge.order.now);
-      kept : (j : ℕ) → j < l.index-index → drops l.challenge.method (cap_of p w (take j l.challenge.order.now)) l.challenge.entrant.now.vector l.challenge.lead ≡ false;
+      kept : (j : ℕ) → j < l.index-index → drops l.challenge.method l.challenge.aim (cap_of p w (take j l.challenge.order.now)) l.challenge.entrant.now.vector l.challenge.ranking.now ≡ false;
       blank : IsBlank l.fn.inputs.rules l.arena;
       counted : l.fn.arena.fights + length l.listing.items < 2 ^ 64 → l.arena.fights ≡ l.fn.arena.fights + length l.listing.items;
     }

@@ -1,45 +1,21 @@
-use Rattle.std.proofs.Common.{arith, ◌≡◌, ◌+◌, sym, subst, ℕ, ◌≤◌}
-use Rattle.tune_template.specs.Limits.{MOST_SETTINGS}
+use Rattle.std.proofs.Common.{◌∙◌, sym, subst}
 use Rattle.tune_problem.specs.Problem.{problem_of}
-use Rattle.tune_problem.proofs.Scores.{inputs_problem}
+use Rattle.tune_search.specs.Sharing.{first_of}
 use Rattle.tune_search.specs.Found.{IsSearch}
-use Rattle.tune_search.specs.State.{IsState, found_with}
-use Rattle.tune_search.specs.declared.method.Method.{Method}
-use Rattle.tune_search.proofs.Answered.{answered, unanswered}
-use Rattle.tune_search.proofs.Finish.{finds, finds_none}
+use Rattle.tune_search.specs.Findings.{IsBestFrom, found_of}
+use Rattle.tune_search.proofs.Finish.{as_found, none_best}
+use Rattle.tune_search.proofs.Floors.{mapped_some, unmapped}
 use Rattle.tune_search.proofs.tuning.search_by.Goals as goal
 
-pub visit-requires-clause-state : goal.visit-requires-clause-state
-visit-requires-clause-state g c =
-    let i = c.args.inputs.now in
-    let s = c.loop-visits.state in
-    let state = c.loop-visits.invariant.state in
-    subst (λ (n : Method). IsState i n c.loop-visits.visits s) (sym state.method_is) state
+pub returns-in-None-clause-none : goal.returns-in-None-clause-none
+returns-in-None-clause-none g c =
+    let p = problem_of c.args.inputs.now in
+    let f = c.in_ok-findings.findings in
+    λ same. none_best p (subst (IsBestFrom p 0) (unmapped (found_of f) (first_of f.ranking) (sym c.in-None.is ∙ c.into_found.ensures)) c.in_ok-findings.ensures.found.best)
 
-pub loop-visits-preserved : goal.loop-visits-preserved
-loop-visits-preserved g c =
-    let i = c.args.inputs.now in
-    let same = c.loop-visits.invariant.state.method_is in
-    record { state = subst (λ (n : Method). IsState i n (c.loop-visits.visits + 1) c.visit.new.self) same c.in_ok-visit.ensures.state }
-
-pub returns-clause-none : goal.returns-clause-none
-returns-clause-none g c =
-    let i = c.args.inputs.now in
-    let p = problem_of i in
-    let s = c.loop-visits.state in
-    let e : c.loop-visits.visits ≡ p.count = omega (arith, c.loop-visits-test.false, c.loop-visits.auto.visits-end, c.part_size-visits-end.ensures.count) in
-    let state : IsState i c.args.method p.count s = subst (λ (k : ℕ). IsState i c.args.method k s) e c.loop-visits.invariant.state in
-    unanswered p c.finish.result s.lead c.finish.ensures.none
-    (finds_none p (inputs_problem i) state.start_inside i.rules c.args.method s.found.rows s.lead s.order.items s.arena.fights s.found.candidates s.found.copied s.cache.known state.going)
-
-pub returns-clause-found : goal.returns-clause-found
-returns-clause-found g c =
-    let i = c.args.inputs.now in
-    let p = problem_of i in
-    let s = c.loop-visits.state in
-    let e : c.loop-visits.visits ≡ p.count = omega (arith, c.loop-visits-test.false, c.loop-visits.auto.visits-end, c.part_size-visits-end.ensures.count) in
-    let state : IsState i c.args.method p.count s = subst (λ (k : ℕ). IsState i c.args.method k s) e c.loop-visits.invariant.state in
-    let few : p.count ≤ MOST_SETTINGS = omega (arith, c.part_size-visits-end.ensures.count, c.part_size-visits-end.ensures.few) in
-    answered (IsSearch p c.args.method) c.finish.result s.lead (found_with s) c.finish.ensures.found
-    (λ best is. finds p (inputs_problem i) state.start_inside i.rules c.args.method s.found.rows s.lead s.order.items s.arena.fights s.found.candidates s.found.copied s.cache.known state.going
-    s.found.version state.version_is best is few)
+pub returns-in-Some-clause-found : goal.returns-in-Some-clause-found
+returns-in-Some-clause-found g c =
+    let p = problem_of c.args.inputs.now in
+    let f = c.in_ok-findings.findings in
+    let h = mapped_some (found_of f) (first_of f.ranking) c.in-Some.found (sym c.in-Some.is ∙ c.into_found.ensures) in
+    subst (IsSearch p c.args.method) (sym h.2) (as_found p c.args.method f h.0 h.1 c.in_ok-findings.ensures.found)

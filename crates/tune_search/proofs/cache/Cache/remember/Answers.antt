@@ -1,6 +1,7 @@
-use Rattle.std.proofs.Common.{arith, ◌≡◌, ◌∙◌, ℕ, List, ap, sym, refl, take, ◌∷◌, [], map, None}
+use Rattle.std.proofs.Common.{arith, ◌≡◌, ◌∙◌, ℕ, List, ap, sym, refl, take, ◌∷◌, map, None}
 use Rattle.std.specs.Map.{lookup}
 use Rattle.tune_search.specs.Cache.{cache_view, same_text}
+use Rattle.tune_search.specs.declared.fought.Fought.{Fought}
 use Rattle.tune_search.proofs.Cached.{as_room, put_seen, without_room}
 use Rattle.tune_search.proofs.cache.Cache.remember.Goals as goal
 
@@ -8,7 +9,7 @@ pub returns-then-self-eq0 : goal.returns-then-self-eq0
 returns-then-self-eq0 c =
     let capacity = c.self.inside.capacity in
     let known = map (λ e. (e.0.items, e.1)) c.self.inside.settings.entries in
-    let entry : List ℕ × ℕ = (c.args.text.items, c.args.setting) in
+    let entry : List ℕ × Fought = (c.args.text.items, c.args.setting) in
     let none : capacity ≡ 0 = omega (arith, c.if-self-eq0.true) in
     sym c.self.view_is ∙ ap (λ es. cache_view (map (λ e. (e.0.items, e.1)) es) capacity) (without_room capacity c.self.inside.settings.cap _ c.self.invariant none)
     ∙ ap (λ n. cache_view (take n (entry ∷ known)) capacity) (sym none)

@@ -8,7 +8,7 @@ use Rattle.tune_problem.specs.declared.cert.Row.{Row}
 use Rattle.tune_problem.proofs.Scores.{inputs_problem}
 use Rattle.tune_search.specs.Cache.{CacheView, cache_view, same_text}
 use Rattle.tune_search.specs.Visits.{visit}
-use Rattle.tune_search.specs.Sharing.{copies}
+use Rattle.tune_search.specs.Sharing.{copies, first_of}
 use Rattle.tune_search.specs.State.{IsCandidateAt, IsUnderWay}
 use Rattle.tune_search.specs.declared.candidate.Candidate.{Candidate}
 use Rattle.tune_search.proofs.Cached.{promoted_none}
@@ -29,11 +29,13 @@ returns-in_default-clause-state g c =
       start_is = c.requires.state.start_is;
       start_inside = c.requires.state.start_inside;
       method_is = refl;
+      aim_is = refl;
+      is_aim = c.requires.state.is_aim;
       capacity_is = c.requires.state.capacity_is;
       version_is = c.requires.state.version_is;
       blank = c.requires.state.blank;
-      going = refused_visit p (inputs_problem i) i.rules c.args.self.now.method k v at inside
-          s.found.rows s.lead s.order.items s.arena.fights s.found.candidates s.found.copied s.cache.known c.requires.state.going
+      going = refused_visit p (inputs_problem i) c.requires.state.start_inside i.rules s.aim c.requires.state.is_aim c.args.self.now.method k v at inside
+          s.found.rows s.found.ranking s.order.items s.arena.fights s.found.candidates s.found.copied s.cache.known c.requires.state.going
           (subst (λ (o : Option Candidate). IfNone o (p.warrior v ≡ None)) c.in_default.is c.in_ok-entrant.ensures.none);
     }
 
@@ -59,14 +61,16 @@ fight-requires-clause-state g c =
       start_is = c.requires.state.start_is;
       start_inside = c.requires.state.start_inside;
       method_is = refl;
+      aim_is = refl;
+      is_aim = c.requires.state.is_aim;
       capacity_is = ap (λ (m : CacheView). m.capacity) same ∙ c.requires.state.capacity_is;
       version_is = c.requires.state.version_is;
       blank = c.requires.state.blank;
-      going = subst (λ (m : CacheView). IsUnderWay p i.rules s.method c.args.visits s.found.rows s.lead s.order.items s.arena.fights s.found.candidates s.found.copied m.known) (sym same) c.requires.state.going;
+      going = subst (λ (m : CacheView). IsUnderWay p i.rules s.aim s.method c.args.visits s.found.rows s.found.ranking s.order.items s.arena.fights s.found.candidates s.found.copied m.known) (sym same) c.requires.state.going;
     }
 
-pub returns-then-copies-clause-state : goal.returns-then-copies-clause-state
-returns-then-copies-clause-state g c =
+pub returns-then-copied-clause-state : goal.returns-then-copied-clause-state
+returns-then-copied-clause-state g c =
     let i = c.args.inputs.now in
     let p = problem_of i in
     let s = c.args.self.now in
@@ -80,21 +84,23 @@ returns-then-copies-clause-state g c =
     let text : c.deref.result.now ≡ load_text i.rules.core e.warrior = c.deref.ensures.value ∙ is.text_is in
     let look : lookup (same_text (load_text i.rules.core e.warrior)) s.cache.known ≡ Some u = ap (λ t. lookup (same_text t) s.cache.known) (sym text) ∙ sym c.in-Some-recall.ensures.value in
     let row = c.in_ok-row.row in
-    let row_of : row ≡ get_or s.found.rows u row = c.in_ok-row.ensures ∙ c.index-as_slice-other.is ∙ ap (λ (xs : List Row). get_or xs u c.index-as_slice-other.result) c.as_slice.ensures ∙ ap (λ d. get_or s.found.rows u d) (sym c.in_ok-row.ensures) in
-    let apart : copies p.start u v s.lead ≡ true = ap (λ n. copies n u v s.lead) (sym c.requires.state.start_is) ∙ sym c.copies.ensures ∙ c.if-copies.true in
+    let row_of : row ≡ get_or s.found.rows u.vector row = c.in_ok-row.ensures ∙ c.index-as_slice-other.is ∙ ap (λ (xs : List Row). get_or xs u.vector c.index-as_slice-other.result) c.as_slice.ensures ∙ ap (λ d. get_or s.found.rows u.vector d) (sym c.in_ok-row.ensures) in
+    let apart : copies p.start u.vector v (first_of s.found.ranking) ≡ true = ap (λ n. copies n u.vector v (first_of s.found.ranking)) (sym c.requires.state.start_is) ∙ ap (copies s.start u.vector v) (sym c.first.ensures) ∙ sym c.copies-copied.ensures ∙ c.if-copied.true in
     record {
       start_is = c.requires.state.start_is;
       start_inside = c.requires.state.start_inside;
       method_is = refl;
+      aim_is = refl;
+      is_aim = c.requires.state.is_aim;
       capacity_is = ap (λ (m : CacheView). m.capacity) c.in-Some-recall.ensures.known ∙ c.requires.state.capacity_is;
       version_is = c.requires.state.version_is;
       blank = c.requires.state.blank;
-      going = under_way_along p i.rules c.args.self.now.method (k + 1) _ _ _ _ _ _ _ _ _ _ _ _
-          (copied_visit p (inputs_problem i) i.rules c.args.self.now.method k v at inside
-          s.found.rows s.lead s.order.items s.arena.fights s.found.candidates s.found.copied s.cache.known c.requires.state.going
+      going = under_way_along p i.rules s.aim c.args.self.now.method (k + 1) _ _ _ _ _ _ _ _ _ _ _ _
+          (copied_visit p (inputs_problem i) c.requires.state.start_inside i.rules s.aim c.requires.state.is_aim c.args.self.now.method k v at inside
+          s.found.rows s.found.ranking s.order.items s.arena.fights s.found.candidates s.found.copied s.cache.known c.requires.state.going
           e.warrior is.warrior_is is.rules_hold is.is_warrior is.fits u look row row_of apart)
           (sym c.set.ensures)
-          (sym c.lead_with-self.ensures)
+          (sym c.in_ok-rank.ensures)
           refl
           refl
           (ap (λ t. promoted (same_text t) s.cache.known) (sym text) ∙ sym (ap (λ (m : CacheView). m.known) c.in-Some-recall.ensures.known));
@@ -114,20 +120,22 @@ returns-clause-state g c =
     let inside : v < p.count = subst (λ (n : ℕ). n < p.count) (sym at) (visit_below p.start p.count k c.requires.state.start_inside c.requires.visits) in
     let text : c.deref.result.now ≡ load_text i.rules.core e.warrior = c.deref.ensures.value ∙ is.text_is in
     let look : lookup (same_text (load_text i.rules.core e.warrior)) s.cache.known ≡ Some u = ap (λ t. lookup (same_text t) s.cache.known) (sym text) ∙ sym c.in-Some-recall.ensures.value in
-    let apart : copies p.start u v s.lead ≡ false = ap (λ n. copies n u v s.lead) (sym c.requires.state.start_is) ∙ sym c.copies.ensures ∙ c.if-copies.false in
+    let apart : copies p.start u.vector v (first_of s.found.ranking) ≡ false = ap (λ n. copies n u.vector v (first_of s.found.ranking)) (sym c.requires.state.start_is) ∙ ap (copies s.start u.vector v) (sym c.first.ensures) ∙ sym c.copies-copied.ensures ∙ c.if-copied.false in
     record {
       start_is = c.requires.state.start_is;
       start_inside = c.requires.state.start_inside;
       method_is = refl;
+      aim_is = refl;
+      is_aim = c.requires.state.is_aim;
       capacity_is = ap (λ (m : CacheView). m.capacity) c.in-Some-recall.ensures.known ∙ c.requires.state.capacity_is;
       version_is = c.requires.state.version_is;
       blank = c.requires.state.blank;
-      going = under_way_along p i.rules c.args.self.now.method (k + 1) _ _ _ _ _ _ _ _ _ _ _ _
-          (shared_visit p (inputs_problem i) i.rules c.args.self.now.method k v at inside
-          s.found.rows s.lead s.order.items s.arena.fights s.found.candidates s.found.copied s.cache.known c.requires.state.going
+      going = under_way_along p i.rules s.aim c.args.self.now.method (k + 1) _ _ _ _ _ _ _ _ _ _ _ _
+          (shared_visit p (inputs_problem i) c.requires.state.start_inside i.rules s.aim c.requires.state.is_aim c.args.self.now.method k v at inside
+          s.found.rows s.found.ranking s.order.items s.arena.fights s.found.candidates s.found.copied s.cache.known c.requires.state.going
           e.warrior is.warrior_is is.rules_hold is.is_warrior is.fits u look apart)
           (sym c.set-2.ensures)
-          refl
+          (sym c.in_ok-rank.ensures)
           refl
           refl
           (ap (λ t. promoted (same_text t) s.cache.known) (sym text) ∙ sym (ap (λ (m : CacheView). m.known) c.in-Some-recall.ensures.known));

@@ -1,0 +1,25 @@
+-- Certificates that no candidate reaches a floor.
+use Rattle.std.specs.Prelude.{◌≡◌, ◌≢◌, ℕ, ◌<◌, List, length, slice_get, Some, None}
+use Rattle.rc_instr.specs.Warrior.{WarriorView}
+use Rattle.tune_problem.specs.Problem.{Problem}
+use Rattle.tune_problem.specs.Optimum.{cap_of}
+use Rattle.tune_problem.specs.Valid.{IsCapRow, IsVersionOf, listed_indices}
+use Rattle.tune_problem.specs.declared.cert.Row.{Row}
+use Rattle.tune_problem.specs.declared.cert.Row.TheVariants.{Refused, Same, Cap}
+
+-- The row of setting v shows that v does not reach the floor, in one of three cases. Refused: v
+-- does not assemble. Cap: the row is a cap row of v's warrior, and its cap is below the floor.
+-- Same: another setting u has the same warrior and a cap row, and that cap is below the floor.
+abbrev pub IsRowBelow : Problem → ℕ → List Row → ℕ → Row → Type 0
+IsRowBelow p floor rows v Refused = p.warrior v ≡ None
+IsRowBelow p floor rows v (Cap row) =
+    (w : WarriorView) × (p.warrior v ≡ Some w) × IsCapRow p w 0 row × (cap_of p w (listed_indices row) < floor)
+IsRowBelow p floor rows v (Same u) =
+    (w : WarriorView) × (row : List (ℕ × ℕ)) × (u ≢ v) × (u < p.count) × (p.warrior v ≡ Some w) × (p.warrior u ≡ Some w)
+    × (slice_get rows u ≡ Some (Cap row)) × (cap_of p w (listed_indices row) < floor)
+
+-- A certificate that no candidate reaches the floor has such a row for each setting.
+pub record IsValidBelow (p : Problem) (floor version : ℕ) (rows : List Row) : Type 0 where
+  pub version_is : IsVersionOf p version
+  pub rows_are : length rows ≡ p.count
+  pub right : (v : ℕ) (row : Row) → slice_get rows v ≡ Some row → IsRowBelow p floor rows v row

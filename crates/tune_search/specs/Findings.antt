@@ -1,0 +1,75 @@
+-- What a search with a floor finds.
+use Rattle.std.specs.Prelude.{◌≡◌, ◌≢◌, ℕ, ◌+◌, ◌<◌, ◌≤◌, ◌⊎◌, true, List, length, slice_get, Option, Some, None}
+use Rattle.std.specs.List.{AllByRecursion}
+use Rattle.rc_instr.specs.Warrior.{WarriorView}
+use Rattle.tune_template.specs.Limits.{MOST_SETTINGS}
+use Rattle.tune_problem.specs.Problem.{Problem}
+use Rattle.tune_problem.specs.Optimum.{IsOptimum, HasTotal, candidates_of, total_of}
+use Rattle.tune_problem.specs.Valid.{IsOwnVersion, IsValid, listed_fights}
+use Rattle.tune_problem.specs.declared.cert.Cert.{Cert}
+use Rattle.tune_problem.specs.declared.cert.Found.{Found}
+use Rattle.tune_problem.specs.declared.cert.Row.{Row}
+use Rattle.tune_problem.specs.declared.cert.Row.TheVariants.{Refused, Same, Cap}
+use Rattle.tune_problem.specs.declared.watcher.Best.{Best}
+use Rattle.tune_search.specs.Visits.{IsFought}
+use Rattle.tune_search.specs.Ranking.{IsRanking}
+use Rattle.tune_search.specs.Sharing.{IsVisited, first_of}
+use Rattle.tune_search.specs.Found.{copied_fights, is_fought}
+use Rattle.tune_search.specs.Below.{IsValidBelow}
+use Rattle.tune_search.specs.declared.aim.Aim.{Aim}
+use Rattle.tune_search.specs.declared.findings.Findings.{Findings}
+use Rattle.tune_search.specs.declared.method.Method.{Method}
+
+-- Every candidate totals less than the floor.
+abbrev pub AllBelow : Problem → ℕ → Type 0
+AllBelow p floor = (v : ℕ) (w : WarriorView) → v < p.count → p.warrior v ≡ Some w → total_of p w < floor
+
+-- The best setting is the optimum, and its total reaches the floor. If there is none, no candidate
+-- reaches the floor.
+abbrev pub IsBestFrom : Problem → ℕ → Option Best → Type 0
+IsBestFrom p floor None = AllBelow p floor
+IsBestFrom p floor (Some best) = IsOptimum p best.vector × HasTotal p best.vector best.total × (floor ≤ best.total)
+
+-- The certificate of these rows, with this best setting.
+abbrev pub cert_with : ℕ → List Row → Best → Cert
+cert_with version rows best = record { version = version; count = length rows; best = best.vector; total = best.total; rows = rows }
+
+-- The rows are a valid certificate of the best setting, or that no candidate reaches the floor.
+abbrev pub IsCertified : Problem → ℕ → ℕ → List Row → Option Best → Type 0
+IsCertified p floor version rows None = IsValidBelow p floor version rows
+IsCertified p floor version rows (Some best) = IsValid p (cert_with version rows best)
+
+-- Findings as a `Found`, with this best setting.
+abbrev pub found_of : Findings → Best → Found
+found_of f best = record {
+  version = f.version;
+  best = best.vector;
+  total = best.total;
+  rows = f.rows;
+  fights = f.fights;
+  candidates = f.candidates;
+  copied = f.copied;
+}
+
+-- The row of a setting lists every fight, or is `Same` of one that does.
+abbrev pub IsFull : Problem → List Row → Best → Type 0
+IsFull p rows best = (u : ℕ) × (row : List (ℕ × ℕ)) × (slice_get rows u ≡ Some (Cap row)) × (length row ≡ p.fights)
+    × ((u ≡ best.vector) ⊎ (slice_get rows best.vector ≡ Some (Same u)))
+
+-- What a search by a method finds that is asked for the first of the ranking. The fields up to
+-- `certified` take the place of `optimum`, `total_is` and `valid` of `IsSearch`. The others are those
+-- of `IsSearch`, with what reaches the floor and beats the last that is kept in place of what beats
+-- the lead.
+pub record IsSearchFrom (p : Problem) (aim : Aim) (method : Method) (f : Findings) : Type 0 where
+  pub ranking : IsRanking p aim p.count f.ranking
+  pub full : AllByRecursion (IsFull p f.rows) f.ranking
+  pub best : IsBestFrom p aim.floor (first_of f.ranking)
+  pub certified : IsCertified p aim.floor f.version f.rows (first_of f.ranking)
+  pub version : IsOwnVersion p f.version
+  pub count : f.candidates ≡ candidates_of p
+  pub few : length f.rows ≤ MOST_SETTINGS
+  pub refused : (v : ℕ) → v < p.count → p.warrior v ≡ None → slice_get f.rows v ≡ Some Refused
+  pub fought : (v : ℕ) (w : WarriorView) → v < p.count → p.warrior v ≡ Some w → is_fought f.rows f.copied v ≡ true → IsFought p aim method f.rows v w
+  pub shared : (v : ℕ) (w : WarriorView) → v < p.count → p.warrior v ≡ Some w → IsVisited p aim method f.rows f.copied v w
+  pub copied : (v : ℕ) → f.copied ≡ Some v → (v < p.count) × (p.warrior v ≢ None)
+  pub work : f.fights + copied_fights f.rows f.copied ≡ listed_fights f.rows
