@@ -1,6 +1,7 @@
 -- What a check looks at, in its order: each test, and the reason to reject if it fails.
-use Rattle.std.specs.Prelude.{ℕ, ◌+◌, ◌-◌, Bool, true, false, not, ◌&&◌, ◌||◌, ◌==◌, if◌then◌else◌, nat_lt, nat_le, is_none, List, [], ◌∷◌, length, slice_get, Option, Some, None, option_map, option_and_then}
+use Rattle.std.specs.Prelude.{ℕ, ◌+◌, ◌-◌, ◌<◌, ◌≤◌, ◌^◌, Bool, true, false, not, ◌&&◌, ◌||◌, ◌==◌, if◌then◌else◌, nat_lt, nat_le, is_none, List, [], ◌∷◌, length, slice_get, Option, Some, None, option_map, option_and_then}
 use Rattle.std.specs.List.{list_all, sum_by, range_with_len}
+use Rattle.mars_core.specs.Arena.{ArenaView}
 use Rattle.rc_instr.specs.Instruction.{same_instruction}
 use Rattle.rc_instr.specs.Warrior.{WarriorView}
 use Rattle.rc_instr.specs.declared.instruction.Instruction.{Instruction}
@@ -106,10 +107,11 @@ row_reason p c v Refused = unless (is_none (p.warrior v)) NotRefused
 row_reason p c v (Same u) = reference_reason p c v u (slice_get c.rows u)
 row_reason p c v (Cap row) = cap_reason p c v row
 
--- The same of refused and cap rows alone, and of rows that refer to other settings alone.
+-- What is wrong with the row of setting v if it refers to no other setting; None if it does.
 abbrev pub alone_reason : Problem → Cert → ℕ → Row → Option Reason
 alone_reason p c v row = if refers row then None else row_reason p c v row
 
+-- What is wrong with the row of setting v if it refers to another setting; None if it does not.
 abbrev pub same_reason : Problem → Cert → ℕ → Row → Option Reason
 same_reason p c v row = if refers row then row_reason p c v row else None
 
@@ -156,6 +158,10 @@ listed_by (Some row) = listed_in row
 -- The number of fights that the rows of some settings list together.
 abbrev pub fights_listed : List Row → List ℕ → ℕ
 fights_listed rows settings = sum_by (λ v. listed_by (slice_get rows v)) settings
+
+-- At most `listed` more fights were played, unless the count of fights would wrap around.
+abbrev pub PlaysAtMost : ArenaView → ArenaView → ℕ → Type 0
+PlaysAtMost old new listed = old.fights + listed < 2 ^ 64 → new.fights ≤ old.fights + listed
 
 -- ---- the certificate
 

@@ -11,9 +11,10 @@ use Rattle.tune_problem.specs.declared.cert.Row.TheVariants.{Refused, Same, Cap}
 use Rattle.tune_problem.specs.declared.part.Part.{Part}
 use Rattle.tune_cert.specs.Checks.{rises, are_fights, listed_cap}
 
--- A refused or a cap row is right as in any certificate. A row that refers to another setting is
--- right by the row that it names as listed: that has rising fights of the schedule, and its cap by
--- the listed points, as one of v, does not beat the best setting.
+-- A refused or a cap row is right in a share if it is a right row of the certificate. A row of v
+-- that refers to u is right if u is another setting with the same warrior and has a cap row, whose
+-- fights rise and exist, and the cap by the points listed there, as one of v, does not beat the best
+-- setting.
 abbrev pub IsRightInShare : Problem → Cert → ℕ → Row → Type 0
 IsRightInShare p c v Refused = IsRightRow p c v Refused
 IsRightInShare p c v (Cap row) = IsRightRow p c v (Cap row)

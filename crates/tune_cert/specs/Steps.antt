@@ -7,10 +7,12 @@ use Rattle.tune_cert.specs.Spelling.{FitsU32, IsVersion, IsItem, IsRow, HasForm}
 use Rattle.tune_problem.specs.declared.cert.Row.{Row}
 use Rattle.tune_cert.specs.declared.fault.ReadFault.{ReadFault}
 use Rattle.tune_cert.specs.declared.fault.ReadFault.TheVariants.{Malformed, OutOfMemory}
+use Rattle.std.specs.Global.{Vec}
+use Rattle.std.specs.Io.KnownBytes.{Appends}
 use Rattle.std.specs.List.{sum_by}
 use Rattle.rc_instr.specs.Warrior.{WarriorView}
 use Rattle.tune_problem.specs.Problem.{Problem}
-use Rattle.csv.specs.Writing.{default_writer, writer_setup, fields_written, has_written}
+use Rattle.csv.specs.Writing.{default_writer, writer_setup, fields_written, has_written, text_written}
 use Rattle.csv.specs.declared.writer.Writer.{Writer}
 
 -- The bytes spell these fights, each after a space.
@@ -71,3 +73,7 @@ pub record IsReady {W : Type 0} (writer : Writer W) : Type 0 where
   pub setup : writer_setup writer ≡ default_writer
   pub fields : fields_written writer ≡ 0
   pub wrote : has_written writer ≡ false
+
+-- The writer appended this text to what it had written before.
+abbrev pub AddsText : Writer (Vec ℕ) → Writer (Vec ℕ) → List ℕ → Type 0
+AddsText old new text = Appends (text_written (λ v. Some v.items) old) (text_written (λ v. Some v.items) new) text

@@ -1,10 +1,10 @@
 //! Checks certificates.
-ghost use Rattle.std.specs.Prelude.{◌≡◌, ◌+◌, ◌<◌, ◌≤◌, ◌^◌, length, IfOk, IsTrue};
+ghost use Rattle.std.specs.Prelude.{◌≡◌, ◌≤◌, length, IfOk, IsTrue};
 ghost use Rattle.mars_core.specs.Arena.{IsBlank};
 ghost use Rattle.tables.specs.Records.{records_of};
 ghost use Rattle.tune_problem.specs.Parts.{whole, part};
 ghost use Rattle.tune_problem.specs.Problem.{problem_of};
-ghost use Rattle.tune_cert.specs.Checks.{wrong_alone, wrong_same, rows_failure, settings_between, share_settings, fights_listed, is_version_of, has_row_count};
+ghost use Rattle.tune_cert.specs.Checks.{wrong_alone, wrong_same, rows_failure, settings_between, share_settings, fights_listed, PlaysAtMost, is_version_of, has_row_count};
 ghost use Rattle.tune_cert.specs.Verdict.{verdict_on, IsVerdictOf};
 
 use crate::fault::{CheckFault, ReadFault};
@@ -99,8 +99,7 @@ fn check_rows_alone<T: Watcher>(
     ensures wrong { IfOk result (λ o. o ≡ wrong_alone (problem_of claim.now.inputs.now) claim.now.cert.now (settings_between first end)) }
 
     // At most as many fights are played as these rows list.
-    ensures most { let listed = fights_listed claim.now.cert.now.rows (settings_between first end) in
-        arena.old.fights + listed < 2 ^ 64 → arena.new.fights ≤ arena.old.fights + listed }
+    ensures most { PlaysAtMost arena.old arena.new (fights_listed claim.now.cert.now.rows (settings_between first end)) }
 {
     let rows = claim.cert.rows.as_slice();
     for vector in first..end {
@@ -177,8 +176,8 @@ fn check_rows<T: Watcher>(
         IfOk result (λ o. o ≡ rows_failure p claim.now.cert.now (share_settings (part share.number share.shares) p.count)) }
 
     // At most as many fights are played as the rows of the share list.
-    ensures most { let listed = fights_listed claim.now.cert.now.rows (share_settings (part share.number share.shares) (problem_of claim.now.inputs.now).count) in
-        arena.old.fights + listed < 2 ^ 64 → arena.new.fights ≤ arena.old.fights + listed }
+    ensures most { let settings = share_settings (part share.number share.shares) (problem_of claim.now.inputs.now).count in
+        PlaysAtMost arena.old arena.new (fights_listed claim.now.cert.now.rows settings) }
 {
     let count = claim.inputs.count();
     let first = share.first(count);

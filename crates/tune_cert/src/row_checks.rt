@@ -7,7 +7,7 @@ ghost use Rattle.tune_problem.specs.Optimum.{beats};
 ghost use Rattle.tune_problem.specs.Problem.{problem_of};
 ghost use Rattle.tune_problem.specs.Valid.{listed_in, listed_total};
 ghost use Rattle.tune_problem.specs.declared.cert.Row.TheVariants.{Refused, Cap};
-ghost use Rattle.tune_cert.specs.Checks.{rises, are_fights, have_points, listed_cap, is_no_better, lists_all, is_best_row, cap_reason, alone_reason, same_reason, reference_reason};
+ghost use Rattle.tune_cert.specs.Checks.{rises, are_fights, have_points, PlaysAtMost, listed_cap, is_no_better, lists_all, is_best_row, cap_reason, alone_reason, same_reason, reference_reason};
 ghost use Rattle.tune_cert.specs.Steps.{AreAssembled, listed_most};
 
 use crate::fault::CheckFault;
@@ -45,7 +45,7 @@ pub(crate) fn check_alone<T: Watcher>(
     ensures blank { IsBlank claim.now.inputs.now.rules arena.new }
 
     // At most as many fights are played as the row lists.
-    ensures most { arena.old.fights + listed_in row.now < 2 ^ 64 → arena.new.fights ≤ arena.old.fights + listed_in row.now }
+    ensures most { PlaysAtMost arena.old arena.new (listed_in row.now) }
 {
     match row {
         Row::Refused => check_refused(alloc, claim, vector),
@@ -132,7 +132,7 @@ fn have_points<T: Watcher>(
 
     // Each listed fight is played once, if all have the listed points, and no other is.
     ensures all { IsTrue result → arena.old.fights + length listed.now < 2 ^ 64 → arena.new.fights ≡ arena.old.fights + length listed.now }
-    ensures most { arena.old.fights + length listed.now < 2 ^ 64 → arena.new.fights ≤ arena.old.fights + length listed.now }
+    ensures most { PlaysAtMost arena.old arena.new (length listed.now) }
 {
     let fights = fight_count(inputs);
     for (index, points) in listed {
@@ -176,7 +176,7 @@ fn check_cap<T: Watcher>(
     requires blank { IsBlank claim.now.inputs.now.rules arena.old }
     ensures reason { IfOk result (λ o. o ≡ cap_reason (problem_of claim.now.inputs.now) claim.now.cert.now vector listed.now) }
     ensures blank { IsBlank claim.now.inputs.now.rules arena.new }
-    ensures most { arena.old.fights + length listed.now < 2 ^ 64 → arena.new.fights ≤ arena.old.fights + length listed.now }
+    ensures most { PlaysAtMost arena.old arena.new (length listed.now) }
 {
     if !is_rising(listed) {
         return Ok(Some(Reason::RepeatedFight));

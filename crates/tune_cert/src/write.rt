@@ -1,12 +1,12 @@
 //! Writes certificates.
-ghost use Rattle.std.specs.Prelude.{◌≡◌, ◌<◌, ◌↔◌, ◌^◌, ◌++◌, ◌∷◌, [], Some, false, length, flat_map, IfOk, OnOk, OnErr, IfErr, IsErrOf, IsTrue};
+ghost use Rattle.std.specs.Prelude.{◌≡◌, ◌<◌, ◌↔◌, ◌^◌, ◌++◌, ◌∷◌, [], false, length, flat_map, IfOk, OnOk, OnErr, IfErr, IsErrOf, IsTrue};
 ghost use Rattle.std.specs.Fmt.{decimal};
 ghost use Rattle.std.specs.Io.KnownBytes.{Appends};
-ghost use Rattle.csv.specs.Writing.{default_writer, row_text, text_written};
+ghost use Rattle.csv.specs.Writing.{default_writer, row_text};
 ghost use Rattle.tune_cert.specs.CertText.{item_text, spaced_text, list_text, row_fields, rows_fields, records_text, cert_text};
 ghost use Rattle.tune_problem.specs.Valid.{cert_of};
 ghost use Rattle.tune_cert.specs.Spelling.{IsVersion};
-ghost use Rattle.tune_cert.specs.Steps.{IsReady};
+ghost use Rattle.tune_cert.specs.Steps.{IsReady, AddsText};
 
 use crate::fault::CertFault;
 use csv::{Writer, WriterBuilder};
@@ -103,8 +103,7 @@ fn write_record(
 ) -> Result<(), OutOfMemory>
     requires { IsReady writer.old }
     ensures ready { OnOk result (IsReady writer.new) }
-    ensures text { OnOk result (Appends (text_written (λ v. Some v.items) writer.old) (text_written (λ v. Some v.items) writer.new)
-        (row_text default_writer (first.now ∷ second.now ∷ third.now ∷ []))) }
+    ensures text { OnOk result (AddsText writer.old writer.new (row_text default_writer (first.now ∷ second.now ∷ third.now ∷ []))) }
 {
     writer
         .write_fields(&[first, second, third])
@@ -121,8 +120,7 @@ fn write_row(
 ) -> Result<(), OutOfMemory>
     requires { IsReady writer.old }
     ensures ready { OnOk result (IsReady writer.new) }
-    ensures text { OnOk result (Appends (text_written (λ v. Some v.items) writer.old) (text_written (λ v. Some v.items) writer.new)
-        (row_text default_writer (row_fields vector row.now))) }
+    ensures text { OnOk result (AddsText writer.old writer.new (row_text default_writer (row_fields vector row.now))) }
 {
     let mut buffer = Buffer::new();
     let setting = buffer.format(vector).as_bytes();
@@ -152,8 +150,7 @@ fn write_numbers(
 ) -> Result<(), OutOfMemory>
     requires { IsReady writer.old }
     ensures ready { OnOk result (IsReady writer.new) }
-    ensures text { OnOk result (Appends (text_written (λ v. Some v.items) writer.old) (text_written (λ v. Some v.items) writer.new)
-        (row_text default_writer (word.now ∷ decimal first ∷ decimal second ∷ []))) }
+    ensures text { OnOk result (AddsText writer.old writer.new (row_text default_writer (word.now ∷ decimal first ∷ decimal second ∷ []))) }
 {
     write_record(
         writer,
@@ -167,8 +164,7 @@ fn write_rows(alloc: Global, writer: &mut Writer<Vec<u8>>, rows: &[Row]) -> Resu
     requires ready { IsReady writer.old }
     requires few { length rows.now < 2 ^ 32 }
     ensures ready { OnOk result (IsReady writer.new) }
-    ensures text { OnOk result (Appends (text_written (λ v. Some v.items) writer.old) (text_written (λ v. Some v.items) writer.new)
-        (records_text (rows_fields rows.now 0))) }
+    ensures text { OnOk result (AddsText writer.old writer.new (records_text (rows_fields rows.now 0))) }
 {
     let mut list = Vec::new(alloc);
     let mut vector = 0u32;
