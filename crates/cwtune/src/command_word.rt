@@ -1,4 +1,4 @@
-//! The command that the words name. An option of a command never stands before its name.
+//! The command that the words name: the first word, since no option stands before it.
 ghost use Rattle.std.specs.Prelude.{◌≡◌, ◌↔◌, map, IsTrue, string_bytes};
 ghost use Rattle.cwtune.specs.CommandLine.{AskForFight, command_of, command_word};
 

@@ -1,18 +1,20 @@
 //! Lines of faults: `refused: ` and the names of the fault from outside in, `failed: ` and what
 //! failed, or `error: CERT ` and why the file is not opened.
 //!
-//! A line is written in pieces and takes no memory, so that it can report that memory ran out.
+//! A line is written in pieces and takes no memory, so that it can report that memory ran out. The
+//! names are those of the variants, so renaming a variant changes a line.
 use crate::telling::tell;
 use itoa::Buffer;
 use mars_core::Side;
-use mars_fight::{ScheduleFault, ScheduleFaultKind};
+use mars_fight::ScheduleFault;
 use rc_asm::{AsmFault, AsmKind};
 use rc_expand::ExpandKind;
-use rc_instr::{LoadFault, Outlet, RulesError, WarriorError};
-use rc_text::{EvalFault, LexFault};
+use rc_instr::{LoadFault, Outlet};
+use std::fmt;
+use std::fmt::{Debug, Write as _};
 use std::io::Write;
 use tune_runs::RunFault;
-use tune_template::{TemplateFault, TemplateKind};
+use tune_template::TemplateFault;
 
 // Writes the line of a fault: `failed: Write`, `failed: OutOfMemory`, or `refused: ` and its names.
 pub(crate) fn say_run<V: Write>(err: &mut Outlet<V>, fault: RunFault) {
@@ -42,55 +44,16 @@ pub(crate) fn say_cert<V: Write>(err: &mut Outlet<V>, reason: &str, name: &str) 
     tell(err, &["error: CERT ", reason, " ", name, "\n"]);
 }
 
-fn lex_name(fault: LexFault) -> &'static str {
-    match fault {
-        LexFault::BadByte => "BadByte",
-        LexFault::NumberTooLarge => "NumberTooLarge",
-    }
+// What `write!` writes to: each piece of text is told at once.
+#[derive(Drop)]
+struct Teller<'a, V: Write> {
+    err: &'a mut Outlet<V>,
 }
 
-fn eval_name(fault: EvalFault) -> &'static str {
-    match fault {
-        EvalFault::Syntax => "Syntax",
-        EvalFault::UnknownName => "UnknownName",
-        EvalFault::DivisionByZero => "DivisionByZero",
-        EvalFault::Overflow => "Overflow",
-        EvalFault::TooDeep => "TooDeep",
-    }
-}
-
-fn expand_name(kind: ExpandKind) -> &'static str {
-    match kind {
-        ExpandKind::Text(_) => "Text",
-        ExpandKind::DuplicateName => "DuplicateName",
-        ExpandKind::ForWithoutRof => "ForWithoutRof",
-        ExpandKind::RofWithoutFor => "RofWithoutFor",
-        ExpandKind::ForTooDeep => "ForTooDeep",
-        ExpandKind::EquTooDeep => "EquTooDeep",
-        ExpandKind::CountRefused => "CountRefused",
-        ExpandKind::TooManyLines => "TooManyLines",
-        ExpandKind::OutOfMemory => "OutOfMemory",
-        ExpandKind::BadDirective => "BadDirective",
-        ExpandKind::TooManyTokens => "TooManyTokens",
-    }
-}
-
-fn warrior_name(error: WarriorError) -> &'static str {
-    match error {
-        WarriorError::Empty => "Empty",
-        WarriorError::TooLong => "TooLong",
-        WarriorError::BadStart => "BadStart",
-        WarriorError::NumberTooLarge => "NumberTooLarge",
-    }
-}
-
-fn rules_name(error: RulesError) -> &'static str {
-    match error {
-        RulesError::Core => "Core",
-        RulesError::Cycles => "Cycles",
-        RulesError::Tasks => "Tasks",
-        RulesError::Length => "Length",
-        RulesError::Distance => "Distance",
+impl<'a, V: Write> fmt::Write for Teller<'a, V> {
+    fn write_str(&mut self, text: &str) -> fmt::Result {
+        tell(self.err, &[text]);
+        Ok(())
     }
 }
 
@@ -98,49 +61,6 @@ fn side_name(side: Side) -> &'static str {
     match side {
         Side::Candidate => "candidate",
         Side::Opponent => "opponent",
-    }
-}
-
-fn asm_name(kind: AsmKind) -> &'static str {
-    match kind {
-        AsmKind::Expand(_) => "Expand",
-        AsmKind::UnknownOpcode => "UnknownOpcode",
-        AsmKind::MissingOperand => "MissingOperand",
-        AsmKind::ExtraText => "ExtraText",
-        AsmKind::Value(_) => "Value",
-        AsmKind::AssertFailed => "AssertFailed",
-        AsmKind::Warrior(_) => "Warrior",
-        AsmKind::TextTooLong => "TextTooLong",
-        AsmKind::OutOfMemory => "OutOfMemory",
-    }
-}
-
-fn template_name(kind: TemplateKind) -> &'static str {
-    match kind {
-        TemplateKind::BadLine => "BadLine",
-        TemplateKind::DuplicateName => "DuplicateName",
-        TemplateKind::ReservedName => "ReservedName",
-        TemplateKind::EmptyRange => "EmptyRange",
-        TemplateKind::StartOutside => "StartOutside",
-        TemplateKind::TooManyConstants => "TooManyConstants",
-        TemplateKind::TooManyVectors => "TooManyVectors",
-        TemplateKind::TextTooLong => "TextTooLong",
-        TemplateKind::OutOfMemory => "OutOfMemory",
-    }
-}
-
-fn schedule_name(kind: ScheduleFaultKind) -> &'static str {
-    match kind {
-        ScheduleFaultKind::Header => "Header",
-        ScheduleFaultKind::FieldCount => "FieldCount",
-        ScheduleFaultKind::BadNumber => "BadNumber",
-        ScheduleFaultKind::NoSuchOpponent => "NoSuchOpponent",
-        ScheduleFaultKind::BadPosition => "BadPosition",
-        ScheduleFaultKind::BadFirst => "BadFirst",
-        ScheduleFaultKind::Empty => "Empty",
-        ScheduleFaultKind::TooMany => "TooMany",
-        ScheduleFaultKind::OutOfMemory => "OutOfMemory",
-        ScheduleFaultKind::BadWeight => "BadWeight",
     }
 }
 
@@ -155,23 +75,39 @@ fn say_line<V: Write>(err: &mut Outlet<V>, line: u64) {
     say(err, Buffer::new().format(line))
 }
 
+// Writes a space, then the name of the variant `fault`, which holds no value.
+fn say_name<V: Write, D: Debug + Drop>(err: &mut Outlet<V>, fault: &D) {
+    let mut teller = Teller { err };
+    let _ = write!(teller, " {fault:?}");
+}
+
 fn say_expand<V: Write>(err: &mut Outlet<V>, kind: ExpandKind) {
-    say(err, expand_name(kind));
     match kind {
-        ExpandKind::Text(fault) => say(err, lex_name(fault)),
-        _ => {}
+        ExpandKind::Text(fault) => {
+            say(err, "Text");
+            say_name(err, &fault)
+        }
+        _ => say_name(err, &kind),
     }
 }
 
 // Writes ` line N`, then the names of the fault.
 pub(crate) fn say_asm<V: Write>(err: &mut Outlet<V>, fault: AsmFault) {
     say_line(err, fault.line);
-    say(err, asm_name(fault.kind));
     match fault.kind {
-        AsmKind::Expand(kind) => say_expand(err, kind),
-        AsmKind::Value(fault) => say(err, eval_name(fault)),
-        AsmKind::Warrior(error) => say(err, warrior_name(error)),
-        _ => {}
+        AsmKind::Expand(kind) => {
+            say(err, "Expand");
+            say_expand(err, kind)
+        }
+        AsmKind::Value(fault) => {
+            say(err, "Value");
+            say_name(err, &fault)
+        }
+        AsmKind::Warrior(error) => {
+            say(err, "Warrior");
+            say_name(err, &error)
+        }
+        kind => say_name(err, &kind),
     }
 }
 
@@ -183,23 +119,23 @@ fn say_load<V: Write>(err: &mut Outlet<V>, fault: LoadFault) {
         }
         LoadFault::Warrior(error) => {
             say(err, "Warrior");
-            say(err, warrior_name(error))
+            say_name(err, &error)
         }
-        LoadFault::OutOfMemory => say(err, "OutOfMemory"),
+        LoadFault::OutOfMemory => say_name(err, &fault),
     }
 }
 
 fn say_template<V: Write>(err: &mut Outlet<V>, fault: TemplateFault) {
     say(err, "Template");
     say_line(err, fault.line);
-    say(err, template_name(fault.kind))
+    say_name(err, &fault.kind)
 }
 
 fn say_schedule<V: Write>(err: &mut Outlet<V>, fault: ScheduleFault) {
     say(err, "Schedule");
     say(err, "row");
     say(err, Buffer::new().format(fault.row));
-    say(err, schedule_name(fault.kind))
+    say_name(err, &fault.kind)
 }
 
 fn say_fault<V: Write>(err: &mut Outlet<V>, fault: RunFault) {
@@ -210,19 +146,17 @@ fn say_fault<V: Write>(err: &mut Outlet<V>, fault: RunFault) {
         }
         RunFault::Rules(error) => {
             say(err, "Rules");
-            say(err, rules_name(error))
+            say_name(err, &error)
         }
         RunFault::Load { side, fault } => {
             say(err, "Load");
             say(err, side_name(side));
             say_load(err, fault)
         }
-        RunFault::Position => say(err, "Position"),
         RunFault::Asm(fault) => {
             say(err, "Asm");
             say_asm(err, fault)
         }
-        RunFault::TooManyOpponents => say(err, "TooManyOpponents"),
         RunFault::Template(fault) => say_template(err, fault),
         RunFault::NoSuchSetting { index } => {
             say(err, "NoSuchSetting");
@@ -234,9 +168,6 @@ fn say_fault<V: Write>(err: &mut Outlet<V>, fault: RunFault) {
             say_asm(err, fault)
         }
         RunFault::Schedule(fault) => say_schedule(err, fault),
-        RunFault::NoCandidate => say(err, "NoCandidate"),
-        RunFault::Write => say(err, "Write"),
-        RunFault::OutOfMemory => say(err, "OutOfMemory"),
-        RunFault::Part => say(err, "Part"),
+        _ => say_name(err, &fault),
     }
 }

@@ -104,7 +104,9 @@ fn number_of<'a>(
     }
 }
 
-// Returns the 32-bit number that a word is. It may have a sign.
+// Returns the 32-bit number that a word is. It may have a sign. Out of line, so that the hot loop
+// begins at a multiple of 32 (docs/HOT_LOOP.md, "To move it").
+#[inline(never)]
 fn number_in(word: &str) -> Option<u32> {
     match word.parse::<i64>() {
         Ok(number) => u32::try_from(number).ok(),

@@ -11,8 +11,8 @@ returns-in-Ok-Fight g c =
     let named = named_at (λ r. command_of words ≡ command_word r) _ _ c.in-Ok-Fight.is c.request_of.ensures.named ∙ ap command_word c.in-Ok-Fight.field-0-is in
     record {
       done = λ asked. done_at _ _ c.status_of.ensures c.fight.ensures.done;
-      refused = λ asked e. let refused = refused_at _ _ c.status_of.ensures e in let (text, is, why) = c.fight.ensures.refused refused in
-          (text, is, why, c.fight.ensures.ended.refused refused);
+      refused = λ asked e. let refused = refused_at _ _ c.status_of.ensures e in let (text, fault, is, why) = c.fight.ensures.refused refused in
+          (text, fault, is, why, c.fight.ensures.ended.refused refused);
       understood = λ asked e. subst (λ r. IfErr r (λ x. x ≢ Misused)) (misused_at _ _ c.status_of.ensures e) c.fight.ensures.understood refl;
       success = λ e. inr (fight_success words _ _ _ named (inl (done_at _ _ c.status_of.ensures c.fight.ensures.done e)));
       misused = λ e. c.fight.ensures.ended.misused (misused_at _ _ c.status_of.ensures e);
