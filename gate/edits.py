@@ -8,8 +8,9 @@ is refused if a goal of the function that it changes stays open, or if one of th
 files fails, and not only because the edit took a name away.
 
 A goal that stays open shows what the clause refuses. A proof file that fails shows only that this
-proof is not one of the wrong body: another one might be. So each round says how many of its edits a
-proof file refused, and --names says which.
+proof is not one of the wrong body: another one might be. So such an edit needs a line
+`breaks: CASE`, with a case in which the wrong body breaks the contract. Each round says how many of
+its edits a proof file refused, and --names says which.
 
 An edit is a file in the format of `rt must-fail`, with a line `function: PATH`, as a check prints
 the function. Each `old:` text occurs once in its file, in the name's line or in the body of that
@@ -56,7 +57,7 @@ class Edit:
 
     def __init__(self, source, crate):
         self.name, self.source, self.pairs = source.stem, source, []
-        path = file = old = ""
+        path = file = old = self.breaks = ""
         for line in source.read_text("utf-8").split("\n"):
             word, _, rest = line.partition(":")
             rest = rest.removeprefix(" ")
@@ -64,6 +65,8 @@ class Edit:
                 path = rest
             elif word == "file":
                 file = rest
+            elif word == "breaks":
+                self.breaks = rest
             elif word == "old":
                 old = rest
             elif word == "new":
@@ -263,7 +266,11 @@ def judge(crate, number, edits, options):
     every = [*edits, crate.harmless]
     text = check(crate, every, every, log)
     faults += faults_of(crate, edits, text)
-    by_proofs = [edit.name for edit in edits if not OPEN.match(words_on(edit, read_check(text)[0]))]
+    said = read_check(text)[0]
+    by_proofs = [edit for edit in edits if not OPEN.match(words_on(edit, said))]
+    faults += [f"{edit.name}: a proof file refused it: add a line `breaks: CASE` that says in which "
+               "case it breaks the contract" for edit in by_proofs if not edit.breaks]
+    by_proofs = [edit.name for edit in by_proofs]
     if not faults:
         keep(key, by_proofs)
     return len(edits) + 1, faults, label + told_of(by_proofs, options)

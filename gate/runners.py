@@ -16,8 +16,8 @@ HELPED = ["gate.gate", "gate.edits", "pmars.compare", "release.dist", "release.m
 # The modules that take a program, by the command that builds it.
 REFUSED = {
     "make build": ["author.tests.run", "gate.play_cases", "gate.cuts", "gate.pipes",
-                   "gate.terminals", "gate.documents", "gate.refuse.memory", "gate.refuse.writes",
-                   "gate.refuse.two_devices", "release.try_release"],
+                   "gate.terminals", "gate.documents", "gate.loop_place", "gate.refuse.memory",
+                   "gate.refuse.writes", "gate.refuse.two_devices", "release.try_release"],
     "make pmars": ["pmars.compare"],
     "rt test": ["gate.refuse.growth"],
 }
