@@ -8,7 +8,7 @@ import hashlib, os, pathlib
 from typing import NamedTuple
 
 from .endings import Fault
-from .program import Rules
+from .program import HILLS, Rules, fill_rules
 
 KINDS = ["template", "schedule", "opponent"]
 
@@ -27,7 +27,8 @@ class CertInputs:
         lines = [line.split(" ", 1) for line in text.splitlines()]
         said = dict(lines)
         self.rules = Rules(*map(int, said["rules"].split()))
-        self.part, self.cert, self.folder = said["part"], said["cert"], said["folder"]
+        self.part, self.method = said["part"], said["method"]
+        self.cert, self.folder = said["cert"], said["folder"]
         self.files = {kind: [listed(rest) for word, rest in lines if word == kind]
                       for kind in KINDS}
         if [len(self.files[kind]) for kind in KINDS[:2]] != [1, 1] or not self.files["opponent"]:
@@ -73,6 +74,8 @@ def settle(asked):
     Words that a command does not have, or that no file is found for, are left alone.
     """
     found = read(asked.cert)
+    if getattr(asked, "hill", None):
+        fill_rules(asked, HILLS[asked.hill])
     if isinstance(found, str):
         fill_rules(asked, Rules())
         return f"note: {found}, so files and rules cannot be compared with the tuning's\n"
@@ -86,10 +89,22 @@ def settle(asked):
     return ""
 
 
-def fill_rules(asked, rules):
-    for name, number in rules._asdict().items():
-        if getattr(asked, name, 0) is None:
-            setattr(asked, name, number)
+def refuse_others(asked, cert, part, method):
+    """Refuses `cert` if its CERT.inputs says that it is of another part or of another tuning."""
+    found = read(cert)
+    if isinstance(found, str):
+        return
+    try:
+        if found.part != part:
+            raise Fault(f"it is of part {found.part}", 2)
+        if found.method != method:
+            raise Fault(f"its method is `{found.method}`, not `{method}`", 2)
+        refuse_rules(asked, found.rules)
+        for kind in KINDS[:2]:
+            settled(found, kind, 0, getattr(asked, kind))
+        settled_opponents(found, asked.opponent)
+    except Fault as fault:
+        raise Fault(f"{cert} is not of part {part} of what is merged: {fault}", 2) from None
 
 
 def refuse_rules(asked, rules):

@@ -103,13 +103,17 @@ def print_line(name, total, greatest, fresh, constants):
     print(f"{name}: tuning {tuned}, fresh {fresh} {constants}", flush=True)
 
 
+def said_of(more):
+    """Says in words whether differences of points are a gain."""
+    if abs(more.mean()) > 2 * more.error():
+        return "a gain" if more.mean() > 0 else "a loss"
+    return "no difference that these fights show"
+
+
 def print_gain(other, setting, more):
-    """Says in words whether a setting is better than another warrior in the fresh fights."""
-    gain, error = more.mean(), more.error()
-    said = "no difference that these fights show"
-    if abs(gain) > 2 * error:
-        said = "a gain" if gain > 0 else "a loss"
-    print(f"over {other}, setting {setting}: {gain:+.1f}% +- {error:.1f}, {said}")
+    """Says whether a setting is better than another warrior in the fresh fights."""
+    print(f"over {other}, setting {setting}: {more.mean():+.1f}% +- {more.error():.1f}, "
+          f"{said_of(more)}")
 
 
 def make_parser():
@@ -140,7 +144,8 @@ def read_words():
         parser.error(f"give OPPONENT..: {why or 'the opponents of the tuning are not there'}")
     if asked.rounds * len(asked.opponents) > MOST_FIGHTS:
         parser.error(f"the opponents times --rounds are more than {MOST_FIGHTS} fights")
-    if asked.distance > asked.core - asked.distance:
+    rules = rules_of(asked)
+    if rules.distance > rules.core - rules.distance:
         parser.error("--distance is more than half of --core")
     return asked
 

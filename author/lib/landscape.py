@@ -147,6 +147,18 @@ def draw_maps(plot, table, x, y):
     return figure
 
 
+def effect_of(template, totals, place):
+    """Returns the values of a constant that assemble, their mean totals, and the standard errors
+    of these."""
+    groups = {value: [] for value in template.values[place]}
+    for total, setting in zip(totals, template.settings):
+        if not math.isnan(total):
+            groups[setting[place]].append(total)
+    groups = {value: own for value, own in groups.items() if own}
+    means = [sum(own) / len(own) for own in groups.values()]
+    return list(groups), means, [error_of(*both) for both in zip(groups.values(), means)]
+
+
 def draw_effects(plot, table):
     """Draws for each constant the mean total of each of its values, with its standard error."""
     if table.greys():
@@ -154,14 +166,8 @@ def draw_effects(plot, table):
     template = table.template
     figure, grid, _ = grid_of(plot, len(template.names))
     for place, (axes, name) in enumerate(zip(grid, template.names)):
-        groups = {value: [] for value in template.values[place]}
-        for total, setting in zip(table.totals, template.settings):
-            if not math.isnan(total):
-                groups[setting[place]].append(total)
-        groups = {value: totals for value, totals in groups.items() if totals}
-        means = [sum(totals) / len(totals) for totals in groups.values()]
-        errors = [error_of(totals, mean) for totals, mean in zip(groups.values(), means)]
-        axes.errorbar(list(groups), means, errors, marker="o", linewidth=1, capsize=2)
+        axes.errorbar(*effect_of(template, table.totals, place), marker="o", linewidth=1,
+                      capsize=2)
         axes.set_xlabel(name)
         axes.set_ylabel("mean total")
     return figure

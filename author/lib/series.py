@@ -3,7 +3,7 @@
 Example: cwtune-series 4321 20 3 > fights.csv
 """
 from .endings import number_from
-from .program import MEANING, command_parser
+from .program import MEANING, Rules, add_hill, command_parser, rules_of
 
 
 def series(seed, rounds, core, distance):
@@ -22,8 +22,10 @@ def make_parser():
                         help="the number after -r")
     parser.add_argument("opponents", metavar="OPPONENTS", type=number_from(1, 64),
                         help="how many opponents: the series for each")
-    for name, default, low, high in [("core", 8000, 8, 65535), ("distance", 100, 1, 32767)]:
-        parser.add_argument(f"--{name}", type=number_from(low, high), default=default, metavar="N",
+    add_hill(parser)
+    for name, low, high in [("core", 8, 65535), ("distance", 1, 32767)]:
+        default = f"that of the hill, else {getattr(Rules(), name)}"
+        parser.add_argument(f"--{name}", type=number_from(low, high), metavar="N",
                             help=f"{MEANING[name]} [default: {default}]")
     return parser
 
@@ -31,12 +33,13 @@ def make_parser():
 def main():
     parser = make_parser()
     asked = parser.parse_args()
-    if not asked.distance <= asked.seed <= asked.core - asked.distance:
-        parser.error(f"SEED {asked.seed} is not {asked.distance} to {asked.core - asked.distance}, "
+    rules = rules_of(asked)
+    if not rules.distance <= asked.seed <= rules.core - rules.distance:
+        parser.error(f"SEED {asked.seed} is not {rules.distance} to {rules.core - rules.distance}, "
                      "the positions that pMARS takes")
     if asked.rounds * asked.opponents > 10000:
         parser.error("a schedule has 1 to 10000 fights")
     print("opponent,position,first")
     for opponent in range(asked.opponents):
-        for place, first in series(asked.seed, asked.rounds, asked.core, asked.distance):
+        for place, first in series(asked.seed, asked.rounds, rules.core, rules.distance):
             print(f"{opponent},{place},{first}")

@@ -104,6 +104,11 @@ def options_of(args):
     return [*rules_of(args).words(), "--all" if args.all else f"--cache={args.cache}"]
 
 
+def method_of(args):
+    """Returns how the tuning searches, in the words of CERT.inputs."""
+    return "all" if args.all else f"cache {args.cache}"
+
+
 def count_settings(args):
     """Returns the number of settings, which the program counts."""
     done = run_program(args.program, "settings", "--", args.template)
@@ -224,9 +229,8 @@ def write_inputs(args):
         return
     name, files = cert_inputs.name_of(args.cert), [args.template, args.schedule, *args.opponent]
     version = run_program(args.program, "--version").stdout.decode().removeprefix("cwtune ").strip()
-    method = "all" if args.all else f"cache {args.cache}"
     try:
-        text = cert_inputs.text_of(version, rules_of(args), method, args.cert, files)
+        text = cert_inputs.text_of(version, rules_of(args), method_of(args), args.cert, files)
         with whole_file(name, "wb") as file:
             file.write(os.fsencode(text))
     except (Fault, OSError, ValueError):
@@ -250,6 +254,9 @@ def tune(args, count):
     folder = (spread_parts.Jobs(args, count) if args.merge
               else spread_parts.Parts(args, count, options_of(args)))
     progress = PartsProgress(folder, args.progress)
+    for number in range(1, (args.merge or 0) + 1):
+        part = f"{number}/{args.merge}"
+        cert_inputs.refuse_others(args, folder.cert(number), part, method_of(args))
     with stopping(folder, progress):
         say_missing(folder, progress, {} if args.merge else run_jobs(args, folder, progress))
         return finish(args, folder, progress)

@@ -182,9 +182,8 @@ def make_parser():
     return parser
 
 
-def main():
-    parser = make_parser()
-    asked = parser.parse_intermixed_args()
+def warrior_text(parser, asked):
+    """Returns the text of the warrior. Refuses a template, and ranges that no template has."""
     names = [wanted.name for wanted in asked.ranges]
     if twice := [name for k, name in enumerate(names) if name in names[:k]]:
         parser.error(f"{twice[0]} has two ranges")
@@ -194,14 +193,26 @@ def main():
         text = file.read().decode("latin-1")
     if any(is_range_line(line.encode("latin-1")) for line in text.split("\n")):
         raise Fault(f"{asked.warrior}: it has range lines, so it is a template already")
-    if not names:
+    return text
+
+
+def made_of(asked, text):
+    """Returns the template of a text, whose start setting is the warrior of the text."""
+    template = template_of(asked.warrior, text, asked.ranges)
+    refuse_another(asked, text)
+    return template.encode("latin-1")
+
+
+def main():
+    parser = make_parser()
+    asked = parser.parse_intermixed_args()
+    text = warrior_text(parser, asked)
+    if not asked.ranges:
         numbers = list(listed(text))
         for line in numbers:
             print(line)
         if not numbers:
             print("note: no line `NAME EQU number`", file=sys.stderr)
         return
-    template = template_of(asked.warrior, text, asked.ranges)
-    refuse_another(asked, text)
-    sys.stdout.buffer.write(template.encode("latin-1"))
+    sys.stdout.buffer.write(made_of(asked, text))
     tell_size(math.prod(len(wanted.values) for wanted in asked.ranges))

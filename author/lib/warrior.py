@@ -12,8 +12,7 @@ import re, sys, tempfile
 
 from . import cert_inputs, tuning_files
 from .endings import Fault, number_from
-from .program import (WORDS, Rules, add_program, add_rules, add_words, command_parser, load_of,
-                      rules_of)
+from .program import WORDS, add_program, add_rules, add_words, command_parser, load_of, rules_of
 
 HEAD = b";redcode"
 # pMARS 0.9.2 reads no longer lines.
@@ -115,7 +114,6 @@ def main():
     template, totals = tuning_files.Template(asked.template), (None, None)
     asked.schedule, note = None, ""
     if asked.cert is None:
-        cert_inputs.fill_rules(asked, Rules())
         setting = setting_of(template, asked.setting)
     else:
         found = tuning_files.Certificate(asked.cert)

@@ -31,6 +31,8 @@ OTHERS = [
     (f"{HOLDOUT} imp.red dat.red", "imp.red is not opponent 0 of the tuning"),
     (f"{HOLDOUT} dat.red", "opponents given: 1; of the tuning: 2"),
     (f"{HOLDOUT} --core 8000", "--core is 8000, but the tuning had 800"),
+    (f"{HOLDOUT} --hill nano", "--core is 80, but the tuning had 800"),
+    (f"{HOLDOUT} --core 800 --hill tiny", "--cycles is 8000, but the tuning had 80000"),
     (f"{HOLDOUT} --schedule other.csv", "other.csv is not the schedule of the tuning"),
     ("cwtune-scores cert other.csv", "other.csv is not the schedule of the tuning"),
     ("cwtune-scores cert --template other.red", "other.red is not the template of the tuning"),

@@ -12,7 +12,7 @@ from author.lib.endings import Fault, run_tool
 from author.lib.program import program_of
 from gate.tally import compare, tally
 
-from . import origins, sharing, spreading, varying, warriors
+from . import origins, reporting, sharing, spreading, studying, varying, warriors
 from .commands import AUTHOR, TUNING, command, run, said
 
 EXPECTED = pathlib.Path(__file__).resolve().parent / "expected"
@@ -21,6 +21,7 @@ EXPECTED = pathlib.Path(__file__).resolve().parent / "expected"
 PLAIN = {
     "series.csv": "cwtune-series 1234 25 5",
     "series-small.csv": "cwtune-series 33 7 2 --core 80 --distance 20",
+    "series-hill.csv": "cwtune-series 33 3 1 --hill nano",
     "series-near.txt": "cwtune-series 99 25 5",
     "series-many.txt": "cwtune-series 1234 5001 2",
     "files.txt": "cwtune-files stone.red decoy.red schedule.csv weighted.csv all-fights.cert "
@@ -73,6 +74,11 @@ REFUSALS = [
      "cwtune-series: error: argument --core: 70000 is not 8 to 65535", 2),
     ("cwtune-series 1234 5 2 --distance 0",
      "cwtune-series: error: argument --distance: 0 is not 1 to 32767", 2),
+    ("cwtune-series 100 5 2 --hill lp",
+     "cwtune-series: error: SEED 100 is not 200 to 7800, the positions that pMARS takes", 2),
+    ("cwtune-series 1234 5 2 --hill x",
+     "cwtune-series: error: argument --hill: invalid choice: 'x' (choose from '94nop', 'tiny', "
+     "'nano', 'lp')", 2),
     ("cwtune-files none", f"failed: none: {NO_FILE}", 3),
     *((f"cwtune-files {name}", f"refused: {name}: not a template, a schedule or a certificate", 1)
       for name in ["binary", "empty", "long"]),
@@ -233,7 +239,8 @@ def main():
             (EXPECTED / name).write_text(result, "utf-8")
     return tally([*stored(results), *helps(), *closed(), *refusals(rows, python), *signals(),
                   *warriors.trials(program), *varying.trials(program), *origins.trials(program),
-                  *spreading.trials(program), *sharing.trials(program)])
+                  *studying.trials(program), *spreading.trials(program),
+                  *sharing.trials(program), *reporting.trials()])
 
 
 if __name__ == "__main__":

@@ -306,7 +306,24 @@ def merged(place):
     yield compare("--merge without a part", (
         3, "", "failed: no result of 1 of 3 parts: 2\n", None),
         (*place.spread("--merge=3", *DECOY), place.read("CERT")))
-    yield compare("--merge of too many parts", 3, place.spread("--merge=4", *DECOY)[0])
+    refused = "error: CERT.1 is not of part {} of what is merged: {}\n"
+    yield compare("--merge of too many parts", (2, "", refused.format("1/4", "it is of part 1/3")),
+                  place.spread("--merge=4", *DECOY))
+    yield compare("--merge with other rules", (2, "", refused.format(
+        "1/3", "--cycles is 99, but the tuning had 80000")),
+                  place.spread("--merge=3", "--cycles=99", *DECOY))
+    yield compare("--merge with another method", (2, "", refused.format(
+        "1/3", "its method is `cache 4096`, not `all`")),
+                  place.spread("--merge=3", "--all", *DECOY))
+    place.write("other.csv", b"opponent,position,first\n0,4000,c\n")
+    other = [*DECOY[:DECOY.index("schedule.csv")], "other.csv",
+             *DECOY[DECOY.index("schedule.csv") + 1:]]
+    yield compare("--merge with another schedule", (2, "", refused.format(
+        "1/3", "other.csv is not the schedule of the tuning")), place.spread("--merge=3", *other))
+    for part in "123":
+        (place.folder / f"CERT.{part}.inputs").unlink()
+    yield compare("--merge of too many parts that do not say of what", 3,
+                  place.spread("--merge=4", *DECOY)[0])
 
 
 def screen_of(place, words):

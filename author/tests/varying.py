@@ -141,6 +141,22 @@ def climbs(place):
         (few[0], *few[2][-3:]))
 
 
+def kinds(place):
+    """Tunes the templates of other kinds, and climbs in them."""
+    for name, settings in [("paper", 2304), ("quick-scan", 1080), ("spiral", 1820)]:
+        files = [str(TUNING / f"{name}.red"), str(TUNING / "schedule.csv")]
+        tuned = dict(line.split(" ", 1) for line in
+                     place.run(["tune", *files, "CERT", *WARRIORS]).out.decode().splitlines())
+        status, _, err = run("cwtune-seek", "--program", place.program, *files, *WARRIORS,
+                             folder=place.folder)
+        words = next(line for line in err.splitlines() if line.startswith("found: ")).split()
+        greatest, fights = int(tuned["total"].split()[0]), int(tuned["fights"].split()[0])
+        yield compare(f"settings of {name}.red", str(settings), tuned["vectors"])
+        yield compare(f"a climb in {name}.red has a third of the fights, and no better setting", (
+            0, True, True), (status, int(words[2]) <= greatest,
+                             3 * int(words[words.index("fights") - 1]) <= fights))
+
+
 def total_of(place, name, text=None):
     """Returns the best total of a template, which `cwtune tune` finds."""
     if text is not None:
@@ -177,7 +193,7 @@ def refused_climbs(place):
 
 
 def trials(program):
-    for plays in [templates, refusals, climbs, refused_climbs]:
+    for plays in [templates, refusals, climbs, kinds, refused_climbs]:
         with tempfile.TemporaryDirectory() as folder:
             try:
                 for name, wrong in plays(Place(program, folder, {})):

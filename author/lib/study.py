@@ -1,0 +1,197 @@
+"""Makes a better warrior of a warrior: schedule, tuning, fresh fights and report, in one folder.
+
+WARRIOR is a template, or an ordinary text with words NAME=LOW:HIGH:STEP, as cwtune-vary takes them.
+An opponent is a file, or a folder whose files *.red are taken by their names. A template of more
+than --exact settings is first climbed in by cwtune-seek, which leaves a box around what it finds:
+outside of the box settings were only sought. All fights of the box are played and the certificate
+is checked, so its ranking is exact. The first ten then play fresh fights, the better half more, and
+so on; the winner is the one with the most points. It and START play other fights for the gain.
+
+FOLDER gets each file by its usual name: winner.red, report.html, report.json, the template, the
+schedule, the certificate, and log.txt with the commands, each of which can be typed there. After
+Ctrl-C or a crash repeat the command, and it goes on. A folder made of other inputs is refused.
+
+Example: cwtune-study my.red opponents/ STEP=5:7995:10 GATE=-3500:-500:500
+"""
+import json, math, os, pathlib, re, signal, sys
+
+from . import study_fresh, study_inputs, study_report
+from .endings import number_from
+from .grid import Grid
+from .program import Rules, add_program, add_rules, command_parser, rules_of
+from .study_folder import Folder
+from .study_result import report_of
+from .tuning_files import Certificate, MOST_SETTINGS, read_schedule
+
+NUMBER = number_from(1, study_inputs.MOST_FIGHTS)
+
+
+class Study:
+    """A study: its words, its inputs, and its folder, in which each stage is a method."""
+
+    def __init__(self, args, inputs):
+        self.args, self.inputs = args, inputs
+        self.title = os.path.basename(args.warrior)
+        self.names = [name for name, _ in inputs.opponents]
+        self.opponents = [f"opponents/{name}" for name in self.names]
+        self.rules = [word for word, usual in zip(rules_of(args).words(), Rules().words())
+                      if word != usual]
+        self.folder = Folder(args.out or f"{pathlib.Path(args.warrior).stem}.study", args.program,
+                             inputs.of(args), args.anew)
+
+    def own(self, name, *words):
+        """Returns the words of a command for authors that takes the program and the rules."""
+        return [name, *words, f"--program={self.args.program}", *self.rules]
+
+    def series(self, seed, rounds, name):
+        """Writes a schedule by cwtune-series."""
+        words = [word for word in self.rules if word.startswith(("--core", "--distance"))]
+        self.folder.run(["cwtune-series", *words, str(seed), str(rounds), str(len(self.names))],
+                        name)
+
+    def copy(self):
+        """Copies the inputs, and makes the template of a warrior."""
+        folder, inputs = self.folder, self.inputs
+        (folder.path / "opponents").mkdir(exist_ok=True)
+        for path, (_, text) in zip(self.opponents, inputs.opponents):
+            folder.write(path, text)
+        if self.args.ranges:
+            folder.write("warrior.red", inputs.warrior)
+            words = [f"{it.name}={it.values[0]}:{it.values[-1]}:{it.values.step}"
+                     for it in self.args.ranges]
+            folder.run(self.own("cwtune-vary", "warrior.red", *words), "template.red")
+        else:
+            folder.write("template.red", inputs.template)
+        grid = Grid(folder.path / "template.red")
+        folder.write("start.red", grid.line_through(grid.start, ()))
+
+    def box(self):
+        """Makes box.red. Returns what was sought for it, and the total of START, if that is
+        known."""
+        grid = Grid(self.folder.path / "template.red")
+        if grid.count() <= self.args.exact:
+            self.folder.run(["cat", "template.red"], "box.red")
+            return {"sought": False, "fights": 0, "start": None}
+        box = math.prod(min(2 * self.args.box + 1, len(some)) for some in grid.values)
+        reach = self.args.box if box <= self.args.exact else 1
+        self.folder.run(self.own("cwtune-seek", f"--box={reach}", f"--jobs={self.args.jobs}")
+                        + ["template.red", "schedule.csv", *self.opponents], "box.red")
+        said = "\n".join(self.folder.log[-1]["said"])
+        start = re.search(r"^start: total (\d+) of", said, re.M)
+        fights = re.search(r"^found: total .*, (\d+) fights in", said, re.M)
+        return {"sought": True, "fights": int(fights[1]), "start": start and int(start[1])}
+
+    def spread(self):
+        """Plays every fight of the box, and has the certificate checked."""
+        words = ["--all", "--check", f"--jobs={self.args.jobs}"]
+        self.folder.run(self.own("cwtune-spread", *words) + [
+            "box.red", "schedule.csv", "best.cert", *self.opponents], "best.txt", hears=False)
+        lines = (self.folder.path / "best.txt").read_text().splitlines()
+        fights = next(line.split()[1] for line in lines if line.startswith("fights "))
+        return {"fights": int(fights), "check": lines[-1]}
+
+    def first(self):
+        """Returns the first settings of the ranking of the box."""
+        found = Certificate(str(self.folder.path / "best.cert"))
+        full, _ = found.ranked(read_schedule(self.folder.path / "schedule.csv"))
+        return [v for _, v in full[:study_fresh.FIRST]]
+
+    def go(self):
+        """Goes through all stages. Returns the report."""
+        stage = self.folder.stage
+        made = ["warrior.red"] if self.args.ranges else []
+        stage("inputs", self.copy, "template.red", "start.red", *made, *self.opponents)
+        stage("schedule", lambda: self.series(self.args.seed, self.args.rounds, "schedule.csv"),
+              "schedule.csv")
+        sought = stage("box", self.box, "box.red")
+        tell_box(self.folder.path, sought["sought"])
+        spread = stage("best", self.spread, "best.cert", "best.txt")
+        winner, points, last = study_fresh.find(self, self.first())
+        words = self.own("cwtune-warrior", f"--setting={winner}", "box.red")
+        stage("winner", lambda: self.folder.run(words, "winner.red"), "winner.red")
+        stage("report", lambda: self.report(sought, spread, winner, points, last),
+              "report.json", "report.html")
+        self.folder.write_log()
+        return json.loads((self.folder.path / "report.json").read_text())
+
+    def report(self, *results):
+        report = report_of(self, *results)
+        self.folder.write("report.json", (json.dumps(report, indent=1) + "\n").encode())
+        self.folder.write("report.html", study_report.html_of(report).encode(errors="replace"))
+
+
+def tell_box(folder, sought):
+    """Says what will be exact, and what was only sought."""
+    count, box = Grid(folder / "template.red").count(), Grid(folder / "box.red").count()
+    if sought:
+        print(f"of {count} settings a box of {box} is tuned, around what the climb found: exact "
+              "within the box, only sought outside of it", flush=True)
+    else:
+        print(f"all {count} settings are tuned: their ranking is exact", flush=True)
+
+
+def told(values):
+    return " ".join(f"{name}={value}" for name, value in values.items())
+
+
+def tell_end(folder, report):
+    best, winner, start = report["ranking"][0], report["winner"], report["start"]
+    greatest, gain = report["schedule"]["greatest"], report["gain"]
+    print(f"tuned: setting {best['setting']} is best, total {best['tuned']} of {greatest}, START "
+          f"{start['tuned']} ({report['check']})")
+    for name, it in [(f"setting {winner['setting']}, rank {winner['rank']}", winner),
+                     ("START", start)]:
+        fresh = it["fresh"]
+        print(f"fresh: {name}: {fresh['points']} of {3 * fresh['fights']} ({fresh['percent']:.1f}% "
+              f"+- {fresh['error']:.1f}) {told(it['values'])}")
+    if winner["values"] == start["values"]:
+        print("the winner is START: nothing better was found")
+    else:
+        print(f"over START: {gain['percent']:+.1f}% +- {gain['error']:.1f}, {gain['words']}")
+    for name in ["winner.red", "report.html"]:
+        print(os.path.join(folder.told, name))
+
+
+def make_parser():
+    parser = command_parser(__doc__)
+    parser.add_argument("--out", metavar="FOLDER", help="where all files go [default: NAME.study, "
+                        "for a warrior NAME.red]")
+    parser.add_argument("--rounds", type=NUMBER, default=20, metavar="R",
+                        help="fights of the tuning against each opponent [default: 20]")
+    parser.add_argument("--seed", type=number_from(1, 65535), metavar="S",
+                        help="the first position, as of cwtune-series [default: 4321, in a small "
+                        "core less]")
+    parser.add_argument("--exact", type=number_from(1, MOST_SETTINGS), default=1000, metavar="N",
+                        help="the most settings of which all are tuned [default: 1000]")
+    parser.add_argument("--box", type=number_from(1), default=2, metavar="N",
+                        help="values on both sides of what the climb finds; 1 if the box would "
+                        "have more than --exact settings [default: 2]")
+    parser.add_argument("--fresh", type=NUMBER, default=100, metavar="F",
+                        help="fresh fights of a round against each opponent [default: 100]")
+    parser.add_argument("--jobs", type=number_from(1), default=os.cpu_count(), metavar="N",
+                        help="jobs that run side by side [default: the processors]")
+    parser.add_argument("--anew", action="store_true",
+                        help="throw away what is done, and begin again")
+    add_program(parser)
+    add_rules(parser)
+    parser.add_argument("warrior", metavar="WARRIOR", help="a template, or with words "
+                        "NAME=LOW:HIGH:STEP a Redcode text with EQU lines")
+    parser.add_argument("opponents", metavar="OPPONENT", nargs="*", default=[],
+                        help="the opponents: files, or folders with files *.red")
+    parser.add_argument("ranges", metavar="NAME=LOW:HIGH:STEP", nargs="*", default=[],
+                        help="a constant and its values, as for cwtune-vary")
+    return parser
+
+
+def main():
+    # What `kill` sends ends it as Ctrl-C does.
+    signal.signal(signal.SIGTERM, signal.default_int_handler)
+    parser = make_parser()
+    args = parser.parse_intermixed_args()
+    study = Study(args, study_inputs.read(parser, args))
+    try:
+        tell_end(study.folder, study.go())
+    except KeyboardInterrupt:
+        print(f"stopped: what is done is kept in {study.folder.told}: repeat the command to go on",
+              file=sys.stderr)
+        raise

@@ -1,0 +1,176 @@
+"""The folder of `cwtune-study`: what it is made of, the stages that are done, and their commands.
+
+    study.json       the fingerprint of all that the study depends on, and for each stage that is
+                     done its result, its commands, and the digests of the files that it wrote
+    log.txt          the commands, as a shell in the folder takes them, with their seconds
+
+A stage is done once `study.json` says so, so neither a kill nor a crash leaves half of one. A file
+of a stage that is done has to stay as it was.
+"""
+import contextlib, fcntl, json, os, pathlib, re, shlex, subprocess, sys, time
+
+from . import spread_parts, spread_shares
+from .cert_inputs import digest_of
+from .endings import Fault, naming, whole_file
+from .program import FOUND
+from .spread_jobs import end_with_parent
+
+MARK, MADE_BY = "study.json", "cwtune-study 1"
+AUTHOR = pathlib.Path(__file__).resolve().parents[1]
+FILES = ("template.red warrior.red start.red schedule.csv box.red best.cert best.cert.inputs "
+         "best.txt winner.red report.json report.html log.txt").split()
+# The names that a study gives in its rooms, and in those that cwtune-spread makes beside best.cert.
+ROOMS = {
+    "fresh": r"(\d+|start)(-\d+)?\.(red|cert|cert\.inputs|csv|report|fault)(\.unfinished-\d+)?",
+    "best.cert.parts": rf"spread\.json|{spread_parts.Parts.OWN}",
+    "best.cert.shares": rf"spread\.json|{spread_shares.Shares.OWN}",
+}
+
+
+class Folder:
+    """A folder that `cwtune-study` made, locked until `cwtune-study` ends."""
+
+    def __init__(self, told, program, of, anew):
+        self.told, self.path, self.program = told, pathlib.Path(told).resolve(), program
+        self.log = []
+        if os.fsencode(self.path).decode(errors="replace") != str(self.path):
+            raise Fault("the name of the folder is not UTF-8, which cwtune wants", 2)
+        with naming(told):
+            self.path.mkdir(exist_ok=True)
+        self.lock = os.open(self.path, os.O_RDONLY)
+        try:
+            fcntl.flock(self.lock, fcntl.LOCK_EX | fcntl.LOCK_NB)
+        except BlockingIOError:
+            raise Fault(f"another cwtune-study is at work in {told}", 2) from None
+        self.made = self.read_mark()
+        if self.made and not anew:
+            self.compare(self.made["of"], of)
+        self.remove_unfinished()
+        if self.made and anew:
+            self.remove(self.made["of"])
+        if anew or not self.made:
+            self.made = {"by": MADE_BY, "of": of, "stages": {}}
+        self.write_mark()
+
+    def read_mark(self):
+        """Returns what the folder says of itself: nothing if it is new. Refuses a folder that this
+        command did not make."""
+        files = os.listdir(self.path)
+        if all(re.fullmatch(rf"{MARK}\.\d+\.new", name) for name in files):
+            return {}
+        try:
+            made = json.loads((self.path / MARK).read_text())
+            if made["by"] == MADE_BY and made["of"]["opponents"] and "stages" in made:
+                return made
+        except (OSError, ValueError, KeyError, TypeError, AttributeError):
+            pass
+        raise Fault(f"{self.told} is not a folder of this cwtune-study, and is not touched", 2)
+
+    def compare(self, made, wanted):
+        """Refuses other inputs than those that the folder is made of."""
+        other = [kind for kind, value in wanted.items() if made.get(kind) != value]
+        if other:
+            raise Fault(f"{self.told} is of other inputs ({', '.join(other)}): give --anew to "
+                        "throw it away and begin again, or another --out", 2)
+
+    def remove(self, of):
+        """Removes all files of the study, but no file that somebody else put there."""
+        opponents = "|".join(re.escape(name) for name, _ in of["opponents"])
+        for room, names in {"opponents": opponents, **ROOMS}.items():
+            with contextlib.suppress(FileNotFoundError):
+                for name in filter(re.compile(names).fullmatch, os.listdir(self.path / room)):
+                    (self.path / room / name).unlink()
+                with contextlib.suppress(OSError):
+                    (self.path / room).rmdir()
+        for name in FILES:
+            (self.path / name).unlink(missing_ok=True)
+
+    def remove_unfinished(self):
+        """Removes what a run that was killed may leave."""
+        names = "|".join(map(re.escape, [MARK, *FILES]))
+        for path in self.path.glob("**/*.new"):
+            if re.fullmatch(rf"({names}|(opponents|fresh)/.*)\.\d+\.new",
+                            str(path.relative_to(self.path))):
+                path.unlink()
+        for path in self.path.glob("fresh/*.unfinished-*"):
+            path.unlink()
+
+    def write_mark(self):
+        with whole_file(self.path / MARK) as file:
+            json.dump(self.made, file)
+
+    def write(self, name, text):
+        """Writes a file of the folder, whole."""
+        with whole_file(self.path / name, "wb") as file:
+            file.write(text)
+
+    def is_done(self, name):
+        return name in self.made["stages"]
+
+    def stage(self, name, make, *files):
+        """Returns the result of a stage. If it is not done, `make` makes it and writes `files`."""
+        if not self.is_done(name):
+            self.log = []
+            result = make()
+            digests = {file: digest_of(self.path / file) for file in files}
+            self.made["stages"][name] = {"result": result, "commands": self.log, "files": digests}
+            self.write_mark()
+            self.write_log()
+        for file, digest in self.made["stages"][name]["files"].items():
+            if not (self.path / file).is_file() or digest_of(self.path / file) != digest:
+                raise Fault(f"{self.told}/{file} is not as it was written: give --anew to begin "
+                            "again", 2)
+        # As it is read from the mark, so that a kill changes nothing.
+        return json.loads(json.dumps(self.made["stages"][name]["result"]))
+
+    def commands(self):
+        """Returns the commands that ran, with their seconds and what they said."""
+        return [command for stage in self.made["stages"].values() for command in stage["commands"]]
+
+    def write_log(self):
+        lines = [f"# {self.made['by']}: commands to type in this folder"]
+        for it in self.commands():
+            lines += [f"{it['command']}  # {it['seconds']:.1f} seconds",
+                      *(f"# {line}" for line in it["said"])]
+        self.write("log.txt", "".join(f"{line}\n" for line in lines).encode(
+            errors="surrogateescape"))
+
+    def note(self, words, to, seconds, said=()):
+        """Notes a command for the log, without a program that is where it is looked for."""
+        own = FOUND == self.program
+        shown = ["cwtune" if own and word == self.program else word for word in words
+                 if not (own and word == f"--program={self.program}")]
+        command = shlex.join(shown) + (f" > {shlex.quote(to)}" if to else "")
+        self.log.append({"command": command, "seconds": round(seconds, 2), "said": list(said)})
+
+    def run(self, words, to, hears=True):
+        """Runs a command in the folder, and writes what it prints to a file. Its fault is this
+        command's. With `hears` the log gets what it says on standard error, too."""
+        begun = time.monotonic()
+        argv = words
+        if words[0].startswith("cwtune-"):
+            argv = [sys.executable, str(AUTHOR / words[0]), *words[1:]]
+        with whole_file(self.path / to, "wb") as file:
+            status, said = run_in(self.path, argv, file, hears)
+            if status:
+                sys.exit(status if status > 0 else 3)
+        self.note(words, to, time.monotonic() - begun, said)
+
+
+def run_in(folder, argv, out, hears):
+    """Runs a command. Returns its status, and the lines that it wrote on standard error, which are
+    passed on."""
+    job = subprocess.Popen(argv, cwd=folder, stdin=subprocess.DEVNULL, stdout=out,
+                           stderr=subprocess.PIPE if hears else None,
+                           preexec_fn=end_with_parent)
+    said = []
+    try:
+        for line in job.stderr or ():
+            sys.stderr.buffer.write(line)
+            sys.stderr.flush()
+            said.append(line.decode(errors="surrogateescape").rstrip("\n"))
+        return job.wait(), said
+    finally:
+        if job.poll() is None:
+            job.terminate()
+            job.wait()

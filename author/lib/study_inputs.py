@@ -1,0 +1,146 @@
+"""What `cwtune-study` is given: reads it, and refuses what no study can be made of."""
+import argparse, hashlib, json, os, pathlib, re, shutil, tempfile
+from typing import NamedTuple
+
+from . import vary
+from .endings import Fault
+from .grid import Grid
+from .program import EXPLAIN, rules_of, run_program
+from .tuning_files import is_range_line
+
+MOST_OPPONENTS, MOST_FIGHTS = 64, 10000
+
+
+class Inputs(NamedTuple):
+    """The text of the warrior, the template that is made of it, or the same text, and the name and
+    the text of each opponent."""
+
+    warrior: bytes
+    template: bytes
+    opponents: list
+
+    def of(self, args):
+        """Returns a fingerprint of all that the study depends on, as JSON gives it back."""
+        hashed = lambda text: hashlib.sha256(text).hexdigest()
+        options = {name: getattr(args, name) for name in OPTIONS}
+        return json.loads(json.dumps({
+            "program": hashed(pathlib.Path(args.program).read_bytes()),
+            "template": [hashed(self.warrior), hashed(self.template)],
+            "opponents": [[name, hashed(text)] for name, text in self.opponents],
+            "rules": rules_of(args)._asdict(), "options": options}))
+
+
+OPTIONS = ["rounds", "seed", "exact", "box", "fresh"]
+
+
+def sort_words(parser, args):
+    """Sorts the words of the command: the warrior, the opponents, the ranges."""
+    files, args.ranges = [], []
+    for word in [args.warrior, *args.opponents]:
+        if re.match(rf"{vary.NAME}=", word) and not os.path.exists(word):
+            args.ranges.append(range_of(parser, word))
+        else:
+            files.append(word)
+    if not files:
+        parser.error("WARRIOR is missing: a template, or a warrior with words NAME=LOW:HIGH:STEP")
+    args.warrior, paths = files[0], [path for word in files[1:] for path in paths_of(word)]
+    if not paths:
+        parser.error("OPPONENT is missing: files, or a folder with files *.red")
+    if len(paths) > MOST_OPPONENTS:
+        parser.error(f"{len(paths)} opponents; at most {MOST_OPPONENTS}")
+    args.opponents = paths
+
+
+def range_of(parser, word):
+    try:
+        return vary.range_from(word)
+    except argparse.ArgumentTypeError as fault:
+        parser.error(str(fault))
+
+
+def paths_of(word):
+    """Returns the files that a word names: itself, or of a folder all *.red by their names."""
+    if not os.path.isdir(word):
+        return [word]
+    names = sorted(name for name in os.listdir(word) if name.endswith(".red"))
+    if not names:
+        raise Fault(f"{word}: no file *.red in this folder", 2)
+    return [os.path.join(word, name) for name in names]
+
+
+def settle_options(parser, args):
+    """Sets the seed that was not given, and refuses options that do not fit together."""
+    rules, count = rules_of(args), len(args.opponents)
+    low, high = rules.distance, rules.core - rules.distance
+    if low > high:
+        parser.error("--distance is more than half of --core")
+    if args.seed is None:
+        args.seed = low + (4321 - low) % (high - low + 1)
+    if not low <= args.seed <= high:
+        parser.error(f"--seed {args.seed} is not {low} to {high}, the positions that pMARS takes")
+    for name in ["rounds", "fresh"]:
+        if getattr(args, name) * count > MOST_FIGHTS:
+            parser.error(f"--{name} {getattr(args, name)} against {count} opponents: more than "
+                         f"{MOST_FIGHTS} fights")
+
+
+def read(parser, args):
+    """Reads the files of the words, and refuses those that no study can be made of."""
+    sort_words(parser, args)
+    settle_options(parser, args)
+    args.program = os.path.abspath(shutil.which(args.program) or args.program)
+    warrior = pathlib.Path(args.warrior).read_bytes()
+    has_ranges = any(map(is_range_line, warrior.split(b"\n")))
+    if args.ranges or not has_ranges:
+        text = vary.warrior_text(parser, args)
+        if not args.ranges:
+            raise Fault(f"{args.warrior}: no range line: give words NAME=LOW:HIGH:STEP too "
+                        f"(`cwtune-vary {args.warrior}` lists the names)")
+        refuse(args, args.warrior, "--", args.warrior)
+        template = vary.made_of(args, text)
+    else:
+        refuse_start(args, Grid(args.warrior))
+        template = warrior
+    return Inputs(warrior, template, opponents_of(args))
+
+
+def refuse_start(args, grid):
+    """Refuses a template whose START does not assemble.
+
+    For this each constant has its START alone, as `cwtune` takes at most a million settings.
+    """
+    with tempfile.TemporaryDirectory() as folder:
+        path = pathlib.Path(folder, os.path.basename(args.warrior))
+        path.write_bytes(grid.line_through(grid.start, ()))
+        refuse(args, f"START of {args.warrior}", "--setting=start", "--", path.name, cwd=folder)
+
+
+def refuse(args, told, *words, **more):
+    """Refuses a text that `cwtune asm` refuses, with its status."""
+    done = run_program(args.program, "asm", *EXPLAIN, *rules_of(args).words(), *words, **more)
+    said = done.stderr.decode(errors="surrogateescape").strip()
+    if done.returncode == 1:
+        raise Fault(f"{told} does not assemble: {said}")
+    if done.returncode:
+        raise Fault(said.partition(": ")[2], min(abs(done.returncode), 3))
+
+
+def opponents_of(args):
+    """Returns names and texts of the opponents. A name that is taken gets a number."""
+    texts = {}
+    for path in args.opponents:
+        if "\n" in path:
+            raise Fault("the name of an opponent has a line end", 2)
+        texts[free_name(os.path.basename(path), texts)] = pathlib.Path(path).read_bytes()
+        refuse(args, path, "--", path)
+    return list(texts.items())
+
+
+def free_name(name, taken):
+    """Returns the name, or if it is taken the first of NAME-2, NAME-3 that is free."""
+    root, end = os.path.splitext(name)
+    number = 1
+    while name in taken:
+        number += 1
+        name = f"{root}-{number}{end}"
+    return name

@@ -1,0 +1,117 @@
+"""Gives `cwtune-study` what it has to refuse: other inputs, other folders, wrong words.
+
+`studying.py` yields what these trials find.
+"""
+import fcntl, os, time
+
+from gate.tally import compare
+
+from .study_place import TEMPLATE, texts
+
+OTHER = ("error: t.study is of other inputs ({}): give --anew to throw it away and begin again, or "
+         "another --out\n")
+FOREIGN = "error: mine is not a folder of this cwtune-study, and is not touched\n"
+USAGE = "cwtune-study: error: "
+# Words, and the status and the line with which they end.
+REFUSALS = [
+    ("t.red", 2, f"{USAGE}OPPONENT is missing: files, or a folder with files *.red"),
+    ("STEP=1:2 K=1:2", 2, f"{USAGE}WARRIOR is missing: a template, or a warrior with words "
+     "NAME=LOW:HIGH:STEP"),
+    ("t.red empty", 2, "error: empty: no file *.red in this folder"),
+    ("t.red none.red", 3, "failed: none.red: No such file or directory"),
+    ("none.red all", 3, "failed: none.red: No such file or directory"),
+    ("t.red long.red", 1, "refused: long.red does not assemble: refused: Asm line 0 Warrior "
+     "TooLong"),
+    ("bad.red all", 1, "refused: START of bad.red does not assemble: refused: Asm line 3 Value "
+     "DivisionByZero"),
+    ("range.red all", 1, "refused: range.red: line 1 is not a range"),
+    ("w.red all", 1, "refused: w.red: no range line: give words NAME=LOW:HIGH:STEP too "
+     "(`cwtune-vary w.red` lists the names)"),
+    ("t.red all STEP=1:9:2", 1, "refused: t.red: it has range lines, so it is a template "
+     "already"),
+    ("w.red all STEP=1:9:3", 1, "refused: w.red, line 3: STEP is 5, which is none of its "
+     "values; the nearest are 4 and 7"),
+    ("w.red all STEP=1", 2, f"{USAGE}STEP=1 is not of the form NAME=LOW:HIGH:STEP, as "
+     "STEP=5:4000:10, without blanks"),
+    ("w.red all STEP=1:9 STEP=1:9", 2, f"{USAGE}STEP has two ranges"),
+    ("t.red " + "all " * 22, 2, f"{USAGE}66 opponents; at most 64"),
+    ("--rounds=4000 t.red all", 2, f"{USAGE}--rounds 4000 against 3 opponents: more than 10000 "
+     "fights"),
+    ("--fresh=4000 t.red all", 2, f"{USAGE}--fresh 4000 against 3 opponents: more than 10000 "
+     "fights"),
+    ("--fresh=0 t.red all", 2, f"{USAGE}argument --fresh: 0 is not 1 to 10000"),
+    ("--seed=4 t.red all", 2, f"{USAGE}--seed 4 is not 5 to 75, the positions that pMARS takes"),
+    ("--distance=41 t.red all", 2, f"{USAGE}--distance is more than half of --core"),
+    ("--out=none/x t.red all", 3, "failed: none/x: No such file or directory"),
+    ("--out=\udcff t.red all", 2, "error: the name of the folder is not UTF-8, which cwtune "
+     "wants"),
+    ("--out=t.red t.red all", 3, "failed: t.red: File exists"),
+    ("--program=none t.red all", 3, "failed: {folder}/none: No such file or directory"),
+]
+
+
+def others(place):
+    """Gives a folder other inputs than those that it was made of, and changes its files."""
+    before = texts(place, "t.study")
+    place.write("more.red", TEMPLATE + "; more\n")
+    for kind, words in [
+        ("opponents", ["t.red", "all/imp.red", "all/dat.red"]),
+        ("template", ["--out=t.study", "more.red", "all"]),
+        ("rules", ["--cycles=799", "t.red", "all"]),
+        ("options", ["--fresh=11", "t.red", "all"]),
+        ("options", ["--exact=4", "t.red", "all"]),
+    ]:
+        yield compare(f"other {kind}", (2, "", OTHER.format(kind)), place.study(*words))
+    yield compare("they change nothing", before, texts(place, "t.study"))
+    yield compare("other jobs go on", 0, place.study("--jobs=2", "t.red", "all")[0])
+    with open(place.folder / "t.study/box.red", "a") as file:
+        file.write("; more\n")
+    yield compare("a changed file", (2, "error: t.study/box.red is not as it was written: give "
+                  "--anew to begin again\n"), place.study("t.red", "all")[::2])
+    place.write("t.study/notes.txt", "mine\n")
+    yield compare("--anew begins again", 0, place.study("--anew", "t.red", "all/imp.red")[0])
+    yield compare("and leaves what others put there", (b"mine\n", ["imp.red"]), (
+        place.read("t.study/notes.txt"), os.listdir(place.folder / "t.study/opponents")))
+
+
+def foreign(place):
+    """Gives it folders that it did not make, one that is in use, and a command that fails."""
+    (place.folder / "mine").mkdir()
+    for name, text in [("notes.txt", "mine\n"), ("study.json", "{}"), ("study.json", "[1]"),
+                       ("study.json", '{"by": "cwtune-study 1", "of": [], "stages": {}}')]:
+        place.write(f"mine/{name}", text)
+        before = texts(place, "mine")
+        for more in [[], ["--anew"]]:
+            yield compare(f"a folder of somebody else {more}", (2, "", FOREIGN, before), (
+                *place.study("--out=mine", *more, "t.red", "all"), texts(place, "mine")))
+    (place.folder / "t.study").mkdir()
+    lock = os.open(place.folder / "t.study", os.O_RDONLY)
+    fcntl.flock(lock, fcntl.LOCK_EX)
+    yield compare("two at once", (2, "", "error: another cwtune-study is at work in t.study\n"),
+                  place.study("t.red", "all"))
+    os.close(lock)
+    place.write("t.study/study.json.1.new", "{")
+    job = place.begin("t.red", "all")
+    while len(place.stages("t")) < 1 and job.poll() is None:
+        time.sleep(0.001)
+    job.kill()
+    job.communicate()
+    (place.folder / "t.study/best.cert").unlink(missing_ok=True)
+    place.write("t.study/best.cert", "a text\n")
+    status, _, err = place.study("t.red", "all")
+    yield compare("a command's fault is that of the study", (2, True), (
+        status, "CERT is a text of another kind" in err or "best.cert" in err))
+
+
+def refusals(place):
+    """Gives it what no study can be made of. No folder is made."""
+    (place.folder / "empty").mkdir()
+    place.write("bad.red", ";@tune K 1 2 1 2\nMOV 0, 1\nDAT 1/(K-2)\n")
+    place.write("range.red", ";@tune K 1 2\n")
+    place.write("long.red", "DAT 0\n" * 6)
+    before = sorted(os.listdir(place.folder))
+    for words, status, line in REFUSALS:
+        line = line.replace("{folder}", str(place.folder))
+        yield compare(f"cwtune-study {words}", (status, "", f"{line}\n"),
+                      place.study(*words.split()))
+    yield compare("refusals make no folder", before, sorted(os.listdir(place.folder)))

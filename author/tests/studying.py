@@ -1,0 +1,188 @@
+"""Plays `cwtune-study`: compares its report with the other commands, kills it and starts it again,
+and gives it what it has to refuse.
+
+`run.py` counts what `trials` yields: names, and for each a list of what was wrong.
+"""
+import os, random, shutil, signal, subprocess, tempfile, time
+
+from author.lib import grid, tuning_files
+from gate.tally import compare
+
+from . import study_refused
+from .commands import AUTHOR, SECONDS, run
+from .study_place import OPPONENTS, TEMPLATE, Place
+
+STAGES = ["inputs", "schedule", "box", "best", "fresh 1", "fresh 2", "fresh 3", "fresh 4",
+          "winner", "report"]
+
+
+def finds(place):
+    """Makes a study of a template, and compares its report with what other commands say."""
+    status, out, err = place.study("t.red", "all")
+    lines = out.splitlines()
+    yield compare("a study of a template", (0, "all 5 settings are tuned: their ranking is exact",
+                  ["t.study/winner.red", "t.study/report.html"]), (status, lines[0], lines[-2:]))
+    report, folder = place.report("t"), place.folder / "t.study"
+    settings = {it["setting"]: it["tuned"] for it in report["ranking"]}
+    scores = run("cwtune-scores", "--program", place.program, "best.cert", folder=folder)[1]
+    yield compare("the ranking is that of cwtune-scores", [f"setting {v}: total {total} STEP={own}"
+                  for (v, total), own in zip(settings.items(), valued(report))],
+                  [line.strip() for line in scores.splitlines() if line.startswith("    setting")])
+    tuned = place.run(["tune", "--core=80", "--cycles=800", "--tasks=80", "--length=5",
+                       "--distance=5", "t.red", "t.study/schedule.csv", "CERT",
+                       *(f"all/{name}" for name in OPPONENTS)]).out.decode()
+    best = report["ranking"][0]
+    yield compare("the best is that of cwtune tune", True, f"\nbest {best['setting']}\n" in tuned
+                  and f"\ntotal {best['tuned']} of 27\n" in tuned)
+    yield compare("the check", f"accepted best {best['setting']} total {best['tuned']}",
+                  report["check"])
+    yield compare("the landscape has all totals", [[settings[v] for v in range(5)]],
+                  report["landscape"]["totals"])
+    yield compare("the winner's text is the winner", place.read("t.study/fresh/"
+                  f"{report['winner']['setting']}.red"), place.asm("t.study/winner.red"))
+    line = f"\n;strategy cwtune: setting {report['winner']['setting']} of 5\n"
+    yield compare("its text says which it is", (True, True), (
+        line in report["winner_text"], line.encode() in place.read("t.study/winner.red")))
+    yield from fresh_fights(report, folder)
+    yield from study_refused.others(place)
+
+
+def valued(report):
+    return [it["values"]["STEP"] for it in report["ranking"]]
+
+
+def fresh_fights(report, folder):
+    """Adds up the fresh fights of the certificates, and compares with a report."""
+    winner = report["winner"]
+    for who, name in [*((it, f"{it['setting']}-[123]") for it in report["ranking"]),
+                      (winner, f"{winner['setting']}-4"), (report["start"], "start-4")]:
+        certs = [tuning_files.Certificate(str(path)) for path in folder.glob(f"fresh/{name}.cert")]
+        told = who["fresh"]
+        kinds = [sum(own[kind] for own in told["opponents"]) for kind in ["wins", "ties", "losses"]]
+        yield compare(f"points of {name} in its fresh fights", told["points"],
+                      sum(cert.total for cert in certs))
+        yield compare(f"wins, ties and losses of {name}", (told["fights"], told["points"]),
+                      (sum(kinds), 3 * kinds[0] + kinds[1]))
+    gain = report["winner"]["fresh"]["percent"] - report["start"]["fresh"]["percent"]
+    yield compare("the gain is the difference", round(gain, 9),
+                  round(report["gain"]["percent"], 9))
+    ranked = [it["fresh"] for it in report["ranking"]]
+    yield compare("each of the ranking plays, and the half of them more", [30, 30, 60, 90, 90],
+                  sorted(it["fights"] for it in ranked))
+    yield compare("the winner and START play as many", [90, 90],
+                  [report[who]["fresh"]["fights"] for who in ["winner", "start"]])
+    most = max(it["points"] for it in ranked if it["fights"] == 90)
+    yield compare("the winner has the most points", most,
+                  ranked[winner["rank"] - 1]["points"])
+
+
+def varies(place):
+    """Makes a study of a warrior, of opponents with equal names, and types its commands."""
+    (place.folder / "more").mkdir()
+    hostile = "it's \"$HOME\".red"
+    for name in ["more/imp.red", f"more/{hostile}"]:
+        place.write(name, OPPONENTS["dat.red"])
+    words = ["w.red", "all/imp.red", "STEP=1:9:2", "more/imp.red", f"more/{hostile}"]
+    came = place.study(*words)
+    made = run("cwtune-vary", "--program", place.program, "--hill=nano", "w.red", "STEP=1:9:2",
+               folder=place.folder)
+    yield compare("a study of a warrior", (0, made[1].encode()),
+                  (came[0], place.read("w.study/template.red")))
+    report = place.report("w")
+    yield compare("a name that is taken gets a number", ["imp.red", "imp-2.red", hostile],
+                  [it["name"] for it in report["opponents"]])
+    yield compare("the title is the warrior's name", 'Little <Stone> & "Co"', report["title"])
+    yield compare("the log has the commands of the report", report["commands"], [
+        line.rpartition("  # ")[0] for line in place.read("w.study/log.txt").decode().splitlines()
+        if line[0] != "#"])
+    yield from typed(place)
+    place.write("one.red", TEMPLATE.replace("1 9 2 5", "5 5 1 5"))
+    yield compare("one setting", "the winner is START: nothing better was found",
+                  place.study("one.red", "all")[1].splitlines()[-3])
+
+
+def typed(place):
+    """Types all commands of a log in a folder with the inputs alone."""
+    folder, other = place.folder / "w.study", place.folder / "typed"
+    (other / "fresh").mkdir(parents=True)
+    shutil.copytree(folder / "opponents", other / "opponents")
+    for name in ["warrior.red", "start.red"]:
+        shutil.copy(folder / name, other)
+    path = f"{AUTHOR}:{os.environ['PATH']}"
+    done = subprocess.run(["sh", "-e", str(folder / "log.txt")], cwd=other, timeout=SECONDS,
+                          env={**os.environ, "PATH": path}, capture_output=True)
+    yield compare("the commands of the log can be typed", (0, b"note: 5 settings\n"),
+                  (done.returncode, done.stderr))
+    names = ["template.red", "schedule.csv", "box.red", "best.cert", "best.txt", "winner.red",
+             *(str(path.relative_to(folder)) for path in folder.glob("fresh/*")
+               if path.suffix != ".inputs")]
+    yield compare("they make the same files", [], [
+        name for name in names if place.read(f"typed/{name}") != place.read(f"w.study/{name}")])
+
+
+def seeks(place):
+    """Makes a study of more settings than are tuned."""
+    status, out, err = place.study("--exact=9", "p.red", "all")
+    report, box = place.report("p"), grid.Grid(place.folder / "p.study/box.red")
+    yield compare("a box is tuned", (0, {"template": 45, "box": 6, "sought": True}), (
+        status, {name: report["settings"][name] for name in ["template", "box", "sought"]}))
+    yield compare("it is around what the climb found", True, (
+        f"found: total {report['ranking'][0]['tuned']} of 27 " in err or
+        f" {box.told(box.start)}, " in err))
+    log = place.read("p.study/log.txt").decode()
+    yield compare("the log has the climb", (True, True), (
+        "\ncwtune-seek --box=1 --jobs=1 " in log, "\n# found: total " in log))
+    yield compare("what is exact is said", "of 45 settings a box of 6 is tuned, around what the "
+                  "climb found: exact within the box, only sought outside of it",
+                  out.splitlines()[0])
+    start = run_total(place, "p.study/start.red")
+    yield compare("START has the total of its fights", start, report["start"]["tuned"])
+    yield compare("the landscape has a list for each value of the first constant", (2, 3), (
+        len(report["landscape"]["totals"]), len(report["landscape"]["totals"][0])))
+    means = [sum(own) / 3 for own in report["landscape"]["totals"]]
+    yield compare("the effects are means", means, report["effects"][0]["means"])
+    yield from after_kills(place)
+
+
+def run_total(place, name):
+    """Returns the total of a template of one setting in the schedule of a study."""
+    came = place.run(["tune", "--core=80", "--cycles=800", "--tasks=80", "--length=5",
+                      "--distance=5", name, "p.study/schedule.csv", "CERT",
+                      *(f"all/{it}" for it in OPPONENTS)]).out.decode()
+    return int(came.split("\ntotal ")[1].split()[0])
+
+
+def after_kills(place):
+    """Kills a study after each stage, and compares what it makes with an unbroken one."""
+    whole, log = place.read("p.study/report.json"), place.read("p.study/log.txt")
+    shutil.rmtree(place.folder / "p.study")
+    moments = random.Random(69)
+    for k, name in enumerate(STAGES):
+        number = [signal.SIGTERM, signal.SIGKILL][k % 2]
+        job = place.begin("--exact=9", "p.red", "all")
+        deadline = time.monotonic() + SECONDS
+        while len(place.stages("p")) <= k and job.poll() is None and time.monotonic() < deadline:
+            time.sleep(0.002)
+        time.sleep(moments.uniform(0, 0.15))
+        job.send_signal(number)
+        err = job.communicate()[1].decode()
+        yield compare(f"a kill after the stage {name}", STAGES[:k + 1], place.stages("p")[:k + 1])
+        # A later kill may come before the folder is opened.
+        if k == 0:
+            yield compare("a stop says how to go on", True, err.endswith(
+                "stopped: what is done is kept in p.study: repeat the command to go on\n"))
+    status, _, _ = place.study("--exact=9", "p.red", "all")
+    yield compare("kills change nothing", (0, whole), (status, place.read("p.study/report.json")))
+    timeless = [[line.rpartition("  # ")[0] or line for line in text.decode().splitlines()]
+                for text in (log, place.read("p.study/log.txt"))]
+    yield compare("nor the log", *timeless)
+
+
+def trials(program):
+    for plays in [finds, varies, seeks, study_refused.foreign, study_refused.refusals]:
+        with tempfile.TemporaryDirectory() as folder:
+            try:
+                for name, wrong in plays(Place(program, folder)):
+                    yield f"study {plays.__name__}: {name}", wrong
+            except (OSError, ValueError, LookupError, subprocess.TimeoutExpired) as fault:
+                yield f"study {plays.__name__}", [repr(fault)]
