@@ -15,11 +15,13 @@ ROOT = pathlib.Path(__file__).resolve().parent.parent
 KIT = pathlib.Path("/opt/rattle/rattle")
 DOC, SHARE = pathlib.Path("share/doc/cwtune"), pathlib.Path("share/cwtune")
 INSTALLED = SHARE / "installed.txt"
-# Where the files go that `manual.py` writes for a command.
+# Where the files go that `manual.py` writes for a command. Debian's zsh reads site-functions below
+# /usr/local alone.
 MANUAL = {"{}.1": "share/man/man1/{}.1",
           "{}.bash": "share/bash-completion/completions/{}",
-          "_{}": "share/zsh/site-functions/_{}",
+          "_{}": "share/zsh/{zsh}/_{}",
           "{}.fish": "share/fish/vendor_completions.d/{}.fish"}
+DEBIAN = {"zsh": "vendor-completions"}
 # The rooms that are shipped. Their tests need the sources.
 ROOMS = ["author", "examples"]
 LEFT_OUT = shutil.ignore_patterns("tests", "__pycache__")
@@ -70,14 +72,14 @@ def licences():
     return f"\n{'-' * 80}\n".join(texts)
 
 
-def manual_files():
+def manual_files(zsh="site-functions"):
     """Yields the names of the files that `manual.py` writes, and where each goes."""
     for command in [manual.NAME, *manual.COMMANDS]:
         for name, place in MANUAL.items():
-            yield name.format(command), place.format(command)
+            yield name.format(command), place.format(command, zsh=zsh)
 
 
-def stage(tree):
+def stage(tree, **places):
     """Lays out the release in a folder, as below /usr or /usr/local. Returns its version."""
     version = manual.version_of(str(BUILT))
     for folder in ["bin", DOC, SHARE]:
@@ -85,7 +87,7 @@ def stage(tree):
     shutil.copy(BUILT, tree / "bin/cwtune")
     with tempfile.TemporaryDirectory() as made:
         manual.write(str(BUILT), pathlib.Path(made))
-        for name, place in manual_files():
+        for name, place in manual_files(**places):
             (tree / place).parent.mkdir(parents=True, exist_ok=True)
             shutil.copy(pathlib.Path(made, name), tree / place)
     for room in ROOMS:
@@ -143,7 +145,7 @@ def debian(folder):
     """Makes a Debian package. Returns its path."""
     with tempfile.TemporaryDirectory() as name:
         tree = pathlib.Path(name, "tree")
-        version = stage(tree / "usr")
+        version = stage(tree / "usr", **DEBIAN)
         (tree / "usr" / DOC / "copyright").write_text((ROOT / "LICENSE").read_text())
         for name in manual.COMMANDS:  # which Debian's Python runs, whatever else is on the PATH
             command = tree / "usr" / SHARE / "author" / name

@@ -30,12 +30,14 @@ COMMANDS = [("cwtune-scores a.cert fights.csv --template a.red", "best setting "
             ("cwtune-spread --jobs 2 a.red fights.csv b.cert dwarf.red", "vectors 3\n"),
             ("cwtune-files a.red a.cert", "a.red: template of 3 settings"),
             ("cwtune-vary dwarf.red", "step=4: line 12, "),
-            ("cwtune-seek a.red fights.csv dwarf.red", ";redcode-94\n")]
+            ("cwtune-seek a.red fights.csv dwarf.red", ";redcode-94\n"),
+            ("cwtune-study --rounds 2 --fresh 2 a.red dwarf.red", "all 3 settings are tuned")]
 COMPLETIONS = [("cwtune che", "check"), ("cwtune tune --ca", "--cache"),
                ("cwtune asm --se", "--setting"), ("cwtune check --pa", "--part"),
                ("cwtune check --sh", "--share"),
                ("cwtune fight --fi", "--first"), ("cwtune-scores --te", "--template"),
-               ("cwtune-spread --me", "--merge"), ("cwtune-seek --st", "--starts")]
+               ("cwtune-spread --me", "--merge"), ("cwtune-seek --st", "--starts"),
+               ("cwtune-study --fr", "--fresh")]
 
 
 def run(words, folder, path):
@@ -45,7 +47,7 @@ def run(words, folder, path):
     return done.returncode, done.stdout + done.stderr
 
 
-def used(prefix):
+def used(prefix, **places):
     """Yields what is wrong with a release below a prefix: a tuning, its check, and the commands."""
     bin = prefix / "bin"
     with tempfile.TemporaryDirectory() as folder:
@@ -65,7 +67,7 @@ def used(prefix):
             came = run(words.split(), folder, bin)
             if came[0] or not came[1].startswith(start):
                 yield f"{words}: {came}"
-    for _, place in dist.manual_files():
+    for _, place in dist.manual_files(**places):
         if not (prefix / place).is_file():
             yield f"no file {place}"
 
@@ -105,7 +107,7 @@ def trial_of_package(work):
         return
     [package] = dist.debian(work)
     subprocess.run(["dpkg-deb", "--extract", package, work / "system"], check=True)
-    yield from used(work / "system/usr")
+    yield from used(work / "system/usr", **dist.DEBIAN)
 
 
 def missing(program, folder):
