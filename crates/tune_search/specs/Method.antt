@@ -1,4 +1,5 @@
--- What a search is asked for, and its two methods: it drops settings and shares fights, or it plays all fights.
+-- What a search is asked for, and its two methods: it drops settings and shares fights, or it plays
+-- all fights.
 use Rattle.std.specs.Prelude.{ℕ, ◌≤◌}
 use Rattle.tune_search.specs.Limits.{MOST_CAPACITY, MOST_KEPT}
 use Rattle.tune_search.specs.declared.aim.Aim.{Aim}

@@ -1,4 +1,4 @@
-//! What a search with a floor finds.
+//! What a search with an aim finds.
 ghost use Rattle.std.specs.Prelude.{◌≡◌};
 ghost use Rattle.std.specs.Option.{option_map};
 ghost use Rattle.tune_search.specs.Findings.{found_of};
@@ -7,7 +7,7 @@ ghost use Rattle.tune_search.specs.Sharing.{first_of};
 use crate::ranking::Ranking;
 use tune_problem::{Found, Rows};
 
-/// What a search with a floor finds.
+/// What a search with an aim finds.
 #[derive(Debug, Drop)]
 pub struct Findings {
     /// The version of a certificate: 1 if every fight has the weight 1, and otherwise 2.
