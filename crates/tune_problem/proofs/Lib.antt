@@ -4,3 +4,6 @@ pub mod CapRows
 pub mod Certificates
 pub mod Scores
 pub mod WholeOfParts
+pub mod Ranks
+pub mod ListedRanks
+pub mod BelowFloors

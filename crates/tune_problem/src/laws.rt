@@ -6,10 +6,14 @@ ghost use Rattle.tune_problem.specs.Inputs.{InputsView};
 ghost use Rattle.tune_problem.specs.Problem.{Problem, IsProblem, problem_of};
 ghost use Rattle.tune_problem.specs.Optimum.{IsOptimum, HasTotal};
 ghost use Rattle.tune_problem.specs.Valid.{IsValid};
+ghost use Rattle.tune_problem.specs.Below.{IsValidBelow, AllBelow};
+ghost use Rattle.tune_problem.specs.Ranking.{IsAim, IsRanking, Any};
+ghost use Rattle.tune_problem.specs.Exact.{IsExact, listed_ranking};
 ghost use Rattle.tune_template.specs.Instances.{setting_count};
 ghost use Rattle.tune_problem.specs.BestPart.{in_part, first_setting, IsOutcome, AreOutcomes, IsBestPart};
 
-use crate::cert::Cert;
+use crate::aim::Aim;
+use crate::cert::{Cert, Row};
 
 /// States that the parts of a list of settings, put together in order, are the whole list, and that
 /// part 1 of 1 is all of it.
@@ -27,6 +31,18 @@ pub fn a_valid_certificate_names_the_optimum()
     ensures names { (p : Problem) (c : Cert) → IsProblem p → IsValid p c → IsOptimum p c.best × HasTotal p c.best c.total }
     ensures one { (p : Problem) (v w : ℕ) → IsOptimum p v → IsOptimum p w → v ≡ w }
     ensures inputs { (i : InputsView) → IsProblem (problem_of i) }
+{}
+
+/// States that every candidate totals less than the floor if rows are a valid certificate of that.
+pub fn a_certificate_below_a_floor_is_right()
+    ensures { (p : Problem) (floor version : ℕ) (rows : List Row) → IsProblem p → IsValidBelow p floor version rows → AllBelow p floor }
+{}
+
+/// States that the rows of a valid certificate list the first of the ranking of all settings, if
+/// they are exact for the aim.
+pub fn an_exact_certificate_has_the_first_of_the_ranking()
+    ensures { (p : Problem) (c : Cert) (aim : Aim) → IsProblem p → IsAim aim → IsValid p c → IsExact p aim c.rows
+        → IsRanking p aim Any (listed_ranking p aim c.rows) }
 {}
 
 /// States that tunings of all parts of the settings are a tuning of the whole: of the parts with

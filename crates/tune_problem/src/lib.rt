@@ -5,14 +5,18 @@
 //! this crate, and neither knows the other. In this API a setting is called a vector.
 #![tactic(auto)]
 
+mod aim;
 mod cert;
 mod inputs;
 pub mod laws;
 pub mod limits;
 mod part;
 mod problem;
+mod ranking;
+mod statement;
 mod watcher;
 
+pub use aim::Aim;
 pub use cert::{Cert, Found, Listing, Row, Rows};
 pub use inputs::Inputs;
 pub use part::Part;
@@ -20,4 +24,6 @@ pub use problem::{
     beats, cert_version, fight_count, fight_points, fight_weight, greatest_total, part_size,
     setting_warrior, start_setting,
 };
+pub use ranking::{Ranking, contends};
+pub use statement::{Answer, Statement};
 pub use watcher::{Best, Silent, Standing, Watcher};

@@ -1,0 +1,47 @@
+-- Certificates that no candidate reaches a floor, and what a certificate says with either answer.
+use Rattle.std.specs.Prelude.{◌≡◌, ◌≢◌, ℕ, ◌<◌, List, length, slice_get, Some, None}
+use Rattle.rc_instr.specs.Warrior.{WarriorView}
+use Rattle.tune_problem.specs.Problem.{Problem}
+use Rattle.tune_problem.specs.Optimum.{cap_of, total_of}
+use Rattle.tune_problem.specs.Valid.{IsCapRow, IsValid, IsVersionOf, listed_indices}
+use Rattle.tune_problem.specs.declared.cert.Cert.{Cert}
+use Rattle.tune_problem.specs.declared.cert.Row.{Row}
+use Rattle.tune_problem.specs.declared.cert.Row.TheVariants.{Refused, Same, Cap}
+use Rattle.tune_problem.specs.declared.statement.Answer.{Answer}
+use Rattle.tune_problem.specs.declared.statement.Answer.TheVariants.{Best as TheBest, NoneFrom}
+use Rattle.tune_problem.specs.declared.statement.Statement.{Statement}
+use Rattle.tune_problem.specs.declared.watcher.Best.{Best}
+
+-- The row of setting v shows that v does not reach the floor, in one of three cases. Refused: v
+-- does not assemble. Cap: the row is a cap row of v's warrior, and its cap is below the floor.
+-- Same: another setting u has the same warrior and a cap row, and that cap is below the floor.
+abbrev pub IsRowBelow : Problem → ℕ → List Row → ℕ → Row → Type 0
+IsRowBelow p floor rows v Refused = p.warrior v ≡ None
+IsRowBelow p floor rows v (Cap row) =
+    (w : WarriorView) × (p.warrior v ≡ Some w) × IsCapRow p w 0 row × (cap_of p w (listed_indices row) < floor)
+IsRowBelow p floor rows v (Same u) =
+    (w : WarriorView) × (row : List (ℕ × ℕ)) × (u ≢ v) × (u < p.count) × (p.warrior v ≡ Some w) × (p.warrior u ≡ Some w)
+    × (slice_get rows u ≡ Some (Cap row)) × (cap_of p w (listed_indices row) < floor)
+
+-- A certificate that no candidate reaches the floor has such a row for each setting.
+pub record IsValidBelow (p : Problem) (floor version : ℕ) (rows : List Row) : Type 0 where
+  pub version_is : IsVersionOf p version
+  pub rows_are : length rows ≡ p.count
+  pub right : (v : ℕ) (row : Row) → slice_get rows v ≡ Some row → IsRowBelow p floor rows v row
+
+-- Every candidate totals less than the floor.
+abbrev pub AllBelow : Problem → ℕ → Type 0
+AllBelow p floor = (v : ℕ) (w : WarriorView) → v < p.count → p.warrior v ≡ Some w → total_of p w < floor
+
+-- The certificate of these rows, with this best setting.
+abbrev pub cert_with : (version count : ℕ) → List Row → Best → Cert
+cert_with version count rows best = record { version = version; count = count; best = best.vector; total = best.total; rows = rows }
+
+-- A statement is valid if it is a valid certificate of its best setting, or one that no candidate
+-- reaches the floor, with the right count.
+abbrev pub IsValidStatement : Problem → Statement → Type 0
+IsValidStatement p s = by_answer s.answer
+  where
+    by_answer : Answer → Type 0
+    by_answer (TheBest best) = IsValid p (cert_with s.version s.count s.rows best)
+    by_answer (NoneFrom floor) = (s.count ≡ p.count) × IsValidBelow p floor s.version s.rows

@@ -1,0 +1,11 @@
+//! What a search is asked for.
+
+/// What a search is asked for: the first `keep` of the ranking, of the settings that total `floor`
+/// or more.
+#[derive(Clone, Copy, Debug, PartialEq, Eq)]
+pub struct Aim {
+    /// The number of settings, 1 to 1000.
+    pub keep: u32,
+    /// The least total, 0 for any.
+    pub floor: u32,
+}

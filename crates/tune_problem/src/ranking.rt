@@ -1,0 +1,99 @@
+//! The first of the ranking: the settings that a search keeps.
+ghost use Rattle.std.specs.Prelude.{◌≡◌, ◌≤◌, ◌∷◌, ◌++◌, [], take, drop, length, OnOk};
+ghost use Rattle.tune_problem.specs.Ranking.{beats_lead, contends, first_of, next_ranking, ranked};
+
+use crate::aim::Aim;
+use crate::problem::beats;
+use crate::watcher::Best;
+use std::alloc::{AllocError, Global};
+use std::marker::Model;
+
+/// Settings with their totals, the greatest total first, then the smaller index.
+///
+/// Contracts see a list.
+#[derive(Debug, Drop)]
+pub struct Ranking {
+    settings: Vec<Best>,
+}
+
+impl Model for Ranking {
+    ghost use Rattle.std.specs.Prelude.{List};
+    ghost use Rattle.tune_problem.specs.declared.watcher.Best.{Best};
+
+    ghost Value = { List Best };
+
+    ghost view = { λ r. r.settings.items };
+}
+
+impl Ranking {
+    /// Makes a ranking without settings.
+    pub fn new(alloc: Global) -> Ranking
+        ensures { result ≡ [] }
+    {
+        Ranking {
+            settings: Vec::new(alloc),
+        }
+    }
+
+    /// Returns the settings, in order.
+    pub fn as_slice(&self) -> &[Best]
+        ensures { result.now ≡ self.now }
+    {
+        self.settings.as_slice()
+    }
+
+    /// Returns the first setting, which leads.
+    pub fn first(&self) -> Option<Best>
+        ensures { result ≡ first_of self.now }
+    {
+        self.settings.first().copied()
+    }
+
+    /// Puts setting `vector` in its place if cap `cap` contends, and lets the last go if it is then
+    /// one too many. `aim` keeps 1 or more. Fails only if out of memory.
+    pub fn rank(&mut self, aim: Aim, cap: u32, vector: u32) -> Result<(), AllocError>
+        requires keep { 1 ≤ aim.keep }
+        ensures { OnOk result (self.new ≡ next_ranking aim cap vector self.old) }
+    {
+        if !contends(aim, cap, vector, self.settings.as_slice()) {
+            return Ok(());
+        }
+        let best = Best { vector, total: cap };
+        let at = place_of(best, self.settings.as_slice());
+        self.settings.insert(at, best)?;
+        self.settings.truncate(aim.keep as usize);
+        Ok(())
+    }
+}
+
+/// Checks whether cap `cap` of setting `vector` contends: it reaches the floor, and beats the last
+/// that is kept of `ranking`, if there are so many. `aim` keeps 1 or more.
+pub fn contends(aim: Aim, cap: u32, vector: u32, ranking: &[Best]) -> bool
+    requires keep { 1 ≤ aim.keep }
+    ensures { result ≡ contends aim cap vector ranking.now }
+{
+    aim.floor <= cap && beats_lead(cap, vector, ranking.get(aim.keep as usize - 1).copied())
+}
+
+// Checks whether cap `cap` of setting `vector` beats the lead. Every cap does if there is none.
+fn beats_lead(cap: u32, vector: u32, lead: Option<Best>) -> bool
+    ensures { result ≡ beats_lead cap vector lead }
+{
+    match lead {
+        None => true,
+        Some(lead) => beats(cap, vector, lead),
+    }
+}
+
+// Returns the place of a setting in a ranking: that of the first setting that it beats.
+fn place_of(best: Best, ranking: &[Best]) -> usize
+    ensures within { result ≤ length ranking.now }
+    ensures place { ranked best ranking.now ≡ take result ranking.now ++ best ∷ drop result ranking.now }
+{
+    for (at, other) in ranking.iter().enumerate() {
+        if beats(best.total, best.vector, *other) {
+            return at;
+        }
+    }
+    ranking.len()
+}

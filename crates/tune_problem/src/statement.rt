@@ -1,0 +1,26 @@
+//! What a certificate says of all settings.
+
+use crate::cert::Rows;
+use crate::watcher::Best;
+
+/// What a certificate says of all settings: which is the best, or that none reaches a floor.
+#[derive(Clone, Copy, Debug, PartialEq, Eq)]
+pub enum Answer {
+    /// This setting is the optimum, with this total.
+    Best(Best),
+    /// No setting totals this floor or more.
+    NoneFrom(u32),
+}
+
+/// What the text of a certificate spells, with either answer. With `Answer::Best` it is a `Cert`.
+#[derive(Debug, Drop)]
+pub struct Statement {
+    /// The version, 1 or 2. Version 1 is for schedules in which every fight has the weight 1.
+    pub version: u32,
+    /// The number of settings that the certificate claims.
+    pub count: u32,
+    /// What it says of all settings.
+    pub answer: Answer,
+    /// A row for each setting, in the order of the settings.
+    pub rows: Rows,
+}
