@@ -8,7 +8,7 @@ use Rattle.tune_problem.specs.declared.watcher.Best.{Best}
 use Rattle.mars_core.proofs.Least.{least_is, least_is_least}
 use Rattle.mars_core.specs.Fight.{least}
 use Rattle.std.proofs.lemmas.Bool.Decides.{leb_tells}
-use Rattle.tune_search.specs.declared.aim.Aim.{Aim}
+use Rattle.tune_problem.specs.declared.aim.Aim.{Aim}
 use Rattle.tune_search.specs.declared.method.Method.{Method}
 use Rattle.tune_search.specs.declared.method.Method.TheVariants.{PlayingAll}
 

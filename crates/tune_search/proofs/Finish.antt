@@ -15,24 +15,24 @@ use Rattle.tune_problem.specs.declared.cert.Row.{Row}
 use Rattle.tune_problem.specs.declared.cert.Row.TheVariants.{Cap, Refused, Same}
 use Rattle.tune_problem.proofs.Certificates.{Trails, same_number, some_is, trails}
 use Rattle.tune_problem.proofs.CapRows.{row_total}
-use Rattle.tune_search.specs.Order.{contends}
 use Rattle.tune_search.specs.Visits.{IsFought, place, ranking_after}
-use Rattle.tune_search.specs.Ranking.{IsRanking}
-use Rattle.tune_search.specs.Method.{IsAim, the_best}
-use Rattle.tune_search.specs.Sharing.{HasRowOf, IsExplained, IsVisited, first_of}
+use Rattle.tune_search.specs.Ranking.{IsRankingBy}
+use Rattle.tune_search.specs.Sharing.{HasRowOf, IsExplained, IsVisited}
 use Rattle.tune_search.specs.Found.{IsSearch, is_cap, is_copied}
-use Rattle.tune_search.specs.Below.{IsRowBelow}
-use Rattle.tune_search.specs.Findings.{AllBelow, IsBestFrom, IsCertified, IsSearchFrom, cert_with, found_of}
+use Rattle.tune_problem.specs.Below.{IsRowBelow, AllBelow, cert_with}
+use Rattle.tune_search.specs.Findings.{IsBestFrom, IsCertified, IsSearchFrom, found_of}
 use Rattle.tune_search.specs.declared.findings.Findings.{Findings}
 use Rattle.tune_search.specs.State.{IsCopied, IsUnderWay, IsWhole, is_filled}
 use Rattle.tune_problem.specs.declared.watcher.Best.{Best}
-use Rattle.tune_search.proofs.Rankings.{Beaten, beaten_later, behind_first, ranking_is, visited_behind}
+use Rattle.tune_search.proofs.Rankings.{ranking_is, visited_behind, of_all}
 use Rattle.tune_search.proofs.FoughtCaps.{fought_row, own_cases, start_cases}
 use Rattle.tune_search.proofs.Cached.{none_is}
 use Rattle.tune_search.proofs.Places.{lesser, place_below}
-use Rattle.tune_search.specs.declared.aim.Aim.{Aim}
+use Rattle.tune_problem.specs.declared.aim.Aim.{Aim}
 use Rattle.tune_search.specs.declared.fought.Fought.{Fought}
 use Rattle.tune_search.specs.declared.method.Method.{Method}
+use Rattle.tune_problem.specs.Ranking.{contends, IsAim, the_best, first_of}
+use Rattle.tune_problem.proofs.Ranks.{all_map, Beaten, beaten_later, behind_first}
 
 -- the version that a search writes is one that its certificate may have
 own_version : (p : Problem) (version : ℕ) → IsOwnVersion p version → IsVersionOf p version
@@ -47,7 +47,7 @@ Shown p aim rows lead v (Same u) =
     (w : WarriorView) × (row : List (ℕ × ℕ)) × (u ≢ v) × (u < p.count) × (p.warrior v ≡ Some w) × (p.warrior u ≡ Some w)
     × (slice_get rows u ≡ Some (Cap row)) × Beaten aim (cap_of p w (listed_indices row)) v lead
 
-right_row : (p : Problem) (aim : Aim) (version : ℕ) (rows : List Row) (lead : Best) (v : ℕ) (row : Row) → Shown p aim rows (Some lead) v row → IsRightRow p (cert_with version rows lead) v row
+right_row : (p : Problem) (aim : Aim) (version : ℕ) (rows : List Row) (lead : Best) (v : ℕ) (row : Row) → Shown p aim rows (Some lead) v row → IsRightRow p (cert_with version (length rows) rows lead) v row
 right_row p aim version rows lead v Refused h = h
 right_row p aim version rows lead v (Cap row) h = (h.0, h.1, h.2, λ ne. h.3)
 right_row p aim version rows lead v (Same u) h = h
@@ -58,8 +58,8 @@ row_below p aim rows v (Cap row) h = h
 row_below p aim rows v (Same u) h = h
 
 module _ (p : Problem) (laws : IsProblem p) (start : p.start < p.count) (aim : Aim) (is_aim : IsAim aim) (rows : List Row) (ranking : List Best) (is : ranking ≡ ranking_after p aim p.count) where
-  pub is_ranking : IsRanking p aim p.count ranking
-  is_ranking = subst (λ (r : List Best). IsRanking p aim p.count r) (sym is) (ranking_is p aim is_aim start p.count (omega arith))
+  pub is_ranking : IsRankingBy p aim p.count ranking
+  is_ranking = subst (λ (r : List Best). IsRankingBy p aim p.count r) (sym is) (ranking_is p aim is_aim start p.count (omega arith))
 
   abbrev lead : Option Best
   lead = first_of ranking
@@ -79,7 +79,7 @@ module _ (p : Problem) (laws : IsProblem p) (start : p.start < p.count) (aim : A
     pub fought_behind : Beaten aim cap u lead
     fought_behind = elim (own_cases p laws start aim is_aim method rows u x h p.count u_placed (omega arith)) [
       | inl a ↦ subst (λ (n : ℕ). Beaten aim n u lead) (sym a.0) (behind u x inside is_u)
-      | inr n ↦ behind_first p aim is_aim cap u p.count ranking is_ranking.order is_ranking.members (ap (contends aim cap u) is ∙ n)
+      | inr n ↦ behind_first aim is_aim cap u ranking is_ranking.order (all_map ranking (λ x r. r.reaches) is_ranking.members) (ap (contends aim cap u) is ∙ n)
     ]
 
     -- and so for each vector with the same warrior that is visited later
@@ -130,7 +130,7 @@ module _ (p : Problem) (laws : IsProblem p) (start : p.start < p.count) (aim : A
         shown_of v (p.warrior v) l refl (told v l) row at
 
 -- the optimum
-best_from : (p : Problem) → p.start < p.count → (aim : Aim) → IsAim aim → (ranking : List Best) → IsRanking p aim p.count ranking → IsBestFrom p aim.floor (first_of ranking)
+best_from : (p : Problem) → p.start < p.count → (aim : Aim) → IsAim aim → (ranking : List Best) → IsRankingBy p aim p.count ranking → IsBestFrom p aim.floor (first_of ranking)
 best_from p start aim is_aim [] h = λ v x l is. visited_behind p aim is_aim p.count [] h v x l (place_below p.start p.count v start l) is
 best_from p start aim is_aim (lead ∷ xs) h =
     let it = h.members.0 in
@@ -149,7 +149,7 @@ best_from p start aim is_aim (lead ∷ xs) h =
     )
 
 -- and the certificate of it
-certified : (p : Problem) → IsProblem p → (aim : Aim) (version : ℕ) → IsVersionOf p version → (rows : List Row) → length rows ≡ p.count → (ranking : List Best) → IsRanking p aim p.count ranking →
+certified : (p : Problem) → IsProblem p → (aim : Aim) (version : ℕ) → IsVersionOf p version → (rows : List Row) → length rows ≡ p.count → (ranking : List Best) → IsRankingBy p aim p.count ranking →
     ((v : ℕ) (row : Row) → slice_get rows v ≡ Some row → Shown p aim rows (first_of ranking) v row) → IsWhole p rows (first_of ranking) → IsCertified p aim.floor version rows (first_of ranking)
 certified p laws aim version own rows rows_are [] h shown whole = record {
   version_is = own;
@@ -309,9 +309,9 @@ module _ (p : Problem) (laws : IsProblem p) (start : p.start < p.count) (rules :
       IsSearchFrom p aim method (record { version = version; ranking = ranking; rows = rows; fights = f; candidates = n; copied = copied })
   finds version own few =
       let all : length rows ≡ p.count = s.rows_are in
-      let right_ranking : IsRanking p aim p.count ranking = is_ranking p laws start aim is_aim rows ranking s.ranking_is in
+      let right_ranking : IsRankingBy p aim p.count ranking = is_ranking p laws start aim is_aim rows ranking s.ranking_is in
       record {
-        ranking = right_ranking;
+        ranking = of_all p aim is_aim start ranking right_ranking;
         full = s.full;
         best = best_from p start aim is_aim ranking right_ranking;
         certified = certified p laws aim version (own_version p version own) rows s.rows_are ranking right_ranking

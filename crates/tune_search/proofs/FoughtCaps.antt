@@ -7,17 +7,18 @@ use Rattle.tune_problem.specs.Optimum.{all_fights, cap_of, total_of}
 use Rattle.tune_problem.specs.Valid.{IsCapRow, listed_indices}
 use Rattle.tune_problem.specs.declared.cert.Row.{Row}
 use Rattle.tune_problem.proofs.Certificates.{same_number}
-use Rattle.tune_search.specs.Order.{aim_at, contends, enough, fight_order}
+use Rattle.tune_search.specs.Order.{aim_at, enough, fight_order}
 use Rattle.tune_search.specs.Visits.{IsFought, place, ranking_after, ranking_at}
-use Rattle.tune_search.specs.Method.{IsAim}
-use Rattle.tune_search.specs.declared.aim.Aim.{Aim}
+use Rattle.tune_problem.specs.declared.aim.Aim.{Aim}
 use Rattle.tune_search.specs.declared.method.Method.{Method}
-use Rattle.tune_search.proofs.Leads.{as_asked, enough_cases, smaller, start_contends}
+use Rattle.tune_search.proofs.Leads.{as_asked, enough_cases, start_contends}
 use Rattle.tune_search.proofs.ListedFights.{All-take, listed_cap, listed_is_row, listed_length, order_below}
 use Rattle.tune_search.proofs.Orders.{order_permutes}
 use Rattle.tune_search.proofs.Places.{lesser}
 use Rattle.tune_search.proofs.Rankings.{out_stays}
 use Rattle.tune_search.proofs.Totals.{cap_all, order_length, total_le_cap}
+use Rattle.tune_problem.specs.Ranking.{contends, IsAim}
+use Rattle.tune_problem.proofs.Ranks.{smaller}
 
 module _ (p : Problem) (laws : IsProblem p) (start : p.start < p.count) (aim : Aim) (is_aim : IsAim aim) (method : Method) (rows : List Row) (u : ℕ) (x : WarriorView) (h : IsFought p aim method rows u x) where
   abbrev order : List ℕ

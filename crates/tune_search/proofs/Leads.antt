@@ -4,60 +4,20 @@ use Rattle.std.proofs.lemmas.Bool.Decides.{nat_tests, leb_tells}
 use Rattle.rc_instr.specs.Warrior.{WarriorView}
 use Rattle.tune_problem.specs.Problem.{Problem}
 use Rattle.tune_problem.specs.Optimum.{beats, cap_of}
-use Rattle.tune_search.specs.Order.{aim_at, beats_lead, contends, drops, enough, last_kept}
+use Rattle.tune_search.specs.Order.{aim_at, drops, enough}
 use Rattle.tune_search.specs.Visits.{place, ranking_after, ranking_at, visit}
 use Rattle.tune_problem.specs.declared.watcher.Best.{Best}
 use Rattle.tune_search.proofs.Enough.{least_cases}
 use Rattle.tune_search.proofs.Places.{is_visit, place_visit, start_place}
-use Rattle.tune_search.specs.declared.aim.Aim.{Aim}
+use Rattle.tune_problem.specs.declared.aim.Aim.{Aim}
 use Rattle.tune_search.specs.declared.method.Method.{Method}
 use Rattle.tune_search.specs.declared.method.Method.TheVariants.{Dropping, PlayingAll}
+use Rattle.tune_problem.specs.Ranking.{beats_lead, contends, last_kept}
+use Rattle.tune_problem.proofs.Ranks.{contending, short_of, unbeating, unreaching}
 
 not_true : (b : Bool) → not b ≡ true → b ≡ false
 not_true true h = absurd (cc)
 not_true false h = refl
-
--- what contends, and what does not
-pub both : (a b : Bool) → a && b ≡ true → (a ≡ true) × (b ≡ true)
-both true b h = (refl, h)
-both false b h = absurd (cc)
-
-pub either : (a b : Bool) → a && b ≡ false → (a ≡ false) ⊎ (b ≡ false)
-either true b h = inr h
-either false b h = inl refl
-
-pub not_right : (a b : Bool) → b ≡ false → a && b ≡ false
-not_right true b h = h
-not_right false b h = refl
-
-pub reaching : (aim : Aim) (c v : ℕ) (ranking : List Best) → contends aim c v ranking ≡ true → aim.floor ≤ c
-reaching aim c v ranking h = let reach : nat_le aim.floor c ≡ true = (both _ _ h).0 in grind (arith, nat_tests)
-
-pub beating : (aim : Aim) (c v : ℕ) (ranking : List Best) → contends aim c v ranking ≡ true → beats_lead c v (last_kept aim ranking) ≡ true
-beating aim c v ranking h = (both (nat_le aim.floor c) _ h).1
-
-pub contending : (aim : Aim) (c v : ℕ) (ranking : List Best) → aim.floor ≤ c → beats_lead c v (last_kept aim ranking) ≡ true → contends aim c v ranking ≡ true
-contending aim c v ranking le h = let reach : nat_le aim.floor c ≡ true = grind (arith, nat_tests) in ap (λ b. b && beats_lead c v (last_kept aim ranking)) reach ∙ h
-
-pub unbeating : (aim : Aim) (c v : ℕ) (ranking : List Best) → beats_lead c v (last_kept aim ranking) ≡ false → contends aim c v ranking ≡ false
-unbeating aim c v ranking h = not_right (nat_le aim.floor c) _ h
-
-pub unreaching : (aim : Aim) (c v : ℕ) (ranking : List Best) → c < aim.floor → contends aim c v ranking ≡ false
-unreaching aim c v ranking l = let short : nat_le aim.floor c ≡ false = grind (arith, nat_tests) in ap (λ b. b && beats_lead c v (last_kept aim ranking)) short
-
-pub short_of : (aim : Aim) (c v : ℕ) (ranking : List Best) → contends aim c v ranking ≡ false → (c < aim.floor) ⊎ (beats_lead c v (last_kept aim ranking) ≡ false)
-short_of aim c v ranking h = elim (either (nat_le aim.floor c) _ h) [ inl short ↦ inl (grind (arith, nat_tests)) | inr n ↦ inr n ]
-
--- a smaller cap does not contend where a larger one does not, nor does it as a later setting's
-beaten : (c d u v : ℕ) (lead : Option Best) → c ≤ d → u ≤ v → beats_lead d u lead ≡ false → beats_lead c v lead ≡ false
-beaten c d u v None le later h = h
-beaten c d u v (Some lead) le later h = grind (arith, nat_tests)
-
-pub smaller : (aim : Aim) (c d u v : ℕ) (ranking : List Best) → c ≤ d → u ≤ v → contends aim d u ranking ≡ false → contends aim c v ranking ≡ false
-smaller aim c d u v ranking le later h = elim (short_of aim d u ranking h) [
-  | inl short ↦ unreaching aim c v ranking (omega arith)
-  | inr n ↦ unbeating aim c v ranking (beaten c d u v (last_kept aim ranking) le later n)
-]
 
 -- the floor of a visit is no higher
 floor_few : (p : Problem) (aim : Aim) (v : ℕ) → (aim_at p aim v).floor ≤ aim.floor

@@ -14,11 +14,12 @@ use Rattle.tune_search.specs.Plays.{played}
 use Rattle.tune_search.specs.Order.{aim_at, enough, fight_order}
 use Rattle.tune_search.specs.Visits.{place, ranking_at, IsFought}
 use Rattle.tune_search.specs.Recent.{Has, NoneHas}
-use Rattle.tune_search.specs.Method.{capacity_of, the_best}
-use Rattle.tune_search.specs.Sharing.{HasRowOf, Shares, copies, first_of}
+use Rattle.tune_search.specs.Method.{capacity_of}
+use Rattle.tune_search.specs.Sharing.{HasRowOf, Shares, copies}
 use Rattle.tune_search.specs.Found.{IsSearch, copied_fights}
 use Rattle.tune_search.proofs.Unique.{apart_recent, none_of, recent_one, split_one, Apart}
 use Rattle.tune_search.specs.declared.method.Method.{Method}
+use Rattle.tune_problem.specs.Ranking.{the_best, first_of}
 
 abbrev Entry : Type 0
 Entry = ℕ × ℕ

@@ -13,7 +13,6 @@ use Rattle.tune_problem.specs.declared.cert.Row.TheVariants.{Refused, Cap}
 use Rattle.tune_problem.proofs.CapRows.{whole}
 use Rattle.tune_search.specs.Plays.{played, row_of, row_with, rows_of}
 use Rattle.tune_search.specs.Order.{aim_at, enough, fight_order}
-use Rattle.tune_search.specs.Method.{the_best}
 use Rattle.tune_search.specs.Visits.{IsFought, IsListed, place, ranking_at, visit}
 use Rattle.tune_search.specs.Recent.{Has, IsRecalled, IsRecent}
 use Rattle.tune_search.specs.Found.{IsSearch, copied_fights}
@@ -24,6 +23,7 @@ use Rattle.tune_search.proofs.ListedFights.{listed_is_row, listed_length, order_
 use Rattle.tune_search.proofs.OneAnswer.{same_lists}
 use Rattle.tune_search.proofs.Orders.{order_permutes}
 use Rattle.tune_search.proofs.Totals.{order_length}
+use Rattle.tune_problem.specs.Ranking.{the_best}
 
 -- it remembers no setting
 nothing : (u : ℕ) (front back : List ℕ) → [] ≡ front ++ u ∷ back → ⊥

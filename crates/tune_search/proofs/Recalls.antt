@@ -15,7 +15,7 @@ use Rattle.tune_problem.proofs.Certificates.{some_is}
 use Rattle.tune_search.specs.Recent.{Has, NoneHas}
 use Rattle.tune_search.specs.Cache.{same_text}
 use Rattle.tune_search.specs.State.{IsKnown}
-use Rattle.tune_search.specs.declared.aim.Aim.{Aim}
+use Rattle.tune_problem.specs.declared.aim.Aim.{Aim}
 use Rattle.tune_search.specs.declared.fought.Fought.{Fought}
 use Rattle.tune_search.specs.declared.method.Method.{Method}
 

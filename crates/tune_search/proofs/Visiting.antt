@@ -19,15 +19,15 @@ use Rattle.tune_problem.specs.declared.cert.Row.{Row}
 use Rattle.tune_problem.specs.declared.cert.Row.TheVariants.{Cap, Refused, Same}
 use Rattle.tune_problem.proofs.Certificates.{some_is}
 use Rattle.tune_search.specs.Plays.{played}
-use Rattle.tune_search.specs.Order.{aim_at, beats_lead, by_points, contends, enough, fight_order, last_kept, order_after}
-use Rattle.tune_search.specs.Visits.{IsFought, IsListed, next_ranking, place, ranking_after, ranking_at, ranking_by, ranking_with, visit}
-use Rattle.tune_search.specs.Ranking.{IsRanking}
+use Rattle.tune_search.specs.Order.{aim_at, by_points, enough, fight_order, order_after}
+use Rattle.tune_search.specs.Visits.{IsFought, IsListed, place, ranking_after, ranking_at, visit}
+use Rattle.tune_search.specs.Ranking.{IsRankingBy}
 use Rattle.tune_search.specs.Recent.{IsRecalled, IsRecent, NoneHas}
-use Rattle.tune_search.specs.Sharing.{HasRowOf, IsExplained, IsVisited, Shares, copies, first_of, leads}
+use Rattle.tune_search.specs.Sharing.{HasRowOf, IsExplained, IsVisited, Shares, copies, leads}
 use Rattle.tune_search.specs.Found.{copied_fights}
 use Rattle.tune_search.specs.Findings.{IsFull}
 use Rattle.tune_search.specs.Cache.{same_text}
-use Rattle.tune_search.specs.Method.{IsAim, capacity_of}
+use Rattle.tune_search.specs.Method.{capacity_of}
 use Rattle.tune_search.specs.State.{IsCopied, IsKnown, IsUnderWay, IsWhole, by_index, is_filled}
 use Rattle.tune_problem.specs.declared.watcher.Best.{Best}
 use Rattle.tune_search.proofs.Copies.{by_lead, by_none, by_other, by_start, by_total, by_vector, shares_trails}
@@ -35,15 +35,17 @@ use Rattle.tune_search.proofs.Slots.{slot_other, slot_same}
 use Rattle.tune_search.proofs.Totals.{cap_all, order_length, total_le_cap}
 use Rattle.tune_search.proofs.Orders.{order_permutes}
 use Rattle.tune_search.proofs.ListedFights.{listed_cap, prefix_distinct, sorted_is_listed}
-use Rattle.tune_search.proofs.Leads.{all_fought, as_asked, by_then, contending, enough_cases, reaching, start_contends}
+use Rattle.tune_search.proofs.Leads.{all_fought, as_asked, by_then, enough_cases, start_contends}
 use Rattle.tune_search.proofs.Places.{place_below, place_visit}
-use Rattle.tune_search.proofs.Rankings.{after_visit, all_map, all_ranked, all_take, beats_last, first_next, ranking_is, same_next, visited_behind}
+use Rattle.tune_search.proofs.Rankings.{after_visit, ranking_is, visited_behind}
 use Rattle.tune_search.proofs.FoughtCaps.{later_cases, start_cases, total_few}
 use Rattle.tune_search.proofs.Recalls.{Recalled, found, none_found, promoted_is, promoted_known}
 use Rattle.tune_search.proofs.Steps.{Keeps, filled_more, fought_stays, full_stays, inside_rows, keeps_new, keeps_same, known_more, left_more, told_more, whole_stays, work_copied, work_more}
-use Rattle.tune_search.specs.declared.aim.Aim.{Aim}
+use Rattle.tune_problem.specs.declared.aim.Aim.{Aim}
 use Rattle.tune_search.specs.declared.fought.Fought.{Fought}
 use Rattle.tune_search.specs.declared.method.Method.{Method}
+use Rattle.tune_problem.specs.Ranking.{beats_lead, contends, last_kept, next_ranking, ranking_by, ranking_with, first_of, IsAim}
+use Rattle.tune_problem.proofs.Ranks.{contending, reaching, all_map, all_ranked, all_take, beats_last, first_next, same_next}
 
 pub first_visit : (s k v : ℕ) → v ≡ visit s k → (v == s) ≡ (k == 0)
 first_visit s k v at = ap (λ n. n == s) at ∙ grind (arith, nat_tests)
@@ -93,8 +95,8 @@ module _ (p : Problem) (laws : IsProblem p) (start : p.start < p.count) (rules :
   ranking_here : ranking ≡ ranking_at p aim v
   ranking_here = s.ranking_is ∙ ap (ranking_after p aim) (sym its_place)
 
-  is_ranking : IsRanking p aim k ranking
-  is_ranking = subst (λ (r : List Best). IsRanking p aim k r) (sym s.ranking_is)
+  is_ranking : IsRankingBy p aim k ranking
+  is_ranking = subst (λ (r : List Best). IsRankingBy p aim k r) (sym s.ranking_is)
       (ranking_is p aim is_aim start k (let l : place p.start v < p.count = place_below p.start p.count v start inside in let e : place p.start v ≡ k = its_place in omega arith))
 
   at_most : k ≤ p.count
@@ -215,7 +217,7 @@ module _ (p : Problem) (laws : IsProblem p) (start : p.start < p.count) (rules :
 
     ranking_shared : next_ranking aim other.cap v ranking ≡ ranking_after p aim (suc k)
     ranking_shared =
-        same_next p aim is_aim other.cap (total_of p w) v ranking (omega (arith, cap_is, total_few p laws start aim is_aim method rows u w u_fought)) (λ run. (u_whole run).0)
+        same_next aim is_aim other.cap (total_of p w) v ranking (omega (arith, cap_is, total_few p laws start aim is_aim method rows u w u_fought)) (λ run. (u_whole run).0)
         ∙ ranked_next w is
 
     recent_shared : IsRecent p (capacity_of method) (suc k) (map (λ e. e.1.vector) (promoted (same_text (load_text rules.core w)) known))
@@ -258,17 +260,17 @@ module _ (p : Problem) (laws : IsProblem p) (start : p.start < p.count) (rules :
         where
           by_first : (xs : List Best) → ranking ≡ xs → beats_lead other.cap v (first_of xs) ≡ false
           by_first [] e = absurd (
-              let short : total_of p w < aim.floor = visited_behind p aim is_aim k [] (subst (λ (r : List Best). IsRanking p aim k r) e is_ranking) u w u_inside u_before u_is in
+              let short : total_of p w < aim.floor = visited_behind p aim is_aim k [] (subst (λ (r : List Best). IsRankingBy p aim k r) e is_ranking) u w u_inside u_before u_is in
               omega (arith, short, (u_whole run).0, reaching aim other.cap v ranking run))
           by_first (x ∷ xs) e =
-              let here : IsRanking p aim k (x ∷ xs) = subst (λ (r : List Best). IsRanking p aim k r) e is_ranking in
+              let here : IsRankingBy p aim k (x ∷ xs) = subst (λ (r : List Best). IsRankingBy p aim k r) e is_ranking in
               let no_copy : copies p.start u v (Some x) ≡ false = ap (λ r. copies p.start u v (first_of r)) (sym e) ∙ apart in
               ap (λ c. beats c v x.total x.vector) (u_whole run).0
               ∙ shares_trails p.start u v x.total x.vector (total_of p w) u_earlier (let b : place p.start x.vector < k = here.members.0.visited in let q : place p.start v ≡ k = its_place in omega arith) no_copy
               (visited_behind p aim is_aim k (x ∷ xs) here u w u_inside u_before u_is)
 
       first_by : (run : Bool) → contends aim other.cap v ranking ≡ run → first_of (ranking_by aim other.cap v ranking run) ≡ first_of ranking
-      first_by true run = elim (first_next p aim is_aim (record { total = other.cap; vector = v }) ranking) [
+      first_by true run = elim (first_next aim is_aim (record { total = other.cap; vector = v }) ranking) [
         | inl a ↦ absurd (let none = no_lead run in let some = a.1 in cc)
         | inr a ↦ a.0
       ]
@@ -349,13 +351,13 @@ module _ (p : Problem) (laws : IsProblem p) (start : p.start < p.count) (rules :
           by_first : (xs : List Best) → ranking ≡ xs → (contends aim other.cap v ranking ≡ true) × (beats_lead other.cap v (first_of ranking) ≡ true)
           by_first [] e = absurd (by_none p.start u v (ap (λ r. copies p.start u v (first_of r)) (sym e) ∙ apart))
           by_first (x ∷ xs) e =
-              let here : IsRanking p aim k (x ∷ xs) = subst (λ (r : List Best). IsRanking p aim k r) e is_ranking in
+              let here : IsRankingBy p aim k (x ∷ xs) = subst (λ (r : List Best). IsRankingBy p aim k r) e is_ranking in
               let copy : copies p.start u v (Some x) ≡ true = ap (λ r. copies p.start u v (first_of r)) (sym e) ∙ apart in
               let same_w : here.members.0.warrior ≡ w = some_is _ _ (sym here.members.0.candidate ∙ ap p.warrior (by_vector p.start u v x copy) ∙ u_is) in
               let even : other.cap ≡ x.total = its_cap.0 ∙ ap (total_of p) (sym same_w) ∙ here.members.0.scores in
               let reach : aim.floor ≤ other.cap = omega (arith, even, here.members.0.reaches) in
               let beat : beats other.cap v x.total x.vector ≡ true = ap (λ c. beats c v x.total x.vector) even ∙ by_total p.start u v x copy in (
-                contending aim other.cap v ranking reach (ap (λ r. beats_lead other.cap v (last_kept aim r)) e ∙ beats_last p aim is_aim other.cap v x xs here.order beat),
+                contending aim other.cap v ranking reach (ap (λ r. beats_lead other.cap v (last_kept aim r)) e ∙ beats_last aim is_aim other.cap v x xs here.order beat),
                 ap (λ r. beats_lead other.cap v (first_of r)) e ∙ beat,
               )
 
@@ -363,7 +365,7 @@ module _ (p : Problem) (laws : IsProblem p) (start : p.start < p.count) (rules :
       ranking'' = next_ranking aim other.cap v ranking
 
       now_first : first_of ranking'' ≡ Some (record { total = other.cap; vector = v })
-      now_first = ap (λ run. first_of (ranking_by aim other.cap v ranking run)) ahead_now.0 ∙ elim (first_next p aim is_aim (record { total = other.cap; vector = v }) ranking) [
+      now_first = ap (λ run. first_of (ranking_by aim other.cap v ranking run)) ahead_now.0 ∙ elim (first_next aim is_aim (record { total = other.cap; vector = v }) ranking) [
         | inl a ↦ a.0
         | inr a ↦ absurd (let yes = ahead_now.1 in let none = a.1 in cc)
       ]
@@ -452,13 +454,13 @@ module _ (p : Problem) (laws : IsProblem p) (start : p.start < p.count) (rules :
     total_least = omega (arith, cap_is, total_le_cap p laws w order permutes (enough p method (aim_at p aim v) w order v ranking))
 
     ranking_then : next_ranking aim c' v ranking ≡ ranking_after p aim (suc k)
-    ranking_then = same_next p aim is_aim c' (total_of p w) v ranking total_least (λ h. sym (score (all_of h))) ∙ ranked_next w is
+    ranking_then = same_next aim is_aim c' (total_of p w) v ranking total_least (λ h. sym (score (all_of h))) ∙ ranked_next w is
 
     whole_same : IsWhole p rows' (first_of ranking)
     whole_same = whole_stays p rules aim method k v at rows (Cap row) blank (first_of ranking) s.whole
 
     whole_then : (run : Bool) → contends aim c' v ranking ≡ run → IsWhole p rows' (first_of (ranking_by aim c' v ranking run))
-    whole_then true h = elim (first_next p aim is_aim (record { total = c'; vector = v }) ranking) [
+    whole_then true h = elim (first_next aim is_aim (record { total = c'; vector = v }) ranking) [
       | inl a ↦ subst (λ (o : Option Best). IsWhole p rows' o) (sym a.0) (row, row_here, sym lengths ∙ all_made (all_of h))
       | inr a ↦ subst (λ (o : Option Best). IsWhole p rows' o) (sym a.0) whole_same
     ]
@@ -477,7 +479,7 @@ module _ (p : Problem) (laws : IsProblem p) (start : p.start < p.count) (rules :
         let before : place p.start u < k = h.1 in (
           h.0,
           omega arith,
-          elim (first_next p aim is_aim (record { total = c'; vector = v }) ranking) [
+          elim (first_next aim is_aim (record { total = c'; vector = v }) ranking) [
             | inl a ↦ ap (leads p.start) a.0 ∙ first_visit p.start k v at ∙ grind (arith, nat_tests)
             | inr a ↦ ap (leads p.start) a.0 ∙ h.2
           ],

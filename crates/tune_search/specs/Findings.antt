@@ -4,7 +4,7 @@ use Rattle.std.specs.List.{AllByRecursion}
 use Rattle.rc_instr.specs.Warrior.{WarriorView}
 use Rattle.tune_template.specs.Limits.{MOST_SETTINGS}
 use Rattle.tune_problem.specs.Problem.{Problem}
-use Rattle.tune_problem.specs.Optimum.{IsOptimum, HasTotal, candidates_of, total_of}
+use Rattle.tune_problem.specs.Optimum.{IsOptimum, HasTotal, candidates_of}
 use Rattle.tune_problem.specs.Valid.{IsOwnVersion, IsValid, listed_fights}
 use Rattle.tune_problem.specs.declared.cert.Cert.{Cert}
 use Rattle.tune_problem.specs.declared.cert.Found.{Found}
@@ -12,17 +12,13 @@ use Rattle.tune_problem.specs.declared.cert.Row.{Row}
 use Rattle.tune_problem.specs.declared.cert.Row.TheVariants.{Refused, Same, Cap}
 use Rattle.tune_problem.specs.declared.watcher.Best.{Best}
 use Rattle.tune_search.specs.Visits.{IsFought}
-use Rattle.tune_search.specs.Ranking.{IsRanking}
-use Rattle.tune_search.specs.Sharing.{IsVisited, first_of}
+use Rattle.tune_problem.specs.Ranking.{IsRanking, Any, first_of}
+use Rattle.tune_search.specs.Sharing.{IsVisited}
 use Rattle.tune_search.specs.Found.{copied_fights, is_fought}
-use Rattle.tune_search.specs.Below.{IsValidBelow}
-use Rattle.tune_search.specs.declared.aim.Aim.{Aim}
+use Rattle.tune_problem.specs.Below.{AllBelow, IsValidBelow, cert_with}
+use Rattle.tune_problem.specs.declared.aim.Aim.{Aim}
 use Rattle.tune_search.specs.declared.findings.Findings.{Findings}
 use Rattle.tune_search.specs.declared.method.Method.{Method}
-
--- Every candidate totals less than the floor.
-abbrev pub AllBelow : Problem → ℕ → Type 0
-AllBelow p floor = (v : ℕ) (w : WarriorView) → v < p.count → p.warrior v ≡ Some w → total_of p w < floor
 
 -- The best setting is the optimum, and its total reaches the floor. If there is none, no candidate
 -- reaches the floor.
@@ -30,14 +26,10 @@ abbrev pub IsBestFrom : Problem → ℕ → Option Best → Type 0
 IsBestFrom p floor None = AllBelow p floor
 IsBestFrom p floor (Some best) = IsOptimum p best.vector × HasTotal p best.vector best.total × (floor ≤ best.total)
 
--- The certificate of these rows, with this best setting.
-abbrev pub cert_with : ℕ → List Row → Best → Cert
-cert_with version rows best = record { version = version; count = length rows; best = best.vector; total = best.total; rows = rows }
-
 -- The rows are a valid certificate of the best setting, or that no candidate reaches the floor.
 abbrev pub IsCertified : Problem → ℕ → ℕ → List Row → Option Best → Type 0
 IsCertified p floor version rows None = IsValidBelow p floor version rows
-IsCertified p floor version rows (Some best) = IsValid p (cert_with version rows best)
+IsCertified p floor version rows (Some best) = IsValid p (cert_with version (length rows) rows best)
 
 -- Findings as a `Found`, with this best setting.
 abbrev pub found_of : Findings → Best → Found
@@ -57,11 +49,11 @@ IsFull p rows best = (u : ℕ) × (row : List (ℕ × ℕ)) × (slice_get rows u
     × ((u ≡ best.vector) ⊎ (slice_get rows best.vector ≡ Some (Same u)))
 
 -- What a search by a method finds that is asked for the first of the ranking. The fields up to
--- `certified` take the place of `optimum`, `total_is` and `valid` of `IsSearch`. The others are those
--- of `IsSearch`, with what reaches the floor and beats the last that is kept in place of what beats
--- the lead.
+-- `certified` take the place of `optimum`, `total_is` and `valid` of `IsSearch`. The others are
+-- those of `IsSearch`, but a setting is dropped once its cap does not contend, and not once it does
+-- not beat the lead.
 pub record IsSearchFrom (p : Problem) (aim : Aim) (method : Method) (f : Findings) : Type 0 where
-  pub ranking : IsRanking p aim p.count f.ranking
+  pub ranking : IsRanking p aim Any f.ranking
   pub full : AllByRecursion (IsFull p f.rows) f.ranking
   pub best : IsBestFrom p aim.floor (first_of f.ranking)
   pub certified : IsCertified p aim.floor f.version f.rows (first_of f.ranking)

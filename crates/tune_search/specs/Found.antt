@@ -9,10 +9,10 @@ use Rattle.tune_problem.specs.Valid.{IsOwnVersion, IsValid, listed_in, listed_fi
 use Rattle.tune_problem.specs.declared.cert.Found.{Found}
 use Rattle.tune_problem.specs.declared.cert.Row.{Row}
 use Rattle.tune_problem.specs.declared.cert.Row.TheVariants.{Refused, Cap}
-use Rattle.tune_search.specs.Method.{the_best}
 use Rattle.tune_search.specs.Visits.{IsFought}
 use Rattle.tune_search.specs.Sharing.{IsVisited}
 use Rattle.tune_search.specs.declared.method.Method.{Method}
+use Rattle.tune_problem.specs.Ranking.{the_best}
 
 abbrev pub is_cap : Option Row → Bool
 is_cap (Some (Cap row)) = true

@@ -11,7 +11,6 @@ pub mod Ranking
 pub mod Recent
 pub mod Sharing
 pub mod Found
-pub mod Below
 pub mod Findings
 pub mod Cache
 pub mod State

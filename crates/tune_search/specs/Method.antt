@@ -1,8 +1,7 @@
--- What a search is asked for, and its two methods: it drops settings and shares fights, or it plays
+-- The two methods of a search: it drops settings and shares fights, or it plays
 -- all fights.
 use Rattle.std.specs.Prelude.{ℕ, ◌≤◌}
-use Rattle.tune_search.specs.Limits.{MOST_CAPACITY, MOST_KEPT}
-use Rattle.tune_search.specs.declared.aim.Aim.{Aim}
+use Rattle.tune_search.specs.Limits.{MOST_CAPACITY}
 use Rattle.tune_search.specs.declared.method.Method.{Method}
 use Rattle.tune_search.specs.declared.method.Method.TheVariants.{Dropping, PlayingAll}
 
@@ -15,11 +14,3 @@ capacity_of PlayingAll = 0
 abbrev pub HasCapacity : Method → Type 0
 HasCapacity (Dropping capacity) = (1 ≤ capacity) × (capacity ≤ MOST_CAPACITY)
 HasCapacity PlayingAll = Unit {0}
-
--- A search keeps 1 to `MOST_KEPT` settings.
-abbrev pub IsAim : Aim → Type 0
-IsAim aim = (1 ≤ aim.keep) × (aim.keep ≤ MOST_KEPT)
-
--- The best setting, whatever its total.
-abbrev pub the_best : Aim
-the_best = record { keep = 1; floor = 0 }

@@ -4,9 +4,10 @@ use Rattle.std.specs.List.{filter}
 use Rattle.rc_instr.specs.Warrior.{WarriorView}
 use Rattle.mars_core.specs.Fight.{least}
 use Rattle.tune_problem.specs.Problem.{Problem}
-use Rattle.tune_problem.specs.Optimum.{all_fights, cap_of, beats}
+use Rattle.tune_problem.specs.Optimum.{all_fights, cap_of}
+use Rattle.tune_problem.specs.Ranking.{contends}
 use Rattle.tune_search.specs.Plays.{played}
-use Rattle.tune_search.specs.declared.aim.Aim.{Aim}
+use Rattle.tune_problem.specs.declared.aim.Aim.{Aim}
 use Rattle.tune_search.specs.declared.method.Method.{Method}
 use Rattle.tune_search.specs.declared.method.Method.TheVariants.{Dropping, PlayingAll}
 use Rattle.tune_problem.specs.declared.watcher.Best.{Best}
@@ -31,25 +32,8 @@ order_after p false (Some w) = by_points (played p w (all_fights p))
 unfoldable pub fight_order : Problem → ℕ → List ℕ
 fight_order p v = order_after p (v == p.start) (p.warrior p.start)
 
--- Cap c of setting v beats the lead. Every cap does if there is none.
-abbrev pub beats_lead : ℕ → ℕ → Option Best → Bool
-beats_lead c v None = true
-beats_lead c v (Some lead) = beats c v lead.total lead.vector
-
--- A setting in its place in a ranking: before the first that it beats.
-unfoldable pub ranked : Best → List Best → List Best
-ranked best [] = best ∷ []
-ranked best (x ∷ xs) = if beats best.total best.vector x.total x.vector then best ∷ x ∷ xs else x ∷ ranked best xs
-
--- The last of the first `keep`, if there are so many: what a setting has to beat.
-abbrev pub last_kept : Aim → List Best → Option Best
-last_kept aim ranking = slice_get ranking (aim.keep - 1)
-
--- Cap c of setting v contends: it reaches the floor, and beats the last that is kept.
-abbrev pub contends : Aim → ℕ → ℕ → List Best → Bool
-contends aim c v ranking = nat_le aim.floor c && beats_lead c v (last_kept aim ranking)
-
--- What counts at the visit of setting v: no floor for the start setting, which plays all its fights.
+-- What counts at the visit of setting v: no floor for the start setting, which plays all its
+-- fights.
 abbrev pub aim_at : Problem → Aim → ℕ → Aim
 aim_at p aim v = record { keep = aim.keep; floor = if v == p.start then 0 else aim.floor }
 

@@ -2,18 +2,15 @@
 use Rattle.std.specs.Prelude.{◌≡◌, ◌≢◌, ℕ, ◌<◌, ◌⊎◌, Bool, true, false, ◌&&◌, nat_lt, ◌==◌, List, slice_get, Option, Some, None}
 use Rattle.rc_instr.specs.Warrior.{WarriorView}
 use Rattle.tune_problem.specs.Problem.{Problem}
+use Rattle.tune_problem.specs.Ranking.{first_of}
 use Rattle.tune_problem.specs.declared.cert.Row.{Row}
 use Rattle.tune_problem.specs.declared.cert.Row.TheVariants.{Refused, Same}
 use Rattle.tune_search.specs.Visits.{place, ranking_at, IsFought}
 use Rattle.tune_search.specs.Recent.{NoneHas, Has, IsRecent}
 use Rattle.tune_search.specs.Method.{capacity_of}
-use Rattle.tune_search.specs.declared.aim.Aim.{Aim}
+use Rattle.tune_problem.specs.declared.aim.Aim.{Aim}
 use Rattle.tune_search.specs.declared.method.Method.{Method}
 use Rattle.tune_problem.specs.declared.watcher.Best.{Best}
-
--- The first of a ranking, which leads.
-abbrev pub first_of : List Best → Option Best
-first_of ranking = slice_get ranking 0
 
 -- Setting v is the lead.
 abbrev pub leads : ℕ → Option Best → Bool

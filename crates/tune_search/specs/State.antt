@@ -17,18 +17,19 @@ use Rattle.tune_problem.specs.declared.cert.Row.TheVariants.{Refused, Same, Cap}
 use Rattle.tune_search.specs.Order.{order_after, enough}
 use Rattle.tune_search.specs.Visits.{place, ranking_after, IsFought}
 use Rattle.tune_search.specs.Recent.{IsRecent}
-use Rattle.tune_search.specs.Sharing.{first_of, leads, IsExplained}
+use Rattle.tune_search.specs.Sharing.{leads, IsExplained}
 use Rattle.tune_search.specs.Found.{copied_fights}
 use Rattle.tune_search.specs.Findings.{IsFull}
-use Rattle.tune_search.specs.Method.{IsAim, capacity_of}
+use Rattle.tune_search.specs.Method.{capacity_of}
 use Rattle.tune_problem.specs.declared.watcher.Best.{Best}
 use Rattle.tune_search.specs.declared.candidate.Candidate.{Candidate}
 use Rattle.tune_search.specs.declared.fights.Challenge.{Challenge}
-use Rattle.tune_search.specs.declared.aim.Aim.{Aim}
+use Rattle.tune_problem.specs.declared.aim.Aim.{Aim}
 use Rattle.tune_search.specs.declared.fought.Fought.{Fought}
 use Rattle.tune_search.specs.declared.findings.Findings.{Findings}
 use Rattle.tune_search.specs.declared.method.Method.{Method}
 use Rattle.tune_search.specs.declared.state.State.{State}
+use Rattle.tune_problem.specs.Ranking.{first_of, IsAim}
 
 -- A candidate: setting v with its warrior, and the load file of that.
 pub record IsCandidateAt (i : InputsView) (v : ℕ) (c : Candidate) : Type 0 where

@@ -1,15 +1,15 @@
 -- The order in which settings are visited, the ranking after some visits, and the fights of a
 -- visit.
-use Rattle.std.specs.Prelude.{◌≡◌, ℕ, zero, suc, ◌+◌, ◌-◌, Bool, true, false, nat_lt, ◌==◌, if◌then◌else◌, List, [], map, take, slice_get, Option, Some, None}
+use Rattle.std.specs.Prelude.{◌≡◌, ℕ, zero, suc, ◌+◌, ◌-◌, Bool, nat_lt, ◌==◌, if◌then◌else◌, List, [], map, take, slice_get, Option, Some, None}
 use Rattle.std.specs.List.Sorted.{IsPermutation, IsStrictlyIncreasing}
 use Rattle.rc_instr.specs.Warrior.{WarriorView}
 use Rattle.tune_problem.specs.Problem.{Problem}
-use Rattle.tune_problem.specs.Optimum.{total_of}
+use Rattle.tune_problem.specs.Ranking.{ranking_with}
 use Rattle.tune_problem.specs.declared.cert.Row.{Row}
 use Rattle.tune_problem.specs.declared.cert.Row.TheVariants.{Cap}
 use Rattle.tune_search.specs.Plays.{played}
-use Rattle.tune_search.specs.Order.{aim_at, contends, enough, fight_order, ranked}
-use Rattle.tune_search.specs.declared.aim.Aim.{Aim}
+use Rattle.tune_search.specs.Order.{aim_at, enough, fight_order}
+use Rattle.tune_problem.specs.declared.aim.Aim.{Aim}
 use Rattle.tune_search.specs.declared.method.Method.{Method}
 use Rattle.tune_problem.specs.declared.watcher.Best.{Best}
 
@@ -20,18 +20,6 @@ visit start k = if k == 0 then start else if nat_lt start k then k else k - 1
 -- How many settings are visited before setting v.
 abbrev pub place : ℕ → ℕ → ℕ
 place start v = if v == start then 0 else if nat_lt v start then v + 1 else v
-
--- The first of the ranking after a visit that left setting v with cap c, given whether c contends.
-abbrev pub ranking_by : Aim → ℕ → ℕ → List Best → Bool → List Best
-ranking_by aim c v ranking true = take aim.keep (ranked (record { total = c; vector = v }) ranking)
-ranking_by aim c v ranking false = ranking
-
-abbrev pub next_ranking : Aim → ℕ → ℕ → List Best → List Best
-next_ranking aim c v ranking = ranking_by aim c v ranking (contends aim c v ranking)
-
-abbrev pub ranking_with : Problem → Aim → ℕ → Option WarriorView → List Best → List Best
-ranking_with p aim v None ranking = ranking
-ranking_with p aim v (Some w) ranking = next_ranking aim (total_of p w) v ranking
 
 -- The first of the ranking after k visits, by the totals of the settings visited.
 unfoldable pub ranking_after : Problem → Aim → ℕ → List Best

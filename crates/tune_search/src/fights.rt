@@ -9,14 +9,13 @@ ghost use Rattle.std.specs.List.Sorted.{IsPermutation};
 ghost use Rattle.tune_search.specs.Plays.{played};
 ghost use Rattle.tune_search.specs.State.{fights_asked};
 
-use crate::aim::Aim;
 use crate::candidate::Candidate;
 use crate::method::{Method, drops};
 use mars_core::{Arena, PackedCells};
 use mars_fight::MOST_POINTS;
 use rc_instr::Warrior;
 use std::alloc::{AllocError, Global};
-use tune_problem::{Best, Inputs, Watcher, fight_points, fight_weight, greatest_total};
+use tune_problem::{Aim, Best, Inputs, Watcher, fight_points, fight_weight, greatest_total};
 
 // Fights of a warrior in the order in which they were played, each with its points, and the cap of
 // the warrior by them: its total, if these are all fights.

@@ -2,10 +2,9 @@
 ghost use Rattle.std.specs.Prelude.{◌≡◌};
 ghost use Rattle.std.specs.Option.{option_map};
 ghost use Rattle.tune_search.specs.Findings.{found_of};
-ghost use Rattle.tune_search.specs.Sharing.{first_of};
+ghost use Rattle.tune_problem.specs.Ranking.{first_of};
 
-use crate::ranking::Ranking;
-use tune_problem::{Found, Rows};
+use tune_problem::{Found, Ranking, Rows};
 
 /// What a search with an aim finds.
 #[derive(Debug, Drop)]

@@ -3,19 +3,18 @@ ghost use Rattle.std.specs.Prelude.{◌≡◌, ◌<◌, ◌≤◌, ◌*◌, ℕ,
 ghost use Rattle.rc_instr.specs.Warrior.{WarriorView};
 ghost use Rattle.tune_problem.specs.Problem.{Problem, IsProblem};
 ghost use Rattle.tune_search.specs.Recent.{IsRecent};
-ghost use Rattle.tune_search.specs.Method.{IsAim, capacity_of, the_best};
+ghost use Rattle.tune_search.specs.Method.{capacity_of};
 ghost use Rattle.tune_search.specs.Plays.{rows_of};
 ghost use Rattle.tune_search.specs.Visits.{ranking_after};
-ghost use Rattle.tune_search.specs.Ranking.{IsRanking};
-ghost use Rattle.tune_search.specs.Sharing.{first_of};
+ghost use Rattle.tune_search.specs.Ranking.{IsRankingBy};
 ghost use Rattle.tune_search.specs.Found.{IsSearch, NoneAssembles, was_fought, fought_count};
-ghost use Rattle.tune_search.specs.Below.{IsValidBelow};
-ghost use Rattle.tune_search.specs.Findings.{AllBelow, IsSearchFrom, found_of};
+ghost use Rattle.tune_search.specs.Findings.{IsSearchFrom, found_of};
+ghost use Rattle.tune_problem.specs.Ranking.{IsAim, the_best, first_of};
 
-use crate::aim::Aim;
 use crate::findings::Findings;
 use crate::method::Method;
-use tune_problem::{Best, Found, Row};
+pub use tune_problem::laws::a_certificate_below_a_floor_is_right;
+use tune_problem::{Aim, Best, Found};
 
 /// States that after any number of visits there is at most one list of recent settings.
 pub fn visits_determine_the_rest()
@@ -68,12 +67,7 @@ pub fn a_floor_hides_only_what_is_below_it()
         → first_of f.ranking ≡ None }
 {}
 
-/// States that every candidate totals less than the floor if rows are a valid certificate of that.
-pub fn a_certificate_below_a_floor_is_right()
-    ensures { (p : Problem) (floor version : ℕ) (rows : List Row) → IsProblem p → IsValidBelow p floor version rows → AllBelow p floor }
-{}
-
 /// States that the ranking after any number of visits is the first of the settings visited.
 pub fn a_ranking_has_the_first_settings()
-    ensures { (p : Problem) (aim : Aim) (k : ℕ) → IsAim aim → k ≤ p.count → p.start < p.count → IsRanking p aim k (ranking_after p aim k) }
+    ensures { (p : Problem) (aim : Aim) (k : ℕ) → IsAim aim → k ≤ p.count → p.start < p.count → IsRankingBy p aim k (ranking_after p aim k) }
 {}

@@ -1,20 +1,9 @@
 //! The lead: the best setting so far, and its total.
 ghost use Rattle.std.specs.Prelude.{◌≡◌};
-ghost use Rattle.tune_search.specs.Order.{beats_lead};
 ghost use Rattle.tune_search.specs.Sharing.{copies};
 
 use mars_core::{Arena, PackedCells};
-use tune_problem::{Best, Standing, beats};
-
-// Checks whether cap `cap` of setting `vector` beats the lead. Every cap does if there is none.
-pub(crate) fn beats_lead(cap: u32, vector: u32, lead: Option<Best>) -> bool
-    ensures { result ≡ beats_lead cap vector lead }
-{
-    match lead {
-        None => true,
-        Some(lead) => beats(cap, vector, lead),
-    }
-}
+use tune_problem::{Best, Standing};
 
 // Checks whether setting `vector` copies the row of setting `other`, which has the same warrior:
 // `other` is the start setting and the lead, and `vector` has the smaller index.

@@ -1,7 +1,6 @@
 //! The search for the optimum of a tuning.
 #![tactic(auto)]
 
-mod aim;
 mod cache;
 mod candidate;
 mod fault;
@@ -13,14 +12,11 @@ mod lead;
 pub mod limits;
 mod method;
 mod order;
-mod ranking;
 mod state;
 mod tuning;
 
-pub use aim::Aim;
 pub use fault::SearchFault;
 pub use findings::Findings;
 pub use method::Method;
-pub use ranking::Ranking;
-pub use tune_problem::Inputs;
+pub use tune_problem::{Aim, Inputs, Ranking};
 pub use tuning::{search, search_by, search_from};

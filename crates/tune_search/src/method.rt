@@ -1,11 +1,9 @@
 //! The methods of a search.
-ghost use Rattle.std.specs.Prelude.{◌≡◌, ◌≤◌};
+ghost use Rattle.std.specs.Prelude.{◌≡◌, ◌≤◌, if◌then◌else◌};
 ghost use Rattle.tune_search.specs.Method.{capacity_of};
 ghost use Rattle.tune_search.specs.Order.{drops};
 
-use crate::aim::Aim;
-use crate::ranking::contends;
-use tune_problem::Best;
+use tune_problem::{Aim, Best, contends};
 
 /// How a search goes. Both methods find the same setting, with the same total.
 #[derive(Clone, Copy, Debug, PartialEq, Eq)]
@@ -35,5 +33,16 @@ pub(crate) fn drops(method: Method, aim: Aim, cap: u32, vector: u32, ranking: &[
     match method {
         Method::Dropping { .. } => !contends(aim, cap, vector, ranking),
         Method::PlayingAll => false,
+    }
+}
+
+// Returns what counts at a visit: no floor at the first one, since the start setting plays all its
+// fights, of which the others learn their order.
+pub(crate) fn aim_at(aim: Aim, first: bool) -> Aim
+    ensures { result ≡ record { keep = aim.keep; floor = if first then 0 else aim.floor } }
+{
+    Aim {
+        keep: aim.keep,
+        floor: if first { 0 } else { aim.floor },
     }
 }

@@ -4,11 +4,10 @@ ghost use Rattle.std.specs.Map.{lookup};
 ghost use Rattle.tune_template.specs.Limits.{MOST_SETTINGS};
 ghost use Rattle.tune_problem.specs.Problem.{problem_of};
 ghost use Rattle.tune_search.specs.Cache.{same_text};
-ghost use Rattle.tune_search.specs.Method.{IsAim};
 ghost use Rattle.tune_search.specs.Visits.{visit};
 ghost use Rattle.tune_search.specs.State.{IsCandidateAt, IsState, found_with};
+ghost use Rattle.tune_problem.specs.Ranking.{IsAim};
 
-use crate::aim::Aim;
 use crate::cache::Cache;
 use crate::candidate::{Candidate, candidate_at};
 use crate::fault::SearchFault;
@@ -16,13 +15,13 @@ use crate::fights::{Challenge, play_enough};
 use crate::findings::Findings;
 use crate::fought::Fought;
 use crate::lead::copies;
-use crate::method::{Method, capacity_of};
+use crate::method::{Method, aim_at, capacity_of};
 use crate::order::{all_in_order, learn_order, sort_by_index, visited};
-use crate::ranking::{Ranking, aim_for};
 use mars_core::{Arena, PackedCells};
 use std::alloc::{AllocError, Global};
 use tune_problem::{
-    Inputs, Listing, Row, Rows, Watcher, cert_version, fight_count, part_size, start_setting,
+    Aim, Inputs, Listing, Ranking, Row, Rows, Watcher, cert_version, fight_count, part_size,
+    start_setting,
 };
 
 #[derive(Drop)]
@@ -134,7 +133,7 @@ impl State {
             method: self.method,
             entrant: &entrant,
             order: &self.order,
-            aim: aim_for(self.aim, visits == 0),
+            aim: aim_at(self.aim, visits == 0),
             ranking: self.found.ranking.as_slice(),
         };
         let bout = play_enough(alloc, &mut self.arena, inputs, &challenge, watcher)?;
@@ -152,6 +151,7 @@ impl State {
     // Returns what was found, or `NoCandidate` if no setting assembles.
     pub(crate) fn finish(self) -> Result<Findings, SearchFault>
         ensures found { IfOk result (λ f. f ≡ found_with self) }
+        ensures some { IfOk result (λ f. 0 < f.candidates) }
         ensures none { IfErr result (λ e. (e ≡ SearchFault.NoCandidate) × (self.found.candidates ≡ 0)) }
     {
         let State { arena, found, .. } = self;

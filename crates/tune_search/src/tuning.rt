@@ -1,19 +1,19 @@
 //! The search for the optimum.
-ghost use Rattle.std.specs.Prelude.{◌≡◌, ◌≤◌, IfOk, IfErr};
+ghost use Rattle.std.specs.Prelude.{◌≡◌, ◌<◌, ◌≤◌, IfOk, IfErr};
 ghost use Rattle.tune_problem.specs.Problem.{problem_of};
 ghost use Rattle.tune_search.specs.Limits.{MOST_CAPACITY};
-ghost use Rattle.tune_search.specs.Method.{HasCapacity, IsAim};
+ghost use Rattle.tune_search.specs.Method.{HasCapacity};
 ghost use Rattle.tune_search.specs.Found.{IsSearch, NoneAssembles};
 ghost use Rattle.tune_search.specs.Findings.{IsSearchFrom};
+ghost use Rattle.tune_problem.specs.Ranking.{IsAim};
 
-use crate::aim::Aim;
 use crate::fault::SearchFault;
 use crate::findings::Findings;
 use crate::lead::standing;
 use crate::method::Method;
 use crate::state::State;
 use std::alloc::Global;
-use tune_problem::{Found, Inputs, Silent, Watcher, part_size};
+use tune_problem::{Aim, Found, Inputs, Silent, Watcher, part_size};
 
 /// Finds the optimum: the first setting of the template with the greatest total in the fights of
 /// the schedule. Plays only fights that can matter.
@@ -82,8 +82,8 @@ pub fn search_by<T: Watcher>(
 /// `Method::Dropping` drops a setting once its cap is below the floor, or does not beat the last of
 /// the first `keep` of those visited before it, if there are so many. The start setting plays all
 /// its fights, since the others learn their order from them. A setting that shares the fights of
-/// another is ranked with its total. A floor that some setting reaches saves fights. Tells `watcher`
-/// what `search_by` tells it, which is this search with keep 1 and the floor 0.
+/// another is ranked with its total. A floor that some setting reaches saves fights. Tells
+/// `watcher` what `search_by` tells it, which is this search with keep 1 and the floor 0.
 ///
 /// # Errors
 ///
@@ -98,10 +98,14 @@ pub fn search_from<T: Watcher>(
     requires aim { IsAim aim }
     requires capacity { HasCapacity method }
 
-    // The ranking is exact, and each of its settings has a row with all fights, or one that refers to
-    // such a row. The rows are a valid certificate of the first of it, or show that each candidate
-    // totals less than the floor. The fights are those that the aim and the method ask for.
+    // The ranking is exact, and each of its settings has a row with all fights, or one that refers
+    // to such a row. The rows are a valid certificate of the first of it, or show that each
+    // candidate totals less than the floor. The fights are those that the aim and the method ask
+    // for.
     ensures found { IfOk result (IsSearchFrom (problem_of inputs.now) aim method) }
+
+    // Some setting assembles, whether or not one reaches the floor.
+    ensures some { IfOk result (λ f. 0 < f.candidates) }
     ensures none { IfErr result (λ e. e ≡ SearchFault.NoCandidate → NoneAssembles (problem_of inputs.now)) }
 {
     let mut state = State::begin(alloc, inputs, aim, method)?;

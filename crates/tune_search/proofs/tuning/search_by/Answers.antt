@@ -1,11 +1,11 @@
 use Rattle.std.proofs.Common.{◌∙◌, sym, subst}
 use Rattle.tune_problem.specs.Problem.{problem_of}
-use Rattle.tune_search.specs.Sharing.{first_of}
 use Rattle.tune_search.specs.Found.{IsSearch}
 use Rattle.tune_search.specs.Findings.{IsBestFrom, found_of}
 use Rattle.tune_search.proofs.Finish.{as_found, none_best}
 use Rattle.tune_search.proofs.Floors.{mapped_some, unmapped}
 use Rattle.tune_search.proofs.tuning.search_by.Goals as goal
+use Rattle.tune_problem.specs.Ranking.{first_of}
 
 pub returns-in-None-clause-none : goal.returns-in-None-clause-none
 returns-in-None-clause-none g c =

@@ -4,7 +4,7 @@ use Rattle.tune_problem.specs.Problem.{problem_of}
 use Rattle.tune_problem.proofs.Scores.{inputs_problem}
 use Rattle.tune_search.specs.Findings.{IsSearchFrom}
 use Rattle.tune_search.specs.State.{IsState, found_with}
-use Rattle.tune_search.specs.declared.aim.Aim.{Aim}
+use Rattle.tune_problem.specs.declared.aim.Aim.{Aim}
 use Rattle.tune_search.specs.declared.method.Method.{Method}
 use Rattle.tune_search.proofs.Answered.{answered, unanswered}
 use Rattle.tune_search.proofs.Finish.{finds, finds_none}

@@ -8,7 +8,7 @@ use Rattle.tune_problem.specs.declared.cert.Row.TheVariants.{Cap}
 use Rattle.tune_problem.proofs.Scores.{inputs_problem}
 use Rattle.tune_search.specs.Plays.{played}
 use Rattle.tune_search.specs.Order.{aim_at, by_points, enough}
-use Rattle.tune_search.specs.Visits.{next_ranking, visit}
+use Rattle.tune_search.specs.Visits.{visit}
 use Rattle.tune_search.specs.Cache.{CacheView}
 use Rattle.tune_search.specs.Method.{capacity_of}
 use Rattle.tune_search.proofs.Places.{visit_below}
@@ -17,6 +17,7 @@ use Rattle.tune_search.proofs.ListedFights.{order_below}
 use Rattle.tune_search.proofs.Counted.{small_count}
 use Rattle.tune_search.proofs.Visiting.{first_visit, fought_visit, permutes, under_way_along}
 use Rattle.tune_search.proofs.state.State.fight.Goals as goal
+use Rattle.tune_problem.specs.Ranking.{next_ranking}
 
 pub play_enough-requires-clause-all : goal.play_enough-requires-clause-all
 play_enough-requires-clause-all g c =
@@ -68,8 +69,8 @@ returns-clause-state g c =
     let in_order = c.deref.ensures.value in
     let listed = c.deref-2.ensures.value in
     let own : e.vector ≡ v = is.vector_is in
-    let aim_is : c.aim_for.result ≡ aim_at p s.aim v =
-    c.aim_for.ensures ∙ ap (λ b. record { keep = s.aim.keep; floor = if b then 0 else s.aim.floor }) (sym (first_visit p.start k v refl)) in
+    let aim_is : c.aim_at.result ≡ aim_at p s.aim v =
+    c.aim_at.ensures ∙ ap (λ b. record { keep = s.aim.keep; floor = if b then 0 else s.aim.floor }) (sym (first_visit p.start k v refl)) in
     let in_ranking = c.as_slice.ensures in
     record {
       start_is = c.requires.state.start_is;
@@ -84,12 +85,12 @@ returns-clause-state g c =
           (fought_visit p (inputs_problem i) c.requires.state.start_inside i.rules s.aim c.requires.state.is_aim c.args.self.now.method k v refl inside
           s.found.rows s.found.ranking s.order.items s.arena.fights s.found.candidates s.found.copied s.cache.known c.requires.state.going
           e.warrior is.warrior_is bout.listing.items bout.cap c.sort_by_index.result.items
-          (c.in_ok-bout.ensures.listing ∙ ap (λ l. played p e.warrior (take (enough p s.method c.aim_for.result e.warrior l e.vector c.as_slice.result.now) l)) in_order
-          ∙ ap (λ n. played p e.warrior (take (enough p s.method c.aim_for.result e.warrior s.order.items n c.as_slice.result.now) s.order.items)) own
+          (c.in_ok-bout.ensures.listing ∙ ap (λ l. played p e.warrior (take (enough p s.method c.aim_at.result e.warrior l e.vector c.as_slice.result.now) l)) in_order
+          ∙ ap (λ n. played p e.warrior (take (enough p s.method c.aim_at.result e.warrior s.order.items n c.as_slice.result.now) s.order.items)) own
           ∙ ap (λ n. played p e.warrior (take (enough p s.method n e.warrior s.order.items v c.as_slice.result.now) s.order.items)) aim_is
           ∙ ap (λ (r : List Best). played p e.warrior (take (enough p s.method (aim_at p s.aim v) e.warrior s.order.items v r) s.order.items)) in_ranking)
-          (c.in_ok-bout.ensures.cap ∙ ap (λ l. cap_of p e.warrior (take (enough p s.method c.aim_for.result e.warrior l e.vector c.as_slice.result.now) l)) in_order
-          ∙ ap (λ n. cap_of p e.warrior (take (enough p s.method c.aim_for.result e.warrior s.order.items n c.as_slice.result.now) s.order.items)) own
+          (c.in_ok-bout.ensures.cap ∙ ap (λ l. cap_of p e.warrior (take (enough p s.method c.aim_at.result e.warrior l e.vector c.as_slice.result.now) l)) in_order
+          ∙ ap (λ n. cap_of p e.warrior (take (enough p s.method c.aim_at.result e.warrior s.order.items n c.as_slice.result.now) s.order.items)) own
           ∙ ap (λ n. cap_of p e.warrior (take (enough p s.method n e.warrior s.order.items v c.as_slice.result.now) s.order.items)) aim_is
           ∙ ap (λ (r : List Best). cap_of p e.warrior (take (enough p s.method (aim_at p s.aim v) e.warrior s.order.items v r) s.order.items)) in_ranking)
           c.in_ok-bout.ensures.few c.sort_by_index.ensures.same c.sort_by_index.ensures.sorted

@@ -8,13 +8,14 @@ use Rattle.tune_problem.specs.declared.cert.Row.{Row}
 use Rattle.tune_problem.proofs.Scores.{inputs_problem}
 use Rattle.tune_search.specs.Cache.{CacheView, cache_view, same_text}
 use Rattle.tune_search.specs.Visits.{visit}
-use Rattle.tune_search.specs.Sharing.{copies, first_of}
+use Rattle.tune_search.specs.Sharing.{copies}
 use Rattle.tune_search.specs.State.{IsCandidateAt, IsUnderWay}
 use Rattle.tune_search.specs.declared.candidate.Candidate.{Candidate}
 use Rattle.tune_search.proofs.Cached.{promoted_none}
 use Rattle.tune_search.proofs.Places.{visit_below}
 use Rattle.tune_search.proofs.Visiting.{refused_visit, shared_visit, copied_visit, under_way_along}
 use Rattle.tune_search.proofs.state.State.visit.Goals as goal
+use Rattle.tune_problem.specs.Ranking.{first_of}
 
 pub returns-in_default-clause-state : goal.returns-in_default-clause-state
 returns-in_default-clause-state g c =
