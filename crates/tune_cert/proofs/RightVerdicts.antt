@@ -1,7 +1,5 @@
 -- What a verdict on all rows promises.
-use Rattle.std.proofs.Common.{◌≡◌, inl, inr, ℕ, suc, ◌+◌, ◌-◌, ◌<◌, ◌≤◌, arith, Bool, true, false, List, [], ◌∷◌, length, Option, Some, None, refl, sym, ◌∙◌, ap, subst}
-use Rattle.std.proofs.Common.{append-nil}
-use Rattle.std.proofs.lemmas.Bool.{cases_lt}
+use Rattle.std.proofs.Common.{◌≡◌, inl, inr, ℕ, ◌+◌, ◌-◌, ◌<◌, ◌≤◌, arith, Bool, true, false, List, length, Option, Some, None, Result, Ok, Err, refl, sym, ◌∙◌, ap, subst}
 use Rattle.std.specs.List.{slice_get}
 use Rattle.std.proofs.lemmas.Option.{slice_get_within}
 use Rattle.tables.specs.Records.{Fields}
@@ -14,47 +12,18 @@ use Rattle.tune_problem.specs.declared.cert.Row.TheVariants.{Refused, Same, Cap}
 use Rattle.tune_problem.specs.declared.part.Part.{Part}
 use Rattle.tune_problem.proofs.Certificates.{valid_is_optimum, valid_total}
 use Rattle.tune_cert.proofs.ShareBounds.{whole_bounds}
-use Rattle.tune_cert.specs.CertText.{count_fields, best_fields, rows_fields, cert_fields}
-use Rattle.tune_cert.specs.Spelling.{Spells, IsMalformed, IsFirstMalformed, record_of}
-use Rattle.tune_cert.specs.Checks.{refers, alone_reason, same_reason, row_reason, reason_at, first_wrong, rows_failure, share_settings, first_failure, is_version_of, has_row_count, is_best_row}
+use Rattle.tune_cert.specs.Spelling.{Spells, record_of, cert_of}
+use Rattle.tune_cert.specs.Checks.{refers, alone_reason, same_reason, row_reason, reason_at, first_wrong, rows_failure, share_settings, failure_by, first_failure, is_version_of, has_row_count, is_best_row}
 use Rattle.tune_cert.specs.Shares.{IsValidInShare}
-use Rattle.tune_cert.specs.Verdict.{verdict_by, verdict_on, IsVerdictOf, HasRowCount, IsBestRow, IsWrongRow, IsRejected, IsCheckedBefore, IsFirstRow, IsFirst, IsRightVerdict}
+use Rattle.tune_cert.specs.Verdict.{verdict_by, verdict_on_read, IsVerdictOf, HasRowCount, IsBestRow, IsWrongRow, IsRejected, IsCheckedBefore, IsFirstRow, IsFirst, IsRightVerdict}
 use Rattle.tune_cert.specs.declared.verdict.Reason.{Reason}
 use Rattle.tune_cert.specs.declared.verdict.Reason.TheVariants.{Malformed, RowCount, BestRow, WrongPoints, RepeatedFight, CapTooHigh, NotSame, NotRefused, Version}
 use Rattle.tune_cert.specs.declared.verdict.Verdict.{Verdict}
 use Rattle.tune_cert.specs.declared.verdict.Verdict.TheVariants.{Accepted, Rejected}
-use Rattle.tune_cert.proofs.CertParts.{rows_before}
-use Rattle.tune_cert.proofs.RowLists.{have_rows}
-use Rattle.tune_cert.proofs.OneSpelling.{one_spelled}
+use Rattle.tune_cert.proofs.Statements.{one_spelled, none_malformed, cert_read, cert_spelled, cert_malformed}
 use Rattle.tune_cert.proofs.RightRows.{IsOfRow, row_some}
 use Rattle.tune_cert.proofs.FirstWrong.{IsFound, none_each, found, two_walks_some, reason_here, wrong_row, Chain, at_version, at_count, at_best, at_rows, chain_some}
 use Rattle.tune_cert.proofs.ValidShares.{version_right, right_version, count_right, right_count, best_right, right_best, valid_if_none, none_if_valid, valid_in_shares, valid_of_shares, valid_if_whole}
-
--- ---- records that spell a certificate have their forms
-
-no_more : (records : List Fields) (k : ℕ) → 2 ≤ k → length records ≤ k → IsMalformed records k → ⊥
-no_more records k two l (inl missing) = absurd (omega (arith, two, missing.0))
-no_more records k two l (inr bad) = absurd (omega (arith, l, slice_get_within records k bad.0 bad.1))
-
-length_fields : (rs : List Row) (v : ℕ) → length (rows_fields rs v) ≡ length rs
-unfolding rows_fields
-length_fields [] v = refl
-length_fields (r ∷ rs) v = ap suc (length_fields rs (v + 1))
-
-well_formed : (records : List Fields) (c : Cert) → Spells records c → (k : ℕ) → IsMalformed records k → ⊥
-unfolding cert_fields
-well_formed records c s k bad =
-    let behind = rows_fields c.rows 0 in
-    let first = count_fields c.version c.count in
-    let second = best_fields c.best c.total in
-    let here : IsMalformed (first ∷ second ∷ behind) k = subst (λ (r : List Fields). IsMalformed r k) s.text bad in
-    elim (cases_lt k (suc (suc (length c.rows)))) [
-      | inl inside ↦
-          rows_before behind first second (length c.rows) (c.version, c.count, s.cert.version, s.cert.count, refl) (c.best, c.total, s.cert.best, s.cert.total, refl)
-          (λ u l. have_rows c.rows behind [] (sym (append-nil behind)) s.cert.rows s.cert.few u l) k inside here
-      | inr outside ↦
-          no_more (first ∷ second ∷ behind) k (omega (arith, outside)) (omega (arith, outside, length_fields c.rows 0)) here
-    ]
 
 -- ---- the first wrong row
 
@@ -84,19 +53,19 @@ module _ (p : Problem) (c : Cert) (rows_are : length c.rows ≡ p.count) where
       reason_here check c.rows u r None at (none_each (reason_at check c.rows) (part_end whole p.count - part_first whole p.count) (part_first whole p.count) e u (low u) (inside u r at))
 
   -- the row that a check of refused and cap rows finds
-  alone_is : (v : ℕ) (row : Row) (reason : Reason) → alone_reason p c v row ≡ Some reason → (refers row ≡ false) × (row_reason p c v row ≡ Some reason)
+  alone_is : (v : ℕ) (row : Row) (reason : Reason) → alone_reason p c None v row ≡ Some reason → (refers row ≡ false) × (row_reason p c None v row ≡ Some reason)
   alone_is v Refused reason e = (refl, e)
   alone_is v (Same u) reason e = absurd (cc)
   alone_is v (Cap row) reason e = (refl, e)
 
-  same_is : (v : ℕ) (row : Row) (reason : Reason) → same_reason p c v row ≡ Some reason → (refers row ≡ true) × (row_reason p c v row ≡ Some reason)
+  same_is : (v : ℕ) (row : Row) (reason : Reason) → same_reason p c None v row ≡ Some reason → (refers row ≡ true) × (row_reason p c None v row ≡ Some reason)
   same_is v Refused reason e = absurd (cc)
   same_is v (Same u) reason e = (refl, e)
   same_is v (Cap row) reason e = absurd (cc)
 
   -- what is checked before a refused or a cap row
-  before_alone : (v : ℕ) (row : Row) → refers row ≡ false → ((u : ℕ) (r : Row) → u < v → slice_get c.rows u ≡ Some r → alone_reason p c u r ≡ None)
-      → (u : ℕ) (r : Row) → slice_get c.rows u ≡ Some r → IsCheckedBefore u r v row → row_reason p c u r ≡ None
+  before_alone : (v : ℕ) (row : Row) → refers row ≡ false → ((u : ℕ) (r : Row) → u < v → slice_get c.rows u ≡ Some r → alone_reason p c None u r ≡ None)
+      → (u : ℕ) (r : Row) → slice_get c.rows u ≡ Some r → IsCheckedBefore u r v row → row_reason p c None u r ≡ None
   before_alone v Refused f h u Refused at l = h u Refused l at
   before_alone v Refused f h u (Same s) at l = absurd l
   before_alone v Refused f h u (Cap r) at l = h u (Cap r) l at
@@ -106,28 +75,28 @@ module _ (p : Problem) (c : Cert) (rows_are : length c.rows ≡ p.count) where
   before_alone v (Cap row) f h u (Cap r) at l = h u (Cap r) l at
 
   -- what is checked before a row that refers to another setting
-  before_same : (v : ℕ) (row : Row) → refers row ≡ true → ((u : ℕ) (r : Row) → slice_get c.rows u ≡ Some r → alone_reason p c u r ≡ None)
-      → ((u : ℕ) (r : Row) → u < v → slice_get c.rows u ≡ Some r → same_reason p c u r ≡ None)
-      → (u : ℕ) (r : Row) → slice_get c.rows u ≡ Some r → IsCheckedBefore u r v row → row_reason p c u r ≡ None
+  before_same : (v : ℕ) (row : Row) → refers row ≡ true → ((u : ℕ) (r : Row) → slice_get c.rows u ≡ Some r → alone_reason p c None u r ≡ None)
+      → ((u : ℕ) (r : Row) → u < v → slice_get c.rows u ≡ Some r → same_reason p c None u r ≡ None)
+      → (u : ℕ) (r : Row) → slice_get c.rows u ≡ Some r → IsCheckedBefore u r v row → row_reason p c None u r ≡ None
   before_same v Refused f a h u r at l = absurd (cc)
   before_same v (Cap row) f a h u r at l = absurd (cc)
   before_same v (Same t) f a h u Refused at l = a u Refused at
   before_same v (Same t) f a h u (Same s) at l = h u (Same s) l at
   before_same v (Same t) f a h u (Cap r) at l = a u (Cap r) at
 
-  row_found : (number : ℕ) (reason : Reason) → rows_failure p c (share_settings whole p.count) ≡ Some (number, reason) → IsWrongRow p c number reason × IsFirstRow p c number
+  row_found : (number : ℕ) (reason : Reason) → rows_failure p c None (share_settings whole p.count) ≡ Some (number, reason) → IsWrongRow p c number reason × IsFirstRow p c number
   row_found number reason e = elim (two_walks_some _ _ _ e) [
     | inl alone ↦
-        let i = by_walk (alone_reason p c) number reason (found (reason_at (alone_reason p c) c.rows) _ _ number reason alone) in
+        let i = by_walk (alone_reason p c None) number reason (found (reason_at (alone_reason p c None) c.rows) _ _ number reason alone) in
         let is = alone_is i.0 i.1 reason i.4 in (
           record { vector = i.0; number_is = i.2; row = i.1; here = i.3; wrong = is.1 },
           record { vector = i.0; number_is = i.2; row = i.1; here = i.3; before = before_alone i.0 i.1 is.0 i.5 },
         )
     | inr same ↦
-        let i = by_walk (same_reason p c) number reason (found (reason_at (same_reason p c) c.rows) _ _ number reason same.1) in
+        let i = by_walk (same_reason p c None) number reason (found (reason_at (same_reason p c None) c.rows) _ _ number reason same.1) in
         let is = same_is i.0 i.1 reason i.4 in (
           record { vector = i.0; number_is = i.2; row = i.1; here = i.3; wrong = is.1 },
-          record { vector = i.0; number_is = i.2; row = i.1; here = i.3; before = before_same i.0 i.1 is.0 (alone_all (alone_reason p c) same.0) i.5 },
+          record { vector = i.0; number_is = i.2; row = i.1; here = i.3; before = before_same i.0 i.1 is.0 (alone_all (alone_reason p c None) same.0) i.5 },
         )
   ]
 
@@ -161,7 +130,7 @@ fails_not b h e x = let t = h x in let both : true ≡ false = sym t ∙ e in ab
 
 module _ (p : Problem) (laws : IsProblem p) (records : List Fields) (c : Cert) (s : Spells records c) where
   says : (number : ℕ) (reason : Reason)
-      → Chain (is_version_of p c.version) (has_row_count p c) (is_best_row p c.total (slice_get c.rows c.best)) (rows_failure p c (share_settings whole p.count)) number reason
+      → Chain (is_version_of p c.version) (has_row_count p c) (is_best_row p c.total (slice_get c.rows c.best)) (rows_failure p c None (share_settings whole p.count)) number reason
       → IsRejected p c number reason × IsFirst p records (Rejected number reason)
   says number reason (at_version f n r) =
       rw r (((n, λ (h : IsVersionOf p c.version). fails_not (is_version_of p c.version) (right_version p c.version) f h), (c, s, tt)))
@@ -173,7 +142,7 @@ module _ (p : Problem) (laws : IsProblem p) (records : List Fields) (c : Cert) (
       let many = count_right p c k in
       let i = row_found p c many.1 number reason e in
       let w = i.0 in
-      let o = row_some p c w.vector w.row reason w.wrong in
+      let o = row_some p c None w.vector w.row reason w.wrong in
       (rejected_row p c number reason o w, first_row p records c number reason o s (version_right p c.version v, many, best_right p c b, i.1))
 
   -- a certificate with a failure is not valid
@@ -186,7 +155,7 @@ module _ (p : Problem) (laws : IsProblem p) (records : List Fields) (c : Cert) (
       absurd (cc)
 
   by_failure : (o : Option (ℕ × Reason)) → first_failure p whole c ≡ o → IsRightVerdict p records (verdict_by c o)
-  unfolding first_failure
+  unfolding failure_by
   by_failure None e =
       let valid : IsValid p c = valid_if_whole p c (valid_if_none p whole c e) in
       record {
@@ -204,16 +173,20 @@ module _ (p : Problem) (laws : IsProblem p) (records : List Fields) (c : Cert) (
         accepted = λ d spelled valid. absurd (not_valid x e d spelled valid);
       }
 
-pub right_verdict : (p : Problem) (records : List Fields) (v : Verdict) → IsProblem p → IsVerdictOf p whole records v → IsRightVerdict p records v
-right_verdict p records v laws (inl (c, s, is)) =
-    subst (λ (x : Verdict). IsRightVerdict p records x) (sym is) (by_failure p laws records c s (first_failure p whole c) refl)
-right_verdict p records v laws (inr (number, bad, is)) =
-    subst (λ (x : Verdict). IsRightVerdict p records x) (sym is) (record {
+-- the verdict on what is read
+by_read : (p : Problem) (records : List Fields) (r : Result Cert ℕ) → IsProblem p → cert_of records ≡ r → IsRightVerdict p records (verdict_on_read p whole r)
+by_read p records (Ok c) laws e = by_failure p laws records c (cert_spelled records c e) (first_failure p whole c) refl
+by_read p records (Err number) laws e =
+    let bad = cert_malformed records number e in
+    record {
       holds = inl (refl, bad.malformed);
       first = bad;
       optimum = tt;
-      accepted = λ d spelled valid. absurd (well_formed records d spelled number bad.malformed);
-    })
+      accepted = λ d spelled valid. absurd (none_malformed records d spelled number bad.malformed);
+    }
+
+pub right_verdict : (p : Problem) (records : List Fields) (v : Verdict) → IsProblem p → IsVerdictOf p whole records v → IsRightVerdict p records v
+right_verdict p records v laws is = subst (λ (x : Verdict). IsRightVerdict p records x) (sym is) (by_read p records (cert_of records) laws refl)
 
 -- ---- a share that accepts
 
@@ -227,18 +200,23 @@ apart best total number reason e = cc
 -- what a share accepts is a certificate that is valid in it
 pub share_accepts : (p : Problem) (share : Part) (records : List Fields) (best total : ℕ) → IsVerdictOf p share records (Accepted best total)
     → (c : Cert) × Spells records c × IsValidInShare p share c × (best ≡ c.best) × (total ≡ c.total)
-share_accepts p share records best total (inl (c, s, is)) =
-    let one = accepts_one c (first_failure p share c) best total is in
-    (c, s, valid_if_none p share c one.0, one.1, one.2)
-share_accepts p share records best total (inr (number, bad, is)) = absurd (apart best total number Malformed is)
+share_accepts p share records best total is = by (cert_of records) refl is
+  where
+    by : (r : Result Cert ℕ) → cert_of records ≡ r → Accepted best total ≡ verdict_on_read p share r
+        → (c : Cert) × Spells records c × IsValidInShare p share c × (best ≡ c.best) × (total ≡ c.total)
+    by (Ok c) e is =
+        let one = accepts_one c (first_failure p share c) best total is in
+        (c, cert_spelled records c e, valid_if_none p share c one.0, one.1, one.2)
+    by (Err number) e is = absurd (apart best total number Malformed is)
+
+-- the verdict of a share on a valid certificate
+pub valid_verdict : (p : Problem) → IsProblem p → (share : Part) (records : List Fields) (c : Cert) → Spells records c → IsValid p c → IsVerdictOf p share records (Accepted c.best c.total)
+valid_verdict p laws share records c s valid = sym (ap (verdict_on_read p share) (cert_read records c s) ∙ ap (verdict_by c) (none_if_valid p share c (valid_in_shares p c laws valid share)))
 
 -- a valid certificate is accepted in each share
 pub accepted_in_share : (p : Problem) → IsProblem p → (share : Part) (records : List Fields) (v : Verdict) (c : Cert) → Spells records c → IsValid p c → IsVerdictOf p share records v
     → v ≡ Accepted c.best c.total
-accepted_in_share p laws share records v c s valid (inl (d, t, is)) =
-    let same : d ≡ c = one_spelled records d c t s in
-    is ∙ (ap (verdict_on p share) same ∙ ap (verdict_by c) (none_if_valid p share c (valid_in_shares p c laws valid share)))
-accepted_in_share p laws share records v c s valid (inr (number, bad, is)) = absurd (well_formed records c s number bad.malformed)
+accepted_in_share p laws share records v c s valid is = is ∙ sym (valid_verdict p laws share records c s valid)
 
 -- what all shares accept is a valid certificate
 pub shares_accept : (p : Problem) (shares : ℕ) (records : List Fields) → 1 ≤ shares
@@ -257,20 +235,6 @@ shares_accept p shares records some each =
           subst (λ (k : Cert). IsValidInShare p (part n shares) k) same here.2),
     )
 
--- the verdict of a share on a valid certificate
-pub valid_verdict : (p : Problem) → IsProblem p → (share : Part) (records : List Fields) (c : Cert) → Spells records c → IsValid p c → IsVerdictOf p share records (Accepted c.best c.total)
-valid_verdict p laws share records c s valid = inl (c, s, sym (ap (verdict_by c) (none_if_valid p share c (valid_in_shares p c laws valid share))))
-
--- ---- records have one verdict
-
-one_malformed : (records : List Fields) (n m : ℕ) → IsFirstMalformed records n → IsFirstMalformed records m → n ≡ m
-one_malformed records n m a b = elim (cases_lt n m) [
-  | inl l ↦ absurd (b.first n l a.malformed)
-  | inr l ↦ elim (cases_lt m n) [ inl k ↦ absurd (a.first m k b.malformed) | inr k ↦ omega (arith, l, k) ]
-]
-
+-- records have one verdict
 pub one_verdict : (p : Problem) (share : Part) (records : List Fields) (v w : Verdict) → IsVerdictOf p share records v → IsVerdictOf p share records w → v ≡ w
-one_verdict p share records v w (inl (c, s, is)) (inl (d, t, js)) = is ∙ (ap (verdict_on p share) (one_spelled records c d s t) ∙ sym js)
-one_verdict p share records v w (inl (c, s, is)) (inr (m, bad, js)) = absurd (well_formed records c s m bad.malformed)
-one_verdict p share records v w (inr (n, bad, is)) (inl (d, t, js)) = absurd (well_formed records d t n bad.malformed)
-one_verdict p share records v w (inr (n, bad, is)) (inr (m, worse, js)) = is ∙ (ap (λ k. Rejected k Malformed) (one_malformed records n m bad worse) ∙ sym js)
+one_verdict p share records v w e f = e ∙ sym f

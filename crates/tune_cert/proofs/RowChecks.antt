@@ -6,10 +6,11 @@ use Rattle.std.proofs.lemmas.List.{length-map}
 use Rattle.std.proofs.lemmas.List.FromFn.{length-range_with_len}
 use Rattle.rc_instr.specs.Warrior.{WarriorView}
 use Rattle.tune_problem.specs.Problem.{Problem}
-use Rattle.tune_problem.specs.Optimum.{most_besides, cap_of, all_fights}
+use Rattle.tune_problem.specs.Optimum.{all_fights}
 use Rattle.tune_problem.specs.Valid.{listed_indices, IsCapRow}
-use Rattle.tune_problem.proofs.CapRows.{row_sum}
-use Rattle.tune_cert.specs.Checks.{rises, are_fights, have_points, lists_all, listed_cap}
+use Rattle.tune_problem.specs.Exact.{lists_all}
+use Rattle.tune_problem.proofs.ListedRanks.{up_to}
+use Rattle.tune_cert.specs.Checks.{rises, are_fights, have_points}
 
 -- ---- a cap row rises and has its points
 
@@ -36,11 +37,6 @@ points_fights p w (e ∷ row) h =
     let points = and_parts _ _ h in
     and_from _ _ (and_parts _ _ points.0).0 (points_fights p w row points.1)
 
--- the cap by the points that a cap row lists
-pub listed_is_cap : (p : Problem) (w : WarriorView) (row : List (ℕ × ℕ)) → IsCapRow p w 0 row → listed_cap p row ≡ cap_of p w (listed_indices row)
-unfolding cap_of
-listed_is_cap p w row h = ap (λ n. n + most_besides p (listed_indices row)) (row_sum p w 0 row h)
-
 -- ---- fights that rise, whatever points are listed
 
 -- the same fights, with the points of a warrior
@@ -59,10 +55,6 @@ played_indices p w [] = refl
 played_indices p w (e ∷ row) = ap (λ ks. e.0 ∷ ks) (played_indices p w row)
 
 -- ---- all fights by index
-
-pub up_to : (n a : ℕ) (row : List (ℕ × ℕ)) → lists_all n a row ≡ true → n ≡ a + length row
-up_to n a [] h = omega (arith, eqb-true a n h)
-up_to n a (e ∷ row) h = omega (arith, up_to n (a + 1) row (and_parts _ _ h).1)
 
 indices_are : (n a m : ℕ) (row : List (ℕ × ℕ)) → n ≡ a + m → lists_all n a row ≡ true → listed_indices row ≡ range_with_len a m
 indices_are n a zero [] is h = refl

@@ -10,6 +10,7 @@ use Rattle.tune_problem.specs.Parts.{part, whole, part_first, part_end}
 use Rattle.tune_problem.specs.Problem.{Problem, IsProblem}
 use Rattle.tune_problem.specs.Optimum.{beats, all_fights}
 use Rattle.tune_problem.specs.Valid.{listed_total, IsVersionOf, IsOwnVersion, IsCapRow, IsRightRow, IsValid}
+use Rattle.tune_problem.specs.declared.aim.Aim.{Aim}
 use Rattle.tune_problem.specs.declared.cert.Cert.{Cert}
 use Rattle.tune_problem.specs.declared.cert.Row.{Row}
 use Rattle.tune_problem.specs.declared.cert.Row.TheVariants.{Refused, Same, Cap}
@@ -17,13 +18,14 @@ use Rattle.tune_problem.specs.declared.part.Part.{Part}
 use Rattle.tune_problem.proofs.CapRows.{whole as whole_row}
 use Rattle.tune_problem.proofs.Certificates.{some_is, same_number}
 use Rattle.tune_problem.proofs.WholeOfParts.{in_a_part}
-use Rattle.tune_cert.specs.Checks.{alone_reason, same_reason, row_reason, reason_at, rows_failure, share_settings, first_failure, first_wrong, first_of, is_version_of, has_row_count, is_best_row}
+use Rattle.tune_cert.specs.Checks.{alone_reason, same_reason, row_reason, reason_at, rows_failure, share_settings, failure_by, first_failure, first_wrong, first_of, is_version_of, has_row_count, is_best_row}
 use Rattle.tune_cert.specs.Shares.{IsRightInShare, IsValidInShare}
 use Rattle.tune_cert.specs.Verdict.{verdict_by, verdict_on, HasRowCount, IsBestRow}
 use Rattle.tune_cert.specs.declared.verdict.Reason.{Reason}
 use Rattle.tune_cert.specs.declared.verdict.Verdict.TheVariants.{Accepted}
-use Rattle.tune_cert.proofs.RowChecks.{cap_row_rises, cap_row_points, points_fights, listed_is_cap, all_indices, indices_all, all_listed}
-use Rattle.tune_cert.proofs.RightRows.{right_if_none, none_if_right}
+use Rattle.tune_problem.proofs.ListedRanks.{listed_is_cap}
+use Rattle.tune_cert.proofs.RowChecks.{cap_row_rises, cap_row_points, points_fights, all_indices, indices_all, all_listed}
+use Rattle.tune_cert.proofs.RightRows.{right_if_none, none_if_right, no_aim}
 use Rattle.tune_cert.proofs.FirstWrong.{none_each, each_none, two_walks_none, reason_here, here_reason, chain, chain_none, all_each, each_all}
 use Rattle.std.proofs.Common.{inl, inr}
 
@@ -69,82 +71,123 @@ right_best p c h =
 
 -- ---- a row by its two checks
 
-split_row : (p : Problem) (c : Cert) (v : ℕ) (row : Row) → alone_reason p c v row ≡ None → same_reason p c v row ≡ None → row_reason p c v row ≡ None
-split_row p c v Refused a s = a
-split_row p c v (Same u) a s = s
-split_row p c v (Cap row) a s = a
+split_row : (p : Problem) (c : Cert) (aim : Option Aim) (v : ℕ) (row : Row) → alone_reason p c aim v row ≡ None → same_reason p c aim v row ≡ None → row_reason p c aim v row ≡ None
+split_row p c aim v Refused a s = a
+split_row p c aim v (Same u) a s = s
+split_row p c aim v (Cap row) a s = a
 
-alone_none : (p : Problem) (c : Cert) (v : ℕ) (row : Row) → row_reason p c v row ≡ None → alone_reason p c v row ≡ None
-alone_none p c v Refused e = e
-alone_none p c v (Same u) e = refl
-alone_none p c v (Cap row) e = e
+alone_none : (p : Problem) (c : Cert) (aim : Option Aim) (v : ℕ) (row : Row) → row_reason p c aim v row ≡ None → alone_reason p c aim v row ≡ None
+alone_none p c aim v Refused e = e
+alone_none p c aim v (Same u) e = refl
+alone_none p c aim v (Cap row) e = e
 
-same_none : (p : Problem) (c : Cert) (v : ℕ) (row : Row) → row_reason p c v row ≡ None → same_reason p c v row ≡ None
-same_none p c v Refused e = refl
-same_none p c v (Same u) e = e
-same_none p c v (Cap row) e = refl
+same_none : (p : Problem) (c : Cert) (aim : Option Aim) (v : ℕ) (row : Row) → row_reason p c aim v row ≡ None → same_reason p c aim v row ≡ None
+same_none p c aim v Refused e = refl
+same_none p c aim v (Same u) e = e
+same_none p c aim v (Cap row) e = refl
 
 -- ---- what a share accepts is valid in it
 
 -- the first failure by the four checks
-pub chain_by : (p : Problem) (share : Part) (c : Cert) (a b d : Bool) (o : Option (ℕ × Reason)) → is_version_of p c.version ≡ a → has_row_count p c ≡ b
-    → is_best_row p c.total (slice_get c.rows c.best) ≡ d → rows_failure p c (share_settings share p.count) ≡ o → first_failure p share c ≡ chain a b d o
-unfolding first_failure
-chain_by p share c a b d o e f g h =
-    let rows = rows_failure p c (share_settings share p.count) in
-    let best = is_best_row p c.total (slice_get c.rows c.best) in
-    ap (λ x. chain x (has_row_count p c) best rows) e ∙ (ap (λ x. chain a x best rows) f ∙ (ap (λ x. chain a b x rows) g ∙ ap (chain a b d) h))
+pub chain_by : (p : Problem) (share : Part) (c : Cert) (answered : Bool) (aim : Option Aim) (a b d : Bool) (o : Option (ℕ × Reason)) → is_version_of p c.version ≡ a → has_row_count p c ≡ b
+    → answered ≡ d → rows_failure p c aim (share_settings share p.count) ≡ o → failure_by p share answered aim c ≡ chain a b d o
+unfolding failure_by
+chain_by p share c answered aim a b d o e f g h =
+    let rows = rows_failure p c aim (share_settings share p.count) in
+    ap (λ x. chain x (has_row_count p c) answered rows) e ∙ (ap (λ x. chain a x answered rows) f ∙ (ap (λ x. chain a b x rows) g ∙ ap (chain a b d) h))
 
-module _ (p : Problem) (share : Part) (c : Cert) where
-  row_right : rows_failure p c (share_settings share p.count) ≡ None → (v : ℕ) (row : Row) → part_first share p.count ≤ v → v < part_end share p.count → slice_get c.rows v ≡ Some row
-      → IsRightInShare p c v row
-  row_right e v row low high at =
+-- nothing is wrong with the rows of a share exactly if nothing is with each
+module _ (p : Problem) (share : Part) (c : Cert) (aim : Option Aim) where
+  abbrev pub RowsRight : Type 0
+  RowsRight = (v : ℕ) (row : Row) → part_first share p.count ≤ v → v < part_end share p.count → slice_get c.rows v ≡ Some row → row_reason p c aim v row ≡ None
+
+  pub rows_each : rows_failure p c aim (share_settings share p.count) ≡ None → RowsRight
+  rows_each e v row low high at =
       let inside : v < part_first share p.count + (part_end share p.count - part_first share p.count) = omega (arith, low, high) in
       let parts = two_walks_none _ _ e in
-      let alone = none_each (reason_at (alone_reason p c) c.rows) (part_end share p.count - part_first share p.count) (part_first share p.count) parts.0 v low inside in
-      let same = none_each (reason_at (same_reason p c) c.rows) (part_end share p.count - part_first share p.count) (part_first share p.count) parts.1 v low inside in
-      right_if_none p c v row
-      (split_row p c v row (reason_here (alone_reason p c) c.rows v row None at alone) (reason_here (same_reason p c) c.rows v row None at same))
+      let alone = none_each (reason_at (alone_reason p c aim) c.rows) (part_end share p.count - part_first share p.count) (part_first share p.count) parts.0 v low inside in
+      let same = none_each (reason_at (same_reason p c aim) c.rows) (part_end share p.count - part_first share p.count) (part_first share p.count) parts.1 v low inside in
+      split_row p c aim v row (reason_here (alone_reason p c aim) c.rows v row None at alone) (reason_here (same_reason p c aim) c.rows v row None at same)
 
-  pub valid_if_none : first_failure p share c ≡ None → IsValidInShare p share c
-  unfolding first_failure
-  valid_if_none e =
+  pub each_rows : RowsRight → rows_failure p c aim (share_settings share p.count) ≡ None
+  each_rows right =
+      let first = part_first share p.count in
+      let each : (v : ℕ) (row : Row) → first ≤ v → v < first + (part_end share p.count - first) → slice_get c.rows v ≡ Some row → row_reason p c aim v row ≡ None =
+      λ v row low high at. right v row low (omega (arith, low, high)) at in
+      let alone = each_none (reason_at (alone_reason p c aim) c.rows) (part_end share p.count - first) first
+      (λ v low high. here_reason (alone_reason p c aim) c.rows v None (λ row at. alone_none p c aim v row (each v row low high at)) refl) in
+      let same = each_none (reason_at (same_reason p c aim) c.rows) (part_end share p.count - first) first
+      (λ v low high. here_reason (same_reason p c aim) c.rows v None (λ row at. same_none p c aim v row (each v row low high at)) refl) in
+      ap (λ o. first_of (o ∷ first_wrong (reason_at (same_reason p c aim) c.rows) (share_settings share p.count) ∷ [])) alone ∙ ap (λ o. first_of (None ∷ o ∷ [])) same
+
+  -- nothing is wrong exactly if each of the four checks finds nothing
+  pub four_checks : (answered : Bool) → failure_by p share answered aim c ≡ None → IsVersionOf p c.version × HasRowCount p c × (answered ≡ true) × RowsRight
+  unfolding failure_by
+  four_checks answered e =
       let checks = chain_none _ _ _ _ e in
-      let count = count_right p c checks.1 in
+      (version_right p c.version checks.0, count_right p c checks.1, checks.2, rows_each checks.3)
+
+  pub checks_four : (answered : Bool) → IsVersionOf p c.version → HasRowCount p c → answered ≡ true → RowsRight → failure_by p share answered aim c ≡ None
+  checks_four answered version count answer right =
+      chain_by p share c answered aim true true true None (right_version p c.version version) (right_count p c count) answer (each_rows right)
+
+module _ (p : Problem) (share : Part) (c : Cert) where
+  pub valid_if_none : first_failure p share c ≡ None → IsValidInShare p share c
+  valid_if_none e =
+      let checks = four_checks p share c None (is_best_row p c.total (slice_get c.rows c.best)) e in
       let best = best_right p c checks.2 in
       record {
-        version_is = version_right p c.version checks.0;
-        count_is = count.0;
-        rows_are = count.1;
+        version_is = checks.0;
+        count_is = checks.1.0;
+        rows_are = checks.1.1;
         best_row = best.row;
         best_at = best.here;
         every = best.every;
         sums = best.sums;
-        right = row_right checks.3;
+        right = λ v row low high at. right_if_none p c None v row (checks.3 v row low high at);
       }
-
-  rows_none : IsValidInShare p share c → rows_failure p c (share_settings share p.count) ≡ None
-  rows_none valid =
-      let first = part_first share p.count in
-      let each : (v : ℕ) (row : Row) → first ≤ v → v < first + (part_end share p.count - first) → slice_get c.rows v ≡ Some row → row_reason p c v row ≡ None =
-      λ v row low high at. none_if_right p c v row (valid.right v row low (omega (arith, low, high)) at) in
-      let alone = each_none (reason_at (alone_reason p c) c.rows) (part_end share p.count - first) first
-      (λ v low high. here_reason (alone_reason p c) c.rows v None (λ row at. alone_none p c v row (each v row low high at)) refl) in
-      let same = each_none (reason_at (same_reason p c) c.rows) (part_end share p.count - first) first
-      (λ v low high. here_reason (same_reason p c) c.rows v None (λ row at. same_none p c v row (each v row low high at)) refl) in
-      ap (λ o. first_of (o ∷ first_wrong (reason_at (same_reason p c) c.rows) (share_settings share p.count) ∷ [])) alone ∙ ap (λ o. first_of (None ∷ o ∷ [])) same
 
   pub none_if_valid : IsValidInShare p share c → first_failure p share c ≡ None
   none_if_valid valid =
-      let version : is_version_of p c.version ≡ true = right_version p c.version valid.version_is in
-      let count : has_row_count p c ≡ true = right_count p c (valid.count_is, valid.rows_are) in
-      let best : is_best_row p c.total (slice_get c.rows c.best) ≡ true =
-      right_best p c (record { row = valid.best_row; here = valid.best_at; every = valid.every; sums = valid.sums }) in
-      chain_by p share c true true true None version count best (rows_none valid)
+      checks_four p share c None (is_best_row p c.total (slice_get c.rows c.best)) valid.version_is (valid.count_is, valid.rows_are)
+      (right_best p c (record { row = valid.best_row; here = valid.best_at; every = valid.every; sums = valid.sums }))
+      (λ v row low high at. none_if_right p c None v row (valid.right v row low high at) (no_aim p c.rows v row))
 
 -- ---- all shares together
 
+-- rows that are all right in a share are right, and the other way round
 module _ (p : Problem) (c : Cert) where
+  pub all_right : length c.rows ≡ p.count → ((v : ℕ) (row : Row) → slice_get c.rows v ≡ Some row → IsRightInShare p c v row) → (v : ℕ) (row : Row) → slice_get c.rows v ≡ Some row → IsRightRow p c v row
+  all_right rows_are each v Refused at = each v Refused at
+  all_right rows_are each v (Cap row) at = each v (Cap row) at
+  all_right rows_are each v (Same u) at =
+      let h = each v (Same u) at in
+      let w = h.0 in
+      let row = h.1 in
+      let of = each u (Cap row) h.5 in
+      let same : of.0 ≡ w = some_is _ _ (sym of.1 ∙ h.4) in
+      let is_row : IsCapRow p w 0 row = subst (λ (x : WarriorView). IsCapRow p x 0 row) same of.2 in
+      let within = slice_get_within c.rows u (Cap row) h.5 in
+      (w, row, h.2, omega (arith, within, rows_are), h.3, h.4, h.5, subst (λ (n : ℕ). beats n v c.total c.best ≡ false) (listed_is_cap p w row is_row) h.8)
+
+  pub right_all : ((v : ℕ) (row : Row) → slice_get c.rows v ≡ Some row → IsRightRow p c v row) → (v : ℕ) (row : Row) → IsRightRow p c v row → IsRightInShare p c v row
+  right_all each v Refused h = h
+  right_all each v (Cap row) h = h
+  right_all each v (Same u) (w, row, other, l, own, theirs, at, low) =
+      let of = each u (Cap row) at in
+      let same : of.0 ≡ w = some_is _ _ (sym of.1 ∙ theirs) in
+      let is_row : IsCapRow p w 0 row = subst (λ (x : WarriorView). IsCapRow p x 0 row) same of.2 in (
+        w,
+        row,
+        other,
+        own,
+        theirs,
+        at,
+        cap_row_rises p w 0 row is_row,
+        points_fights p w row (cap_row_points p w 0 row is_row),
+        subst (λ (n : ℕ). beats n v c.total c.best ≡ false) (sym (listed_is_cap p w row is_row)) low,
+      )
+
   module _ (shares : ℕ) (some : 1 ≤ shares) (each : (n : ℕ) → 1 ≤ n → n ≤ shares → IsValidInShare p (part n shares) c) where
     one : IsValidInShare p (part 1 shares) c
     one = each 1 (omega arith) some
@@ -157,18 +200,6 @@ module _ (p : Problem) (c : Cert) where
         let found = in_a_part p.count shares some v (inside v row at) in
         (each found.0 found.1 found.2).right v row found.3 found.4 at
 
-    right_row : (v : ℕ) (row : Row) → slice_get c.rows v ≡ Some row → IsRightRow p c v row
-    right_row v Refused at = share_right v Refused at
-    right_row v (Cap row) at = share_right v (Cap row) at
-    right_row v (Same u) at =
-        let h = share_right v (Same u) at in
-        let w = h.0 in
-        let row = h.1 in
-        let of = share_right u (Cap row) h.5 in
-        let same : of.0 ≡ w = some_is _ _ (sym of.1 ∙ h.4) in
-        let is_row : IsCapRow p w 0 row = subst (λ (x : WarriorView). IsCapRow p x 0 row) same of.2 in
-        (w, row, h.2, inside u (Cap row) h.5, h.3, h.4, h.5, subst (λ (n : ℕ). beats n v c.total c.best ≡ false) (listed_is_cap p w row is_row) h.8)
-
     pub valid_of_shares : IsValid p c
     valid_of_shares = record {
       version_is = one.version_is;
@@ -179,28 +210,10 @@ module _ (p : Problem) (c : Cert) where
       best_at = one.best_at;
       whole = all_listed p one.best_row one.every;
       sums = one.sums;
-      right = right_row;
+      right = all_right one.rows_are share_right;
     }
 
   module _ (laws : IsProblem p) (valid : IsValid p c) where
-    share_row : (v : ℕ) (row : Row) → IsRightRow p c v row → IsRightInShare p c v row
-    share_row v Refused h = h
-    share_row v (Cap row) h = h
-    share_row v (Same u) (w, row, other, l, own, theirs, at, low) =
-        let of = valid.right u (Cap row) at in
-        let same : of.0 ≡ w = some_is _ _ (sym of.1 ∙ theirs) in
-        let is_row : IsCapRow p w 0 row = subst (λ (x : WarriorView). IsCapRow p x 0 row) same of.2 in (
-          w,
-          row,
-          other,
-          own,
-          theirs,
-          at,
-          cap_row_rises p w 0 row is_row,
-          points_fights p w row (cap_row_points p w 0 row is_row),
-          subst (λ (n : ℕ). beats n v c.total c.best ≡ false) (sym (listed_is_cap p w row is_row)) low,
-        )
-
     pub valid_in_shares : (share : Part) → IsValidInShare p share c
     valid_in_shares share =
         let h = valid.right c.best (Cap valid.best_row) valid.best_at in
@@ -212,7 +225,7 @@ module _ (p : Problem) (c : Cert) where
           best_at = valid.best_at;
           every = whole_row p laws h.0 p.fights 0 valid.best_row (omega arith) h.2 valid.whole;
           sums = valid.sums;
-          right = λ v row low high at. share_row v row (valid.right v row at);
+          right = λ v row low high at. right_all valid.right v row (valid.right v row at);
         }
 
   -- the whole is share 1 of 1

@@ -2,8 +2,8 @@
 use Rattle.std.proofs.Common.{◌≡◌, ℕ, ◌<◌, ◌+◌, List, [], ◌∷◌, ◌++◌, length, drop, get_or, refl, sym, ◌∙◌, ap, append_assoc, append-nil, add-one}
 use Rattle.std.proofs.Math.Seq.{drop-cons}
 use Rattle.csv.specs.Writing.{default_writer, row_text}
-use Rattle.tune_cert.specs.CertText.{rows_fields, row_fields, count_fields, best_fields, cert_fields, records_text, cert_text}
-use Rattle.tune_problem.specs.declared.cert.Cert.{Cert}
+use Rattle.tune_cert.specs.CertText.{rows_fields, row_fields, count_fields, answer_fields, records_text, statement_text, statement_fields}
+use Rattle.tune_problem.specs.declared.statement.Statement.{Statement}
 use Rattle.tune_problem.specs.declared.cert.Row.{Row}
 
 rows_step : (rows : List Row) (i n : ℕ) (row : Row) → i < length rows → row ≡ get_or rows i row
@@ -28,8 +28,8 @@ all_written rows i n text whole e h =
     let none = none_left rows i e in
     sym (append-nil text) ∙ ap (λ (r : List Row). text ++ records_text (rows_fields r n)) (sym none) ∙ h
 
-pub whole_text : (c : Cert) (a b text : List ℕ) → a ≡ row_text default_writer (count_fields c.version c.count) → b ≡ a ++ row_text default_writer (best_fields c.best c.total) → text ≡ b ++ records_text (rows_fields c.rows 0) → text ≡ cert_text c
-unfolding cert_text cert_fields records_text
-whole_text c a b text p q r =
-    r ∙ ap (λ (t : List ℕ). t ++ records_text (rows_fields c.rows 0)) (q ∙ ap (λ (t : List ℕ). t ++ row_text default_writer (best_fields c.best c.total)) p)
-    ∙ append_assoc (row_text default_writer (count_fields c.version c.count)) (row_text default_writer (best_fields c.best c.total)) (records_text (rows_fields c.rows 0))
+pub whole_text : (s : Statement) (a b text : List ℕ) → a ≡ row_text default_writer (count_fields s.version s.count) → b ≡ a ++ row_text default_writer (answer_fields s.answer) → text ≡ b ++ records_text (rows_fields s.rows 0) → text ≡ statement_text s
+unfolding statement_text statement_fields records_text
+whole_text s a b text p q r =
+    r ∙ ap (λ (t : List ℕ). t ++ records_text (rows_fields s.rows 0)) (q ∙ ap (λ (t : List ℕ). t ++ row_text default_writer (answer_fields s.answer)) p)
+    ∙ append_assoc (row_text default_writer (count_fields s.version s.count)) (row_text default_writer (answer_fields s.answer)) (records_text (rows_fields s.rows 0))

@@ -1,5 +1,5 @@
 -- What is written is read again.
-use Rattle.std.proofs.Common.{◌≡◌, ℕ, zero, suc, ◌<◌, ◌≤◌, ◌+◌, List, [], ◌∷◌, ◌++◌, length, map, refl, ◌∙◌, ap, arith, length-append}
+use Rattle.std.proofs.Common.{◌≡◌, ℕ, zero, suc, ◌<◌, ◌≤◌, ◌+◌, List, [], ◌∷◌, ◌++◌, length, map, true, Ok, refl, ◌∙◌, ap, arith, length-append}
 use Rattle.std.specs.Prelude.{if◌then◌else◌}
 use Rattle.csv.specs.Reading.{default_config, records_from, strip_bom}
 use Rattle.csv.specs.Writing.{default_writer, row_text, row_body, is_blank, fields_text, read_back}
@@ -7,10 +7,14 @@ use Rattle.csv.specs.declared.parser.State.TheVariants as st
 use Rattle.csv.proofs.RoundTrip.{read-write}
 use Rattle.tables.proofs.Reading.{none_left}
 use Rattle.tables.specs.Records.{Fields, records_of}
-use Rattle.tune_cert.specs.CertText.{rows_fields, row_fields, cert_fields, count_fields, best_fields, records_text, cert_text}
-use Rattle.tune_cert.specs.Spelling.{IsCert, Spells}
+use Rattle.tune_cert.specs.CertText.{rows_fields, row_fields, answer_fields, records_text, cert_text, statement_text, statement_fields, stated}
+use Rattle.tune_cert.specs.Spelling.{IsCert, IsStatement, Spells, statement_of}
 use Rattle.tune_problem.specs.declared.cert.Row.{Row}
 use Rattle.tune_problem.specs.declared.cert.Cert.{Cert}
+use Rattle.tune_problem.specs.declared.statement.Answer.{Answer}
+use Rattle.tune_problem.specs.declared.statement.Answer.TheVariants.{Best as TheBest, NoneFrom}
+use Rattle.tune_problem.specs.declared.statement.Statement.{Statement}
+use Rattle.tune_cert.proofs.Statements.{with_floors, statement_read}
 
 written_from : (records : List Fields) (n : ℕ) → length records ≤ n → records_from default_config n st.StartRecord (records_text records) ≡ map read_back records
 unfolding records_from records_text
@@ -34,21 +38,28 @@ unfolding rows_fields
 rows_back [] v = refl
 rows_back (row ∷ rows) v = ap (λ (t : List Fields). row_fields v row ∷ t) (rows_back rows (v + 1))
 
-cert_back : (c : Cert) → map read_back (cert_fields c) ≡ cert_fields c
-unfolding cert_fields
-cert_back c = ap (λ (t : List Fields). count_fields c.version c.count ∷ best_fields c.best c.total ∷ t) (rows_back c.rows 0)
+answer_back : (answer : Answer) → read_back (answer_fields answer) ≡ answer_fields answer
+answer_back (TheBest best) = refl
+answer_back (NoneFrom floor) = refl
 
--- a certificate begins with no byte order mark
-no_mark : (c : Cert) → strip_bom (cert_text c) ≡ cert_text c
-unfolding cert_text cert_fields records_text strip_bom is_blank fields_text
-no_mark c = refl
+statement_back : (s : Statement) → map read_back (statement_fields s) ≡ statement_fields s
+unfolding statement_fields
+statement_back s = rw (answer_back s.answer, rows_back s.rows 0) refl
+
+-- a statement begins with no byte order mark
+no_mark : (s : Statement) → strip_bom (statement_text s) ≡ statement_text s
+unfolding statement_text statement_fields records_text strip_bom is_blank fields_text
+no_mark s = refl
+
+written_records : (s : Statement) → records_of (statement_text s) ≡ statement_fields s
+unfolding records_of statement_text
+written_records s =
+    ap (λ (t : List ℕ). records_from default_config (length t + 1) st.StartRecord t) (no_mark s)
+    ∙ written_from (statement_fields s) (length (records_text (statement_fields s)) + 1) (omega (arith, enough_text (statement_fields s)))
+    ∙ statement_back s
 
 pub written : (c : Cert) → IsCert c → Spells (records_of (cert_text c)) c
-unfolding records_of cert_text
-written c h = record {
-  cert = h;
-  text =
-      ap (λ (t : List ℕ). records_from default_config (length t + 1) st.StartRecord t) (no_mark c)
-      ∙ written_from (cert_fields c) (length (records_text (cert_fields c)) + 1) (omega (arith, enough_text (cert_fields c)))
-      ∙ cert_back c;
-}
+written c h = record { cert = h; text = written_records (stated c) }
+
+pub written_statement : (s : Statement) → IsStatement s → statement_of true (records_of (statement_text s)) ≡ Ok s
+written_statement s h = ap (statement_of true) (written_records s) ∙ statement_read true s h (with_floors s.answer)

@@ -1,11 +1,15 @@
--- The text of a certificate: records of three fields, as the crate `csv` writes them by default.
-use Rattle.std.specs.Prelude.{ℕ, ◌+◌, List, [], ◌∷◌, ◌++◌, codes, flat_map}
+-- The text of a certificate, with either answer: records of three fields, as the crate `csv` writes
+-- them by default.
+use Rattle.std.specs.Prelude.{ℕ, ◌+◌, List, [], ◌∷◌, ◌++◌, codes, flat_map, length}
 use Rattle.std.specs.Fmt.{decimal}
 use Rattle.csv.specs.Writing.{default_writer, row_text}
 use Rattle.tables.specs.Records.{Fields}
 use Rattle.tune_problem.specs.declared.cert.Cert.{Cert}
 use Rattle.tune_problem.specs.declared.cert.Row.{Row}
 use Rattle.tune_problem.specs.declared.cert.Row.TheVariants.{Refused, Same, Cap}
+use Rattle.tune_problem.specs.declared.statement.Answer.{Answer}
+use Rattle.tune_problem.specs.declared.statement.Answer.TheVariants.{Best as TheBest, NoneFrom}
+use Rattle.tune_problem.specs.declared.statement.Statement.{Statement}
 
 -- A fight with its points: `7:3`.
 unfoldable pub item_text : ℕ × ℕ → List ℕ
@@ -46,13 +50,35 @@ count_fields version count = codes "cwcert" ∷ decimal version ∷ decimal coun
 abbrev pub best_fields : ℕ → ℕ → Fields
 best_fields best total = codes "best" ∷ decimal best ∷ decimal total ∷ []
 
--- A certificate has a record for the count, one for the best setting, and one for each setting.
-unfoldable pub cert_fields : Cert → List Fields
-cert_fields c = count_fields c.version c.count ∷ best_fields c.best c.total ∷ rows_fields c.rows 0
+-- `none,-,F`: no setting totals F or more.
+abbrev pub none_fields : ℕ → Fields
+none_fields floor = codes "none" ∷ codes "-" ∷ decimal floor ∷ []
+
+abbrev pub answer_fields : Answer → Fields
+answer_fields (TheBest best) = best_fields best.vector best.total
+answer_fields (NoneFrom floor) = none_fields floor
+
+-- A statement has a record for the count, one for the answer, and one for each setting.
+unfoldable pub statement_fields : Statement → List Fields
+statement_fields s = count_fields s.version s.count ∷ answer_fields s.answer ∷ rows_fields s.rows 0
 
 unfoldable pub records_text : List Fields → List ℕ
 records_text [] = []
 records_text (fields ∷ records) = row_text default_writer fields ++ records_text records
 
-unfoldable pub cert_text : Cert → List ℕ
-cert_text c = records_text (cert_fields c)
+unfoldable pub statement_text : Statement → List ℕ
+statement_text s = records_text (statement_fields s)
+
+-- The statement of such an answer by these rows, one for each setting.
+abbrev pub statement_with : (version : ℕ) → Answer → List Row → Statement
+statement_with version answer rows = record { version = version; count = length rows; answer = answer; rows = rows }
+
+-- A certificate as a statement.
+abbrev pub stated : Cert → Statement
+stated c = record { version = c.version; count = c.count; answer = TheBest (record { vector = c.best; total = c.total }); rows = c.rows }
+
+abbrev pub cert_fields : Cert → List Fields
+cert_fields c = statement_fields (stated c)
+
+abbrev pub cert_text : Cert → List ℕ
+cert_text c = statement_text (stated c)

@@ -7,8 +7,11 @@ use Rattle.rc_instr.specs.Warrior.{WarriorView}
 use Rattle.rc_instr.specs.declared.instruction.Instruction.{Instruction}
 use Rattle.tune_problem.specs.Parts.{part_first, part_end}
 use Rattle.tune_problem.specs.Problem.{Problem}
-use Rattle.tune_problem.specs.Optimum.{all_fights, beats, most_besides}
-use Rattle.tune_problem.specs.Valid.{listed_indices, listed_total, listed_in}
+use Rattle.tune_problem.specs.Optimum.{all_fights, beats}
+use Rattle.tune_problem.specs.Valid.{listed_total, listed_in}
+use Rattle.tune_problem.specs.Ranking.{contends}
+use Rattle.tune_problem.specs.Exact.{lists_all, listed_cap, listed_ranking}
+use Rattle.tune_problem.specs.declared.aim.Aim.{Aim}
 use Rattle.tune_problem.specs.declared.cert.Cert.{Cert}
 use Rattle.tune_problem.specs.declared.cert.Row.{Row}
 use Rattle.tune_problem.specs.declared.cert.Row.TheVariants.{Refused, Same, Cap}
@@ -54,13 +57,15 @@ abbrev pub has_points : Problem → Option WarriorView → List (ℕ × ℕ) →
 has_points p None row = false
 has_points p (Some w) row = have_points p w row
 
--- The cap of a row: the scores that it lists, and the most that the other fights can give.
-abbrev pub listed_cap : Problem → List (ℕ × ℕ) → ℕ
-listed_cap p row = listed_total p row + most_besides p (listed_indices row)
-
 -- The cap of a row, as one of setting v, does not beat the best setting.
 abbrev pub is_no_better : Problem → Cert → ℕ → List (ℕ × ℕ) → Bool
 is_no_better p c v row = not (beats (listed_cap p row) v c.total c.best)
+
+-- A row, as one of setting v, lists every fight, or its cap does not contend with the ranking that
+-- the rows list. Without an aim every row will do.
+unfoldable pub is_exact : Problem → Option Aim → List Row → ℕ → List (ℕ × ℕ) → Bool
+is_exact p None rows v row = true
+is_exact p (Some aim) rows v row = lists_all p.fights 0 row || not (contends aim (listed_cap p row) v (listed_ranking p aim rows))
 
 abbrev pub same_code : List Instruction → List Instruction → Bool
 same_code [] [] = true
@@ -75,45 +80,45 @@ share_warrior (Some w) None = false
 share_warrior (Some w) (Some x) = (w.start == x.start) && same_code w.code x.code
 
 -- What is wrong with the cap row of setting v.
-unfoldable pub cap_reason : Problem → Cert → ℕ → List (ℕ × ℕ) → Option Reason
-cap_reason p c v row =
+unfoldable pub cap_reason : Problem → Cert → Option Aim → ℕ → List (ℕ × ℕ) → Option Reason
+cap_reason p c aim v row =
     first_of (
     unless (rises 0 row) RepeatedFight
     ∷ unless (has_points p (p.warrior v) row) WrongPoints
-    ∷ unless ((v == c.best) || is_no_better p c v row) CapTooHigh
+    ∷ unless (((v == c.best) || is_no_better p c v row) && is_exact p aim c.rows v row) CapTooHigh
     ∷ []
     )
 
 -- What is wrong with the row of setting v if it refers to setting u, which has a cap row. That row
 -- is taken as listed: whether it has its points is a check of its own setting.
-unfoldable pub listed_reason : Problem → Cert → ℕ → ℕ → List (ℕ × ℕ) → Option Reason
-listed_reason p c v u row =
+unfoldable pub listed_reason : Problem → Cert → Option Aim → ℕ → ℕ → List (ℕ × ℕ) → Option Reason
+listed_reason p c aim v u row =
     first_of (
     unless (not (u == v) && (share_warrior (p.warrior v) (p.warrior u) && (rises 0 row && are_fights p row))) NotSame
-    ∷ unless (is_no_better p c v row) CapTooHigh
+    ∷ unless (is_no_better p c v row && is_exact p aim c.rows v row) CapTooHigh
     ∷ []
     )
 
 -- What is wrong with the row of setting v if it refers to setting u, by the row of that one.
-abbrev pub reference_reason : Problem → Cert → ℕ → ℕ → Option Row → Option Reason
-reference_reason p c v u None = Some NotSame
-reference_reason p c v u (Some Refused) = Some NotSame
-reference_reason p c v u (Some (Same t)) = Some NotSame
-reference_reason p c v u (Some (Cap row)) = listed_reason p c v u row
+abbrev pub reference_reason : Problem → Cert → Option Aim → ℕ → ℕ → Option Row → Option Reason
+reference_reason p c aim v u None = Some NotSame
+reference_reason p c aim v u (Some Refused) = Some NotSame
+reference_reason p c aim v u (Some (Same t)) = Some NotSame
+reference_reason p c aim v u (Some (Cap row)) = listed_reason p c aim v u row
 
 -- What is wrong with the row of setting v: the first reason that applies.
-abbrev pub row_reason : Problem → Cert → ℕ → Row → Option Reason
-row_reason p c v Refused = unless (is_none (p.warrior v)) NotRefused
-row_reason p c v (Same u) = reference_reason p c v u (slice_get c.rows u)
-row_reason p c v (Cap row) = cap_reason p c v row
+abbrev pub row_reason : Problem → Cert → Option Aim → ℕ → Row → Option Reason
+row_reason p c aim v Refused = unless (is_none (p.warrior v)) NotRefused
+row_reason p c aim v (Same u) = reference_reason p c aim v u (slice_get c.rows u)
+row_reason p c aim v (Cap row) = cap_reason p c aim v row
 
 -- What is wrong with the row of setting v if it refers to no other setting; None if it does.
-abbrev pub alone_reason : Problem → Cert → ℕ → Row → Option Reason
-alone_reason p c v row = if refers row then None else row_reason p c v row
+abbrev pub alone_reason : Problem → Cert → Option Aim → ℕ → Row → Option Reason
+alone_reason p c aim v row = if refers row then None else row_reason p c aim v row
 
 -- What is wrong with the row of setting v if it refers to another setting; None if it does not.
-abbrev pub same_reason : Problem → Cert → ℕ → Row → Option Reason
-same_reason p c v row = if refers row then row_reason p c v row else None
+abbrev pub same_reason : Problem → Cert → Option Aim → ℕ → Row → Option Reason
+same_reason p c aim v row = if refers row then row_reason p c aim v row else None
 
 -- ---- the rows of a share
 
@@ -139,16 +144,16 @@ first_wrong reason [] = None
 first_wrong reason (v ∷ settings) = first_of (at_record (record_of v) (reason v) ∷ first_wrong reason settings ∷ [])
 
 -- The first wrong row of those that refer to no other setting, and of those that do.
-abbrev pub wrong_alone : Problem → Cert → List ℕ → Option (ℕ × Reason)
-wrong_alone p c settings = first_wrong (reason_at (alone_reason p c) c.rows) settings
+abbrev pub wrong_alone : Problem → Cert → Option Aim → List ℕ → Option (ℕ × Reason)
+wrong_alone p c aim settings = first_wrong (reason_at (alone_reason p c aim) c.rows) settings
 
-abbrev pub wrong_same : Problem → Cert → List ℕ → Option (ℕ × Reason)
-wrong_same p c settings = first_wrong (reason_at (same_reason p c) c.rows) settings
+abbrev pub wrong_same : Problem → Cert → Option Aim → List ℕ → Option (ℕ × Reason)
+wrong_same p c aim settings = first_wrong (reason_at (same_reason p c aim) c.rows) settings
 
 -- The first wrong row of some settings: the refused and the cap rows are checked first, in order,
 -- and then those that refer to other settings.
-abbrev pub rows_failure : Problem → Cert → List ℕ → Option (ℕ × Reason)
-rows_failure p c settings = first_of (wrong_alone p c settings ∷ wrong_same p c settings ∷ [])
+abbrev pub rows_failure : Problem → Cert → Option Aim → List ℕ → Option (ℕ × Reason)
+rows_failure p c aim settings = first_of (wrong_alone p c aim settings ∷ wrong_same p c aim settings ∷ [])
 
 -- The number of fights that the row of setting v lists.
 abbrev pub listed_by : Option Row → ℕ
@@ -173,11 +178,6 @@ is_version_of p version = not (version == 1) || list_all (λ k. p.weight k == 1)
 abbrev pub has_row_count : Problem → Cert → Bool
 has_row_count p c = (c.count == p.count) && (length c.rows == p.count)
 
--- A cap row lists the fights from a to n - 1, in order.
-abbrev pub lists_all : ℕ → ℕ → List (ℕ × ℕ) → Bool
-lists_all n a [] = a == n
-lists_all n a (e ∷ row) = (e.0 == a) && lists_all n (a + 1) row
-
 -- The row of the best setting lists every fight in order, and its scores add up to the total.
 abbrev pub is_best_row : Problem → ℕ → Option Row → Bool
 is_best_row p total None = false
@@ -185,13 +185,18 @@ is_best_row p total (Some Refused) = false
 is_best_row p total (Some (Same u)) = false
 is_best_row p total (Some (Cap row)) = lists_all p.fights 0 row && (listed_total p row == total)
 
--- What is wrong with a certificate, and at which record, as far as a check of a share sees.
-unfoldable pub first_failure : Problem → Part → Cert → Option (ℕ × Reason)
-first_failure p share c =
+-- What is wrong with a certificate, and at which record, as far as a check of a share sees, given
+-- whether the record of the answer is right, and the aim for which the rows have to be exact.
+unfoldable pub failure_by : Problem → Part → Bool → Option Aim → Cert → Option (ℕ × Reason)
+failure_by p share answered aim c =
     first_of (
     at_record 0 (unless (is_version_of p c.version) Version)
     ∷ at_record 0 (unless (has_row_count p c) RowCount)
-    ∷ at_record 1 (unless (is_best_row p c.total (slice_get c.rows c.best)) BestRow)
-    ∷ rows_failure p c (share_settings share p.count)
+    ∷ at_record 1 (unless answered BestRow)
+    ∷ rows_failure p c aim (share_settings share p.count)
     ∷ []
     )
+
+-- The same without an aim, of a certificate that names a best setting.
+abbrev pub first_failure : Problem → Part → Cert → Option (ℕ × Reason)
+first_failure p share c = failure_by p share (is_best_row p c.total (slice_get c.rows c.best)) None c

@@ -5,16 +5,17 @@ use Rattle.tune_problem.specs.Parts.{part_first, part_end}
 use Rattle.tune_problem.specs.Problem.{Problem}
 use Rattle.tune_problem.specs.Optimum.{all_fights}
 use Rattle.tune_problem.specs.Valid.{listed_indices, listed_total, IsVersionOf, IsRightRow, IsNoBetter}
+use Rattle.tune_problem.specs.Exact.{listed_cap}
 use Rattle.tune_problem.specs.declared.cert.Cert.{Cert}
 use Rattle.tune_problem.specs.declared.cert.Row.{Row}
 use Rattle.tune_problem.specs.declared.cert.Row.TheVariants.{Refused, Same, Cap}
 use Rattle.tune_problem.specs.declared.part.Part.{Part}
-use Rattle.tune_cert.specs.Checks.{rises, are_fights, listed_cap}
+use Rattle.tune_cert.specs.Checks.{rises, are_fights}
 
 -- A refused or a cap row is right in a share if it is a right row of the certificate. A row of v
 -- that refers to u is right if u is another setting with the same warrior and has a cap row, whose
--- fights rise and exist, and the cap by the points listed there, as one of v, does not beat the best
--- setting.
+-- fights rise and exist, and the cap by the points listed there, as one of v, does not beat the
+-- best setting.
 abbrev pub IsRightInShare : Problem → Cert → ℕ → Row → Type 0
 IsRightInShare p c v Refused = IsRightRow p c v Refused
 IsRightInShare p c v (Cap row) = IsRightRow p c v (Cap row)

@@ -1,5 +1,5 @@
 -- The verdict on bytes, by the records that they spell, and what a verdict on all rows promises.
-use Rattle.std.specs.Prelude.{◌≡◌, ◌⊎◌, ℕ, ◌<◌, List, length, slice_get, Option, Some, None}
+use Rattle.std.specs.Prelude.{◌≡◌, ◌⊎◌, ℕ, ◌<◌, List, length, slice_get, Option, Some, None, Result, Ok, Err}
 use Rattle.tables.specs.Records.{Fields}
 use Rattle.tune_problem.specs.Problem.{Problem}
 use Rattle.tune_problem.specs.Optimum.{all_fights, IsOptimum, HasTotal}
@@ -8,7 +8,7 @@ use Rattle.tune_problem.specs.declared.cert.Cert.{Cert}
 use Rattle.tune_problem.specs.declared.cert.Row.{Row}
 use Rattle.tune_problem.specs.declared.cert.Row.TheVariants.{Refused, Same, Cap}
 use Rattle.tune_problem.specs.declared.part.Part.{Part}
-use Rattle.tune_cert.specs.Spelling.{Spells, IsMalformed, IsFirstMalformed, record_of}
+use Rattle.tune_cert.specs.Spelling.{Spells, IsMalformed, IsFirstMalformed, record_of, cert_of}
 use Rattle.tune_cert.specs.Checks.{row_reason, first_failure}
 use Rattle.tune_cert.specs.declared.verdict.Reason.{Reason}
 use Rattle.tune_cert.specs.declared.verdict.Reason.TheVariants.{Malformed, RowCount, BestRow, Version}
@@ -24,12 +24,18 @@ verdict_by c (Some failure) = Rejected failure.0 failure.1
 abbrev pub verdict_on : Problem → Part → Cert → Verdict
 verdict_on p share c = verdict_by c (first_failure p share c)
 
+-- The verdict of a share on what is read: on a certificate, or else Malformed at this record.
+abbrev pub verdict_on_read : Problem → Part → Result Cert ℕ → Verdict
+verdict_on_read p share (Ok c) = verdict_on p share c
+verdict_on_read p share (Err number) = Rejected number Malformed
+
 -- The verdict of a share on records: on the certificate that they spell, or else Malformed at the
--- first malformed one. Records spell at most one certificate, so there is one such verdict.
+-- first malformed one.
+abbrev pub verdict_of : Problem → Part → List Fields → Verdict
+verdict_of p share records = verdict_on_read p share (cert_of records)
+
 abbrev pub IsVerdictOf : Problem → Part → List Fields → Verdict → Type 0
-IsVerdictOf p share records verdict =
-    ((c : Cert) × Spells records c × (verdict ≡ verdict_on p share c))
-    ⊎ ((number : ℕ) × IsFirstMalformed records number × (verdict ≡ Rejected number Malformed))
+IsVerdictOf p share records verdict = verdict ≡ verdict_of p share records
 
 -- ---- what a verdict on all rows promises
 
@@ -50,7 +56,7 @@ pub record IsWrongRow (p : Problem) (c : Cert) (number : ℕ) (reason : Reason) 
   pub number_is : number ≡ record_of vector
   pub row : Row
   pub here : slice_get c.rows vector ≡ Some row
-  pub wrong : row_reason p c vector row ≡ Some reason
+  pub wrong : row_reason p c None vector row ≡ Some reason
 
 -- What each reason says of the certificate, at the record that a rejection names.
 abbrev pub IsRejected : Problem → Cert → ℕ → Reason → Type 0
@@ -86,7 +92,7 @@ pub record IsFirstRow (p : Problem) (c : Cert) (number : ℕ) : Type 0 where
   pub number_is : number ≡ record_of vector
   pub row : Row
   pub here : slice_get c.rows vector ≡ Some row
-  pub before : (u : ℕ) (r : Row) → slice_get c.rows u ≡ Some r → IsCheckedBefore u r vector row → row_reason p c u r ≡ None
+  pub before : (u : ℕ) (r : Row) → slice_get c.rows u ≡ Some r → IsCheckedBefore u r vector row → row_reason p c None u r ≡ None
 
 -- Everything that is checked before the reason is right. A certificate has no malformed record.
 abbrev pub IsFirstOfCert : Problem → Cert → ℕ → Reason → Type 0

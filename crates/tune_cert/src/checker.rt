@@ -6,17 +6,22 @@ ghost use Rattle.tune_problem.specs.Parts.{whole, part};
 ghost use Rattle.tune_problem.specs.Problem.{problem_of};
 ghost use Rattle.tune_cert.specs.Checks.{wrong_alone, wrong_same, rows_failure, settings_between, share_settings, fights_listed, PlaysAtMost, is_version_of, has_row_count};
 ghost use Rattle.tune_cert.specs.Verdict.{verdict_on, IsVerdictOf};
+ghost use Rattle.tune_cert.specs.Judgement.{IsDemand, is_answered, as_cert, judgement_on, judgement_of, IsOfSettings};
 
+use crate::demand::Demand;
 use crate::fault::{CheckFault, ReadFault};
-use crate::read::{read_cert, record_of};
+use crate::listed::ranking_for;
+use crate::read::{read_cert, read_statement, record_of};
 use crate::row_checks::{Claim, check_alone, check_same, is_best_row};
 use crate::share::Share;
 use crate::telling::{before_rows, refers, tell_row};
-use crate::verdict::{Reason, Verdict};
+use crate::verdict::{Judgement, Reason, Verdict};
 use crate::warriors::no_warriors;
 use mars_core::{Arena, PackedCells};
 use std::alloc::Global;
-use tune_problem::{Inputs, Silent, Standing, Watcher, cert_version};
+use tune_problem::{
+    Answer, Best, Cert, Inputs, Silent, Standing, Statement, Watcher, cert_version,
+};
 
 /// Checks the bytes of a certificate against the inputs of a tuning.
 ///
@@ -69,15 +74,44 @@ pub fn check_share<T: Watcher>(
     ensures verdict { IfOk result (IsVerdictOf (problem_of inputs.now) (part share.number share.shares) (records_of bytes.now)) }
 {
     match read_cert(alloc, bytes) {
-        Ok(cert) => check_cert(
-            alloc,
-            &Claim {
-                inputs,
-                cert: &cert,
-            },
-            share,
-            watcher,
-        ),
+        Ok(cert) => check_cert(alloc, inputs, share, cert, watcher),
+        Err(ReadFault::Malformed { row }) => Ok(malformed(row)),
+        Err(ReadFault::OutOfMemory) => Err(CheckFault::OutOfMemory),
+    }
+}
+
+/// Checks a certificate as `check_share` does, and whether it meets a demand.
+///
+/// With `floor` a certificate may also say that no setting reaches a floor. It is accepted if the
+/// floor is the one that is asked for (else `BestRow`), and no cap reaches it (else `CapTooHigh`).
+///
+/// With `keep` a certificate that names a best setting has to show the first of the ranking too.
+/// The settings of which every fight is listed, by their own rows or by those to which they refer,
+/// are ranked by their listed totals. Of any other setting that assembles the cap must not contend
+/// with the first `keep` of these (else `CapTooHigh`, as the last reason of its row). So whatever
+/// `check` rejects is rejected at the same record or an earlier one. All shares accept a
+/// certificate exactly if the whole does, each with the same answer and ranking.
+///
+/// Without a demand this is `check_share`. Reserves no more than that and the ranking.
+///
+/// # Errors
+///
+/// `OutOfMemory` if an allocation failed.
+pub fn check_for<T: Watcher>(
+    alloc: Global,
+    inputs: &Inputs,
+    demand: Demand,
+    share: Share,
+    bytes: &[u8],
+    watcher: &mut T,
+) -> Result<Judgement, CheckFault>
+    requires demand { IsDemand demand }
+    // The judgement is that of the share on the statement that the bytes spell, or Malformed.
+    ensures judgement { IfOk result (λ j. j ≡ judgement_of (problem_of inputs.now) demand (part share.number share.shares) (records_of bytes.now)) }
+    ensures settings { IfOk result (IsOfSettings (problem_of inputs.now).count) }
+{
+    match read_statement(alloc, demand.floor.is_some(), bytes) {
+        Ok(statement) => check_statement(alloc, inputs, demand, share, statement, watcher),
         Err(ReadFault::Malformed { row }) => Ok(rejected(row, Reason::Malformed)),
         Err(ReadFault::OutOfMemory) => Err(CheckFault::OutOfMemory),
     }
@@ -96,7 +130,7 @@ fn check_rows_alone<T: Watcher>(
     requires blank { IsBlank claim.now.inputs.now.rules arena.old }
     requires rows { length claim.now.cert.now.rows ≡ (problem_of claim.now.inputs.now).count }
     requires inside { end ≤ (problem_of claim.now.inputs.now).count }
-    ensures wrong { IfOk result (λ o. o ≡ wrong_alone (problem_of claim.now.inputs.now) claim.now.cert.now (settings_between first end)) }
+    ensures wrong { IfOk result (λ o. o ≡ wrong_alone (problem_of claim.now.inputs.now) claim.now.cert.now claim.now.aim (settings_between first end)) }
 
     // At most as many fights are played as these rows list.
     ensures most { PlaysAtMost arena.old arena.new (fights_listed claim.now.cert.now.rows (settings_between first end)) }
@@ -126,7 +160,7 @@ fn check_rows_same<T: Watcher>(
 ) -> Result<Option<(u64, Reason)>, CheckFault>
     requires rows { length claim.now.cert.now.rows ≡ (problem_of claim.now.inputs.now).count }
     requires inside { end ≤ (problem_of claim.now.inputs.now).count }
-    ensures wrong { IfOk result (λ o. o ≡ wrong_same (problem_of claim.now.inputs.now) claim.now.cert.now (settings_between first end)) }
+    ensures wrong { IfOk result (λ o. o ≡ wrong_same (problem_of claim.now.inputs.now) claim.now.cert.now claim.now.aim (settings_between first end)) }
 {
     let rows = claim.cert.rows.as_slice();
     let mut warriors = no_warriors(alloc, claim.inputs.count())?;
@@ -145,7 +179,7 @@ fn check_rows_same<T: Watcher>(
 // Checks that no row from `first` to just before `end` refers to another setting.
 fn none_refer(claim: &Claim<'_>, first: u32, end: u32) -> bool
     requires inside { end ≤ length claim.now.cert.now.rows }
-    ensures { IsTrue result → None ≡ wrong_same (problem_of claim.now.inputs.now) claim.now.cert.now (settings_between first end) }
+    ensures { IsTrue result → None ≡ wrong_same (problem_of claim.now.inputs.now) claim.now.cert.now claim.now.aim (settings_between first end) }
 {
     let rows = claim.cert.rows.as_slice();
     for vector in first..end {
@@ -156,10 +190,31 @@ fn none_refer(claim: &Claim<'_>, first: u32, end: u32) -> bool
     true
 }
 
-fn rejected(index: u64, reason: Reason) -> Verdict
-    ensures { result ≡ Verdict.Rejected index reason }
+fn rejected(index: u64, reason: Reason) -> Judgement
+    ensures { result ≡ Judgement.Rejected index reason }
 {
-    Verdict::Rejected { row: index, reason }
+    Judgement::Rejected { row: index, reason }
+}
+
+fn malformed(index: u64) -> Verdict
+    ensures { result ≡ Verdict.Rejected index Reason.Malformed }
+{
+    Verdict::Rejected {
+        row: index,
+        reason: Reason::Malformed,
+    }
+}
+
+// Returns the best setting that a certificate names, for the watcher. That of one without a best
+// setting is after the last.
+fn named_best(claim: &Claim<'_>) -> Option<Best> {
+    if claim.cert.best >= claim.inputs.count() {
+        return None;
+    }
+    Some(Best {
+        vector: claim.cert.best,
+        total: claim.cert.total,
+    })
 }
 
 // Returns the first wrong row of a share. Those that refer to other settings are checked last.
@@ -173,7 +228,7 @@ fn check_rows<T: Watcher>(
     requires blank { IsBlank claim.now.inputs.now.rules arena.old }
     requires rows { length claim.now.cert.now.rows ≡ (problem_of claim.now.inputs.now).count }
     ensures wrong { let p = problem_of claim.now.inputs.now in
-        IfOk result (λ o. o ≡ rows_failure p claim.now.cert.now (share_settings (part share.number share.shares) p.count)) }
+        IfOk result (λ o. o ≡ rows_failure p claim.now.cert.now claim.now.aim (share_settings (part share.number share.shares) p.count)) }
 
     // At most as many fights are played as the rows of the share list.
     ensures most { let settings = share_settings (part share.number share.shares) (problem_of claim.now.inputs.now).count in
@@ -182,7 +237,7 @@ fn check_rows<T: Watcher>(
     let count = claim.inputs.count();
     let first = share.first(count);
     let end = share.end(count);
-    let mut standing = before_rows(claim.cert, end - first);
+    let mut standing = before_rows(named_best(claim), end - first);
     if let Some(wrong) = check_rows_alone(
         alloc,
         arena,
@@ -202,47 +257,153 @@ fn check_rows<T: Watcher>(
 
 // Checks whether the version is one for the schedule: version 1 is for schedules in which every
 // fight counts once.
-fn is_version_of(claim: &Claim<'_>) -> bool
-    ensures { result ≡ is_version_of (problem_of claim.now.inputs.now) claim.now.cert.now.version }
+fn is_version_of(inputs: &Inputs, cert: &Cert) -> bool
+    ensures { result ≡ is_version_of (problem_of inputs.now) cert.now.version }
 {
-    if claim.cert.version == 1 {
-        return cert_version(claim.inputs) == 1;
+    if cert.version == 1 {
+        return cert_version(inputs) == 1;
     }
     true
 }
 
 // Checks whether there is a row for each setting, and the certificate claims this count.
-fn has_row_count(claim: &Claim<'_>) -> bool
-    ensures { result ≡ has_row_count (problem_of claim.now.inputs.now) claim.now.cert.now }
+fn has_row_count(inputs: &Inputs, cert: &Cert) -> bool
+    ensures { result ≡ has_row_count (problem_of inputs.now) cert.now }
 {
-    let count = claim.inputs.count();
-    claim.cert.count == count && claim.cert.rows.as_slice().len() == count as usize
+    let count = inputs.count();
+    cert.count == count && cert.rows.as_slice().len() == count as usize
 }
 
-// Checks a certificate whose form is right. Makes the arena of its fights.
-fn check_cert<T: Watcher>(
+// Checks whether the record of the answer is right: a best setting has its row, and a floor is the
+// one that is asked for.
+fn is_answered(inputs: &Inputs, demand: Demand, statement: &Statement) -> bool
+    ensures { result ≡ is_answered (problem_of inputs.now) demand statement.now.rows statement.now.answer }
+{
+    match statement.answer {
+        Answer::Best(best) => is_best_row(inputs, &statement.rows, best),
+        Answer::NoneFrom(floor) => match demand.floor {
+            Some(asked) => floor == asked,
+            None => false,
+        },
+    }
+}
+
+// Returns a statement as the certificate that its rows are checked against. That no setting reaches
+// a floor is checked as if the setting after the last had a total of the floor.
+fn as_cert(inputs: &Inputs, statement: Statement) -> Cert
+    ensures { result ≡ as_cert (problem_of inputs.now) statement }
+{
+    let Statement {
+        version,
+        count,
+        answer,
+        rows,
+    } = statement;
+    let best = match answer {
+        Answer::Best(best) => best,
+        Answer::NoneFrom(floor) => Best {
+            vector: inputs.count(),
+            total: floor,
+        },
+    };
+    Cert {
+        version,
+        count,
+        best: best.vector,
+        total: best.total,
+        rows,
+    }
+}
+
+// Checks the rows of a certificate. Makes the arena of its fights.
+fn check_claim<T: Watcher>(
     alloc: Global,
     claim: &Claim<'_>,
     share: Share,
     watcher: &mut T,
-) -> Result<Verdict, CheckFault>
-    ensures { IfOk result (λ v. v ≡ verdict_on (problem_of claim.now.inputs.now) (part share.number share.shares) claim.now.cert.now) }
+) -> Result<Option<(u64, Reason)>, CheckFault>
+    requires rows { length claim.now.cert.now.rows ≡ (problem_of claim.now.inputs.now).count }
+    ensures wrong { let p = problem_of claim.now.inputs.now in
+        IfOk result (λ o. o ≡ rows_failure p claim.now.cert.now claim.now.aim (share_settings (part share.number share.shares) p.count)) }
 {
-    if !is_version_of(claim) {
+    let mut arena = Arena::<PackedCells>::try_new(alloc, claim.inputs.rules())?;
+    check_rows(alloc, &mut arena, claim, share, watcher)
+}
+
+// Checks a statement whose form is right.
+fn check_statement<T: Watcher>(
+    alloc: Global,
+    inputs: &Inputs,
+    demand: Demand,
+    share: Share,
+    statement: Statement,
+    watcher: &mut T,
+) -> Result<Judgement, CheckFault>
+    requires demand { IsDemand demand }
+    ensures judgement { IfOk result (λ j. j ≡ judgement_on (problem_of inputs.now) demand (part share.number share.shares) statement) }
+    ensures settings { IfOk result (IsOfSettings (problem_of inputs.now).count) }
+{
+    let answer = statement.answer;
+    let aim = demand.aim_for(answer);
+    let answered = is_answered(inputs, demand, &statement);
+    let cert = as_cert(inputs, statement);
+    if !is_version_of(inputs, &cert) {
         return Ok(rejected(0, Reason::Version));
     }
-    if !has_row_count(claim) {
+    if !has_row_count(inputs, &cert) {
         return Ok(rejected(0, Reason::RowCount));
     }
-    if !is_best_row(claim) {
+    if !answered {
         return Ok(rejected(1, Reason::BestRow));
     }
-    let mut arena = Arena::<PackedCells>::try_new(alloc, claim.inputs.rules())?;
-    match check_rows(alloc, &mut arena, claim, share, watcher)? {
+    let ranking = ranking_for(alloc, inputs, &cert.rows, aim)?;
+    let claim = Claim {
+        inputs,
+        cert: &cert,
+        aim,
+        ranking: &ranking,
+    };
+    match check_claim(alloc, &claim, share, watcher)? {
         Some((index, reason)) => Ok(rejected(index, reason)),
-        None => Ok(Verdict::Accepted {
-            best: claim.cert.best,
-            total: claim.cert.total,
-        }),
+        None => Ok(Judgement::Accepted { answer, ranking }),
     }
+}
+
+// Checks a certificate whose form is right.
+fn check_cert<T: Watcher>(
+    alloc: Global,
+    inputs: &Inputs,
+    share: Share,
+    cert: Cert,
+    watcher: &mut T,
+) -> Result<Verdict, CheckFault>
+    ensures { IfOk result (λ v. v ≡ verdict_on (problem_of inputs.now) (part share.number share.shares) cert) }
+{
+    let Cert {
+        version,
+        count,
+        best,
+        total,
+        rows,
+    } = cert;
+    let answer = Answer::Best(Best {
+        vector: best,
+        total,
+    });
+    let statement = Statement {
+        version,
+        count,
+        answer,
+        rows,
+    };
+    let demand = Demand {
+        keep: None,
+        floor: None,
+    };
+    if let Judgement::Rejected { row, reason } = check_statement(
+        alloc, inputs, demand, share, statement, watcher,
+    )? {
+        return Ok(Verdict::Rejected { row, reason });
+    }
+    Ok(Verdict::Accepted { best, total })
 }

@@ -1,26 +1,39 @@
 //! Laws of the text of certificates and of their checks, beside those of `tune_problem`. A law is a
 //! function with an empty body: its contract is what is proved.
-ghost use Rattle.std.specs.Prelude.{◌≡◌, ◌↔◌, ◌≤◌, ℕ, List};
+ghost use Rattle.std.specs.Prelude.{◌≡◌, ◌↔◌, ◌≤◌, ℕ, true, List, Ok, Err};
 ghost use Rattle.tables.specs.Records.{Fields, records_of};
 ghost use Rattle.tune_problem.specs.Parts.{whole, part};
 ghost use Rattle.tune_problem.specs.Problem.{Problem, IsProblem};
 ghost use Rattle.tune_problem.specs.Valid.{IsValid};
 ghost use Rattle.tune_problem.specs.declared.part.Part.{Part};
-ghost use Rattle.tune_cert.specs.CertText.{cert_text};
-ghost use Rattle.tune_cert.specs.Spelling.{IsCert, Spells};
+ghost use Rattle.tune_problem.specs.declared.statement.Statement.{Statement};
+ghost use Rattle.tune_cert.specs.CertText.{cert_text, statement_text, statement_fields, stated};
+ghost use Rattle.tune_cert.specs.Spelling.{IsCert, IsStatement, IsFirstMalformed, Spells, statement_of, cert_of};
 ghost use Rattle.tune_cert.specs.Shares.{IsValidInShare};
 ghost use Rattle.tune_cert.specs.Verdict.{verdict_on, IsVerdictOf, IsRightVerdict};
+ghost use Rattle.tune_cert.specs.Judgement.{judgement_on, accepted_with, judged, no_demand, MeetsDemand};
 
+use crate::demand::Demand;
 use crate::verdict::Verdict;
 use tune_problem::Cert;
 pub use tune_problem::laws::{
-    a_valid_certificate_names_the_optimum, the_best_part_has_the_optimum,
+    a_certificate_below_a_floor_is_right, a_valid_certificate_names_the_optimum,
+    an_exact_certificate_has_the_first_of_the_ranking, the_best_part_has_the_optimum,
 };
 
-/// States that the text of a certificate spells this certificate, so that what is written is read
-/// back.
+/// States that the text of a statement that can be written down is read back as this statement, and
+/// that the text of a certificate spells this certificate.
 pub fn a_written_certificate_is_read()
-    ensures { (c : Cert) → IsCert c → Spells (records_of (cert_text c)) c }
+    ensures statement { (s : Statement) → IsStatement s → statement_of true (records_of (statement_text s)) ≡ Ok s }
+    ensures cert { (c : Cert) → IsCert c → Spells (records_of (cert_text c)) c }
+{}
+
+/// States that what is read of records is what they spell: with floors the statement, and without
+/// the certificate, or else the first malformed record.
+pub fn records_are_read_as_they_are_spelled()
+    ensures statement { (records : List Fields) (s : Statement) → (statement_of true records ≡ Ok s) ↔ (IsStatement s × (records ≡ statement_fields s)) }
+    ensures cert { (records : List Fields) (c : Cert) → (cert_of records ≡ Ok c) ↔ Spells records c }
+    ensures fault { (records : List Fields) (n : ℕ) → (cert_of records ≡ Err n) ↔ IsFirstMalformed records n }
 {}
 
 /// States that records spell at most one certificate.
@@ -43,4 +56,25 @@ pub fn accepted_in_every_share_is_valid()
     ensures accepted { (p : Problem) (share : Part) (c : Cert) → (verdict_on p share c ≡ Verdict.Accepted c.best c.total) ↔ IsValidInShare p share c }
     ensures shares { (p : Problem) (shares : ℕ) (c : Cert) → IsProblem p → 1 ≤ shares
         → ((number : ℕ) → 1 ≤ number → number ≤ shares → IsValidInShare p (part number shares) c) ↔ IsValid p c }
+{}
+
+/// States that a check of all rows with a demand accepts a statement exactly if it meets the
+/// demand: it is a valid certificate of its best setting, and exact if a ranking is asked for; or
+/// one that no setting reaches the floor that is asked for. The check then names its answer, and
+/// the ranking that its rows list.
+pub fn a_demand_is_met()
+    ensures { (p : Problem) (demand : Demand) (s : Statement) → IsProblem p → (judgement_on p demand whole s ≡ accepted_with p demand s) ↔ MeetsDemand p demand s }
+{}
+
+/// States that all shares of the rows accept a statement for a demand exactly if a check of all
+/// rows does, each with the same answer and ranking.
+pub fn accepted_in_every_share_meets_the_demand()
+    ensures { (p : Problem) (shares : ℕ) (demand : Demand) (s : Statement) → 1 ≤ shares
+        → ((number : ℕ) → 1 ≤ number → number ≤ shares → judgement_on p demand (part number shares) s ≡ accepted_with p demand s)
+        ↔ (judgement_on p demand whole s ≡ accepted_with p demand s) }
+{}
+
+/// States that the judgement of a share on a certificate without a demand is its verdict.
+pub fn a_check_without_a_demand_is_a_check()
+    ensures { (p : Problem) (share : Part) (c : Cert) → judgement_on p no_demand share (stated c) ≡ judged (verdict_on p share c) }
 {}

@@ -5,8 +5,10 @@
 #![tactic(auto)]
 
 mod checker;
+mod demand;
 mod fault;
 pub mod laws;
+mod listed;
 mod read;
 mod row_checks;
 mod share;
@@ -15,13 +17,15 @@ mod verdict;
 mod warriors;
 mod write;
 
-pub use checker::{check, check_share};
+pub use checker::{check, check_for, check_share};
+pub use demand::Demand;
 pub use fault::{CertFault, CheckFault, ReadFault};
-pub use read::read_cert;
+pub use read::{read_cert, read_statement};
 pub use share::Share;
 pub use tune_problem::{
-    Best, Cert, Found, Inputs, Listing, Row, Rows, Silent, Standing, Watcher, cert_version,
-    fight_count, fight_points, fight_weight, greatest_total, setting_warrior,
+    Answer, Best, Cert, Found, Inputs, Listing, Ranking, Row, Rows, Silent, Standing, Statement,
+    Watcher, cert_version, fight_count, fight_points, fight_weight, greatest_total,
+    setting_warrior,
 };
-pub use verdict::{Reason, Verdict};
-pub use write::write_cert;
+pub use verdict::{Judgement, Reason, Verdict};
+pub use write::{write_answer, write_cert};

@@ -1,21 +1,19 @@
 //! Reads certificates.
-ghost use Rattle.std.specs.Prelude.{◌≡◌, ℕ, ◌∷◌, Some, List, IfOk, IfErr, IfSome, MatchResult, ◌+◌, ◌++◌, IsSomeAnd, drop, ◌↔◌, IsTrue, ◌≤◌, ◌^◌};
+ghost use Rattle.std.specs.Prelude.{◌≡◌, ℕ, ◌∷◌, ◌==◌, ◌≤◌, ◌<◌, ◌^◌, [], false, length, drop, IfOk, OnOk, IfSome, MatchOption};
+ghost use Rattle.std.specs.List.{slice_split, position};
+ghost use Rattle.std.specs.Option.{option_map};
 ghost use Rattle.csv.specs.Records.{fields_of};
+ghost use Rattle.rc_instr.specs.Results.{with_fault};
 ghost use Rattle.tables.specs.Records.{records_of};
-ghost use Rattle.std.specs.Fmt.{decimal};
-ghost use Rattle.tune_cert.specs.CertText.{count_fields, best_fields, kind_text, last_text, row_fields, item_text, spaced_text};
-ghost use Rattle.tune_cert.specs.Spelling.{FitsU32, IsVersion, Spells, IsRow, IsItem, IsReadRefusal, record_of};
-ghost use Rattle.tune_cert.specs.Steps.{AreRows, IsBadCount, IsBadBest, IsBadRow, AreSpaced, AreItems};
-ghost use Rattle.tune_problem.specs.declared.cert.Row.{Row};
-ghost use Rattle.tune_problem.specs.declared.cert.Cert.{Cert};
-ghost use Rattle.mars_fight.specs.Play.{ArePoints};
+ghost use Rattle.tune_cert.specs.Spelling.{decimal_of, version_of, points_of, item_of, listing_of, count_of, best_of, none_of, answer_of, row_by, row_of, record_of, first_as, rows_from, statement_of, cert_by, cert_of, Returns};
+ghost use Rattle.tune_cert.specs.declared.fault.ReadFault.TheVariants.{Malformed};
 
 use crate::fault::ReadFault;
 use csv::ByteRecord;
-use rc_instr::{OutOfMemory, after, decimal_at, decimal_of};
+use rc_instr::{OutOfMemory, decimal_of};
 use std::alloc::Global;
 use tables::{Records, three_fields};
-use tune_problem::{Cert, Listing, Row, Rows};
+use tune_problem::{Answer, Best, Cert, Listing, Row, Rows, Statement};
 
 /// Parses a certificate, without judging it: `check` compares it with the inputs of a tuning.
 ///
@@ -29,98 +27,81 @@ use tune_problem::{Cert, Listing, Row, Rows};
 ///
 /// `Malformed` names the first record that is not of this form, or record 0 or 1 if it is missing.
 /// `OutOfMemory` if an allocation failed.
-#[tactic(auto, using(crate::proofs::CertParts::parts))]
 pub fn read_cert(alloc: Global, bytes: &[u8]) -> Result<Cert, ReadFault>
-    // The result is the certificate that the bytes spell.
-    ensures found { IfOk result (λ c. Spells (records_of bytes.now) c) }
+    ensures { Returns (λ c. c) result (with_fault Malformed (cert_of (records_of bytes.now))) }
+{
+    let statement = read_statement(alloc, false, bytes)?;
+    cert_by(statement)
+}
 
-    // Bytes that spell a certificate are read, unless memory runs out.
-    ensures only { (c : Cert) → Spells (records_of bytes.now) c → MatchResult result (λ v. v ≡ c) (λ e. e ≡ ReadFault.OutOfMemory) }
-
-    // The record that a fault names is the first malformed one.
-    ensures fault { IfErr result (λ e. IsReadRefusal (records_of bytes.now) e) }
+/// Parses a certificate with either answer, without judging it.
+///
+/// The form is that of `read_cert`. With `floors`, record 1 may also be `none,-,F`: no setting
+/// totals F or more.
+///
+/// # Errors
+///
+/// Those of `read_cert`.
+pub fn read_statement(alloc: Global, floors: bool, bytes: &[u8]) -> Result<Statement, ReadFault>
+    ensures { Returns (λ s. s) result (with_fault Malformed (statement_of floors (records_of bytes.now))) }
 {
     let mut records = Records::new(alloc, bytes);
     let mut fields = ByteRecord::new(alloc);
     let (version, count) = read_count(&mut records, &mut fields)?;
-    let (best, total) = read_best(&mut records, &mut fields)?;
+    let answer = read_answer(&mut records, &mut fields, floors)?;
     let rows = read_rows(alloc, &mut records, &mut fields)?;
-    Ok(Cert {
+    Ok(Statement {
         version,
         count,
-        best,
-        total,
+        answer,
         rows: Rows::from_vec(rows),
     })
 }
 
-// Parses record 0: `cwcert,V,N`. Returns the version V, 1 or 2, and N, the number of settings.
-fn count_in(fields: &ByteRecord) -> Option<(u32, u32)>
-    ensures found { IfSome result (λ x. IsVersion x.0 × (fields_of fields.now ≡ count_fields x.0 x.1)) }
-    ensures only { (version count : ℕ) → IsVersion version → FitsU32 count → fields_of fields.now ≡ count_fields version count
-        → result ≡ Some (version, count) }
+// Returns a statement with a best setting as a certificate.
+fn cert_by(statement: Statement) -> Result<Cert, ReadFault>
+    ensures { result ≡ with_fault Malformed (cert_by statement statement.answer) }
 {
-    let (name, version, count) = three_fields(fields)?;
-    if !is_text(name, b"cwcert") {
-        return None;
-    }
-    let version = version_of(version)?;
-    let count = decimal_of(count)?;
-    Some((version, count))
-}
-
-// Parses a version: 1 or 2.
-fn version_of(field: &[u8]) -> Option<u32>
-    ensures found { IfSome result (λ version. IsVersion version × (field.now ≡ decimal version)) }
-    ensures only { (version : ℕ) → IsVersion version → field.now ≡ decimal version → result ≡ Some version }
-{
-    let version = decimal_of(field)?;
-    if version == 1 || version == 2 {
-        Some(version)
-    } else {
-        None
+    match statement.answer {
+        Answer::Best(best) => Ok(Cert {
+            version: statement.version,
+            count: statement.count,
+            best: best.vector,
+            total: best.total,
+            rows: statement.rows,
+        }),
+        Answer::NoneFrom(_) => Err(ReadFault::Malformed { row: 1 }),
     }
 }
 
-// Parses record 1: `best,W,T`. Returns the best setting W and its total T.
-fn best_in(fields: &ByteRecord) -> Option<(u32, u32)>
-    ensures found { IfSome result (λ x. fields_of fields.now ≡ best_fields x.0 x.1) }
-    ensures only { (best total : ℕ) → FitsU32 best → FitsU32 total → fields_of fields.now ≡ best_fields best total
-        → result ≡ Some (best, total) }
-{
-    let (name, best, total) = three_fields(fields)?;
-    if !is_text(name, b"best") {
-        return None;
-    }
-    let best = decimal_of(best)?;
-    let total = decimal_of(total)?;
-    Some((best, total))
-}
-
+// Reads record 0: `cwcert,V,N`. Returns the version V, 1 or 2, and N, the number of settings.
 fn read_count(records: &mut Records, fields: &mut ByteRecord) -> Result<(u32, u32), ReadFault>
-    ensures found { IfOk result (λ x. IsVersion x.0 × (records.old ≡ count_fields x.0 x.1 ∷ records.new)) }
-    ensures fault { IfErr result (λ e. IsBadCount records.old e) }
+    ensures count { Returns (λ x. x) result (with_fault Malformed (first_as count_of 0 records.old)) }
+    ensures rest { OnOk result (drop 1 records.old ≡ records.new) }
 {
-    if !records.read(fields)? {
-        return Err(ReadFault::Malformed { row: 0 });
+    if records.read(fields)? {
+        if let Some(count) = count_of(fields) {
+            return Ok(count);
+        }
     }
-    match count_in(fields) {
-        Some(first) => Ok(first),
-        None => Err(ReadFault::Malformed { row: 0 }),
-    }
+    Err(ReadFault::Malformed { row: 0 })
 }
 
-fn read_best(records: &mut Records, fields: &mut ByteRecord) -> Result<(u32, u32), ReadFault>
-    ensures found { IfOk result (λ x. records.old ≡ best_fields x.0 x.1 ∷ records.new) }
-    ensures fault { IfErr result (λ e. IsBadBest records.old e) }
+// Reads record 1: `best,W,T`, or with `floors` also `none,-,F`.
+fn read_answer(
+    records: &mut Records,
+    fields: &mut ByteRecord,
+    floors: bool,
+) -> Result<Answer, ReadFault>
+    ensures answer { Returns (λ a. a) result (with_fault Malformed (first_as (answer_of floors) 1 records.old)) }
+    ensures rest { OnOk result (drop 1 records.old ≡ records.new) }
 {
-    if !records.read(fields)? {
-        return Err(ReadFault::Malformed { row: 1 });
+    if records.read(fields)? {
+        if let Some(answer) = answer_of(fields, floors) {
+            return Ok(answer);
+        }
     }
-    match best_in(fields) {
-        Some(best) => Ok(best),
-        None => Err(ReadFault::Malformed { row: 1 }),
-    }
+    Err(ReadFault::Malformed { row: 1 })
 }
 
 // Reads the rows, which begin at record 2. A row names its own setting, so a missing or an extra
@@ -130,9 +111,7 @@ fn read_rows(
     records: &mut Records,
     fields: &mut ByteRecord,
 ) -> Result<Vec<Row>, ReadFault>
-    ensures found { IfOk result (λ v. AreRows 0 records.old v.items) }
-    ensures only { (rows : List Row) → AreRows 0 records.old rows → MatchResult result (λ v. v.items ≡ rows) (λ e. e ≡ ReadFault.OutOfMemory) }
-    ensures fault { IfErr result (λ e. IsBadRow records.old e) }
+    ensures { Returns (λ v. v.items) result (with_fault Malformed (rows_from 0 records.old)) }
 {
     let mut rows = Vec::new(alloc);
     let mut vector = 0u64;
@@ -142,7 +121,7 @@ fn read_rows(
                 row: record_of(vector),
             });
         }
-        match read_row(alloc, vector as u32, fields)? {
+        match row_of(alloc, vector as u32, fields)? {
             Some(row) => rows.push(row)?,
             None => return Err(ReadFault::Malformed {
                 row: record_of(vector),
@@ -161,25 +140,82 @@ pub(crate) fn record_of(vector: u64) -> u64
     vector + 2
 }
 
-// Parses a row from its first field, the kind, and its last field.
-fn row_of(alloc: Global, kind: &[u8], last: &[u8]) -> Result<Option<Row>, OutOfMemory>
-    ensures found { IfOk result (λ o. IfSome o (λ row. (kind.now ≡ kind_text row) × (last.now ≡ last_text row) × IsRow row)) }
-    ensures only { (row : Row) → IsRow row → kind.now ≡ kind_text row → last.now ≡ last_text row → IfOk result (λ o. o ≡ Some row) }
+fn count_of(fields: &ByteRecord) -> Option<(u32, u32)>
+    ensures { result ≡ count_of (fields_of fields.now) }
 {
-    if is_text(kind, b"refused") {
-        if is_text(last, b"-") {
-            return Ok(Some(Row::Refused));
-        }
-        return Ok(None);
+    let (name, version, count) = three_fields(fields)?;
+    if name == b"cwcert".as_slice() {
+        Some((version_of(version)?, number_of(count)?))
+    } else {
+        None
     }
-    if is_text(kind, b"same") {
-        return match decimal_of(last) {
+}
+
+fn answer_of(fields: &ByteRecord, floors: bool) -> Option<Answer>
+    ensures { result ≡ answer_of floors (fields_of fields.now) }
+{
+    if let Some(answer) = best_of(fields) {
+        return Some(answer);
+    }
+    if floors { none_of(fields) } else { None }
+}
+
+fn best_of(fields: &ByteRecord) -> Option<Answer>
+    ensures { result ≡ best_of (fields_of fields.now) }
+{
+    let (name, best, total) = three_fields(fields)?;
+    if name == b"best".as_slice() {
+        let vector = number_of(best)?;
+        let total = number_of(total)?;
+        Some(Answer::Best(Best { vector, total }))
+    } else {
+        None
+    }
+}
+
+fn none_of(fields: &ByteRecord) -> Option<Answer>
+    ensures { result ≡ none_of (fields_of fields.now) }
+{
+    let (name, dash, floor) = three_fields(fields)?;
+    if name == b"none".as_slice() && dash == b"-".as_slice() {
+        Some(Answer::NoneFrom(number_of(floor)?))
+    } else {
+        None
+    }
+}
+
+// Parses a record as the row of setting `vector`, or returns `None` if it is not one.
+fn row_of(alloc: Global, vector: u32, fields: &ByteRecord) -> Result<Option<Row>, OutOfMemory>
+    ensures { IfOk result (λ row. row ≡ row_of vector (fields_of fields.now)) }
+{
+    let Some((kind, setting, last)) = three_fields(fields) else {
+        return Ok(None);
+    };
+    match number_of(setting) {
+        Some(found) if found == vector => row_by(alloc, kind, last),
+        _ => Ok(None),
+    }
+}
+
+// Parses a row from its first field, the kind, and its last field.
+fn row_by(alloc: Global, kind: &[u8], last: &[u8]) -> Result<Option<Row>, OutOfMemory>
+    ensures { IfOk result (λ row. row ≡ row_by kind.now last.now) }
+{
+    if kind == b"refused".as_slice() {
+        return if last == b"-".as_slice() {
+            Ok(Some(Row::Refused))
+        } else {
+            Ok(None)
+        };
+    }
+    if kind == b"same".as_slice() {
+        return match number_of(last) {
             Some(other) => Ok(Some(Row::Same(other))),
             None => Ok(None),
         };
     }
-    if is_text(kind, b"cap") {
-        return match read_items(alloc, last)? {
+    if kind == b"cap".as_slice() {
+        return match read_listing(alloc, last)? {
             Some(items) => Ok(Some(Row::Cap(Listing::from_vec(items)))),
             None => Ok(None),
         };
@@ -187,97 +223,80 @@ fn row_of(alloc: Global, kind: &[u8], last: &[u8]) -> Result<Option<Row>, OutOfM
     Ok(None)
 }
 
-// Parses a record as the row of setting `vector`, or returns `None` if it is not one.
-fn read_row(alloc: Global, vector: u32, fields: &ByteRecord) -> Result<Option<Row>, OutOfMemory>
-    ensures found { IfOk result (λ o. IfSome o (λ row. (fields_of fields.now ≡ row_fields vector row) × IsRow row)) }
-    ensures only { (row : Row) → IsRow row → fields_of fields.now ≡ row_fields vector row → IfOk result (λ o. o ≡ Some row) }
-{
-    let Some((kind, setting, last)) = three_fields(fields) else {
-        return Ok(None);
-    };
-    match decimal_of(setting) {
-        Some(found) if found == vector => row_of(alloc, kind, last),
-        _ => Ok(None),
-    }
-}
-
-// Takes the digit of the points off the front: 0, 1 or 3.
-fn points_at(bytes: &[u8]) -> Option<(u8, &[u8])>
-    ensures found { IfSome result (λ x. (bytes.now ≡ (48 + x.0) ∷ x.1.now) × ArePoints x.0) }
-    ensures only { (points : ℕ) (rest : List ℕ) → ArePoints points → bytes.now ≡ (48 + points) ∷ rest
-        → IsSomeAnd result (λ x. (x.0 ≡ points) × (x.1.now ≡ rest)) }
-{
-    match bytes {
-        [b'0', rest @ ..] => Some((0, rest)),
-        [b'1', rest @ ..] => Some((1, rest)),
-        [b'3', rest @ ..] => Some((3, rest)),
-        _ => None,
-    }
-}
-
-// Takes a fight with its points off the front, as in `7:3`.
-#[tactic(auto, using(crate::proofs::ItemText::fine_parts))]
-fn item_at(bytes: &[u8]) -> Option<((u32, u8), &[u8])>
-    ensures found { IfSome result (λ x. (bytes.now ≡ item_text x.0 ++ x.1.now) × IsItem x.0) }
-    ensures only { (item : ℕ × ℕ) (rest : List ℕ) → IsItem item → bytes.now ≡ item_text item ++ rest
-        → IsSomeAnd result (λ x. (x.0 ≡ item) × (x.1.now ≡ rest)) }
-{
-    let (fight, bytes) = decimal_at(bytes)?;
-    let bytes = after(b':', bytes)?;
-    let (points, rest) = points_at(bytes)?;
-    Some(((fight, points), rest))
-}
-
-// Takes a space, then a fight with its points, off the front.
-#[tactic(auto, unfolding(crate::specs::CertText::spaced_text))]
-fn spaced_at(bytes: &[u8]) -> Option<((u32, u8), &[u8])>
-    ensures found { IfSome result (λ x. (bytes.now ≡ spaced_text x.0 ++ x.1.now) × IsItem x.0) }
-    ensures only { (item : ℕ × ℕ) (rest : List ℕ) → IsItem item → bytes.now ≡ spaced_text item ++ rest
-        → IsSomeAnd result (λ x. (x.0 ≡ item) × (x.1.now ≡ rest)) }
-{
-    let bytes = after(b' ', bytes)?;
-    item_at(bytes)
-}
-
-// Parses the fights after the first, each with a space before it. Returns `first` and these.
-fn read_others(
-    alloc: Global,
-    first: (u32, u8),
-    bytes: &[u8],
-) -> Result<Option<Vec<(u32, u8)>>, OutOfMemory>
-    ensures found { IfOk result (λ o. IfSome o (λ v. (v.items ≡ first ∷ drop 1 v.items) × AreSpaced bytes.now (drop 1 v.items))) }
-    ensures only { (more : List (ℕ × ℕ)) → AreSpaced bytes.now more → IfOk result (λ o. IsSomeAnd o (λ v. v.items ≡ first ∷ more)) }
+// Parses the list of a cap row: fights with their points, or `-` for none.
+fn read_listing(alloc: Global, bytes: &[u8]) -> Result<Option<Vec<(u32, u8)>>, OutOfMemory>
+    ensures { IfOk result (λ o. option_map (λ v. v.items) o ≡ listing_of bytes.now) }
 {
     let mut items = Vec::new(alloc);
-    items.push(first)?;
-    let mut rest = bytes;
-    while !rest.is_empty() {
-        let Some((item, others)) = spaced_at(rest) else {
-            return Ok(None);
-        };
-        items.push(item)?;
+    if bytes == b"-".as_slice() {
+        return Ok(Some(items));
+    }
+    let mut rest = Some(bytes);
+    while let Some(list) = rest {
+        let (text, others) = cut(b' ', list);
+        match item_of(text) {
+            Some(item) => items.push(item)?,
+            None => return Ok(None),
+        }
         rest = others;
     }
     Ok(Some(items))
 }
 
-// Parses the list of a cap row: fights with their points, or `-` for none.
-fn read_items(alloc: Global, bytes: &[u8]) -> Result<Option<Vec<(u32, u8)>>, OutOfMemory>
-    ensures found { IfOk result (λ o. IfSome o (λ v. AreItems bytes.now v.items)) }
-    ensures only { (items : List (ℕ × ℕ)) → AreItems bytes.now items → IfOk result (λ o. IsSomeAnd o (λ v. v.items ≡ items)) }
+// Parses a fight with its points, as in `7:3`.
+fn item_of(text: &[u8]) -> Option<(u32, u8)>
+    ensures { result ≡ item_of text.now }
 {
-    if is_text(bytes, b"-") {
-        return Ok(Some(Vec::new(alloc)));
-    }
-    let Some((first, rest)) = item_at(bytes) else {
-        return Ok(None);
-    };
-    read_others(alloc, first, rest)
+    let (fight, points) = cut(b':', text);
+    Some((number_of(fight)?, points_of(points?)?))
 }
 
-// A comparison of its own, so that its fact is in the form that the callers need.
-fn is_text(field: &[u8], text: &[u8]) -> bool
-    ensures { IsTrue result ↔ (field.now ≡ text.now) }
+fn points_of(text: &[u8]) -> Option<u8>
+    ensures { result ≡ points_of text.now }
 {
-    field == text
+    if text == b"0".as_slice() {
+        Some(0)
+    } else if text == b"1".as_slice() {
+        Some(1)
+    } else if text == b"3".as_slice() {
+        Some(3)
+    } else {
+        None
+    }
+}
+
+fn version_of(text: &[u8]) -> Option<u32>
+    ensures { result ≡ version_of text.now }
+{
+    if text == b"1".as_slice() {
+        Some(1)
+    } else if text == b"2".as_slice() {
+        Some(2)
+    } else {
+        None
+    }
+}
+
+// What `decimal_of` returns, as one equation.
+fn number_of(text: &[u8]) -> Option<u32>
+    ensures { result ≡ decimal_of text.now }
+{
+    decimal_of(text)
+}
+
+// Cuts at the first `byte`: returns what is before it, and what is after it if it is there.
+fn cut(byte: u8, bytes: &[u8]) -> (&[u8], Option<&[u8]>)
+    ensures parts { MatchOption result.1 (slice_split (λ b. b == byte) bytes.now ≡ result.0.now ∷ []) (λ rest. slice_split (λ b. b == byte) bytes.now ≡ result.0.now ∷ slice_split (λ b. b == byte) rest.now) }
+    ensures shorter { IfSome result.1 (λ rest. length rest.now < length bytes.now) }
+{
+    match index_of(byte, bytes) {
+        Some(at) => (&bytes[..at], Some(&bytes[at + 1..])),
+        None => (bytes, None),
+    }
+}
+
+fn index_of(byte: u8, bytes: &[u8]) -> Option<usize>
+    ensures { result ≡ position (λ b. b == byte) bytes.now }
+{
+    bytes.iter().position(|b| *b == byte)
 }

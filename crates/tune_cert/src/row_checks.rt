@@ -1,13 +1,15 @@
 //! Checks single rows of a certificate.
-ghost use Rattle.std.specs.Prelude.{◌≡◌, ◌↔◌, ◌<◌, ◌==◌, IsTrue, IfOk, IfSome, IfNone, None, Some, Option, length, ◌+◌, ◌*◌, ◌≤◌, ◌^◌, ℕ, List, true, slice_get};
+ghost use Rattle.std.specs.Prelude.{◌≡◌, ◌↔◌, ◌<◌, ◌==◌, ◌||◌, IsTrue, IfOk, IfSome, IfNone, None, Some, Option, length, ◌+◌, ◌*◌, ◌≤◌, ◌^◌, ℕ, List, true, slice_get};
 ghost use Rattle.mars_core.specs.Arena.{IsBlank};
 ghost use Rattle.mars_fight.specs.Limits.{MOST_FIGHTS, MOST_WEIGHT};
 ghost use Rattle.rc_instr.specs.Warrior.{Fits};
 ghost use Rattle.tune_problem.specs.Optimum.{beats};
 ghost use Rattle.tune_problem.specs.Problem.{problem_of};
 ghost use Rattle.tune_problem.specs.Valid.{listed_in, listed_total};
+ghost use Rattle.tune_problem.specs.Exact.{lists_all, listed_cap, listed_ranking};
+ghost use Rattle.tune_problem.specs.declared.aim.Aim.{Aim as AimView};
 ghost use Rattle.tune_problem.specs.declared.cert.Row.TheVariants.{Refused, Cap};
-ghost use Rattle.tune_cert.specs.Checks.{rises, are_fights, have_points, PlaysAtMost, listed_cap, is_no_better, lists_all, is_best_row, cap_reason, alone_reason, same_reason, reference_reason};
+ghost use Rattle.tune_cert.specs.Checks.{rises, are_fights, have_points, PlaysAtMost, is_no_better, is_exact, is_best_row, cap_reason, alone_reason, same_reason, reference_reason};
 ghost use Rattle.tune_cert.specs.Steps.{AreAssembled, listed_most};
 
 use crate::fault::CheckFault;
@@ -18,8 +20,8 @@ use mars_fight::MOST_POINTS;
 use rc_instr::{Instruction, Warrior};
 use std::alloc::Global;
 use tune_problem::{
-    Best, Cert, Inputs, Row, Watcher, beats, fight_count, fight_points, fight_weight,
-    greatest_total, setting_warrior,
+    Aim, Best, Cert, Inputs, Ranking, Row, Rows, Watcher, beats, contends, fight_count,
+    fight_points, fight_weight, greatest_total, setting_warrior,
 };
 
 // A certificate, and the inputs against which it is checked.
@@ -27,6 +29,10 @@ use tune_problem::{
 pub(crate) struct Claim<'a> {
     pub(crate) inputs: &'a Inputs,
     pub(crate) cert: &'a Cert,
+    // The aim for which the rows have to be exact, and the ranking that they list for it.
+    pub(crate) aim: Option<Aim>,
+    pub(crate) ranking: &'a Ranking,
+    ghost listed: { (a : AimView) → aim ≡ Some a → (1 ≤ a.keep) × (ranking.now ≡ listed_ranking (problem_of inputs.now) a cert.now.rows) },
 }
 
 // Returns what is wrong with a refused or a cap row, and passes over a row that refers to another
@@ -41,7 +47,7 @@ pub(crate) fn check_alone<T: Watcher>(
 ) -> Result<Option<Reason>, CheckFault>
     requires inside { vector < (problem_of claim.now.inputs.now).count }
     requires blank { IsBlank claim.now.inputs.now.rules arena.old }
-    ensures reason { IfOk result (λ o. o ≡ alone_reason (problem_of claim.now.inputs.now) claim.now.cert.now vector row.now) }
+    ensures reason { IfOk result (λ o. o ≡ alone_reason (problem_of claim.now.inputs.now) claim.now.cert.now claim.now.aim vector row.now) }
     ensures blank { IsBlank claim.now.inputs.now.rules arena.new }
 
     // At most as many fights are played as the row lists.
@@ -66,7 +72,7 @@ pub(crate) fn check_same(
     requires inside { vector < (problem_of claim.now.inputs.now).count }
     requires assembled { AreAssembled (problem_of claim.now.inputs.now) warriors.old.items }
     requires rows { length claim.now.cert.now.rows ≡ (problem_of claim.now.inputs.now).count }
-    ensures reason { IfOk result (λ o. o ≡ same_reason (problem_of claim.now.inputs.now) claim.now.cert.now vector row.now) }
+    ensures reason { IfOk result (λ o. o ≡ same_reason (problem_of claim.now.inputs.now) claim.now.cert.now claim.now.aim vector row.now) }
     ensures assembled { AreAssembled (problem_of claim.now.inputs.now) warriors.new.items }
 {
     match row {
@@ -75,18 +81,18 @@ pub(crate) fn check_same(
     }
 }
 
-// Checks whether the row of the best setting lists every fight in order, with scores that add up to
-// the total.
-pub(crate) fn is_best_row(claim: &Claim<'_>) -> bool
-    ensures { result ≡ is_best_row (problem_of claim.now.inputs.now) claim.now.cert.now.total (slice_get claim.now.cert.now.rows claim.now.cert.now.best) }
+// Checks whether the row of a best setting lists every fight in order, with scores that add up to
+// its total.
+pub(crate) fn is_best_row(inputs: &Inputs, rows: &Rows, best: Best) -> bool
+    ensures { result ≡ is_best_row (problem_of inputs.now) best.total (slice_get rows.now best.vector) }
 {
-    let Some(listed) = cap_row(claim.cert, claim.cert.best) else {
+    let Some(listed) = cap_row(rows, best.vector) else {
         return false;
     };
-    if !lists_all(fight_count(claim.inputs), listed) {
+    if !lists_all(fight_count(inputs), listed) {
         return false;
     }
-    listed_total(claim.inputs, listed) == claim.cert.total
+    listed_total(inputs, listed) == best.total
 }
 
 // Checks whether the fights of a cap row rise, so that none is listed twice.
@@ -155,7 +161,7 @@ fn check_refused(
     vector: u32,
 ) -> Result<Option<Reason>, CheckFault>
     requires inside { vector < (problem_of claim.now.inputs.now).count }
-    ensures { IfOk result (λ o. o ≡ alone_reason (problem_of claim.now.inputs.now) claim.now.cert.now vector Refused) }
+    ensures { IfOk result (λ o. o ≡ alone_reason (problem_of claim.now.inputs.now) claim.now.cert.now claim.now.aim vector Refused) }
 {
     match setting_warrior(alloc, claim.inputs, vector)? {
         Some(_) => Ok(Some(Reason::NotRefused)),
@@ -174,7 +180,7 @@ fn check_cap<T: Watcher>(
 ) -> Result<Option<Reason>, CheckFault>
     requires inside { vector < (problem_of claim.now.inputs.now).count }
     requires blank { IsBlank claim.now.inputs.now.rules arena.old }
-    ensures reason { IfOk result (λ o. o ≡ cap_reason (problem_of claim.now.inputs.now) claim.now.cert.now vector listed.now) }
+    ensures reason { IfOk result (λ o. o ≡ cap_reason (problem_of claim.now.inputs.now) claim.now.cert.now claim.now.aim vector listed.now) }
     ensures blank { IsBlank claim.now.inputs.now.rules arena.new }
     ensures most { PlaysAtMost arena.old arena.new (length listed.now) }
 {
@@ -187,13 +193,13 @@ fn check_cap<T: Watcher>(
     if !have_points(arena, claim.inputs, &warrior, listed, watcher) {
         return Ok(Some(Reason::WrongPoints));
     }
-    if vector == claim.cert.best {
-        return Ok(None);
+    if !is_best_or_no_better(claim, vector, listed) {
+        return Ok(Some(Reason::CapTooHigh));
     }
-    if is_no_better(claim, vector, listed) {
-        return Ok(None);
+    if !is_exact(claim, vector, listed) {
+        return Ok(Some(Reason::CapTooHigh));
     }
-    Ok(Some(Reason::CapTooHigh))
+    Ok(None)
 }
 
 fn is_same_code(one: &[Instruction], other: &[Instruction]) -> bool
@@ -231,10 +237,10 @@ fn check_reference(
     requires inside { vector < (problem_of claim.now.inputs.now).count }
     requires assembled { AreAssembled (problem_of claim.now.inputs.now) warriors.old.items }
     requires rows { length claim.now.cert.now.rows ≡ (problem_of claim.now.inputs.now).count }
-    ensures reason { IfOk result (λ o. o ≡ reference_reason (problem_of claim.now.inputs.now) claim.now.cert.now vector other (slice_get claim.now.cert.now.rows other)) }
+    ensures reason { IfOk result (λ o. o ≡ reference_reason (problem_of claim.now.inputs.now) claim.now.cert.now claim.now.aim vector other (slice_get claim.now.cert.now.rows other)) }
     ensures assembled { AreAssembled (problem_of claim.now.inputs.now) warriors.new.items }
 {
-    let Some(listed) = cap_row(claim.cert, other) else {
+    let Some(listed) = cap_row(&claim.cert.rows, other) else {
         return Ok(Some(Reason::NotSame));
     };
     if other == vector {
@@ -256,14 +262,17 @@ fn check_reference(
     if !are_fights(claim.inputs, listed) {
         return Ok(Some(Reason::NotSame));
     }
-    if is_no_better(claim, vector, listed) {
-        return Ok(None);
+    if !is_no_better(claim, vector, listed) {
+        return Ok(Some(Reason::CapTooHigh));
     }
-    Ok(Some(Reason::CapTooHigh))
+    if !is_exact(claim, vector, listed) {
+        return Ok(Some(Reason::CapTooHigh));
+    }
+    Ok(None)
 }
 
 // Checks whether a cap row lists each of the `fights` fights, in order.
-fn lists_all(fights: u32, listed: &[(u32, u8)]) -> bool
+pub(crate) fn lists_all(fights: u32, listed: &[(u32, u8)]) -> bool
     ensures { result ≡ lists_all fights 0 listed.now }
 {
     let mut next: u64 = 0;
@@ -277,18 +286,18 @@ fn lists_all(fights: u32, listed: &[(u32, u8)]) -> bool
 }
 
 // Returns the fights in the row of setting `vector` if that is a cap row.
-fn cap_row(cert: &Cert, vector: u32) -> Option<&[(u32, u8)]>
-    ensures some { IfSome result (λ row. slice_get cert.now.rows vector ≡ Some (Cap row.now)) }
-    ensures none { IfNone result ((row : List (ℕ × ℕ)) → slice_get cert.now.rows vector ≡ Some (Cap row) → ⊥) }
+pub(crate) fn cap_row(rows: &Rows, vector: u32) -> Option<&[(u32, u8)]>
+    ensures some { IfSome result (λ row. slice_get rows.now vector ≡ Some (Cap row.now)) }
+    ensures none { IfNone result ((row : List (ℕ × ℕ)) → slice_get rows.now vector ≡ Some (Cap row) → ⊥) }
 {
-    match cert.rows.as_slice().get(vector as usize) {
+    match rows.as_slice().get(vector as usize) {
         Some(Row::Cap(listed)) => Some(listed.as_slice()),
         _ => None,
     }
 }
 
 // Adds up the scores that a cap row lists: points times the weight of the fight.
-fn listed_total(inputs: &Inputs, listed: &[(u32, u8)]) -> u32
+pub(crate) fn listed_total(inputs: &Inputs, listed: &[(u32, u8)]) -> u32
     requires few { length listed.now ≤ MOST_FIGHTS }
     ensures sum { result ≡ listed_total (problem_of inputs.now) listed.now }
     ensures small { result ≤ 255 * MOST_WEIGHT * length listed.now }
@@ -340,4 +349,32 @@ fn is_no_better(claim: &Claim<'_>, vector: u32, listed: &[(u32, u8)]) -> bool
             total: claim.cert.total,
         },
     )
+}
+
+// Checks whether setting `vector` is the best setting of the certificate, or its cap does not beat
+// that one.
+fn is_best_or_no_better(claim: &Claim<'_>, vector: u32, listed: &[(u32, u8)]) -> bool
+    requires rising { rises 0 listed.now ≡ true }
+    requires fights { are_fights (problem_of claim.now.inputs.now) listed.now ≡ true }
+    ensures { result ≡ ((vector == claim.now.cert.now.best) || is_no_better (problem_of claim.now.inputs.now) claim.now.cert.now vector listed.now) }
+{
+    vector == claim.cert.best || is_no_better(claim, vector, listed)
+}
+
+// Checks whether a row, as one of setting `vector`, lists every fight, or its cap does not contend
+// with the ranking that the rows list. Without an aim every row will do.
+#[tactic(auto, unfolding(crate::specs::Checks::is_exact))]
+fn is_exact(claim: &Claim<'_>, vector: u32, listed: &[(u32, u8)]) -> bool
+    requires rising { rises 0 listed.now ≡ true }
+    requires fights { are_fights (problem_of claim.now.inputs.now) listed.now ≡ true }
+    ensures { result ≡ is_exact (problem_of claim.now.inputs.now) claim.now.aim claim.now.cert.now.rows vector listed.now }
+{
+    let Some(aim) = claim.aim else {
+        return true;
+    };
+    if lists_all(fight_count(claim.inputs), listed) {
+        return true;
+    }
+    let cap = listed_cap(claim.inputs, listed);
+    !contends(aim, cap, vector, claim.ranking.as_slice())
 }

@@ -1,22 +1,20 @@
 //! What the checker tells a watcher.
-ghost use Rattle.std.specs.Prelude.{◌≡◌, ◌+◌, ◌%◌, ◌^◌, Some};
+ghost use Rattle.std.specs.Prelude.{◌≡◌, ◌+◌, ◌%◌, ◌^◌};
 ghost use Rattle.tune_problem.specs.Valid.{listed_in};
 ghost use Rattle.tune_cert.specs.Checks.{refers};
 
-use tune_problem::{Best, Cert, Row, Standing, Watcher};
+use tune_problem::{Best, Row, Standing, Watcher};
 
-// Returns how far the check of a certificate is before the first row.
-pub(crate) fn before_rows(cert: &Cert, count: u32) -> Standing
-    ensures { result ≡ record { settings = 0; count = count; fights = 0; best = Some (record { vector = cert.now.best; total = cert.now.total }) } }
+// Returns how far the check of a certificate is before the first row. `best` is the setting that it
+// names.
+pub(crate) fn before_rows(best: Option<Best>, count: u32) -> Standing
+    ensures { result ≡ record { settings = 0; count = count; fights = 0; best = best } }
 {
     Standing {
         settings: 0,
         count,
         fights: 0,
-        best: Some(Best {
-            vector: cert.best,
-            total: cert.total,
-        }),
+        best,
     }
 }
 

@@ -1,5 +1,7 @@
 //! The verdict on a certificate.
 
+use tune_problem::{Answer, Ranking};
+
 /// Why a certificate is rejected.
 #[derive(Clone, Copy, Debug, PartialEq, Eq)]
 pub enum Reason {
@@ -17,7 +19,8 @@ pub enum Reason {
     /// A cap row lists a fight twice, or its fights are not in order.
     RepeatedFight,
     /// The cap of a row beats the best setting, so the row does not show that its setting is not
-    /// better.
+    /// better. In a check with a demand it may also reach the floor, or contend for a place in the
+    /// ranking while some fights are not listed.
     CapTooHigh,
     /// A row refers to itself, to a setting that does not exist, to a row that is not a cap row of
     /// rising fights that exist, or to a setting with another warrior.
@@ -42,6 +45,27 @@ pub enum Verdict {
     /// The certificate is not valid.
     Rejected {
         /// The record, from 0: 0 is the count, 1 the best setting, v + 2 the row of setting v.
+        row: u64,
+        /// What is wrong with that record.
+        reason: Reason,
+    },
+}
+
+/// What a check with a demand says of a certificate, or of a share of its rows.
+#[derive(Debug, Drop)]
+pub enum Judgement {
+    /// All that was looked at is right. In a check of all rows the certificate then meets the
+    /// demand.
+    Accepted {
+        /// What the certificate says of all settings.
+        answer: Answer,
+        /// The first of the ranking, as many as the demand keeps. Without `keep`, and if no setting
+        /// reaches the floor, there are none.
+        ranking: Ranking,
+    },
+    /// The certificate does not meet the demand.
+    Rejected {
+        /// The record, from 0: 0 is the count, 1 the answer, v + 2 the row of setting v.
         row: u64,
         /// What is wrong with that record.
         reason: Reason,

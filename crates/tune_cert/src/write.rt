@@ -3,7 +3,7 @@ ghost use Rattle.std.specs.Prelude.{◌≡◌, ◌<◌, ◌↔◌, ◌^◌, ◌+
 ghost use Rattle.std.specs.Fmt.{decimal};
 ghost use Rattle.std.specs.Io.KnownBytes.{Appends};
 ghost use Rattle.csv.specs.Writing.{default_writer, row_text};
-ghost use Rattle.tune_cert.specs.CertText.{item_text, spaced_text, list_text, row_fields, rows_fields, records_text, cert_text};
+ghost use Rattle.tune_cert.specs.CertText.{item_text, spaced_text, list_text, row_fields, rows_fields, answer_fields, records_text, statement_with, statement_text, cert_text};
 ghost use Rattle.tune_problem.specs.Valid.{cert_of};
 ghost use Rattle.tune_cert.specs.Spelling.{IsVersion};
 ghost use Rattle.tune_cert.specs.Steps.{IsReady, AddsText};
@@ -14,7 +14,7 @@ use itoa::Buffer;
 use rc_instr::{OutOfMemory, Outlet};
 use std::alloc::Global;
 use std::io::Write;
-use tune_problem::{Found, Row};
+use tune_problem::{Answer, Best, Found, Row, Rows};
 
 /// Writes the certificate of what a search found.
 ///
@@ -40,7 +40,37 @@ pub fn write_cert<W: Write>(
     ensures write { IsErrOf result CertFault.Write ↔ IsTrue out.new.failed }
     ensures memory { IfErr result (λ e. e ≡ CertFault.OutOfMemory → out.new ≡ out.old) }
 {
-    let text = text_of(alloc, found)?;
+    let best = Best {
+        vector: found.best,
+        total: found.total,
+    };
+    write_answer(alloc, found.version, Answer::Best(best), &found.rows, out)
+}
+
+/// Writes a certificate with either answer.
+///
+/// The second line is `best,W,T` as that of `write_cert`, or `none,-,F` if no setting totals F or
+/// more. The version must be 1 or 2, there must be fewer than 4294967296 rows, and the outlet must
+/// not have failed.
+///
+/// # Errors
+///
+/// Those of `write_cert`.
+pub fn write_answer<W: Write>(
+    alloc: Global,
+    version: u32,
+    answer: Answer,
+    rows: &Rows,
+    out: &mut Outlet<W>,
+) -> Result<(), CertFault>
+    requires works { out.old.failed ≡ false }
+    requires version { IsVersion version }
+    requires few { length rows.now < 2 ^ 32 }
+    ensures bytes { OnOk result (Appends out.old.bytes out.new.bytes (statement_text (statement_with version answer rows.now))) }
+    ensures write { IsErrOf result CertFault.Write ↔ IsTrue out.new.failed }
+    ensures memory { IfErr result (λ e. e ≡ CertFault.OutOfMemory → out.new ≡ out.old) }
+{
+    let text = text_of(alloc, version, answer, rows)?;
     out.write_all(text.as_slice())?;
     Ok(())
 }
@@ -175,16 +205,34 @@ fn write_rows(alloc: Global, writer: &mut Writer<Vec<u8>>, rows: &[Row]) -> Resu
     Ok(())
 }
 
+fn write_answer_record(writer: &mut Writer<Vec<u8>>, answer: Answer) -> Result<(), OutOfMemory>
+    requires { IsReady writer.old }
+    ensures ready { OnOk result (IsReady writer.new) }
+    ensures text { OnOk result (AddsText writer.old writer.new (row_text default_writer (answer_fields answer))) }
+{
+    match answer {
+        Answer::Best(best) => write_numbers(writer, b"best", best.vector, best.total),
+        Answer::NoneFrom(floor) => {
+            write_record(
+                writer,
+                b"none",
+                b"-",
+                Buffer::new().format(floor).as_bytes(),
+            )
+        }
+    }
+}
+
 // Builds the whole text in memory.
 #[tactic(auto, using(crate::proofs::Written::whole_text))]
-fn text_of(alloc: Global, found: &Found) -> Result<Vec<u8>, OutOfMemory>
-    requires { length found.now.rows < 2 ^ 32 }
-    ensures { IfOk result (λ text. text.items ≡ cert_text (cert_of found.now)) }
+fn text_of(alloc: Global, version: u32, answer: Answer, rows: &Rows) -> Result<Vec<u8>, OutOfMemory>
+    requires { length rows.now < 2 ^ 32 }
+    ensures { IfOk result (λ text. text.items ≡ statement_text (statement_with version answer rows.now)) }
 {
     let mut writer = WriterBuilder::new().from_writer(Vec::new(alloc));
-    let rows = found.rows.as_slice();
-    write_numbers(&mut writer, b"cwcert", found.version, rows.len() as u32)?;
-    write_numbers(&mut writer, b"best", found.best, found.total)?;
+    let rows = rows.as_slice();
+    write_numbers(&mut writer, b"cwcert", version, rows.len() as u32)?;
+    write_answer_record(&mut writer, answer)?;
     write_rows(alloc, &mut writer, rows)?;
     writer.into_inner().map_err(|_refused| OutOfMemory)
 }

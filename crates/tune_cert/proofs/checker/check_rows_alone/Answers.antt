@@ -25,7 +25,7 @@ returns-in-Some-clause-wrong g c =
     let l : v < length cert.rows = omega (arith, c.loop-vector-test.true, c.requires.inside, c.requires.rows) in
     let at : slice_get cert.rows v ≡ Some row = row_here cert.rows c.as_slice-rows.result.now v row c.as_slice-rows.ensures l c.index-rows-vector.is in
     ap (λ n. Some (n, c.in-Some.reason)) (c.record_of.ensures ∙ ap record_of c.from.ensures)
-    ∙ sym (c.loop-vector.invariant.wrong ∙ wrong_here (alone_reason p cert) cert.rows v c.args.end row c.in-Some.reason c.loop-vector-test.true at (sym c.in-Some.is ∙ c.in_ok-reason.ensures.reason))
+    ∙ sym (c.loop-vector.invariant.wrong ∙ wrong_here (alone_reason p cert c.args.claim.now.aim) cert.rows v c.args.end row c.in-Some.reason c.loop-vector-test.true at (sym c.in-Some.is ∙ c.in_ok-reason.ensures.reason))
 
 pub returns-in-Some-clause-most : goal.returns-in-Some-clause-most
 returns-in-Some-clause-most g c = λ room.
@@ -48,7 +48,7 @@ loop-vector-preserved g c =
     record {
       blank = c.check_alone.ensures.blank;
       wrong = c.loop-vector.invariant.wrong
-          ∙ right_here (alone_reason p cert) cert.rows v c.args.end row c.loop-vector-test.true at (sym c.in_default.is ∙ c.in_ok-reason.ensures.reason);
+          ∙ right_here (alone_reason p cert c.args.claim.now.aim) cert.rows v c.args.end row c.loop-vector-test.true at (sym c.in_default.is ∙ c.in_ok-reason.ensures.reason);
       most = λ room. played_within _ _ _ _ (listed_in row) _ c.check_alone.new.arena.fights room (c.loop-vector.invariant.most room) (fights_step cert.rows v c.args.end row c.loop-vector-test.true at)
           c.in_ok-reason.ensures.most;
     }

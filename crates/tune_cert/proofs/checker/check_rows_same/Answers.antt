@@ -15,7 +15,7 @@ returns-in-Some g c =
     let at : slice_get cert.rows v ≡ Some row = row_here cert.rows c.as_slice-rows.result.now v row c.as_slice-rows.ensures l c.index-rows-vector.is in
     record {
       wrong = ap (λ n. Some (n, c.in-Some.reason)) (c.record_of.ensures ∙ ap record_of c.from.ensures)
-          ∙ sym (c.loop-vector.invariant.wrong ∙ wrong_here (same_reason p cert) cert.rows v c.args.end row c.in-Some.reason c.loop-vector-test.true at (sym c.in-Some.is ∙ c.in_ok-reason.ensures.reason));
+          ∙ sym (c.loop-vector.invariant.wrong ∙ wrong_here (same_reason p cert c.args.claim.now.aim) cert.rows v c.args.end row c.in-Some.reason c.loop-vector-test.true at (sym c.in-Some.is ∙ c.in_ok-reason.ensures.reason));
     }
 
 pub loop-vector-preserved : goal.loop-vector-preserved
@@ -28,6 +28,6 @@ loop-vector-preserved g c =
     let at : slice_get cert.rows v ≡ Some row = row_here cert.rows c.as_slice-rows.result.now v row c.as_slice-rows.ensures l c.index-rows-vector.is in
     record {
       wrong = c.loop-vector.invariant.wrong
-          ∙ right_here (same_reason p cert) cert.rows v c.args.end row c.loop-vector-test.true at (sym c.in_default.is ∙ c.in_ok-reason.ensures.reason);
+          ∙ right_here (same_reason p cert c.args.claim.now.aim) cert.rows v c.args.end row c.loop-vector-test.true at (sym c.in_default.is ∙ c.in_ok-reason.ensures.reason);
       assembled = c.check_same.ensures.assembled;
     }

@@ -12,4 +12,4 @@ loop-vector-preserved c =
     let row = c.index-rows-vector.result in
     let l : v < length cert.rows = omega (arith, c.loop-vector-test.true, c.requires) in
     let at : slice_get cert.rows v ≡ Some row = row_here cert.rows c.as_slice-rows.result.now v row c.as_slice-rows.ensures l c.index-rows-vector.is in
-    c.loop-vector.invariant ∙ right_here (same_reason p cert) cert.rows v c.args.end row c.loop-vector-test.true at (no_reference p cert v row (sym c.if-refers.ensures))
+    c.loop-vector.invariant ∙ right_here (same_reason p cert c.args.claim.now.aim) cert.rows v c.args.end row c.loop-vector-test.true at (no_reference p cert c.args.claim.now.aim v row (sym c.if-refers.ensures))

@@ -1,19 +1,13 @@
-use Rattle.std.proofs.Common.{◌≡◌, ◌≤◌, ◌^◌, List, ◌++◌, length, drop}
-use Rattle.std.specs.Prelude.{All}
-use Rattle.tune_cert.specs.CertText.{rows_fields}
-use Rattle.tune_cert.specs.Spelling.{IsRow}
-use Rattle.tune_cert.specs.Steps.{AreRows}
-use Rattle.tune_problem.specs.declared.cert.Row.{Row}
+use Rattle.std.proofs.Common.{◌≡◌, ◌≤◌, ◌^◌, length}
+use Rattle.tune_cert.specs.Spelling.{rows_from}
+use Rattle.tune_cert.proofs.RowsRead.{with_read}
 use Rattle.tune_cert.proofs.read.read_rows.Given as goal
 
+-- the records that are left give the rest of the rows
 abbrev pub invariant-loop-rows : goal.invariant-loop-rows
 invariant-loop-rows l = record {
-  number : l.vector ≡ length l.rows.items;
+  so_far : rows_from 0 l.fn.records ≡ with_read l.rows.items (rows_from l.vector l.records);
   few : l.vector ≤ 2 ^ 32;
-  text : l.fn.records ≡ rows_fields l.rows.items 0 ++ l.records;
-  rest : drop l.vector l.fn.records ≡ l.records;
-  each : All IsRow l.rows.items;
-  only : (all : List Row) → AreRows 0 l.fn.records all → (tail : List Row) × (all ≡ l.rows.items ++ tail) × AreRows l.vector l.records tail;
 }
 
 abbrev pub decreases-loop-rows : goal.decreases-loop-rows

@@ -1,5 +1,5 @@
 use Rattle.std.proofs.Common.{sym, arith}
-use Rattle.tune_cert.proofs.RowChecks.{up_to}
+use Rattle.tune_problem.proofs.ListedRanks.{up_to}
 use Rattle.tune_cert.proofs.row_checks.is_best_row.Goals as goal
 
 pub listed_total-requires : goal.listed_total-requires

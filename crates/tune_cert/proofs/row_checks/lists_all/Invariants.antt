@@ -1,5 +1,5 @@
 use Rattle.std.proofs.Common.{◌≡◌, drop}
-use Rattle.tune_cert.specs.Checks.{lists_all}
+use Rattle.tune_problem.specs.Exact.{lists_all}
 use Rattle.tune_cert.proofs.row_checks.lists_all.Given as goal
 
 -- all fights are listed if the rest are
