@@ -8,3 +8,5 @@ pub mod Writable
 pub mod Certified
 pub mod AcceptedParts
 pub mod SharedChecks
+pub mod BestTunings
+pub mod Appended

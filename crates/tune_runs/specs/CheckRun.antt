@@ -1,5 +1,5 @@
 -- What the run of a check writes.
-use Rattle.std.specs.Prelude.{◌≡◌, ◌≢◌, ◌↔◌, ℕ, Bool, true, false, List, ◌∷◌, [], ◌++◌, codes, Option, Some, None, Result, Err, IfErr, IsOk, IsErrOf, IsTrue}
+use Rattle.std.specs.Prelude.{◌≡◌, ◌≢◌, ◌↔◌, ℕ, Bool, true, false, nat_lt, if◌then◌else◌, map, List, ◌∷◌, [], ◌++◌, codes, Option, Some, None, Result, Ok, Err, IfErr, IsOk, IsErrOf, IsTrue}
 use Rattle.std.specs.Fmt.{decimal}
 use Rattle.std.specs.Io.KnownBytes.{Appends}
 use Rattle.rc_instr.specs.Outlet.{OutletView}
@@ -7,13 +7,23 @@ use Rattle.tables.specs.Records.{records_of}
 use Rattle.tune_problem.specs.Inputs.{InputsView}
 use Rattle.tune_problem.specs.Problem.{problem_of}
 use Rattle.tune_problem.specs.declared.part.Part.{Part}
+use Rattle.tune_problem.specs.Parts.{whole}
+use Rattle.tune_problem.specs.declared.statement.Answer.{Answer}
+use Rattle.tune_problem.specs.declared.statement.Answer.TheVariants.{Best as TheBest, NoneFrom}
+use Rattle.tune_problem.specs.declared.watcher.Best.{Best}
+use Rattle.rc_instr.specs.Results.{◌>>=◌}
+use Rattle.tune_cert.specs.Judgement.{judgement_of}
+use Rattle.tune_cert.specs.declared.demand.Demand.{Demand}
+use Rattle.tune_cert.specs.declared.verdict.Judgement.{Judgement}
+use Rattle.tune_cert.specs.declared.verdict.Judgement.TheVariants.{Accepted as AcceptedFor, Rejected as RejectedFor}
+use Rattle.tune_runs.specs.Report.{Told, told, rank_lines}
 use Rattle.tune_cert.specs.Verdict.{IsVerdictOf, IsRightVerdict}
 use Rattle.tune_cert.specs.declared.verdict.Reason.{Reason}
 use Rattle.tune_cert.specs.declared.verdict.Reason.TheVariants.{Malformed, RowCount, BestRow, WrongPoints, RepeatedFight, CapTooHigh, NotSame, NotRefused, Version}
 use Rattle.tune_cert.specs.declared.verdict.Verdict.{Verdict}
 use Rattle.tune_cert.specs.declared.verdict.Verdict.TheVariants.{Accepted, Rejected}
 use Rattle.tune_runs.specs.TuneRun.{Texts, meaning_of, Means, HasNoCandidate}
-use Rattle.tune_runs.specs.Runs.{IsMemory}
+use Rattle.tune_runs.specs.Runs.{IsMemory, Writes}
 use Rattle.tune_runs.specs.declared.fault.RunFault.{RunFault}
 use Rattle.tune_runs.specs.declared.fault.RunFault.TheVariants.{Write}
 
@@ -45,6 +55,59 @@ share_line share (Rejected row reason) = check_line (Rejected row reason)
 abbrev pub accepts : Verdict → Bool
 accepts (Accepted best total) = true
 accepts (Rejected row reason) = false
+
+-- ---- checks with a demand
+
+unfoldable pub share_words : (number shares : ℕ) → List ℕ
+share_words number shares = codes "accepted share " ++ decimal number ++ codes "/" ++ decimal shares
+
+-- `accepted`, or `accepted share I/K`.
+abbrev pub accepted_words : Option Part → List ℕ
+accepted_words None = codes "accepted"
+accepted_words (Some share) = share_words share.number share.parts
+
+unfoldable pub none_text : ℕ → List ℕ
+none_text floor = codes " none below " ++ decimal floor ++ 10 ∷ []
+
+-- ` best W total T`, or ` none below F`, to the end of the line.
+abbrev pub answer_text : Answer → List ℕ
+answer_text (TheBest best) = best_text best.vector best.total
+answer_text (NoneFrom floor) = none_text floor
+
+-- The ranking is told if more than one setting is asked for.
+abbrev pub told_if : InputsView → Option ℕ → List Best → List Told
+told_if i None ranking = []
+told_if i (Some keep) ranking = if nat_lt 1 keep then map (told i) ranking else []
+
+-- The lines of a judgement of all rows or of a share: `accepted ..` and those of the ranking, or
+-- `rejected row R REASON`.
+unfoldable pub judgement_lines : InputsView → Demand → Option Part → Judgement → List ℕ
+judgement_lines i demand share (AcceptedFor answer ranking) = accepted_words share ++ answer_text answer ++ rank_lines 1 (told_if i demand.keep ranking)
+judgement_lines i demand share (RejectedFor row reason) = check_line (Rejected row reason)
+
+abbrev pub accepts_for : Judgement → Bool
+accepts_for (AcceptedFor answer ranking) = true
+accepts_for (RejectedFor row reason) = false
+
+-- The share that is meant: all rows, if none is given.
+abbrev pub share_meant : Option Part → Part
+share_meant None = whole
+share_meant (Some share) = share
+
+-- Whether a check with a demand accepts the bytes, and its lines; or the first fault of the texts.
+unfoldable pub check_answer : Texts → Demand → Option Part → List ℕ → Result (Bool × List ℕ) RunFault
+check_answer t demand share cert = do
+  i ← meaning_of t
+  Ok (said i (judgement_of (problem_of i) demand (share_meant share) (records_of cert)))
+  where
+    said : InputsView → Judgement → Bool × List ℕ
+    said i judgement = (accepts_for judgement, judgement_lines i demand share judgement)
+
+-- They were written.
+abbrev pub WritesJudgement : Texts → Demand → Option Part → List ℕ → Bool → Option (List ℕ) → Option (List ℕ) → Type 0
+WritesJudgement t demand share cert accepted old new = Writes (check_answer t demand share cert) accepted old new
+
+-- ---- checks for the optimum
 
 -- The line of the right verdict on the bytes was written; `accepted` says whether it accepts.
 abbrev pub WritesVerdict : Texts → List ℕ → Bool → Option (List ℕ) → Option (List ℕ) → Type 0

@@ -1,6 +1,9 @@
 -- What runs are given, as the definitions have it.
 use Rattle.std.specs.Prelude.{map}
 use Rattle.rc_instr.specs.Rules.{RulesView, rules_view}
+use Rattle.tune_problem.specs.Parts.{part}
+use Rattle.tune_problem.specs.declared.part.Part.{Part}
+use Rattle.tune_cert.specs.declared.share.Share.{Share}
 use Rattle.tune_runs.specs.FightText.{FightWords}
 use Rattle.tune_runs.specs.DuelRun.{Duel, duel}
 use Rattle.tune_runs.specs.TuneRun.{Texts, part_texts}
@@ -24,3 +27,7 @@ duel_given t = duel t.candidate.now t.opponent.now t.rules.now t.position t.firs
 -- The texts of a tuning.
 abbrev pub texts_given : TuneTexts → Texts
 texts_given t = part_texts t.template.now (map (λ o. o.items) t.opponents.now) t.schedule.now t.rules.now t.part
+
+-- A share, as some of the settings.
+abbrev pub part_given : Share → Part
+part_given share = part share.number share.shares

@@ -1,26 +1,36 @@
 -- The report of a tuning: what was found, and how much of the work was done.
-use Rattle.std.specs.Prelude.{ℕ, ℤ, ◌*◌, List, [], ◌∷◌, ◌++◌, length, codes}
+use Rattle.std.specs.Prelude.{ℕ, ℤ, ◌+◌, ◌*◌, ◌<◌, nat_lt, if◌then◌else◌, List, [], ◌∷◌, ◌++◌, length, map, slice_get, codes, Option, Some, None}
 use Rattle.std.specs.Fmt.{decimal, signed_decimal}
+use Rattle.std.specs.Option.{option_map}
 use Rattle.rc_expand.specs.Names.{Table}
 use Rattle.tune_template.specs.Instances.{constants_of}
-use Rattle.tune_problem.specs.Inputs.{InputsView}
+use Rattle.tune_problem.specs.Inputs.{InputsView, settings_of}
 use Rattle.tune_problem.specs.Problem.{problem_of}
 use Rattle.tune_problem.specs.Optimum.{greatest_of, candidates_of}
+use Rattle.tune_problem.specs.Ranking.{first_of}
+use Rattle.tune_problem.specs.declared.aim.Aim.{Aim}
 use Rattle.tune_problem.specs.declared.cert.Found.{Found}
+use Rattle.tune_problem.specs.declared.watcher.Best.{Best}
+use Rattle.tune_search.specs.declared.findings.Findings.{Findings}
+
+-- A setting with its total, and the values that it gives the constants.
+abbrev pub Told : Type 0
+Told = Best × Table
 
 -- What a report says.
 pub record Report : Type 0 where
   pub vectors : ℕ
   pub candidates : ℕ
-  -- the index of the best setting, and the values that it gives the constants
-  pub best : ℕ
-  pub constants : Table
-  -- its total, and the most that a total can be
-  pub total : ℕ
+  -- the best setting, or None if no candidate reaches the floor
+  pub best : Option Told
+  pub floor : ℕ
+  -- the most that a total can be
   pub most : ℕ
   -- the fights that were played, and all fights of all candidates
   pub fights : ℕ
   pub all_fights : ℕ
+  -- the first of the ranking, if they are told
+  pub ranking : List Told
 
 unfoldable pub number_line : List ℕ → ℕ → List ℕ
 number_line word n = word ++ decimal n ++ 10 ∷ []
@@ -46,25 +56,76 @@ constants_or_none (c ∷ cs) = constants_text (c ∷ cs)
 unfoldable pub constants_line : Table → List ℕ
 constants_line cs = codes "constants" ++ constants_or_none cs ++ 10 ∷ []
 
--- The six lines of a report.
+-- The lines that no total reaches the floor.
+unfoldable pub none_lines : (floor most : ℕ) → List ℕ
+none_lines floor most = codes "best -\n" ++ codes "constants -\n" ++ share_line (codes "total below ") floor most
+
+-- The lines of the best setting, or of none.
+unfoldable pub best_lines : (floor most : ℕ) → Option Told → List ℕ
+best_lines floor most None = none_lines floor most
+best_lines floor most (Some told) =
+    number_line (codes "best ") told.0.vector
+    ++ constants_line told.1
+    ++ share_line (codes "total ") told.0.total most
+
+-- `rank I setting W total T NAME=value ..`, with nothing after T if there are no constants.
+unfoldable pub rank_line : (rank : ℕ) → Told → List ℕ
+rank_line rank told =
+    codes "rank " ++ decimal rank ++ codes " setting " ++ decimal told.0.vector ++ codes " total " ++ decimal told.0.total
+    ++ constants_text told.1 ++ 10 ∷ []
+
+-- The lines of a ranking, whose first setting has this rank.
+abbrev pub rank_lines : (rank : ℕ) → List Told → List ℕ
+rank_lines rank [] = []
+rank_lines rank (told ∷ more) = rank_line rank told ++ rank_lines (rank + 1) more
+
+-- The six lines of a report, and those of the ranking.
 unfoldable pub report_text : Report → List ℕ
 report_text r =
     number_line (codes "vectors ") r.vectors
     ++ number_line (codes "candidates ") r.candidates
-    ++ number_line (codes "best ") r.best
-    ++ constants_line r.constants
-    ++ share_line (codes "total ") r.total r.most
+    ++ best_lines r.floor r.most r.best
     ++ share_line (codes "fights ") r.fights r.all_fights
+    ++ rank_lines 1 r.ranking
 
 -- The report of what a search found. The best setting gives the constants these values.
 abbrev pub report_for : InputsView → Found → List ℤ → Report
 report_for i f values = record {
   vectors = (problem_of i).count;
   candidates = candidates_of (problem_of i);
-  best = f.best;
-  constants = constants_of i.template.ranges.names values;
-  total = f.total;
+  best = Some (record { vector = f.best; total = f.total }, constants_of i.template.ranges.names values);
+  floor = 0;
   most = greatest_of (problem_of i);
   fights = f.fights;
   all_fights = candidates_of (problem_of i) * length i.schedule;
+  ranking = [];
+}
+
+abbrev pub constants_with : InputsView → Option (List ℤ) → Table
+constants_with i None = []
+constants_with i (Some values) = constants_of i.template.ranges.names values
+
+-- A setting, and the values that it gives the constants.
+abbrev pub told : InputsView → Best → Told
+told i best = (best, constants_with i (slice_get (settings_of i) best.vector))
+
+-- One of the part's settings.
+abbrev pub IsSettingOf : InputsView → Best → Type 0
+IsSettingOf i best = best.vector < length (settings_of i)
+
+-- The ranking is told if more than one setting is kept.
+abbrev pub ranking_told : InputsView → Aim → List Best → List Told
+ranking_told i aim ranking = if nat_lt 1 aim.keep then map (told i) ranking else []
+
+-- The report of what a search with an aim found.
+abbrev pub report_from : InputsView → Aim → Findings → Report
+report_from i aim f = record {
+  vectors = (problem_of i).count;
+  candidates = candidates_of (problem_of i);
+  best = option_map (told i) (first_of f.ranking);
+  floor = aim.floor;
+  most = greatest_of (problem_of i);
+  fights = f.fights;
+  all_fights = candidates_of (problem_of i) * length i.schedule;
+  ranking = ranking_told i aim f.ranking;
 }

@@ -1,5 +1,5 @@
 -- What the texts of a tuning mean, what its run writes, and why it refuses.
-use Rattle.std.specs.Prelude.{◌≡◌, ◌≢◌, ◌↔◌, ◌⊎◌, ℕ, ◌+◌, ℤ, Bool, ◌&&◌, nat_le, List, [], ◌∷◌, length, slice_get, Option, Some, true, Result, Ok, Err, IfErr, OnOk, IsOk, IsErrOf, IsTrue}
+use Rattle.std.specs.Prelude.{◌≡◌, ◌≢◌, ◌↔◌, ◌⊎◌, ℕ, ◌+◌, ◌<◌, ℤ, Bool, ◌&&◌, nat_le, List, [], ◌∷◌, length, slice_get, Option, Some, None, true, Result, Ok, Err, IfErr, OnOk, IsOk, IsErrOf, IsTrue}
 use Rattle.std.specs.Io.KnownBytes.{Appends}
 use Rattle.rc_instr.specs.Results.{with_fault, ◌>>=◌, check}
 use Rattle.rc_instr.specs.Rules.{RulesView}
@@ -13,14 +13,21 @@ use Rattle.tune_problem.specs.declared.part.Part.{Part}
 use Rattle.tune_problem.specs.Parts.{part, whole}
 use Rattle.tune_problem.specs.Inputs.{InputsView, settings_of}
 use Rattle.tune_problem.specs.Problem.{problem_of}
-use Rattle.tune_cert.specs.CertText.{cert_text}
+use Rattle.tune_cert.specs.CertText.{cert_text, statement_text, statement_with}
 use Rattle.tune_problem.specs.Valid.{cert_of}
 use Rattle.tune_problem.specs.declared.cert.Found.{Found}
+use Rattle.tune_problem.specs.Ranking.{first_of}
+use Rattle.tune_problem.specs.declared.aim.Aim.{Aim}
+use Rattle.tune_problem.specs.declared.statement.Answer.{Answer}
+use Rattle.tune_problem.specs.declared.statement.Answer.TheVariants.{Best as TheBest, NoneFrom}
+use Rattle.tune_problem.specs.declared.watcher.Best.{Best}
+use Rattle.tune_search.specs.Findings.{IsSearchFrom}
 use Rattle.tune_search.specs.Found.{IsSearch, NoneAssembles}
+use Rattle.tune_search.specs.declared.findings.Findings.{Findings}
 use Rattle.tune_search.specs.declared.method.Method.{Method}
 use Rattle.tune_search.specs.declared.fault.SearchFault.{SearchFault}
 use Rattle.tune_search.specs.declared.fault.SearchFault.TheVariants.{NoCandidate as NoneFound, OutOfMemory as SearchMemory}
-use Rattle.tune_runs.specs.Report.{report_text, report_for}
+use Rattle.tune_runs.specs.Report.{report_text, report_for, report_from}
 use Rattle.tune_runs.specs.Runs.{opponent_fault, template_fault, schedule_fault, IsMemory}
 use Rattle.tune_runs.specs.declared.fault.RunFault.{RunFault}
 use Rattle.tune_runs.specs.declared.fault.RunFault.TheVariants.{TooManyOpponents, NoCandidate, Write, OutOfMemory, Part as BadPart}
@@ -91,13 +98,30 @@ WritesTuning t method report_old report_new cert_old cert_new =
     (i : InputsView) × (f : Found) × (values : List ℤ) × IsTuning t method i f values
     × Appends cert_old cert_new (cert_text (cert_of f)) × Appends report_old report_new (report_text (report_for i f values))
 
+-- What a tuning with an aim finds: the inputs that the texts mean, some of whose settings assemble,
+-- and what a search by this method finds for them.
+abbrev pub IsTuningFrom : Texts → Aim → Method → InputsView → Findings → Type 0
+IsTuningFrom t aim method i f = Means t i × IsSearchFrom (problem_of i) aim method f × (0 < f.candidates)
+
+-- What its certificate says: which setting is the best, or that none reaches the floor.
+abbrev pub answer_of : (floor : ℕ) → Option Best → Answer
+answer_of floor None = NoneFrom floor
+answer_of floor (Some best) = TheBest best
+
+-- The certificate and the report of what such a tuning finds were written.
+abbrev pub WritesTuningFrom : Texts → Aim → Method → Option (List ℕ) → Option (List ℕ) → Option (List ℕ) → Option (List ℕ) → Type 0
+WritesTuningFrom t aim method report_old report_new cert_old cert_new =
+    (i : InputsView) × (f : Findings) × IsTuningFrom t aim method i f
+    × Appends cert_old cert_new (statement_text (statement_with f.version (answer_of aim.floor (first_of f.ranking)) f.rows))
+    × Appends report_old report_new (report_text (report_from i aim f))
+
 -- How a run of a tuning ends, beyond what it writes if it succeeds.
 pub record IsTuneRun {X : Type 0} (t : Texts) (result : Result X RunFault) (report_old report_new cert_old cert_new : OutletView) : Type 0 where
   -- `Write`: a writer failed. The texts have a meaning, and what is out is not said.
   pub stopped : IsErrOf result Write → IsOk (meaning_of t)
   pub write : IsErrOf result Write ↔ (IsTrue report_new.failed ⊎ IsTrue cert_new.failed)
-  -- after any other fault nothing was written; unless memory ran out the texts have this fault, or a
-  -- meaning without a candidate
+  -- after any other fault nothing was written; unless memory ran out the texts have this fault, or
+  -- a meaning without a candidate
   pub unwritten : IfErr result (λ e. e ≢ Write → (report_new ≡ report_old) × (cert_new ≡ cert_old))
   pub refused : IfErr result (λ e. e ≢ Write → (¬ IsMemory e) → (meaning_of t ≡ Err e) ⊎ ((e ≡ NoCandidate) × HasNoCandidate t))
   -- the report begins only after the certificate is out and flushed

@@ -1,19 +1,21 @@
 //! A check: from texts and a certificate to the line of the verdict.
 ghost use Rattle.std.specs.Prelude.{◌≡◌, ◌≢◌, map, true, false, IfOk, IfErr, Err};
+ghost use Rattle.std.specs.Option.{option_map};
 ghost use Rattle.tune_runs.specs.TuneRun.{texts, meaning_of};
-ghost use Rattle.tune_runs.specs.Runs.{IsMemory};
-ghost use Rattle.tune_runs.specs.Given.{texts_given};
+ghost use Rattle.tune_runs.specs.Runs.{IsMemory, IsRun, Returns};
+ghost use Rattle.tune_runs.specs.Given.{texts_given, part_given};
 ghost use Rattle.tune_problem.specs.Parts.{part};
-ghost use Rattle.tune_runs.specs.CheckRun.{accepts, IsCheckRun, IsVerdictFor, WritesVerdict, WritesShare};
+ghost use Rattle.tune_cert.specs.Judgement.{IsDemand};
+ghost use Rattle.tune_runs.specs.CheckRun.{accepts, accepts_for, check_answer, share_meant, IsCheckRun, IsVerdictFor, WritesVerdict, WritesShare};
 
 use crate::fault::RunFault;
 use crate::given::TuneTexts;
 use crate::inputs::inputs_of;
-use crate::lines::{share_line, verdict_line};
+use crate::lines::{judgement_lines, share_line, verdict_line};
 use rc_instr::{Outlet, Rules};
 use std::alloc::Global;
 use std::io::Write;
-use tune_cert::{Share, Silent, Verdict, Watcher, check_share};
+use tune_cert::{Demand, Judgement, Share, Silent, Verdict, Watcher, check_for, check_share};
 use tune_problem::Part;
 
 /// Checks a certificate of a tuning, whoever made it, and writes the line of the verdict. Returns
@@ -99,9 +101,9 @@ pub fn check_part_run<T: Watcher, W: Write>(
 /// the share accepts it.
 ///
 /// The line is `accepted share I/K best W total T`, or `rejected row R REASON` as in a check of all
-/// rows. If all K shares accept the same bytes, a check of all rows accepts them, too, with the same
-/// best setting and total. With a part, the share is of that part's settings. The
-/// rest is as for `check_part_run`.
+/// rows. If all K shares accept the same bytes, a check of all rows accepts them, too, with the
+/// same best setting and total. With a part, the share is of that part's settings. The rest is as
+/// for `check_part_run`.
 ///
 /// # Errors
 ///
@@ -129,8 +131,92 @@ pub fn check_share_run<T: Watcher, W: Write>(
     Ok(is_accepted(&verdict))
 }
 
-// Checks a share of a certificate for the inputs in the texts. Tells `watcher` when the check begins
-// and when it has ended.
+/// Checks a certificate, or a share of its rows, and whether it meets a demand; writes the lines of
+/// the judgement. Returns whether it is accepted.
+///
+/// With `floor` a certificate is also accepted that no setting totals the floor that is asked for:
+/// the line is then `accepted none below F`. With `keep` above 1 a line `rank I setting W total T
+/// NAME=value ..` follows for each of the first of the ranking, which the rows then have to show.
+/// For a share the first line is `accepted share I/K ..`; if all K shares accept the same bytes,
+/// they meet the demand. The rest is as for `check_part_run`, which is this run without a demand.
+///
+/// # Errors
+///
+/// Those of `check_part_run`.
+pub fn check_for_run<T: Watcher, W: Write>(
+    alloc: Global,
+    given: &TuneTexts<'_>,
+    demand: Demand,
+    share: Option<Share>,
+    watcher: &mut T,
+    cert: &[u8],
+    out: &mut Outlet<W>,
+) -> Result<bool, RunFault>
+    requires demand { IsDemand demand }
+    requires out { out.old.failed ≡ false }
+
+    // The lines are those of the share's judgement on the certificate, for the inputs in the texts.
+    ensures run { IsRun (check_answer (texts_given given.now) demand (option_map part_given share) cert.now) result out.old out.new }
+{
+    let judged = judged_lines(alloc, given, demand, share, watcher, cert)?;
+    out.write_all(judged.lines.as_slice())?;
+    Ok(judged.is_accepted)
+}
+
+// Whether a certificate is accepted, and the lines that say so.
+#[derive(Drop)]
+struct Judged {
+    is_accepted: bool,
+    lines: Vec<u8>,
+}
+
+// Makes the lines of a judgement. Tells `watcher` when the check begins and when it has ended.
+#[tactic(auto, unfolding(crate::specs::CheckRun::check_answer))]
+fn judged_lines<T: Watcher>(
+    alloc: Global,
+    given: &TuneTexts<'_>,
+    demand: Demand,
+    share: Option<Share>,
+    watcher: &mut T,
+    cert: &[u8],
+) -> Result<Judged, RunFault>
+    requires demand { IsDemand demand }
+    ensures answer { Returns (λ j. (j.is_accepted, j.lines.items)) result (check_answer (texts_given given.now) demand (option_map part_given share) cert.now) }
+    ensures unwritten { IfErr result (λ e. e ≢ RunFault.Write) }
+{
+    let inputs = inputs_of(alloc, given)?;
+    watcher.begin(&inputs);
+    let judged = check_for(alloc, &inputs, demand, share_meant(share), cert, watcher);
+    watcher.end();
+    let judgement = judged?;
+    let lines = judgement_lines(alloc, &inputs, demand, share, &judgement)?;
+    Ok(Judged {
+        is_accepted: is_accepted_for(&judgement),
+        lines,
+    })
+}
+
+// Returns the share that is meant: all rows, if none is given.
+fn share_meant(share: Option<Share>) -> Share
+    ensures { part result.number result.shares ≡ share_meant (option_map part_given share) }
+{
+    match share {
+        Some(share) => share,
+        None => Share::whole(),
+    }
+}
+
+fn is_accepted_for(judgement: &Judgement) -> bool
+    ensures { result ≡ accepts_for judgement.now }
+{
+    match judgement {
+        Judgement::Accepted { .. } => true,
+        Judgement::Rejected { .. } => false,
+    }
+}
+
+// Checks a share of a certificate for the inputs in the texts. Tells `watcher` when the check
+// begins and when it has ended.
 fn verdict_given<T: Watcher>(
     alloc: Global,
     given: &TuneTexts<'_>,

@@ -6,6 +6,7 @@ ghost use Rattle.tables.specs.Records.{records_of};
 ghost use Rattle.tune_problem.specs.Inputs.{InputsView};
 ghost use Rattle.tune_problem.specs.Parts.{part};
 ghost use Rattle.tune_problem.specs.Problem.{problem_of};
+ghost use Rattle.tune_problem.specs.Ranking.{the_best};
 ghost use Rattle.tune_problem.specs.declared.part.Part.{Part};
 ghost use Rattle.tune_cert.specs.CertText.{cert_text};
 ghost use Rattle.tune_problem.specs.Valid.{cert_of};
@@ -13,7 +14,7 @@ ghost use Rattle.tune_cert.specs.Spelling.{Spells};
 ghost use Rattle.tune_search.specs.Found.{IsSearch};
 ghost use Rattle.tune_runs.specs.Report.{report_text, report_for};
 ghost use Rattle.tune_problem.specs.BestPart.{first_setting, IsOutcome, IsBestPart};
-ghost use Rattle.tune_runs.specs.TuneRun.{Texts, of_part, Means, HasNoCandidate, IsTuning, WritesTuning};
+ghost use Rattle.tune_runs.specs.TuneRun.{Texts, of_part, Means, HasNoCandidate, IsTuning, WritesTuning, WritesTuningFrom};
 ghost use Rattle.tune_cert.specs.Verdict.{IsRightVerdict};
 ghost use Rattle.tune_runs.specs.CheckRun.{WritesVerdict, WritesShare, Accepts, IsShown, check_line, share_line};
 
@@ -41,6 +42,13 @@ pub fn equal_tunings_write_equal_bytes()
         → WritesTuning t method (Some []) (Some report) (Some []) (Some cert)
         → WritesTuning t method (Some []) (Some report_too) (Some []) (Some cert_too)
         → (report ≡ report_too) × (cert ≡ cert_too) }
+{}
+
+/// States that a tuning that keeps one setting and has the floor 0 writes what `WritesTuning` says:
+/// the certificate and the report of the optimum.
+pub fn a_tuning_without_a_floor_is_a_tuning()
+    ensures { (t : Texts) (method : Method) (report report_after cert cert_after : Option (List ℕ))
+        → WritesTuningFrom t the_best method report report_after cert cert_after → WritesTuning t method report report_after cert cert_after }
 {}
 
 /// States that a check of the texts of a tuning accepts the bytes of its certificate, and names the

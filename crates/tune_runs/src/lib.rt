@@ -21,7 +21,7 @@ mod settings_text;
 mod tune;
 
 pub use asm::{asm_run, warrior_of};
-pub use check::{check_part_run, check_run, check_share_run};
+pub use check::{check_for_run, check_part_run, check_run, check_share_run};
 pub use duel::duel_run;
 pub use fault::RunFault;
 pub use fight::fight_run;
@@ -29,7 +29,7 @@ pub use given::{DuelTexts, RawRules, TuneTexts, WhichSetting, rules_of};
 pub use inputs::{inputs_of, template_of};
 pub use setting::setting_run;
 pub use settings::settings_run;
-pub use tune::{tune_by_run, tune_run};
-pub use tune_cert::Share;
+pub use tune::{tune_by_run, tune_from_run, tune_run};
+pub use tune_cert::{Demand, Share};
 pub use tune_problem::{Inputs, Part};
 pub use tune_search::Method;

@@ -1,16 +1,23 @@
 //! The lines of a fight and of a check.
 ghost use Rattle.std.specs.Prelude.{◌≡◌, ◌++◌, IfOk, OnOk};
+ghost use Rattle.std.specs.Option.{option_map};
+ghost use Rattle.tune_problem.specs.Problem.{problem_of};
+ghost use Rattle.tune_cert.specs.Judgement.{AreSettings, IsOfSettings};
+ghost use Rattle.tune_runs.specs.Given.{part_given};
+ghost use Rattle.tune_runs.specs.Report.{rank_lines};
 ghost use Rattle.tune_runs.specs.ResultLine.{points_text, result_line};
 ghost use Rattle.mars_core.specs.declared.arena.Outcome.{Outcome};
 ghost use Rattle.tune_cert.specs.declared.verdict.Reason.{Reason};
 ghost use Rattle.tune_problem.specs.Parts.{part};
-ghost use Rattle.tune_runs.specs.CheckRun.{reason_text, best_text, check_line, share_line};
+ghost use Rattle.tune_runs.specs.CheckRun.{reason_text, best_text, check_line, share_line, share_words, accepted_words, none_text, answer_text, told_if, judgement_lines};
 
+use crate::report::add_ranks;
 use itoa::Buffer;
 use mars_core::Outcome;
 use rc_instr::OutOfMemory;
 use std::alloc::Global;
-use tune_cert::{Reason, Share, Verdict};
+use tune_cert::{Answer, Best, Demand, Judgement, Reason, Share, Verdict};
+use tune_problem::Inputs;
 
 // Makes the line of an outcome, as in `tie 1 turns 40`.
 #[tactic(auto, unfolding(crate::specs::ResultLine::result_line))]
@@ -46,6 +53,87 @@ pub(crate) fn share_line(
     match verdict {
         Verdict::Accepted { best, total } => accepted_share_line(alloc, share, best, total),
         Verdict::Rejected { row, reason } => rejected_line(alloc, row, reason),
+    }
+}
+
+// Makes the lines of a judgement with a demand, of all rows or of a share.
+#[tactic(auto, unfolding(crate::specs::CheckRun::judgement_lines))]
+pub(crate) fn judgement_lines(
+    alloc: Global,
+    inputs: &Inputs,
+    demand: Demand,
+    share: Option<Share>,
+    judgement: &Judgement,
+) -> Result<Vec<u8>, OutOfMemory>
+    requires settings { IsOfSettings (problem_of inputs.now).count judgement.now }
+    ensures { IfOk result (λ lines. lines.items ≡ judgement_lines inputs.now demand (option_map part_given share) judgement.now) }
+{
+    match judgement {
+        Judgement::Accepted { answer, ranking } => {
+            let mut lines = Vec::new(alloc);
+            add_accepted(&mut lines, share)?;
+            add_answer(&mut lines, *answer)?;
+            add_told(&mut lines, inputs, demand.keep, ranking.as_slice())?;
+            Ok(lines)
+        }
+        Judgement::Rejected { row, reason } => rejected_line(alloc, *row, *reason),
+    }
+}
+
+// Appends `accepted`, or `accepted share I/K`.
+fn add_accepted(line: &mut Vec<u8>, share: Option<Share>) -> Result<(), OutOfMemory>
+    ensures { OnOk result (line.new.items ≡ line.old.items ++ accepted_words (option_map part_given share)) }
+{
+    match share {
+        None => Ok(line.extend_from_slice(b"accepted")?),
+        Some(share) => add_share(line, share),
+    }
+}
+
+// Appends `accepted share I/K`.
+fn add_share(line: &mut Vec<u8>, share: Share) -> Result<(), OutOfMemory>
+    ensures { OnOk result (line.new.items ≡ line.old.items ++ share_words share.number share.shares) }
+{
+    line.extend_from_slice(b"accepted share ")?;
+    line.extend_from_slice(Buffer::new().format(share.number).as_bytes())?;
+    line.extend_from_slice(b"/")?;
+    line.extend_from_slice(Buffer::new().format(share.shares).as_bytes())?;
+    Ok(())
+}
+
+// Appends ` best W total T` or ` none below F`, and the end of the line.
+fn add_answer(line: &mut Vec<u8>, answer: Answer) -> Result<(), OutOfMemory>
+    ensures { OnOk result (line.new.items ≡ line.old.items ++ answer_text answer) }
+{
+    match answer {
+        Answer::Best(best) => add_best(line, best.vector, best.total),
+        Answer::NoneFrom(floor) => add_none(line, floor),
+    }
+}
+
+// Appends ` none below F` and the end of the line.
+fn add_none(line: &mut Vec<u8>, floor: u32) -> Result<(), OutOfMemory>
+    ensures { OnOk result (line.new.items ≡ line.old.items ++ none_text floor) }
+{
+    line.extend_from_slice(b" none below ")?;
+    line.extend_from_slice(Buffer::new().format(floor).as_bytes())?;
+    line.extend_from_slice(b"\n")?;
+    Ok(())
+}
+
+// Appends the lines of a ranking, if more than one setting is asked for.
+fn add_told(
+    lines: &mut Vec<u8>,
+    inputs: &Inputs,
+    keep: Option<u32>,
+    ranking: &[Best],
+) -> Result<(), OutOfMemory>
+    requires settings { AreSettings (problem_of inputs.now).count ranking.now }
+    ensures { OnOk result (lines.new.items ≡ lines.old.items ++ rank_lines 1 (told_if inputs.now keep ranking.now)) }
+{
+    match keep {
+        Some(keep) if keep > 1 => add_ranks(lines, inputs, ranking),
+        _ => Ok(()),
     }
 }
 

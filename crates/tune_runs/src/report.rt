@@ -1,49 +1,140 @@
-//! The report of a tuning, six lines.
-ghost use Rattle.std.specs.Prelude.{◌≡◌, ◌++◌, ◌<◌, ◌*◌, ℤ, List, map, length, slice_get, Some, IfOk, OnOk};
+//! The report of a tuning: six lines, and those of the ranking.
+ghost use Rattle.std.specs.Prelude.{◌≡◌, ◌++◌, ◌<◌, ◌≤◌, ◌*◌, map, length, IfOk, IfSome, OnOk};
+ghost use Rattle.std.specs.Fmt.{decimal};
+ghost use Rattle.std.specs.List.{AllByRecursion};
+ghost use Rattle.std.specs.Option.{option_map};
 ghost use Rattle.tune_template.specs.Instances.{constants_of};
-ghost use Rattle.tune_problem.specs.Inputs.{settings_of};
+ghost use Rattle.tune_problem.specs.Limits.{MOST_KEPT};
 ghost use Rattle.tune_problem.specs.Problem.{problem_of};
-ghost use Rattle.tune_problem.specs.Optimum.{candidates_of};
-ghost use Rattle.tune_runs.specs.Report.{number_line, share_line, constant_text, constants_text, constants_or_none, constants_line, report_text, report_for};
+ghost use Rattle.tune_problem.specs.Optimum.{candidates_of, greatest_of};
+ghost use Rattle.tune_runs.specs.Report.{number_line, share_line, constant_text, constants_text, constants_or_none, constants_line, best_lines, none_lines, rank_line, rank_lines, told, ranking_told, report_text, report_from, IsSettingOf};
 
 use itoa::Buffer;
 use rc_instr::OutOfMemory;
 use std::alloc::Global;
-use tune_cert::{Found, greatest_total};
-use tune_problem::Inputs;
+use tune_cert::greatest_total;
+use tune_problem::{Aim, Best, Inputs};
+use tune_search::Findings;
 
 // Makes the report of what a search found.
 #[tactic(auto, unfolding(crate::specs::Report::report_text))]
 pub(crate) fn report_of(
     alloc: Global,
     inputs: &Inputs,
-    found: &Found,
+    aim: Aim,
+    found: &Findings,
 ) -> Result<Vec<u8>, OutOfMemory>
-    requires inside { found.now.best < (problem_of inputs.now).count }
+    requires inside { AllByRecursion (IsSettingOf inputs.now) found.now.ranking }
+    requires few { length found.now.ranking ≤ MOST_KEPT }
     requires candidates { found.now.candidates ≡ candidates_of (problem_of inputs.now) }
-    ensures { IfOk result (λ text. (values : List ℤ) × (slice_get (settings_of inputs.now) found.now.best ≡ Some values)
-        × (text.items ≡ report_text (report_for inputs.now found.now values))) }
+    ensures { IfOk result (λ text. text.items ≡ report_text (report_from inputs.now aim found.now)) }
 {
     let fights = inputs.schedule().fights().len() as u64;
-    let values = inputs.vector(found.best);
     let mut text = Vec::new(alloc);
     add_number(&mut text, b"vectors ", inputs.count())?;
     add_number(&mut text, b"candidates ", found.candidates)?;
-    add_number(&mut text, b"best ", found.best)?;
-    add_constants(&mut text, inputs.template().names(), values.as_slice())?;
-    add_share(
-        &mut text,
-        b"total ",
-        found.total as u64,
-        greatest_total(inputs) as u64,
-    )?;
+    add_answer(&mut text, inputs, aim.floor, found.ranking.first())?;
     add_share(
         &mut text,
         b"fights ",
         found.fights,
         found.candidates as u64 * fights,
     )?;
+    add_ranking(&mut text, inputs, aim, found.ranking.as_slice())?;
     Ok(text)
+}
+
+// Appends the lines of the best setting, or of none.
+#[tactic(auto, unfolding(crate::specs::Report::best_lines))]
+fn add_answer(
+    text: &mut Vec<u8>,
+    inputs: &Inputs,
+    floor: u32,
+    best: Option<Best>,
+) -> Result<(), OutOfMemory>
+    requires inside { IfSome best (IsSettingOf inputs.now) }
+    ensures { OnOk result (text.new.items ≡ text.old.items ++ best_lines floor (greatest_of (problem_of inputs.now)) (option_map (told inputs.now) best)) }
+{
+    let most = greatest_total(inputs) as u64;
+    match best {
+        None => add_none(text, floor, most),
+        Some(best) => {
+            let values = inputs.vector(best.vector);
+            add_number(text, b"best ", best.vector)?;
+            add_constants(text, inputs.template().names(), values.as_slice())?;
+            add_share(text, b"total ", best.total as u64, most)
+        }
+    }
+}
+
+// Appends the lines that no total reaches the floor.
+#[tactic(auto, unfolding(crate::specs::Report::none_lines))]
+fn add_none(text: &mut Vec<u8>, floor: u32, most: u64) -> Result<(), OutOfMemory>
+    ensures { OnOk result (text.new.items ≡ text.old.items ++ none_lines floor most) }
+{
+    text.extend_from_slice(b"best -\n")?;
+    text.extend_from_slice(b"constants -\n")?;
+    add_share(text, b"total below ", floor as u64, most)
+}
+
+// Appends the lines of the ranking, if more than one setting is kept.
+fn add_ranking(
+    text: &mut Vec<u8>,
+    inputs: &Inputs,
+    aim: Aim,
+    ranking: &[Best],
+) -> Result<(), OutOfMemory>
+    requires inside { AllByRecursion (IsSettingOf inputs.now) ranking.now }
+    requires few { length ranking.now ≤ MOST_KEPT }
+    ensures { OnOk result (text.new.items ≡ text.old.items ++ rank_lines 1 (ranking_told inputs.now aim ranking.now)) }
+{
+    if aim.keep <= 1 {
+        return Ok(());
+    }
+    add_ranks(text, inputs, ranking)
+}
+
+// Appends a line for each setting of a ranking.
+pub(crate) fn add_ranks(
+    text: &mut Vec<u8>,
+    inputs: &Inputs,
+    ranking: &[Best],
+) -> Result<(), OutOfMemory>
+    requires inside { AllByRecursion (IsSettingOf inputs.now) ranking.now }
+    requires few { length ranking.now ≤ MOST_KEPT }
+    ensures { OnOk result (text.new.items ≡ text.old.items ++ rank_lines 1 (map (told inputs.now) ranking.now)) }
+{
+    let mut rest = ranking;
+    let mut rank: u32 = 1;
+    while let Some((best, after)) = rest.split_first() {
+        add_rank(text, inputs, rank, *best)?;
+        rank += 1;
+        rest = after;
+    }
+    Ok(())
+}
+
+// Appends the line of a setting at a rank, as in `rank 2 setting 5 total 17 STEP=3`.
+#[tactic(auto, unfolding(crate::specs::Report::rank_line))]
+fn add_rank(text: &mut Vec<u8>, inputs: &Inputs, rank: u32, best: Best) -> Result<(), OutOfMemory>
+    requires inside { IsSettingOf inputs.now best }
+    ensures { OnOk result (text.new.items ≡ text.old.items ++ rank_line rank (told inputs.now best)) }
+{
+    let values = inputs.vector(best.vector);
+    add_number_in(text, b"rank ", rank)?;
+    add_number_in(text, b" setting ", best.vector)?;
+    add_number_in(text, b" total ", best.total)?;
+    add_values(text, inputs.template().names(), values.as_slice())?;
+    text.extend_from_slice(b"\n")?;
+    Ok(())
+}
+
+fn add_number_in(text: &mut Vec<u8>, word: &[u8], number: u32) -> Result<(), OutOfMemory>
+    ensures { OnOk result (text.new.items ≡ text.old.items ++ word.now ++ decimal number) }
+{
+    text.extend_from_slice(word)?;
+    text.extend_from_slice(Buffer::new().format(number).as_bytes())?;
+    Ok(())
 }
 
 // Appends the line of a word and a number.

@@ -1,14 +1,15 @@
 //! A tuning: from texts to the certificate of the best setting, and a report.
 ghost use Rattle.std.specs.Prelude.{◌≡◌, ◌≢◌, ◌↔◌, ◌≤◌, ◌<◌, ◌^◌, ◌⊎◌, map, length, true, false, IfOk, IfErr, OnOk, IsErrOf, IsTrue};
 ghost use Rattle.std.specs.Io.KnownBytes.{Appends};
-ghost use Rattle.tune_cert.specs.CertText.{cert_text};
+ghost use Rattle.tune_cert.specs.CertText.{statement_text, statement_with};
 ghost use Rattle.tune_problem.specs.Problem.{problem_of};
-ghost use Rattle.tune_problem.specs.Valid.{cert_of};
+ghost use Rattle.tune_problem.specs.Ranking.{IsAim, first_of};
 ghost use Rattle.tune_cert.specs.Spelling.{IsVersion};
 ghost use Rattle.tune_search.specs.Limits.{MOST_CAPACITY};
 ghost use Rattle.tune_search.specs.Method.{HasCapacity};
-ghost use Rattle.tune_search.specs.Found.{IsSearch, NoneAssembles};
-ghost use Rattle.tune_runs.specs.TuneRun.{texts, IsTuneRun, WritesTuning};
+ghost use Rattle.tune_search.specs.Found.{NoneAssembles};
+ghost use Rattle.tune_search.specs.Findings.{IsSearchFrom};
+ghost use Rattle.tune_runs.specs.TuneRun.{texts, answer_of, IsTuneRun, WritesTuning, WritesTuningFrom};
 ghost use Rattle.tune_runs.specs.Given.{texts_given};
 
 use crate::fault::RunFault;
@@ -18,9 +19,9 @@ use crate::report::report_of;
 use rc_instr::{Outlet, Rules};
 use std::alloc::Global;
 use std::io::Write;
-use tune_cert::{CertFault, Found, Silent, Watcher, write_cert};
-use tune_problem::{Inputs, Part};
-use tune_search::{Method, search_by};
+use tune_cert::{CertFault, Silent, Watcher, write_answer};
+use tune_problem::{Aim, Answer, Best, Inputs, Part};
+use tune_search::{Findings, Method, search_from};
 
 /// Finds the optimum of a template, and writes its certificate, then the report.
 ///
@@ -79,8 +80,8 @@ pub fn tune_run<W: Write, V: Write>(
     )
 }
 
-/// Does for one part of a template's settings what `tune_run` does for all of them, by `method`, and
-/// tells `watcher` how far the search is. The certificate and the report count settings from 0
+/// Does for one part of a template's settings what `tune_run` does for all of them, by `method`,
+/// and tells `watcher` how far the search is. The certificate and the report count settings from 0
 /// within the part.
 ///
 /// By either method the best setting and its total are the same. The capacity, if `method` has one,
@@ -90,6 +91,7 @@ pub fn tune_run<W: Write, V: Write>(
 ///
 /// Those of `tune_run`; and `Part`, after `Schedule`, if there is no such part: nothing is written
 /// then.
+#[tactic(auto, using(crate::proofs::BestTunings::is_tuning))]
 pub fn tune_by_run<T: Watcher, W: Write, V: Write>(
     alloc: Global,
     given: &TuneTexts<'_>,
@@ -107,33 +109,89 @@ pub fn tune_by_run<T: Watcher, W: Write, V: Write>(
         report.old.bytes report.new.bytes cert.old.bytes cert.new.bytes) }
     ensures run { IsTuneRun (texts_given given.now) result report.old report.new cert.old cert.new }
 {
-    let inputs = inputs_of(alloc, given)?;
-    let found = find(alloc, &inputs, method, watcher)?;
-    let text = report_of(alloc, &inputs, &found)?;
-    write_both(alloc, &found, text.as_slice(), report, cert)
+    tune_from_run(
+        alloc,
+        given,
+        Aim { keep: 1, floor: 0 },
+        method,
+        watcher,
+        report,
+        cert,
+    )
 }
 
-// Finds the optimum, and tells `watcher` of the inputs, how far the search is, and when it is over.
+/// Does what `tune_by_run` does, with an aim: keeps the first `keep` settings of the ranking, 1 to
+/// 1000, of those that total `floor` or more.
+///
+/// If more than one is kept, the report has a line for each after its six lines: `rank I setting W
+/// total T NAME=value ..`. If no setting reaches the floor, the certificate has the record
+/// `none,-,F` in place of the best setting, and the report `best -`, `constants -` and `total below
+/// F of G`. With keep 1 and the floor 0 this is `tune_by_run`.
+///
+/// # Errors
+///
+/// Those of `tune_by_run`: `NoCandidate` only if no setting assembles.
+pub fn tune_from_run<T: Watcher, W: Write, V: Write>(
+    alloc: Global,
+    given: &TuneTexts<'_>,
+    aim: Aim,
+    method: Method,
+    watcher: &mut T,
+    report: &mut Outlet<W>,
+    cert: &mut Outlet<V>,
+) -> Result<(), RunFault>
+    requires aim { IsAim aim }
+    requires capacity { HasCapacity method }
+    requires report { report.old.failed ≡ false }
+    requires cert { cert.old.failed ≡ false }
+
+    // Both texts are of one `Findings` for which `IsSearchFrom` holds: a valid certificate was
+    // written, of the best setting or that none reaches the floor, and the report of the ranking.
+    ensures tuning { OnOk result (WritesTuningFrom (texts_given given.now) aim method
+        report.old.bytes report.new.bytes cert.old.bytes cert.new.bytes) }
+    ensures run { IsTuneRun (texts_given given.now) result report.old report.new cert.old cert.new }
+{
+    let inputs = inputs_of(alloc, given)?;
+    let found = find(alloc, &inputs, aim, method, watcher)?;
+    let text = report_of(alloc, &inputs, aim, &found)?;
+    write_both(alloc, aim.floor, &found, text.as_slice(), report, cert)
+}
+
+// Searches, and tells `watcher` of the inputs, how far the search is, and when it is over.
 fn find<T: Watcher>(
     alloc: Global,
     inputs: &Inputs,
+    aim: Aim,
     method: Method,
     watcher: &mut T,
-) -> Result<Found, RunFault>
-    requires { HasCapacity method }
-    ensures found { IfOk result (IsSearch (problem_of inputs.now) method) }
+) -> Result<Findings, RunFault>
+    requires aim { IsAim aim }
+    requires capacity { HasCapacity method }
+    ensures found { IfOk result (IsSearchFrom (problem_of inputs.now) aim method) }
+    ensures some { IfOk result (λ f. 0 < f.candidates) }
     ensures none { IfErr result (λ e. (e ≡ RunFault.OutOfMemory) ⊎ ((e ≡ RunFault.NoCandidate) × NoneAssembles (problem_of inputs.now))) }
 {
     watcher.begin(inputs);
-    let searched = search_by(alloc, inputs, method, watcher);
+    let searched = search_from(alloc, inputs, aim, method, watcher);
     watcher.end();
     Ok(searched?)
+}
+
+// Returns what a certificate says: which setting is the best, or that none reaches the floor.
+fn answer_of(floor: u32, best: Option<Best>) -> Answer
+    ensures { result ≡ answer_of floor best }
+{
+    match best {
+        Some(best) => Answer::Best(best),
+        None => Answer::NoneFrom(floor),
+    }
 }
 
 // Writes the certificate and flushes its writer, then writes the report.
 fn write_both<W: Write, V: Write>(
     alloc: Global,
-    found: &Found,
+    floor: u32,
+    found: &Findings,
     text: &[u8],
     report: &mut Outlet<W>,
     cert: &mut Outlet<V>,
@@ -142,7 +200,8 @@ fn write_both<W: Write, V: Write>(
     requires few { length found.now.rows < 2 ^ 32 }
     requires report { report.old.failed ≡ false }
     requires cert { cert.old.failed ≡ false }
-    ensures cert { OnOk result (Appends cert.old.bytes cert.new.bytes (cert_text (cert_of found.now))) }
+    ensures cert { OnOk result (Appends cert.old.bytes cert.new.bytes
+        (statement_text (statement_with found.now.version (answer_of floor (first_of found.now.ranking)) found.now.rows))) }
     ensures report { OnOk result (Appends report.old.bytes report.new.bytes text.now) }
     ensures refused { IfErr result (λ e. e ≢ RunFault.Write → (e ≡ RunFault.OutOfMemory) × (report.new ≡ report.old) × (cert.new ≡ cert.old)) }
     ensures write { IsErrOf result RunFault.Write ↔ (IsTrue report.new.failed ⊎ IsTrue cert.new.failed) }
@@ -150,7 +209,8 @@ fn write_both<W: Write, V: Write>(
     ensures before { (report.new ≡ report.old) ⊎ (cert.new.flushed ≡ true) }
     ensures flushed { OnOk result (cert.new.flushed ≡ true) }
 {
-    match write_cert(alloc, found, cert) {
+    let answer = answer_of(floor, found.ranking.first());
+    match write_answer(alloc, found.version, answer, &found.rows, cert) {
         Ok(()) => {}
         Err(CertFault::Write) => return Err(RunFault::Write),
         Err(CertFault::OutOfMemory) => return Err(RunFault::OutOfMemory),
