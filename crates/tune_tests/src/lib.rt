@@ -1,7 +1,8 @@
 //! Tests of `tune_template` (`templates`, and `parts` of its settings), `tune_problem` and
-//! `tune_cert` (`certificates`), `tune_search` (`searches` and `floors`) and `tune_runs` (`runs`).
-//! `watchers` shows what searches and checks tell, and `shares` what checks of shares say; `memory`
-//! has the tests of calls that allocate, and `opponents` and `writers` what several modules use.
+//! `tune_cert` (`certificates` and `statements`), `tune_search` (`searches` and `floors`) and
+//! `tune_runs` (`runs`). `watchers` shows what searches and checks tell, and `shares` what checks
+//! of shares say; `memory` has the tests of calls that allocate, and `opponents` and `writers` what
+//! several modules use.
 //!
 //! They show that each public call can succeed, and what neither a clause says nor a run of the
 //! program shows, such as the texts of faults. What a run shows is a case in `cases/`. They are a
@@ -11,6 +12,8 @@
 
 #[cfg(test)]
 mod certificates;
+#[cfg(test)]
+mod demands;
 #[cfg(test)]
 mod floors;
 #[cfg(test)]
@@ -25,6 +28,8 @@ mod runs;
 mod searches;
 #[cfg(test)]
 mod shares;
+#[cfg(test)]
+mod statements;
 #[cfg(test)]
 mod templates;
 #[cfg(test)]

@@ -1,0 +1,233 @@
+//! Tests of `check_for`, worked out by hand: each setting that assembles is an imp, which wins the
+//! first fight and ties the second, so its total is 4. A row that lists the tie alone has a cap of
+//! 4, and one that lists the win alone a cap of 6.
+
+ghost use Rattle.tune_cert.specs.Judgement.{IsDemand};
+
+use crate::searches::inputs_of;
+use std::alloc::Global;
+use std::test::Fail;
+use tune_cert::{Demand, Judgement, Reason, Share, Silent, check_for};
+use tune_problem::{Answer, Best, Inputs};
+
+// Three imps with different warriors.
+const IMPS: &[u8] = b";@tune K 0 2 1 1\nMOV 0, 1\nDAT K";
+
+// Four settings with one warrior.
+const FOUR: &[u8] = b";@tune K 0 3 1 2\nMOV 0, 1";
+
+// A certificate of the three imps, in which the last has not played its first fight.
+const FIRST_TWO: &[u8] = b"cwcert,1,3\nbest,0,4\ncap,0,0:3 1:1\ncap,1,0:3 1:1\ncap,2,1:1\n";
+
+// What a check says: the answer and the ranking, or the record and the reason.
+#[derive(Drop)]
+struct Said {
+    answer: Option<Answer>,
+    ranking: Vec<Best>,
+    rejected: Option<(u64, Reason)>,
+}
+
+// A demand for the first `keep`, if that is 1 to 1000, with this floor.
+fn demand_of(keep: u32, floor: Option<u32>) -> Demand
+    ensures { IsDemand result }
+{
+    let keep = if 1 <= keep && keep <= 1000 {
+        Some(keep)
+    } else {
+        None
+    };
+    Demand { keep, floor }
+}
+
+fn judged(
+    alloc: Global,
+    inputs: &Inputs,
+    keep: u32,
+    floor: Option<u32>,
+    share: Share,
+    cert: &[u8],
+) -> Result<Said, Fail> {
+    let demand = demand_of(keep, floor);
+    match check_for(alloc, inputs, demand, share, cert, &mut Silent)? {
+        Judgement::Accepted { answer, ranking } => Ok(Said {
+            answer: Some(answer),
+            ranking: ranking.as_slice().to_vec(alloc)?,
+            rejected: None,
+        }),
+        Judgement::Rejected { row, reason } => Ok(Said {
+            answer: None,
+            ranking: Vec::new(alloc),
+            rejected: Some((row, reason)),
+        }),
+    }
+}
+
+// An imp, with its total.
+fn imp(vector: u32) -> Best {
+    Best { vector, total: 4 }
+}
+
+// Returns the ranking that a certificate shows if it is accepted with the first setting, and
+// otherwise a ranking of setting 9.
+fn shown(alloc: Global, inputs: &Inputs, keep: u32, cert: &[u8]) -> Result<Vec<Best>, Fail> {
+    let said = judged(alloc, inputs, keep, None, Share::whole(), cert)?;
+    if said.answer == Some(Answer::Best(imp(0))) {
+        return Ok(said.ranking);
+    }
+    let mut ranking = Vec::new(alloc);
+    ranking.push(imp(9))?;
+    Ok(ranking)
+}
+
+// Returns at which record a check of all rows rejects a certificate, and why.
+fn rejected(
+    alloc: Global,
+    inputs: &Inputs,
+    keep: u32,
+    floor: Option<u32>,
+    cert: &[u8],
+) -> Result<Option<(u64, Reason)>, Fail> {
+    let said = judged(alloc, inputs, keep, floor, Share::whole(), cert)?;
+    Ok(said.rejected)
+}
+
+// Without `keep` there is no ranking.
+#[test]
+fn the_first_settings_are_shown(rt: HostRuntime) -> Result<(), Fail> {
+    let inputs = inputs_of(rt.alloc(), IMPS)?;
+    assert!(rt;
+        shown(rt.alloc(), &inputs, 0, FIRST_TWO)?
+            .as_slice()
+            .is_empty()
+    );
+    assert_eq!(rt;
+        shown(rt.alloc(), &inputs, 1, FIRST_TWO)?.as_slice(),
+        [imp(0)].as_slice()
+    );
+    assert_eq!(rt;
+        shown(rt.alloc(), &inputs, 2, FIRST_TWO)?.as_slice(),
+        [imp(0), imp(1)].as_slice()
+    );
+    Ok(())
+}
+
+// With two settings ranked, a third one may still come.
+#[test]
+fn fewer_settings_than_are_kept_leave_room(rt: HostRuntime) -> Result<(), Fail> {
+    let inputs = inputs_of(rt.alloc(), IMPS)?;
+    assert_eq!(rt;
+        rejected(rt.alloc(), &inputs, 3, None, FIRST_TWO)?,
+        Some((4, Reason::CapTooHigh))
+    );
+    Ok(())
+}
+
+// Setting 1 may total 4, and then comes before setting 2. It does not come before setting 0.
+#[test]
+fn a_cap_that_contends_is_too_high(rt: HostRuntime) -> Result<(), Fail> {
+    let inputs = inputs_of(rt.alloc(), IMPS)?;
+    let cert: &[u8] = b"cwcert,1,3\nbest,0,4\ncap,0,0:3 1:1\ncap,1,1:1\ncap,2,0:3 1:1\n";
+    assert_eq!(rt;
+        shown(rt.alloc(), &inputs, 1, cert)?.as_slice(),
+        [imp(0)].as_slice()
+    );
+    assert_eq!(rt;
+        rejected(rt.alloc(), &inputs, 2, None, cert)?,
+        Some((3, Reason::CapTooHigh))
+    );
+    Ok(())
+}
+
+// A `same` row ranks with the total of the row that it names.
+#[test]
+fn equal_warriors_are_ranked(rt: HostRuntime) -> Result<(), Fail> {
+    let inputs = inputs_of(rt.alloc(), FOUR)?;
+    let cert: &[u8] = b"cwcert,1,4\nbest,0,4\ncap,0,0:3 1:1\nsame,1,2\ncap,2,0:3 1:1\nsame,3,2\n";
+    assert_eq!(rt;
+        shown(rt.alloc(), &inputs, 10, cert)?.as_slice(),
+        [imp(0), imp(1), imp(2), imp(3)].as_slice()
+    );
+    assert_eq!(rt;
+        shown(rt.alloc(), &inputs, 3, cert)?.as_slice(),
+        [imp(0), imp(1), imp(2)].as_slice()
+    );
+    Ok(())
+}
+
+// The cap of the row that is named does not contend with setting 2, but as that of setting 1 it
+// does.
+#[test]
+fn a_same_row_contends_as_its_own_setting(rt: HostRuntime) -> Result<(), Fail> {
+    let inputs = inputs_of(rt.alloc(), FOUR)?;
+    let cert: &[u8] = b"cwcert,1,4\nbest,0,4\ncap,0,0:3 1:1\nsame,1,3\ncap,2,0:3 1:1\ncap,3,1:1\n";
+    assert_eq!(rt;
+        shown(rt.alloc(), &inputs, 1, cert)?.as_slice(),
+        [imp(0)].as_slice()
+    );
+    assert_eq!(rt;
+        rejected(rt.alloc(), &inputs, 2, None, cert)?,
+        Some((3, Reason::CapTooHigh))
+    );
+    Ok(())
+}
+
+// What does not reach the floor is not ranked, and need not be shown.
+#[test]
+fn a_floor_leaves_less_to_show(rt: HostRuntime) -> Result<(), Fail> {
+    let inputs = inputs_of(rt.alloc(), IMPS)?;
+    let reached = judged(rt.alloc(), &inputs, 2, Some(4), Share::whole(), FIRST_TWO)?;
+    assert_eq!(rt; reached.ranking.as_slice(), [imp(0), imp(1)].as_slice());
+    let missed = judged(rt.alloc(), &inputs, 3, Some(5), Share::whole(), FIRST_TWO)?;
+    assert_eq!(rt; missed.answer, Some(Answer::Best(imp(0))));
+    assert!(rt; missed.ranking.as_slice().is_empty());
+    Ok(())
+}
+
+#[test]
+fn no_setting_reaches_the_floor(rt: HostRuntime) -> Result<(), Fail> {
+    let inputs = inputs_of(rt.alloc(), IMPS)?;
+    let cert: &[u8] = b"cwcert,1,3\nnone,-,5\ncap,0,1:1\ncap,1,0:3 1:1\ncap,2,1:1\n";
+    for keep in 0..4 {
+        let said = judged(rt.alloc(), &inputs, keep, Some(5), Share::whole(), cert)?;
+        assert_eq!(rt; said.answer, Some(Answer::NoneFrom(5)));
+        assert!(rt; said.ranking.as_slice().is_empty());
+    }
+    assert_eq!(rt;
+        rejected(rt.alloc(), &inputs, 0, Some(4), cert)?,
+        Some((1, Reason::BestRow))
+    );
+    assert_eq!(rt;
+        rejected(rt.alloc(), &inputs, 0, Some(6), cert)?,
+        Some((1, Reason::BestRow))
+    );
+    assert_eq!(rt;
+        rejected(rt.alloc(), &inputs, 2, None, cert)?,
+        Some((1, Reason::Malformed))
+    );
+    Ok(())
+}
+
+// A cap that is the floor reaches it.
+#[test]
+fn a_cap_of_the_floor_is_too_high(rt: HostRuntime) -> Result<(), Fail> {
+    let inputs = inputs_of(rt.alloc(), IMPS)?;
+    let cert: &[u8] = b"cwcert,1,3\nnone,-,4\ncap,0,1:1\ncap,1,1:1\ncap,2,1:1\n";
+    assert_eq!(rt;
+        rejected(rt.alloc(), &inputs, 0, Some(4), cert)?,
+        Some((2, Reason::CapTooHigh))
+    );
+    Ok(())
+}
+
+// Of five shares of three settings some are empty.
+#[test]
+fn each_share_says_what_the_whole_does(rt: HostRuntime) -> Result<(), Fail> {
+    let inputs = inputs_of(rt.alloc(), IMPS)?;
+    for number in 1..6 {
+        let share = Share { number, shares: 5 };
+        let said = judged(rt.alloc(), &inputs, 2, None, share, FIRST_TWO)?;
+        assert_eq!(rt; said.answer, Some(Answer::Best(imp(0))));
+        assert_eq!(rt; said.ranking.as_slice(), [imp(0), imp(1)].as_slice());
+    }
+    Ok(())
+}
