@@ -7,10 +7,12 @@ use Rattle.mars_core.specs.declared.side.Side.{Side}
 use Rattle.rc_instr.specs.Outlet.{OutletView}
 use Rattle.rc_instr.specs.Rules.{RulesView}
 use Rattle.tune_problem.specs.declared.part.Part.{Part}
+use Rattle.tune_cert.specs.declared.demand.Demand.{Demand}
 use Rattle.tune_cert.specs.declared.share.Share.{Share}
 use Rattle.tune_runs.specs.DuelRun.{duel, WritesDuel}
 use Rattle.tune_runs.specs.SettingsRun.{WritesSettings}
 use Rattle.tune_runs.specs.declared.given.WhichSetting.{WhichSetting}
+use Rattle.tune_problem.specs.declared.aim.Aim.{Aim}
 use Rattle.tune_search.specs.declared.method.Method.{Method}
 use Rattle.cwtune.specs.CommandLine.{AskForFight, AsksForHelp, command_of, is_command}
 use Rattle.cwtune.specs.Commands.{IsEnded, WritesFightIn, WritesSomeDuel, WritesLoadFile, WritesSomeLoadFile, WritesSomeSettings, WritesReport, WritesSomeReport, WritesCheckLine, WritesSomeCheckLine, status_of}
@@ -117,23 +119,23 @@ settings_run words input old new ended status is other ended_so named wrote =
     quiet_run words input old new ended status is other ended_so (λ e. let text = done_at ended status is wrote e in
     inr (success_of (codes "settings") words input old.bytes new.bytes named refl no no (λ _. text) no no))
 
-pub tune_run : {X : Type 0} (words : List (List ℕ)) (input : Option (List ℕ)) (old new : OutletView) (method : Method) (rules : RulesView) (part : Part)
+pub tune_run : {X : Type 0} (words : List (List ℕ)) (input : Option (List ℕ)) (old new : OutletView) (aim : Aim) (method : Method) (rules : RulesView) (part : Part)
     (ended : Result X Ending) (status : ℕ) → status ≡ status_of ended → (AskForFight words → ⊥) → IsEnded old new ended → command_of words ≡ codes "tune"
-    → OnOk ended (WritesReport method rules part old.bytes new.bytes) → IsProgramRun words input old new status
-tune_run words input old new method rules part ended status is other ended_so named wrote =
+    → OnOk ended (WritesReport aim method rules part old.bytes new.bytes) → IsProgramRun words input old new status
+tune_run words input old new aim method rules part ended status is other ended_so named wrote =
     quiet_run words input old new ended status is other ended_so (λ e. let text = done_at ended status is wrote e in
-    inr (success_of (codes "tune") words input old.bytes new.bytes named refl no no no (λ _. (method, rules, part, text)) no))
+    inr (success_of (codes "tune") words input old.bytes new.bytes named refl no no no (λ _. (aim, method, rules, part, text)) no))
 
 pub check_run : {X : Type 0} (words : List (List ℕ)) (input : Option (List ℕ)) (old new : OutletView) (rules : RulesView) (part : Part)
-    (share : Option Share) (ended : Result X Ending) (status : ℕ) → status ≡ status_of ended → (AskForFight words → ⊥)
-    → (IsErrOf ended Refused → (new ≡ old) ⊎ WritesCheckLine rules part share false old.bytes new.bytes) → (IsErrOf ended Misused → new ≡ old)
+    (demand : Demand) (share : Option Share) (ended : Result X Ending) (status : ℕ) → status ≡ status_of ended → (AskForFight words → ⊥)
+    → (IsErrOf ended Refused → (new ≡ old) ⊎ WritesCheckLine rules part demand share false old.bytes new.bytes) → (IsErrOf ended Misused → new ≡ old)
     → (IsTrue new.failed → IsErrOf ended Failed) → command_of words ≡ codes "check"
-    → OnOk ended (WritesCheckLine rules part share true old.bytes new.bytes) → IsProgramRun words input old new status
-check_run words input old new rules part share ended status is other refused misused failed named wrote =
+    → OnOk ended (WritesCheckLine rules part demand share true old.bytes new.bytes) → IsProgramRun words input old new status
+check_run words input old new rules part demand share ended status is other refused misused failed named wrote =
     other_run words input old new ended status is other misused
-    (λ e. elim (refused e) [ inl same ↦ inl same | inr line ↦ inr (rules, part, share, line) ]) failed
+    (λ e. elim (refused e) [ inl same ↦ inl same | inr line ↦ inr (rules, part, demand, share, line) ]) failed
     (λ e. let line = done_at ended status is wrote e in
-    inr (success_of (codes "check") words input old.bytes new.bytes named refl no no no no (λ _. (rules, part, share, line))))
+    inr (success_of (codes "check") words input old.bytes new.bytes named refl no no no no (λ _. (rules, part, demand, share, line))))
 
 pub help_run : {X : Type 0} (words : List (List ℕ)) (input : Option (List ℕ)) (old new : OutletView) (ended : Result X Ending) (status : ℕ)
     → status ≡ status_of ended → (AskForFight words → ⊥) → IsEnded old new ended → OnOk ended (AsksForHelp words)

@@ -4,6 +4,8 @@ use Rattle.std.specs.List.{list_any}
 use Rattle.std.specs.Str.{bytes_eq}
 use Rattle.std.specs.Fmt.{decimal}
 use Rattle.tune_problem.specs.declared.part.Part.{Part}
+use Rattle.tune_problem.specs.Ranking.{IsAim}
+use Rattle.tune_cert.specs.Judgement.{IsDemand}
 use Rattle.tune_search.specs.Method.{HasCapacity}
 use Rattle.cwtune.specs.declared.command_line.Request.{Request}
 use Rattle.cwtune.specs.declared.command_line.Request.TheVariants.{Fight, Duel, Asm, Settings, Tune, Check}
@@ -30,8 +32,8 @@ command_word Fight = codes "fight"
 command_word (Duel words) = codes "fight"
 command_word (Asm words) = codes "asm"
 command_word (Settings file) = codes "settings"
-command_word (Tune words method) = codes "tune"
-command_word (Check words share) = codes "check"
+command_word (Tune words method aim) = codes "tune"
+command_word (Check words share demand) = codes "check"
 
 -- A word that asks for help, or for the version.
 abbrev pub is_help_word : List ℕ → Bool
@@ -42,9 +44,11 @@ is_help_word word =
 abbrev pub AsksForHelp : List (List ℕ) → Type 0
 AsksForHelp words = IsTrue (list_any is_help_word words)
 
--- The capacity of a search is 1 to `MOST_CAPACITY`.
+-- The capacity of a search is 1 to `MOST_CAPACITY`. A tuning keeps, and a check asks for, the first
+-- 1 to `MOST_KEPT` of the ranking.
 abbrev pub IsRequest : Request → Type 0
-IsRequest (Tune words method) = HasCapacity method
+IsRequest (Tune words method aim) = HasCapacity method × IsAim aim
+IsRequest (Check words share demand) = IsDemand demand
 IsRequest _ = Unit {0}
 
 -- The word for part I of K is `I/K`.

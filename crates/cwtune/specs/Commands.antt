@@ -1,9 +1,11 @@
 -- What the commands write of the files that they read, and how they end.
-use Rattle.std.specs.Prelude.{◌≡◌, ℕ, Bool, List, Option, Some, None, Result, Ok, Err, IsErrOf, IsTrue}
+use Rattle.std.specs.Prelude.{◌≡◌, ◌||◌, ℕ, Bool, true, false, List, Option, Some, None, Result, Ok, Err, IsErrOf, IsTrue}
+use Rattle.std.specs.Option.{is_some, option_map}
 use Rattle.rc_instr.specs.Outlet.{OutletView}
 use Rattle.rc_instr.specs.Rules.{RulesView}
-use Rattle.tune_problem.specs.Parts.{part}
+use Rattle.tune_problem.specs.declared.aim.Aim.{Aim}
 use Rattle.tune_problem.specs.declared.part.Part.{Part}
+use Rattle.tune_cert.specs.declared.demand.Demand.{Demand}
 use Rattle.tune_cert.specs.declared.share.Share.{Share}
 use Rattle.mars_core.specs.declared.side.Side.{Side}
 use Rattle.tune_runs.specs.AsmRun.{WritesWarrior}
@@ -11,8 +13,9 @@ use Rattle.tune_runs.specs.DuelRun.{duel, WritesDuel}
 use Rattle.tune_runs.specs.FightRun.{WritesFight}
 use Rattle.tune_runs.specs.SettingRun.{WritesSetting}
 use Rattle.tune_runs.specs.SettingsRun.{WritesSettings}
-use Rattle.tune_runs.specs.TuneRun.{Texts, part_texts, WritesTuning}
-use Rattle.tune_runs.specs.CheckRun.{WritesVerdict, WritesShare}
+use Rattle.tune_runs.specs.TuneRun.{Texts, part_texts, WritesTuningFrom}
+use Rattle.tune_runs.specs.CheckRun.{WritesVerdict, WritesShare, WritesJudgement}
+use Rattle.tune_runs.specs.Given.{part_given}
 use Rattle.tune_search.specs.declared.method.Method.{Method}
 use Rattle.tune_runs.specs.declared.given.WhichSetting.{WhichSetting}
 use Rattle.cwtune.specs.Input.{IsInput}
@@ -29,21 +32,30 @@ WritesLoadFile source None rules old new = WritesWarrior source rules old new
 WritesLoadFile source (Some which) rules old new = WritesSetting source which rules old new
 
 -- The report of a tuning of some texts was written, and a certificate.
-abbrev pub WritesReport : Method → RulesView → Part → Option (List ℕ) → Option (List ℕ) → Type 0
-WritesReport method rules part old new =
+abbrev pub WritesReport : Aim → Method → RulesView → Part → Option (List ℕ) → Option (List ℕ) → Type 0
+WritesReport aim method rules part old new =
     (template : List ℕ) × (opponents : List (List ℕ)) × (schedule : List ℕ) × (cert : Option (List ℕ)) × (written : Option (List ℕ))
-    × WritesTuning (part_texts template opponents schedule rules part) method old new cert written
+    × WritesTuningFrom (part_texts template opponents schedule rules part) aim method old new cert written
 
--- The line of the verdict on a certificate was written, or that of a share's verdict.
-abbrev pub WritesVerdictOf : Option Share → Texts → List ℕ → Bool → Option (List ℕ) → Option (List ℕ) → Type 0
-WritesVerdictOf None t cert accepted old new = WritesVerdict t cert accepted old new
-WritesVerdictOf (Some share) t cert accepted old new = WritesShare t (part share.number share.shares) cert accepted old new
+-- A ranking or a floor is asked for.
+abbrev pub is_asked : Demand → Bool
+is_asked demand = is_some demand.keep || is_some demand.floor
 
--- The line of a check of some texts and a certificate was written.
-abbrev pub WritesCheckLine : RulesView → Part → Option Share → Bool → Option (List ℕ) → Option (List ℕ) → Type 0
-WritesCheckLine rules part share accepted old new =
+-- The line of the verdict on a certificate was written, or that of a share's verdict; or the lines
+-- of the judgement, if a ranking or a floor is asked for.
+abbrev pub WritesBy : Bool → Demand → Option Share → Texts → List ℕ → Bool → Option (List ℕ) → Option (List ℕ) → Type 0
+WritesBy true demand share t cert accepted old new = WritesJudgement t demand (option_map part_given share) cert accepted old new
+WritesBy false demand None t cert accepted old new = WritesVerdict t cert accepted old new
+WritesBy false demand (Some share) t cert accepted old new = WritesShare t (part_given share) cert accepted old new
+
+abbrev pub WritesVerdictOf : Demand → Option Share → Texts → List ℕ → Bool → Option (List ℕ) → Option (List ℕ) → Type 0
+WritesVerdictOf demand share t cert accepted old new = WritesBy (is_asked demand) demand share t cert accepted old new
+
+-- The lines of a check of some texts and a certificate were written.
+abbrev pub WritesCheckLine : RulesView → Part → Demand → Option Share → Bool → Option (List ℕ) → Option (List ℕ) → Type 0
+WritesCheckLine rules part demand share accepted old new =
     (template : List ℕ) × (opponents : List (List ℕ)) × (schedule : List ℕ) × (cert : List ℕ)
-    × WritesVerdictOf share (part_texts template opponents schedule rules part) cert accepted old new
+    × WritesVerdictOf demand share (part_texts template opponents schedule rules part) cert accepted old new
 
 -- What a command wrote, for some files and some values of its options.
 abbrev pub WritesSomeDuel : Option (List ℕ) → Option (List ℕ) → Type 0
@@ -59,11 +71,11 @@ abbrev pub WritesSomeSettings : Option (List ℕ) → Option (List ℕ) → Type
 WritesSomeSettings old new = (source : List ℕ) × WritesSettings source old new
 
 abbrev pub WritesSomeReport : Option (List ℕ) → Option (List ℕ) → Type 0
-WritesSomeReport old new = (method : Method) × (rules : RulesView) × (part : Part) × WritesReport method rules part old new
+WritesSomeReport old new = (aim : Aim) × (method : Method) × (rules : RulesView) × (part : Part) × WritesReport aim method rules part old new
 
 abbrev pub WritesSomeCheckLine : Bool → Option (List ℕ) → Option (List ℕ) → Type 0
 WritesSomeCheckLine accepted old new =
-    (rules : RulesView) × (part : Part) × (share : Option Share) × WritesCheckLine rules part share accepted old new
+    (rules : RulesView) × (part : Part) × (demand : Demand) × (share : Option Share) × WritesCheckLine rules part demand share accepted old new
 
 -- The exit status of a command.
 abbrev pub status_of : {X : Type 0} → Result X Ending → ℕ

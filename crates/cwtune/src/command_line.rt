@@ -4,6 +4,7 @@ ghost use Rattle.tune_search.specs.Limits.{MOST_CAPACITY};
 ghost use Rattle.tune_search.specs.Method.{HasCapacity};
 ghost use Rattle.cwtune.specs.CommandLine.{AskForFight, IsRequest, command_of, command_word};
 
+use crate::aim_options::{floor_option, keep_option};
 use crate::command_word::{ask_for_fight, is_named};
 use crate::help::{asks_for_help, command_in};
 use crate::options::{
@@ -18,7 +19,8 @@ use clap::builder::ValueParser;
 use clap::{Arg, ArgAction, ArgMatches, Command, Error, value_parser};
 use mars_core::Side;
 use std::alloc::{AllocError, Global};
-use tune_cert::Share;
+use tune_cert::{Demand, Share};
+use tune_problem::Aim;
 use tune_runs::{Method, Part, RawRules, WhichSetting};
 use tune_search::limits;
 
@@ -75,11 +77,13 @@ pub(crate) enum Request<'a> {
     Tune {
         words: TuneWords<'a>,
         method: Method,
+        aim: Aim,
     },
     // Checks a certificate of a tuning, or a share of it.
     Check {
         words: TuneWords<'a>,
         share: Option<Share>,
+        demand: Demand,
     },
 }
 
@@ -330,13 +334,21 @@ fn all_option<'a>(alloc: Global) -> Result<Arg<'a>, AllocError> {
     Ok(all)
 }
 
+const TUNE_KEEP: &str =
+    "How many settings to find, the best, the second best and so on, 1 to 1000; above 1 each has a line `rank ..` after the report [default: 1]";
+
+const TUNE_FLOOR: &str =
+    "Find settings that total this or more, and drop the others early [default: 0]";
+
 fn tune<'a>(alloc: Global) -> Result<Command<'a>, AllocError> {
     let command = Command::new(alloc, "tune")
         .about(
             "Find the best setting of a template, write its certificate to CERT, and print a report",
         )
         .arg(cache_option(alloc))?
-        .arg(all_option(alloc)?)?;
+        .arg(all_option(alloc)?)?
+        .arg(keep_option(alloc, TUNE_KEEP))?
+        .arg(floor_option(alloc, TUNE_FLOOR).conflicts_with("all")?)?;
     with_files(
         alloc,
         command,
@@ -348,18 +360,27 @@ fn tune_request<'a>(alloc: Global, found: &ArgMatches<'a>) -> Result<Request<'a>
     ensures { IfOk result IsRequest }
 {
     match tune_options(found) {
-        Ok((rules, part)) => Ok(Request::Tune {
+        Ok((rules, part, aim)) => Ok(Request::Tune {
             words: tune_words(alloc, found, rules, part)?,
             method: method_of(found),
+            aim,
         }),
         Err(bad) => Err(bad_value(alloc, bad, tune(alloc)?, "cwtune tune")?),
     }
 }
 
+const CHECK_KEEP: &str =
+    "Accept only if the rows show the first settings of the ranking, this many, 1 to 1000; above 1 each has a line `rank ..`";
+
+const CHECK_FLOOR: &str =
+    "Accept also a certificate that no setting totals this or more, with the line `accepted none below F`";
+
 fn check<'a>(alloc: Global) -> Result<Command<'a>, AllocError> {
     let command = Command::new(alloc, "check")
         .about("Check a certificate: print `accepted best W total T` or `rejected row R REASON`")
-        .arg(share_option(alloc))?;
+        .arg(share_option(alloc))?
+        .arg(keep_option(alloc, CHECK_KEEP))?
+        .arg(floor_option(alloc, CHECK_FLOOR))?;
     with_files(alloc, command, "File of the certificate")
 }
 
@@ -367,9 +388,10 @@ fn check_request<'a>(alloc: Global, found: &ArgMatches<'a>) -> Result<Request<'a
     ensures { IfOk result IsRequest }
 {
     match check_options(found) {
-        Ok((rules, part, share)) => Ok(Request::Check {
+        Ok((rules, part, share, demand)) => Ok(Request::Check {
             words: tune_words(alloc, found, rules, part)?,
             share,
+            demand,
         }),
         Err(bad) => Err(bad_value(alloc, bad, check(alloc)?, "cwtune check")?),
     }

@@ -46,7 +46,12 @@ fn word_for(request: &Request<'_>) -> &'static str
         Request::Tune {
             words: _,
             method: _,
+            aim: _,
         } => "tune",
-        Request::Check { words: _, share: _ } => "check",
+        Request::Check {
+            words: _,
+            share: _,
+            demand: _,
+        } => "check",
     }
 }

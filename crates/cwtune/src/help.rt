@@ -10,14 +10,18 @@ const COMMANDS: [&str; 5] = ["fight", "asm", "settings", "tune", "check"];
 const RULES: [&str; 5] = ["--core", "--cycles", "--tasks", "--length", "--distance"];
 
 // The other options that take a value, each with its command.
-const VALUED: [(&str, &str); 7] = [
+const VALUED: [(&str, &str); 11] = [
     ("fight", "--position"),
     ("fight", "--first"),
     ("asm", "--setting"),
     ("tune", "--part"),
     ("tune", "--cache"),
+    ("tune", "--keep"),
+    ("tune", "--floor"),
     ("check", "--part"),
     ("check", "--share"),
+    ("check", "--keep"),
+    ("check", "--floor"),
 ];
 
 // Returns whether a word asks for help or for the version. Without such a word no run that only

@@ -5,6 +5,7 @@
 ghost use Rattle.std.specs.Prelude.{◌≡◌, map, false, string_bytes, IsTrue};
 ghost use Rattle.cwtune.specs.Program.{IsProgramRun};
 
+mod aim_options;
 mod beginning;
 mod bounds;
 mod cert_file;

@@ -1,14 +1,18 @@
 //! The options that several commands have.
-ghost use Rattle.std.specs.Prelude.{◌≡◌};
+ghost use Rattle.std.specs.Prelude.{◌≡◌, IfOk};
 ghost use Rattle.std.specs.Option.{unwrap_or};
+ghost use Rattle.tune_problem.specs.Ranking.{IsAim};
+ghost use Rattle.tune_cert.specs.Judgement.{IsDemand};
 
+use crate::aim_options::{aim_of, demand_of};
 use crate::part_word::part_of;
 use crate::share_word::share_of;
 use crate::usage_error::BadValue;
 use clap::{Arg, ArgAction, ArgMatches, Command};
 use rc_instr::Rules;
 use std::alloc::{AllocError, Global};
-use tune_cert::Share;
+use tune_cert::{Demand, Share};
+use tune_problem::Aim;
 use tune_runs::{Part, RawRules};
 
 // Returns whether a flag is among the words before `--`. After it they are files.
@@ -85,7 +89,7 @@ pub(crate) fn with_rules<'a>(
 }
 
 // Returns the number that an option is given. `option` and `wanted` are for a usage error.
-fn number_of<'a>(
+pub(crate) fn number_of<'a>(
     found: &ArgMatches<'a>,
     name: &str,
     option: &'static str,
@@ -192,18 +196,27 @@ pub(crate) fn fight_numbers<'a>(
     Ok((rules, position))
 }
 
-// Returns the rules and the part of a tuning.
-pub(crate) fn tune_options<'a>(found: &ArgMatches<'a>) -> Result<(RawRules, Part), BadValue<'a>> {
+// Returns the rules, the part and the aim of a tuning.
+pub(crate) fn tune_options<'a>(
+    found: &ArgMatches<'a>,
+) -> Result<(RawRules, Part, Aim), BadValue<'a>>
+    ensures { IfOk result (λ x. IsAim x.2) }
+{
     let rules = rules_of(found)?;
     let part = part_of(found)?;
-    Ok((rules, part))
+    let aim = aim_of(found)?;
+    Ok((rules, part, aim))
 }
 
-// Returns the rules, the part and the share of a check.
+// Returns the rules, the part, the share and the demand of a check.
 pub(crate) fn check_options<'a>(
     found: &ArgMatches<'a>,
-) -> Result<(RawRules, Part, Option<Share>), BadValue<'a>> {
-    let (rules, part) = tune_options(found)?;
+) -> Result<(RawRules, Part, Option<Share>, Demand), BadValue<'a>>
+    ensures { IfOk result (λ x. IsDemand x.3) }
+{
+    let rules = rules_of(found)?;
+    let part = part_of(found)?;
     let share = share_of(found)?;
-    Ok((rules, part, share))
+    let demand = demand_of(found)?;
+    Ok((rules, part, share, demand))
 }

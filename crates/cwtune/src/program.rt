@@ -81,8 +81,16 @@ pub(crate) fn watched_program<F: Files, R: Read, W: Write, V: Write, T: Witness>
         Ok(Request::Duel(words)) => status_of(duel(host, &words, out)),
         Ok(Request::Asm(words)) => status_of(asm(host, &words, out)),
         Ok(Request::Settings { file }) => status_of(settings(host, file, out)),
-        Ok(Request::Tune { words, method }) => status_of(tune(host, &words, method, out)),
-        Ok(Request::Check { words, share }) => status_of(check(host, &words, share, out)),
+        Ok(Request::Tune { words, method, aim }) => {
+            status_of(tune(host, &words, method, aim, out))
+        }
+        Ok(
+            Request::Check {
+                words,
+                share,
+                demand,
+            },
+        ) => status_of(check(host, &words, share, demand, out)),
         Err(answer) => status_of(show(host, words, &answer, out)),
     }
 }

@@ -1,6 +1,6 @@
 //! The command `check`: from texts and a certificate to the line of the verdict.
-ghost use Rattle.std.specs.Prelude.{◌≡◌, ◌⊎◌, true, false, IfOk, OnOk, IsErrOf, IsTrue};
-ghost use Rattle.tune_runs.specs.CheckRun.{IsCheckRun};
+ghost use Rattle.std.specs.Prelude.{◌≡◌, ◌≢◌, ◌↔◌, ◌⊎◌, true, false, IfOk, IfErr, OnOk, IsErrOf, IsTrue};
+ghost use Rattle.tune_cert.specs.Judgement.{IsDemand};
 ghost use Rattle.tune_runs.specs.Given.{rules_given, texts_given};
 ghost use Rattle.cwtune.specs.Commands.{WritesCheckLine, WritesVerdictOf};
 
@@ -13,8 +13,8 @@ use rc_instr::Outlet;
 use std::alloc::Global;
 use std::io::Write;
 use std::rt::Files;
-use tune_cert::{Share, Watcher};
-use tune_runs::{RunFault, TuneTexts, check_part_run, check_share_run};
+use tune_cert::{Demand, Share, Watcher};
+use tune_runs::{RunFault, TuneTexts, check_for_run, check_part_run, check_share_run};
 
 // Runs the command on files. Checks the rules, then reads the files in the order of the words:
 // template, schedule, certificate, opponents.
@@ -22,11 +22,13 @@ pub(crate) fn check<F: Files, T: Witness, W: Write, V: Write>(
     host: &mut Host<'_, F, T, V>,
     words: &TuneWords<'_>,
     share: Option<Share>,
+    demand: Demand,
     out: &mut Outlet<W>,
 ) -> Result<(), Ending>
-    requires { out.old.failed ≡ false }
-    ensures done { OnOk result (WritesCheckLine (rules_given words.now.rules) words.now.part share true out.old.bytes out.new.bytes) }
-    ensures refused { IsErrOf result Ending.Refused → (out.new ≡ out.old) ⊎ WritesCheckLine (rules_given words.now.rules) words.now.part share false out.old.bytes out.new.bytes }
+    requires demand { IsDemand demand }
+    requires out { out.old.failed ≡ false }
+    ensures done { OnOk result (WritesCheckLine (rules_given words.now.rules) words.now.part demand share true out.old.bytes out.new.bytes) }
+    ensures refused { IsErrOf result Ending.Refused → (out.new ≡ out.old) ⊎ WritesCheckLine (rules_given words.now.rules) words.now.part demand share false out.old.bytes out.new.bytes }
     ensures misused { IsErrOf result Ending.Misused → out.new ≡ out.old }
     ensures failed { IsTrue out.new.failed → IsErrOf result Ending.Failed }
 {
@@ -41,7 +43,7 @@ pub(crate) fn check<F: Files, T: Witness, W: Write, V: Write>(
         opponents,
     };
     let texts = files.texts(&rules, words.part);
-    check_texts(host, words, &texts, share, cert.as_slice(), out)
+    check_texts(host, words, &texts, share, demand, cert.as_slice(), out)
 }
 
 // Checks the certificate of a tuning of texts that were read.
@@ -50,17 +52,19 @@ fn check_texts<F: Files, T: Witness, W: Write, V: Write>(
     words: &TuneWords<'_>,
     texts: &TuneTexts<'_>,
     share: Option<Share>,
+    demand: Demand,
     cert: &[u8],
     out: &mut Outlet<W>,
 ) -> Result<(), Ending>
-    requires { out.old.failed ≡ false }
-    ensures done { OnOk result (WritesVerdictOf share (texts_given texts.now) cert.now true out.old.bytes out.new.bytes) }
-    ensures refused { IsErrOf result Ending.Refused → (out.new ≡ out.old) ⊎ WritesVerdictOf share (texts_given texts.now) cert.now false out.old.bytes out.new.bytes }
+    requires demand { IsDemand demand }
+    requires out { out.old.failed ≡ false }
+    ensures done { OnOk result (WritesVerdictOf demand share (texts_given texts.now) cert.now true out.old.bytes out.new.bytes) }
+    ensures refused { IsErrOf result Ending.Refused → (out.new ≡ out.old) ⊎ WritesVerdictOf demand share (texts_given texts.now) cert.now false out.old.bytes out.new.bytes }
     ensures misused { IsErrOf result Ending.Misused → out.new ≡ out.old }
     ensures failed { IsTrue out.new.failed → IsErrOf result Ending.Failed }
 {
     host.witness.name(host.alloc, words, texts);
-    match verdict_on(host.alloc, texts, share, host.witness, cert, out) {
+    match verdict_on(host.alloc, texts, share, demand, host.witness, cert, out) {
         Ok(true) => Ok(()),
         Ok(false) => {
             host.reject(words, texts, cert);
@@ -70,20 +74,26 @@ fn check_texts<F: Files, T: Witness, W: Write, V: Write>(
     }
 }
 
-// Checks the certificate, or a share of it, and writes the line of the verdict. Returns whether it
-// is accepted.
+// Checks the certificate, or a share of it, and writes the line of the verdict, or the lines of the
+// judgement. Returns whether it is accepted.
 fn verdict_on<T: Watcher, W: Write>(
     alloc: Global,
     texts: &TuneTexts<'_>,
     share: Option<Share>,
+    demand: Demand,
     watcher: &mut T,
     cert: &[u8],
     out: &mut Outlet<W>,
 ) -> Result<bool, RunFault>
-    requires { out.old.failed ≡ false }
-    ensures verdict { IfOk result (λ accepted. WritesVerdictOf share (texts_given texts.now) cert.now accepted out.old.bytes out.new.bytes) }
-    ensures run { IsCheckRun (texts_given texts.now) result out.old out.new }
+    requires demand { IsDemand demand }
+    requires out { out.old.failed ≡ false }
+    ensures verdict { IfOk result (λ accepted. WritesVerdictOf demand share (texts_given texts.now) cert.now accepted out.old.bytes out.new.bytes) }
+    ensures write { IsErrOf result RunFault.Write ↔ IsTrue out.new.failed }
+    ensures refused { IfErr result (λ e. e ≢ RunFault.Write → out.new ≡ out.old) }
 {
+    if demand.keep.is_some() || demand.floor.is_some() {
+        return check_for_run(alloc, texts, demand, share, watcher, cert, out);
+    }
     match share {
         Some(share) => check_share_run(alloc, texts, share, watcher, cert, out),
         None => check_part_run(alloc, texts, watcher, cert, out),

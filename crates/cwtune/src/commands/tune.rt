@@ -1,7 +1,8 @@
 //! The command `tune`: from texts to the certificate of the best setting, and a report.
 ghost use Rattle.std.specs.Prelude.{◌≡◌, ◌≢◌, ◌⊎◌, true, false, IfErr, IsErr, IsTrue, OnOk};
 ghost use Rattle.tune_runs.specs.Given.{rules_given, texts_given};
-ghost use Rattle.tune_runs.specs.TuneRun.{WritesTuning};
+ghost use Rattle.tune_runs.specs.TuneRun.{WritesTuningFrom};
+ghost use Rattle.tune_problem.specs.Ranking.{IsAim};
 ghost use Rattle.tune_search.specs.Method.{HasCapacity};
 ghost use Rattle.cwtune.specs.CertFile.{names_twice};
 ghost use Rattle.cwtune.specs.Commands.{WritesReport, IsEnded};
@@ -14,7 +15,8 @@ use crate::witness::Witness;
 use rc_instr::Outlet;
 use std::io::Write;
 use std::rt::Files;
-use tune_runs::{Method, TuneTexts, tune_by_run};
+use tune_problem::Aim;
+use tune_runs::{Method, TuneTexts, tune_from_run};
 
 // Runs the command on files. Checks the rules, reads the files, and opens CERT before their texts
 // are judged; if CERT is another word's file, nothing is written. The file gets its new text, whole
@@ -23,11 +25,13 @@ pub(crate) fn tune<F: Files, T: Witness, W: Write, V: Write>(
     host: &mut Host<'_, F, T, V>,
     words: &TuneWords<'_>,
     method: Method,
+    aim: Aim,
     out: &mut Outlet<W>,
 ) -> Result<(), Ending>
     requires capacity { HasCapacity method }
+    requires aim { IsAim aim }
     requires out { out.old.failed ≡ false }
-    ensures done { OnOk result (WritesReport method (rules_given words.now.rules) words.now.part out.old.bytes out.new.bytes) }
+    ensures done { OnOk result (WritesReport aim method (rules_given words.now.rules) words.now.part out.old.bytes out.new.bytes) }
     ensures ended { IsEnded out.old out.new result }
     ensures named { IsTrue (names_twice words.now) → IsErr result × (out.new ≡ out.old) }
 {
@@ -40,7 +44,7 @@ pub(crate) fn tune<F: Files, T: Witness, W: Write, V: Write>(
     let beside = host.inputs_beside(words, &file)?;
     let mut cert = Outlet::new(file);
     let texts = files.texts(&rules, words.part);
-    match tune_into(host, words, &texts, method, out, &mut cert) {
+    match tune_into(host, words, &texts, method, aim, out, &mut cert) {
         Ok(()) => {
             host.end_files(words, &texts, method, cert, beside);
             Ok(())
@@ -59,13 +63,15 @@ fn tune_into<F: Files, T: Witness, W: Write, V: Write, X: Write>(
     words: &TuneWords<'_>,
     texts: &TuneTexts<'_>,
     method: Method,
+    aim: Aim,
     out: &mut Outlet<W>,
     cert: &mut Outlet<X>,
 ) -> Result<(), Ending>
     requires capacity { HasCapacity method }
+    requires aim { IsAim aim }
     requires out { out.old.failed ≡ false }
     requires cert { cert.old.failed ≡ false }
-    ensures done { OnOk result (WritesTuning (texts_given texts.now) method
+    ensures done { OnOk result (WritesTuningFrom (texts_given texts.now) aim method
         out.old.bytes out.new.bytes cert.old.bytes cert.new.bytes) }
     ensures ended { IsEnded out.old out.new result }
     ensures unwritten { IfErr result (λ e. e ≢ Ending.Failed → cert.new ≡ cert.old) }
@@ -73,7 +79,7 @@ fn tune_into<F: Files, T: Witness, W: Write, V: Write, X: Write>(
     ensures before { (out.new ≡ out.old) ⊎ (cert.new.flushed ≡ true) }
 {
     host.witness.name(host.alloc, words, texts);
-    match tune_by_run(host.alloc, texts, method, host.witness, out, cert) {
+    match tune_from_run(host.alloc, texts, aim, method, host.witness, out, cert) {
         Ok(()) => Ok(()),
         Err(fault) => Err(host.refuse_tuning(words, texts, fault)),
     }

@@ -51,7 +51,7 @@ returns-in-Ok-Tune g c =
     let words = map string_bytes c.args.words.now in
     let other : AskForFight words → ⊥ = λ asked. let fight = c.request_of.ensures.fight asked in let not_fight = c.in-Ok-Tune.is in cc in
     let named = named_at (λ r. command_of words ≡ command_word r) _ _ c.in-Ok-Tune.is c.request_of.ensures.named ∙ ap command_word c.in-Ok-Tune.field-0-is in
-    tune_run words _ _ _ _ _ _ _ _ c.status_of-in-Ok-Tune.ensures
+    tune_run words _ _ _ _ _ _ _ _ _ c.status_of-in-Ok-Tune.ensures
     other c.tune.ensures.ended named c.tune.ensures.done
 
 pub returns-in-Ok-Check : goal.returns-in-Ok-Check
@@ -59,7 +59,7 @@ returns-in-Ok-Check g c =
     let words = map string_bytes c.args.words.now in
     let other : AskForFight words → ⊥ = λ asked. let fight = c.request_of.ensures.fight asked in let not_fight = c.in-Ok-Check.is in cc in
     let named = named_at (λ r. command_of words ≡ command_word r) _ _ c.in-Ok-Check.is c.request_of.ensures.named ∙ ap command_word c.in-Ok-Check.field-0-is in
-    check_run words _ _ _ _ _ _ _ _ c.status_of-in-Ok-Check.ensures
+    check_run words _ _ _ _ _ _ _ _ _ c.status_of-in-Ok-Check.ensures
     other c.check.ensures.refused c.check.ensures.misused c.check.ensures.failed named c.check.ensures.done
 
 pub returns-in-Err : goal.returns-in-Err
