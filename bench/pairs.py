@@ -32,14 +32,15 @@ class WrongPoints(Exception):
 class Pair:
     """Two warriors, each a name and a load file, and the commands that play their series.
 
-    `best` has the least seconds of each program, `points` the candidate's points, and `outside` the
-    share of the turns of the first fight whose instruction has no class of its own.
+    `best` has the least seconds of each program, `points` the candidate's points, `ties` how many
+    fights are ties, and `outside` the share of the turns of the first fight whose instruction has no
+    class of its own.
     """
 
     def __init__(self, candidate, opponent, programs, folder):
         (mine, my_load), (theirs, their_load) = candidate, opponent
         self.name = f"{mine}:{theirs}"
-        self.best, self.points = [math.inf, math.inf], None
+        self.best, self.points, self.ties = [math.inf, math.inf], None, None
         cwtune, pmars = map(str, programs)
         game = Game(Rules(), my_load, their_load, tempfile.mkdtemp(dir=folder))
         seconds, _ = processor_time(game.series_words(pmars, SEED, FEWEST))
@@ -65,8 +66,8 @@ class Pair:
         """Returns the seconds of the series by pMARS, and the candidate's points."""
         seconds, output = processor_time(self.pmars)
         # the rounds that the first warrior named survived alone, and those that both survived
-        wins, ties = map(int, output.split()[:2])
-        return seconds, 3 * wins + ties
+        wins, self.ties = map(int, output.split()[:2])
+        return seconds, 3 * wins + self.ties
 
     def play(self):
         """Plays the series by each program. Raises WrongPoints if their points differ."""

@@ -12,12 +12,14 @@ from .tally import compare, tally
 
 ROOT = pathlib.Path(__file__).resolve().parent.parent
 HELPED = ["gate.gate", "gate.edits", "pmars.compare", "release.dist", "release.manual",
-          "release.try_release", "author.tests.run", "bench.measure"]
+          "release.try_release", "author.tests.run", "bench.measure", "bench.random_pairs",
+          "bench.searches"]
 # The modules that take a program, by the command that builds it.
 REFUSED = {
     "make build": ["author.tests.run", "gate.play_cases", "gate.cuts", "gate.pipes",
-                   "gate.terminals", "gate.documents", "gate.loop_place", "gate.refuse.memory",
-                   "gate.refuse.writes", "gate.refuse.two_devices", "release.try_release"],
+                   "gate.terminals", "gate.documents", "gate.loop_place", "gate.ranking_trials",
+                   "gate.refuse.memory", "gate.refuse.writes", "gate.refuse.two_devices",
+                   "release.try_release"],
     "make pmars": ["pmars.compare"],
     "rt test": ["gate.refuse.growth"],
 }

@@ -1,0 +1,96 @@
+"""Measures pairs of random warriors beside pMARS: how fast fights are whose instructions nobody
+chose a class for.
+
+    python3 -m bench.random_pairs --pmars PATH [--bin PATH] [--pairs N] [--runs N] [--seed S]
+
+Takes pairs whose first fight lasts 2000 turns or more, and plays series of them as run.py does. A
+line for each pair says its fights, how many of them are ties, the share of turns whose instruction
+has no class of its own, the milliseconds of the program and of pMARS, and their ratio. The last
+lines have the geometric mean of the ratios and the least, of all pairs and of those without a tie:
+the program cuts ties short, and pMARS does not.
+"""
+import argparse
+import math
+import pathlib
+import random
+import tempfile
+
+from author.lib.endings import Fault, number_from, run_tool
+from author.lib.program import BUILT, Rules, program_of
+from pmars.games import Game
+from pmars.random_warriors import random_load
+
+from .pairs import SEED, Pair, WrongPoints, processor_time
+
+SHORTEST = 2000
+
+
+def lasts(loads, program, folder):
+    """Returns whether the first fight of two warriors lasts long enough."""
+    game = Game(Rules(), *loads, folder)
+    _, said = processor_time(game.fight_words(program, SEED, "c"))
+    return int(said.split()[-1]) >= SHORTEST
+
+
+def pairs_of(asked, programs, folder):
+    """Yields pairs of random warriors whose first fights last."""
+    dice, found = random.Random(asked.seed), 0
+    while found < asked.pairs:
+        loads = [random_load(dice, Rules()) for _ in range(2)]
+        if lasts(loads, programs[0], tempfile.mkdtemp(dir=folder)):
+            found += 1
+            names = f"r{found}", "other"
+            yield Pair(*zip(names, loads), programs, folder)
+
+
+def measured(asked, programs):
+    """Plays the series of all pairs in turn, so that a slow minute spoils one run of each."""
+    with tempfile.TemporaryDirectory() as folder:
+        pairs = list(pairs_of(asked, programs, folder))
+        for _ in range(asked.runs):
+            for pair in pairs:
+                pair.play()
+    return pairs
+
+
+def print_ratios(title, pairs):
+    """Prints the geometric mean of the ratios of some pairs, and the least."""
+    ratios = [theirs / mine for mine, theirs in (pair.best for pair in pairs)]
+    if ratios:
+        mean = math.exp(sum(map(math.log, ratios)) / len(ratios))
+        print(f"{title}: {len(ratios)} pairs, mean {mean:.2f}, least {min(ratios):.2f}")
+
+
+def make_parser():
+    parser = argparse.ArgumentParser(description=__doc__,
+                                     formatter_class=argparse.RawDescriptionHelpFormatter)
+    parser.add_argument("--bin", default=str(BUILT), metavar="PATH", help="the program")
+    parser.add_argument("--pmars", required=True, metavar="PATH", help="a pMARS server build")
+    parser.add_argument("--pairs", type=number_from(1), default=100, metavar="N",
+                        help="pairs [default: 100]")
+    parser.add_argument("--runs", type=number_from(1), default=1, metavar="N",
+                        help="runs of each series [default: 1]")
+    parser.add_argument("--seed", type=number_from(0), default=1, metavar="S",
+                        help="another number gives other warriors [default: 1]")
+    return parser
+
+
+def main():
+    asked = make_parser().parse_args()
+    if not pathlib.Path(asked.pmars).is_file():
+        raise Fault(f"no program {asked.pmars}", 2)
+    programs = program_of([asked.bin]), asked.pmars
+    try:
+        pairs = measured(asked, programs)
+    except WrongPoints as wrong:
+        raise Fault(str(wrong), 3) from None
+    for pair in pairs:
+        mine, theirs = pair.best
+        print(f"{pair.name:<12}{pair.fights:>7}{pair.ties:>7}{pair.outside:>6.0%}"
+              f"{mine * 1e3:>9.1f}{theirs * 1e3:>9.1f}{theirs / mine:>7.2f}")
+    print_ratios("all", pairs)
+    print_ratios("without a tie", [pair for pair in pairs if pair.ties == 0])
+
+
+if __name__ == "__main__":
+    run_tool(main)

@@ -1,0 +1,82 @@
+"""Counts fights and seconds of searches of a template: python3 -m bench.searches TEMPLATE..
+
+Each template is tuned against the eight warriors of `examples/warriors/`, with a schedule of
+`cwtune-series`: by `cwtune tune` for the best setting, for the first of the ranking and with every
+fight played, and by `cwtune-spread` on several processors. The ratios are to the first of these.
+"""
+import argparse, pathlib, subprocess, sys, tempfile, time
+
+from author.lib.endings import number_from, run_tool
+from author.lib.program import BUILT, program_of
+
+ROOT = pathlib.Path(__file__).resolve().parent.parent
+AUTHOR, WARRIORS = ROOT / "author", sorted((ROOT / "examples/warriors").glob("*.red"))
+SEED = "4321"
+KINDS = ["best", "keep", "all", "spread"]
+
+
+def words_of(kind, asked):
+    """Returns the words that begin a search of a kind."""
+    spread = [sys.executable, AUTHOR / "cwtune-spread", "--program", asked.program]
+    return {"best": [asked.program, "tune"],
+            "keep": [asked.program, "tune", f"--keep={asked.keep}"],
+            "all": [asked.program, "tune", "--all"],
+            "spread": [*spread, f"--jobs={asked.jobs}"]}[kind]
+
+
+def name_of(kind, asked):
+    return {"best": "tune", "keep": f"tune --keep {asked.keep}", "all": "tune --all",
+            "spread": f"cwtune-spread --jobs {asked.jobs}"}[kind]
+
+
+def searched(words, template, folder):
+    """Searches a template. Returns the fights, the seconds, and what was found."""
+    begun = time.monotonic()
+    done = subprocess.run([*words, template, folder / "s.csv", folder / "cert", *WARRIORS],
+                          stdin=subprocess.DEVNULL, stdout=subprocess.PIPE, text=True, check=True)
+    seconds = time.monotonic() - begun
+    lines = [line.split(" ", 1) for line in done.stdout.splitlines()]
+    report = dict(line for line in lines if line[0] != "rank")
+    return int(report["fights"].split()[0]), seconds, (report["best"], report["total"])
+
+
+def compare(asked, template, folder):
+    """Prints a line for each kind of search. Exits if they find different settings."""
+    first, found = None, set()
+    for kind in asked.kinds:
+        fights, seconds, best = searched(words_of(kind, asked), template, folder)
+        first = first or (fights, seconds)
+        found.add(best)
+        print(f"{template.name}: {name_of(kind, asked)}: {fights} fights, "
+              f"{fights / first[0]:.2f}; {seconds:.1f} s, {seconds / first[1]:.2f}", flush=True)
+    if len(found) > 1:
+        sys.exit(f"{template.name}: different settings were found: {sorted(found)}")
+
+
+def main():
+    parser = argparse.ArgumentParser(description=__doc__.partition("\n")[0])
+    parser.add_argument("--program", default=BUILT, help="the program cwtune")
+    parser.add_argument("--rounds", type=number_from(1), default=20, metavar="R",
+                        help="fights against each warrior [default: 20]")
+    parser.add_argument("--keep", type=number_from(2, 1000), default=10, metavar="K",
+                        help="the first K of the ranking [default: 10]")
+    parser.add_argument("--jobs", type=number_from(1), default=4, metavar="N",
+                        help="processors of cwtune-spread [default: 4]")
+    parser.add_argument("--kinds", type=lambda word: word.split(","), default=KINDS,
+                        metavar="KIND,..",
+                        help=f"some of {', '.join(KINDS)} [default: each of them]")
+    parser.add_argument("templates", nargs="+", type=pathlib.Path, metavar="TEMPLATE")
+    asked = parser.parse_args()
+    asked.program = program_of([asked.program])
+    with tempfile.TemporaryDirectory() as name:
+        folder = pathlib.Path(name)
+        series = [sys.executable, AUTHOR / "cwtune-series", SEED, str(asked.rounds),
+                  str(len(WARRIORS))]
+        with (folder / "s.csv").open("wb") as file:
+            subprocess.run(series, stdout=file, check=True)
+        for template in asked.templates:
+            compare(asked, template.resolve(), folder)
+
+
+if __name__ == "__main__":
+    run_tool(main)
