@@ -6,7 +6,8 @@ opponent, at random positions, moving first in every other fight; positions and 
 same for all settings. For each setting a line says its total in the tuning and in the fresh fights,
 the points as a part of the greatest total, in percent, and the standard error of that; then how
 much more than START the best one makes, or with --against than another warrior, as the text that
-the template was made of. Each opponent counts in the fresh fights as much as in the tuning.
+the template was made of. A setting has a rank if the certificate shows it: that of `cwtune tune
+--keep K` shows the first K. Each opponent counts in the fresh fights as much as in the tuning.
 Rules, schedule and opponents are those of the tuning, as CERT.inputs names them; without that file
 give them.
 
@@ -156,12 +157,13 @@ def main():
     template = tuning_files.Template(asked.template).of(found)
     fights = found.fights(asked.schedule)
     rules, shares = rules_of(asked).words(), shares_of(asked, fights)
-    full, dropped = found.ranked(fights)
+    full, dropped, exact = found.ranked(fights)
     with tempfile.TemporaryDirectory() as folder:
         made = {}
-        for total, v in full[: asked.top]:
+        for rank, (total, v) in enumerate(full[:asked.top], 1):
             made[v] = play(asked, rules, shares, folder, "--setting", str(v), asked.template)
-            print_line(f"setting {v}", total, fights.greatest, made[v], template.constants(v))
+            name = f"setting {v}, rank {rank}" if rank <= exact else f"setting {v}"
+            print_line(name, total, fights.greatest, made[v], template.constants(v))
         best = made[found.best]
         if asked.against:
             other = play(asked, rules, shares, folder, "--", asked.against)
@@ -178,6 +180,6 @@ def main():
                        template.constants(start))
             print_gain("the start", found.best, best.minus(other))
     if dropped:
-        print(f"{dropped} settings were dropped; one of these may be better than all but setting "
-              f"{found.best} (tune --all)")
+        said = tuning_files.said_of_places(exact, asked.top)
+        print(f"{dropped} settings were dropped: of the ranking {said}")
     sys.stderr.write(asked.note)

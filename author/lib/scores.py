@@ -41,14 +41,13 @@ def print_start(found, fights, template):
 
 
 def print_best(found, fights, template, most):
-    """Prints the settings with the greatest totals among those that played all fights."""
-    full, dropped = found.ranked(fights)
+    """Prints the first settings of the ranking, as far as the certificate shows it."""
+    full, dropped, exact = found.ranked(fights)
+    print(f"{len(full)} settings played all fights, {dropped} were dropped" if dropped
+          else f"best of {len(full)} settings")
     if dropped:
-        print(f"{len(full)} settings played all fights, {dropped} were dropped")
-        print("    one of those dropped may be better than all but the best (tune --all)")
-    else:
-        print(f"best of {len(full)} settings")
-    for total, v in full[:most]:
+        print(f"    {tuning_files.said_of_places(exact, most)}")
+    for total, v in full[:min(most, exact)]:
         constants = f" {template.constants(v)}" if template else ""
         print(f"    setting {v}: total {total}{constants}")
 

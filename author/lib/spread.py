@@ -8,6 +8,15 @@ With --check-only a CERT that is there already, from wherever, is checked that w
 tuned.
 A job of a check holds the whole certificate in memory, 1 GiB of it at most.
 
+START is played first, for its total, and then its part begins before the others. Each part has the
+best total that is known when it begins as its floor (`cwtune tune --floor`), or one more if that
+setting comes before the part, so it drops what cannot be the best of all. With --keep K the first K
+of the ranking are found, and printed after the report. START is then not played first, and the
+floor is the K-th best total, once K are known. Rows and fights depend on which part ends when; the
+best setting, the ranking and the totals do not. With --hosts all parts have the floor that is known
+when GNU parallel is started: START's total, or if the command is repeated the best total of the
+parts that are done. With --all there are no floors.
+
 What is done stays in the folders CERT.parts and CERT.shares until all is done. After Ctrl-C or a
 crash repeat the command to run the rest, with any --jobs. --anew throws it away. A folder made of
 other inputs is refused.
@@ -25,11 +34,12 @@ from .program import (EXPLAIN, add_program, add_rules, add_words, command_parser
                       run_program)
 from .spread_folder import Folder
 from .spread_jobs import Here, Hosts
+from .spread_parts import Part
 from .spread_progress import PartsProgress, SharesProgress
-from .spread_report import report_of, write_whole
+from .spread_report import best_of, index_of, ranks_of, report_of, write_whole
 
 NO_SUCH_PART = b"error: --part I/K: the template has fewer than K settings\n"
-MOST = 2 ** 32 - 1
+MOST, MOST_KEPT = 2 ** 32 - 1, 1000
 
 
 def make_parser():
@@ -38,7 +48,7 @@ def make_parser():
                         help="jobs that run side by side, on each host "
                         "[default: the processors of this one]")
     parser.add_argument("--parts", type=number_from(1), metavar="K",
-                        help="parts to split the settings into [default: 2 for each job]")
+                        help="parts to split the settings into [default: 8 for each job]")
     parser.add_argument("--shares", type=number_from(1, MOST), metavar="K",
                         help="shares to split a check into [default: 8 for each job]")
     parser.add_argument("--hosts", metavar="FILE", help="run on these hosts, a line each, over "
@@ -57,6 +67,9 @@ def make_parser():
                         help="where the shares that are done stay [default: CERT.shares]")
     parser.add_argument("--all", action="store_true",
                         help="play every fight of every setting, as `cwtune tune --all`")
+    parser.add_argument("--keep", type=number_from(1, MOST_KEPT), default=1, metavar="K",
+                        help="take the first K of the ranking in place of the best setting, as "
+                        "`--keep` of `cwtune tune` and `cwtune check` [default: 1]")
     parser.add_argument("--progress", action="store_true",
                         help="print a line a minute on standard error, if it is not a terminal")
     parser.add_argument("--explain", action="store_true",
@@ -100,8 +113,9 @@ def tune_part(args, part):
 
 
 def options_of(args):
-    """Returns the rules and the method of the tuning as options of `tune`."""
-    return [*rules_of(args).words(), "--all" if args.all else f"--cache={args.cache}"]
+    """Returns the rules, the method and the ranking of the tuning as options of `tune`."""
+    return [*rules_of(args).words(), "--all" if args.all else f"--cache={args.cache}",
+            *spread_shares.keep_words(args.keep)]
 
 
 def method_of(args):
@@ -124,8 +138,8 @@ def rejected_for_all(args, cert):
     The first of so many shares has no setting, so nothing else is looked at.
     """
     done = run_program(args.program, "check", f"--share=1/{MOST}", *explained(args),
-                       *rules_of(args).words(), "--", args.template, args.schedule, cert,
-                       *args.opponent)
+                       *spread_shares.keep_words(args.keep), *rules_of(args).words(), "--",
+                       args.template, args.schedule, cert, *args.opponent)
     if done.returncode != 0 and not done.stdout:
         end_as(done)
     sys.stderr.buffer.write(done.stderr)
@@ -133,7 +147,7 @@ def rejected_for_all(args, cert):
 
 
 def check(args, count, cert):
-    """Checks a certificate in shares. Returns the line of the whole check, and its status."""
+    """Checks a certificate in shares. Returns what the whole check prints, and its status."""
     if line := rejected_for_all(args, cert):
         return line, 1
     merges = args.check_only and args.merge
@@ -161,10 +175,10 @@ def stopping(folder, progress):
 
 def run_jobs(args, folder, progress):
     """Runs the pieces that are not done. Returns for each its fault, or None if it has a result."""
-    jobs = (Hosts if args.hosts else Here)(args, folder, progress.todo)
-    faults = {}
+    faults, jobs = {}, None
     try:
         progress.show()
+        jobs = (Hosts if args.hosts else Here)(args, folder, folder.in_order(progress.todo))
         while jobs.are_running():
             for number, status in jobs.ended():
                 faults[number] = folder.keep(number, status)
@@ -172,7 +186,8 @@ def run_jobs(args, folder, progress):
             progress.show()
             time.sleep(0.02)
     finally:
-        jobs.stop()
+        if jobs:
+            jobs.stop()
         progress.clear()
     return faults
 
@@ -200,24 +215,52 @@ def say_missing(folder, progress, faults):
                 f"{hint}", 3)
 
 
+def refuse_floors(parts):
+    """Refuses parts of a cluster whose floors were too great to show which setting is the best."""
+    best = best_of(parts)
+    most, first = (best.total(), index_of(best)) if best else (0, 0)
+    for part in filter(Part.is_below, parts):
+        floor = int(part.report["total"].split()[1])
+        if floor - 1 > most or floor - 1 == most and part.first < first:
+            raise Fault(f"the part from setting {part.first} on is below the floor {floor}, but "
+                        f"the greatest total found is {most}: a greater one may be there", 2)
+
+
+def refuse_ranking(args, cert):
+    """Refuses parts of a cluster that do not show the first of the ranking."""
+    if args.merge and args.keep > 1:
+        fights = tuning_files.read_schedule(args.schedule)
+        _, dropped, exact = tuning_files.Certificate(str(cert)).ranked(fights)
+        if dropped and exact < args.keep:
+            raise Fault(f"the parts show the first {exact} of the ranking, and not {args.keep}: "
+                        f"were they tuned with --keep {args.keep}?", 2)
+
+
 def finish(args, folder, progress):
     """Puts the parts together, writes CERT and prints the report."""
-    if not any(part.report for part in progress.done()):
+    parts = progress.done()
+    if not any(part.report for part in parts):
         folder.end()
         end_as(tune_part(args, f"1/{folder.pieces}"))
+    refuse_floors(parts)
     with naming(folder.told):
         write_whole(folder, progress.pieces)
-    verdict, status = check(args, folder.count, folder.whole()) if args.check else ("", 0)
+    refuse_ranking(args, folder.whole())
+    ranks = ranks_of(parts, args.keep)
+    said, status = check(args, folder.count, folder.whole()) if args.check else ("", 0)
     if status:
-        print(verdict, end="", flush=True)
+        print(said, end="", flush=True)
         print(f"{args.cert} is not written, and the parts stay", file=sys.stderr)
         return status
+    verdict, *checked = said.splitlines() or [None]
+    if verdict and checked != ranks:
+        raise Fault("the check names another ranking than the parts", 3)
     with whole_file(args.cert) as file, folder.whole().open() as whole:
         shutil.copyfileobj(whole, file)
     write_inputs(args)
     tell_start(args)
-    print(*report_of(progress.done(), folder.count), sep="\n")
-    print(verdict, end="", flush=True)
+    report = report_of(parts, folder.count) + ranks
+    print(*report, *([verdict] if verdict else []), sep="\n", flush=True)
     folder.end()
     return 0
 

@@ -2,15 +2,23 @@
 
 In the folder `I.cert` is the certificate of part I, and `I.done` has its report and the hash of the
 certificate: the part is done if the certificate has this hash.
+
+The floor of a part is the best of the totals that are known when it begins, with --keep K the K-th
+best of them, or one more if the setting with this total comes before the part. If none of its
+settings reaches its floor, its report and its certificate say so.
 """
-import pathlib
+import pathlib, subprocess
 from typing import NamedTuple
 
 from .endings import Fault
 from .program import rules_of
 from .spread_folder import Folder, copies_of, hash_of
+from .spread_jobs import end_with_parent
+from .tuning_files import Template
 
 NO_CANDIDATE = "refused: NoCandidate\n"
+# The first words of the lines of a report, without those of the ranking.
+LINES = {"vectors", "candidates", "best", "constants", "total", "fights"}
 
 
 class Part(NamedTuple):
@@ -20,6 +28,26 @@ class Part(NamedTuple):
     count: int
     report: dict
 
+    def is_below(self):
+        """Returns whether its candidates are all below the floor that it had."""
+        return bool(self.report) and self.report["best"] == "-"
+
+    def has_best(self):
+        return bool(self.report) and not self.is_below()
+
+    def total(self):
+        """Returns the total of its best setting."""
+        return int(self.report["total"].split()[0])
+
+    def ranked(self):
+        """Returns what its report says of its settings, by their indices within the whole template:
+        total and constants of each that is ranked, or of the best one."""
+        if not self.has_best():
+            return {}
+        best = self.report["best"], self.report["total"].split()[0], self.report["constants"]
+        ranks = self.report.get("ranks") or [best]
+        return {self.first + int(v): (int(total), constants) for v, total, constants in ranks}
+
 
 def part_of(number, parts, count, report):
     """Returns part `number` of `parts` of the settings, with its report."""
@@ -28,8 +56,22 @@ def part_of(number, parts, count, report):
 
 
 def report_in(path):
-    """Returns the lines of a report by their first words."""
-    return dict(line.split(" ", 1) for line in path.read_text().splitlines())
+    """Returns the lines of a report by their first words, and of the lines `rank` a list."""
+    lines = [line.split(" ", 1) for line in path.read_text().splitlines()]
+    ranks = [rank_in(rest) for word, rest in lines if word == "rank"]
+    report = dict(line for line in lines if line[0] != "rank")
+    return report | {"ranks": ranks} if ranks else report
+
+
+def rank_in(text):
+    """Returns setting, total and constants of a line `rank`, without its first word."""
+    _, _, setting, _, total, *constants = text.split(" ")
+    return setting, total, " ".join(constants) or "-"
+
+
+def part_with(start, parts, count):
+    """Returns which of the parts has setting `start`."""
+    return next(number for number in range(1, parts + 1) if start < number * count // parts)
 
 
 class Jobs:
@@ -54,7 +96,7 @@ class Jobs:
             report = report_in(pathlib.Path(f"{self.told}.{number}.report"))
         except (FileNotFoundError, ValueError):
             return None
-        if report and not {"vectors", "best", "total", "fights"} <= report.keys():
+        if report and not LINES <= report.keys():
             return None
         is_done = fault == "" if report else fault == NO_CANDIDATE
         return part_of(number, self.pieces, self.count, report) if is_done else None
@@ -73,7 +115,7 @@ class Parts(Folder):
     PIECE, INSTEAD = "part", "CERT"
     # What a run that was killed may leave: `tune` writes a certificate to a file beside it, and
     # then CERT.inputs.
-    UNFINISHED = r"\d+\.\d+\.\w+(\.inputs)?(\.unfinished-\d+)?|.*\.\d+\.new"
+    UNFINISHED = r"(\d+|start)\.\d+\.\w+(\.inputs)?(\.unfinished-\d+)?|.*\.\d+\.new"
     OWN = rf"cwtune|[ts]\.(red|csv)|o\d+\.red|whole\.cert|\d+\.(cert|done)|{UNFINISHED}"
     # The files that a run writes, and what the shell does after a run on another host, which may
     # have no certificate to send back.
@@ -81,18 +123,60 @@ class Parts(Folder):
     AFTER = "touch {piece}.cert; rm -f {piece}.cert.inputs; "
 
     def __init__(self, args, count, options):
-        self.options = options
-        settled = {"rules": rules_of(args)._asdict(), "cache": "all" if args.all else args.cache}
-        pieces = min(count, args.parts or 2 * args.jobs)
+        self.options, self.args = options, args
+        # The totals that are known, by the index of the setting.
+        self.totals = {}
+        settled = {"rules": rules_of(args)._asdict(), "cache": "all" if args.all else args.cache,
+                   "keep": args.keep}
+        pieces = min(count, args.parts or 8 * args.jobs)
         super().__init__(args, f"{args.cert}.parts", copies_of(args), settled, (pieces, count))
         if args.parts and min(args.parts, self.count) != self.pieces:
             raise Fault(f"{self.told} has {self.pieces} parts: leave out --parts, or give --anew "
                         "to throw them away and begin again", 2)
 
+    def in_order(self, todo):
+        """Returns the parts in the order in which they begin: that of START first. Plays START
+        alone, if other parts need its total as their floor."""
+        start = Template(self.args.template).start
+        with_start = part_with(start, self.pieces, self.count)
+        others = [number for number in todo if number != with_start]
+        if others and not self.args.all and self.args.keep == 1 and not self.totals:
+            self.play_start(start)
+        return [number for number in todo if number == with_start] + others
+
+    def play_start(self, start):
+        """Plays the fights of START alone, so that its total is known, if it assembles."""
+        rules, name = rules_of(self.args).words(), f"start.{self.name}"
+        asm = ["asm", *rules, "--setting", "start", "t.red"]
+        tune = ["tune", *rules, f"{name}.red", "s.csv", f"{name}.cert", *self.opponents]
+        if self.run(asm, f"{name}.red") == 0 and self.run(tune, f"{name}.report") == 0:
+            self.totals[start] = part_of(1, 1, 1, report_in(self.path / f"{name}.report")).total()
+        self.remove(self.UNFINISHED)
+
+    def run(self, words, to):
+        """Runs the program in the folder, and returns its status."""
+        with (self.path / to).open("wb") as out:
+            return subprocess.run(["./cwtune", *words], cwd=self.path, stdin=subprocess.DEVNULL,
+                                  stdout=out, stderr=subprocess.DEVNULL,
+                                  preexec_fn=end_with_parent).returncode
+
+    def floor(self, number):
+        """Returns the floor of a part that begins now, as words of `tune`: the K-th best total that
+        is known, or one more if the setting that has it comes before the part, since an equal total
+        does not beat it."""
+        known = sorted((-total, v) for v, total in self.totals.items())[self.args.keep - 1:]
+        if not known or self.args.all:
+            return []
+        total, v = -known[0][0], known[0][1]
+        # GNU parallel puts in the number of the part later.
+        is_before = number != "{}" and v < (number - 1) * self.count // self.pieces
+        return [f"--floor={total + is_before}"]
+
     def words(self, number):
         """Returns the words that tune a part in the folder."""
-        return ["./cwtune", "tune", f"--part={number}/{self.pieces}", *self.options, "t.red",
-                "s.csv", f"{number}.{self.name}.cert", *self.opponents]
+        return ["./cwtune", "tune", f"--part={number}/{self.pieces}", *self.options,
+                *self.floor(number), "t.red", "s.csv", f"{number}.{self.name}.cert",
+                *self.opponents]
 
     def keep(self, number, status):
         """Keeps what a run of a part wrote, if that is a result. Returns the fault if it is not."""
@@ -113,14 +197,16 @@ class Parts(Folder):
         return self.path / f"{number}.cert"
 
     def piece(self, number):
-        """Returns what came of a part, or None if it is not done."""
+        """Returns what came of a part, or None if it is not done. Notes its totals."""
         done = self.read_done(number)
         try:
             if not done or done["cert"] and hash_of(self.cert(number)) != done["cert"]:
                 return None
         except FileNotFoundError:
             return None
-        return part_of(number, self.pieces, self.count, done["report"])
+        part = part_of(number, self.pieces, self.count, done["report"])
+        self.totals |= {v: total for v, (total, _) in part.ranked().items()}
+        return part
 
     def whole(self):
         """Returns where the certificate of the whole template is put together."""

@@ -1,7 +1,7 @@
 """How far `cwtune-spread` is: the pieces that are done, and the line that says so."""
 import os, sys, time
 
-from .spread_report import best_of, index_of, summed, total_of
+from .spread_report import best_of, index_of, summed
 
 # Seconds from a line in a log to the next.
 PAUSE = 60
@@ -57,9 +57,8 @@ class PartsProgress(Progress):
         done, folder = self.done(), self.folder
         line = (f"{len(done)} of {folder.pieces} parts, {self.settings()} of {folder.count} "
                 f"settings, {summed(done, 'fights', 0)} fights{self.left()}")
-        if any(part.report for part in done):
-            best = best_of(done)
-            line += f", best {index_of(best)} total {total_of(best)} {best.report['constants']}"
+        if best := best_of(done):
+            line += f", best {index_of(best)} total {best.total()} {best.report['constants']}"
         return line
 
 

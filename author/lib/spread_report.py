@@ -1,14 +1,12 @@
 """Puts the parts of a tuning together: the report and the certificate of the whole template."""
 from .endings import Fault
-
-
-def total_of(part):
-    return int(part.report["total"].split()[0])
+from .spread_parts import Part
 
 
 def best_of(parts):
-    """Returns the first of the parts with the greatest total."""
-    return max((part for part in parts if part.report), key=total_of)
+    """Returns the first of the parts with the greatest total, or None if no part has a best
+    setting."""
+    return max((part for part in parts if part.has_best()), key=Part.total, default=None)
 
 
 def index_of(part):
@@ -18,6 +16,16 @@ def index_of(part):
 
 def summed(parts, line, word):
     return sum(int(part.report[line].split()[word]) for part in parts if part.report)
+
+
+def ranks_of(parts, keep):
+    """Returns the first `keep` lines `rank` of the whole template, none if `keep` is 1."""
+    known = {}
+    for part in parts:
+        known |= part.ranked()
+    first = sorted(known, key=lambda v: (-known[v][0], v))[:keep if keep > 1 else 0]
+    return [f"rank {rank} setting {v} total {known[v][0]}" + (
+        f" {known[v][1]}" if known[v][1] != "-" else "") for rank, v in enumerate(first, 1)]
 
 
 def report_of(parts, count):
@@ -58,6 +66,6 @@ def write_whole(folder, parts):
     with folder.cert(number).open() as file:
         version = file.readline().split(",")[1]
     with folder.whole().open("w") as file:
-        file.write(f"cwcert,{version},{folder.count}\nbest,{index_of(best)},{total_of(best)}\n")
+        file.write(f"cwcert,{version},{folder.count}\nbest,{index_of(best)},{best.total()}\n")
         for number, part in parts.items():
             file.writelines(f"{row}\n" for row in rows_of(folder, number, part))

@@ -10,21 +10,24 @@ from .endings import Fault
 from .program import rules_of
 from .spread_folder import Copy, Folder, copies_of
 
-ACCEPTED = re.compile(r"accepted share (\d+)/(\d+) best (\d+) total (\d+)\n")
+ACCEPTED = re.compile(r"accepted share (\d+)/(\d+) best (\d+) total (\d+)\n(?P<ranks>(rank .*\n)*)")
 REJECTED = re.compile(r"rejected row (\d+) (\w+)\n")
 # Reasons of the form of a certificate and of its best row, which all shares find alike.
 OF_ALL = {"Malformed", "Version", "RowCount", "BestRow"}
 
 
-def is_verdict(line, status, number, shares):
-    """Returns whether a check of this share may print this line and end with this status."""
-    if accepted := ACCEPTED.fullmatch(line):
-        return status == 0 and accepted.group(1, 2) == (str(number), str(shares))
-    return status == 1 and REJECTED.fullmatch(line) is not None
+def is_verdict(text, status, number, shares, keep=1):
+    """Returns whether a check of this share may print this and end with this status. If it accepts
+    the first `keep` of the ranking, it prints them."""
+    if accepted := ACCEPTED.fullmatch(text):
+        ranks = accepted["ranks"].count("\n")
+        return (status == 0 and accepted.group(1, 2) == (str(number), str(shares))
+                and (1 <= ranks <= keep if keep > 1 else ranks == 0))
+    return status == 1 and REJECTED.fullmatch(text) is not None
 
 
 def verdict_of(lines, cert):
-    """Returns the line of the whole check from those of all shares.
+    """Returns what the whole check prints from what all shares printed.
 
     Of several rejections it is the first in the order of a check: the refused and the cap rows come
     before the rows that refer to others, so each share looks at its own in this order.
@@ -35,11 +38,16 @@ def verdict_of(lines, cert):
         same = same_rows(cert) if len(rejected) > 1 else set()
         row, reason = min(rejected, key=lambda it: (it[1] not in OF_ALL, it[0] in same, it[0]))
         return f"rejected row {row} {reason}\n"
-    named = {ACCEPTED.fullmatch(line).group(3, 4) for line in lines}
+    named = {ACCEPTED.fullmatch(line).group(3, 4, "ranks") for line in lines}
     if len(named) != 1:
         raise Fault("the shares name different best settings", 3)
-    best, total = named.pop()
-    return f"accepted best {best} total {total}\n"
+    best, total, ranks = named.pop()
+    return f"accepted best {best} total {total}\n{ranks}"
+
+
+def keep_words(keep):
+    """Returns how many of the ranking are asked for as words of `tune` and `check`."""
+    return [f"--keep={keep}"] if keep > 1 else []
 
 
 def same_rows(cert):
@@ -52,7 +60,7 @@ def same_rows(cert):
 class Jobs:
     """The shares that the jobs of a cluster have written beside CERT.
 
-    Job I writes CERT.I.check: the SHA-256 digest of CERT, the line of the check, and the digest
+    Job I writes CERT.I.check: the SHA-256 digest of CERT, what the check prints, and the digest
     again.
     """
 
@@ -60,23 +68,25 @@ class Jobs:
 
     def __init__(self, args, count):
         self.told, self.count, self.pieces = args.cert, count, args.merge
+        self.wanted = args.keep
         with open(args.cert, "rb") as file:
             self.digest = hashlib.file_digest(file, "sha256").hexdigest()
 
     def piece(self, number):
-        """Returns the line of a share, or None if its job left none for this certificate."""
+        """Returns what a share printed, or None if its job left nothing for this certificate."""
         try:
             text = pathlib.Path(f"{self.told}.{number}.check").read_text()
         except (FileNotFoundError, ValueError):
             return None
         lines = text.splitlines(keepends=True)
-        if len(lines) != 3 or lines[0] != lines[2] or not lines[0].startswith(self.digest):
+        if len(lines) < 3 or lines[0] != lines[-1] or not lines[0].startswith(self.digest):
             return None
-        status = 0 if ACCEPTED.fullmatch(lines[1]) else 1
-        return lines[1] if is_verdict(lines[1], status, number, self.pieces) else None
+        said = "".join(lines[1:-1])
+        status = 0 if ACCEPTED.fullmatch(said) else 1
+        return said if is_verdict(said, status, number, self.pieces, self.wanted) else None
 
     def see_the_same(self):
-        """Does nothing: `piece` takes only a line between two digests of CERT as it is now."""
+        """Does nothing: `piece` takes only what is between two digests of CERT as it is now."""
 
     def end(self):
         """Leaves the files of the jobs where they are."""
@@ -92,31 +102,31 @@ class Shares(Folder):
     AFTER = ""
 
     def __init__(self, args, count, cert):
-        self.cert, self.rules = cert, rules_of(args)
+        self.cert, self.rules, self.wanted = cert, rules_of(args), args.keep
         copies = copies_of(args, Copy("certificate", "c.cert", cert))
         pieces = args.shares or min(count, 8 * args.jobs)
         super().__init__(args, args.work or f"{args.cert}.shares", copies,
-                         {"rules": self.rules._asdict()}, (pieces, count))
+                         {"rules": self.rules._asdict(), "keep": args.keep}, (pieces, count))
         if args.shares and args.shares != self.pieces:
             raise Fault(f"{self.told} has {self.pieces} shares: leave out --shares, or give --anew "
                         "to throw them away and begin again", 2)
 
     def words(self, number):
         """Returns the words that check a share in the folder."""
-        return ["./cwtune", "check", f"--share={number}/{self.pieces}", *self.rules.words(),
-                "t.red", "s.csv", "c.cert", *self.opponents]
+        return ["./cwtune", "check", f"--share={number}/{self.pieces}", *keep_words(self.wanted),
+                *self.rules.words(), "t.red", "s.csv", "c.cert", *self.opponents]
 
     def keep(self, number, status):
-        """Keeps the line of a share, if that is a verdict. Returns the fault if it is not."""
-        line = self.file(number, "report").read_text(errors="replace")
-        if is_verdict(line, status, number, self.pieces):
-            self.write_done(number, line)
+        """Keeps what a share printed, if that is a verdict. Returns the fault if it is not."""
+        said = self.file(number, "report").read_text(errors="replace")
+        if is_verdict(said, status, number, self.pieces, self.wanted):
+            self.write_done(number, said)
             return None
         fault = self.file(number, "fault").read_text(errors="surrogateescape")
         return fault or f"failed: it ended with status {status}\n"
 
     def piece(self, number):
-        """Returns the line of a share, or None if it is not done."""
+        """Returns what a share printed, or None if it is not done."""
         return self.read_done(number)
 
     def see_the_same(self):

@@ -93,7 +93,7 @@ class Study:
     def first(self):
         """Returns the first settings of the ranking of the box."""
         found = Certificate(str(self.folder.path / "best.cert"))
-        full, _ = found.ranked(read_schedule(self.folder.path / "schedule.csv"))
+        full, *_ = found.ranked(read_schedule(self.folder.path / "schedule.csv"))
         return [v for _, v in full[:study_fresh.FIRST]]
 
     def go(self):

@@ -18,7 +18,7 @@ class Box:
         self.template = Template(folder / "box.red")
         self.found = Certificate(str(folder / "best.cert"))
         self.fights = read_schedule(folder / "schedule.csv")
-        self.full, _ = self.found.ranked(self.fights)
+        self.full, *_ = self.found.ranked(self.fights)
 
     def values(self, v):
         return dict(zip(self.template.names, self.template.settings[v]))

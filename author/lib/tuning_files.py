@@ -63,26 +63,53 @@ class Template:
         return self
 
 
-class Certificate:
-    """The rows of a certificate. `rows[v]` is ("refused", None), ("same", u) or ("cap", points)."""
+class Rows:
+    """The rows of a certificate: `rows[v]` is ("refused", None), ("same", u) or ("cap", points).
+
+    If no setting reaches the floor of the tuning, `best` is None and `total` is the floor.
+    """
 
     def __init__(self, path):
         self.path = path
         try:
             records = read_records(path)
             (mark, version, count), (second, best, total) = itertools.islice(records, 2)
-            self.version, self.best, self.total = int(version), int(best), int(total)
+            self.version, self.total = int(version), int(total)
+            self.best = None if (second, best) == ("none", "-") else int(best)
             self.rows = [read_row(v, record) for v, record in enumerate(records)]
-            named = [self.best] + [rest for kind, rest in self.rows if kind == "same"]
-            good = int(count) == len(self.rows) and all(map(self.has_fights, named))
+            named = [rest for kind, rest in self.rows if kind == "same"]
+            named += [] if self.best is None else [self.best]
+            good = (mark == "cwcert" and int(count) == len(self.rows) and version in ("1", "2")
+                    and second == ("none" if self.best is None else "best")
+                    and all(map(self.has_fights, named)))
         except (ValueError, csv.Error):
             good = False
-        if not good or (mark, second) != ("cwcert", "best") or version not in ("1", "2"):
+        if not good:
             raise Fault(f"{path}: not a certificate")
 
     def has_fights(self, v):
         """Returns whether there is a setting v, and its row lists fights."""
         return 0 <= v < len(self.rows) and self.rows[v][0] == "cap"
+
+    def twin(self, v):
+        """Returns the setting whose fights setting v shares, or v."""
+        kind, rest = self.rows[v]
+        return rest if kind == "same" else v
+
+    def points(self, v):
+        """Returns the points that setting v made, by fight, or None if it does not assemble."""
+        kind, rest = self.rows[self.twin(v)]
+        return rest if kind == "cap" else None
+
+
+class Certificate(Rows):
+    """A certificate that names a best setting."""
+
+    def __init__(self, path):
+        super().__init__(path)
+        if self.best is None:
+            raise Fault(f"{path}: it names no best setting, since none reaches the floor "
+                        f"{self.total}")
 
     def is_of(self, fights):
         """Returns whether the certificate can be of these fights: the best setting played them
@@ -107,29 +134,22 @@ class Certificate:
             raise Fault(self.path + wrong, 2)
         return fights
 
-    def points(self, v):
-        """Returns the points that setting v made, by fight, or None if it does not assemble."""
-        kind, rest = self.rows[self.twin(v)]
-        return rest if kind == "cap" else None
-
     def total_of(self, v, fights):
         """Returns the total of setting v, or None if it did not play all fights."""
         points = self.points(v)
         return cap(points, fights) if points is not None and len(points) == len(fights) else None
 
     def ranked(self, fights):
-        """Returns total and index of the settings that played all fights, the best first, and how
-        many others that assemble were dropped."""
+        """Returns total and index of the settings that played all fights, the best first; how many
+        settings were dropped; and how many of the first are exact: no cap of a dropped setting
+        beats them."""
         totals = [(self.total_of(v, fights), v) for v in range(len(self.rows))]
-        full = sorted((pair for pair in totals if pair[0] is not None),
-                      key=lambda pair: (-pair[0], pair[1]))
-        dropped = sum(total is None and self.points(v) is not None for total, v in totals)
-        return full, dropped
-
-    def twin(self, v):
-        """Returns the setting whose fights setting v shares, or v."""
-        kind, rest = self.rows[v]
-        return rest if kind == "same" else v
+        rank = lambda pair: (-pair[0], pair[1])
+        full = sorted((pair for pair in totals if pair[0] is not None), key=rank)
+        dropped = [(cap(self.points(v), fights), v) for total, v in totals
+                   if total is None and self.points(v) is not None]
+        most = min(map(rank, dropped), default=(math.inf, 0))
+        return full, len(dropped), sum(rank(pair) < most for pair in full)
 
 
 def is_range_line(line):
@@ -196,6 +216,12 @@ def cap(points, fights):
     return fights.greatest - sum((3 - made) * fights[i].weight for i, made in points.items())
 
 
+def said_of_places(exact, wanted):
+    """Says how many of the first of a ranking are exact, though settings were dropped."""
+    said = "the first is exact" if exact == 1 else f"the first {exact} are exact"
+    return said if exact >= wanted else f"only {said} (tune --keep {wanted})"
+
+
 def describe(path):
     """Returns a line that says what a file is."""
     first = pathlib.Path(path).read_text("latin-1").split(",", 1)[0].lstrip("\xef\xbb\xbf\"\r\n")
@@ -203,9 +229,10 @@ def describe(path):
         fights = read_schedule(path)
         return f"schedule of {len(fights)} fights, greatest total {fights.greatest}"
     if first == "cwcert":
-        found = Certificate(path)
-        return (f"certificate, version {found.version}, of {len(found.rows)} settings: "
-                f"best {found.best} total {found.total}")
+        found = Rows(path)
+        said = (f"none reaches the floor {found.total}" if found.best is None
+                else f"best {found.best} total {found.total}")
+        return f"certificate, version {found.version}, of {len(found.rows)} settings: {said}"
     template = Template(path)
     if not template.names:
         return "text without a range line: a template of one setting"

@@ -21,8 +21,8 @@ FILES = {
 }
 TUNE = ["--core=800", "t.red", "s.csv", "cert", "dat.red", "imp.red"]
 HOLDOUT = "cwtune-holdout --rounds 20 t.red cert"
-GAIN = ("setting 1: tuning 16 of 18 (88.9%), fresh 88.9% +- 0.0 K=1\n"
-        "setting 0: tuning 15 of 18 (83.3%), fresh 83.3% +- 0.0 K=0\n"
+GAIN = ("setting 1, rank 1: tuning 16 of 18 (88.9%), fresh 88.9% +- 0.0 K=1\n"
+        "setting 0, rank 2: tuning 15 of 18 (83.3%), fresh 83.3% +- 0.0 K=0\n"
         "start 0: tuning 15 of 18 (83.3%), fresh 83.3% +- 0.0 K=0\n"
         "over the start, setting 1: +5.6% +- 0.0, a gain\n")
 # Words, and the line with which they end, with status 2.

@@ -43,18 +43,31 @@ BAD = {
     "row.cert": b"cwcert,1,1\nbest,0,3\ncap,0\n",
     "twin.cert": b"cwcert,1,2\nbest,0,3\ncap,0,0:3\nsame,1,2\n",
     "best.cert": b"cwcert,1,1\nbest,1,3\ncap,0,0:3\n",
+    "two.csv": b"opponent,position,first\n0,3670,c\n0,5123,o\n",
+    # A setting with the cap 3 is before one with the total 3, and after it.
+    "one.cert": b"cwcert,1,4\nbest,1,4\ncap,0,0:0\ncap,1,0:3 1:1\ncap,2,0:3 1:0\n"
+                b"cap,3,0:1 1:0\n",
+    "two.cert": b"cwcert,1,4\nbest,1,4\ncap,0,0:3 1:0\ncap,1,0:3 1:1\ncap,2,0:1 1:0\n"
+                b"cap,3,0:0\n",
+    "below.cert": b"cwcert,1,2\nnone,-,4\ncap,0,0:0\nsame,1,0\n",
+    "half.cert": b"cwcert,1,2\nnone,0,4\ncap,0,0:0\nsame,1,0\n",
+    "dash.cert": b"cwcert,1,2\nbest,-,4\ncap,0,0:0\nsame,1,0\n",
     "total.cert": (TUNING / "step.cert").read_bytes().replace(b"best,3,16", b"best,3,17"),
     "range.red": b"NOP\n;@tune K 0 5 1\n",
     "ranges.red": b"".join(b";@tune %c 0 9999 1 0\n" % name for name in b"ABC"),
 }
 NO_FILE = "No such file or directory"
+BELOW = "it names no best setting, since none reaches the floor 4"
 # What the commands have to refuse: the words, the line on standard error, and the status.
 REFUSALS = [
     ("cwtune-scores none schedule.csv", f"failed: none: {NO_FILE}", 3),
     ("cwtune-scores step.cert none", f"failed: none: {NO_FILE}", 3),
     ("cwtune-scores step.cert .", "failed: .: Is a directory", 3),
     *((f"cwtune-scores {name} schedule.csv", f"refused: {name}: not a certificate", 1)
-      for name in ["binary", "empty", "row.cert", "twin.cert", "best.cert", "schedule.csv"]),
+      for name in ["binary", "empty", "row.cert", "twin.cert", "best.cert", "half.cert",
+                   "dash.cert", "schedule.csv"]),
+    ("cwtune-scores below.cert schedule.csv", f"refused: below.cert: {BELOW}", 1),
+    ("cwtune-landscape step.red below.cert x.png", f"refused: below.cert: {BELOW}", 1),
     *((f"cwtune-scores step.cert {name}", f"refused: {name}: not a schedule", 1)
       for name in ["binary", "empty", "step.cert"]),
     *((f"cwtune-scores step.cert {name}",
@@ -166,6 +179,23 @@ def refusals(rows, python):
             came = said(*words.split(), folder=folder, python=python)
             yield compare(words, f"{line}\nstatus {status}\n", came)
         yield compare("refusals write no file", files, sorted(os.listdir(folder)))
+        yield from shown(folder)
+
+
+def shown(folder):
+    """Shows a certificate without a best setting, and one of which two places are exact. Yields
+    names, and what was wrong."""
+    yield compare("cwtune-files below.cert", "below.cert: certificate, version 1, of 2 settings: "
+                  "none reaches the floor 4\n", said("cwtune-files", "below.cert", folder=folder))
+    for name, words, said_of in [
+        ("one.cert", [], ["only the first is exact (tune --keep 10)", "setting 1: total 4"]),
+        ("two.cert", ["--top=2"], ["the first 2 are exact", "setting 1: total 4",
+                                   "setting 0: total 3"]),
+    ]:
+        out = said("cwtune-scores", name, "two.csv", *words, folder=folder)
+        yield compare(f"the ranking of {name}", [
+            "3 settings played all fights, 1 were dropped", *said_of],
+            [line.strip() for line in out.splitlines()[2:-1]])
 
 
 def interrupt(job):

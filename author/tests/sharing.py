@@ -133,6 +133,13 @@ def other_folders(place):
                       place.spread(option, *ONLY))
 
 
+def without_fights(came):
+    """Returns how a command ended, without the fights that it played: they depend on which part
+    ends when."""
+    status, out, err = came
+    return status, [line for line in out.splitlines() if not line.startswith("fights ")], err
+
+
 def with_a_tuning(place):
     """Checks what a tuning in parts found, and kills it between tuning and check."""
     _, line = tuned(place)
@@ -145,7 +152,9 @@ def with_a_tuning(place):
                   kind="shares")
     yield compare("a kill in the check leaves the parts and the shares", (None, 4, True),
                   (place.read("CERT"), place.done(), place.done("shares") > 1))
-    yield compare("the check goes on", (came, []), (place.spread("--check", *DECOY), left(place)))
+    again = place.spread("--check", *DECOY)
+    yield compare("the check goes on", (without_fights(came), []),
+                  (without_fights(again), left(place)))
 
 
 def liars(place):
@@ -172,14 +181,19 @@ def liars(place):
                                                         "--check-only", *words))
 
 
-def merged(place):
-    """Checks the shares as jobs of a cluster do, and puts them together."""
-    cert, line = tuned(place)
+def run_jobs(place, *words):
+    """Checks three shares as jobs of a cluster do."""
     for job in "123":
         env = {**os.environ, "CWTUNE": place.program, "SLURM_ARRAY_TASK_ID": job,
                "SLURM_ARRAY_TASK_COUNT": "3"}
-        subprocess.run(["sh", str(EXAMPLES / "slurm.sh"), "--check", *DECOY], cwd=place.folder,
+        subprocess.run(["sh", str(EXAMPLES / "slurm.sh"), "--check", *words], cwd=place.folder,
                        env=env)
+
+
+def merged(place):
+    """Puts shares together that were checked as jobs of a cluster do."""
+    cert, line = tuned(place)
+    run_jobs(place, *DECOY)
     yield compare("--check-only --merge", (0, line, ""), place.spread("--merge=3", *ONLY))
     yield compare("of another number of shares", (
         3, "", "failed: no result of 4 of 4 shares: 1 2 3 4\n"), place.spread("--merge=4", *ONLY))
@@ -187,8 +201,17 @@ def merged(place):
     yield compare("of a job that was cut", (3, "", "failed: no result of 1 of 3 shares: 2\n"),
                   place.spread("--merge=3", *ONLY))
     place.write("CERT", cert + b"\n")
-    yield compare("of another certificate", (3, "", "failed: no result of 3 of 3 shares: 1 2 3\n"),
+    none = (3, "", "failed: no result of 3 of 3 shares: 1 2 3\n")
+    yield compare("of another certificate", none, place.spread("--merge=3", *ONLY))
+    place.tune("--keep=2", *DECOY)
+    run_jobs(place, *DECOY, "--keep=2")
+    yield compare("--merge --keep", (*place.verdict(["--keep=2", *DECOY]), ""),
+                  place.spread("--merge=3", "--keep=2", *ONLY))
+    yield compare("of checks of a ranking that is not asked for", none,
                   place.spread("--merge=3", *ONLY))
+    run_jobs(place, *DECOY)
+    yield compare("of checks without the ranking that is asked for", none,
+                  place.spread("--merge=3", "--keep=2", *ONLY))
 
 
 def trials(program):

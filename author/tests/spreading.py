@@ -46,6 +46,13 @@ class Place(play.Place):
         """Returns the status of a check of CERT."""
         return self.run(["check", *words]).status
 
+    def found(self, words, end):
+        """Returns how a tuning ended: status, standard error, and of the report all but the fights,
+        which depend on which part ends when; and whether CERT is accepted."""
+        status, out, err = end
+        report = [line for line in out.splitlines() if not line.startswith("fights ")]
+        return status, err, report, self.check(words)
+
     def verdict(self, words):
         """Returns the status of a check of CERT, and its line."""
         came = self.run(["check", *words])
@@ -92,9 +99,8 @@ class Place(play.Place):
 
 def after_kills(place):
     """Kills a tuning at ten moments, and compares what it makes with an unbroken one."""
-    unbroken = place.spread("--jobs=3", "--parts=12", *DECOY)
-    yield compare("an unbroken tuning is accepted", (0, 0), (unbroken[0], place.check(DECOY)))
-    cert = place.read("CERT")
+    unbroken = place.found(DECOY, place.spread("--jobs=3", "--parts=12", *DECOY))
+    yield compare("an unbroken tuning is accepted", (0, 0), (unbroken[0], unbroken[-1]))
     place.clear()
     moments = random.Random(45)
     for k in range(10):
@@ -106,11 +112,10 @@ def after_kills(place):
                 r"stopped: \d+ of 12 parts are done, and kept in CERT.parts: repeat the command to "
                 r"run the others\n", said)))
         # An empty file is left if it comes while `tune` looks at the inputs.
-        kept = place.read("CERT")
-        yield compare("a kill leaves no half certificate", True, kept in (None, b"", cert))
-    status, out, err = place.spread("--jobs=2", "--parts=12", *DECOY)
-    yield compare("ten kills change nothing", (*unbroken, cert),
-                  (status, out, err, place.read("CERT")))
+        whole = not place.read("CERT") or place.check(DECOY) == 0
+        yield compare("a kill leaves no half certificate", True, whole)
+    yield compare("ten kills change nothing", unbroken,
+                  place.found(DECOY, place.spread("--jobs=2", "--parts=12", *DECOY)))
     yield compare("the parts are gone at the end", False, (place.folder / "CERT.parts").exists())
 
 
@@ -128,6 +133,7 @@ def other_inputs(place):
         ("opponents", turned),
         ("rules", ["--cycles=79999", *DECOY]),
         ("cache", ["--cache=1", *DECOY]),
+        ("keep", ["--keep=2", *DECOY]),
         ("program", ["--program=./program", *DECOY]),
     ]:
         said = (f"error: the parts in CERT.parts are of other inputs ({other}): give --anew to "
@@ -144,13 +150,13 @@ def other_inputs(place):
 def damaged_parts(place):
     """Damages what parts have left."""
     place.clear()
-    whole = place.spread("--jobs=1", "--parts=12", *DECOY)[1], place.read("CERT")
+    whole = place.found(DECOY, place.spread("--jobs=1", "--parts=12", *DECOY))
     for name, kind in [("a certificate", "cert"), ("a result", "done")]:
         place.unfinished()
         path = min(place.folder.glob(f"CERT.parts/*.{kind}"))
         path.write_bytes(path.read_bytes()[:-9])
         yield compare(f"{name} that was cut is made again", whole,
-                      (place.spread("--jobs=4", *DECOY)[1], place.read("CERT")))
+                      place.found(DECOY, place.spread("--jobs=4", *DECOY)))
     place.unfinished()
     (place.folder / "CERT.parts/t.red").write_bytes(b"MOV 0, 1\n")
     yield compare("a copy that was changed is refused", (
@@ -251,7 +257,7 @@ def methods(place):
     status, _, err = place.spread("--all", "--jobs=2", "--progress", *DECOY)
     yield compare("--all makes the certificate of tune --all", (0, cert),
                   (status, place.read("CERT")))
-    yield compare("--progress begins with a line", "0 of 4 parts, 0 of 126 settings, 0 fights\n",
+    yield compare("--progress begins with a line", "0 of 16 parts, 0 of 126 settings, 0 fights\n",
                   err)
     place.clear()
     yield compare("--explain tells of START", 1, place.spread("--explain", *DECOY)[2].count(
@@ -278,7 +284,7 @@ for word in "$@"; do case $word in [0-9]*.cert) sed -i '$d' $word;; esac; done; 
     for name, text, words, end in [
         ("a row too few", short, ["--parts=1"],
          (3, "", "failed: the certificate of part 1 has not 4 settings\n")),
-        ("another total", total, ["--check"], (1, "rejected row 1 BestRow\n",
+        ("another total", total, ["--check", "--parts=1"], (1, "rejected row 1 BestRow\n",
          "CERT is not written, and the parts stay\n")),
     ]:
         place.write("liar", b"#!/bin/bash\n" + text.encode())
@@ -286,18 +292,29 @@ for word in "$@"; do case $word in [0-9]*.cert) sed -i '$d' $word;; esac; done; 
         came = place.spread("--program=./liar", *words, *SMALL)
         yield compare(name, (*end, None), (*came, place.read("CERT")))
         place.clear()
+    place.write("liar", b"#!/bin/bash\n" + total.encode())
+    said = ("error: the part from setting 0 on is below the floor 5, but the greatest total found "
+            "is 0: a greater one may be there\n")
+    yield compare("another total of START", (2, "", said, None), (
+        *place.spread("--program=./liar", *SMALL), place.read("CERT")))
+    place.clear()
+
+
+def run_jobs(place, count, *words):
+    """Runs the parts as jobs of a cluster do."""
+    for job in range(1, count + 1):
+        env = {**os.environ, "CWTUNE": place.program, "SLURM_ARRAY_TASK_ID": str(job),
+               "SLURM_ARRAY_TASK_COUNT": str(count)}
+        subprocess.run(["sh", str(EXAMPLES / "slurm.sh"), *words], cwd=place.folder, env=env)
 
 
 def merged(place):
     """Runs the parts as jobs of a cluster do, and puts them together."""
-    unbroken = place.spread("--parts=3", *DECOY), place.read("CERT")
+    unbroken = place.found(DECOY, place.spread("--parts=3", *DECOY))
     place.clear()
-    for job in "123":
-        env = {**os.environ, "CWTUNE": place.program, "SLURM_ARRAY_TASK_ID": job,
-               "SLURM_ARRAY_TASK_COUNT": "3"}
-        subprocess.run(["sh", str(EXAMPLES / "slurm.sh"), *DECOY], cwd=place.folder, env=env)
-    yield compare("--merge makes what an unbroken run makes", unbroken,
-                  (place.spread("--merge=3", *DECOY), place.read("CERT")))
+    run_jobs(place, 3, *DECOY)
+    yield compare("--merge finds what an unbroken run finds", unbroken,
+                  place.found(DECOY, place.spread("--merge=3", *DECOY)))
     place.clear()
     yield compare("--merge --check", (0, "accepted"), (
         (came := place.spread("--merge=3", "--check", *DECOY))[0], came[1].splitlines()[-1][:8]))
@@ -324,6 +341,94 @@ def merged(place):
         (place.folder / f"CERT.{part}.inputs").unlink()
     yield compare("--merge of too many parts that do not say of what", 3,
                   place.spread("--merge=4", *DECOY)[0])
+
+
+RANKED = [*RULES, "steps.red", "both.csv", "CERT", "dat.red", "imp.red"]
+
+
+def write_ranked(place):
+    """Writes a template of 12 settings: three total 4, START among them, two do not assemble, and
+    the others total 3. Also writes a stand-in for `cwtune` that notes what it is asked for."""
+    place.write("steps.red", ";@tune K 0 11 1 5\nJMP K % 5\nDAT 8/(K-3), 7/(K-9)\n")
+    place.write("noting", f'#!/bin/sh\necho "$*" >> {place.folder}/words\nexec {place.program} '
+                          '"$@"\n')
+    (place.folder / "noting").chmod(0o755)
+
+
+def floors(place):
+    """Looks at the floors that parts get."""
+    write_ranked(place)
+    tuned = place.tune(*RANKED)
+    place.clear()
+    came = place.found(RANKED, place.spread("--program=./noting", "--jobs=1", "--parts=4",
+                                            *RANKED))
+    yield compare("parts below their floors", place.found(RANKED, tuned), came)
+    asked = [line.split() for line in place.read("words").decode().splitlines()]
+    parts = [[word for word in words if word.startswith(("--part", "--floor"))]
+             for words in asked if words[0] == "tune"]
+    yield compare("START's part is first, and floors are the best total, or one more", [
+        [], ["--part=2/4", "--floor=4"], ["--part=1/4", "--floor=4"], ["--part=3/4", "--floor=5"],
+        ["--part=4/4", "--floor=5"]], parts[1:])
+    place.clear()
+
+
+def rankings(place):
+    """Finds the first of the ranking, and checks it."""
+    write_ranked(place)
+    for keep in [2, 3, 20]:
+        option = f"--keep={keep}"
+        tuned = place.tune(option, *RANKED)
+        ranks = [line for line in tuned[1].splitlines() if line.startswith("rank ")]
+        place.clear()
+        came = place.spread(option, "--jobs=2", "--parts=5", "--check", *RANKED)
+        verdict = place.verdict([option, *RANKED])
+        found, checked = came[1].splitlines()[:-1], came[1].splitlines()[-1]
+        yield compare(f"--keep {keep}", (tuned[1].splitlines()[:5], ranks, ""),
+                      (found[:5], found[6:], came[2]))
+        yield compare(f"--keep {keep} --check", (0, [checked, *ranks]),
+                      (verdict[0], verdict[1].splitlines()))
+        yield compare(f"--check-only --keep {keep}", (*verdict, ""),
+                      place.spread("--check-only", option, *RANKED))
+        place.clear()
+    place.tune(*RANKED)
+    yield compare("--check-only --keep of a certificate of the best alone",
+                  (*place.verdict(["--keep=5", *RANKED]), ""),
+                  place.spread("--check-only", "--keep=5", *RANKED))
+    place.clear()
+    for number in ["0", "1001", "-2"]:
+        yield compare(f"--keep={number}", (
+            2, "", f"cwtune-spread: error: argument --keep: {number} is not 1 to 1000\n"),
+            place.spread(f"--keep={number}", *RANKED))
+
+
+def merged_rankings(place):
+    """Puts parts together that have floors, and a ranking."""
+    write_ranked(place)
+    tuned = place.found(RANKED, place.tune(*RANKED))
+    words = [*RANKED[len(RULES):], *RULES]
+    run_jobs(place, 4, *words)
+    below = [path.name for path in place.folder.glob("CERT.?")
+             if b"\nnone,-,4\n" in path.read_bytes()]
+    yield compare("some jobs end below START", True, 1 <= len(below) <= 3)
+    place.clear()
+    yield compare("--merge of parts below their floors", tuned,
+                  place.found(RANKED, place.spread("--merge=4", *RANKED)))
+    said = ("error: the parts show the first 3 of the ranking, and not 4: were they tuned with "
+            "--keep 4?\n")
+    place.clear()
+    yield compare("--merge --keep of parts without", (2, "", said, None), (
+        *place.spread("--merge=4", "--keep=4", *RANKED), place.read("CERT")))
+    run_jobs(place, 4, *words, "--keep=4")
+    ranked = place.tune("--keep=4", *RANKED)
+    place.clear()
+    yield compare("--merge --keep", ranked[1].splitlines()[6:],
+                  place.spread("--merge=4", "--keep=4", *RANKED)[1].splitlines()[6:])
+    place.clear()
+    run_jobs(place, 4, *words, "--floor=5")
+    said = ("error: the part from setting 0 on is below the floor 5, but the greatest total found "
+            "is 0: a greater one may be there\n")
+    yield compare("--merge of parts that are all below", (2, "", said, None), (
+        *place.spread("--merge=4", *RANKED), place.read("CERT")))
 
 
 def screen_of(place, words):
@@ -367,7 +472,7 @@ def progress(place):
 
 def trials(program):
     for plays in [after_kills, other_inputs, damaged_parts, folders, templates, faults, methods,
-                  liars, merged, explained, progress]:
+                  liars, merged, floors, rankings, merged_rankings, explained, progress]:
         with tempfile.TemporaryDirectory() as folder:
             try:
                 for name, wrong in plays(Place(program, folder)):

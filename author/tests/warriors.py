@@ -96,13 +96,13 @@ def gains(program, folder):
         (folder / name).write_text(text)
     for schedule, opponents, expected in [
         ("one.csv", ["imp.red"],
-         "setting 1: tuning 1 of 3 (33.3%), fresh 20 of 60 (33.3% +- 0.0) K=1\n"
-         "setting 0: tuning 0 of 3 (0.0%), fresh 0 of 60 (0.0% +- 0.0) K=0\n"
+         "setting 1, rank 1: tuning 1 of 3 (33.3%), fresh 20 of 60 (33.3% +- 0.0) K=1\n"
+         "setting 0, rank 2: tuning 0 of 3 (0.0%), fresh 0 of 60 (0.0% +- 0.0) K=0\n"
          "start 0: tuning 0 of 3 (0.0%), fresh 0 of 60 (0.0% +- 0.0) K=0\n"
          "over the start, setting 1: +33.3% +- 0.0, a gain\n"),
         ("two.csv", ["dat.red", "imp.red"],
-         "setting 1: tuning 16 of 18 (88.9%), fresh 88.9% +- 0.0 K=1\n"
-         "setting 0: tuning 15 of 18 (83.3%), fresh 83.3% +- 0.0 K=0\n"
+         "setting 1, rank 1: tuning 16 of 18 (88.9%), fresh 88.9% +- 0.0 K=1\n"
+         "setting 0, rank 2: tuning 15 of 18 (83.3%), fresh 83.3% +- 0.0 K=0\n"
          "start 0: tuning 15 of 18 (83.3%), fresh 83.3% +- 0.0 K=0\n"
          "over the start, setting 1: +5.6% +- 0.0, a gain\n"),
     ]:
@@ -121,8 +121,8 @@ def holdouts(program, folder):
     Place(program, folder, {}).run(["tune", "--all", "t.red", "s.csv", "cert", "dat.red"],
                                    keep=True)
     words = ["--program", program, "--rounds", "20", "t.red", "cert", "dat.red"]
-    expected = "".join(f"setting {v}: tuning 3 of 3 (100.0%), fresh 60 of 60 (100.0% +- 0.0) "
-                       f"K={v + 1}\n" for v in (0, 1))
+    expected = "".join(f"setting {v}, rank {v + 1}: tuning 3 of 3 (100.0%), fresh 60 of 60 "
+                       f"(100.0% +- 0.0) K={v + 1}\n" for v in (0, 1))
     yield compare("cwtune-holdout", (
         0, f"{expected}setting 0 is START: the tuning found nothing better\n", ""),
         run("cwtune-holdout", *words, folder=folder))
@@ -136,7 +136,35 @@ def holdouts(program, folder):
         came[:2] == (3, "") and came[2].startswith("failed: none.red: ")) else [repr(came)]
 
 
+def places(program, folder):
+    """Plays fresh fights of a setting whose place is exact, and of one that a dropped setting may
+    come before."""
+    for name, text in [("t.red", ";@tune K 0 2 1 1\nJMP 1-K\n"), ("imp.red", "MOV 0, 1\n"),
+                       ("s.csv", FIGHT + "0,4100,c\n0,4200,o\n")]:
+        (folder / name).write_text(text)
+    words = ["--program", program, "--rounds", "20", "--schedule", "s.csv", "t.red", "cert",
+             "imp.red"]
+    for options, ranks, said in [
+        ([], ["setting 1, rank 1", "setting 0"],
+         "1 settings were dropped: of the ranking only the first is exact (tune --keep 5)"),
+        (["--keep=3"], ["setting 1, rank 1", "setting 0, rank 2", "setting 2, rank 3"],
+         "setting 1 is START: the tuning found nothing better"),
+    ]:
+        Place(program, folder, {}).run(["tune", *options, "t.red", "s.csv", "cert", "imp.red"],
+                                       keep=True)
+        status, out, _ = run("cwtune-holdout", *words, folder=folder)
+        lines = out.splitlines()
+        yield compare(f"places in a certificate of tune {options}", (0, ranks, said), (
+            status, [line.partition(":")[0] for line in lines if ": tuning " in line], lines[-1]))
+    (folder / "cert").write_text("cwcert,1,3\nnone,-,9\n" + "".join(
+        f"cap,{v},0:0\n" for v in range(3)))
+    for words in [["cwtune-holdout", *words], ["cwtune-warrior", "t.red", "cert"]]:
+        yield compare(f"{words[0]} of a certificate without a best setting", (
+            1, "", "refused: cert: it names no best setting, since none reaches the floor 9\n"),
+            run(*words, folder=folder))
+
+
 def trials(program):
-    for plays in [warriors, foreign, holdouts, gains]:
+    for plays in [warriors, foreign, holdouts, gains, places]:
         with tempfile.TemporaryDirectory() as folder:
             yield from plays(program, pathlib.Path(folder))
