@@ -1,4 +1,5 @@
 pub mod Same
+pub mod Chains
 pub mod WordTable
 pub mod CheckSteps
 pub mod Numerals
@@ -6,6 +7,5 @@ pub mod LoadNumbers
 pub mod LoadReading
 pub mod Powers
 pub mod Loads
-pub mod BadLines
 pub mod Appends
 pub mod Pieces

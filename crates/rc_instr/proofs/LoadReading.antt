@@ -280,7 +280,7 @@ pub start_read : (n : ℕ) (rest : List ℕ) → n < 2 ^ 16 → start_at (start_
 unfolding start_at
 start_read n rest l = rw (start_parts n rest, short_front n (10 ∷ rest) (decimal n ++ 10 ∷ rest) l refl refl) refl
 
-pub start_is : (bs : List ℕ) (n : ℕ) (rest : List ℕ) → start_at bs ≡ Some (n, rest) → bs ≡ start_text n ++ rest
+pub start_is : (bs : List ℕ) (n : ℕ) (rest : List ℕ) → start_at bs ≡ Some (n, rest) → (bs ≡ start_text n ++ rest) × (n < 2 ^ 16)
 unfolding start_at
 start_is bs n rest e =
     let o = went_on (byte 79 bs) _ _ e in
@@ -293,7 +293,9 @@ start_is bs n rest e =
     let t = short_some s.1 d.0 d.1 d.2 in
     let last = t.text ∙ ap (λ x. decimal x ++ d.1) y.0 ∙ ap (λ r. decimal n ++ r) (byte_is 10 d.1 f.0 f.1 f.2 ∙ ap (λ r. 10 ∷ r) y.1) in
     let word = byte_is 79 bs o.0 o.1 o.2 ∙ ap (λ x. 79 ∷ x) (byte_is 82 o.1 r.0 r.1 r.2 ∙ ap (λ x. 82 ∷ x) (byte_is 71 r.1 g.0 g.1 g.2 ∙ ap (λ x. 71 ∷ x) (byte_is 32 g.1 s.0 s.1 s.2 ∙ ap (λ x. 32 ∷ x) last))) in
-    word ∙ sym (start_parts n rest)
+    let small = t.small in
+    let same = y.0 in
+    (word ∙ sym (start_parts n rest), omega (arith, small, same))
 
 -- a line takes at least a byte
 pub line_shorter : (m : ℕ) (i : Instruction) (rest others : List ℕ) → rest ≡ line_text m i ++ others → length others < length rest

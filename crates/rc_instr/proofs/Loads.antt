@@ -1,116 +1,139 @@
 -- Load files: the lines of code, and the whole.
-use Rattle.std.proofs.Common.{◌≡◌, ℕ, zero, suc, ◌+◌, ◌<◌, ◌≤◌, List, [], ◌∷◌, ◌++◌, length, refl, sym, ◌∙◌, ap, subst, arith, append_assoc, Some, None, Ok, Err}
-use Rattle.std.specs.Prelude.{Option, Result, All, flat_map, MatchResult}
-use Rattle.std.specs.Option.{ok_or}
+use Rattle.std.proofs.Common.{◌≡◌, ℕ, zero, suc, ◌+◌, ◌<◌, ◌≤◌, List, [], ◌∷◌, ◌++◌, length, refl, sym, ◌∙◌, ap, subst, arith, append_assoc, append-nil, Some, None, Ok, Err}
+use Rattle.std.specs.Prelude.{Option, Result, All, MatchResult}
+use Rattle.std.specs.Option.{ok_or, option_map, unwrap_or}
 use Rattle.std.proofs.lemmas.List.Elements.{All-nil, All-head, All-tail, All-cons}
-use Rattle.rc_instr.specs.Results.{mapped, with_fault, and_then, Returns}
+use Rattle.rc_instr.specs.Results.{with_fault, and_then, Returns}
 use Rattle.rc_instr.specs.Rules.{RulesView, IsRules}
 use Rattle.rc_instr.specs.Warrior.{WarriorView, warrior_view, IsBelow, IsWarrior, Fits}
 use Rattle.rc_instr.specs.Checks.{warrior_of}
-use Rattle.rc_instr.specs.LoadText.{line_text, start_text, load_text}
-use Rattle.rc_instr.specs.LoadReaders.{line_at, start_at}
-use Rattle.rc_instr.specs.Loaded.{IsMemory, code_from, code_of, load_meaning}
+use Rattle.rc_instr.specs.LoadText.{line_text, start_text, code_text, load_text}
+use Rattle.rc_instr.specs.LoadReaders.{opcode_at, head_at, line_at, start_at}
+use Rattle.rc_instr.specs.Loaded.{IsMemory, with_line, lines_from, lines_at, only_lines, code_of, load_meaning}
 use Rattle.rc_instr.specs.declared.instruction.Instruction.{Instruction}
 use Rattle.rc_instr.specs.declared.loadfile.fault.LoadFault.{LoadFault}
 use Rattle.rc_instr.specs.declared.loadfile.fault.LoadFault.TheVariants.{Malformed, Warrior, OutOfMemory}
+use Rattle.rc_instr.specs.declared.warrior.WarriorError.{WarriorError}
+use Rattle.rc_instr.proofs.Chains.{went_on, ok_of}
 use Rattle.rc_instr.proofs.CheckSteps.{warrior_fits, warrior_passes}
 use Rattle.rc_instr.proofs.LoadReading.{line_read, line_is, start_read, start_is, line_shorter}
-
--- a definition that goes on had a value first
-went_on : {A B E : Type 0} (r : Result A E) (f : A → Result B E) (y : B) → and_then f r ≡ Ok y → (x : A) × (r ≡ Ok x) × (f x ≡ Ok y)
-went_on (Ok x) f y e = (x, refl, e)
-went_on (Err q) f y e = absurd (cc)
 
 some_of : {A E : Type 0} (o : Option A) (e : E) (x : A) → ok_or o e ≡ Ok x → o ≡ Some x
 some_of (Some y) e x h = let q : y ≡ x = cc in ap Some q
 some_of None e x h = absurd (cc)
 
-ok_of : {A D E : Type 0} (f : D → E) (r : Result A D) (x : A) → with_fault f r ≡ Ok x → r ≡ Ok x
-ok_of f (Ok y) x h = let q : y ≡ x = cc in ap Ok q
-ok_of f (Err e) x h = absurd (cc)
-
 -- the rest of a line is shorter
 pub shorter : (m : ℕ) (bytes : List ℕ) (i : Instruction) (rest : List ℕ) → 0 < m → line_at m bytes ≡ Some (i, rest) → length rest < length bytes
 shorter m bytes i rest k e = let l = line_is m bytes i rest k e in line_shorter m i bytes rest l.text
 
--- what a line gives, and the lines after it
-abbrev with_code : ℕ → ℕ → ℕ → Option (Instruction × List ℕ) → Result (List Instruction) LoadFault
-with_code m most line o = and_then (λ i. and_then (λ code. Ok (i.0 ∷ code)) (code_from m most (line + 1) i.1)) (ok_or o (Malformed line))
+nothing_read : (m : ℕ) → line_at m [] ≡ None
+unfolding line_at head_at opcode_at
+nothing_read m = refl
 
 -- more steps than bytes change nothing
-enough : (m n k line : ℕ) (bytes : List ℕ) → 0 < m → length bytes ≤ n → length bytes ≤ k → code_from m n line bytes ≡ code_from m k line bytes
-enough m n k line [] p h g = refl
-enough m zero k line (b ∷ bytes) p h g = absurd (omega arith)
-enough m (suc n) zero line (b ∷ bytes) p h g = absurd (omega arith)
-enough m (suc n) (suc k) line (b ∷ bytes) p h g = by_line (line_at m (b ∷ bytes)) refl (λ i rest l a c. enough m n k l rest p a c) where
-  by_line : (o : Option (Instruction × List ℕ)) → line_at m (b ∷ bytes) ≡ o
-      → ((i : Instruction) (rest : List ℕ) (l : ℕ) → length rest ≤ n → length rest ≤ k → code_from m n l rest ≡ code_from m k l rest) → with_code m n line o ≡ with_code m k line o
+enough : (m n k : ℕ) (bytes : List ℕ) → 0 < m → length bytes ≤ n → length bytes ≤ k → lines_from m n bytes ≡ lines_from m k bytes
+enough m n k [] p h g = none m n ∙ sym (none m k) where
+  none : (m n : ℕ) → lines_from m n [] ≡ ([], [])
+  none m zero = refl
+  none m (suc n) = rw (nothing_read m) refl
+enough m zero k (b ∷ bytes) p h g = absurd (omega arith)
+enough m (suc n) zero (b ∷ bytes) p h g = absurd (omega arith)
+enough m (suc n) (suc k) (b ∷ bytes) p h g = by_line (line_at m (b ∷ bytes)) refl (λ rest a c. enough m n k rest p a c) where
+  by_line : (o : Option (Instruction × List ℕ)) → line_at m (b ∷ bytes) ≡ o → ((rest : List ℕ) → length rest ≤ n → length rest ≤ k → lines_from m n rest ≡ lines_from m k rest)
+      → unwrap_or (option_map (λ line. with_line line.0 (lines_from m n line.1)) o) ([], b ∷ bytes) ≡ unwrap_or (option_map (λ line. with_line line.0 (lines_from m k line.1)) o) ([], b ∷ bytes)
   by_line None e more = refl
   by_line (Some x) e more =
       let s = shorter m (b ∷ bytes) x.0 x.1 p e in
-      ap (and_then (λ code. Ok (x.0 ∷ code))) (more x.0 x.1 (line + 1) (omega (arith, s)) (omega (arith, s)))
+      ap (with_line x.0) (more x.1 (omega (arith, s)) (omega (arith, s)))
 
--- a line that is none
-pub stopped : (m line : ℕ) (rest : List ℕ) → (rest ≡ [] → ⊥) → line_at m rest ≡ None → code_from m (length rest) line rest ≡ Err (Malformed line)
-stopped m line [] n e = absurd (n refl)
-stopped m line (b ∷ rest) n e = rw e refl
+-- no line
+pub stopped : (m : ℕ) (rest : List ℕ) → line_at m rest ≡ None → lines_at m rest ≡ ([], rest)
+unfolding lines_at
+stopped m [] e = refl
+stopped m (b ∷ rest) e = rw e refl
 
 -- a line, and the lines after it
-pub advanced : (m line : ℕ) (bytes : List ℕ) (i : Instruction) (rest : List ℕ) → 0 < m → line_at m bytes ≡ Some (i, rest)
-    → code_from m (length bytes) line bytes ≡ and_then (λ code. Ok (i ∷ code)) (code_from m (length rest) (line + 1) rest)
-advanced m line [] i rest p e = absurd (let s = shorter m [] i rest p e in omega (arith, s))
-advanced m line (b ∷ bytes) i rest p e =
+pub advanced : (m : ℕ) (bytes : List ℕ) (i : Instruction) (rest : List ℕ) → 0 < m → line_at m bytes ≡ Some (i, rest) → lines_at m bytes ≡ with_line i (lines_at m rest)
+unfolding lines_at
+advanced m [] i rest p e = absurd (let s = shorter m [] i rest p e in omega (arith, s))
+advanced m (b ∷ bytes) i rest p e =
     let s = shorter m (b ∷ bytes) i rest p e in
-    rw e (ap (and_then (λ code. Ok (i ∷ code))) (enough m (length bytes) (length rest) (line + 1) rest p (omega (arith, s)) (omega arith)))
+    rw e (ap (with_line i) (enough m (length bytes) (length rest) rest p (omega (arith, s)) (omega arith)))
 
--- nothing was read yet
-pub begun : (all : Result (List Instruction) LoadFault) → all ≡ mapped (λ code. [] ++ code) all
-begun (Ok code) = refl
-begun (Err f) = refl
+-- instructions that were read, before those that are read next
+abbrev pub after_code : List Instruction → List Instruction × List ℕ → List Instruction × List ℕ
+after_code code read = (code ++ read.0, read.1)
 
 -- one more instruction was read
-pub pushed : (read : List Instruction) (i : Instruction) (more all : Result (List Instruction) LoadFault) → all ≡ and_then (λ code. Ok (i ∷ code)) more
-    → mapped (λ code. read ++ code) all ≡ mapped (λ code. (read ++ i ∷ []) ++ code) more
-pushed read i (Ok code) all e = ap (mapped (λ c. read ++ c)) e ∙ ap Ok (sym (append_assoc read (i ∷ []) code))
-pushed read i (Err f) all e = ap (mapped (λ c. read ++ c)) e
+pub pushed : (code : List Instruction) (i : Instruction) (more all : List Instruction × List ℕ) → all ≡ with_line i more → after_code code all ≡ after_code (code ++ i ∷ []) more
+pushed code i more all e = ap (after_code code) e ∙ ap (λ c. (c, more.1)) (sym (append_assoc code (i ∷ []) more.0))
 
--- the lines of code are read
-code_read : (m line : ℕ) (code : List Instruction) → 0 < m → m ≤ 65535 → All (IsBelow m) code → code_from m (length (flat_map (line_text m) code)) line (flat_map (line_text m) code) ≡ Ok code
-code_read m line [] p l h = refl
-code_read m line (i ∷ code) p l h =
-    let others = flat_map (line_text m) code in
-    advanced m line (line_text m i ++ others) i others p (line_read m i others l (All-head (IsBelow m) i code h))
-    ∙ ap (and_then (λ c. Ok (i ∷ c))) (code_read m (line + 1) code p l (All-tail (IsBelow m) i code h))
+-- the bytes end after the lines, or they do not
+pub ended : (m : ℕ) (bytes : List ℕ) (code : List Instruction) → lines_at m bytes ≡ (code, []) → code_of m bytes ≡ Ok code
+unfolding code_of
+ended m bytes code e = rw e refl
 
--- lines that were read are the lines of code
-pub record AreLines (m : ℕ) (bytes : List ℕ) (code : List Instruction) : Type 0 where
-  pub lines : bytes ≡ flat_map (line_text m) code
-  pub below : All (IsBelow m) code
+pub told : (m : ℕ) (bytes : List ℕ) (code : List Instruction) (rest : List ℕ) → lines_at m bytes ≡ (code, rest) → (rest ≡ [] → ⊥) → code_of m bytes ≡ Err (Malformed (length code + 2))
+unfolding code_of
+told m bytes code [] e some = absurd (some refl)
+told m bytes code (b ∷ rest) e some = rw e refl
 
-code_is : (m most line : ℕ) (bytes : List ℕ) (code : List Instruction) → 0 < m → code_from m most line bytes ≡ Ok code → AreLines m bytes code
-code_is m most line [] code p e = let q : [] ≡ code = cc in subst (λ c. AreLines m [] c) q (record { lines = refl; below = All-nil (IsBelow m) })
-code_is m zero line (b ∷ bytes) code p e = absurd (cc)
-code_is m (suc most) line (b ∷ bytes) code p e =
-    let x = went_on (ok_or (line_at m (b ∷ bytes)) (Malformed line)) _ code e in
-    let r = went_on (code_from m most (line + 1) x.0.1) _ code x.2 in
-    let l = line_is m (b ∷ bytes) x.0.0 x.0.1 p (some_of (line_at m (b ∷ bytes)) (Malformed line) x.0 x.1) in
-    let h = code_is m most (line + 1) x.0.1 r.0 p r.1 in
-    let q : x.0.0 ∷ r.0 ≡ code = let f = r.2 in cc in
-    subst (λ c. AreLines m (b ∷ bytes) c) q (record {
-      lines = l.text ∙ ap (λ y. line_text m x.0.0 ++ y) h.lines;
-      below = All-cons (IsBelow m) x.0.0 r.0 l.below h.below;
-    })
+-- what lines that are read are
+pub record AreLines (m : ℕ) (bytes : List ℕ) (read : List Instruction × List ℕ) : Type 0 where
+  pub text : bytes ≡ code_text m read.0 ++ read.1
+  pub below : All (IsBelow m) read.0
+  pub none : line_at m read.1 ≡ None
+
+lines_from_are : (m most : ℕ) (bytes : List ℕ) → 0 < m → length bytes ≤ most → AreLines m bytes (lines_from m most bytes)
+lines_from_are m zero [] p h = record { text = refl; below = All-nil (IsBelow m); none = nothing_read m }
+lines_from_are m zero (b ∷ bytes) p h = absurd (omega arith)
+lines_from_are m (suc most) bytes p h = by_line (line_at m bytes) refl (λ rest k. lines_from_are m most rest p k) where
+  by_line : (o : Option (Instruction × List ℕ)) → line_at m bytes ≡ o → ((rest : List ℕ) → length rest ≤ most → AreLines m rest (lines_from m most rest))
+      → AreLines m bytes (unwrap_or (option_map (λ line. with_line line.0 (lines_from m most line.1)) o) ([], bytes))
+  by_line None e more = record { text = refl; below = All-nil (IsBelow m); none = e }
+  by_line (Some x) e more =
+      let s = shorter m bytes x.0 x.1 p e in
+      let l = line_is m bytes x.0 x.1 p e in
+      let k = more x.1 (omega (arith, s)) in
+      let read = lines_from m most x.1 in
+      record {
+        text = l.text ∙ ap (λ y. line_text m x.0 ++ y) k.text ∙ sym (append_assoc (line_text m x.0) (code_text m read.0) read.1);
+        below = All-cons (IsBelow m) x.0 read.0 l.below k.below;
+        none = k.none;
+      }
+
+pub lines_are : (m : ℕ) (bytes : List ℕ) (read : List Instruction × List ℕ) → 0 < m → lines_at m bytes ≡ read → AreLines m bytes read
+unfolding lines_at
+lines_are m bytes read p e = subst (AreLines m bytes) e (lines_from_are m (length bytes) bytes p (omega arith))
+
+-- lines of code are read
+pub lines_read : (m : ℕ) (code : List Instruction) (rest : List ℕ) → 0 < m → m ≤ 65535 → All (IsBelow m) code → line_at m rest ≡ None → lines_at m (code_text m code ++ rest) ≡ (code, rest)
+lines_read m [] rest p l h e = stopped m rest e
+lines_read m (i ∷ code) rest p l h e =
+    let others = code_text m code ++ rest in
+    ap (lines_at m) (append_assoc (line_text m i) (code_text m code) rest)
+    ∙ advanced m (line_text m i ++ others) i others p (line_read m i others l (All-head (IsBelow m) i code h))
+    ∙ ap (with_line i) (lines_read m code rest p l (All-tail (IsBelow m) i code h) e)
+
+code_read : (m : ℕ) (code : List Instruction) → 0 < m → m ≤ 65535 → All (IsBelow m) code → code_of m (code_text m code) ≡ Ok code
+code_read m code p l h =
+    ended m (code_text m code) code (ap (lines_at m) (sym (append-nil (code_text m code))) ∙ lines_read m code [] p l h (nothing_read m))
+
+-- code that was read is all of the lines
+only_is : (read : List Instruction × List ℕ) (code : List Instruction) → only_lines read.0 read.1 ≡ Ok code → read ≡ (code, [])
+only_is (c, []) code e = let q : c ≡ code = cc in ap (λ x. (x, [])) q
+only_is (c, b ∷ rest) code e = absurd (cc)
 
 -- the load file of a warrior means it
 pub means : (rules : RulesView) (w : WarriorView) → IsRules rules → IsWarrior w → Fits rules w → load_meaning rules (load_text rules.core w) ≡ Ok w
-unfolding load_meaning code_of load_text
+unfolding load_meaning load_text
 means rules w k h f =
     let m = rules.core in
     let most = k.core.1 in
     let least = k.core.0 in
     rw (
-      start_read w.start (flat_map (line_text m) w.code) (omega (arith, h.short, h.inside)),
-      code_read m 2 w.code (omega (arith, least)) most f.numbers,
+      start_read w.start (code_text m w.code) (omega (arith, h.short, h.inside)),
+      code_read m w.code (omega (arith, least)) most f.numbers,
       warrior_passes rules w h f,
     ) refl
 
@@ -120,13 +143,14 @@ unfolding load_meaning code_of load_text
 spelled_as rules bytes w k e =
     let least = k.core.0 in
     let s = went_on (ok_or (start_at bytes) (Malformed 1)) _ w e in
-    let c = went_on (code_from rules.core (length s.0.1) 2 s.0.1) _ w s.2 in
+    let c = went_on (code_of rules.core s.0.1) _ w s.2 in
     let t = start_is bytes s.0.0 s.0.1 (some_of (start_at bytes) (Malformed 1) s.0 s.1) in
-    let l = code_is rules.core (length s.0.1) 2 s.0.1 c.0 (omega (arith, least)) c.1 in
+    let l = lines_are rules.core s.0.1 (c.0, []) (omega (arith, least)) (only_is (lines_at rules.core s.0.1) c.0 c.1) in
     let p = warrior_view c.0 s.0.0 in
     let f = warrior_fits rules p w k (ok_of Warrior (warrior_of rules p) w c.2) in
-    let text : bytes ≡ start_text s.0.0 ++ flat_map (line_text rules.core) c.0 = t ∙ ap (λ x. start_text s.0.0 ++ x) l.lines in
-    (text ∙ ap (λ (v : WarriorView). start_text v.start ++ flat_map (line_text rules.core) v.code) (sym f.0), subst (λ v. IsWarrior v) (sym f.0) f.1, subst (λ v. Fits rules v) (sym f.0) f.2)
+    let lines = l.text ∙ append-nil (code_text rules.core c.0) in
+    let text : bytes ≡ start_text s.0.0 ++ code_text rules.core c.0 = t.0 ∙ ap (λ x. start_text s.0.0 ++ x) lines in
+    (text ∙ ap (λ (v : WarriorView). start_text v.start ++ code_text rules.core v.code) (sym f.0), subst (λ v. IsWarrior v) (sym f.0) f.1, subst (λ v. Fits rules v) (sym f.0) f.2)
 
 -- what is no fault of a text is out of memory
 only_memory : (fault : LoadFault) → ((IsMemory fault → ⊥) → ⊥) → fault ≡ OutOfMemory
@@ -139,6 +163,45 @@ pub read_back : (r meaning : Result WarriorView LoadFault) (w : WarriorView) →
     → MatchResult r (λ v. v ≡ w) (λ e. e ≡ OutOfMemory)
 read_back (Ok v) meaning w h e = cc
 read_back (Err f) meaning w h e = only_memory f (λ n. let q = h n in absurd (cc))
+
+-- a warrior that breaks the rules is no malformed line
+no_warrior : (line : ℕ) (r : Result WarriorView WarriorError) → with_fault Warrior r ≡ Err (Malformed line) → ⊥
+no_warrior line (Ok w) e = cc
+no_warrior line (Err x) e = let q : Warrior x ≡ Malformed line = cc in cc
+
+same_line : (a b : ℕ) → Malformed a ≡ Malformed b → a ≡ b
+same_line a b e = cc
+
+-- after a first line, a malformed line is the one after the lines of code
+line_after : (start line : ℕ) (rules : RulesView) (read : List Instruction × List ℕ)
+    → and_then (λ code. with_fault Warrior (warrior_of rules (warrior_view code start))) (only_lines read.0 read.1) ≡ Err (Malformed line) → (length read.0 + 2 ≡ line) × (read.1 ≡ [] → ⊥)
+line_after start line rules (code, []) e = absurd (no_warrior line (warrior_of rules (warrior_view code start)) e)
+line_after start line rules (code, b ∷ rest) e =
+    let f : Malformed (length code + 2) ≡ Malformed line = cc in
+    (same_line (length code + 2) line f, λ n. absurd (cc))
+
+pub first_line : (rules : RulesView) (bytes : List ℕ) → load_meaning rules bytes ≡ Err (Malformed 1) → start_at bytes ≡ None
+unfolding load_meaning code_of
+first_line rules bytes e = by_start (start_at bytes) e where
+  by_start : (o : Option (ℕ × List ℕ))
+      → and_then (λ start. and_then (λ code. with_fault Warrior (warrior_of rules (warrior_view code start.0))) (code_of rules.core start.1)) (ok_or o (Malformed 1)) ≡ Err (Malformed 1) → o ≡ None
+  by_start None q = refl
+  by_start (Some x) q = let l = line_after x.0 1 rules (lines_at rules.core x.1) q in let n = l.0 in absurd (omega (arith, n))
+
+pub later_line : (rules : RulesView) (bytes lines : List ℕ) (start n : ℕ) → start_at bytes ≡ Some (start, lines) → load_meaning rules bytes ≡ Err (Malformed (n + 2))
+    → (length (lines_at rules.core lines).0 ≡ n) × ((lines_at rules.core lines).1 ≡ [] → ⊥)
+unfolding load_meaning code_of
+later_line rules bytes lines start n s e =
+    let l = line_after start (n + 2) rules (lines_at rules.core lines) (sym (rw s refl) ∙ e) in
+    let number = l.0 in
+    (omega (arith, number), l.1)
+
+pub bad_line : (rules : RulesView) (bytes lines : List ℕ) (start n : ℕ) → start_at bytes ≡ Some (start, lines) → length (lines_at rules.core lines).0 ≡ n
+    → ((lines_at rules.core lines).1 ≡ [] → ⊥) → load_meaning rules bytes ≡ Err (Malformed (n + 2))
+unfolding load_meaning
+bad_line rules bytes lines start n s k some =
+    let read = lines_at rules.core lines in
+    rw (s, told rules.core lines read.0 read.1 refl some, k) refl
 
 -- equal texts have equal warriors
 pub one_warrior : (rules : RulesView) (v w : WarriorView) → IsRules rules → IsWarrior v → IsWarrior w → Fits rules v → Fits rules w

@@ -13,6 +13,5 @@ pub mod Decimal
 pub mod LoadText
 pub mod LoadReaders
 pub mod Loaded
-pub mod BadLine
 pub mod Appending
 pub mod Outlet

@@ -45,6 +45,10 @@ line_text m i =
 unfoldable pub start_text : ℕ → List ℕ
 start_text start = codes "ORG " ++ decimal start ++ 10 ∷ []
 
+-- The lines of code.
+abbrev pub code_text : ℕ → List Instruction → List ℕ
+code_text m code = flat_map (line_text m) code
+
 -- The load file of a warrior in a core of m cells.
 unfoldable pub load_text : ℕ → WarriorView → List ℕ
-load_text m p = start_text p.start ++ flat_map (line_text m) p.code
+load_text m p = start_text p.start ++ code_text m p.code

@@ -1,12 +1,13 @@
 //! Laws of rules, of warriors, and of load files and their words.
-ghost use Rattle.std.specs.Prelude.{◌≡◌, ◌↔◌, ℕ, List, Some, Ok, Err, MatchResult};
+ghost use Rattle.std.specs.Prelude.{◌≡◌, ◌≢◌, ◌↔◌, ℕ, ◌+◌, ◌<◌, ◌^◌, List, [], ◌++◌, length, All, Some, None, Ok, Err, MatchResult};
 ghost use Rattle.rc_instr.specs.Checks.{rules_of, warrior_of};
-ghost use Rattle.rc_instr.specs.Rules.{RulesView, IsRules};
-ghost use Rattle.rc_instr.specs.Warrior.{WarriorView, IsWarrior, Fits};
-ghost use Rattle.rc_instr.specs.Loaded.{load_meaning};
-ghost use Rattle.rc_instr.specs.BadLine.{IsFirstBadLine};
+ghost use Rattle.rc_instr.specs.Rules.{RulesView, IsRules, IsCoreSize};
+ghost use Rattle.rc_instr.specs.Warrior.{WarriorView, IsWarrior, IsBelow, Fits};
+ghost use Rattle.rc_instr.specs.Loaded.{lines_at, load_meaning};
+ghost use Rattle.rc_instr.specs.LoadReaders.{line_at, start_at};
 ghost use Rattle.rc_instr.specs.Words.{opcode_text, modifier_text, opcode_named, modifier_named};
-ghost use Rattle.rc_instr.specs.LoadText.{load_text};
+ghost use Rattle.rc_instr.specs.LoadText.{line_text, start_text, code_text, load_text};
+ghost use Rattle.rc_instr.specs.declared.instruction.Instruction.{Instruction};
 ghost use Rattle.rc_instr.specs.declared.instruction.Opcode.{Opcode};
 ghost use Rattle.rc_instr.specs.declared.instruction.Modifier.{Modifier};
 ghost use Rattle.rc_instr.specs.declared.loadfile.fault.LoadFault.TheVariants.{OutOfMemory, Malformed};
@@ -63,12 +64,22 @@ pub fn a_load_file_means_its_warrior()
         → load_meaning rules bytes ≡ Ok w ↔ (bytes ≡ load_text rules.core w) × IsWarrior w × Fits rules w }
 {}
 
-/// A line that is told as malformed is the first that is: what comes before it is the first line
-/// and lines of code, and it is neither.
-#[tactic(auto, using(crate::proofs::BadLines::first_bad))]
+/// The first line is read exactly if it is the text of a start, and a line of code exactly if it is
+/// the text of an instruction. Lines of code are read as long as one follows.
+pub fn lines_are_read_as_they_are_written()
+    ensures start { (bytes rest : List ℕ) (n : ℕ) → start_at bytes ≡ Some (n, rest) ↔ (bytes ≡ start_text n ++ rest) × (n < 2 ^ 16) }
+    ensures line { (m : ℕ) (bytes rest : List ℕ) (i : Instruction) → IsCoreSize m
+        → line_at m bytes ≡ Some (i, rest) ↔ (bytes ≡ line_text m i ++ rest) × IsBelow m i }
+    ensures lines { (m : ℕ) (bytes rest : List ℕ) (code : List Instruction) → IsCoreSize m
+        → lines_at m bytes ≡ (code, rest) ↔ (bytes ≡ code_text m code ++ rest) × All (IsBelow m) code × (line_at m rest ≡ None) }
+{}
+
+/// Line 1 is malformed exactly if no first line is read. Line n + 2 is malformed exactly if n lines
+/// of code are read after the first line, and something comes after them.
 pub fn a_malformed_line_is_the_first()
-    ensures { (rules : RulesView) (bytes : List ℕ) (line : ℕ) → IsRules rules → load_meaning rules bytes ≡ Err (LoadFault.Malformed line)
-        → IsFirstBadLine rules.core bytes line }
+    ensures start { (rules : RulesView) (bytes : List ℕ) → load_meaning rules bytes ≡ Err (LoadFault.Malformed 1) ↔ start_at bytes ≡ None }
+    ensures code { (rules : RulesView) (bytes lines : List ℕ) (start n : ℕ) → start_at bytes ≡ Some (start, lines) → let read = lines_at rules.core lines in
+        load_meaning rules bytes ≡ Err (LoadFault.Malformed (n + 2)) ↔ (length read.0 ≡ n) × (read.1 ≢ []) }
 {}
 
 /// Equal load files under equal rules mean equal warriors.

@@ -66,14 +66,17 @@ impl<X: Write> Outlet<X> {
 
     /// Writes all of `text`, in as many calls of the writer as it takes.
     ///
-    /// The outlet must not have failed. After `WriteFailed` an unknown part of `text` may be
-    /// written.
+    /// After `WriteFailed` an unknown part of `text` may be written: none if the outlet had failed
+    /// before.
     #[tactic(auto, using(crate::proofs::Pieces::appends_more))]
     pub fn write_all(&mut self, text: &[u8]) -> Result<(), WriteFailed>
-        requires { self.old.failed ≡ false }
         ensures bytes { OnOk result (Appends self.old.bytes self.new.bytes text.now) }
         ensures failed { self.new.failed ≡ is_err result }
+        ensures unchanged { IsTrue self.old.failed → self.new ≡ self.old }
     {
+        if self.has_failed {
+            return Err(WriteFailed);
+        }
         let mut sent = 0usize;
         while sent < text.len() {
             let count = self.write(&text[sent..])?;
@@ -82,18 +85,19 @@ impl<X: Write> Outlet<X> {
         Ok(())
     }
 
-    /// Flushes the writer. After `Ok` it has passed on all that was written, as long as nothing more is
-    /// written.
+    /// Flushes the writer. After `Ok` it has passed on all that was written, as long as nothing
+    /// more is written.
     ///
-    /// The outlet must not have failed. After `WriteFailed` it has failed for good, and what was
-    /// written stays.
+    /// After `WriteFailed` it has failed for good, and what was written stays.
     pub fn finish(&mut self) -> Result<(), WriteFailed>
-        requires { self.old.failed ≡ false }
         ensures bytes { Keeps self.old.bytes self.new.bytes }
         ensures failed { self.new.failed ≡ is_err result }
         ensures flushed { self.new.flushed ≡ is_ok result }
     {
         self.is_flushed = false;
+        if self.has_failed {
+            return Err(WriteFailed);
+        }
         match self.inner.flush() {
             Ok(()) => {
                 self.is_flushed = true;

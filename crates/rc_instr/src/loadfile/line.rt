@@ -1,6 +1,5 @@
 //! Readers for the lines of a load file. Each returns what it read and the rest of the bytes.
 ghost use Rattle.std.specs.Prelude.{◌≡◌, Some, None, MatchOption};
-ghost use Rattle.rc_instr.specs.Rules.{IsCoreSize};
 ghost use Rattle.rc_instr.specs.LoadReaders.{head_at, comma_at, operand_at, line_at, start_at};
 
 use crate::decimal::after;
@@ -10,8 +9,7 @@ use crate::loadfile::number::{number_at, short_number_at};
 
 // Reads one line of code.
 #[tactic(auto, unfolding(crate::specs::LoadReaders::line_at))]
-pub(crate) fn line_at(core: u32, bytes: &[u8]) -> Option<(Instruction, &[u8])>
-    requires { IsCoreSize core }
+pub(crate) fn line_at(core: u16, bytes: &[u8]) -> Option<(Instruction, &[u8])>
     ensures { MatchOption result (line_at core bytes.now ≡ None) (λ x. line_at core bytes.now ≡ Some (x.0, x.1.now)) }
 {
     let (opcode, modifier, bytes) = head_at(bytes)?;
@@ -66,8 +64,7 @@ fn comma_at(bytes: &[u8]) -> Option<&[u8]>
 }
 
 #[tactic(auto, unfolding(crate::specs::LoadReaders::operand_at))]
-fn operand_at(core: u32, bytes: &[u8]) -> Option<(Mode, u16, &[u8])>
-    requires { IsCoreSize core }
+fn operand_at(core: u16, bytes: &[u8]) -> Option<(Mode, u16, &[u8])>
     ensures { MatchOption result (operand_at core bytes.now ≡ None) (λ x. operand_at core bytes.now ≡ Some ((x.0, x.1), x.2.now)) }
 {
     let (mode, bytes) = mode_at(bytes)?;

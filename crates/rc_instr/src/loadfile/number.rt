@@ -1,6 +1,5 @@
 //! Readers for the numbers of a load file, which have a sign that depends on the core size.
-ghost use Rattle.std.specs.Prelude.{◌≡◌, ◌≤◌, Some, None, MatchOption};
-ghost use Rattle.rc_instr.specs.Rules.{IsCoreSize};
+ghost use Rattle.std.specs.Prelude.{◌≡◌, Some, None, MatchOption};
 ghost use Rattle.rc_instr.specs.LoadReaders.{short_number_at, small_at, large_at, number_at};
 
 use crate::decimal::{after, decimal_at};
@@ -18,8 +17,7 @@ pub(crate) fn short_number_at(bytes: &[u8]) -> Option<(u16, &[u8])>
 
 // Reads an A-number or B-number, which is below the core size.
 #[tactic(auto, unfolding(crate::specs::LoadReaders::number_at))]
-pub(crate) fn number_at(core: u32, bytes: &[u8]) -> Option<(u16, &[u8])>
-    requires { IsCoreSize core }
+pub(crate) fn number_at(core: u16, bytes: &[u8]) -> Option<(u16, &[u8])>
     ensures { MatchOption result (number_at core bytes.now ≡ None) (λ x. number_at core bytes.now ≡ Some (x.0, x.1.now)) }
 {
     match after(b'-', bytes) {
@@ -29,24 +27,22 @@ pub(crate) fn number_at(core: u32, bytes: &[u8]) -> Option<(u16, &[u8])>
 }
 
 // Reads a number up to half the core size, written without a sign.
-fn small_at(core: u32, bytes: &[u8]) -> Option<(u16, &[u8])>
-    requires { core ≤ 65535 }
+fn small_at(core: u16, bytes: &[u8]) -> Option<(u16, &[u8])>
     ensures { MatchOption result (small_at core bytes.now ≡ None) (λ x. small_at core bytes.now ≡ Some (x.0, x.1.now)) }
 {
     match short_number_at(bytes) {
-        Some((number, rest)) if 2 * u32::from(number) <= core => Some((number, rest)),
+        Some((number, rest)) if 2 * u32::from(number) <= u32::from(core) => Some((number, rest)),
         _ => None,
     }
 }
 
 // Reads a number above half the core size, from the digits after its minus sign.
-fn large_at(core: u32, bytes: &[u8]) -> Option<(u16, &[u8])>
-    requires { core ≤ 65535 }
+fn large_at(core: u16, bytes: &[u8]) -> Option<(u16, &[u8])>
     ensures { MatchOption result (large_at core bytes.now ≡ None) (λ x. large_at core bytes.now ≡ Some (x.0, x.1.now)) }
 {
     match short_number_at(bytes) {
-        Some((number, rest)) if 0 < number && 2 * u32::from(number) < core => {
-            Some(((core - u32::from(number)) as u16, rest))
+        Some((number, rest)) if 0 < number && 2 * u32::from(number) < u32::from(core) => {
+            Some((core - number, rest))
         }
         _ => None,
     }

@@ -1,6 +1,5 @@
 //! Reading load files.
-ghost use Rattle.std.specs.Prelude.{IfOk};
-ghost use Rattle.rc_instr.specs.Rules.{IsCoreSize};
+ghost use Rattle.std.specs.Prelude.{◌<◌, IfOk};
 ghost use Rattle.rc_instr.specs.Warrior.{Fits};
 ghost use Rattle.rc_instr.specs.Results.{Returns};
 ghost use Rattle.rc_instr.specs.Loaded.{IsMemory, code_of, load_meaning};
@@ -31,7 +30,7 @@ pub fn read_loadfile(alloc: Global, bytes: &[u8], rules: &Rules) -> Result<Warri
         Some(found) => found,
         None => return Err(LoadFault::Malformed { line: 1 }),
     };
-    let code = read_code(alloc, rules.core(), lines)?;
+    let code = read_code(alloc, rules.core() as u16, lines)?;
     match Warrior::try_new(code, u32::from(start), rules) {
         Ok(warrior) => Ok(warrior),
         Err(refused) => Err(LoadFault::Warrior(refused.error)),
@@ -40,8 +39,8 @@ pub fn read_loadfile(alloc: Global, bytes: &[u8], rules: &Rules) -> Result<Warri
 
 // Reads the lines of code. They begin with line 2, after the line of the start.
 #[tactic(auto, unfolding(crate::specs::Loaded::code_of))]
-fn read_code(alloc: Global, core: u32, bytes: &[u8]) -> Result<Vec<Instruction>, LoadFault>
-    requires { IsCoreSize core }
+fn read_code(alloc: Global, core: u16, bytes: &[u8]) -> Result<Vec<Instruction>, LoadFault>
+    requires { 0 < core }
     ensures { Returns IsMemory (λ v. v.items) result (code_of core bytes.now) }
 {
     let mut code = Vec::new(alloc);

@@ -1,5 +1,5 @@
 //! Writing load files.
-ghost use Rattle.std.specs.Prelude.{◌≡◌, ◌<◌, ◌≤◌, ◌++◌, OnOk, OnErr, All, codes, flat_map};
+ghost use Rattle.std.specs.Prelude.{◌≡◌, ◌<◌, ◌++◌, OnOk, OnErr, All, codes, flat_map};
 ghost use Rattle.std.specs.Fmt.{decimal};
 ghost use Rattle.rc_instr.specs.Warrior.{IsBelow, Fits};
 ghost use Rattle.rc_instr.specs.Words.{opcode_text, modifier_text};
@@ -69,7 +69,7 @@ fn append_decimal(out: &mut Vec<u8>, number: u32) -> Result<(), OutOfMemory>
 // Appends an A-number or B-number, with its sign.
 #[tactic(auto, using(crate::proofs::Appends::appends), unfolding(crate::specs::LoadText::number_text))]
 fn append_number(out: &mut Vec<u8>, core: u32, number: u16) -> Result<(), OutOfMemory>
-    requires { (number < core) × (core ≤ 65535) }
+    requires { number < core }
     ensures { AppendsText result out.old.items out.new.items (number_text core number) }
 {
     let number = u32::from(number);
@@ -82,7 +82,7 @@ fn append_number(out: &mut Vec<u8>, core: u32, number: u16) -> Result<(), OutOfM
 
 #[tactic(auto, using(crate::proofs::Appends::appends), unfolding(crate::specs::LoadText::operand_text))]
 fn append_operand(out: &mut Vec<u8>, core: u32, mode: Mode, number: u16) -> Result<(), OutOfMemory>
-    requires { (number < core) × (core ≤ 65535) }
+    requires { number < core }
     ensures { AppendsText result out.old.items out.new.items (operand_text core mode number) }
 {
     append(out, mode_sign(mode))?;
@@ -102,8 +102,7 @@ fn append_head(out: &mut Vec<u8>, opcode: Opcode, modifier: Modifier) -> Result<
 
 #[tactic(auto, using(crate::proofs::Appends::appends), unfolding(crate::specs::LoadText::line_text))]
 fn append_line(out: &mut Vec<u8>, core: u32, instruction: &Instruction) -> Result<(), OutOfMemory>
-    requires core { core ≤ 65535 }
-    requires below { IsBelow core instruction.now }
+    requires { IsBelow core instruction.now }
     ensures { AppendsText result out.old.items out.new.items (line_text core instruction.now) }
 {
     append_head(out, instruction.opcode, instruction.modifier)?;
@@ -124,8 +123,7 @@ fn append_start(out: &mut Vec<u8>, start: u32) -> Result<(), OutOfMemory>
 
 #[tactic(auto, using(crate::proofs::Appends::appends))]
 fn append_lines(out: &mut Vec<u8>, core: u32, code: &[Instruction]) -> Result<(), OutOfMemory>
-    requires core { core ≤ 65535 }
-    requires below { All (IsBelow core) code.now }
+    requires { All (IsBelow core) code.now }
     ensures { AppendsText result out.old.items out.new.items (flat_map (line_text core) code.now) }
 {
     for instruction in code {
@@ -136,8 +134,7 @@ fn append_lines(out: &mut Vec<u8>, core: u32, code: &[Instruction]) -> Result<()
 
 #[tactic(auto, using(crate::proofs::Appends::appends), unfolding(crate::specs::LoadText::load_text))]
 fn append_warrior(out: &mut Vec<u8>, core: u32, warrior: &Warrior) -> Result<(), OutOfMemory>
-    requires core { core ≤ 65535 }
-    requires below { All (IsBelow core) warrior.now.code }
+    requires { All (IsBelow core) warrior.now.code }
     ensures { AppendsText result out.old.items out.new.items (load_text core warrior.now) }
 {
     append_start(out, warrior.start())?;

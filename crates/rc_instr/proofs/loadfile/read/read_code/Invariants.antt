@@ -1,12 +1,12 @@
-use Rattle.std.proofs.Common.{◌≡◌, ◌+◌, ◌≤◌, ◌++◌, length}
-use Rattle.rc_instr.specs.Results.{mapped}
-use Rattle.rc_instr.specs.Loaded.{code_from, code_of}
+use Rattle.std.proofs.Common.{◌≡◌, ◌+◌, ◌≤◌, length}
+use Rattle.rc_instr.specs.Loaded.{lines_at}
+use Rattle.rc_instr.proofs.Loads.{after_code}
 use Rattle.rc_instr.proofs.loadfile.read.read_code.Given as goal
 
--- the rest of the lines gives the rest of the code
+-- the lines of all bytes are those read so far and those of the rest
 abbrev pub invariant-loop-rest : goal.invariant-loop-rest
 invariant-loop-rest l = record {
-  so_far : code_of l.core l.bytes ≡ mapped (λ more. l.code.items ++ more) (code_from l.core (length l.rest) l.line l.rest);
+  so_far : lines_at l.core l.bytes ≡ after_code l.code.items (lines_at l.core l.rest);
   number : l.line ≡ 2 + length l.code.items;
   room : length l.code.items + length l.rest ≤ length l.bytes;
 }
