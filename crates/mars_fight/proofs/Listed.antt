@@ -5,6 +5,7 @@ use Rattle.std.proofs.lemmas.Bool.Decides.{nat_tests}
 use Rattle.std.proofs.lemmas.List.Elements.{All-cons, All-nil, All-weaker}
 use Rattle.rc_instr.specs.Rules.{RulesView}
 use Rattle.tables.specs.Records.{Fields, records_of}
+use Rattle.rc_instr.proofs.Chains.{went_on}
 use Rattle.rc_instr.proofs.CheckSteps.{at_most}
 use Rattle.mars_fight.specs.Listed.{IsPosition, IsWeight, IsFight}
 use Rattle.rc_instr.specs.Decimal.{padded_decimal}
@@ -55,11 +56,6 @@ weight_within (Some number) x e =
     let low : 1 ≤ number = grind (arith, nat_tests, two.0) in
     let high : number ≤ MOST_WEIGHT = grind (arith, nat_tests, two.1) in
     record { least = omega (arith, t.1); most = omega (arith, t.1) }
-
--- a chain with a value had one first
-went_on : {A B E : Type 0} (r : Result A E) (f : A → Result B E) (y : B) → and_then f r ≡ Ok y → (x : A) × (r ≡ Ok x) × (f x ≡ Ok y)
-went_on (Ok x) f y e = (x, refl, e)
-went_on (Err q) f y e = absurd (cc)
 
 -- a fight of fields may be listed
 made_fight : (r : RulesView) (n : ℕ) (a b c : List ℕ) (last : Result ℕ ScheduleFaultKind) (fight : Fight)

@@ -22,7 +22,7 @@ use Rattle.rc_asm.specs.Shape.{Shape, shape_of}
 use Rattle.rc_asm.specs.Instructions.{natural, core_number, operand, operand_after, operand_at, instruction_of_parts, instruction_of_shape, instruction_at}
 use Rattle.rc_asm.specs.Faults.{at_line}
 use Rattle.rc_asm.specs.Lines.{ReadingView, nothing_read, with_instruction, with_org, with_end, line_value, after_word, after_line, after_lines}
-use Rattle.rc_asm.proofs.Outcomes.{went_on, ok_of}
+use Rattle.rc_instr.proofs.Chains.{went_on, ok_of}
 
 number_below : (m : ℕ) (z : ℤ) → 0 < m → core_number m z < m
 unfolding core_number

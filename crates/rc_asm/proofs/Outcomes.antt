@@ -12,6 +12,7 @@ use Rattle.rc_instr.specs.Results.{mapped, and_then, with_fault, check}
 use Rattle.rc_instr.specs.Rules.{RulesView, IsRules}
 use Rattle.rc_instr.specs.Warrior.{WarriorView, warrior_view, IsWarrior, Fits}
 use Rattle.rc_instr.specs.Checks.{warrior_of}
+use Rattle.rc_instr.proofs.Chains.{went_on, ok_of}
 use Rattle.rc_instr.proofs.CheckSteps.{at_most, warrior_fits}
 use Rattle.rc_instr.specs.declared.instruction.Instruction.{Instruction}
 use Rattle.rc_expand.specs.declared.line.Line.{Line}
@@ -29,16 +30,6 @@ use Rattle.rc_asm.specs.Instructions.{instruction_of_shape, instruction_at}
 use Rattle.rc_asm.specs.Faults.{at_line, form_of, forms_of}
 use Rattle.rc_asm.specs.Lines.{ReadingView, nothing_read, line_value, after_word, after_line, after_lines, start_value}
 use Rattle.rc_asm.specs.Assembly.{start_index, warrior_of_reading, warrior_of_lines, outcome_of_lines, expand_fault, outcome_of, Assembles, text_warrior}
-
--- a chain that gives a value had one first
-pub went_on : {A B E : Type 0} (r : Result A E) (f : A → Result B E) (y : B) → and_then f r ≡ Ok y → (x : A) × (r ≡ Ok x) × (f x ≡ Ok y)
-went_on (Ok x) f y e = (x, refl, e)
-went_on (Err q) f y e = absurd (cc)
-
--- a wrapped fault is no value
-pub ok_of : {A D E : Type 0} (f : D → E) (r : Result A D) (x : A) → with_fault f r ≡ Ok x → r ≡ Ok x
-ok_of f (Ok y) x h = let q : y ≡ x = cc in ap Ok q
-ok_of f (Err e) x h = absurd (cc)
 
 -- ---- forms
 

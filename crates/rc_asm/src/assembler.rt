@@ -102,7 +102,6 @@ fn assemble_with(
     ensures outcome { Returns (λ w. w) result (warrior_of_lines source.now (seen_names context.now) lines.now) }
     ensures fits { IfOk result (Fits context.now.given.now.rules.now) }
 {
-    prove!(0 < context.given.rules.core());
     let reading = read_lines(alloc, source, context, lines)?;
     warrior_of(reading, context.given.rules)
 }

@@ -1,9 +1,10 @@
 //! From the tokens of a line of code to its instruction.
-ghost use Rattle.std.specs.Prelude.{◌≡◌, ◌<◌, ◌^◌};
+ghost use Rattle.std.specs.Prelude.{◌≡◌};
 ghost use Rattle.rc_asm.specs.Instructions.{instruction_of_parts, instruction_of_shape, instruction_at};
 ghost use Rattle.rc_asm.specs.Seen.{seen_names, seen_shape};
 
 use crate::fault::AsmKind;
+use crate::labels::Address;
 use crate::operand::{Operand, operand_at};
 use crate::scope::Context;
 use crate::shape::{Shape, shape_of};
@@ -15,12 +16,10 @@ use rc_text::{EvalFault, Token};
 pub(crate) fn instruction_at(
     source: &[u8],
     context: &Context,
-    address: usize,
+    address: Address,
     tokens: &[Token],
 ) -> Result<Instruction, AsmKind>
-    requires small { address < 2 ^ 63 }
-    requires core { 0 < context.now.given.now.rules.now.core }
-    ensures { result ≡ instruction_at source.now (seen_names context.now) address tokens.now }
+    ensures { result ≡ instruction_at source.now (seen_names context.now) address.number tokens.now }
 {
     let shape = shape_of(source, tokens)?;
     let instruction = instruction_of_shape(source, context, address, &shape)?;
@@ -49,12 +48,10 @@ fn instruction_of_parts(shape: &Shape, a: Operand, b: Operand) -> Instruction
 fn instruction_of_shape(
     source: &[u8],
     context: &Context,
-    address: usize,
+    address: Address,
     shape: &Shape,
 ) -> Result<Instruction, EvalFault>
-    requires small { address < 2 ^ 63 }
-    requires core { 0 < context.now.given.now.rules.now.core }
-    ensures { result ≡ instruction_of_shape source.now (seen_names context.now) address (seen_shape shape.now) }
+    ensures { result ≡ instruction_of_shape source.now (seen_names context.now) address.number (seen_shape shape.now) }
 {
     let a = operand_at(source, context, address, shape.sides.a)?;
     let b = operand_at(source, context, address, shape.sides.b)?;

@@ -1,5 +1,5 @@
 //! Labels and their addresses.
-ghost use Rattle.std.specs.Prelude.{◌≡◌, ◌<◌, ◌≤◌, ◌+◌, ◌^◌, [], List, ℕ, length, All, IfOk, IfSome, OnOk, Some};
+ghost use Rattle.std.specs.Prelude.{◌≡◌, ◌<◌, ◌≤◌, ◌+◌, ◌^◌, [], List, ℕ, length, All, IfOk, OnOk, option_map};
 ghost use Rattle.rc_text.specs.Symbols.{name_of};
 ghost use Rattle.rc_expand.specs.Names.{entry_of};
 ghost use Rattle.rc_expand.specs.NameTables.{with_name};
@@ -11,9 +11,9 @@ use std::alloc::{AllocError, Global};
 use std::marker::Model;
 
 // An address: the number of lines of code before a line.
-#[derive(Debug, Drop)]
-struct Address {
-    number: usize,
+#[derive(Clone, Copy, Debug)]
+pub(crate) struct Address {
+    pub(crate) number: usize,
     ghost small: { number < 2 ^ 63 },
 }
 
@@ -77,12 +77,11 @@ impl<'a> Labels<'a> {
         Ok(labels)
     }
 
-    pub(crate) fn address_of(&self, source: &[u8], token: &Token) -> Option<usize>
-        ensures address { result ≡ entry_of self.now (name_of source.now token.now) }
-        ensures small { IfSome result (λ address. address < 2 ^ 63) }
+    pub(crate) fn address_of(&self, source: &[u8], token: &Token) -> Option<Address>
+        ensures { option_map (λ address. address.number) result ≡ entry_of self.now (name_of source.now token.now) }
     {
         let address = self.table.get(source, token)?;
-        Some(address.number)
+        Some(*address)
     }
 }
 

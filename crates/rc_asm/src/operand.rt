@@ -1,11 +1,12 @@
 //! Operands: a mode and an expression become a mode and a number.
-ghost use Rattle.std.specs.Prelude.{◌≡◌, ◌<◌, ◌^◌, option_map};
+ghost use Rattle.std.specs.Prelude.{◌≡◌, option_map};
 ghost use Rattle.rc_instr.specs.Rules.{IsCoreSize};
 ghost use Rattle.rc_instr.specs.Results.{mapped};
 ghost use Rattle.rc_asm.specs.Names.{value_at};
 ghost use Rattle.rc_asm.specs.Instructions.{core_number, operand, operand_at};
 ghost use Rattle.rc_asm.specs.Seen.{seen_names};
 
+use crate::labels::Address;
 use crate::scope::{Context, value_at};
 use crate::word::mode_at;
 use rc_instr::Mode;
@@ -23,12 +24,10 @@ pub(crate) struct Operand {
 pub(crate) fn operand_at(
     source: &[u8],
     context: &Context,
-    address: usize,
+    address: Address,
     part: Option<&[Token]>,
 ) -> Result<Operand, EvalFault>
-    requires small { address < 2 ^ 63 }
-    requires core { 0 < context.now.given.now.rules.now.core }
-    ensures { result ≡ operand_at source.now (seen_names context.now) address (option_map (λ p. p.now) part.entry) }
+    ensures { result ≡ operand_at source.now (seen_names context.now) address.number (option_map (λ p. p.now) part.entry) }
 {
     match part {
         None => Ok(Operand {
@@ -59,12 +58,11 @@ fn core_number(value: i64, core: u32) -> u16
 fn with_value(
     source: &[u8],
     context: &Context,
-    address: usize,
+    address: Address,
     mode: Mode,
     tokens: &[Token],
 ) -> Result<Operand, EvalFault>
-    requires { address < 2 ^ 63 }
-    ensures { result ≡ mapped (operand context.now.given.now.rules.now.core mode) (value_at source.now (seen_names context.now) address address tokens.now) }
+    ensures { result ≡ mapped (operand context.now.given.now.rules.now.core mode) (value_at source.now (seen_names context.now) address.number address.number tokens.now) }
 {
     let value = value_at(source, context, address, address, tokens)?;
     Ok(Operand {

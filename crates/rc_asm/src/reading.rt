@@ -1,5 +1,5 @@
 //! The values of the lines, in order.
-ghost use Rattle.std.specs.Prelude.{◌≡◌, ℤ, ◌<◌, ◌^◌, Result, length};
+ghost use Rattle.std.specs.Prelude.{◌≡◌, ℤ, Result, length};
 ghost use Rattle.rc_instr.specs.Results.{with_fault};
 ghost use Rattle.rc_asm.specs.Faults.{Returns, at_line};
 ghost use Rattle.rc_asm.specs.Instructions.{instruction_at};
@@ -8,6 +8,7 @@ ghost use Rattle.rc_asm.specs.Seen.{seen_names, seen_reading};
 
 use crate::fault::{AsmFault, AsmKind, at_line};
 use crate::instruction::instruction_at;
+use crate::labels::Address;
 use crate::scope::{Context, value_at};
 use crate::starts::Starts;
 use rc_expand::{Line, LineWord};
@@ -28,7 +29,6 @@ pub(crate) fn read_lines(
     context: &Context,
     lines: &[Line],
 ) -> Result<Reading, AsmFault>
-    requires { 0 < context.now.given.now.rules.now.core }
     ensures { Returns seen_reading result (after_lines source.now (seen_names context.now) lines.now nothing_read) }
 {
     let mut reading = Reading {
@@ -51,10 +51,11 @@ fn read_line(
     line: &Line,
     reading: &mut Reading,
 ) -> Result<(), AsmFault>
-    requires { 0 < context.now.given.now.rules.now.core }
     ensures { Returns (λ _. seen_reading reading.new) result (after_line source.now (seen_names context.now) line.now (seen_reading reading.old)) }
 {
-    let address = reading.code.len();
+    let address = Address {
+        number: reading.code.len(),
+    };
     match line.word {
         LineWord::Code => {
             let instruction = line_instruction(source, context, address, line)?;
@@ -88,12 +89,10 @@ fn read_line(
 fn line_instruction(
     source: &[u8],
     context: &Context,
-    address: usize,
+    address: Address,
     line: &Line,
 ) -> Result<Instruction, AsmFault>
-    requires small { address < 2 ^ 63 }
-    requires core { 0 < context.now.given.now.rules.now.core }
-    ensures { result ≡ with_fault (at_line line.now.number) (instruction_at source.now (seen_names context.now) address line.now.tokens) }
+    ensures { result ≡ with_fault (at_line line.now.number) (instruction_at source.now (seen_names context.now) address.number line.now.tokens) }
 {
     match instruction_at(source, context, address, line.tokens.as_slice()) {
         Ok(instruction) => Ok(instruction),
@@ -105,13 +104,18 @@ fn line_instruction(
 fn line_value(
     source: &[u8],
     context: &Context,
-    address: usize,
+    address: Address,
     line: &Line,
 ) -> Result<i64, AsmFault>
-    requires { address < 2 ^ 63 }
-    ensures { result ≡ with_fault (at_line line.now.number) (line_value source.now (seen_names context.now) address line.now.tokens) }
+    ensures { result ≡ with_fault (at_line line.now.number) (line_value source.now (seen_names context.now) address.number line.now.tokens) }
 {
-    match value_at(source, context, address, 0, line.tokens.as_slice()) {
+    match value_at(
+        source,
+        context,
+        address,
+        Address { number: 0 },
+        line.tokens.as_slice(),
+    ) {
         Ok(value) => Ok(value),
         Err(fault) => Err(at_line(line.number, AsmKind::Value(fault))),
     }

@@ -1,9 +1,9 @@
 //! The values of names.
-ghost use Rattle.std.specs.Prelude.{◌≡◌, ◌<◌, ◌^◌, All};
+ghost use Rattle.std.specs.Prelude.{◌≡◌, All};
 ghost use Rattle.rc_asm.specs.Names.{stands_for, value_at};
 ghost use Rattle.rc_asm.specs.Seen.{seen_names};
 
-use crate::labels::Labels;
+use crate::labels::{Address, Labels};
 use rc_expand::{GivenNames, spells};
 use rc_text::{EvalFault, Names, Token, eval};
 
@@ -18,16 +18,15 @@ pub(crate) struct Context<'a, 't> {
 #[derive(Drop)]
 struct Scope<'a, 't> {
     context: Context<'a, 't>,
-    address: usize,
-    base: usize,
-    ghost small: { (address < 2 ^ 63) × (base < 2 ^ 63) },
+    address: Address,
+    base: Address,
 }
 
 impl<'a, 't> Names for Scope<'a, 't> {
     ghost use Rattle.rc_asm.specs.Names.{stands_for};
     ghost use Rattle.rc_asm.specs.Seen.{seen_names};
 
-    ghost meaning = { λ s. stands_for (seen_names s.context) s.address s.base };
+    ghost meaning = { λ s. stands_for (seen_names s.context) s.address.number s.base.number };
 
     #[tactic(auto, unfolding(crate::specs::Names::stands_for))]
     fn value(&self, source: &[u8], name: &Token) -> Option<i64> {
@@ -35,10 +34,10 @@ impl<'a, 't> Names for Scope<'a, 't> {
             return Some(value);
         }
         if spells(source, name, b"CURLINE") {
-            return Some(self.address as i64);
+            return Some(self.address.number as i64);
         }
         let label = self.context.labels.address_of(source, name)?;
-        Some(label as i64 - self.base as i64)
+        Some(label.number as i64 - self.base.number as i64)
     }
 }
 
@@ -46,12 +45,11 @@ impl<'a, 't> Names for Scope<'a, 't> {
 pub(crate) fn value_at(
     source: &[u8],
     context: &Context,
-    address: usize,
-    base: usize,
+    address: Address,
+    base: Address,
     tokens: &[Token],
 ) -> Result<i64, EvalFault>
-    requires { (address < 2 ^ 63) × (base < 2 ^ 63) }
-    ensures { result ≡ value_at source.now (seen_names context.now) address base tokens.now }
+    ensures { result ≡ value_at source.now (seen_names context.now) address.number base.number tokens.now }
 {
     let scope = Scope {
         context: *context,
