@@ -6,7 +6,7 @@ use Rattle.std.specs.Str.{bytes_eq}
 use Rattle.std.specs.Cmp.Lexicographic.{nat_list_eq_equiv}
 use Rattle.std.proofs.lemmas.Bool.{ltb-true}
 use Rattle.std.proofs.lemmas.List.{append-nil}
-use Rattle.std.proofs.lemmas.List.Elements.{All-push, All-same, All-nil}
+use Rattle.std.proofs.lemmas.List.Elements.{All-push, All-nil}
 use Rattle.rc_text.specs.NameClasses.{class_of}
 use Rattle.rc_text.specs.declared.class.NameClass.{NameClass}
 use Rattle.rc_text.specs.declared.class.NameClass.TheVariants.{NoName, Reserved, Predefined, Free}
@@ -24,8 +24,8 @@ use Rattle.tune_template.specs.Vectors.{vectors_of}
 use Rattle.tune_template.proofs.Counts.{count_push}
 use Rattle.tune_template.proofs.VectorSteps.{some_times, vectors_len}
 use Rattle.tune_template.specs.Faults.{at_line}
-use Rattle.rc_instr.specs.Results.{mapped, with_fault, and_then, check}
-use Rattle.rc_asm.proofs.Outcomes.{went_on}
+use Rattle.rc_instr.specs.Results.{mapped, with_fault, check}
+use Rattle.rc_instr.proofs.Chains.{went_on}
 use Rattle.tune_template.specs.Laws.{first_word, name_on, are_distinct, AreOfLines}
 
 ok_same : {A E : Type 0} (x y : A) (r : Result A E) → r ≡ Ok x → r ≡ Ok y → x ≡ y

@@ -8,10 +8,10 @@ use Rattle.tune_template.specs.declared.fault.TemplateKind.TheVariants.{OutOfMem
 abbrev pub at_line : ℕ → TemplateKind → TemplateFault
 at_line line kind = record { line = line; kind = kind }
 
--- out of memory has no line
+-- Out of memory has no line.
 abbrev pub IsMemory : TemplateFault → Type 0
 IsMemory fault = fault ≡ at_line 0 OutOfMemory
 
--- a call returns what the definition gives, seen through `view`, unless memory runs out
+-- A call returns what the definition gives, seen through `view`, unless memory runs out.
 abbrev pub Returns : {A B : Type 0} → (view : A → B) → (result : Result A TemplateFault) → (definition : Result B TemplateFault) → Type 0
 Returns view result definition = ReturnsBut IsMemory view result definition

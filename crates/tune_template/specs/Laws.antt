@@ -12,17 +12,17 @@ abbrev pub first_word : List (List ℕ) → List ℕ
 first_word [] = []
 first_word (w ∷ ws) = w
 
--- the name on a range line: the first word after `;@tune`
+-- The name on a range line: the first word after `;@tune`.
 abbrev pub name_on : List ℕ → List ℕ
 name_on line = first_word (words_of (drop 6 line))
 
--- no name occurs twice
+-- No name occurs twice.
 abbrev pub are_distinct : List (List ℕ) → Bool
 are_distinct [] = true
 are_distinct (n ∷ ns) = not (is_among ns n) && are_distinct ns
 
--- one constant for each range line, in the order of the lines; each name is free, no two are the
--- same, and there are at most `MOST_CONSTANTS`
+-- One constant for each range line, in the order of the lines; each name is free, no two are the
+-- same, and there are at most `MOST_CONSTANTS`.
 pub record AreOfLines (text : List ℕ) (r : Ranges) : Type 0 where
   pub names : r.names ≡ map name_on (filter is_range_line (lines_of text))
   pub free : All (λ name. class_of name ≡ Free) r.names

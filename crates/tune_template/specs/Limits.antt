@@ -1,10 +1,10 @@
 -- The limits of a template.
 use Rattle.std.specs.Prelude.{ℕ}
 
--- the constants of a template
+-- The most constants of a template.
 abbrev pub MOST_CONSTANTS : ℕ
 MOST_CONSTANTS = 8
 
--- the settings of a template
+-- The most settings of a template.
 abbrev pub MOST_SETTINGS : ℕ
 MOST_SETTINGS = 1000000

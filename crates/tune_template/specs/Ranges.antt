@@ -16,7 +16,7 @@ use Rattle.tune_template.specs.Limits.{MOST_CONSTANTS, MOST_SETTINGS}
 use Rattle.tune_template.specs.Lines.{lines_of, words_of, is_range_line}
 use Rattle.tune_template.specs.Spans.{span_of}
 
--- the constants and the spans of their values, in the order of the lines
+-- The constants and the spans of their values, in the order of the lines.
 pub record Ranges : Type 0 where
   pub names : List (List ℕ)
   pub spans : List Span
@@ -24,7 +24,7 @@ pub record Ranges : Type 0 where
 abbrev pub ranges : List (List ℕ) → List Span → Ranges
 ranges names spans = record { names = names; spans = spans }
 
--- 1 to 5 digits, at most 65535
+-- 1 to 5 digits, at most 65535.
 abbrev pub small_number : List ℕ → Option ℕ
 small_number word = if nat_le (length word) 5 then at_most (padded_decimal word) else None
   where
@@ -32,12 +32,12 @@ small_number word = if nat_le (length word) 5 then at_most (padded_decimal word)
     at_most None = None
     at_most (Some n) = if nat_le n 65535 then Some n else None
 
--- an optional minus and such a number
+-- An optional minus and such a number.
 abbrev pub signed_number : List ℕ → Option ℤ
 signed_number [] = None
 signed_number (b ∷ word) = if b == 45 then option_map (λ n. neg_ℤ (pos n)) (small_number word) else option_map pos (small_number (b ∷ word))
 
--- a step is 1 to 65535
+-- A step is 1 to 65535.
 abbrev pub step_number : List ℕ → Option ℕ
 step_number word = above_zero (small_number word)
   where
@@ -45,34 +45,38 @@ step_number word = above_zero (small_number word)
     above_zero None = None
     above_zero (Some n) = if nat_lt 0 n then Some n else None
 
--- the number of settings of these spans
+-- The number of settings of these spans.
 abbrev pub vector_count : List Span → ℕ
 vector_count [] = 1
 vector_count (s ∷ ss) = s.count * vector_count ss
 
--- the next constant is not reserved, not predefined, and not an earlier one
+-- The next constant is not reserved, not predefined, and not an earlier one.
 abbrev pub name_checked : List (List ℕ) → NameClass → List ℕ → Result (Unit {0}) TemplateKind
 name_checked names NoName name = Err BadLine
 name_checked names Reserved name = Err ReservedName
 name_checked names Predefined name = Err ReservedName
 name_checked names Free name = if is_among names name then Err DuplicateName else Ok tt
 
--- the span of the next constant: a word that is not a number is reported first, then the name's
--- fault, then the span's
+-- The span of the next constant: a word that is not a number is reported first, then the name's
+-- fault, then the span's.
 abbrev pub span_said : List (List ℕ) → List ℕ → Option ℤ → Option ℤ → Option ℕ → Option ℤ → Result Span TemplateKind
 span_said names name (Some low) (Some high) (Some step) (Some start) = do
   _ ← name_checked names (class_of name) name
   span_of low high step start
 span_said names name _ _ _ _ = Err BadLine
 
--- five words: NAME LOW HIGH STEP START
+-- The span of the next constant, from the five words of a line.
+abbrev pub span_worded : List (List ℕ) → (name low high step start : List ℕ) → Result Span TemplateKind
+span_worded names name low high step start = span_said names name (signed_number low) (signed_number high) (step_number step) (signed_number start)
+
+-- Five words: NAME LOW HIGH STEP START.
 unfoldable pub worded : Ranges → List (List ℕ) → Result (List ℕ × Span) TemplateKind
 worded r (name ∷ low ∷ high ∷ step ∷ start ∷ []) = do
-  s ← span_said r.names name (signed_number low) (signed_number high) (step_number step) (signed_number start)
+  s ← span_worded r.names name low high step start
   Ok (name, s)
 worded r _ = Err BadLine
 
--- the range that a range line adds to those so far, or its first fault
+-- The range that a range line adds to those so far, or its first fault.
 abbrev pub next_range : Ranges → List ℕ → Result (List ℕ × Span) TemplateKind
 next_range r line = do
   _ ← check (nat_lt (length r.names) MOST_CONSTANTS) TooManyConstants
@@ -80,27 +84,27 @@ next_range r line = do
   _ ← check (nat_le (vector_count r.spans * next.1.count) MOST_SETTINGS) TooManyVectors
   Ok next
 
--- the ranges and one more
+-- The ranges and one more.
 abbrev pub with_range : Ranges → List ℕ × Span → Ranges
 with_range r next = ranges (r.names ++ (next.0 ∷ [])) (r.spans ++ (next.1 ∷ []))
 
--- a range line adds its constant; any other line adds nothing
+-- A range line adds its constant; any other line adds nothing.
 abbrev pub line_added : ℕ → Ranges → List ℕ → Result Ranges TemplateFault
 line_added n r line = if is_range_line line then mapped (with_range r) (with_fault (at_line n) (next_range r line)) else Ok r
 
--- the ranges so far, and those of these lines, which begin with line n
+-- The ranges so far, and those of these lines, which begin with line n.
 abbrev pub ranges_from : ℕ → Ranges → List (List ℕ) → Result Ranges TemplateFault
 ranges_from n r [] = Ok r
 ranges_from n r (line ∷ lines) = do
   more ← line_added n r line
   ranges_from (n + 1) more lines
 
--- the ranges of a text of at most `MOST_BYTES` bytes, or its first fault
+-- The ranges of a text of at most `MOST_BYTES` bytes, or its first fault.
 unfoldable pub ranges_of : List ℕ → Result Ranges TemplateFault
 ranges_of text = do
   _ ← check (nat_le (length text) MOST_BYTES) (at_line 0 TextTooLong)
   ranges_from 1 (ranges [] []) (lines_of text)
 
--- the text is a template with these ranges
+-- The text is a template with these ranges.
 abbrev pub HasRanges : List ℕ → Ranges → Type 0
 HasRanges text r = ranges_of text ≡ Ok r

@@ -8,12 +8,12 @@ use Rattle.tune_template.specs.Ranges.{Ranges, ranges, vector_count}
 abbrev pub seen_ranges : Reading → Ranges
 seen_ranges r = ranges (map (λ n. n.items) r.names.items) r.spans.items
 
--- the span is not empty, and its start is one of the values
+-- The span is not empty, and its start is one of the values.
 pub record HasValues (s : Span) : Type 0 where
   pub some : 0 < s.count
   pub start : s.start < s.count
 
--- as many names as spans, at most `MOST_CONSTANTS`, and `count` settings, at most `MOST_SETTINGS`
+-- As many names as spans, at most `MOST_CONSTANTS`, and `count` settings, at most `MOST_SETTINGS`.
 pub record AreCounted (r : Ranges) (count : ℕ) : Type 0 where
   pub equal : length r.names ≡ length r.spans
   pub few : length r.names ≤ MOST_CONSTANTS

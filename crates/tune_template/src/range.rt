@@ -8,7 +8,7 @@ ghost use Rattle.tune_template.specs.declared.fault.TemplateKind.TheVariants.{Ba
 ghost use Rattle.tune_template.specs.Faults.{Returns};
 ghost use Rattle.tune_template.specs.Limits.{MOST_CONSTANTS, MOST_SETTINGS};
 ghost use Rattle.tune_template.specs.Lines.{words_of};
-ghost use Rattle.tune_template.specs.Ranges.{Ranges, ranges, worded, name_checked, span_said, signed_number, step_number, with_range, next_range};
+ghost use Rattle.tune_template.specs.Ranges.{Ranges, ranges, worded, name_checked, span_worded, with_range, next_range};
 ghost use Rattle.tune_template.specs.Steps.{seen_ranges, HasValues, AreCounted};
 
 use crate::fault::{TemplateFault, TemplateKind};
@@ -147,8 +147,7 @@ fn check_name(names: &[Vec<u8>], name: &[u8]) -> Result<(), TemplateKind>
 
 // Checks the name and the numbers of a line. A word that is not a number comes before a bad name.
 fn span_said(names: &[Vec<u8>], words: &Words) -> Result<Span, TemplateKind>
-    ensures span { result ≡ span_said (map (λ n. n.items) names.now) words.now.name.now (signed_number words.now.low.now) (signed_number words.now.high.now)
-        (step_number words.now.step.now) (signed_number words.now.start.now) }
+    ensures span { let w = words.now in result ≡ span_worded (map (λ n. n.items) names.now) w.name.now w.low.now w.high.now w.step.now w.start.now }
     ensures values { IfOk result HasValues }
 {
     match (

@@ -1,15 +1,13 @@
 //! Templates: texts with constants that run over ranges.
 ghost use Rattle.std.specs.Prelude.{◌≡◌, ◌≢◌, ◌<◌, ◌≤◌, ◌/◌, ◌%◌, ◌++◌, ◌∷◌, [], ℕ, ℤ, List, length, map, slice_get, option_map, Some, None, Ok, Err, IfOk, IfErr, OnOk, All};
-ghost use Rattle.rc_instr.specs.Warrior.{IsWarrior, Fits};
-ghost use Rattle.rc_asm.specs.declared.fault.AsmKind.TheVariants.{OutOfMemory as NoRoomToAssemble};
+ghost use Rattle.rc_instr.specs.Warrior.{Fits};
 ghost use Rattle.tune_template.specs.Faults.{Returns};
 ghost use Rattle.tune_template.specs.Limits.{MOST_CONSTANTS, MOST_SETTINGS};
 ghost use Rattle.tune_template.specs.Lines.{lines_of};
 ghost use Rattle.tune_template.specs.Ranges.{Ranges, ranges, vector_count, line_added, ranges_from};
 ghost use Rattle.tune_template.specs.Vectors.{vectors_of, start_vector, start_index};
 ghost use Rattle.rc_asm.specs.Faults.{Returns as Assembled};
-ghost use Rattle.rc_asm.specs.Assembly.{outcome_of};
-ghost use Rattle.tune_template.specs.Instances.{constants_of, instance_of, template_of};
+ghost use Rattle.tune_template.specs.Instances.{instance_of, template_of};
 ghost use Rattle.tune_template.specs.Steps.{seen_ranges, AreCounted, HasValues};
 
 use crate::fault::{TemplateFault, TemplateKind, at_line};
@@ -147,14 +145,9 @@ impl Template {
     /// Fails as `rc_asm::assemble` does for the text with these values.
     pub fn instance(&self, alloc: Global, index: u32, rules: &Rules) -> Result<Warrior, AsmFault>
         requires { index < length (vectors_of self.now.ranges.spans) }
-        ensures warrior { IfOk result (λ w. instance_of self.now rules.now index ≡ Some w) }
-        ensures is_warrior { IfOk result IsWarrior }
+        ensures meaning { Assembled (λ w. w) result (instance_of self.now rules.now index) }
         ensures fits { IfOk result (Fits rules.now) }
-        ensures refused { IfErr result (λ f. f.kind ≢ NoRoomToAssemble → instance_of self.now rules.now index ≡ None) }
-        ensures outcome { (x : List ℤ) → slice_get (vectors_of self.now.ranges.spans) index ≡ Some x
-            → Assembled (λ w. w) result (outcome_of self.now.text (constants_of self.now.ranges.names x) rules.now) }
     {
-        prove!(0 < rules.core());
         let vector = self.vector(index);
         let constants = Constants {
             names: self.names(),

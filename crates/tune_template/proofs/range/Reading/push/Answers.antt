@@ -1,4 +1,4 @@
-use Rattle.std.proofs.Common.{arith, refl}
+use Rattle.std.proofs.Common.{refl}
 use Rattle.tune_template.specs.Steps.{seen_ranges}
 use Rattle.tune_template.proofs.Counts.{counted_more}
 use Rattle.tune_template.proofs.range.Reading.push.Goals as goal
