@@ -2,6 +2,8 @@
 use Rattle.std.proofs.Common.{◌≡◌, ℕ, zero, suc, ◌+◌, ◌-◌, ◌*◌, ◌/◌, ◌<◌, ◌≤◌, List, [], ◌∷◌, ◌++◌, length, take, drop, Some, refl, sym, ◌∙◌, ap, subst, arith, append-nil}
 use Rattle.std.specs.Prelude.{ℤ, slice_get, flat_map, option_and_then}
 use Rattle.std.specs.List.{range_with_len}
+use Rattle.std.specs.Option.{unwrap_or}
+use Rattle.std.specs.Result.{result_ok}
 use Rattle.std.proofs.lemmas.List.{length-drop, length-take-le}
 use Rattle.std.proofs.Math.Nat.{div-mul-le_self, div-le_of_le-mul, mul-le-mul_right, mul-div_cancel_left, zero-div}
 use Rattle.std.proofs.lemmas.Nat.{le-div}
@@ -10,8 +12,10 @@ use Rattle.std.proofs.Math.Seq.{take-add, take-length}
 use Rattle.tune_problem.specs.declared.part.Part.{Part}
 use Rattle.tune_problem.specs.Parts.{part, whole, IsPart, part_first, part_end, part_of}
 use Rattle.tune_template.specs.Vectors.{vectors_of, start_index}
-use Rattle.tune_template.specs.Instances.{instance_of}
+use Rattle.rc_asm.specs.Assembly.{outcome_of, text_warrior}
+use Rattle.tune_template.specs.Instances.{constants_of, instance_of}
 use Rattle.tune_problem.specs.Inputs.{InputsView, AreInputs, settings_of, index_among, part_start, warrior_of}
+use Rattle.tune_problem.proofs.Certificates.{slice_get_some}
 
 -- ---- bounds of a part
 
@@ -86,9 +90,14 @@ module _ (i : InputsView) (h : AreInputs i) where
   unfolding settings_of
   setting_at v l = part_get i.part (vectors_of i.template.ranges.spans) h.part v l
 
-  pub warrior_at : (v : ℕ) → v < length (settings_of i) → warrior_of i v ≡ instance_of i.template i.rules (part_first i.part (length (vectors_of i.template.ranges.spans)) + v)
-  unfolding warrior_of instance_of
-  warrior_at v l = ap (option_and_then _) (setting_at v l)
+  warrior_at : (v : ℕ) → v < length (settings_of i) → warrior_of i v ≡ result_ok (instance_of i.template i.rules (part_first i.part (length (vectors_of i.template.ranges.spans)) + v))
+  unfolding warrior_of instance_of text_warrior
+  warrior_at v l =
+      let t = i.template in
+      let found = slice_get_some (settings_of i) v l in
+      let at : slice_get (vectors_of t.ranges.spans) (part_first i.part (length (vectors_of t.ranges.spans)) + v) ≡ Some found.0 = sym (setting_at v l) ∙ found.1 in
+      ap (option_and_then (λ x. text_warrior t.text (constants_of t.ranges.names x) i.rules)) found.1
+      ∙ ap (λ o. result_ok (outcome_of t.text (constants_of t.ranges.names (unwrap_or o [])) i.rules)) (sym at)
 
   pub some_settings : part_first i.part (length (vectors_of i.template.ranges.spans)) < part_end i.part (length (vectors_of i.template.ranges.spans))
   some_settings = part_some i.part (length (vectors_of i.template.ranges.spans)) h.part
@@ -110,8 +119,8 @@ module _ (i : InputsView) (h : AreInputs i) where
     pub setting_found : (x : List ℤ) → slice_get (vectors_of i.template.ranges.spans) n ≡ Some x → slice_get (settings_of i) v ≡ Some x
     setting_found x e = setting_at v l ∙ (ap (slice_get (vectors_of i.template.ranges.spans)) (sym at) ∙ e)
 
-    pub warrior_is : warrior_of i v ≡ instance_of i.template i.rules n
-    warrior_is = warrior_at v l ∙ ap (instance_of i.template i.rules) (sym at)
+    pub warrior_is : warrior_of i v ≡ result_ok (instance_of i.template i.rules n)
+    warrior_is = warrior_at v l ∙ ap (λ m. result_ok (instance_of i.template i.rules m)) (sym at)
 
 -- ---- all parts
 

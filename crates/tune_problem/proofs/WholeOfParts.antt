@@ -10,9 +10,13 @@ use Rattle.tune_problem.specs.Parts.{part, IsPart, part_end}
 use Rattle.tune_problem.specs.Inputs.{InputsView, settings_of, warrior_of}
 use Rattle.tune_problem.proofs.PartSteps.{part_inside, part_len, part_get, whole_list}
 use Rattle.tune_problem.specs.Problem.{Problem, problem_of}
-use Rattle.tune_problem.specs.Optimum.{IsOptimum, HasTotal, total_of}
+use Rattle.tune_problem.specs.Optimum.{total_of}
 use Rattle.tune_template.specs.Instances.{setting_count}
-use Rattle.tune_problem.specs.BestPart.{in_part, first_setting, IsOutcome, AreOutcomes, IsBestPart}
+use Rattle.tune_problem.specs.Below.{AllBelow}
+use Rattle.tune_problem.specs.BestPart.{in_part, whole_of, first_setting, in_whole, IsBest, IsOutcome, StaysBelow, AllStayBelow, IsBestPart}
+use Rattle.tune_problem.specs.declared.statement.Answer.{Answer}
+use Rattle.tune_problem.specs.declared.statement.Answer.TheVariants.{Best as TheBest, NoneFrom}
+use Rattle.tune_problem.specs.declared.watcher.Best.{Best}
 
 -- ---- where the parts are
 
@@ -44,18 +48,11 @@ module _ (n k : ℕ) (some : 1 ≤ k) where
       let end : k * n / k ≡ n = mul-div_cancel_left n (omega (arith, some)) in
       among k u (omega (arith, h, end))
 
-same_first : (o : Option (ℕ × ℕ)) (w s v t : ℕ) → o ≡ Some (w, s) → o ≡ Some (v, t) → w ≡ v
-same_first o w s v t a b = ap first (sym a ∙ b)
-  where
-    first : Option (ℕ × ℕ) → ℕ
-    first None = 0
-    first (Some pair) = pair.0
-
 -- ---- a setting of a part is one of the whole
 
 module _ (i : InputsView) (k : ℕ) (some : 1 ≤ k) (few : k ≤ setting_count i.template) where
   abbrev pub Whole : Problem
-  Whole = problem_of (in_part i 1 1)
+  Whole = whole_of i
 
   abbrev pub Piece : ℕ → Problem
   Piece m = problem_of (in_part i m k)
@@ -110,105 +107,105 @@ module _ (i : InputsView) (k : ℕ) (some : 1 ≤ k) (few : k ≤ setting_count 
         candidate = same_warrior m (u - first_setting i m k) found.1 found.2 here ∙ (ap Whole.warrior at ∙ c);
       }
 
-  module _ (outcome : ℕ → Option (ℕ × ℕ)) (outs : AreOutcomes i k outcome) where
-    -- a part with a candidate has an optimum, with at least its total
-    bounded : (m place : ℕ) (other : WarriorView) (o : Option (ℕ × ℕ)) → IsOutcome (Piece m) o → place < (Piece m).count → (Piece m).warrior place ≡ Some other
-        → (w t : ℕ) × (o ≡ Some (w, t)) × (total_of Whole other ≤ t) × (total_of Whole other ≡ t → w ≤ place)
-    bounded m place other None none inside c = let no = none place inside in absurd (cc)
-    bounded m place other (Some (w, t)) (opt, (x, x_is, x_total)) inside c =
-        let own : Some x ≡ Some opt.warrior = sym x_is ∙ opt.candidate in
-        let same : x ≡ opt.warrior = cc in
-        let total : total_of (Piece m) opt.warrior ≡ t = ap (total_of (Piece m)) (sym same) ∙ x_total in
-        let most = opt.greatest place other inside c in
-        let moved = same_total m other in (
-          w,
-          t,
-          refl,
-          omega (arith, most, total, moved),
-          λ e. opt.first place other inside c (moved ∙ (e ∙ sym total)),
-        )
+  -- by its answer no candidate of a part reaches the floor
+  part_below : (m floor : ℕ) (answer : Answer) → IsOutcome (Piece m) answer → StaysBelow floor answer → AllBelow (Piece m) floor
+  part_below m floor (NoneFrom other) all less v w inside c = let low = all v w inside c in omega (arith, low, less)
+  part_below m floor (TheBest best) (opt, (x, x_is, x_total)) less v w inside c =
+      let own : Some x ≡ Some opt.warrior = sym x_is ∙ opt.candidate in
+      let same : x ≡ opt.warrior = cc in
+      let total : total_of (Piece m) opt.warrior ≡ best.total = ap (total_of (Piece m)) (sym same) ∙ x_total in
+      let most = opt.greatest v w inside c in
+      omega (arith, most, total, less)
 
-    -- what the outcome of its part says of a candidate of the whole
-    in_outcome : (u : ℕ) (other : WarriorView) (p : InPart u other)
-        → (w t : ℕ) × (outcome p.number ≡ Some (w, t)) × (total_of Whole other ≤ t) × (total_of Whole other ≡ t → first_setting i p.number k + w ≤ u)
-    in_outcome u other p =
-        let found = bounded p.number p.place other (outcome p.number) (outs p.number p.one p.within) p.inside p.candidate in
-        let at = p.at in
-        (found.0, found.1, found.2, found.3, λ e. let before = found.4 e in omega (arith, before, at))
+  module _ (outcome : ℕ → Answer) (outs : (m : ℕ) → 1 ≤ m → m ≤ k → IsOutcome (Piece m) (outcome m)) where
+    below : (floor u : ℕ) (other : WarriorView) (p : InPart u other) → StaysBelow floor (outcome p.number) → total_of Whole other < floor
+    below floor u other p less =
+        let low = part_below p.number floor (outcome p.number) (outs p.number p.one p.within) less p.place other p.inside p.candidate in
+        let moved = same_total p.number other in
+        omega (arith, low, moved)
 
-    module _ (j v t : ℕ) (best : IsBestPart k outcome j v t) where
-      own : IsOptimum (Piece j) v × HasTotal (Piece j) v t
-      own = subst (IsOutcome (Piece j)) best.here (outs j best.some best.within)
+    pub whole_below : (floor : ℕ) → AllStayBelow floor k outcome → AllBelow Whole floor
+    whole_below floor each = λ u other inside c. let p = in_part_of u other inside c in below floor u other p (each p.number p.one p.within)
 
-      own_total : total_of Whole own.0.warrior ≡ t
+    module _ (j : ℕ) (best : Best) (found : IsBestPart k outcome j best) where
+      own : IsBest (Piece j) best
+      own = subst (IsOutcome (Piece j)) found.here (outs j found.some found.within)
+
+      own_total : total_of Whole own.0.warrior ≡ best.total
       own_total =
           let x_is = own.1.1 in
           let both : Some own.1.0 ≡ Some own.0.warrior = sym x_is ∙ own.0.candidate in
           let same : own.1.0 ≡ own.0.warrior = cc in
           sym (same_total j own.0.warrior) ∙ (ap (total_of (Piece j)) (sym same) ∙ own.1.2)
 
-      own_candidate : Whole.warrior (first_setting i j k + v) ≡ Some own.0.warrior
-      own_candidate = sym (same_warrior j v best.some best.within own.0.inside) ∙ own.0.candidate
+      own_candidate : Whole.warrior (first_setting i j k + best.vector) ≡ Some own.0.warrior
+      own_candidate = sym (same_warrior j best.vector found.some found.within own.0.inside) ∙ own.0.candidate
 
-      own_inside : first_setting i j k + v < part_end (part j k) (setting_count i.template)
+      own_inside : first_setting i j k + best.vector < part_end (part j k) (setting_count i.template)
       own_inside =
           let low = own.0.inside in
-          let count = piece_count j best.some best.within in
+          let count = piece_count j found.some found.within in
           omega (arith, low, count)
 
-      most : (u : ℕ) (other : WarriorView) → u < Whole.count → Whole.warrior u ≡ Some other → total_of Whole other ≤ total_of Whole own.0.warrior
-      most u other inside c =
-          let p = in_part_of u other inside c in
-          let found = in_outcome u other p in
-          let less = best.greatest p.number found.0 found.1 p.one p.within found.2 in
-          let low = found.3 in
-          omega (arith, less, low, own_total)
+      -- no candidate is ahead of the best
+      abbrev NotAhead : ℕ → WarriorView → Type 0
+      NotAhead u other = (total_of Whole other ≤ total_of Whole own.0.warrior) × (total_of Whole other ≡ total_of Whole own.0.warrior → first_setting i j k + best.vector ≤ u)
 
-      -- in the same part, or in a later one
-      behind : (u m w s : ℕ) → (j ≡ m) ⊎ (j < m) → outcome m ≡ Some (w, s) → first_setting i m k + w ≤ u → first_setting i m k ≤ u → first_setting i j k + v ≤ u
-      behind u m w s (inl e) out after low =
-          let here = best.here in
-          let same : w ≡ v = same_first (outcome m) w s v t out (ap outcome (sym e) ∙ here) in
-          subst (λ n. first_setting i n k + v ≤ u) (sym e) (subst (λ n. first_setting i m k + n ≤ u) same after)
-      behind u m w s (inr l) out after low =
-          let apart = ends_before (setting_count i.template) k some j m (omega (arith, l)) l in
+      -- a candidate of an earlier part, of the same part, of a later one
+      earlier : (u : ℕ) (other : WarriorView) (p : InPart u other) → p.number < j → NotAhead u other
+      earlier u other p l =
+          let low = below best.total u other p (found.before p.number p.one l) in
+          (omega (arith, low, own_total), λ e. absurd (omega (arith, low, own_total, e)))
+
+      beside : (u place : ℕ) (other : WarriorView) → first_setting i j k + place ≡ u → place < (Piece j).count → (Piece j).warrior place ≡ Some other → NotAhead u other
+      beside u place other at inside c =
+          let most = own.0.greatest place other inside c in
+          let moved = same_total j other in
+          let own_moved = same_total j own.0.warrior in
+          (omega (arith, most, moved, own_moved), λ e. (let first = own.0.first place other inside c (moved ∙ (e ∙ sym own_moved)) in omega (arith, first, at)))
+
+      later : (u : ℕ) (other : WarriorView) (p : InPart u other) → j < p.number → NotAhead u other
+      later u other p l =
+          let low = below (best.total + 1) u other p (found.after p.number l p.within) in
+          let apart = ends_before (setting_count i.template) k some j p.number p.one l in
           let inside = own_inside in
-          omega (arith, apart, inside, low)
+          let at = p.at in
+          (omega (arith, low, own_total), λ e. omega (arith, apart, inside, at))
 
-      foremost : (u : ℕ) (other : WarriorView) → u < Whole.count → Whole.warrior u ≡ Some other → total_of Whole other ≡ total_of Whole own.0.warrior → first_setting i j k + v ≤ u
-      foremost u other inside c e =
-          let p = in_part_of u other inside c in
-          let found = in_outcome u other p in
-          let s = found.1 in
-          let less = best.greatest p.number found.0 s p.one p.within found.2 in
-          let low = found.3 in
-          let even : s ≡ t = omega (arith, less, low, e, own_total) in
-          let reached : total_of Whole other ≡ s = omega (arith, even, e, own_total) in
-          let after = found.4 reached in
-          let order = best.first p.number found.0 s p.one p.within found.2 even in
-          behind u p.number found.0 s (eq-or-lt_of_le order) found.2 after (omega (arith, after))
+      not_ahead : (u : ℕ) (other : WarriorView) → u < Whole.count → Whole.warrior u ≡ Some other → NotAhead u other
+      not_ahead u other inside c = by_order (cases_lt p.number j)
+        where
+          p : InPart u other
+          p = in_part_of u other inside c
 
-      pub best_is_optimum : IsOptimum Whole (first_setting i j k + v)
-      best_is_optimum = record {
-        warrior = own.0.warrior;
-        inside = (let inside = own_inside in let end = part_inside (part j k) (setting_count i.template) (is_part j best.some best.within) in omega (arith, inside, end, whole_count));
-        candidate = own_candidate;
-        greatest = most;
-        first = foremost;
-      }
+          by_place : (j ≡ p.number) ⊎ (j < p.number) → NotAhead u other
+          by_place (inl e) = subst (λ m. first_setting i m k + p.place ≡ u → p.place < (Piece m).count → (Piece m).warrior p.place ≡ Some other → NotAhead u other) e
+              (beside u p.place other) p.at p.inside p.candidate
+          by_place (inr l) = later u other p l
 
-      pub best_has_total : HasTotal Whole (first_setting i j k + v) t
-      best_has_total = (own.0.warrior, own_candidate, own_total)
+          by_order : (p.number < j) ⊎ (j ≤ p.number) → NotAhead u other
+          by_order (inl l) = earlier u other p l
+          by_order (inr h) = by_place (eq-or-lt_of_le h)
 
-    -- where no part has a candidate, the whole has none
-    pub none_in_whole : ((m : ℕ) → 1 ≤ m → m ≤ k → outcome m ≡ None) → (u : ℕ) → u < Whole.count → Whole.warrior u ≡ None
-    none_in_whole none u inside = by_warrior (Whole.warrior u) refl
-      where
-        by_warrior : (o : Option WarriorView) → Whole.warrior u ≡ o → Whole.warrior u ≡ None
-        by_warrior None e = e
-        by_warrior (Some other) e =
-            let p = in_part_of u other inside e in
-            let found = in_outcome u other p in
-            let nothing = none p.number p.one p.within in
-            let both : Some (found.0, found.1) ≡ None = sym found.2 ∙ nothing in
-            absurd (cc)
+      pub whole_best : IsBest Whole (in_whole i j k best)
+      whole_best = (
+        record {
+          warrior = own.0.warrior;
+          inside = (let inside = own_inside in let end = part_inside (part j k) (setting_count i.template) (is_part j found.some found.within) in omega (arith, inside, end, whole_count));
+          candidate = own_candidate;
+          greatest = λ u other inside c. (not_ahead u other inside c).0;
+          first = λ u other inside c. (not_ahead u other inside c).1;
+        },
+        (own.0.warrior, own_candidate, own_total),
+      )
+
+-- every candidate reaches the floor 0
+pub none_below : (p : Problem) → AllBelow p 0 → (v : ℕ) → v < p.count → p.warrior v ≡ None
+none_below p all v inside = by_warrior (p.warrior v) refl
+  where
+    by_warrior : (o : Option WarriorView) → p.warrior v ≡ o → p.warrior v ≡ None
+    by_warrior None e = e
+    by_warrior (Some w) e = let low = all v w inside e in absurd (omega (arith, low))
+
+pub below_none : (p : Problem) → ((v : ℕ) → v < p.count → p.warrior v ≡ None) → (floor : ℕ) → AllBelow p floor
+below_none p none floor = λ v w inside c. (let no = none v inside in absurd (cc))

@@ -1,32 +1,61 @@
 -- Tunings of parts, and what they say of the whole.
-use Rattle.std.specs.Prelude.{◌≡◌, ℕ, ◌<◌, ◌≤◌, Option, Some, None}
+use Rattle.std.specs.Prelude.{◌≡◌, ℕ, ◌+◌, ◌<◌, ◌≤◌}
 use Rattle.tune_template.specs.Instances.{setting_count}
 use Rattle.tune_problem.specs.Parts.{part, part_first}
 use Rattle.tune_problem.specs.Inputs.{InputsView, with_part}
 use Rattle.tune_problem.specs.Problem.{Problem, problem_of}
 use Rattle.tune_problem.specs.Optimum.{IsOptimum, HasTotal}
+use Rattle.tune_problem.specs.Below.{AllBelow}
+use Rattle.tune_problem.specs.declared.statement.Answer.{Answer}
+use Rattle.tune_problem.specs.declared.statement.Answer.TheVariants.{Best as TheBest, NoneFrom}
+use Rattle.tune_problem.specs.declared.watcher.Best.{Best}
 
 -- The same inputs with part `number` of `parts`.
 abbrev pub in_part : InputsView → ℕ → ℕ → InputsView
 in_part i number parts = with_part i (part number parts)
 
+-- The problem of all settings of the inputs.
+abbrev pub whole_of : InputsView → Problem
+whole_of i = problem_of (in_part i 1 1)
+
 -- Where a part begins.
 abbrev pub first_setting : InputsView → ℕ → ℕ → ℕ
 first_setting i number parts = part_first (part number parts) (setting_count i.template)
 
--- How a tuning ends: with the optimum and its total, or without a candidate.
-abbrev pub IsOutcome : Problem → Option (ℕ × ℕ) → Type 0
-IsOutcome p (Some best) = IsOptimum p best.0 × HasTotal p best.0 best.1
-IsOutcome p None = (v : ℕ) → v < p.count → p.warrior v ≡ None
+-- A setting of a part, by its index in the whole: counted on from where the part begins.
+abbrev pub in_whole : InputsView → ℕ → ℕ → Best → Best
+in_whole i number parts best = record { vector = first_setting i number parts + best.vector; total = best.total }
 
--- The outcomes of parts 1 to `parts`.
-abbrev pub AreOutcomes : InputsView → ℕ → (ℕ → Option (ℕ × ℕ)) → Type 0
-AreOutcomes i parts outcome = (number : ℕ) → 1 ≤ number → number ≤ parts → IsOutcome (problem_of (in_part i number parts)) (outcome number)
+-- The setting is the optimum, and has this total.
+abbrev pub IsBest : Problem → Best → Type 0
+IsBest p best = IsOptimum p best.vector × HasTotal p best.vector best.total
 
--- The first of the parts with the greatest total.
-pub record IsBestPart (parts : ℕ) (outcome : ℕ → Option (ℕ × ℕ)) (number best total : ℕ) : Type 0 where
+-- How a tuning ends: this setting is the best, or no candidate reaches the floor. Without a
+-- candidate it ends with `NoneFrom 0`, since every candidate reaches the floor 0.
+abbrev pub IsOutcome : Problem → Answer → Type 0
+IsOutcome p (TheBest best) = IsBest p best
+IsOutcome p (NoneFrom floor) = AllBelow p floor
+
+-- The parts 1 to `parts` are tuned, each with its outcome.
+pub record AreTuned (i : InputsView) (parts : ℕ) (outcome : ℕ → Answer) : Type 0 where
+  pub some : 1 ≤ parts
+  pub few : parts ≤ setting_count i.template
+  pub right : (number : ℕ) → 1 ≤ number → number ≤ parts → IsOutcome (problem_of (in_part i number parts)) (outcome number)
+
+-- With this outcome no candidate reaches the floor.
+abbrev pub StaysBelow : ℕ → Answer → Type 0
+StaysBelow floor (TheBest best) = best.total < floor
+StaysBelow floor (NoneFrom other) = other ≤ floor
+
+-- No part has a candidate that reaches the floor.
+abbrev pub AllStayBelow : ℕ → ℕ → (ℕ → Answer) → Type 0
+AllStayBelow floor parts outcome = (number : ℕ) → 1 ≤ number → number ≤ parts → StaysBelow floor (outcome number)
+
+-- The first of the parts with the greatest total: the parts before it stay below this total, and
+-- the parts after it have no greater one.
+pub record IsBestPart (parts : ℕ) (outcome : ℕ → Answer) (number : ℕ) (best : Best) : Type 0 where
   pub some : 1 ≤ number
   pub within : number ≤ parts
-  pub here : outcome number ≡ Some (best, total)
-  pub greatest : (other w t : ℕ) → 1 ≤ other → other ≤ parts → outcome other ≡ Some (w, t) → t ≤ total
-  pub first : (other w t : ℕ) → 1 ≤ other → other ≤ parts → outcome other ≡ Some (w, t) → t ≡ total → number ≤ other
+  pub here : outcome number ≡ TheBest best
+  pub before : (other : ℕ) → 1 ≤ other → other < number → StaysBelow best.total (outcome other)
+  pub after : (other : ℕ) → number < other → other ≤ parts → StaysBelow (best.total + 1) (outcome other)

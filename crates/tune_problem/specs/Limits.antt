@@ -1,10 +1,10 @@
--- The limits of a tuning that are no template's, schedule's or search's.
+-- The limits of a tuning, beside those of its template, of its schedule and of the search.
 use Rattle.std.specs.Prelude.{ℕ}
 
--- The opponents of a tuning.
+-- The most opponents of a tuning.
 abbrev pub MOST_OPPONENTS : ℕ
 MOST_OPPONENTS = 64
 
--- The settings that may be kept of a ranking.
+-- The most settings that are kept of a ranking.
 abbrev pub MOST_KEPT : ℕ
 MOST_KEPT = 1000

@@ -28,11 +28,11 @@ unfoldable pub ranked : Best → List Best → List Best
 ranked best [] = best ∷ []
 ranked best (x ∷ xs) = if beats best.total best.vector x.total x.vector then best ∷ x ∷ xs else x ∷ ranked best xs
 
--- The last of the first `keep`, if there are so many: what a setting has to beat.
+-- The `keep`-th of a ranking, which a setting has to beat, or None if the ranking is shorter.
 abbrev pub last_kept : Aim → List Best → Option Best
 last_kept aim ranking = slice_get ranking (aim.keep - 1)
 
--- Cap c of setting v contends: it reaches the floor, and beats the last that is kept.
+-- Cap c of setting v contends: it reaches the floor, and beats the last setting that is kept.
 abbrev pub contends : Aim → ℕ → ℕ → List Best → Bool
 contends aim c v ranking = nat_le aim.floor c && beats_lead c v (last_kept aim ranking)
 

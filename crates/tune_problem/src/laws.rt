@@ -1,5 +1,5 @@
 //! Laws of the definitions. A law is a function with an empty body: its contract is what is proved.
-ghost use Rattle.std.specs.Prelude.{◌≡◌, ◌+◌, ◌≤◌, ℕ, ℤ, List, Option, Some, None, length, flat_map};
+ghost use Rattle.std.specs.Prelude.{◌≡◌, ◌↔◌, ◌<◌, ◌≤◌, ℕ, ℤ, List, None, length, flat_map};
 ghost use Rattle.std.specs.List.{range_with_len};
 ghost use Rattle.tune_problem.specs.Parts.{part, whole, part_of};
 ghost use Rattle.tune_problem.specs.Inputs.{InputsView};
@@ -9,8 +9,9 @@ ghost use Rattle.tune_problem.specs.Valid.{IsValid};
 ghost use Rattle.tune_problem.specs.Below.{IsValidBelow, AllBelow};
 ghost use Rattle.tune_problem.specs.Ranking.{IsAim, IsRanking, Any};
 ghost use Rattle.tune_problem.specs.Exact.{IsExact, listed_ranking};
-ghost use Rattle.tune_template.specs.Instances.{setting_count};
-ghost use Rattle.tune_problem.specs.BestPart.{in_part, first_setting, IsOutcome, AreOutcomes, IsBestPart};
+ghost use Rattle.tune_problem.specs.BestPart.{whole_of, in_whole, IsBest, AreTuned, AllStayBelow, IsBestPart};
+ghost use Rattle.tune_problem.specs.declared.statement.Answer.{Answer};
+ghost use Rattle.tune_problem.specs.declared.watcher.Best.{Best};
 
 use crate::aim::Aim;
 use crate::cert::{Cert, Row};
@@ -33,7 +34,8 @@ pub fn a_valid_certificate_names_the_optimum()
     ensures inputs { (i : InputsView) → IsProblem (problem_of i) }
 {}
 
-/// States that every candidate totals less than the floor if rows are a valid certificate of that.
+/// States that every candidate totals less than the floor, if rows are a valid certificate that no
+/// candidate reaches it.
 pub fn a_certificate_below_a_floor_is_right()
     ensures { (p : Problem) (floor version : ℕ) (rows : List Row) → IsProblem p → IsValidBelow p floor version rows → AllBelow p floor }
 {}
@@ -47,14 +49,13 @@ pub fn an_exact_certificate_has_the_first_of_the_ranking()
 
 /// States that tunings of all parts of the settings are a tuning of the whole: of the parts with
 /// the greatest total, the first one's optimum is the optimum of all settings, and has this total
-/// there. If no part has a candidate, the whole has none.
+/// there. If no part has a candidate that reaches a floor, the whole has none. No candidate reaches
+/// the floor 0 exactly if there is no candidate.
 ///
 /// A setting's index in the whole is its index in its part, counted on from where the part begins.
 pub fn the_best_part_has_the_optimum()
-    ensures optimum { (i : InputsView) (parts : ℕ) (outcome : ℕ → Option (ℕ × ℕ)) (number best total : ℕ) → 1 ≤ parts → parts ≤ setting_count i.template
-        → AreOutcomes i parts outcome → IsBestPart parts outcome number best total
-        → IsOutcome (problem_of (in_part i 1 1)) (Some (first_setting i number parts + best, total)) }
-    ensures none { (i : InputsView) (parts : ℕ) (outcome : ℕ → Option (ℕ × ℕ)) → 1 ≤ parts → parts ≤ setting_count i.template
-        → AreOutcomes i parts outcome → ((number : ℕ) → 1 ≤ number → number ≤ parts → outcome number ≡ None)
-        → IsOutcome (problem_of (in_part i 1 1)) None }
+    ensures best { (i : InputsView) (parts n : ℕ) (outcome : ℕ → Answer) (best : Best) → AreTuned i parts outcome → IsBestPart parts outcome n best
+        → IsBest (whole_of i) (in_whole i n parts best) }
+    ensures below { (i : InputsView) (parts floor : ℕ) (outcome : ℕ → Answer) → AreTuned i parts outcome → AllStayBelow floor parts outcome → AllBelow (whole_of i) floor }
+    ensures none { (p : Problem) → AllBelow p 0 ↔ ((v : ℕ) → v < p.count → p.warrior v ≡ None) }
 {}

@@ -35,7 +35,10 @@ pub fn setting_warrior(
 {
     let index = inputs.index_in_template(vector);
     match inputs.template().instance(alloc, index, inputs.rules()) {
-        Ok(warrior) => Ok(Some(warrior)),
+        Ok(warrior) => {
+            prove!(0 < warrior.code().len());
+            Ok(Some(warrior))
+        }
         Err(fault) => {
             if fault.kind == AsmKind::OutOfMemory {
                 return Err(OutOfMemory);

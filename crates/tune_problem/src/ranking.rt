@@ -49,10 +49,11 @@ impl Ranking {
         self.settings.first().copied()
     }
 
-    /// Puts setting `vector` in its place if cap `cap` contends, and lets the last go if it is then
-    /// one too many. `aim` keeps 1 or more. Fails only if out of memory.
+    /// Ranks setting `vector` with the total `cap`, if that contends: puts it before the first
+    /// setting that it beats, and removes the last one if there are then more than `aim` keeps.
+    ///
+    /// Fails only if out of memory.
     pub fn rank(&mut self, aim: Aim, cap: u32, vector: u32) -> Result<(), AllocError>
-        requires keep { 1 ≤ aim.keep }
         ensures { OnOk result (self.new ≡ next_ranking aim cap vector self.old) }
     {
         if !contends(aim, cap, vector, self.settings.as_slice()) {
@@ -66,13 +67,18 @@ impl Ranking {
     }
 }
 
-/// Checks whether cap `cap` of setting `vector` contends: it reaches the floor, and beats the last
-/// that is kept of `ranking`, if there are so many. `aim` keeps 1 or more.
+/// Checks whether cap `cap` of setting `vector` contends: it reaches the floor of `aim`, and beats
+/// the last setting that `aim` keeps of `ranking`. If `ranking` is shorter than that, the cap need
+/// only reach the floor.
 pub fn contends(aim: Aim, cap: u32, vector: u32, ranking: &[Best]) -> bool
-    requires keep { 1 ≤ aim.keep }
     ensures { result ≡ contends aim cap vector ranking.now }
 {
-    aim.floor <= cap && beats_lead(cap, vector, ranking.get(aim.keep as usize - 1).copied())
+    aim.floor <= cap
+        && beats_lead(
+            cap,
+            vector,
+            ranking.get((aim.keep as usize).saturating_sub(1)).copied(),
+        )
 }
 
 // Checks whether cap `cap` of setting `vector` beats the lead. Every cap does if there is none.

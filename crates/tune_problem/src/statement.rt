@@ -1,4 +1,4 @@
-//! What a certificate says of all settings.
+//! Statements: what the text of a certificate spells, whichever answer it has.
 
 use crate::cert::Rows;
 use crate::watcher::Best;
@@ -12,14 +12,15 @@ pub enum Answer {
     NoneFrom(u32),
 }
 
-/// What the text of a certificate spells, with either answer. With `Answer::Best` it is a `Cert`.
+/// What the text of a certificate spells, whichever answer it has. With `Answer::Best` it is a
+/// `Cert`.
 #[derive(Debug, Drop)]
 pub struct Statement {
     /// The version, 1 or 2. Version 1 is for schedules in which every fight has the weight 1.
     pub version: u32,
     /// The number of settings that the certificate claims.
     pub count: u32,
-    /// What it says of all settings.
+    /// Which setting is the best, or that none reaches a floor.
     pub answer: Answer,
     /// A row for each setting, in the order of the settings.
     pub rows: Rows,

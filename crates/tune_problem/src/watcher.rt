@@ -26,8 +26,8 @@ pub struct Best {
 
 /// Hears how far a search or a check is. No result depends on it.
 pub trait Watcher {
-    /// Called by the runs of `tune_runs` before the search or the check, with what their texts mean.
-    /// Searches and checks do not call it.
+    /// Called by the runs of `tune_runs` before the search or the check, with what their texts
+    /// mean. Searches and checks do not call it.
     fn begin(&mut self, inputs: &Inputs);
 
     /// Called after each setting.
