@@ -1,20 +1,15 @@
 -- The ranking that rows list is of their settings, and no longer than was asked for.
-use Rattle.std.proofs.Common.{◌≡◌, ℕ, zero, suc, ◌<◌, ◌≤◌, arith, Bool, true, false, List, [], Option, Some, None, length, take, refl, sym, ap, subst}
+use Rattle.std.proofs.Common.{◌≡◌, ℕ, zero, suc, ◌<◌, ◌≤◌, ◌^◌, IfSome, arith, Bool, true, false, List, [], Option, Some, None, length, take, refl, sym, ap, subst}
 use Rattle.std.specs.List.{AllByRecursion}
-use Rattle.std.specs.Option.{option_map, unwrap_or}
 use Rattle.std.proofs.lemmas.List.{length-take}
-use Rattle.tune_problem.specs.Limits.{MOST_KEPT}
 use Rattle.tune_problem.specs.Problem.{Problem}
 use Rattle.tune_problem.specs.Ranking.{contends, ranked, ranking_by}
 use Rattle.tune_problem.specs.Exact.{ranking_below, ranking_shown, total_at}
 use Rattle.tune_problem.specs.declared.aim.Aim.{Aim}
 use Rattle.tune_problem.specs.declared.cert.Row.{Row}
-use Rattle.tune_problem.specs.declared.statement.Answer.{Answer}
-use Rattle.tune_problem.specs.declared.statement.Answer.TheVariants.{Best as TheBest, NoneFrom}
 use Rattle.tune_problem.specs.declared.watcher.Best.{Best}
 use Rattle.tune_problem.proofs.Ranks.{all_map, all_ranked, all_take}
-use Rattle.tune_cert.specs.Judgement.{AreSettings, IsDemand, aim_for, ranking_for}
-use Rattle.tune_cert.specs.declared.demand.Demand.{Demand}
+use Rattle.tune_cert.specs.Judgement.{AreSettings, ranking_for}
 
 abbrev Under : ℕ → Best → Type 0
 Under k b = b.vector < k
@@ -49,23 +44,11 @@ module _ (p : Problem) (aim : Aim) (rows : List Row) where
   few zero = omega arith
   few (suc k) = few_shown k (total_at p rows k) (ranking_below p aim rows k) (few k)
 
-listed : (p : Problem) (rows : List Row) (aim : Option Aim) → length rows ≡ p.count → ((a : Aim) → aim ≡ Some a → a.keep ≤ MOST_KEPT) → AreSettings p.count (ranking_for p rows aim)
+listed : (p : Problem) (rows : List Row) (aim : Option Aim) → length rows ≡ p.count → IfSome aim (λ (a : Aim). a.keep < 2 ^ 32) → AreSettings p.count (ranking_for p rows aim)
 listed p rows None all most = (tt, omega arith)
 listed p rows (Some aim) all most =
-    let kept : aim.keep ≤ MOST_KEPT = most aim refl in
-    (subst (λ (n : ℕ). AllByRecursion (Under n) (ranking_for p rows (Some aim))) all (under p aim rows (length rows)), omega (arith, kept, few p aim rows (length rows)))
+    (subst (λ (n : ℕ). AllByRecursion (Under n) (ranking_for p rows (Some aim))) all (under p aim rows (length rows)), omega (arith, most, few p aim rows (length rows)))
 
-kept_few : (demand : Demand) (answer : Answer) → IsDemand demand → (a : Aim) → aim_for demand answer ≡ Some a → a.keep ≤ MOST_KEPT
-kept_few demand (NoneFrom floor) is a e = absurd (cc)
-kept_few demand (TheBest best) is a e = by_keep demand.keep refl e
-  where
-    by_keep : (o : Option ℕ) → demand.keep ≡ o → aim_for demand (TheBest best) ≡ Some a → a.keep ≤ MOST_KEPT
-    by_keep None none h = let gone : aim_for demand (TheBest best) ≡ None = rw none refl in absurd (cc)
-    by_keep (Some keep) some h =
-        let here : aim_for demand (TheBest best) ≡ Some (record { keep = keep; floor = unwrap_or demand.floor 0 }) = ap (option_map (λ k. record { keep = k; floor = unwrap_or demand.floor 0 })) some in
-        let same : keep ≡ a.keep = cc in
-        subst (λ (n : ℕ). n ≤ MOST_KEPT) same (is keep some).1
-
-pub of_settings : (p : Problem) (demand : Demand) (answer : Answer) (rows : List Row) (ranking : List Best) → IsDemand demand → length rows ≡ p.count
-    → ranking ≡ ranking_for p rows (aim_for demand answer) → AreSettings p.count ranking
-of_settings p demand answer rows ranking is all e = subst (AreSettings p.count) (sym e) (listed p rows (aim_for demand answer) all (kept_few demand answer is))
+pub of_settings : (p : Problem) (rows : List Row) (aim : Option Aim) (ranking : List Best) → IfSome aim (λ (a : Aim). a.keep < 2 ^ 32) → length rows ≡ p.count
+    → ranking ≡ ranking_for p rows aim → AreSettings p.count ranking
+of_settings p rows aim ranking few all e = subst (AreSettings p.count) (sym e) (listed p rows aim all few)

@@ -5,12 +5,23 @@ use Rattle.std.specs.List.{slice_get}
 use Rattle.std.proofs.lemmas.Bool.{and_from, and_left, and_right, eq-eqb, ne_eqb}
 use Rattle.rc_instr.specs.Warrior.{WarriorView}
 use Rattle.tune_problem.specs.Problem.{Problem}
+use Rattle.tune_problem.specs.Optimum.{beats}
+use Rattle.tune_problem.specs.Exact.{listed_cap}
 use Rattle.tune_problem.specs.declared.aim.Aim.{Aim}
 use Rattle.tune_problem.specs.declared.cert.Cert.{Cert}
 use Rattle.tune_problem.specs.declared.cert.Row.{Row}
 use Rattle.tune_problem.specs.declared.cert.Row.TheVariants.{Refused, Same, Cap}
 use Rattle.tune_cert.specs.Checks.{rises, are_fights, has_points, have_points, share_warrior, is_no_better, is_exact, cap_reason, listed_reason, reference_reason, unless, first_of}
 use Rattle.tune_cert.specs.declared.verdict.Reason.TheVariants.{WrongPoints, RepeatedFight, CapTooHigh, NotSame}
+
+-- ---- a cap, by the row that it is of
+
+module _ (p : Problem) (c : Cert) (v : ℕ) (row : List (ℕ × ℕ)) (cap : ℕ) (b : Bool) (is : cap ≡ listed_cap p row) where
+  pub lower_by : b ≡ not (beats cap v c.total c.best) → is_no_better p c v row ≡ b
+  lower_by e = ap (λ (n : ℕ). not (beats n v c.total c.best)) (sym is) ∙ sym e
+
+  pub low_by : b ≡ ((v == c.best) || not (beats cap v c.total c.best)) → ((v == c.best) || is_no_better p c v row) ≡ b
+  low_by e = ap (λ (n : ℕ). (v == c.best) || not (beats n v c.total c.best)) (sym is) ∙ sym e
 
 -- ---- a cap row
 

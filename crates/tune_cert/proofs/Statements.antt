@@ -5,6 +5,7 @@ use Rattle.std.specs.Option.{ok_or}
 use Rattle.std.proofs.lemmas.List.Elements.{All-nil, All-cons, All-head, All-tail}
 use Rattle.std.proofs.lemmas.Option.{same_Some, slice_get_within}
 use Rattle.rc_instr.specs.Results.{and_then, ◌>>=◌}
+use Rattle.rc_instr.proofs.Chains.{went_on}
 use Rattle.tables.specs.Records.{Fields}
 use Rattle.tune_problem.specs.declared.cert.Cert.{Cert}
 use Rattle.tune_problem.specs.declared.cert.Row.{Row}
@@ -22,11 +23,6 @@ same_Ok x y e = cc
 
 same_Err : {A E : Type 0} (x y : E) → ◌≡◌ {A = Result A E} (Err x) (Err y) → x ≡ y
 same_Err x y e = cc
-
--- a chain with a value had its first step's value
-went_on : {A B E : Type 0} (r : Result A E) (f : A → Result B E) (y : B) → and_then f r ≡ Ok y → (x : A) × (r ≡ Ok x) × (f x ≡ Ok y)
-went_on (Ok x) f y e = (x, refl, e)
-went_on (Err d) f y e = absurd (cc)
 
 -- a chain with a fault has it from its first step or from what follows
 stopped : {A B E : Type 0} (r : Result A E) (f : A → Result B E) (d : E) → and_then f r ≡ Err d → (r ≡ Err d) ⊎ ((x : A) × (r ≡ Ok x) × (f x ≡ Err d))

@@ -62,7 +62,7 @@ abbrev pub is_no_better : Problem → Cert → ℕ → List (ℕ × ℕ) → Boo
 is_no_better p c v row = not (beats (listed_cap p row) v c.total c.best)
 
 -- A row, as one of setting v, lists every fight, or its cap does not contend with the ranking that
--- the rows list. Without an aim every row will do.
+-- the rows list. Without an aim every row is exact.
 unfoldable pub is_exact : Problem → Option Aim → List Row → ℕ → List (ℕ × ℕ) → Bool
 is_exact p None rows v row = true
 is_exact p (Some aim) rows v row = lists_all p.fights 0 row || not (contends aim (listed_cap p row) v (listed_ranking p aim rows))

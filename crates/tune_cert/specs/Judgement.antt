@@ -1,10 +1,9 @@
 -- Checks with a demand: certificates with either answer, and those that show the first of the
 -- ranking.
-use Rattle.std.specs.Prelude.{◌≡◌, ℕ, ◌<◌, ◌≤◌, Bool, false, ◌==◌, List, [], length, slice_get, Option, Some, None, option_map, Result, Ok, Err}
+use Rattle.std.specs.Prelude.{◌≡◌, ℕ, ◌<◌, ◌≤◌, ◌^◌, Bool, false, ◌==◌, List, [], length, slice_get, Option, Some, None, option_map, Result, Ok, Err}
 use Rattle.std.specs.List.{AllByRecursion}
 use Rattle.std.specs.Option.{unwrap_or, is_some}
 use Rattle.tables.specs.Records.{Fields}
-use Rattle.tune_problem.specs.Limits.{MOST_KEPT}
 use Rattle.tune_problem.specs.Problem.{Problem}
 use Rattle.tune_problem.specs.Valid.{IsValid}
 use Rattle.tune_problem.specs.Below.{IsValidBelow, cert_with}
@@ -29,10 +28,6 @@ use Rattle.tune_cert.specs.declared.verdict.Judgement.TheVariants.{Accepted, Rej
 
 -- ---- demands
 
--- Of a ranking 1 to `MOST_KEPT` settings may be asked for.
-abbrev pub IsDemand : Demand → Type 0
-IsDemand demand = (keep : ℕ) → demand.keep ≡ Some keep → (1 ≤ keep) × (keep ≤ MOST_KEPT)
-
 -- Nothing beside the optimum is asked for.
 abbrev pub no_demand : Demand
 no_demand = record { keep = None; floor = None }
@@ -55,7 +50,7 @@ claim_of p (NoneFrom floor) = record { vector = p.count; total = floor }
 abbrev pub as_cert : Problem → Statement → Cert
 as_cert p s = cert_with s.version s.count s.rows (claim_of p s.answer)
 
--- A floor is the one that is asked for.
+-- A floor is asked for, and it is `floor`.
 abbrev pub is_floor : ℕ → Option ℕ → Bool
 is_floor floor None = false
 is_floor floor (Some asked) = floor == asked
@@ -77,8 +72,8 @@ abbrev pub ranking_for : Problem → List Row → Option Aim → List Best
 ranking_for p rows None = []
 ranking_for p rows (Some aim) = listed_ranking p aim rows
 
--- The judgement by the first failure: if there is none, the answer, and the ranking that the rows
--- list.
+-- The judgement by the first failure. Without one it accepts, with the answer and the ranking that
+-- the rows list.
 abbrev pub judgement_by : Answer → List Best → Option (ℕ × Reason) → Judgement
 judgement_by answer ranking None = Accepted answer ranking
 judgement_by answer ranking (Some failure) = Rejected failure.0 failure.1
@@ -101,11 +96,11 @@ judgement_on_read p demand share (Err number) = Rejected number Malformed
 abbrev pub judgement_of : Problem → Demand → Part → List Fields → Judgement
 judgement_of p demand share records = judgement_on_read p demand share (statement_of (is_some demand.floor) records)
 
--- A ranking is of settings below the count, at most `MOST_KEPT` of them.
+-- The settings are below the count, and fewer than 2^32.
 abbrev pub AreSettings : (count : ℕ) → List Best → Type 0
-AreSettings count ranking = AllByRecursion (λ (b : Best). b.vector < count) ranking × (length ranking ≤ MOST_KEPT)
+AreSettings count ranking = AllByRecursion (λ (b : Best). b.vector < count) ranking × (length ranking < 2 ^ 32)
 
--- The ranking of a judgement is.
+-- The ranking of a judgement that accepts has such settings.
 abbrev pub IsOfSettings : (count : ℕ) → Judgement → Type 0
 IsOfSettings count (Accepted answer ranking) = AreSettings count ranking
 IsOfSettings count (Rejected number reason) = Unit {0}

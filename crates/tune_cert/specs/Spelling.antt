@@ -67,7 +67,7 @@ abbrev pub none_of : Fields → Option Answer
 none_of (name ∷ dash ∷ floor ∷ []) = if bytes_eq name (codes "none") && bytes_eq dash (codes "-") then option_map (λ f. NoneFrom f) (decimal_of floor) else None
 none_of _ = None
 
--- Either answer, or with no `floors` a best setting alone.
+-- Either answer; without `floors`, only a best setting.
 abbrev pub answer_of : (floors : Bool) → Fields → Option Answer
 answer_of floors fields = option_or (best_of fields) (if floors then none_of fields else None)
 
@@ -84,7 +84,7 @@ abbrev pub row_of : (v : ℕ) → Fields → Option Row
 row_of v (kind ∷ setting ∷ last ∷ []) = option_and_then (λ u. if u == v then row_by kind last else None) (decimal_of setting)
 row_of v _ = None
 
--- The record of setting v's row: record 0 is the count, and record 1 the best setting.
+-- The record of setting v's row: record 0 is the count, and record 1 the answer.
 abbrev pub record_of : ℕ → ℕ
 record_of v = v + 2
 

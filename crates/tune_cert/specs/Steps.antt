@@ -24,6 +24,7 @@ pub record IsReady {W : Type 0} (writer : Writer W) : Type 0 where
   pub fields : fields_written writer ≡ 0
   pub wrote : has_written writer ≡ false
 
--- The writer appended this text to what it had written before.
-abbrev pub AddsText : Writer (Vec ℕ) → Writer (Vec ℕ) → List ℕ → Type 0
-AddsText old new text = Appends (text_written (λ v. Some v.items) old) (text_written (λ v. Some v.items) new) text
+-- The writer appended this text to what it had written before, and is between two records again.
+pub record AddsText (old new : Writer (Vec ℕ)) (text : List ℕ) : Type 0 where
+  pub ready : IsReady new
+  pub added : Appends (text_written (λ v. Some v.items) old) (text_written (λ v. Some v.items) new) text

@@ -6,7 +6,7 @@ ghost use Rattle.tune_problem.specs.Parts.{whole, part};
 ghost use Rattle.tune_problem.specs.Problem.{problem_of};
 ghost use Rattle.tune_cert.specs.Checks.{wrong_alone, wrong_same, rows_failure, settings_between, share_settings, fights_listed, PlaysAtMost, is_version_of, has_row_count};
 ghost use Rattle.tune_cert.specs.Verdict.{verdict_on, IsVerdictOf};
-ghost use Rattle.tune_cert.specs.Judgement.{IsDemand, is_answered, as_cert, judgement_on, judgement_of, IsOfSettings};
+ghost use Rattle.tune_cert.specs.Judgement.{is_answered, as_cert, judgement_on, judgement_of, IsOfSettings};
 
 use crate::demand::Demand;
 use crate::fault::{CheckFault, ReadFault};
@@ -87,10 +87,10 @@ pub fn check_share<T: Watcher>(
 ///
 /// With `keep` a certificate that names a best setting has to show the first of the ranking too.
 /// The settings of which every fight is listed, by their own rows or by those to which they refer,
-/// are ranked by their listed totals. Of any other setting that assembles the cap must not contend
+/// are ranked by their listed totals. The cap of any other setting that assembles must not contend
 /// with the first `keep` of these (else `CapTooHigh`, as the last reason of its row). So whatever
-/// `check` rejects is rejected at the same record or an earlier one. All shares accept a
-/// certificate exactly if the whole does, each with the same answer and ranking.
+/// `check` rejects is rejected at the same record, or at one that is checked before it. All shares
+/// accept a certificate exactly if the whole does, each with the same answer and ranking.
 ///
 /// Without a demand this is `check_share`. Reserves no more than that and the ranking.
 ///
@@ -105,7 +105,6 @@ pub fn check_for<T: Watcher>(
     bytes: &[u8],
     watcher: &mut T,
 ) -> Result<Judgement, CheckFault>
-    requires demand { IsDemand demand }
     // The judgement is that of the share on the statement that the bytes spell, or Malformed.
     ensures judgement { IfOk result (λ j. j ≡ judgement_of (problem_of inputs.now) demand (part share.number share.shares) (records_of bytes.now)) }
     ensures settings { IfOk result (IsOfSettings (problem_of inputs.now).count) }
@@ -128,7 +127,6 @@ fn check_rows_alone<T: Watcher>(
     watcher: &mut T,
 ) -> Result<Option<(u64, Reason)>, CheckFault>
     requires blank { IsBlank claim.now.inputs.now.rules arena.old }
-    requires rows { length claim.now.cert.now.rows ≡ (problem_of claim.now.inputs.now).count }
     requires inside { end ≤ (problem_of claim.now.inputs.now).count }
     ensures wrong { IfOk result (λ o. o ≡ wrong_alone (problem_of claim.now.inputs.now) claim.now.cert.now claim.now.aim (settings_between first end)) }
 
@@ -158,7 +156,6 @@ fn check_rows_same<T: Watcher>(
     standing: &mut Standing,
     watcher: &mut T,
 ) -> Result<Option<(u64, Reason)>, CheckFault>
-    requires rows { length claim.now.cert.now.rows ≡ (problem_of claim.now.inputs.now).count }
     requires inside { end ≤ (problem_of claim.now.inputs.now).count }
     ensures wrong { IfOk result (λ o. o ≡ wrong_same (problem_of claim.now.inputs.now) claim.now.cert.now claim.now.aim (settings_between first end)) }
 {
@@ -205,8 +202,8 @@ fn malformed(index: u64) -> Verdict
     }
 }
 
-// Returns the best setting that a certificate names, for the watcher. That of one without a best
-// setting is after the last.
+// Returns the best setting of a certificate, for the watcher. A certificate without one claims the
+// setting after the last.
 fn named_best(claim: &Claim<'_>) -> Option<Best> {
     if claim.cert.best >= claim.inputs.count() {
         return None;
@@ -226,13 +223,12 @@ fn check_rows<T: Watcher>(
     watcher: &mut T,
 ) -> Result<Option<(u64, Reason)>, CheckFault>
     requires blank { IsBlank claim.now.inputs.now.rules arena.old }
-    requires rows { length claim.now.cert.now.rows ≡ (problem_of claim.now.inputs.now).count }
-    ensures wrong { let p = problem_of claim.now.inputs.now in
-        IfOk result (λ o. o ≡ rows_failure p claim.now.cert.now claim.now.aim (share_settings (part share.number share.shares) p.count)) }
+    ensures wrong { let c = claim.now in let p = problem_of c.inputs.now in
+        IfOk result (λ o. o ≡ rows_failure p c.cert.now c.aim (share_settings (part share.number share.shares) p.count)) }
 
     // At most as many fights are played as the rows of the share list.
-    ensures most { let settings = share_settings (part share.number share.shares) (problem_of claim.now.inputs.now).count in
-        PlaysAtMost arena.old arena.new (fights_listed claim.now.cert.now.rows settings) }
+    ensures most { PlaysAtMost arena.old arena.new
+        (fights_listed claim.now.cert.now.rows (share_settings (part share.number share.shares) (problem_of claim.now.inputs.now).count)) }
 {
     let count = claim.inputs.count();
     let first = share.first(count);
@@ -322,9 +318,8 @@ fn check_claim<T: Watcher>(
     share: Share,
     watcher: &mut T,
 ) -> Result<Option<(u64, Reason)>, CheckFault>
-    requires rows { length claim.now.cert.now.rows ≡ (problem_of claim.now.inputs.now).count }
-    ensures wrong { let p = problem_of claim.now.inputs.now in
-        IfOk result (λ o. o ≡ rows_failure p claim.now.cert.now claim.now.aim (share_settings (part share.number share.shares) p.count)) }
+    ensures wrong { let c = claim.now in let p = problem_of c.inputs.now in
+        IfOk result (λ o. o ≡ rows_failure p c.cert.now c.aim (share_settings (part share.number share.shares) p.count)) }
 {
     let mut arena = Arena::<PackedCells>::try_new(alloc, claim.inputs.rules())?;
     check_rows(alloc, &mut arena, claim, share, watcher)
@@ -339,7 +334,6 @@ fn check_statement<T: Watcher>(
     statement: Statement,
     watcher: &mut T,
 ) -> Result<Judgement, CheckFault>
-    requires demand { IsDemand demand }
     ensures judgement { IfOk result (λ j. j ≡ judgement_on (problem_of inputs.now) demand (part share.number share.shares) statement) }
     ensures settings { IfOk result (IsOfSettings (problem_of inputs.now).count) }
 {

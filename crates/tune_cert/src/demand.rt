@@ -1,16 +1,18 @@
-//! What a check is asked for, beside the optimum.
-ghost use Rattle.std.specs.Prelude.{◌≡◌};
+//! The demand of a check.
+ghost use Rattle.std.specs.Prelude.{◌≡◌, ◌<◌, ◌^◌, IfSome};
 ghost use Rattle.tune_cert.specs.Judgement.{aim_for};
 
 use tune_problem::{Aim, Answer};
 
-/// What a check is asked for, beside the optimum. With neither it is what `check` is asked for.
+/// What a check is asked for, beside the optimum. With neither `keep` nor `floor` that is the
+/// optimum alone, as by `check`.
 #[derive(Clone, Copy, Debug, PartialEq, Eq)]
 pub struct Demand {
-    /// How many settings of the ranking the rows have to show, 1 to 1000. With a floor these are of
-    /// the settings that reach it.
+    /// How many of the first of the ranking the rows have to show, 1 to 1000. With `floor`, the
+    /// ranking is of the settings that total it or more.
     pub keep: Option<u32>,
-    /// The floor that a certificate without a best setting has to state.
+    /// The floor that a certificate may say no setting reaches. Without `floor`, a certificate has
+    /// to name a best setting.
     pub floor: Option<u32>,
 }
 
@@ -18,7 +20,8 @@ impl Demand {
     // Returns the aim for which the rows have to be exact, if a ranking is asked for and `answer`
     // names a best setting.
     pub(crate) fn aim_for(self, answer: Answer) -> Option<Aim>
-        ensures { result ≡ aim_for self answer }
+        ensures aim { result ≡ aim_for self answer }
+        ensures few { IfSome result (λ aim. aim.keep < 2 ^ 32) }
     {
         let Answer::Best(_) = answer else {
             return None;

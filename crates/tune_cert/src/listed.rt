@@ -3,7 +3,6 @@ ghost use Rattle.std.specs.Prelude.{◌≡◌, ◌≤◌, length, Some, None, If
 ghost use Rattle.tune_problem.specs.Problem.{problem_of};
 ghost use Rattle.tune_problem.specs.Exact.{listed_at, listed_ranking, total_at};
 ghost use Rattle.tune_cert.specs.Judgement.{ranking_for};
-ghost use Rattle.tune_problem.specs.declared.aim.Aim.{Aim as AimView};
 
 use crate::row_checks::{cap_row, listed_total, lists_all};
 use std::alloc::{AllocError, Global};
@@ -17,7 +16,6 @@ pub(crate) fn ranking_for(
     rows: &Rows,
     aim: Option<Aim>,
 ) -> Result<Ranking, AllocError>
-    requires keep { (a : AimView) → aim ≡ Some a → 1 ≤ a.keep }
     requires count { length rows.now ≡ (problem_of inputs.now).count }
     ensures { IfOk result (λ r. r ≡ ranking_for (problem_of inputs.now) rows.now aim) }
 {
@@ -34,7 +32,6 @@ fn listed_ranking(
     rows: &Rows,
     aim: Aim,
 ) -> Result<Ranking, AllocError>
-    requires keep { 1 ≤ aim.keep }
     requires count { length rows.now ≡ (problem_of inputs.now).count }
     ensures { IfOk result (λ r. r ≡ listed_ranking (problem_of inputs.now) aim rows.now) }
 {

@@ -286,7 +286,8 @@ fn number_of(text: &[u8]) -> Option<u32>
 
 // Cuts at the first `byte`: returns what is before it, and what is after it if it is there.
 fn cut(byte: u8, bytes: &[u8]) -> (&[u8], Option<&[u8]>)
-    ensures parts { MatchOption result.1 (slice_split (λ b. b == byte) bytes.now ≡ result.0.now ∷ []) (λ rest. slice_split (λ b. b == byte) bytes.now ≡ result.0.now ∷ slice_split (λ b. b == byte) rest.now) }
+    ensures parts { let split = slice_split (λ b. b == byte) in
+        MatchOption result.1 (split bytes.now ≡ result.0.now ∷ []) (λ rest. split bytes.now ≡ result.0.now ∷ split rest.now) }
     ensures shorter { IfSome result.1 (λ rest. length rest.now < length bytes.now) }
 {
     match index_of(byte, bytes) {

@@ -1,5 +1,5 @@
 //! Checks single rows of a certificate.
-ghost use Rattle.std.specs.Prelude.{◌≡◌, ◌↔◌, ◌<◌, ◌==◌, ◌||◌, IsTrue, IfOk, IfSome, IfNone, None, Some, Option, length, ◌+◌, ◌*◌, ◌≤◌, ◌^◌, ℕ, List, true, slice_get};
+ghost use Rattle.std.specs.Prelude.{◌≡◌, ◌↔◌, ◌<◌, ◌==◌, ◌||◌, not, IsTrue, IfOk, IfSome, IfNone, None, Some, Option, length, ◌+◌, ◌*◌, ◌≤◌, ◌^◌, ℕ, List, true, slice_get};
 ghost use Rattle.mars_core.specs.Arena.{IsBlank};
 ghost use Rattle.mars_fight.specs.Limits.{MOST_FIGHTS, MOST_WEIGHT};
 ghost use Rattle.rc_instr.specs.Warrior.{Fits};
@@ -32,7 +32,9 @@ pub(crate) struct Claim<'a> {
     // The aim for which the rows have to be exact, and the ranking that they list for it.
     pub(crate) aim: Option<Aim>,
     pub(crate) ranking: &'a Ranking,
-    ghost listed: { (a : AimView) → aim ≡ Some a → (1 ≤ a.keep) × (ranking.now ≡ listed_ranking (problem_of inputs.now) a cert.now.rows) },
+    ghost listed: { (a : AimView) → aim ≡ Some a → ranking.now ≡ listed_ranking (problem_of inputs.now) a cert.now.rows },
+    // There is a row for each setting.
+    ghost counted: { length cert.now.rows ≡ (problem_of inputs.now).count },
 }
 
 // Returns what is wrong with a refused or a cap row, and passes over a row that refers to another
@@ -54,7 +56,10 @@ pub(crate) fn check_alone<T: Watcher>(
     ensures most { PlaysAtMost arena.old arena.new (listed_in row.now) }
 {
     match row {
-        Row::Refused => check_refused(alloc, claim, vector),
+        Row::Refused => match setting_warrior(alloc, claim.inputs, vector)? {
+            Some(_) => Ok(Some(Reason::NotRefused)),
+            None => Ok(None),
+        },
         Row::Same(_) => Ok(None),
         Row::Cap(listed) => check_cap(alloc, arena, claim, vector, listed.as_slice(), watcher),
     }
@@ -71,7 +76,6 @@ pub(crate) fn check_same(
 ) -> Result<Option<Reason>, CheckFault>
     requires inside { vector < (problem_of claim.now.inputs.now).count }
     requires assembled { AreAssembled (problem_of claim.now.inputs.now) warriors.old.items }
-    requires rows { length claim.now.cert.now.rows ≡ (problem_of claim.now.inputs.now).count }
     ensures reason { IfOk result (λ o. o ≡ same_reason (problem_of claim.now.inputs.now) claim.now.cert.now claim.now.aim vector row.now) }
     ensures assembled { AreAssembled (problem_of claim.now.inputs.now) warriors.new.items }
 {
@@ -154,21 +158,6 @@ fn have_points<T: Watcher>(
     true
 }
 
-// Checks a refused row: its setting must not assemble.
-fn check_refused(
-    alloc: Global,
-    claim: &Claim<'_>,
-    vector: u32,
-) -> Result<Option<Reason>, CheckFault>
-    requires inside { vector < (problem_of claim.now.inputs.now).count }
-    ensures { IfOk result (λ o. o ≡ alone_reason (problem_of claim.now.inputs.now) claim.now.cert.now claim.now.aim vector Refused) }
-{
-    match setting_warrior(alloc, claim.inputs, vector)? {
-        Some(_) => Ok(Some(Reason::NotRefused)),
-        None => Ok(None),
-    }
-}
-
 // Checks a cap row: its fights, then its points, then its cap.
 fn check_cap<T: Watcher>(
     alloc: Global,
@@ -193,10 +182,11 @@ fn check_cap<T: Watcher>(
     if !have_points(arena, claim.inputs, &warrior, listed, watcher) {
         return Ok(Some(Reason::WrongPoints));
     }
-    if !is_best_or_no_better(claim, vector, listed) {
+    let cap = listed_cap(claim.inputs, listed);
+    if !is_best_or_no_better(claim, vector, cap) {
         return Ok(Some(Reason::CapTooHigh));
     }
-    if !is_exact(claim, vector, listed) {
+    if !is_exact(claim, vector, listed, cap) {
         return Ok(Some(Reason::CapTooHigh));
     }
     Ok(None)
@@ -236,7 +226,6 @@ fn check_reference(
 ) -> Result<Option<Reason>, CheckFault>
     requires inside { vector < (problem_of claim.now.inputs.now).count }
     requires assembled { AreAssembled (problem_of claim.now.inputs.now) warriors.old.items }
-    requires rows { length claim.now.cert.now.rows ≡ (problem_of claim.now.inputs.now).count }
     ensures reason { IfOk result (λ o. o ≡ reference_reason (problem_of claim.now.inputs.now) claim.now.cert.now claim.now.aim vector other (slice_get claim.now.cert.now.rows other)) }
     ensures assembled { AreAssembled (problem_of claim.now.inputs.now) warriors.new.items }
 {
@@ -262,10 +251,11 @@ fn check_reference(
     if !are_fights(claim.inputs, listed) {
         return Ok(Some(Reason::NotSame));
     }
-    if !is_no_better(claim, vector, listed) {
+    let cap = listed_cap(claim.inputs, listed);
+    if !is_no_better(claim, vector, cap) {
         return Ok(Some(Reason::CapTooHigh));
     }
-    if !is_exact(claim, vector, listed) {
+    if !is_exact(claim, vector, listed, cap) {
         return Ok(Some(Reason::CapTooHigh));
     }
     Ok(None)
@@ -334,39 +324,30 @@ fn listed_cap(inputs: &Inputs, listed: &[(u32, u8)]) -> u32
     listed_total(inputs, listed) + (greatest - most)
 }
 
-// Checks whether the cap of a row, as one of setting `vector`, does not beat the best setting of
-// the certificate.
-fn is_no_better(claim: &Claim<'_>, vector: u32, listed: &[(u32, u8)]) -> bool
-    requires rising { rises 0 listed.now ≡ true }
-    requires fights { are_fights (problem_of claim.now.inputs.now) listed.now ≡ true }
-    ensures { result ≡ is_no_better (problem_of claim.now.inputs.now) claim.now.cert.now vector listed.now }
+// Checks whether cap `cap` of setting `vector` does not beat the best setting of the certificate.
+fn is_no_better(claim: &Claim<'_>, vector: u32, cap: u32) -> bool
+    ensures { result ≡ not (beats cap vector claim.now.cert.now.total claim.now.cert.now.best) }
 {
-    !beats(
-        listed_cap(claim.inputs, listed),
-        vector,
-        Best {
-            vector: claim.cert.best,
-            total: claim.cert.total,
-        },
-    )
+    let best = Best {
+        vector: claim.cert.best,
+        total: claim.cert.total,
+    };
+    !beats(cap, vector, best)
 }
 
-// Checks whether setting `vector` is the best setting of the certificate, or its cap does not beat
-// that one.
-fn is_best_or_no_better(claim: &Claim<'_>, vector: u32, listed: &[(u32, u8)]) -> bool
-    requires rising { rises 0 listed.now ≡ true }
-    requires fights { are_fights (problem_of claim.now.inputs.now) listed.now ≡ true }
-    ensures { result ≡ ((vector == claim.now.cert.now.best) || is_no_better (problem_of claim.now.inputs.now) claim.now.cert.now vector listed.now) }
+// Checks whether setting `vector` is the best setting of the certificate, or cap `cap` does not
+// beat the best setting.
+fn is_best_or_no_better(claim: &Claim<'_>, vector: u32, cap: u32) -> bool
+    ensures { result ≡ ((vector == claim.now.cert.now.best) || not (beats cap vector claim.now.cert.now.total claim.now.cert.now.best)) }
 {
-    vector == claim.cert.best || is_no_better(claim, vector, listed)
+    vector == claim.cert.best || is_no_better(claim, vector, cap)
 }
 
-// Checks whether a row, as one of setting `vector`, lists every fight, or its cap does not contend
-// with the ranking that the rows list. Without an aim every row will do.
+// Checks whether a row, as one of setting `vector`, lists every fight, or its cap `cap` does not
+// contend with the ranking that the rows list. Without an aim every row is exact.
 #[tactic(auto, unfolding(crate::specs::Checks::is_exact))]
-fn is_exact(claim: &Claim<'_>, vector: u32, listed: &[(u32, u8)]) -> bool
-    requires rising { rises 0 listed.now ≡ true }
-    requires fights { are_fights (problem_of claim.now.inputs.now) listed.now ≡ true }
+fn is_exact(claim: &Claim<'_>, vector: u32, listed: &[(u32, u8)], cap: u32) -> bool
+    requires { cap ≡ listed_cap (problem_of claim.now.inputs.now) listed.now }
     ensures { result ≡ is_exact (problem_of claim.now.inputs.now) claim.now.aim claim.now.cert.now.rows vector listed.now }
 {
     let Some(aim) = claim.aim else {
@@ -375,6 +356,5 @@ fn is_exact(claim: &Claim<'_>, vector: u32, listed: &[(u32, u8)]) -> bool
     if lists_all(fight_count(claim.inputs), listed) {
         return true;
     }
-    let cap = listed_cap(claim.inputs, listed);
     !contends(aim, cap, vector, claim.ranking.as_slice())
 }

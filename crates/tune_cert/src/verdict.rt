@@ -11,7 +11,8 @@ pub enum Reason {
     /// count.
     RowCount,
     /// The row of the best setting does not list every fight in order, or its points, each times
-    /// the weight of the fight, do not add up to the total.
+    /// the weight of the fight, do not add up to the total. In a check with a demand also: the
+    /// certificate states another floor than the one that is asked for.
     BestRow,
     /// A cap row names a setting that does not assemble, a fight that does not exist, or points
     /// other than the fight's.
@@ -19,8 +20,8 @@ pub enum Reason {
     /// A cap row lists a fight twice, or its fights are not in order.
     RepeatedFight,
     /// The cap of a row beats the best setting, so the row does not show that its setting is not
-    /// better. In a check with a demand it may also reach the floor, or contend for a place in the
-    /// ranking while some fights are not listed.
+    /// better. In a check with a demand also: the cap reaches the floor that no setting is said to
+    /// reach, or some fights are not listed and the cap contends for a place in the ranking.
     CapTooHigh,
     /// A row refers to itself, to a setting that does not exist, to a row that is not a cap row of
     /// rising fights that exist, or to a setting with another warrior.
@@ -59,8 +60,8 @@ pub enum Judgement {
     Accepted {
         /// What the certificate says of all settings.
         answer: Answer,
-        /// The first of the ranking, as many as the demand keeps. Without `keep`, and if no setting
-        /// reaches the floor, there are none.
+        /// The first `keep` of the ranking; empty without `keep`, and if no setting reaches the
+        /// floor.
         ranking: Ranking,
     },
     /// The certificate does not meet the demand.

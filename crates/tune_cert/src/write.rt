@@ -132,8 +132,7 @@ fn write_record(
     third: &[u8],
 ) -> Result<(), OutOfMemory>
     requires { IsReady writer.old }
-    ensures ready { OnOk result (IsReady writer.new) }
-    ensures text { OnOk result (AddsText writer.old writer.new (row_text default_writer (first.now ∷ second.now ∷ third.now ∷ []))) }
+    ensures { OnOk result (AddsText writer.old writer.new (row_text default_writer (first.now ∷ second.now ∷ third.now ∷ []))) }
 {
     writer
         .write_fields(&[first, second, third])
@@ -149,8 +148,7 @@ fn write_row(
     row: &Row,
 ) -> Result<(), OutOfMemory>
     requires { IsReady writer.old }
-    ensures ready { OnOk result (IsReady writer.new) }
-    ensures text { OnOk result (AddsText writer.old writer.new (row_text default_writer (row_fields vector row.now))) }
+    ensures { OnOk result (AddsText writer.old writer.new (row_text default_writer (row_fields vector row.now))) }
 {
     let mut buffer = Buffer::new();
     let setting = buffer.format(vector).as_bytes();
@@ -179,8 +177,7 @@ fn write_numbers(
     second: u32,
 ) -> Result<(), OutOfMemory>
     requires { IsReady writer.old }
-    ensures ready { OnOk result (IsReady writer.new) }
-    ensures text { OnOk result (AddsText writer.old writer.new (row_text default_writer (word.now ∷ decimal first ∷ decimal second ∷ []))) }
+    ensures { OnOk result (AddsText writer.old writer.new (row_text default_writer (word.now ∷ decimal first ∷ decimal second ∷ []))) }
 {
     write_record(
         writer,
@@ -193,8 +190,7 @@ fn write_numbers(
 fn write_rows(alloc: Global, writer: &mut Writer<Vec<u8>>, rows: &[Row]) -> Result<(), OutOfMemory>
     requires ready { IsReady writer.old }
     requires few { length rows.now < 2 ^ 32 }
-    ensures ready { OnOk result (IsReady writer.new) }
-    ensures text { OnOk result (AddsText writer.old writer.new (records_text (rows_fields rows.now 0))) }
+    ensures { OnOk result (AddsText writer.old writer.new (records_text (rows_fields rows.now 0))) }
 {
     let mut list = Vec::new(alloc);
     let mut vector = 0u32;
@@ -207,8 +203,7 @@ fn write_rows(alloc: Global, writer: &mut Writer<Vec<u8>>, rows: &[Row]) -> Resu
 
 fn write_answer_record(writer: &mut Writer<Vec<u8>>, answer: Answer) -> Result<(), OutOfMemory>
     requires { IsReady writer.old }
-    ensures ready { OnOk result (IsReady writer.new) }
-    ensures text { OnOk result (AddsText writer.old writer.new (row_text default_writer (answer_fields answer))) }
+    ensures { OnOk result (AddsText writer.old writer.new (row_text default_writer (answer_fields answer))) }
 {
     match answer {
         Answer::Best(best) => write_numbers(writer, b"best", best.vector, best.total),

@@ -11,7 +11,7 @@ returns-in-Some g c =
     let cert = c.args.claim.now.cert.now in
     let v = c.loop-vector.vector in
     let row = c.index-rows-vector.result in
-    let l : v < length cert.rows = omega (arith, c.loop-vector-test.true, c.requires.inside, c.requires.rows) in
+    let l : v < length cert.rows = omega (arith, c.loop-vector-test.true, c.requires.inside, c.args.claim.now.counted) in
     let at : slice_get cert.rows v ≡ Some row = row_here cert.rows c.as_slice-rows.result.now v row c.as_slice-rows.ensures l c.index-rows-vector.is in
     record {
       wrong = ap (λ n. Some (n, c.in-Some.reason)) (c.record_of.ensures ∙ ap record_of c.from.ensures)
@@ -24,7 +24,7 @@ loop-vector-preserved g c =
     let cert = c.args.claim.now.cert.now in
     let v = c.loop-vector.vector in
     let row = c.index-rows-vector.result in
-    let l : v < length cert.rows = omega (arith, c.loop-vector-test.true, c.requires.inside, c.requires.rows) in
+    let l : v < length cert.rows = omega (arith, c.loop-vector-test.true, c.requires.inside, c.args.claim.now.counted) in
     let at : slice_get cert.rows v ≡ Some row = row_here cert.rows c.as_slice-rows.result.now v row c.as_slice-rows.ensures l c.index-rows-vector.is in
     record {
       wrong = c.loop-vector.invariant.wrong

@@ -4,7 +4,7 @@ use Rattle.tune_problem.specs.Problem.{problem_of}
 use Rattle.tune_problem.specs.declared.cert.Row.TheVariants.{Cap}
 use Rattle.tune_cert.specs.Checks.{share_warrior}
 use Rattle.tune_cert.proofs.EqualWarriors.{share_test, none_shared, shared_none}
-use Rattle.tune_cert.proofs.Reasons.{to_itself, to_another, to_falling, to_no_fights, to_fine, to_contending, to_high}
+use Rattle.tune_cert.proofs.Reasons.{lower_by, to_itself, to_another, to_falling, to_no_fights, to_fine, to_contending, to_high}
 use Rattle.tune_cert.proofs.row_checks.check_reference.Goals as goal
 
 pub returns-then-other-vector-clause-reason : goal.returns-then-other-vector-clause-reason
@@ -20,13 +20,13 @@ returns-in_default-2-clause-reason c =
 pub assemble_once-requires-clause-inside : goal.assemble_once-requires-clause-inside
 assemble_once-requires-clause-inside c =
     let within : c.args.other < length c.args.claim.now.cert.now.rows = slice_get_within c.args.claim.now.cert.now.rows c.args.other (Cap c.in-Some.listed.now) c.in-Some.ensures.some in
-    omega (arith, within, c.requires.rows)
+    omega (arith, within, c.args.claim.now.counted)
 
 pub index-requires : goal.index-requires
 index-requires c =
     let within : c.args.other < length c.args.claim.now.cert.now.rows = slice_get_within c.args.claim.now.cert.now.rows c.args.other (Cap c.in-Some.listed.now) c.in-Some.ensures.some in
     let many = c.in_ok-assemble_once.ensures.assembled.as_many in
-    omega (arith, within, c.requires.rows, many)
+    omega (arith, within, c.args.claim.now.counted, many)
 
 pub returns-in_default-index-clause-reason : goal.returns-in_default-index-clause-reason
 returns-in_default-index-clause-reason c =
@@ -65,7 +65,7 @@ returns-then-not-is_no_better-clause-reason c =
     let one : share_warrior (p.warrior c.args.vector) (p.warrior c.args.other) ≡ true =
     share_test _ _ c.in-Some-2.own c.in-Some-index.theirs true own theirs c.if-not-is_same_warrior.ensures.0 c.if-not-is_same_warrior.ensures.1 in
     to_high p c.args.claim.now.cert.now c.args.claim.now.aim c.args.vector c.args.other c.in-Some.listed.now c.in-Some.ensures.some c.if-other-vector.false one
-    (sym c.if-not-is_rising.ensures) (sym c.if-not-are_fights.ensures) (sym c.if-not-is_no_better.ensures)
+    (sym c.if-not-is_rising.ensures) (sym c.if-not-are_fights.ensures) (lower_by p c.args.claim.now.cert.now c.args.vector c.in-Some.listed.now _ _ c.listed_cap-cap.ensures c.if-not-is_no_better.ensures)
 
 pub returns-then-not-is_exact-clause-reason : goal.returns-then-not-is_exact-clause-reason
 returns-then-not-is_exact-clause-reason c =
@@ -77,7 +77,7 @@ returns-then-not-is_exact-clause-reason c =
     let one : share_warrior (p.warrior c.args.vector) (p.warrior c.args.other) ≡ true =
     share_test _ _ c.in-Some-2.own c.in-Some-index.theirs true own theirs c.if-not-is_same_warrior.ensures.0 c.if-not-is_same_warrior.ensures.1 in
     to_contending p c.args.claim.now.cert.now c.args.claim.now.aim c.args.vector c.args.other c.in-Some.listed.now c.in-Some.ensures.some c.if-other-vector.false one
-    (sym c.if-not-is_rising.ensures) (sym c.if-not-are_fights.ensures) (sym c.if-not-is_no_better.ensures) (sym c.if-not-is_exact.ensures)
+    (sym c.if-not-is_rising.ensures) (sym c.if-not-are_fights.ensures) (lower_by p c.args.claim.now.cert.now c.args.vector c.in-Some.listed.now _ _ c.listed_cap-cap.ensures c.if-not-is_no_better.ensures) (sym c.if-not-is_exact.ensures)
 
 pub returns-clause-reason : goal.returns-clause-reason
 returns-clause-reason c =
@@ -89,4 +89,4 @@ returns-clause-reason c =
     let one : share_warrior (p.warrior c.args.vector) (p.warrior c.args.other) ≡ true =
     share_test _ _ c.in-Some-2.own c.in-Some-index.theirs true own theirs c.if-not-is_same_warrior.ensures.0 c.if-not-is_same_warrior.ensures.1 in
     to_fine p c.args.claim.now.cert.now c.args.claim.now.aim c.args.vector c.args.other c.in-Some.listed.now c.in-Some.ensures.some c.if-other-vector.false one
-    (sym c.if-not-is_rising.ensures) (sym c.if-not-are_fights.ensures) (sym c.if-not-is_no_better.ensures) (sym c.if-not-is_exact.ensures)
+    (sym c.if-not-is_rising.ensures) (sym c.if-not-are_fights.ensures) (lower_by p c.args.claim.now.cert.now c.args.vector c.in-Some.listed.now _ _ c.listed_cap-cap.ensures c.if-not-is_no_better.ensures) (sym c.if-not-is_exact.ensures)
