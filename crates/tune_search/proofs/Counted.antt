@@ -15,6 +15,6 @@ one_counted first now next list more x e n h small =
     let before : now ≡ first + length list = h (omega arith) in
     omega arith
 
--- no search plays so many that the count is lost
+-- no search plays more fights than the count can hold
 pub small_count : (fights visits more count : ℕ) → fights ≤ MOST_FIGHTS * visits → visits < count → count ≤ MOST_SETTINGS → more ≤ MOST_FIGHTS → fights + more < 2 ^ 64
 small_count fights visits more count room inside few less = omega arith

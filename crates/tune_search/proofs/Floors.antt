@@ -1,5 +1,7 @@
 -- What a floor does to what is found.
-use Rattle.std.proofs.Common.{◌≡◌, ℕ, ◌<◌, ◌≤◌, arith, Option, Some, None, refl}
+use Rattle.std.proofs.Common.{◌≡◌, ℕ, ◌<◌, ◌≤◌, arith, Bool, true, false, Option, Some, None, refl}
+use Rattle.std.specs.Prelude.{nat_le, if◌then◌else◌}
+use Rattle.std.proofs.lemmas.Bool.Decides.{nat_tests}
 use Rattle.std.specs.Option.{option_map}
 use Rattle.tune_problem.specs.Problem.{Problem}
 use Rattle.tune_problem.specs.Optimum.{HasTotal, IsOptimum, total_of}
@@ -22,6 +24,14 @@ module _ (p : Problem) (floor v t : ℕ) (optimum : IsOptimum p v) (total : HasT
       let same : b.vector ≡ v = optimum_one p b.vector v h.0 optimum in
       let even : b.total ≡ t = total_one p b.vector v b.total t same h.1 total in
       absurd (omega (arith, even, short, h.2))
+
+  -- so the total says which
+  pub by_total : (best : Option Best) → IsBestFrom p floor best → best ≡ (if nat_le floor t then Some (record { vector = v; total = t }) else None)
+  by_total best h = by_test (nat_le floor t) refl
+    where
+      by_test : (b : Bool) → nat_le floor t ≡ b → best ≡ (if b then Some (record { vector = v; total = t }) else None)
+      by_test true e = kept best h (grind (arith, nat_tests))
+      by_test false e = hidden best h (grind (arith, nat_tests))
 
 pub unmapped : {X Y : Type 0} (f : X → Y) (o : Option X) → None ≡ option_map f o → o ≡ None
 unmapped f None h = refl

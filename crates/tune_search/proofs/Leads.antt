@@ -1,5 +1,5 @@
 -- What contends, and what was visited by then.
-use Rattle.std.proofs.Common.{◌≡◌, ℕ, suc, ◌<◌, ◌≤◌, arith, Bool, true, false, not, ◌&&◌, nat_le, nat_lt, ◌==◌, List, [], Option, Some, None, take, refl, sym, ◌∙◌, ap, ◌⊎◌, inl, inr}
+use Rattle.std.proofs.Common.{◌≡◌, ℕ, suc, ◌<◌, ◌≤◌, arith, Bool, true, false, not, ◌&&◌, nat_lt, ◌==◌, List, [], take, refl, sym, ◌∙◌, ap, ◌⊎◌, inl, inr}
 use Rattle.std.proofs.lemmas.Bool.Decides.{nat_tests, leb_tells}
 use Rattle.rc_instr.specs.Warrior.{WarriorView}
 use Rattle.tune_problem.specs.Problem.{Problem}
@@ -54,7 +54,7 @@ overtaken c u t z d v a b = grind (arith, nat_tests)
 pub not_copied : (s u v z : ℕ) → (u == s) && (z == u) && nat_lt v u ≡ false → u ≡ s → z ≡ u → u ≤ v
 not_copied s u v z h a b = grind (arith, nat_tests)
 
--- so many fights were enough: all, or the cap then does not contend
+-- as many fights as are enough are all, or the cap then does not contend
 pub enough_cases : (p : Problem) (method : Method) (aim : Aim) (w : WarriorView) (order : List ℕ) (v : ℕ) (ranking : List Best) →
     (enough p method aim w order v ranking ≡ p.fights) ⊎ (contends aim (cap_of p w (take (enough p method aim w order v ranking) order)) v ranking ≡ false)
 unfolding enough

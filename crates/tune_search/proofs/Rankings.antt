@@ -1,5 +1,5 @@
 -- The first of the ranking, visit by visit.
-use Rattle.std.proofs.Common.{◌≡◌, ℕ, zero, suc, ◌<◌, ◌≤◌, arith, Bool, true, false, List, [], Option, Some, None, refl, sym, ◌∙◌, ap, inl, inr, add-zero, ◌+◌}
+use Rattle.std.proofs.Common.{◌≡◌, ℕ, zero, suc, ◌<◌, ◌≤◌, arith, Bool, true, false, List, Option, Some, None, refl, sym, ◌∙◌, ap, inl, inr, add-zero, ◌+◌}
 use Rattle.rc_instr.specs.Warrior.{WarriorView}
 use Rattle.tune_problem.specs.Problem.{Problem}
 use Rattle.tune_problem.specs.Optimum.{total_of}

@@ -1,12 +1,11 @@
 -- What a search with an aim finds.
-use Rattle.std.specs.Prelude.{◌≡◌, ◌≢◌, ℕ, ◌+◌, ◌<◌, ◌≤◌, ◌⊎◌, true, List, length, slice_get, Option, Some, None}
+use Rattle.std.specs.Prelude.{◌≡◌, ◌≢◌, ℕ, ◌+◌, ◌<◌, ◌≤◌, ◌⊎◌, true, nat_le, if◌then◌else◌, List, length, slice_get, Option, Some, None}
 use Rattle.std.specs.List.{AllByRecursion}
 use Rattle.rc_instr.specs.Warrior.{WarriorView}
 use Rattle.tune_template.specs.Limits.{MOST_SETTINGS}
 use Rattle.tune_problem.specs.Problem.{Problem}
 use Rattle.tune_problem.specs.Optimum.{IsOptimum, HasTotal, candidates_of}
 use Rattle.tune_problem.specs.Valid.{IsOwnVersion, IsValid, listed_fights}
-use Rattle.tune_problem.specs.declared.cert.Cert.{Cert}
 use Rattle.tune_problem.specs.declared.cert.Found.{Found}
 use Rattle.tune_problem.specs.declared.cert.Row.{Row}
 use Rattle.tune_problem.specs.declared.cert.Row.TheVariants.{Refused, Same, Cap}
@@ -42,6 +41,11 @@ found_of f best = record {
   candidates = f.candidates;
   copied = f.copied;
 }
+
+-- The best setting of a search with this floor, by what a search without one found: its best
+-- setting if the total reaches the floor, and otherwise none.
+abbrev pub best_from : (floor : ℕ) → Found → Option Best
+best_from floor g = if nat_le floor g.total then Some (record { vector = g.best; total = g.total }) else None
 
 -- The row of a setting lists every fight, or is `Same` of one that does.
 abbrev pub IsFull : Problem → List Row → Best → Type 0

@@ -11,6 +11,8 @@ use Rattle.tune_problem.specs.declared.cert.Row.{Row}
 use Rattle.tune_problem.specs.declared.cert.Row.TheVariants.{Refused, Cap}
 use Rattle.tune_search.specs.Visits.{IsFought}
 use Rattle.tune_search.specs.Sharing.{IsVisited}
+use Rattle.tune_search.specs.declared.fault.SearchFault.{SearchFault}
+use Rattle.tune_search.specs.declared.fault.SearchFault.TheVariants.{NoCandidate}
 use Rattle.tune_search.specs.declared.method.Method.{Method}
 use Rattle.tune_problem.specs.Ranking.{the_best}
 
@@ -29,6 +31,12 @@ is_fought rows copied v = is_cap (slice_get rows v) && not (is_copied copied v)
 abbrev pub was_fought : Found → ℕ → Bool
 was_fought f v = is_fought f.rows f.copied v
 
+-- Setting v has this warrior, and was fought.
+pub record HasFought (p : Problem) (f : Found) (w : WarriorView) (v : ℕ) : Type 0 where
+  pub inside : v < p.count
+  pub candidate : p.warrior v ≡ Some w
+  pub fought : was_fought f v ≡ true
+
 -- The number of settings that were fought.
 unfoldable pub fought_count : Found → ℕ
 fought_count f = count_by (was_fought f) (range_with_len 0 (length f.rows))
@@ -45,6 +53,10 @@ copied_fights rows (Some v) = listed_at (slice_get rows v)
 -- No setting has a warrior.
 abbrev pub NoneAssembles : Problem → Type 0
 NoneAssembles p = (v : ℕ) → v < p.count → p.warrior v ≡ None
+
+-- If the fault is `NoCandidate`, no setting assembles.
+abbrev pub IsRefused : Problem → SearchFault → Type 0
+IsRefused p fault = fault ≡ NoCandidate → NoneAssembles p
 
 -- What a search by a method finds that is asked for the best setting.
 pub record IsSearch (p : Problem) (method : Method) (f : Found) : Type 0 where

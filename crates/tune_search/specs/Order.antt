@@ -1,5 +1,5 @@
 -- The order in which the fights of a setting are played, and how many of them are.
-use Rattle.std.specs.Prelude.{ℕ, ◌-◌, Bool, true, false, not, ◌&&◌, nat_le, ◌==◌, if◌then◌else◌, List, [], ◌∷◌, ◌++◌, map, take, slice_get, Option, Some, None}
+use Rattle.std.specs.Prelude.{ℕ, Bool, true, false, not, ◌==◌, if◌then◌else◌, List, ◌++◌, map, take, Option, Some, None}
 use Rattle.std.specs.List.{filter}
 use Rattle.rc_instr.specs.Warrior.{WarriorView}
 use Rattle.mars_core.specs.Fight.{least}

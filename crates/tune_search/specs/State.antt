@@ -75,22 +75,48 @@ is_filled Refused = false
 is_filled (Same u) = true
 is_filled (Cap row) = true
 
+-- What a search has after some visits.
+pub record Progress : Type 0 where
+  pub rows : List Row
+  pub ranking : List Best
+  -- the fights of the next visit, in their order
+  pub order : List ℕ
+  -- the number of fights played, and of candidates visited
+  pub fights : ℕ
+  pub candidates : ℕ
+  -- the setting with the copied row, if there is one
+  pub copied : Option ℕ
+  -- the cache
+  pub known : List (List ℕ × Fought)
+
 -- After k visits: the rows of the settings visited are explained, and the others are `Refused`. The
 -- order is that of the next visit.
-pub record IsUnderWay (p : Problem) (rules : RulesView) (aim : Aim) (method : Method) (k : ℕ) (rows : List Row) (ranking : List Best) (order : List ℕ) (fights candidates : ℕ) (copied : Option ℕ) (known : List (List ℕ × Fought)) : Type 0 where
-  pub rows_are : length rows ≡ p.count
-  pub ranking_is : ranking ≡ ranking_after p aim k
-  pub whole : IsWhole p rows (first_of ranking)
-  pub full : AllByRecursion (IsFull p rows) ranking
-  pub told : (v : ℕ) → v < p.count → place p.start v < k → IsExplained p aim method rows copied v (p.warrior v)
-  pub left : (v : ℕ) → v < p.count → k ≤ place p.start v → slice_get rows v ≡ Some Refused
-  pub order_is : order ≡ order_after p (k == 0) (p.warrior p.start)
-  pub recent : IsRecent p (capacity_of method) k (map (λ e. e.1.vector) known)
-  pub all_known : AllByRecursion (IsKnown p rules aim method rows k) known
-  pub copied_is : IsCopied p k (first_of ranking) copied
-  pub work : fights + copied_fights rows copied ≡ listed_fights rows
-  pub count : candidates ≡ count_by is_filled rows
-  pub room : fights ≤ MOST_FIGHTS * k
+pub record IsUnderWay (p : Problem) (rules : RulesView) (aim : Aim) (method : Method) (k : ℕ) (g : Progress) : Type 0 where
+  pub rows_are : length g.rows ≡ p.count
+  pub ranking_is : g.ranking ≡ ranking_after p aim k
+  pub whole : IsWhole p g.rows (first_of g.ranking)
+  pub full : AllByRecursion (IsFull p g.rows) g.ranking
+  pub told : (v : ℕ) → v < p.count → place p.start v < k → IsExplained p aim method g.rows g.copied v (p.warrior v)
+  pub left : (v : ℕ) → v < p.count → k ≤ place p.start v → slice_get g.rows v ≡ Some Refused
+  pub order_is : g.order ≡ order_after p (k == 0) (p.warrior p.start)
+  pub recent : IsRecent p (capacity_of method) k (map (λ e. e.1.vector) g.known)
+  pub all_known : AllByRecursion (IsKnown p rules aim method g.rows k) g.known
+  pub copied_is : IsCopied p k (first_of g.ranking) g.copied
+  pub work : g.fights + copied_fights g.rows g.copied ≡ listed_fights g.rows
+  pub count : g.candidates ≡ count_by is_filled g.rows
+  pub room : g.fights ≤ MOST_FIGHTS * k
+
+-- How far a search is, by its state.
+abbrev pub progress_of : State → Progress
+progress_of s = record {
+  rows = s.found.rows;
+  ranking = s.found.ranking;
+  order = s.order.items;
+  fights = s.arena.fights;
+  candidates = s.found.candidates;
+  copied = s.found.copied;
+  known = s.cache.known;
+}
 
 pub record IsState (i : InputsView) (aim : Aim) (method : Method) (k : ℕ) (s : State) : Type 0 where
   pub start_is : s.start ≡ (problem_of i).start
@@ -101,7 +127,7 @@ pub record IsState (i : InputsView) (aim : Aim) (method : Method) (k : ℕ) (s :
   pub capacity_is : s.cache.capacity ≡ capacity_of method
   pub version_is : IsOwnVersion (problem_of i) s.found.version
   pub blank : IsBlank i.rules s.arena
-  pub going : IsUnderWay (problem_of i) i.rules aim method k s.found.rows s.found.ranking s.order.items s.arena.fights s.found.candidates s.found.copied s.cache.known
+  pub going : IsUnderWay (problem_of i) i.rules aim method k (progress_of s)
 
 -- What is found at the end, with the count of fights.
 abbrev pub found_with : State → Findings

@@ -1,10 +1,9 @@
 //! Settings that assemble.
-ghost use Rattle.std.specs.Prelude.{◌≡◌, ◌<◌, None, IfOk, IfErr, IfSome, IfNone};
+ghost use Rattle.std.specs.Prelude.{◌≡◌, ◌<◌, None, IfOk, IfSome, IfNone};
 ghost use Rattle.tune_problem.specs.Problem.{problem_of};
 ghost use Rattle.tune_search.specs.State.{IsCandidateAt};
 
-use crate::fault::SearchFault;
-use rc_instr::{Warrior, write_loadfile};
+use rc_instr::{OutOfMemory, Warrior, write_loadfile};
 use std::alloc::Global;
 use tune_problem::{Inputs, setting_warrior};
 
@@ -21,11 +20,10 @@ pub(crate) fn candidate_at(
     alloc: Global,
     inputs: &Inputs,
     vector: u32,
-) -> Result<Option<Candidate>, SearchFault>
+) -> Result<Option<Candidate>, OutOfMemory>
     requires inside { vector < (problem_of inputs.now).count }
     ensures some { IfOk result (λ o. IfSome o (IsCandidateAt inputs.now vector)) }
     ensures none { IfOk result (λ o. IfNone o ((problem_of inputs.now).warrior vector ≡ None)) }
-    ensures err { IfErr result (λ e. e ≡ SearchFault.OutOfMemory) }
 {
     let Some(warrior) = setting_warrior(alloc, inputs, vector)? else {
         return Ok(None);

@@ -46,7 +46,6 @@ pub(crate) fn play_enough<T: Watcher>(
     challenge: &Challenge<'_>,
     watcher: &mut T,
 ) -> Result<Bout, AllocError>
-    requires keep { 1 ≤ challenge.now.aim.keep }
     requires blank { IsBlank inputs.now.rules arena.old }
     requires fits { Fits inputs.now.rules challenge.now.entrant.now.warrior }
     requires all { length challenge.now.order.now ≡ (problem_of inputs.now).fights }

@@ -1,5 +1,5 @@
 //! Laws of the search. A law is a function with an empty body: its contract is what is proved.
-ghost use Rattle.std.specs.Prelude.{◌≡◌, ◌<◌, ◌≤◌, ◌*◌, ℕ, List, Option, Some, None, true};
+ghost use Rattle.std.specs.Prelude.{◌≡◌, ◌<◌, ◌≤◌, ◌*◌, ℕ, List, Option, Some, None};
 ghost use Rattle.rc_instr.specs.Warrior.{WarriorView};
 ghost use Rattle.tune_problem.specs.Problem.{Problem, IsProblem};
 ghost use Rattle.tune_search.specs.Recent.{IsRecent};
@@ -7,9 +7,10 @@ ghost use Rattle.tune_search.specs.Method.{capacity_of};
 ghost use Rattle.tune_search.specs.Plays.{rows_of};
 ghost use Rattle.tune_search.specs.Visits.{ranking_after};
 ghost use Rattle.tune_search.specs.Ranking.{IsRankingBy};
-ghost use Rattle.tune_search.specs.Found.{IsSearch, NoneAssembles, was_fought, fought_count};
-ghost use Rattle.tune_search.specs.Findings.{IsSearchFrom, found_of};
+ghost use Rattle.tune_search.specs.Found.{IsSearch, NoneAssembles, HasFought, fought_count};
+ghost use Rattle.tune_search.specs.Findings.{IsSearchFrom, best_from, found_of};
 ghost use Rattle.tune_problem.specs.Ranking.{IsAim, the_best, first_of};
+ghost use Rattle.tune_problem.specs.Exact.{IsExact, listed_ranking};
 
 use crate::findings::Findings;
 use crate::method::Method;
@@ -24,8 +25,8 @@ pub fn visits_determine_the_rest()
 /// States that no two settings that were fought have equal warriors, if the search may remember as
 /// many as were fought. The start setting must be one of the settings, as it is for all inputs.
 pub fn fought_settings_differ()
-    ensures { (p : Problem) (method : Method) (f : Found) (v u : ℕ) (w : WarriorView) → IsSearch p method f → p.start < p.count → fought_count f ≤ capacity_of method
-        → v < p.count → u < p.count → p.warrior v ≡ Some w → p.warrior u ≡ Some w → was_fought f v ≡ true → was_fought f u ≡ true → v ≡ u }
+    ensures { (p : Problem) (method : Method) (f : Found) (v u : ℕ) (w : WarriorView) → IsSearch p method f
+        → p.start < p.count → fought_count f ≤ capacity_of method → HasFought p f w v → HasFought p f w u → v ≡ u }
 {}
 
 /// States that the inputs and the method determine what a search finds: its rows, and so which
@@ -61,13 +62,22 @@ pub fn a_search_without_a_floor_is_a_search()
 /// States that a search with a floor finds the optimum if its total reaches the floor, and no best
 /// setting otherwise, by whatever method.
 pub fn a_floor_hides_only_what_is_below_it()
-    ensures reached { (p : Problem) (aim : Aim) (one other : Method) (f : Findings) (g : Found) → IsSearchFrom p aim one f → IsSearch p other g → aim.floor ≤ g.total
-        → first_of f.ranking ≡ Some (record { vector = g.best; total = g.total }) }
-    ensures missed { (p : Problem) (aim : Aim) (one other : Method) (f : Findings) (g : Found) → IsSearchFrom p aim one f → IsSearch p other g → g.total < aim.floor
-        → first_of f.ranking ≡ None }
+    ensures { (p : Problem) (aim : Aim) (one other : Method) (f : Findings) (g : Found) → IsSearchFrom p aim one f → IsSearch p other g
+        → first_of f.ranking ≡ best_from aim.floor g }
 {}
 
 /// States that the ranking after any number of visits is the first of the settings visited.
 pub fn a_ranking_has_the_first_settings()
     ensures { (p : Problem) (aim : Aim) (k : ℕ) → IsAim aim → k ≤ p.count → p.start < p.count → IsRankingBy p aim k (ranking_after p aim k) }
+{}
+
+/// States that the rows of a search with an aim are exact for it: no setting contends whose fights
+/// are not all listed. So the ranking that the rows list is the one that was found.
+///
+/// The start setting must be one of the settings, as it is for all inputs.
+pub fn a_search_with_an_aim_is_exact()
+    ensures exact { (p : Problem) (aim : Aim) (method : Method) (f : Findings) → IsProblem p → IsAim aim → p.start < p.count
+        → IsSearchFrom p aim method f → IsExact p aim f.rows }
+    ensures ranking { (p : Problem) (aim : Aim) (method : Method) (f : Findings) → IsProblem p → IsAim aim → p.start < p.count
+        → IsSearchFrom p aim method f → listed_ranking p aim f.rows ≡ f.ranking }
 {}

@@ -1,5 +1,5 @@
 //! The methods of a search.
-ghost use Rattle.std.specs.Prelude.{◌≡◌, ◌≤◌, if◌then◌else◌};
+ghost use Rattle.std.specs.Prelude.{◌≡◌, if◌then◌else◌};
 ghost use Rattle.tune_search.specs.Method.{capacity_of};
 ghost use Rattle.tune_search.specs.Order.{drops};
 
@@ -27,7 +27,6 @@ pub(crate) fn capacity_of(method: Method) -> u32
 
 // Checks whether setting `vector`, at cap `cap`, is dropped against the floor and the ranking.
 pub(crate) fn drops(method: Method, aim: Aim, cap: u32, vector: u32, ranking: &[Best]) -> bool
-    requires keep { 1 ≤ aim.keep }
     ensures { result ≡ drops method aim cap vector ranking.now }
 {
     match method {

@@ -1,16 +1,14 @@
 //! A search under way: what it has found, and what it needs for the next visit.
-ghost use Rattle.std.specs.Prelude.{◌≡◌, ◌+◌, ◌<◌, ◌≤◌, None, replicate, OnOk, IfOk, IfErr};
+ghost use Rattle.std.specs.Prelude.{◌≡◌, ◌+◌, ◌<◌, ◌≤◌, None, replicate, OnOk, IfOk};
 ghost use Rattle.std.specs.Map.{lookup};
-ghost use Rattle.tune_template.specs.Limits.{MOST_SETTINGS};
 ghost use Rattle.tune_problem.specs.Problem.{problem_of};
 ghost use Rattle.tune_search.specs.Cache.{same_text};
 ghost use Rattle.tune_search.specs.Visits.{visit};
-ghost use Rattle.tune_search.specs.State.{IsCandidateAt, IsState, found_with};
 ghost use Rattle.tune_problem.specs.Ranking.{IsAim};
+ghost use Rattle.tune_search.specs.State.{IsCandidateAt, IsState, found_with};
 
 use crate::cache::Cache;
 use crate::candidate::{Candidate, candidate_at};
-use crate::fault::SearchFault;
 use crate::fights::{Challenge, play_enough};
 use crate::findings::Findings;
 use crate::fought::Fought;
@@ -18,6 +16,7 @@ use crate::lead::copies;
 use crate::method::{Method, aim_at, capacity_of};
 use crate::order::{all_in_order, learn_order, sort_by_index, visited};
 use mars_core::{Arena, PackedCells};
+use rc_instr::OutOfMemory;
 use std::alloc::{AllocError, Global};
 use tune_problem::{
     Aim, Inputs, Listing, Ranking, Row, Rows, Watcher, cert_version, fight_count, part_size,
@@ -47,10 +46,9 @@ impl State {
         inputs: &Inputs,
         aim: Aim,
         method: Method,
-    ) -> Result<State, SearchFault>
+    ) -> Result<State, OutOfMemory>
         requires aim { IsAim aim }
-        ensures state { IfOk result (IsState inputs.now aim method 0) }
-        ensures err { IfErr result (λ e. e ≡ SearchFault.OutOfMemory) }
+        ensures { IfOk result (IsState inputs.now aim method 0) }
     {
         let arena = Arena::<PackedCells>::try_new(alloc, inputs.rules())?;
         let rows = blank_rows(alloc, part_size(inputs))?;
@@ -83,12 +81,10 @@ impl State {
         inputs: &Inputs,
         visits: u32,
         watcher: &mut T,
-    ) -> Result<(), SearchFault>
+    ) -> Result<(), OutOfMemory>
         requires visits { visits < (problem_of inputs.now).count }
-        requires few { (problem_of inputs.now).count ≤ MOST_SETTINGS }
         requires state { IsState inputs.now self.old.aim self.old.method visits self.old }
-        ensures state { OnOk result (IsState inputs.now self.old.aim self.old.method (visits + 1) self.new) }
-        ensures err { IfErr result (λ e. e ≡ SearchFault.OutOfMemory) }
+        ensures { OnOk result (IsState inputs.now self.old.aim self.old.method (visits + 1) self.new) }
     {
         let vector = visited(self.start, visits);
         let Some(entrant) = candidate_at(alloc, inputs, vector)? else {
@@ -97,6 +93,7 @@ impl State {
         let Some(other) = self.cache.recall(&entrant.text) else {
             return self.fight(alloc, inputs, visits, entrant, watcher);
         };
+        prove!(visits < part_size(inputs));
         self.found.candidates += 1;
         let copied = copies(self.start, other.vector, vector, self.found.ranking.first());
         self.found.ranking.rank(self.aim, other.cap, vector)?;
@@ -120,15 +117,14 @@ impl State {
         visits: u32,
         entrant: Candidate,
         watcher: &mut T,
-    ) -> Result<(), SearchFault>
+    ) -> Result<(), OutOfMemory>
         requires visits { visits < (problem_of inputs.now).count }
-        requires few { (problem_of inputs.now).count ≤ MOST_SETTINGS }
         requires state { IsState inputs.now self.old.aim self.old.method visits self.old }
         requires candidate { IsCandidateAt inputs.now (visit (problem_of inputs.now).start visits) entrant }
         requires unknown { lookup (same_text entrant.text.items) self.old.cache.known ≡ None }
-        ensures state { OnOk result (IsState inputs.now self.old.aim self.old.method (visits + 1) self.new) }
-        ensures err { IfErr result (λ e. e ≡ SearchFault.OutOfMemory) }
+        ensures { OnOk result (IsState inputs.now self.old.aim self.old.method (visits + 1) self.new) }
     {
+        prove!(visits < part_size(inputs));
         let challenge = Challenge {
             method: self.method,
             entrant: &entrant,
@@ -148,20 +144,15 @@ impl State {
         Ok(())
     }
 
-    // Returns what was found, or `NoCandidate` if no setting assembles.
-    pub(crate) fn finish(self) -> Result<Findings, SearchFault>
-        ensures found { IfOk result (λ f. f ≡ found_with self) }
-        ensures some { IfOk result (λ f. 0 < f.candidates) }
-        ensures none { IfErr result (λ e. (e ≡ SearchFault.NoCandidate) × (self.found.candidates ≡ 0)) }
+    // Returns what was found, with the count of fights.
+    pub(crate) fn into_findings(self) -> Findings
+        ensures { result ≡ found_with self }
     {
         let State { arena, found, .. } = self;
-        if found.candidates == 0 {
-            return Err(SearchFault::NoCandidate);
-        }
-        Ok(Findings {
+        Findings {
             fights: arena.fights(),
             ..found
-        })
+        }
     }
 }
 

@@ -1,11 +1,11 @@
 //! The search for the optimum.
-ghost use Rattle.std.specs.Prelude.{◌≡◌, ◌<◌, ◌≤◌, IfOk, IfErr};
+ghost use Rattle.std.specs.Prelude.{◌<◌, ◌≤◌, MatchResult};
 ghost use Rattle.tune_problem.specs.Problem.{problem_of};
+ghost use Rattle.tune_problem.specs.Ranking.{IsAim};
 ghost use Rattle.tune_search.specs.Limits.{MOST_CAPACITY};
 ghost use Rattle.tune_search.specs.Method.{HasCapacity};
-ghost use Rattle.tune_search.specs.Found.{IsSearch, NoneAssembles};
+ghost use Rattle.tune_search.specs.Found.{IsSearch, IsRefused};
 ghost use Rattle.tune_search.specs.Findings.{IsSearchFrom};
-ghost use Rattle.tune_problem.specs.Ranking.{IsAim};
 
 use crate::fault::SearchFault;
 use crate::findings::Findings;
@@ -40,9 +40,8 @@ pub fn search(alloc: Global, inputs: &Inputs, capacity: u32) -> Result<Found, Se
 
     // The best setting is the optimum, the rows are a valid certificate of it, the row of each
     // fought setting lists exactly the fights that the rule above asks for, and `fights` counts
-    // these.
-    ensures found { IfOk result (IsSearch (problem_of inputs.now) (Method.Dropping capacity)) }
-    ensures none { IfErr result (λ e. e ≡ SearchFault.NoCandidate → NoneAssembles (problem_of inputs.now)) }
+    // these. `NoCandidate` says that no setting assembles.
+    ensures { MatchResult result (IsSearch (problem_of inputs.now) (Method.Dropping capacity)) (IsRefused (problem_of inputs.now)) }
 {
     search_by(alloc, inputs, Method::Dropping { capacity }, &mut Silent)
 }
@@ -66,8 +65,7 @@ pub fn search_by<T: Watcher>(
     requires capacity { HasCapacity method }
 
     // What `search` promises, with the fights that the method asks for.
-    ensures found { IfOk result (IsSearch (problem_of inputs.now) method) }
-    ensures none { IfErr result (λ e. e ≡ SearchFault.NoCandidate → NoneAssembles (problem_of inputs.now)) }
+    ensures { MatchResult result (IsSearch (problem_of inputs.now) method) (IsRefused (problem_of inputs.now)) }
 {
     let findings = search_from(alloc, inputs, Aim { keep: 1, floor: 0 }, method, watcher)?;
     match findings.into_found() {
@@ -79,11 +77,12 @@ pub fn search_by<T: Watcher>(
 /// Finds the first `aim.keep` settings of the ranking by `method`, of those that total `aim.floor`
 /// or more. The ranking has the greatest total first, then the smaller index.
 ///
-/// `Method::Dropping` drops a setting once its cap is below the floor, or does not beat the last of
-/// the first `keep` of those visited before it, if there are so many. The start setting plays all
-/// its fights, since the others learn their order from them. A setting that shares the fights of
-/// another is ranked with its total. A floor that some setting reaches saves fights. Tells
-/// `watcher` what `search_by` tells it, which is this search with keep 1 and the floor 0.
+/// `Method::Dropping` drops a setting once its cap is below the floor, or does not beat the
+/// `keep`-th of those visited before it, if there are that many. The start setting plays all its
+/// fights, since the others learn their order from them. A setting that shares the fights of
+/// another is ranked with the total of the other. A floor drops settings before the ranking does,
+/// and so saves fights. Tells `watcher` what `search_by` tells it, which is this search with keep 1
+/// and the floor 0.
 ///
 /// # Errors
 ///
@@ -101,12 +100,8 @@ pub fn search_from<T: Watcher>(
     // The ranking is exact, and each of its settings has a row with all fights, or one that refers
     // to such a row. The rows are a valid certificate of the first of it, or show that each
     // candidate totals less than the floor. The fights are those that the aim and the method ask
-    // for.
-    ensures found { IfOk result (IsSearchFrom (problem_of inputs.now) aim method) }
-
-    // Some setting assembles, whether or not one reaches the floor.
-    ensures some { IfOk result (λ f. 0 < f.candidates) }
-    ensures none { IfErr result (λ e. e ≡ SearchFault.NoCandidate → NoneAssembles (problem_of inputs.now)) }
+    // for. Some setting assembles, whether or not one reaches the floor.
+    ensures { MatchResult result (λ f. IsSearchFrom (problem_of inputs.now) aim method f × (0 < f.candidates)) (IsRefused (problem_of inputs.now)) }
 {
     let mut state = State::begin(alloc, inputs, aim, method)?;
     for visits in 0..part_size(inputs) {
@@ -118,5 +113,9 @@ pub fn search_from<T: Watcher>(
             state.found.ranking.first(),
         ));
     }
-    state.finish()
+    let none_assembles = state.found.candidates == 0;
+    if none_assembles {
+        return Err(SearchFault::NoCandidate);
+    }
+    Ok(state.into_findings())
 }

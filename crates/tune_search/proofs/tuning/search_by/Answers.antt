@@ -7,15 +7,15 @@ use Rattle.tune_search.proofs.Floors.{mapped_some, unmapped}
 use Rattle.tune_search.proofs.tuning.search_by.Goals as goal
 use Rattle.tune_problem.specs.Ranking.{first_of}
 
-pub returns-in-None-clause-none : goal.returns-in-None-clause-none
-returns-in-None-clause-none g c =
+pub returns-in-None : goal.returns-in-None
+returns-in-None g c =
     let p = problem_of c.args.inputs.now in
     let f = c.in_ok-findings.findings in
-    λ same. none_best p (subst (IsBestFrom p 0) (unmapped (found_of f) (first_of f.ranking) (sym c.in-None.is ∙ c.into_found.ensures)) c.in_ok-findings.ensures.found.best)
+    λ same. none_best p (subst (IsBestFrom p 0) (unmapped (found_of f) (first_of f.ranking) (sym c.in-None.is ∙ c.into_found.ensures)) c.in_ok-findings.ensures.0.best)
 
-pub returns-in-Some-clause-found : goal.returns-in-Some-clause-found
-returns-in-Some-clause-found g c =
+pub returns-in-Some : goal.returns-in-Some
+returns-in-Some g c =
     let p = problem_of c.args.inputs.now in
     let f = c.in_ok-findings.findings in
     let h = mapped_some (found_of f) (first_of f.ranking) c.in-Some.found (sym c.in-Some.is ∙ c.into_found.ensures) in
-    subst (IsSearch p c.args.method) (sym h.2) (as_found p c.args.method f h.0 h.1 c.in_ok-findings.ensures.found)
+    subst (IsSearch p c.args.method) (sym h.2) (as_found p c.args.method f h.0 h.1 c.in_ok-findings.ensures.0)

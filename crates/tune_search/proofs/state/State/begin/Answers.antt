@@ -9,8 +9,8 @@ use Rattle.tune_search.proofs.Visiting.{under_way_along}
 use Rattle.tune_search.proofs.Finish.{starts}
 use Rattle.tune_search.proofs.state.State.begin.Goals as goal
 
-pub returns-clause-state : goal.returns-clause-state
-returns-clause-state c =
+pub returns : goal.returns
+returns c =
     let i = c.args.inputs.now in
     let p = problem_of i in
     record {

@@ -1,4 +1,4 @@
-use Rattle.std.proofs.Common.{◌≡◌, ◌+◌, ◌==◌, ◌<◌, ◌∙◌, ◌∷◌, if◌then◌else◌, ap, sym, refl, subst, length, List, ℕ, All, take}
+use Rattle.std.proofs.Common.{◌≡◌, ◌+◌, ◌==◌, ◌<◌, arith, ◌∙◌, ◌∷◌, if◌then◌else◌, ap, sym, refl, subst, length, List, ℕ, All, take}
 use Rattle.std.specs.List.{slice_set}
 use Rattle.std.specs.List.Sorted.{IsPermutation}
 use Rattle.tune_problem.specs.Problem.{problem_of}
@@ -15,7 +15,9 @@ use Rattle.tune_search.proofs.Places.{visit_below}
 use Rattle.tune_search.proofs.Totals.{order_length}
 use Rattle.tune_search.proofs.ListedFights.{order_below}
 use Rattle.tune_search.proofs.Counted.{small_count}
-use Rattle.tune_search.proofs.Visiting.{first_visit, fought_visit, permutes, under_way_along}
+use Rattle.tune_search.specs.State.{progress_of}
+use Rattle.tune_search.proofs.Visiting.{first_visit, permutes, under_way_along}
+use Rattle.tune_search.proofs.FoughtVisits.{fought_visit}
 use Rattle.tune_search.proofs.state.State.fight.Goals as goal
 use Rattle.tune_problem.specs.Ranking.{next_ranking}
 
@@ -29,7 +31,7 @@ play_enough-requires-clause-all g c =
     let inside : v < p.count = visit_below p.start p.count k c.requires.state.start_inside c.requires.visits in
     ap length c.deref.ensures.value
     ∙ order_length p s.order.items (permutes p (inputs_problem i) c.requires.state.start_inside i.rules s.aim c.requires.state.is_aim c.args.self.now.method k v refl inside
-    s.found.rows s.found.ranking s.order.items s.arena.fights s.found.candidates s.found.copied s.cache.known c.requires.state.going)
+    (progress_of s) c.requires.state.going)
 
 pub play_enough-requires-clause-once : goal.play_enough-requires-clause-once
 play_enough-requires-clause-once g c =
@@ -41,7 +43,7 @@ play_enough-requires-clause-once g c =
     let inside : v < p.count = visit_below p.start p.count k c.requires.state.start_inside c.requires.visits in
     subst (λ (l : List ℕ). IsPermutation (all_fights p) l) (sym c.deref.ensures.value)
     (permutes p (inputs_problem i) c.requires.state.start_inside i.rules s.aim c.requires.state.is_aim c.args.self.now.method k v refl inside
-    s.found.rows s.found.ranking s.order.items s.arena.fights s.found.candidates s.found.copied s.cache.known c.requires.state.going)
+    (progress_of s) c.requires.state.going)
 
 pub play_enough-requires-clause-below : goal.play_enough-requires-clause-below
 play_enough-requires-clause-below g c =
@@ -53,10 +55,10 @@ play_enough-requires-clause-below g c =
     let inside : v < p.count = visit_below p.start p.count k c.requires.state.start_inside c.requires.visits in
     subst (λ (l : List ℕ). All (λ k. k < p.fights) l) (sym c.deref.ensures.value)
     (order_below p s.order.items (permutes p (inputs_problem i) c.requires.state.start_inside i.rules s.aim c.requires.state.is_aim c.args.self.now.method k v refl inside
-    s.found.rows s.found.ranking s.order.items s.arena.fights s.found.candidates s.found.copied s.cache.known c.requires.state.going))
+    (progress_of s) c.requires.state.going))
 
-pub returns-clause-state : goal.returns-clause-state
-returns-clause-state g c =
+pub returns : goal.returns
+returns g c =
     let i = c.args.inputs.now in
     let p = problem_of i in
     let s = c.args.self.now in
@@ -83,7 +85,7 @@ returns-clause-state g c =
       blank = c.in_ok-bout.ensures.blank;
       going = under_way_along p i.rules s.aim c.args.self.now.method (k + 1) _ _ _ _ _ _ _ _ _ _ _ _
           (fought_visit p (inputs_problem i) c.requires.state.start_inside i.rules s.aim c.requires.state.is_aim c.args.self.now.method k v refl inside
-          s.found.rows s.found.ranking s.order.items s.arena.fights s.found.candidates s.found.copied s.cache.known c.requires.state.going
+          (progress_of s) c.requires.state.going
           e.warrior is.warrior_is bout.listing.items bout.cap c.sort_by_index.result.items
           (c.in_ok-bout.ensures.listing ∙ ap (λ l. played p e.warrior (take (enough p s.method c.aim_at.result e.warrior l e.vector c.as_slice.result.now) l)) in_order
           ∙ ap (λ n. played p e.warrior (take (enough p s.method c.aim_at.result e.warrior s.order.items n c.as_slice.result.now) s.order.items)) own
@@ -98,7 +100,7 @@ returns-clause-state g c =
           (ap (λ n. slice_set s.found.rows n (Cap c.sort_by_index.result.items)) (sym own) ∙ ap (λ (l : List (ℕ × ℕ)). slice_set s.found.rows e.vector (Cap l)) (sym c.from_vec.ensures) ∙ sym c.set.ensures)
           (ap (λ n. next_ranking s.aim bout.cap n s.found.ranking) (sym own) ∙ sym c.in_ok-rank.ensures)
           (sym (c.in_ok-learn_order.ensures ∙ ap (λ l. if k == 0 then by_points l else s.order.items) listed))
-          (sym (c.in_ok-bout.ensures.fights (small_count s.arena.fights k (length bout.listing.items) p.count c.requires.state.going.room c.requires.visits c.requires.few c.in_ok-bout.ensures.few)))
+          (sym (c.in_ok-bout.ensures.fights (small_count s.arena.fights k (length bout.listing.items) p.count c.requires.state.going.room c.requires.visits (omega (arith, c.part_size.ensures.count, c.part_size.ensures.few)) c.in_ok-bout.ensures.few)))
           (ap (λ n. take (capacity_of c.args.self.now.method) ((e.text.items, record { vector = n; cap = bout.cap }) ∷ s.cache.known)) (sym own)
           ∙ ap (λ n. take n ((e.text.items, record { vector = e.vector; cap = bout.cap }) ∷ s.cache.known)) (sym c.requires.state.capacity_is)
           ∙ sym (ap (λ (m : CacheView). m.known) c.in_ok-remember.ensures));

@@ -9,16 +9,17 @@ use Rattle.tune_problem.proofs.Scores.{inputs_problem}
 use Rattle.tune_search.specs.Cache.{CacheView, cache_view, same_text}
 use Rattle.tune_search.specs.Visits.{visit}
 use Rattle.tune_search.specs.Sharing.{copies}
-use Rattle.tune_search.specs.State.{IsCandidateAt, IsUnderWay}
+use Rattle.tune_search.specs.State.{IsCandidateAt, IsUnderWay, progress_of}
 use Rattle.tune_search.specs.declared.candidate.Candidate.{Candidate}
 use Rattle.tune_search.proofs.Cached.{promoted_none}
 use Rattle.tune_search.proofs.Places.{visit_below}
-use Rattle.tune_search.proofs.Visiting.{refused_visit, shared_visit, copied_visit, under_way_along}
+use Rattle.tune_search.proofs.Visiting.{refused_visit, under_way_along}
+use Rattle.tune_search.proofs.SharedVisits.{shared_visit, copied_visit}
 use Rattle.tune_search.proofs.state.State.visit.Goals as goal
 use Rattle.tune_problem.specs.Ranking.{first_of}
 
-pub returns-in_default-clause-state : goal.returns-in_default-clause-state
-returns-in_default-clause-state g c =
+pub returns-in_default : goal.returns-in_default
+returns-in_default g c =
     let i = c.args.inputs.now in
     let p = problem_of i in
     let s = c.args.self.now in
@@ -36,7 +37,7 @@ returns-in_default-clause-state g c =
       version_is = c.requires.state.version_is;
       blank = c.requires.state.blank;
       going = refused_visit p (inputs_problem i) c.requires.state.start_inside i.rules s.aim c.requires.state.is_aim c.args.self.now.method k v at inside
-          s.found.rows s.found.ranking s.order.items s.arena.fights s.found.candidates s.found.copied s.cache.known c.requires.state.going
+          (progress_of s) c.requires.state.going
           (subst (λ (o : Option Candidate). IfNone o (p.warrior v ≡ None)) c.in_default.is c.in_ok-entrant.ensures.none);
     }
 
@@ -67,11 +68,11 @@ fight-requires-clause-state g c =
       capacity_is = ap (λ (m : CacheView). m.capacity) same ∙ c.requires.state.capacity_is;
       version_is = c.requires.state.version_is;
       blank = c.requires.state.blank;
-      going = subst (λ (m : CacheView). IsUnderWay p i.rules s.aim s.method c.args.visits s.found.rows s.found.ranking s.order.items s.arena.fights s.found.candidates s.found.copied m.known) (sym same) c.requires.state.going;
+      going = subst (λ (m : CacheView). IsUnderWay p i.rules s.aim s.method c.args.visits (record (progress_of s) { known = m.known })) (sym same) c.requires.state.going;
     }
 
-pub returns-then-copied-clause-state : goal.returns-then-copied-clause-state
-returns-then-copied-clause-state g c =
+pub returns-then-copied : goal.returns-then-copied
+returns-then-copied g c =
     let i = c.args.inputs.now in
     let p = problem_of i in
     let s = c.args.self.now in
@@ -98,7 +99,7 @@ returns-then-copied-clause-state g c =
       blank = c.requires.state.blank;
       going = under_way_along p i.rules s.aim c.args.self.now.method (k + 1) _ _ _ _ _ _ _ _ _ _ _ _
           (copied_visit p (inputs_problem i) c.requires.state.start_inside i.rules s.aim c.requires.state.is_aim c.args.self.now.method k v at inside
-          s.found.rows s.found.ranking s.order.items s.arena.fights s.found.candidates s.found.copied s.cache.known c.requires.state.going
+          (progress_of s) c.requires.state.going
           e.warrior is.warrior_is is.rules_hold is.is_warrior is.fits u look row row_of apart)
           (sym c.set.ensures)
           (sym c.in_ok-rank.ensures)
@@ -107,8 +108,8 @@ returns-then-copied-clause-state g c =
           (ap (λ t. promoted (same_text t) s.cache.known) (sym text) ∙ sym (ap (λ (m : CacheView). m.known) c.in-Some-recall.ensures.known));
     }
 
-pub returns-clause-state : goal.returns-clause-state
-returns-clause-state g c =
+pub returns : goal.returns
+returns g c =
     let i = c.args.inputs.now in
     let p = problem_of i in
     let s = c.args.self.now in
@@ -133,7 +134,7 @@ returns-clause-state g c =
       blank = c.requires.state.blank;
       going = under_way_along p i.rules s.aim c.args.self.now.method (k + 1) _ _ _ _ _ _ _ _ _ _ _ _
           (shared_visit p (inputs_problem i) c.requires.state.start_inside i.rules s.aim c.requires.state.is_aim c.args.self.now.method k v at inside
-          s.found.rows s.found.ranking s.order.items s.arena.fights s.found.candidates s.found.copied s.cache.known c.requires.state.going
+          (progress_of s) c.requires.state.going
           e.warrior is.warrior_is is.rules_hold is.is_warrior is.fits u look apart)
           (sym c.set-2.ensures)
           (sym c.in_ok-rank.ensures)
