@@ -2,9 +2,9 @@
 //! `print_optimum` is the theorem that `tune_run` carries, at the texts of this program.
 #![tactic(auto)]
 
-ghost use Rattle.std.specs.Prelude.{◌≡◌, ℕ, List, [], ◌∷◌, Option, false, OnOk};
+ghost use Rattle.std.specs.Prelude.{◌≡◌, [], ◌∷◌, false, OnOk};
 ghost use Rattle.rc_instr.specs.Rules.{rules_view};
-ghost use Rattle.tune_runs.specs.TuneRun.{texts, WritesTuning};
+ghost use Rattle.tune_runs.specs.TuneRun.{texts, WritesOptimum};
 
 use rc_instr::{Outlet, Rules};
 use std::alloc::Global;
@@ -26,9 +26,8 @@ fn print_optimum<W: Write>(alloc: Global, out: &mut Outlet<W>) -> Result<(), Run
 
     // What was printed is the report of the optimum of these texts under the standard rules, found
     // by a search that remembers one setting.
-    ensures { OnOk result ((cert : Option (List ℕ)) × (written : Option (List ℕ))
-        × WritesTuning (texts TEMPLATE.now (OPPONENT.now ∷ []) SCHEDULE.now (rules_view 8000 80000 8000 100 100)) (Method.Dropping 1)
-        out.old.bytes out.new.bytes cert written) }
+    ensures { let t = texts TEMPLATE.now (OPPONENT.now ∷ []) SCHEDULE.now (rules_view 8000 80000 8000 100 100) in
+        OnOk result (WritesOptimum t (Method.Dropping 1) out.old.bytes out.new.bytes) }
 {
     let opponents = [OPPONENT.to_vec(alloc)?];
     let rules = Rules::standard();

@@ -1,10 +1,10 @@
 -- A tuning for the best setting, whatever its total, is a tuning.
-use Rattle.std.proofs.Common.{◌≡◌, ℕ, zero, suc, ℤ, ◌+◌, ◌<◌, arith, Bool, cond, true, false, List, [], Option, Some, None, Result, Ok, Err, OnOk, refl, sym, ◌∙◌, ap, subst, length}
+use Rattle.std.proofs.Common.{◌≡◌, ℕ, zero, suc, ℤ, ◌+◌, ◌<◌, arith, Bool, cond, false, List, [], Option, Some, None, Result, Ok, Err, OnOk, refl, sym, ◌∙◌, ap, subst}
 use Rattle.std.specs.List.{count_by, range_with_len, slice_get}
 use Rattle.std.proofs.lemmas.List.Sums.{sum_by-cons}
 use Rattle.std.specs.Option.{is_some, option_map}
 use Rattle.std.specs.Io.KnownBytes.{Appends}
-use Rattle.rc_instr.specs.Warrior.{WarriorView}
+use Rattle.rc_instr.specs.Outlet.{OutletView}
 use Rattle.tune_template.specs.Instances.{constants_of}
 use Rattle.tune_problem.specs.Inputs.{InputsView, settings_of}
 use Rattle.tune_problem.specs.Problem.{Problem, problem_of}
@@ -20,7 +20,7 @@ use Rattle.tune_search.specs.declared.findings.Findings.{Findings}
 use Rattle.tune_search.specs.declared.method.Method.{Method}
 use Rattle.tune_search.proofs.Finish.{as_found, none_best}
 use Rattle.tune_runs.specs.Report.{Report, constants_with, report_for, report_from, report_text, told}
-use Rattle.tune_runs.specs.TuneRun.{Texts, WritesTuning, WritesTuningFrom, answer_of}
+use Rattle.tune_runs.specs.TuneRun.{Texts, IsTuneRun, WritesTuning, WritesTuningFrom, answer_of}
 use Rattle.tune_runs.specs.declared.fault.RunFault.{RunFault}
 
 abbrev bit : Bool → ℕ
@@ -36,7 +36,7 @@ none_count g a (suc n) h =
     let none : bit (g a) ≡ 0 = ap bit here in
     omega (arith, more, rest, none)
 
-no_candidates : (p : Problem) → NoneAssembles p → candidates_of p ≡ 0
+pub no_candidates : (p : Problem) → NoneAssembles p → candidates_of p ≡ 0
 unfolding candidates_of
 no_candidates p none = none_count (λ v. is_some (p.warrior v)) 0 p.count (λ k l. let at : 0 + k ≡ k = omega arith in ap (λ v. is_some (p.warrior v)) at ∙ ap is_some (none k l))
 
@@ -85,6 +85,19 @@ writes_tuning t method a b c d (i, f, (means, s, some), wrote_cert, wrote_report
       subst (λ (r : Report). Appends a b (report_text r)) (same_report t method i f s some best.0 values.0 best.1 values.1) wrote_report,
     )
 
-pub is_tuning : {X : Type 0} (r : Result X RunFault) (t : Texts) (method : Method) (a b c d : Option (List ℕ)) → OnOk r (WritesTuningFrom t the_best method a b c d) → OnOk r (WritesTuning t method a b c d)
-is_tuning (Ok x) t method a b c d h = writes_tuning t method a b c d h
-is_tuning (Err e) t method a b c d h = tt
+as_written : {X : Type 0} (r : Result X RunFault) (t : Texts) (method : Method) (a b c d : Option (List ℕ)) → OnOk r (WritesTuningFrom t the_best method a b c d) → OnOk r (WritesTuning t method a b c d)
+as_written (Ok x) t method a b c d h = writes_tuning t method a b c d h
+as_written (Err e) t method a b c d h = tt
+
+-- the run of such a tuning is the run of a tuning
+pub is_tuning : {X : Type 0} (r : Result X RunFault) (t : Texts) (method : Method) (a b c d : OutletView) → IsTuneRun t (WritesTuningFrom t the_best method) r a b c d → IsTuneRun t (WritesTuning t method) r a b c d
+is_tuning r t method a b c d h = record {
+  done = as_written r t method a.bytes b.bytes c.bytes d.bytes h.done;
+  stopped = h.stopped;
+  write = h.write;
+  unwritten = h.unwritten;
+  refused = h.refused;
+  order = h.order;
+  before = h.before;
+  flushed = h.flushed;
+}

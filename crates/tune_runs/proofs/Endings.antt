@@ -1,12 +1,11 @@
--- How runs of tunings and checks end.
-use Rattle.std.proofs.Common.{◌≡◌, ◌≢◌, ◌⊎◌, Bool, false, inl, inr, refl, sym, Result, Ok, Err, IsErrOf, IsTrue, ◌∙◌}
+-- How runs of tunings end.
+use Rattle.std.proofs.Common.{◌≡◌, ◌≢◌, ◌⊎◌, ℕ, List, Option, Bool, false, inl, inr, refl, sym, Result, Ok, Err, IsErrOf, IsTrue, ◌∙◌}
 use Rattle.rc_instr.specs.Outlet.{OutletView}
 use Rattle.tune_problem.specs.Inputs.{InputsView}
 use Rattle.tune_problem.specs.Problem.{problem_of}
 use Rattle.tune_search.specs.Found.{NoneAssembles}
 use Rattle.tune_runs.specs.Runs.{IsMemory}
 use Rattle.tune_runs.specs.TuneRun.{Texts, meaning_of, HasNoCandidate, IsTuneRun}
-use Rattle.tune_runs.specs.CheckRun.{IsCheckRun}
 use Rattle.tune_runs.specs.declared.fault.RunFault.{RunFault}
 use Rattle.tune_runs.specs.declared.fault.RunFault.TheVariants.{NoCandidate, Write, OutOfMemory}
 
@@ -17,9 +16,11 @@ other_fault : (X : Type 0) (e : RunFault) (r : Result X RunFault) → r ≡ Err 
 other_fault X e r is other same = other (search (sym is ∙ same))
 
 -- a tuning that returns a fault before it writes has written nothing
-pub refused_tuning : (X : Type 0) (r : Result X RunFault) (e : RunFault) (t : Texts) (report cert : OutletView) → r ≡ Err e → report.failed ≡ false → cert.failed ≡ false → e ≢ Write
-    → ((¬ IsMemory e) → (meaning_of t ≡ Err e) ⊎ ((e ≡ NoCandidate) × HasNoCandidate t)) → IsTuneRun t r report report cert cert
-refused_tuning X r e t report cert is whole_report whole_cert other says = record {
+pub refused_tuning : (X : Type 0) (r : Result X RunFault) (e : RunFault) (t : Texts) (Wrote : (report_old report_new cert_old cert_new : Option (List ℕ)) → Type 0) (report cert : OutletView)
+    → r ≡ Err e → report.failed ≡ false → cert.failed ≡ false → e ≢ Write
+    → ((¬ IsMemory e) → (meaning_of t ≡ Err e) ⊎ ((e ≡ NoCandidate) × HasNoCandidate t)) → IsTuneRun t Wrote r report report cert cert
+refused_tuning X r e t Wrote report cert is whole_report whole_cert other says = record {
+  done = rw is tt;
   stopped = λ same. absurd (other_fault X e r is other same);
   write = (
     λ same. absurd (other_fault X e r is other same),
@@ -30,15 +31,6 @@ refused_tuning X r e t report cert is whole_report whole_cert other says = recor
   order = λ f. refl;
   before = inl refl;
   flushed = rw is tt;
-}
-
--- a check that returns a fault before it writes has written nothing
-pub refused_check : (X : Type 0) (r : Result X RunFault) (e : RunFault) (t : Texts) (out : OutletView) → r ≡ Err e → out.failed ≡ false → e ≢ Write
-    → ((¬ IsMemory e) → meaning_of t ≡ Err e) → IsCheckRun t r out out
-refused_check X r e t out is whole other says = record {
-  stopped = λ same. absurd (other_fault X e r is other same);
-  write = (λ same. absurd (other_fault X e r is other same), λ failed. absurd (not_failed out.failed whole failed));
-  refused = rw is (λ o. (refl, says));
 }
 
 -- what a search without a result says of the texts

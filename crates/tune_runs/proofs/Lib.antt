@@ -2,11 +2,14 @@ pub mod Parting
 pub mod Repeats
 pub mod Constants
 pub mod Meaning
+pub mod TextFaults
 pub mod Tunings
 pub mod Endings
 pub mod Writable
+pub mod Verdicts
 pub mod Certified
 pub mod AcceptedParts
 pub mod SharedChecks
 pub mod BestTunings
 pub mod Appended
+pub mod AimedChecks

@@ -5,7 +5,7 @@ use Rattle.std.proofs.lemmas.Bool.{and_parts}
 use borrow.Author.Tests.{le-leb}
 use Rattle.rc_instr.specs.Results.{with_fault, check}
 use Rattle.rc_instr.proofs.CheckSteps.{at_most}
-use Rattle.rc_asm.proofs.Outcomes.{went_on, ok_of}
+use Rattle.rc_instr.proofs.Chains.{went_on, ok_of}
 use Rattle.mars_fight.specs.Schedule.{schedule_of}
 use Rattle.tune_template.specs.Instances.{setting_count, template_of}
 use Rattle.tune_problem.specs.Limits.{MOST_OPPONENTS}

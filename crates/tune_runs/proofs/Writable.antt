@@ -1,5 +1,5 @@
--- What a search found can be written down as a certificate.
-use Rattle.std.proofs.Common.{◌≡◌, ℕ, suc, ◌+◌, ◌*◌, ◌^◌, ◌<◌, ◌≤◌, arith, List, [], ◌∷◌, Some, Ok, All, length, refl, sym, subst, inl, inr}
+-- What a search found can be written down as a certificate, with either answer.
+use Rattle.std.proofs.Common.{◌≡◌, ℕ, suc, ◌+◌, ◌*◌, ◌^◌, ◌<◌, ◌≤◌, arith, List, [], ◌∷◌, Option, Some, None, Ok, All, length, refl, sym, subst, inl, inr}
 use Rattle.std.specs.List.{slice_get, sum_by}
 use Rattle.std.proofs.lemmas.List.Sums.{sum_by-le}
 use Rattle.std.proofs.lemmas.List.Elements.{All-nil, All-cons}
@@ -15,13 +15,23 @@ use Rattle.tune_template.specs.Limits.{MOST_SETTINGS}
 use Rattle.tune_problem.specs.Problem.{Problem, IsProblem}
 use Rattle.tune_problem.specs.Optimum.{total_of, greatest_of}
 use Rattle.tune_problem.specs.Valid.{IsCapRow, IsRightRow, IsOwnVersion, cert_of}
-use Rattle.tune_cert.specs.Spelling.{IsVersion, IsItem, IsRow, IsCert}
+use Rattle.tune_problem.specs.Below.{IsRowBelow, cert_with}
+use Rattle.tune_problem.specs.Ranking.{first_of}
+use Rattle.tune_cert.specs.CertText.{statement_with}
+use Rattle.tune_cert.specs.Spelling.{IsVersion, IsItem, IsRow, IsCert, IsStatement, FitsU32}
+use Rattle.tune_problem.specs.declared.aim.Aim.{Aim}
+use Rattle.tune_problem.specs.declared.cert.Cert.{Cert}
 use Rattle.tune_problem.specs.declared.cert.Found.{Found}
 use Rattle.tune_problem.specs.declared.cert.Row.{Row}
 use Rattle.tune_problem.specs.declared.cert.Row.TheVariants.{Refused, Same, Cap}
+use Rattle.tune_problem.specs.declared.statement.Statement.{Statement}
+use Rattle.tune_problem.specs.declared.watcher.Best.{Best}
 use Rattle.tune_problem.proofs.CapRows.{total_few}
 use Rattle.tune_search.specs.Found.{IsSearch}
+use Rattle.tune_search.specs.Findings.{IsBestFrom, IsCertified, IsSearchFrom}
+use Rattle.tune_search.specs.declared.findings.Findings.{Findings}
 use Rattle.tune_search.specs.declared.method.Method.{Method}
+use Rattle.tune_runs.specs.TuneRun.{answer_of}
 
 -- the fights of a schedule cannot give more than `MOST_TOTAL`
 pub most_points : (rules : RulesView) (opponents : ℕ) (bytes : List ℕ) (fights : List Fight) → schedule_of rules opponents bytes ≡ Ok fights → greatest_total fights ≤ MOST_TOTAL
@@ -43,18 +53,24 @@ module _ (p : Problem) (laws : IsProblem p) (few : p.fights ≤ MOST_FIGHTS) (mo
       let small : e.0 < 2 ^ 32 = omega (arith, few, h.1) in
       All-cons IsItem e row (small, subst ArePoints (sym h.2) (laws.scores x e.0)) (items_of x (e.0 + 1) row h.3)
 
+  rows_of : (rows : List Row) → ((v : ℕ) (row : Row) → slice_get rows v ≡ Some row → IsRow row) → All IsRow rows
+  rows_of [] h = All-nil IsRow
+  rows_of (row ∷ rows) h = All-cons IsRow row rows (h 0 row refl) (rows_of rows (λ v r at. h (suc v) r at))
+
+  module _ (small : p.count ≤ MOST_SETTINGS) where
+    row_of : (c : Cert) (v : ℕ) (row : Row) → IsRightRow p c v row → IsRow row
+    row_of c v Refused h = tt
+    row_of c v (Same u) h = omega (arith, h.3, small)
+    row_of c v (Cap row) h = items_of h.0 0 row h.2
+
+    row_below : (floor : ℕ) (rows : List Row) (v : ℕ) (row : Row) → IsRowBelow p floor rows v row → IsRow row
+    row_below floor rows v Refused h = tt
+    row_below floor rows v (Same u) h = omega (arith, h.3, small)
+    row_below floor rows v (Cap row) h = items_of h.0 0 row h.2
+
   module _ (method : Method) (f : Found) (s : IsSearch p method f) where
     all_rows : length f.rows ≡ p.count
     all_rows = s.valid.rows_are
-
-    row_of : (v : ℕ) (row : Row) → IsRightRow p (cert_of f) v row → IsRow row
-    row_of v Refused h = tt
-    row_of v (Same u) h = let few_rows : length f.rows ≤ MOST_SETTINGS = s.few in omega (arith, h.3, all_rows)
-    row_of v (Cap row) h = items_of h.0 0 row h.2
-
-    rows_of : (rows : List Row) → ((v : ℕ) (row : Row) → slice_get rows v ≡ Some row → IsRow row) → All IsRow rows
-    rows_of [] h = All-nil IsRow
-    rows_of (row ∷ rows) h = All-cons IsRow row rows (h 0 row refl) (rows_of rows (λ v r at. h (suc v) r at))
 
     pub writable : IsCert (cert_of f)
     writable =
@@ -66,6 +82,35 @@ module _ (p : Problem) (laws : IsProblem p) (few : p.fights ≤ MOST_FIGHTS) (mo
           count = omega arith;
           best = omega (arith, all_rows);
           total = omega (arith, most, total_few p laws s.total_is.0);
-          rows = rows_of f.rows (λ v row at. row_of v row (s.valid.right v row at));
+          rows = rows_of f.rows (λ v row at. row_of (omega (arith, all_rows)) (cert_of f) v row (s.valid.right v row at));
           few = omega arith;
         }
+
+  -- with an aim, whose floor can be written down
+  module _ (aim : Aim) (fits : FitsU32 aim.floor) (method : Method) (f : Findings) (s : IsSearchFrom p aim method f) where
+    abbrev said : Option Best → Statement
+    said best = statement_with f.version (answer_of aim.floor best) f.rows
+
+    by_best : (o : Option Best) → IsCertified p aim.floor f.version f.rows o → IsBestFrom p aim.floor o → IsStatement (said o)
+    by_best None h best =
+        let few_rows : length f.rows ≤ MOST_SETTINGS = s.few in
+        record {
+          version = is_version p f.version s.version;
+          count = omega arith;
+          answer = fits;
+          rows = rows_of f.rows (λ v row at. row_below (omega (arith, few_rows, h.rows_are)) aim.floor f.rows v row (h.right v row at));
+          few = omega arith;
+        }
+    by_best (Some b) h best =
+        let few_rows : length f.rows ≤ MOST_SETTINGS = s.few in
+        let total : total_of p best.1.0 ≡ b.total = best.1.2 in
+        record {
+          version = is_version p f.version s.version;
+          count = omega arith;
+          answer = (omega (arith, few_rows, h.rows_are, h.best_inside), omega (arith, total, most, total_few p laws best.1.0));
+          rows = rows_of f.rows (λ v row at. row_of (omega (arith, few_rows, h.rows_are)) (cert_with f.version (length f.rows) f.rows b) v row (h.right v row at));
+          few = omega arith;
+        }
+
+    pub writable_from : IsStatement (said (first_of f.ranking))
+    writable_from = by_best (first_of f.ranking) s.certified s.best

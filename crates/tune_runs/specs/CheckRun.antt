@@ -1,8 +1,6 @@
 -- What the run of a check writes.
-use Rattle.std.specs.Prelude.{◌≡◌, ◌≢◌, ◌↔◌, ℕ, Bool, true, false, nat_lt, if◌then◌else◌, map, List, ◌∷◌, [], ◌++◌, codes, Option, Some, None, Result, Ok, Err, IfErr, IsOk, IsErrOf, IsTrue}
+use Rattle.std.specs.Prelude.{◌≡◌, ◌⊎◌, ℕ, Bool, true, false, List, ◌∷◌, [], ◌++◌, codes, Option, Some, None, Result, Ok}
 use Rattle.std.specs.Fmt.{decimal}
-use Rattle.std.specs.Io.KnownBytes.{Appends}
-use Rattle.rc_instr.specs.Outlet.{OutletView}
 use Rattle.tables.specs.Records.{records_of}
 use Rattle.tune_problem.specs.Inputs.{InputsView}
 use Rattle.tune_problem.specs.Problem.{problem_of}
@@ -16,16 +14,15 @@ use Rattle.tune_cert.specs.Judgement.{judgement_of}
 use Rattle.tune_cert.specs.declared.demand.Demand.{Demand}
 use Rattle.tune_cert.specs.declared.verdict.Judgement.{Judgement}
 use Rattle.tune_cert.specs.declared.verdict.Judgement.TheVariants.{Accepted as AcceptedFor, Rejected as RejectedFor}
-use Rattle.tune_runs.specs.Report.{Told, told, rank_lines}
-use Rattle.tune_cert.specs.Verdict.{IsVerdictOf, IsRightVerdict}
+use Rattle.tune_runs.specs.Report.{rank_lines, told_if}
+use Rattle.tune_cert.specs.Verdict.{verdict_of, IsRightVerdict}
 use Rattle.tune_cert.specs.declared.verdict.Reason.{Reason}
 use Rattle.tune_cert.specs.declared.verdict.Reason.TheVariants.{Malformed, RowCount, BestRow, WrongPoints, RepeatedFight, CapTooHigh, NotSame, NotRefused, Version}
 use Rattle.tune_cert.specs.declared.verdict.Verdict.{Verdict}
 use Rattle.tune_cert.specs.declared.verdict.Verdict.TheVariants.{Accepted, Rejected}
 use Rattle.tune_runs.specs.TuneRun.{Texts, meaning_of, Means, HasNoCandidate}
-use Rattle.tune_runs.specs.Runs.{IsMemory, Writes}
+use Rattle.tune_runs.specs.Runs.{Writes}
 use Rattle.tune_runs.specs.declared.fault.RunFault.{RunFault}
-use Rattle.tune_runs.specs.declared.fault.RunFault.TheVariants.{Write}
 
 abbrev pub reason_text : Reason → List ℕ
 reason_text Malformed = codes "Malformed"
@@ -74,11 +71,6 @@ abbrev pub answer_text : Answer → List ℕ
 answer_text (TheBest best) = best_text best.vector best.total
 answer_text (NoneFrom floor) = none_text floor
 
--- The ranking is told if more than one setting is asked for.
-abbrev pub told_if : InputsView → Option ℕ → List Best → List Told
-told_if i None ranking = []
-told_if i (Some keep) ranking = if nat_lt 1 keep then map (told i) ranking else []
-
 -- The lines of a judgement of all rows or of a share: `accepted ..` and those of the ranking, or
 -- `rejected row R REASON`.
 unfoldable pub judgement_lines : InputsView → Demand → Option Part → Judgement → List ℕ
@@ -103,41 +95,56 @@ check_answer t demand share cert = do
     said : InputsView → Judgement → Bool × List ℕ
     said i judgement = (accepts_for judgement, judgement_lines i demand share judgement)
 
--- They were written.
+-- The lines of a check with a demand were written, and `accepted` says whether it accepts.
 abbrev pub WritesJudgement : Texts → Demand → Option Part → List ℕ → Bool → Option (List ℕ) → Option (List ℕ) → Type 0
 WritesJudgement t demand share cert accepted old new = Writes (check_answer t demand share cert) accepted old new
 
 -- ---- checks for the optimum
 
--- The line of the right verdict on the bytes was written; `accepted` says whether it accepts.
+-- The verdict of a share on the bytes, or the first fault of the texts.
+unfoldable pub verdict_given : Texts → Part → List ℕ → Result Verdict RunFault
+verdict_given t share cert = do
+  i ← meaning_of t
+  Ok (verdict_of (problem_of i) share (records_of cert))
+
+-- Whether a check of all rows accepts the bytes, and its line; or the first fault of the texts.
+unfoldable pub verdict_answer : Texts → List ℕ → Result (Bool × List ℕ) RunFault
+verdict_answer t cert = do
+  verdict ← verdict_given t whole cert
+  Ok (accepts verdict, check_line verdict)
+
+-- The line was written, and `accepted` says whether the check accepts.
 abbrev pub WritesVerdict : Texts → List ℕ → Bool → Option (List ℕ) → Option (List ℕ) → Type 0
-WritesVerdict t cert accepted old new =
-    (i : InputsView) × (verdict : Verdict) × Means t i × IsRightVerdict (problem_of i) (records_of cert) verdict
-    × (accepted ≡ accepts verdict) × Appends old new (check_line verdict)
+WritesVerdict t cert accepted old new = Writes (verdict_answer t cert) accepted old new
 
--- The verdict of a share on the bytes, for the inputs in the texts.
-abbrev pub IsVerdictFor : Texts → Part → List ℕ → Verdict → Type 0
-IsVerdictFor t share cert verdict = (i : InputsView) × Means t i × IsVerdictOf (problem_of i) share (records_of cert) verdict
+-- Whether a share accepts the bytes, and its line; or the first fault of the texts.
+unfoldable pub share_answer : Texts → Part → List ℕ → Result (Bool × List ℕ) RunFault
+share_answer t share cert = do
+  verdict ← verdict_given t share cert
+  Ok (accepts verdict, share_line share verdict)
 
--- The line of a share's verdict on the bytes was written; `accepted` says whether it accepts.
+-- The line was written, and `accepted` says whether the share accepts.
 abbrev pub WritesShare : Texts → Part → List ℕ → Bool → Option (List ℕ) → Option (List ℕ) → Type 0
-WritesShare t share cert accepted old new =
-    (verdict : Verdict) × IsVerdictFor t share cert verdict × (accepted ≡ accepts verdict) × Appends old new (share_line share verdict)
+WritesShare t share cert accepted old new = Writes (share_answer t share cert) accepted old new
+
+-- The right verdict on the bytes, for the inputs in the texts.
+abbrev pub HasRightVerdict : Texts → List ℕ → Verdict → Type 0
+HasRightVerdict t cert verdict = (i : InputsView) × Means t i × IsRightVerdict (problem_of i) (records_of cert) verdict
 
 -- The right verdict on the bytes accepts them, with this best setting and total.
 abbrev pub Accepts : Texts → List ℕ → ℕ → ℕ → Type 0
-Accepts t cert best total = (i : InputsView) × Means t i × IsRightVerdict (problem_of i) (records_of cert) (Accepted best total)
+Accepts t cert best total = HasRightVerdict t cert (Accepted best total)
 
--- What is known of a tuning, by its outcome: these bytes are accepted with its best setting and
--- total, or no setting assembles.
-abbrev pub IsShown : Texts → List ℕ → Option (ℕ × ℕ) → Type 0
-IsShown t cert (Some best) = Accepts t cert best.0 best.1
-IsShown t cert None = HasNoCandidate t
+-- A check with this demand accepts these bytes, with this answer.
+abbrev pub AcceptsFor : Texts → Demand → List ℕ → Answer → Type 0
+AcceptsFor t demand cert answer =
+    (i : InputsView) × (ranking : List Best) × Means t i × (judgement_of (problem_of i) demand whole (records_of cert) ≡ AcceptedFor answer ranking)
 
--- How the run of a check ends, beyond what it writes if it succeeds.
-pub record IsCheckRun {X : Type 0} (t : Texts) (result : Result X RunFault) (old new : OutletView) : Type 0 where
-  -- `Write`: the writer failed. The texts have a meaning, and what is out is not said.
-  pub stopped : IsErrOf result Write → IsOk (meaning_of t)
-  pub write : IsErrOf result Write ↔ IsTrue new.failed
-  -- any other fault is that of the texts, unless memory ran out, and nothing was written
-  pub refused : IfErr result (λ e. e ≢ Write → (new ≡ old) × ((¬ IsMemory e) → meaning_of t ≡ Err e))
+-- There is a demand with which a check accepts these bytes, with this answer.
+abbrev pub IsAccepted : Texts → List ℕ → Answer → Type 0
+IsAccepted t cert answer = (demand : Demand) × AcceptsFor t demand cert answer
+
+-- What shows the outcome of a tuning: a check accepts these bytes with it, or no setting assembles.
+abbrev pub IsShown : Texts → List ℕ → Answer → Type 0
+IsShown t cert (TheBest best) = Accepts t cert best.vector best.total ⊎ IsAccepted t cert (TheBest best)
+IsShown t cert (NoneFrom floor) = IsAccepted t cert (NoneFrom floor) ⊎ HasNoCandidate t

@@ -2,12 +2,14 @@
 use Rattle.std.specs.Prelude.{ℕ, ◌+◌, Bool, ◌&&◌, nat_le, List, Option, Result, Ok}
 use Rattle.rc_instr.specs.Results.{with_fault, ◌>>=◌, check}
 use Rattle.rc_instr.specs.Rules.{RulesView}
+use Rattle.rc_instr.specs.Warrior.{Fits}
 use Rattle.rc_instr.specs.Checks.{rules_of}
 use Rattle.rc_instr.specs.Loaded.{load_meaning}
 use Rattle.mars_core.specs.State.{start_of}
 use Rattle.mars_core.specs.Fight.{outcome_of}
 use Rattle.mars_core.specs.declared.arena.Outcome.{Outcome}
 use Rattle.mars_core.specs.declared.side.Side.TheVariants.{Candidate, Opponent}
+use Rattle.mars_fight.specs.Listed.{IsPosition}
 use Rattle.tune_runs.specs.FightText.{fight_words}
 use Rattle.tune_runs.specs.ResultLine.{result_line}
 use Rattle.tune_runs.specs.Runs.{load_fault, Writes}
@@ -28,6 +30,10 @@ fight_named text = do
   o ← with_fault (load_fault Opponent) (load_meaning rules w.opponent)
   _ ← check (keeps_distance rules w.position) Position
   Ok (record { rules = rules; candidate = c; opponent = o; position = w.position; first = w.first })
+
+-- Both warriors of a fight fit its rules, and its position keeps the distance of the rules.
+abbrev pub KeepsRules : NamedFight → Type 0
+KeepsRules f = Fits f.rules f.candidate × Fits f.rules f.opponent × IsPosition f.rules f.position
 
 -- How a fight ends.
 abbrev pub outcome_for : NamedFight → Outcome

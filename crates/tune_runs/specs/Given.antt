@@ -1,12 +1,13 @@
 -- What runs are given, as the definitions have it.
-use Rattle.std.specs.Prelude.{map}
+use Rattle.std.specs.Prelude.{ℕ, List, map}
+use Rattle.std.specs.Global.{Vec}
 use Rattle.rc_instr.specs.Rules.{RulesView, rules_view}
 use Rattle.tune_problem.specs.Parts.{part}
 use Rattle.tune_problem.specs.declared.part.Part.{Part}
 use Rattle.tune_cert.specs.declared.share.Share.{Share}
 use Rattle.tune_runs.specs.FightText.{FightWords}
 use Rattle.tune_runs.specs.DuelRun.{Duel, duel}
-use Rattle.tune_runs.specs.TuneRun.{Texts, part_texts}
+use Rattle.tune_runs.specs.TuneRun.{Texts, part_texts, texts}
 use Rattle.tune_runs.specs.declared.fight_text.FightText.{FightText}
 use Rattle.tune_runs.specs.declared.given.RawRules.{RawRules}
 use Rattle.tune_runs.specs.declared.given.DuelTexts.{DuelTexts}
@@ -27,6 +28,10 @@ duel_given t = duel t.candidate.now t.opponent.now t.rules.now t.position t.firs
 -- The texts of a tuning.
 abbrev pub texts_given : TuneTexts → Texts
 texts_given t = part_texts t.template.now (map (λ o. o.items) t.opponents.now) t.schedule.now t.rules.now t.part
+
+-- The texts of a tuning of all settings.
+abbrev pub all_given : (template : List ℕ) → List (Vec ℕ) → (schedule : List ℕ) → RulesView → Texts
+all_given template opponents schedule rules = texts template (map (λ o. o.items) opponents) schedule rules
 
 -- A share, as some of the settings.
 abbrev pub part_given : Share → Part

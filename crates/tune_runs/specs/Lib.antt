@@ -9,6 +9,8 @@ pub mod FightRun
 pub mod Report
 pub mod TuneRun
 pub mod CheckRun
+pub mod Agreement
+pub mod AimedRuns
 pub mod SettingRun
 pub mod SettingsRun
 pub mod DuelRun

@@ -29,7 +29,7 @@ pub record Report : Type 0 where
   -- the fights that were played, and all fights of all candidates
   pub fights : ℕ
   pub all_fights : ℕ
-  -- the first of the ranking, if they are told
+  -- the settings of the ranking that have a line
   pub ranking : List Told
 
 unfoldable pub number_line : List ℕ → ℕ → List ℕ
@@ -56,7 +56,7 @@ constants_or_none (c ∷ cs) = constants_text (c ∷ cs)
 unfoldable pub constants_line : Table → List ℕ
 constants_line cs = codes "constants" ++ constants_or_none cs ++ 10 ∷ []
 
--- The lines that no total reaches the floor.
+-- The lines of a report without a best setting, since no candidate reaches the floor.
 unfoldable pub none_lines : (floor most : ℕ) → List ℕ
 none_lines floor most = codes "best -\n" ++ codes "constants -\n" ++ share_line (codes "total below ") floor most
 
@@ -113,9 +113,10 @@ told i best = (best, constants_with i (slice_get (settings_of i) best.vector))
 abbrev pub IsSettingOf : InputsView → Best → Type 0
 IsSettingOf i best = best.vector < length (settings_of i)
 
--- The ranking is told if more than one setting is kept.
-abbrev pub ranking_told : InputsView → Aim → List Best → List Told
-ranking_told i aim ranking = if nat_lt 1 aim.keep then map (told i) ranking else []
+-- The settings that have a line: those of the ranking, if more than one is asked for.
+abbrev pub told_if : InputsView → Option ℕ → List Best → List Told
+told_if i None ranking = []
+told_if i (Some keep) ranking = if nat_lt 1 keep then map (told i) ranking else []
 
 -- The report of what a search with an aim found.
 abbrev pub report_from : InputsView → Aim → Findings → Report
@@ -127,5 +128,5 @@ report_from i aim f = record {
   most = greatest_of (problem_of i);
   fights = f.fights;
   all_fights = candidates_of (problem_of i) * length i.schedule;
-  ranking = ranking_told i aim f.ranking;
+  ranking = told_if i (Some aim.keep) f.ranking;
 }

@@ -1,7 +1,6 @@
 -- How runs end.
 use Rattle.std.specs.Prelude.{◌≡◌, ◌≢◌, ◌↔◌, ℕ, List, Option, Result, Ok, Err, IfOk, IfErr, IsOk, IsErrOf, IsTrue}
 use Rattle.std.specs.Io.KnownBytes.{Appends}
-use Rattle.rc_instr.specs.Results.{Returns as ReturnsBut}
 use Rattle.rc_instr.specs.Outlet.{OutletView}
 use Rattle.rc_instr.specs.declared.loadfile.fault.LoadFault.{LoadFault}
 use Rattle.rc_instr.specs.declared.loadfile.fault.LoadFault.TheVariants.{OutOfMemory as LoadMemory}
@@ -57,9 +56,11 @@ load_fault side fault = Load side fault
 abbrev pub IsMemory : RunFault → Type 0
 IsMemory fault = fault ≡ OutOfMemory
 
--- A call returns what the definition gives, seen through `view`, unless memory runs out.
+-- A call returns what the definition gives, seen through `view`, unless memory runs out. It writes
+-- nothing, so its fault is not `Write`.
 abbrev pub Returns : {A B : Type 0} → (view : A → B) → (result : Result A RunFault) → (definition : Result B RunFault) → Type 0
-Returns view result definition = ReturnsBut IsMemory view result definition
+Returns view (Ok x) definition = definition ≡ Ok (view x)
+Returns view (Err e) definition = (e ≢ Write) × ((¬ IsMemory e) → definition ≡ Err e)
 
 -- The answer has this value, and all bytes of its text were appended.
 abbrev pub Writes : {X : Type 0} → Result (X × List ℕ) RunFault → X → Option (List ℕ) → Option (List ℕ) → Type 0

@@ -1,5 +1,5 @@
 -- What the texts of a tuning mean, what its run writes, and why it refuses.
-use Rattle.std.specs.Prelude.{◌≡◌, ◌≢◌, ◌↔◌, ◌⊎◌, ℕ, ◌+◌, ◌<◌, ℤ, Bool, ◌&&◌, nat_le, List, [], ◌∷◌, length, slice_get, Option, Some, None, true, Result, Ok, Err, IfErr, OnOk, IsOk, IsErrOf, IsTrue}
+use Rattle.std.specs.Prelude.{◌≡◌, ◌≢◌, ◌↔◌, ◌⊎◌, ℕ, ◌+◌, ◌<◌, ℤ, Bool, ◌&&◌, nat_le, List, [], ◌∷◌, length, slice_get, Option, Some, None, true, false, Result, Ok, Err, IfErr, OnOk, IsOk, IsErrOf, IsTrue}
 use Rattle.std.specs.Io.KnownBytes.{Appends}
 use Rattle.rc_instr.specs.Results.{with_fault, ◌>>=◌, check}
 use Rattle.rc_instr.specs.Rules.{RulesView}
@@ -30,7 +30,7 @@ use Rattle.tune_search.specs.declared.fault.SearchFault.TheVariants.{NoCandidate
 use Rattle.tune_runs.specs.Report.{report_text, report_for, report_from}
 use Rattle.tune_runs.specs.Runs.{opponent_fault, template_fault, schedule_fault, IsMemory}
 use Rattle.tune_runs.specs.declared.fault.RunFault.{RunFault}
-use Rattle.tune_runs.specs.declared.fault.RunFault.TheVariants.{TooManyOpponents, NoCandidate, Write, OutOfMemory, Part as BadPart}
+use Rattle.tune_runs.specs.declared.fault.RunFault.TheVariants.{TooManyOpponents, Template, Opponent, Schedule, NoCandidate, Write, OutOfMemory, Part as BadPart}
 
 -- The texts of a tuning, its rules, and the part of the template's settings that it searches.
 pub record Texts : Type 0 where
@@ -74,6 +74,16 @@ meaning_of t = do
   _ ← check (is_part t.part (setting_count template)) BadPart
   Ok (record { template = template; opponents = opponents; schedule = schedule; rules = t.rules; part = t.part })
 
+-- The faults that the texts may have, apart from a part that does not exist. Memory is among them,
+-- since `template_fault` and the like can give it; no text has that fault.
+abbrev pub is_text_fault : RunFault → Bool
+is_text_fault TooManyOpponents = true
+is_text_fault (Template fault) = true
+is_text_fault (Opponent index fault) = true
+is_text_fault (Schedule fault) = true
+is_text_fault OutOfMemory = true
+is_text_fault _ = false
+
 abbrev pub Means : Texts → InputsView → Type 0
 Means t i = meaning_of t ≡ Ok i
 
@@ -98,6 +108,11 @@ WritesTuning t method report_old report_new cert_old cert_new =
     (i : InputsView) × (f : Found) × (values : List ℤ) × IsTuning t method i f values
     × Appends cert_old cert_new (cert_text (cert_of f)) × Appends report_old report_new (report_text (report_for i f values))
 
+-- The report of what the tuning finds was written, and a certificate to some writer.
+abbrev pub WritesOptimum : Texts → Method → (report_old report_new : Option (List ℕ)) → Type 0
+WritesOptimum t method report_old report_new =
+    (cert_old : Option (List ℕ)) × (cert_new : Option (List ℕ)) × WritesTuning t method report_old report_new cert_old cert_new
+
 -- What a tuning with an aim finds: the inputs that the texts mean, some of whose settings assemble,
 -- and what a search by this method finds for them.
 abbrev pub IsTuningFrom : Texts → Aim → Method → InputsView → Findings → Type 0
@@ -115,8 +130,12 @@ WritesTuningFrom t aim method report_old report_new cert_old cert_new =
     × Appends cert_old cert_new (statement_text (statement_with f.version (answer_of aim.floor (first_of f.ranking)) f.rows))
     × Appends report_old report_new (report_text (report_from i aim f))
 
--- How a run of a tuning ends, beyond what it writes if it succeeds.
-pub record IsTuneRun {X : Type 0} (t : Texts) (result : Result X RunFault) (report_old report_new cert_old cert_new : OutletView) : Type 0 where
+-- How a run of a tuning ends. `Wrote` says of the bytes of report and certificate, before and
+-- after, what a run writes that succeeds.
+pub record IsTuneRun {X : Type 0} (t : Texts) (Wrote : (report_old report_new cert_old cert_new : Option (List ℕ)) → Type 0) (result : Result X RunFault)
+    (report_old report_new cert_old cert_new : OutletView) : Type 0 where
+  -- it succeeded: both were written
+  pub done : OnOk result (Wrote report_old.bytes report_new.bytes cert_old.bytes cert_new.bytes)
   -- `Write`: a writer failed. The texts have a meaning, and what is out is not said.
   pub stopped : IsErrOf result Write → IsOk (meaning_of t)
   pub write : IsErrOf result Write ↔ (IsTrue report_new.failed ⊎ IsTrue cert_new.failed)

@@ -1,5 +1,5 @@
 //! An assembly: from a Redcode text to a load file.
-ghost use Rattle.std.specs.Prelude.{◌≡◌, ◌≢◌, [], false, IfOk, IfErr};
+ghost use Rattle.std.specs.Prelude.{◌≡◌, [], false, IfOk};
 ghost use Rattle.rc_instr.specs.Warrior.{Fits};
 ghost use Rattle.rc_instr.specs.LoadText.{load_text};
 ghost use Rattle.rc_asm.specs.Faults.{Returns as Assembled};
@@ -40,8 +40,7 @@ pub fn asm_run<W: Write>(
 
 #[tactic(auto, unfolding(crate::specs::AsmRun::asm_answer))]
 fn asm_text(alloc: Global, source: &[u8], rules: &Rules) -> Result<Vec<u8>, RunFault>
-    ensures answer { Returns (λ file. (tt, file.items)) result (asm_answer source.now rules.now) }
-    ensures unwritten { IfErr result (λ e. e ≢ RunFault.Write) }
+    ensures { Returns (λ file. (tt, file.items)) result (asm_answer source.now rules.now) }
 {
     let warrior = warrior_of(alloc, source, rules)?;
     Ok(loadfile_of(alloc, &warrior, rules)?)
@@ -56,7 +55,6 @@ fn asm_text(alloc: Global, source: &[u8], rules: &Rules) -> Result<Vec<u8>, RunF
 pub fn warrior_of(alloc: Global, source: &[u8], rules: &Rules) -> Result<Warrior, RunFault>
     ensures warrior { Returns (λ w. w) result (warrior_of source.now rules.now) }
     ensures fits { IfOk result (Fits rules.now) }
-    ensures unwritten { IfErr result (λ e. e ≢ RunFault.Write) }
 {
     Ok(assembled(alloc, source, rules)?)
 }

@@ -1,12 +1,10 @@
 //! A check: from texts and a certificate to the line of the verdict.
-ghost use Rattle.std.specs.Prelude.{◌≡◌, ◌≢◌, map, true, false, IfOk, IfErr, Err};
+ghost use Rattle.std.specs.Prelude.{◌≡◌, ◌≢◌, true, false, IfErr};
 ghost use Rattle.std.specs.Option.{option_map};
-ghost use Rattle.tune_runs.specs.TuneRun.{texts, meaning_of};
-ghost use Rattle.tune_runs.specs.Runs.{IsMemory, IsRun, Returns};
-ghost use Rattle.tune_runs.specs.Given.{texts_given, part_given};
+ghost use Rattle.tune_runs.specs.Runs.{IsRun, Returns};
+ghost use Rattle.tune_runs.specs.Given.{all_given, texts_given, part_given};
 ghost use Rattle.tune_problem.specs.Parts.{part};
-ghost use Rattle.tune_cert.specs.Judgement.{IsDemand};
-ghost use Rattle.tune_runs.specs.CheckRun.{accepts, accepts_for, check_answer, share_meant, IsCheckRun, IsVerdictFor, WritesVerdict, WritesShare};
+ghost use Rattle.tune_runs.specs.CheckRun.{accepts, accepts_for, check_answer, share_answer, share_meant, verdict_answer, verdict_given};
 
 use crate::fault::RunFault;
 use crate::given::TuneTexts;
@@ -44,12 +42,9 @@ pub fn check_run<W: Write>(
 ) -> Result<bool, RunFault>
     requires { out.old.failed ≡ false }
 
-    // What was written is the line of the right verdict on the certificate, for the inputs in the
-    // texts.
-    ensures verdict { IfOk result (λ accepted. WritesVerdict (texts template.now (map (λ o. o.items) opponents.now) schedule.now rules.now) cert.now accepted out.old.bytes out.new.bytes) }
-
-    // Only texts without a meaning are refused, and then nothing was written.
-    ensures run { IsCheckRun (texts template.now (map (λ o. o.items) opponents.now) schedule.now rules.now) result out.old out.new }
+    // The line is that of the verdict on the certificate, for the inputs in the texts: the right
+    // one, by `laws::a_check_writes_the_right_verdict`.
+    ensures run { IsRun (verdict_answer (all_given template.now opponents.now schedule.now rules.now) cert.now) result out.old out.new }
 
     // Every template has a part 1 of 1.
     ensures whole { IfErr result (λ e. e ≢ RunFault.Part) }
@@ -80,6 +75,7 @@ pub fn check_run<W: Write>(
 ///
 /// Those of `check_run`; and `Part`, after `Schedule`, if there is no such part: nothing is written
 /// then.
+#[tactic(auto, unfolding(crate::specs::CheckRun::verdict_answer))]
 pub fn check_part_run<T: Watcher, W: Write>(
     alloc: Global,
     given: &TuneTexts<'_>,
@@ -88,8 +84,7 @@ pub fn check_part_run<T: Watcher, W: Write>(
     out: &mut Outlet<W>,
 ) -> Result<bool, RunFault>
     requires { out.old.failed ≡ false }
-    ensures verdict { IfOk result (λ accepted. WritesVerdict (texts_given given.now) cert.now accepted out.old.bytes out.new.bytes) }
-    ensures run { IsCheckRun (texts_given given.now) result out.old out.new }
+    ensures run { IsRun (verdict_answer (texts_given given.now) cert.now) result out.old out.new }
 {
     let verdict = verdict_given(alloc, given, Share::whole(), cert, watcher)?;
     let line = verdict_line(alloc, verdict)?;
@@ -108,6 +103,7 @@ pub fn check_part_run<T: Watcher, W: Write>(
 /// # Errors
 ///
 /// Those of `check_part_run`.
+#[tactic(auto, unfolding(crate::specs::CheckRun::share_answer))]
 pub fn check_share_run<T: Watcher, W: Write>(
     alloc: Global,
     given: &TuneTexts<'_>,
@@ -118,12 +114,8 @@ pub fn check_share_run<T: Watcher, W: Write>(
 ) -> Result<bool, RunFault>
     requires { out.old.failed ≡ false }
 
-    // What was written is the line of the share's verdict on the certificate, for the inputs in the
-    // texts.
-    ensures verdict { IfOk result (λ accepted. WritesShare (texts_given given.now) (part share.number share.shares) cert.now accepted out.old.bytes out.new.bytes) }
-
-    // Only texts without a meaning are refused, and then nothing was written.
-    ensures run { IsCheckRun (texts_given given.now) result out.old out.new }
+    // The line is that of the share's verdict on the certificate, for the inputs in the texts.
+    ensures run { IsRun (share_answer (texts_given given.now) (part_given share) cert.now) result out.old out.new }
 {
     let verdict = verdict_given(alloc, given, share, cert, watcher)?;
     let line = share_line(alloc, share, verdict)?;
@@ -134,11 +126,11 @@ pub fn check_share_run<T: Watcher, W: Write>(
 /// Checks a certificate, or a share of its rows, and whether it meets a demand; writes the lines of
 /// the judgement. Returns whether it is accepted.
 ///
-/// With `floor` a certificate is also accepted that no setting totals the floor that is asked for:
-/// the line is then `accepted none below F`. With `keep` above 1 a line `rank I setting W total T
+/// With `floor` F, a certificate may also say that no setting totals F or more (`none,-,F`): the
+/// line is then `accepted none below F`. With `keep` above 1 a line `rank I setting W total T
 /// NAME=value ..` follows for each of the first of the ranking, which the rows then have to show.
-/// For a share the first line is `accepted share I/K ..`; if all K shares accept the same bytes,
-/// they meet the demand. The rest is as for `check_part_run`, which is this run without a demand.
+/// For a share the first line is `accepted share I/K ..`; the bytes meet the demand if all K shares
+/// accept them. The rest is as for `check_part_run`, which is this run without a demand.
 ///
 /// # Errors
 ///
@@ -152,7 +144,6 @@ pub fn check_for_run<T: Watcher, W: Write>(
     cert: &[u8],
     out: &mut Outlet<W>,
 ) -> Result<bool, RunFault>
-    requires demand { IsDemand demand }
     requires out { out.old.failed ≡ false }
 
     // The lines are those of the share's judgement on the certificate, for the inputs in the texts.
@@ -180,9 +171,7 @@ fn judged_lines<T: Watcher>(
     watcher: &mut T,
     cert: &[u8],
 ) -> Result<Judged, RunFault>
-    requires demand { IsDemand demand }
-    ensures answer { Returns (λ j. (j.is_accepted, j.lines.items)) result (check_answer (texts_given given.now) demand (option_map part_given share) cert.now) }
-    ensures unwritten { IfErr result (λ e. e ≢ RunFault.Write) }
+    ensures { Returns (λ j. (j.is_accepted, j.lines.items)) result (check_answer (texts_given given.now) demand (option_map part_given share) cert.now) }
 {
     let inputs = inputs_of(alloc, given)?;
     watcher.begin(&inputs);
@@ -217,6 +206,7 @@ fn is_accepted_for(judgement: &Judgement) -> bool
 
 // Checks a share of a certificate for the inputs in the texts. Tells `watcher` when the check
 // begins and when it has ended.
+#[tactic(auto, unfolding(crate::specs::CheckRun::verdict_given))]
 fn verdict_given<T: Watcher>(
     alloc: Global,
     given: &TuneTexts<'_>,
@@ -224,9 +214,7 @@ fn verdict_given<T: Watcher>(
     cert: &[u8],
     watcher: &mut T,
 ) -> Result<Verdict, RunFault>
-    ensures verdict { IfOk result (IsVerdictFor (texts_given given.now) (part share.number share.shares) cert.now) }
-    ensures refused { IfErr result (λ e. (¬ IsMemory e) → meaning_of (texts_given given.now) ≡ Err e) }
-    ensures others { IfErr result (λ e. (e ≢ RunFault.NoCandidate) × (e ≢ RunFault.Write)) }
+    ensures { Returns (λ v. v) result (verdict_given (texts_given given.now) (part_given share) cert.now) }
 {
     let inputs = inputs_of(alloc, given)?;
     watcher.begin(&inputs);

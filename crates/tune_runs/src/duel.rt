@@ -1,8 +1,7 @@
 //! A fight of two texts: from two Redcode texts to a result line.
-ghost use Rattle.std.specs.Prelude.{◌≡◌, ◌≢◌, false, IfOk, IfErr};
-ghost use Rattle.rc_instr.specs.Warrior.{Fits};
-ghost use Rattle.mars_fight.specs.Listed.{IsPosition};
+ghost use Rattle.std.specs.Prelude.{◌≡◌, false, IfOk};
 ghost use Rattle.tune_runs.specs.Runs.{Returns, IsRun};
+ghost use Rattle.tune_runs.specs.FightRun.{KeepsRules};
 ghost use Rattle.tune_runs.specs.DuelRun.{duel_named, duel_answer};
 ghost use Rattle.tune_runs.specs.Given.{duel_given};
 
@@ -43,8 +42,7 @@ pub fn duel_run<W: Write>(
 }
 
 fn duel_line(alloc: Global, given: &DuelTexts<'_>) -> Result<Vec<u8>, RunFault>
-    ensures answer { Returns (λ line. (tt, line.items)) result (duel_answer (duel_given given.now)) }
-    ensures unwritten { IfErr result (λ e. e ≢ RunFault.Write) }
+    ensures { Returns (λ line. (tt, line.items)) result (duel_answer (duel_given given.now)) }
 {
     let fight = fight_of(alloc, given)?;
     line_of(alloc, &fight)
@@ -54,9 +52,7 @@ fn duel_line(alloc: Global, given: &DuelTexts<'_>) -> Result<Vec<u8>, RunFault>
 #[tactic(auto, unfolding(crate::specs::DuelRun::duel_named))]
 fn fight_of(alloc: Global, given: &DuelTexts<'_>) -> Result<NamedFight, RunFault>
     ensures fight { Returns (λ f. f) result (duel_named (duel_given given.now)) }
-    ensures fits { IfOk result (λ f. Fits f.rules f.candidate × Fits f.rules f.opponent) }
-    ensures apart { IfOk result (λ f. IsPosition f.rules f.position) }
-    ensures unwritten { IfErr result (λ e. e ≢ RunFault.Write) }
+    ensures kept { IfOk result KeepsRules }
 {
     let rules = given.rules;
     let candidate = warrior_of(alloc, given.candidate, rules)?;

@@ -1,20 +1,19 @@
 //! A fight: from a fight text to a result line.
-ghost use Rattle.std.specs.Prelude.{◌≡◌, ◌≢◌, false, IfOk, IfErr, MatchResult};
+ghost use Rattle.std.specs.Prelude.{◌≡◌, false, IfOk, MatchResult};
 ghost use Rattle.rc_instr.specs.Results.{with_fault};
 ghost use Rattle.rc_instr.specs.Warrior.{Fits};
 ghost use Rattle.rc_instr.specs.Loaded.{load_meaning};
-ghost use Rattle.mars_fight.specs.Listed.{IsPosition};
 ghost use Rattle.tune_runs.specs.ResultLine.{result_line};
 ghost use Rattle.tune_runs.specs.Runs.{load_fault, IsMemory, Returns, IsRun};
-ghost use Rattle.tune_runs.specs.FightRun.{fight_named, outcome_for, fight_answer};
+ghost use Rattle.tune_runs.specs.FightRun.{fight_named, outcome_for, fight_answer, KeepsRules};
 
 use crate::fault::{RunFault, load_fault};
 use crate::fight_text::read_fight_text;
 use crate::given::rules_of;
 use crate::lines::result_line;
-use mars_core::{Arena, Outcome, PackedCells, Side};
+use mars_core::{Arena, PackedCells, Side};
 use mars_fight::keeps_distance;
-use rc_instr::{OutOfMemory, Outlet, Rules, Warrior, read_loadfile};
+use rc_instr::{Outlet, Rules, Warrior, read_loadfile};
 use std::alloc::Global;
 use std::io::Write;
 
@@ -51,8 +50,7 @@ pub fn fight_run<W: Write>(alloc: Global, text: &[u8], out: &mut Outlet<W>) -> R
 }
 
 fn fight_line(alloc: Global, text: &[u8]) -> Result<Vec<u8>, RunFault>
-    ensures answer { Returns (λ line. (tt, line.items)) result (fight_answer text.now) }
-    ensures unwritten { IfErr result (λ e. e ≢ RunFault.Write) }
+    ensures { Returns (λ line. (tt, line.items)) result (fight_answer text.now) }
 {
     let fight = read_fight(alloc, text)?;
     line_of(alloc, &fight)
@@ -60,19 +58,17 @@ fn fight_line(alloc: Global, text: &[u8]) -> Result<Vec<u8>, RunFault>
 
 // Plays a fight and makes its result line.
 pub(crate) fn line_of(alloc: Global, fight: &NamedFight) -> Result<Vec<u8>, RunFault>
-    requires candidate { Fits fight.now.rules fight.now.candidate }
-    requires opponent { Fits fight.now.rules fight.now.opponent }
-    requires position { IsPosition fight.now.rules fight.now.position }
+    requires { KeepsRules fight.now }
     ensures { MatchResult result (λ line. line.items ≡ result_line (outcome_for fight.now)) IsMemory }
 {
-    let outcome = play(alloc, fight)?;
-    Ok(result_line(alloc, outcome)?)
+    let mut arena = Arena::<PackedCells>::try_new(alloc, &fight.rules)?;
+    arena.load(&fight.candidate, &fight.opponent, fight.position);
+    Ok(result_line(alloc, arena.run(fight.first))?)
 }
 
 fn load(alloc: Global, bytes: &[u8], rules: &Rules, side: Side) -> Result<Warrior, RunFault>
     ensures warrior { Returns (λ w. w) result (with_fault (load_fault side) (load_meaning rules.now bytes.now)) }
     ensures fits { IfOk result (Fits rules.now) }
-    ensures unwritten { IfErr result (λ e. e ≢ RunFault.Write) }
 {
     match read_loadfile(alloc, bytes, rules) {
         Ok(warrior) => Ok(warrior),
@@ -84,9 +80,7 @@ fn load(alloc: Global, bytes: &[u8], rules: &Rules, side: Side) -> Result<Warrio
 #[tactic(auto, unfolding(crate::specs::FightRun::fight_named))]
 fn read_fight(alloc: Global, text: &[u8]) -> Result<NamedFight, RunFault>
     ensures fight { Returns (λ f. f) result (fight_named text.now) }
-    ensures fits { IfOk result (λ f. Fits f.rules f.candidate × Fits f.rules f.opponent) }
-    ensures apart { IfOk result (λ f. IsPosition f.rules f.position) }
-    ensures unwritten { IfErr result (λ e. e ≢ RunFault.Write) }
+    ensures kept { IfOk result KeepsRules }
 {
     let words = match read_fight_text(text) {
         Ok(words) => words,
@@ -108,15 +102,4 @@ fn read_fight(alloc: Global, text: &[u8]) -> Result<NamedFight, RunFault>
         position: words.position,
         first: words.first,
     })
-}
-
-fn play(alloc: Global, fight: &NamedFight) -> Result<Outcome, OutOfMemory>
-    requires candidate { Fits fight.now.rules fight.now.candidate }
-    requires opponent { Fits fight.now.rules fight.now.opponent }
-    requires position { IsPosition fight.now.rules fight.now.position }
-    ensures { IfOk result (λ o. o ≡ outcome_for fight.now) }
-{
-    let mut arena = Arena::<PackedCells>::try_new(alloc, &fight.rules)?;
-    arena.load(&fight.candidate, &fight.opponent, fight.position);
-    Ok(arena.run(fight.first))
 }

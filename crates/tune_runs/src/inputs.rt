@@ -1,5 +1,5 @@
 //! Reads the texts of a tuning into its inputs.
-ghost use Rattle.std.specs.Prelude.{◌≡◌, ◌≢◌, ◌≤◌, [], length, map, All, IfOk, IfErr};
+ghost use Rattle.std.specs.Prelude.{◌≡◌, ◌≤◌, [], length, map, All, IfOk};
 ghost use Rattle.rc_instr.specs.Results.{with_fault};
 ghost use Rattle.rc_instr.specs.Warrior.{Fits};
 ghost use Rattle.rc_asm.specs.Assembly.{outcome_of};
@@ -28,8 +28,7 @@ use tune_template::Template;
 /// failed.
 #[tactic(auto, unfolding(crate::specs::TuneRun::meaning_of))]
 pub fn inputs_of(alloc: Global, given: &TuneTexts<'_>) -> Result<Inputs, RunFault>
-    ensures inputs { Returns (λ i. i) result (meaning_of (texts_given given.now)) }
-    ensures others { IfErr result (λ e. (e ≢ RunFault.NoCandidate) × (e ≢ RunFault.Write)) }
+    ensures { Returns (λ i. i) result (meaning_of (texts_given given.now)) }
 {
     if given.opponents.len() > limits::MOST_OPPONENTS {
         return Err(RunFault::TooManyOpponents);
@@ -50,8 +49,7 @@ pub fn inputs_of(alloc: Global, given: &TuneTexts<'_>) -> Result<Inputs, RunFaul
 ///
 /// `Template` with the fault of the text. `OutOfMemory` if an allocation failed.
 pub fn template_of(alloc: Global, text: &[u8]) -> Result<Template, RunFault>
-    ensures template { Returns (λ t. t) result (with_fault template_fault (template_of text.now)) }
-    ensures others { IfErr result (λ e. (e ≢ RunFault.NoCandidate) × (e ≢ RunFault.Write)) }
+    ensures { Returns (λ t. t) result (with_fault template_fault (template_of text.now)) }
 {
     Ok(Template::read(alloc, text)?)
 }
@@ -65,7 +63,6 @@ pub(crate) fn opponent_of(
 ) -> Result<Warrior, RunFault>
     ensures warrior { Returns (λ w. w) result (with_fault (opponent_fault index) (outcome_of text.now [] rules.now)) }
     ensures fits { IfOk result (Fits rules.now) }
-    ensures others { IfErr result (λ e. (e ≢ RunFault.NoCandidate) × (e ≢ RunFault.Write)) }
 {
     match assembled(alloc, text, rules) {
         Ok(warrior) => Ok(warrior),
@@ -79,7 +76,6 @@ fn opponents_of(alloc: Global, sources: &[Vec<u8>], rules: &Rules) -> Result<Vec
     ensures warriors { Returns (λ ws. ws.items) result (opponents_from rules.now 0 (map (λ s. s.items) sources.now)) }
     ensures count { IfOk result (λ ws. length ws.items ≡ length sources.now) }
     ensures fit { IfOk result (λ ws. All (Fits rules.now) ws.items) }
-    ensures others { IfErr result (λ e. (e ≢ RunFault.NoCandidate) × (e ≢ RunFault.Write)) }
 {
     let mut warriors = Vec::new(alloc);
     let mut rest = sources;

@@ -1,63 +1,61 @@
 //! Laws of tunings and their certificates. A law is a function with an empty body: its contract is
 //! what is proved.
-ghost use Rattle.std.specs.Prelude.{◌≡◌, ◌+◌, ◌≤◌, ℕ, ℤ, Bool, List, [], Option, Some, true};
-ghost use Rattle.std.specs.Io.KnownBytes.{Appends};
-ghost use Rattle.tables.specs.Records.{records_of};
+ghost use Rattle.std.specs.Prelude.{◌≡◌, ◌≤◌, ◌⊎◌, ℕ, Bool, List, true, Err, IsTrue};
 ghost use Rattle.tune_problem.specs.Inputs.{InputsView};
-ghost use Rattle.tune_problem.specs.Parts.{part};
 ghost use Rattle.tune_problem.specs.Problem.{problem_of};
 ghost use Rattle.tune_problem.specs.Ranking.{the_best};
-ghost use Rattle.tune_problem.specs.declared.part.Part.{Part};
-ghost use Rattle.tune_cert.specs.CertText.{cert_text};
 ghost use Rattle.tune_problem.specs.Valid.{cert_of};
+ghost use Rattle.tune_problem.specs.declared.part.Part.{Part};
+ghost use Rattle.tune_problem.specs.declared.watcher.Best.{Best};
 ghost use Rattle.tune_cert.specs.Spelling.{Spells};
-ghost use Rattle.tune_search.specs.Found.{IsSearch};
-ghost use Rattle.tune_runs.specs.Report.{report_text, report_for};
-ghost use Rattle.tune_problem.specs.BestPart.{first_setting, IsOutcome, IsBestPart};
-ghost use Rattle.tune_runs.specs.TuneRun.{Texts, of_part, Means, HasNoCandidate, IsTuning, WritesTuning, WritesTuningFrom};
 ghost use Rattle.tune_cert.specs.Verdict.{IsRightVerdict};
-ghost use Rattle.tune_runs.specs.CheckRun.{WritesVerdict, WritesShare, Accepts, IsShown, check_line, share_line};
+ghost use Rattle.tune_runs.specs.TuneRun.{Texts, of_part, meaning_of, is_text_fault, Means, HasNoCandidate};
+ghost use Rattle.tune_runs.specs.CheckRun.{Accepts, check_line};
+ghost use Rattle.tune_runs.specs.Agreement.{Writer, Output, Gets, Tunes, TunesFrom, IsOutput, MayFind, written, Checks, ChecksCert, IsRightLine, Agree, ChecksFor, NamesAnswer, IsBestShown, IsBestOfAll, AreShownBelow, AreAllBelow, ChecksShare, AllAccept, AllName, AcceptsAsWhole};
 
-use tune_cert::{Found, Verdict};
+use crate::fault::RunFault;
+use tune_cert::{Demand, Found, Verdict};
 use tune_search::Method;
 
-/// States that the texts of a tuning have at most one meaning.
+/// States that the texts of a tuning have at most one meaning, and which faults they may have:
+/// `NoCandidate` and `Write` are not among them.
 pub fn texts_have_one_meaning()
-    ensures { (t : Texts) (i j : InputsView) → Means t i → Means t j → i ≡ j }
+    ensures one { (t : Texts) (i j : InputsView) → Means t i → Means t j → i ≡ j }
+    ensures faults { (t : Texts) (e : RunFault) → meaning_of t ≡ Err e → IsTrue (is_text_fault e) ⊎ (e ≡ RunFault.Part) }
 {}
 
 /// States of whatever a search may find: the text of its certificate spells that certificate, and
 /// the right verdict on this text is Accepted, with its best setting and total.
 pub fn a_written_certificate_is_accepted()
-    ensures spelled { (t : Texts) (method : Method) (i : InputsView) (f : Found) → Means t i → IsSearch (problem_of i) method f
-        → Spells (records_of (cert_text (cert_of f))) (cert_of f) }
-    ensures accepted { (t : Texts) (method : Method) (i : InputsView) (f : Found) (v : Verdict) → Means t i → IsSearch (problem_of i) method f
-        → IsRightVerdict (problem_of i) (records_of (cert_text (cert_of f))) v → v ≡ Verdict.Accepted f.best f.total }
+    ensures spelled { (t : Texts) (method : Method) (i : InputsView) (f : Found) → MayFind t method i f → Spells (written f) (cert_of f) }
+    ensures accepted { (t : Texts) (method : Method) (i : InputsView) (f : Found) (v : Verdict) → MayFind t method i f
+        → IsRightVerdict (problem_of i) (written f) v → v ≡ Verdict.Accepted f.best f.total }
 {}
 
 /// States that a tuning can be repeated: from empty writers the same texts and the same method give
 /// the same bytes of the report and of the certificate.
 pub fn equal_tunings_write_equal_bytes()
-    ensures { (t : Texts) (method : Method) (report cert report_too cert_too : List ℕ)
-        → WritesTuning t method (Some []) (Some report) (Some []) (Some cert)
-        → WritesTuning t method (Some []) (Some report_too) (Some []) (Some cert_too)
-        → (report ≡ report_too) × (cert ≡ cert_too) }
+    ensures { (t : Texts) (method : Method) (one other : Output) → IsOutput t method one → IsOutput t method other → one ≡ other }
 {}
 
 /// States that a tuning that keeps one setting and has the floor 0 writes what `WritesTuning` says:
 /// the certificate and the report of the optimum.
 pub fn a_tuning_without_a_floor_is_a_tuning()
-    ensures { (t : Texts) (method : Method) (report report_after cert cert_after : Option (List ℕ))
-        → WritesTuningFrom t the_best method report report_after cert cert_after → WritesTuning t method report report_after cert cert_after }
+    ensures { (t : Texts) (method : Method) (report cert : Writer) → TunesFrom t the_best method report cert → Tunes t method report cert }
+{}
+
+/// States that the line of a check is that of the right verdict on the bytes, whoever made them:
+/// what the verdict says holds, everything that is checked before a rejection is right, an accepted
+/// certificate names the optimum and its total, and a valid one is accepted.
+pub fn a_check_writes_the_right_verdict()
+    ensures { (t : Texts) (bytes : List ℕ) (accepted : Bool) (out : Writer) → Checks t bytes accepted out → IsRightLine t bytes accepted out }
 {}
 
 /// States that a check of the texts of a tuning accepts the bytes of its certificate, and names the
 /// best setting and the total of its report.
 pub fn a_tuning_is_accepted_by_its_check()
-    ensures { (t : Texts) (method : Method) (bytes : List ℕ) (is_accepted : Bool) (report report_after out out_after : Option (List ℕ))
-        → WritesTuning t method report report_after (Some []) (Some bytes) → WritesVerdict t bytes is_accepted out out_after
-        → (is_accepted ≡ true) × ((i : InputsView) × (f : Found) × (values : List ℤ) × IsTuning t method i f values
-        × Appends report report_after (report_text (report_for i f values)) × Appends out out_after (check_line (Verdict.Accepted f.best f.total))) }
+    ensures { (t : Texts) (method : Method) (accepted : Bool) (report cert out : Writer)
+        → Tunes t method report cert → ChecksCert t cert accepted out → IsTrue accepted × Agree t method report cert out }
 {}
 
 /// States the certified optimum: if a tuning wrote its certificate and its report, and a check of
@@ -65,26 +63,26 @@ pub fn a_tuning_is_accepted_by_its_check()
 /// total of that report. The bytes of the certificate that was written are those of what the
 /// report tells.
 pub fn an_accepted_certificate_names_the_optimum()
-    ensures { (t : Texts) (method : Method) (bytes : List ℕ) (report report_after cert cert_after out out_after : Option (List ℕ))
-        → WritesTuning t method report report_after cert cert_after → WritesVerdict t bytes true out out_after
-        → (i : InputsView) × (f : Found) × (values : List ℤ) × IsTuning t method i f values
-        × Appends cert cert_after (cert_text (cert_of f))
-        × Appends report report_after (report_text (report_for i f values)) × Appends out out_after (check_line (Verdict.Accepted f.best f.total)) }
+    ensures { (t : Texts) (method : Method) (bytes : List ℕ) (report cert out : Writer)
+        → Tunes t method report cert → Checks t bytes true out → Agree t method report cert out }
 {}
 
 /// States that accepted certificates of parts name the optimum of the whole: whoever has a line of
 /// acceptance for each part, or knows that none of its settings assembles, knows that of the parts
 /// with the greatest total, the first one's best setting is the optimum of all settings, with this
-/// total. Its index in the whole is counted on from where its part begins. If no part has a
-/// candidate, the whole has none.
+/// total. Its index in the whole is counted on from where its part begins.
+///
+/// A part in which no setting reaches a floor counts as one without a best setting, if the floor is
+/// at most the greatest total, or one more in a later part. If no part has a setting that reaches a
+/// floor, the whole has none. If no part has a candidate, the whole has none.
 pub fn accepted_parts_name_the_optimum()
     // A line of acceptance names what its certificate is accepted with.
-    ensures line { (t : Texts) (bytes : List ℕ) (out out_after : Option (List ℕ)) → WritesVerdict t bytes true out out_after
-        → (best total : ℕ) × Accepts t bytes best total × Appends out out_after (check_line (Verdict.Accepted best total)) }
-    ensures optimum { (t : Texts) (parts : ℕ) (cert : ℕ → List ℕ) (outcome : ℕ → Option (ℕ × ℕ)) (number best total : ℕ)
-        → ((n : ℕ) → 1 ≤ n → n ≤ parts → IsShown (of_part t n parts) (cert n) (outcome n))
-        → IsBestPart parts outcome number best total
-        → (i : InputsView) × Means (of_part t 1 1) i × IsOutcome (problem_of i) (Some (first_setting i number parts + best, total)) }
+    ensures line { (t : Texts) (bytes : List ℕ) (out : Writer) → Checks t bytes true out
+        → (best total : ℕ) × Accepts t bytes best total × Gets out (check_line (Verdict.Accepted best total)) }
+    // So does the first line of a check with a demand.
+    ensures answer { (t : Texts) (demand : Demand) (bytes : List ℕ) (out : Writer) → ChecksFor t demand bytes true out → NamesAnswer t demand bytes out }
+    ensures optimum { (t : Texts) (parts number : ℕ) (best : Best) → IsBestShown t parts number best → IsBestOfAll t parts number best }
+    ensures below { (t : Texts) (parts floor : ℕ) → AreShownBelow t parts floor → AreAllBelow t floor }
     ensures none { (t : Texts) (parts : ℕ) → 1 ≤ parts
         → ((n : ℕ) → 1 ≤ n → n ≤ parts → HasNoCandidate (of_part t n parts))
         → HasNoCandidate (of_part t 1 1) }
@@ -95,11 +93,8 @@ pub fn accepted_parts_name_the_optimum()
 /// line names its best setting and total: the optimum. The other way round, bytes that a check of
 /// all rows accepts are accepted by each share, with the same setting and total.
 pub fn accepted_shares_name_the_optimum()
-    ensures optimum { (t : Texts) (shares : ℕ) (bytes : List ℕ) (out out_after : ℕ → Option (List ℕ)) → 1 ≤ shares
-        → ((n : ℕ) → 1 ≤ n → n ≤ shares → WritesShare t (part n shares) bytes true (out n) (out_after n))
-        → (best total : ℕ) × Accepts t bytes best total
-        × ((n : ℕ) → 1 ≤ n → n ≤ shares → Appends (out n) (out_after n) (share_line (part n shares) (Verdict.Accepted best total))) }
-    ensures each { (t : Texts) (share : Part) (bytes : List ℕ) (best total : ℕ) (is_accepted : Bool) (out out_after : Option (List ℕ))
-        → Accepts t bytes best total → WritesShare t share bytes is_accepted out out_after
-        → (is_accepted ≡ true) × Appends out out_after (share_line share (Verdict.Accepted best total)) }
+    ensures optimum { (t : Texts) (shares : ℕ) (bytes : List ℕ) (out : ℕ → Writer) → AllAccept t shares bytes out
+        → (best total : ℕ) × Accepts t bytes best total × AllName shares best total out }
+    ensures each { (t : Texts) (share : Part) (bytes : List ℕ) (accepted : Bool) (out : Writer)
+        → ChecksShare t share bytes accepted out → AcceptsAsWhole t share bytes accepted out }
 {}

@@ -4,6 +4,7 @@
 //! the same texts name one setting and one total. In this API a setting is called a vector.
 #![tactic(auto)]
 
+pub mod aim_laws;
 mod asm;
 mod check;
 mod duel;

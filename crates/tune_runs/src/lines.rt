@@ -2,21 +2,20 @@
 ghost use Rattle.std.specs.Prelude.{◌≡◌, ◌++◌, IfOk, OnOk};
 ghost use Rattle.std.specs.Option.{option_map};
 ghost use Rattle.tune_problem.specs.Problem.{problem_of};
-ghost use Rattle.tune_cert.specs.Judgement.{AreSettings, IsOfSettings};
+ghost use Rattle.tune_cert.specs.Judgement.{IsOfSettings};
 ghost use Rattle.tune_runs.specs.Given.{part_given};
-ghost use Rattle.tune_runs.specs.Report.{rank_lines};
 ghost use Rattle.tune_runs.specs.ResultLine.{points_text, result_line};
 ghost use Rattle.mars_core.specs.declared.arena.Outcome.{Outcome};
 ghost use Rattle.tune_cert.specs.declared.verdict.Reason.{Reason};
 ghost use Rattle.tune_problem.specs.Parts.{part};
-ghost use Rattle.tune_runs.specs.CheckRun.{reason_text, best_text, check_line, share_line, share_words, accepted_words, none_text, answer_text, told_if, judgement_lines};
+ghost use Rattle.tune_runs.specs.CheckRun.{reason_text, best_text, check_line, share_line, share_words, accepted_words, none_text, answer_text, judgement_lines};
 
-use crate::report::add_ranks;
+use crate::report::add_told;
 use itoa::Buffer;
 use mars_core::Outcome;
 use rc_instr::OutOfMemory;
 use std::alloc::Global;
-use tune_cert::{Answer, Best, Demand, Judgement, Reason, Share, Verdict};
+use tune_cert::{Answer, Demand, Judgement, Reason, Share, Verdict};
 use tune_problem::Inputs;
 
 // Makes the line of an outcome, as in `tie 1 turns 40`.
@@ -119,22 +118,6 @@ fn add_none(line: &mut Vec<u8>, floor: u32) -> Result<(), OutOfMemory>
     line.extend_from_slice(Buffer::new().format(floor).as_bytes())?;
     line.extend_from_slice(b"\n")?;
     Ok(())
-}
-
-// Appends the lines of a ranking, if more than one setting is asked for.
-fn add_told(
-    lines: &mut Vec<u8>,
-    inputs: &Inputs,
-    keep: Option<u32>,
-    ranking: &[Best],
-) -> Result<(), OutOfMemory>
-    requires settings { AreSettings (problem_of inputs.now).count ranking.now }
-    ensures { OnOk result (lines.new.items ≡ lines.old.items ++ rank_lines 1 (told_if inputs.now keep ranking.now)) }
-{
-    match keep {
-        Some(keep) if keep > 1 => add_ranks(lines, inputs, ranking),
-        _ => Ok(()),
-    }
 }
 
 fn points_word(points: u8) -> &'static [u8]

@@ -1,13 +1,12 @@
 //! The report of a tuning: six lines, and those of the ranking.
 ghost use Rattle.std.specs.Prelude.{◌≡◌, ◌++◌, ◌<◌, ◌≤◌, ◌*◌, map, length, IfOk, IfSome, OnOk};
 ghost use Rattle.std.specs.Fmt.{decimal};
-ghost use Rattle.std.specs.List.{AllByRecursion};
 ghost use Rattle.std.specs.Option.{option_map};
 ghost use Rattle.tune_template.specs.Instances.{constants_of};
-ghost use Rattle.tune_problem.specs.Limits.{MOST_KEPT};
 ghost use Rattle.tune_problem.specs.Problem.{problem_of};
 ghost use Rattle.tune_problem.specs.Optimum.{candidates_of, greatest_of};
-ghost use Rattle.tune_runs.specs.Report.{number_line, share_line, constant_text, constants_text, constants_or_none, constants_line, best_lines, none_lines, rank_line, rank_lines, told, ranking_told, report_text, report_from, IsSettingOf};
+ghost use Rattle.tune_cert.specs.Judgement.{AreSettings};
+ghost use Rattle.tune_runs.specs.Report.{number_line, share_line, constant_text, constants_text, constants_or_none, constants_line, best_lines, none_lines, rank_line, rank_lines, told, told_if, report_text, report_from, IsSettingOf};
 
 use itoa::Buffer;
 use rc_instr::OutOfMemory;
@@ -24,8 +23,7 @@ pub(crate) fn report_of(
     aim: Aim,
     found: &Findings,
 ) -> Result<Vec<u8>, OutOfMemory>
-    requires inside { AllByRecursion (IsSettingOf inputs.now) found.now.ranking }
-    requires few { length found.now.ranking ≤ MOST_KEPT }
+    requires settings { AreSettings (problem_of inputs.now).count found.now.ranking }
     requires candidates { found.now.candidates ≡ candidates_of (problem_of inputs.now) }
     ensures { IfOk result (λ text. text.items ≡ report_text (report_from inputs.now aim found.now)) }
 {
@@ -40,7 +38,7 @@ pub(crate) fn report_of(
         found.fights,
         found.candidates as u64 * fights,
     )?;
-    add_ranking(&mut text, inputs, aim, found.ranking.as_slice())?;
+    add_told(&mut text, inputs, Some(aim.keep), found.ranking.as_slice())?;
     Ok(text)
 }
 
@@ -77,38 +75,32 @@ fn add_none(text: &mut Vec<u8>, floor: u32, most: u64) -> Result<(), OutOfMemory
     add_share(text, b"total below ", floor as u64, most)
 }
 
-// Appends the lines of the ranking, if more than one setting is kept.
-fn add_ranking(
+// Appends a line for each setting of a ranking, if more than one is asked for.
+pub(crate) fn add_told(
     text: &mut Vec<u8>,
     inputs: &Inputs,
-    aim: Aim,
+    keep: Option<u32>,
     ranking: &[Best],
 ) -> Result<(), OutOfMemory>
-    requires inside { AllByRecursion (IsSettingOf inputs.now) ranking.now }
-    requires few { length ranking.now ≤ MOST_KEPT }
-    ensures { OnOk result (text.new.items ≡ text.old.items ++ rank_lines 1 (ranking_told inputs.now aim ranking.now)) }
+    requires { AreSettings (problem_of inputs.now).count ranking.now }
+    ensures { OnOk result (text.new.items ≡ text.old.items ++ rank_lines 1 (told_if inputs.now keep ranking.now)) }
 {
-    if aim.keep <= 1 {
-        return Ok(());
+    match keep {
+        Some(keep) if keep > 1 => add_ranks(text, inputs, ranking),
+        _ => Ok(()),
     }
-    add_ranks(text, inputs, ranking)
 }
 
 // Appends a line for each setting of a ranking.
-pub(crate) fn add_ranks(
-    text: &mut Vec<u8>,
-    inputs: &Inputs,
-    ranking: &[Best],
-) -> Result<(), OutOfMemory>
-    requires inside { AllByRecursion (IsSettingOf inputs.now) ranking.now }
-    requires few { length ranking.now ≤ MOST_KEPT }
+fn add_ranks(text: &mut Vec<u8>, inputs: &Inputs, ranking: &[Best]) -> Result<(), OutOfMemory>
+    requires { AreSettings (problem_of inputs.now).count ranking.now }
     ensures { OnOk result (text.new.items ≡ text.old.items ++ rank_lines 1 (map (told inputs.now) ranking.now)) }
 {
     let mut rest = ranking;
-    let mut rank: u32 = 1;
+    let mut rank: u32 = 0;
     while let Some((best, after)) = rest.split_first() {
-        add_rank(text, inputs, rank, *best)?;
         rank += 1;
+        add_rank(text, inputs, rank, *best)?;
         rest = after;
     }
     Ok(())

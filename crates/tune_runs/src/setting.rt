@@ -1,5 +1,5 @@
 //! A setting: from a template to the load file of one of its settings.
-ghost use Rattle.std.specs.Prelude.{◌≡◌, ◌≢◌, ◌≤◌, ◌<◌, length, false, IfOk, IfErr};
+ghost use Rattle.std.specs.Prelude.{◌≡◌, ◌≤◌, ◌<◌, length, false, IfOk, IfErr};
 ghost use Rattle.rc_instr.specs.Warrior.{Fits};
 ghost use Rattle.tune_template.specs.Vectors.{vectors_of};
 ghost use Rattle.tune_runs.specs.Runs.{Returns, IsRun};
@@ -48,8 +48,7 @@ fn setting_text(
     which: WhichSetting,
     rules: &Rules,
 ) -> Result<Vec<u8>, RunFault>
-    ensures answer { Returns (λ file. (tt, file.items)) result (setting_answer source.now which rules.now) }
-    ensures unwritten { IfErr result (λ e. e ≢ RunFault.Write) }
+    ensures { Returns (λ file. (tt, file.items)) result (setting_answer source.now which rules.now) }
 {
     let warrior = warrior_at(alloc, source, which, rules)?;
     Ok(loadfile_of(alloc, &warrior, rules)?)
@@ -65,7 +64,6 @@ fn warrior_at(
 ) -> Result<Warrior, RunFault>
     ensures warrior { Returns (λ w. w) result (setting_warrior source.now which rules.now) }
     ensures fits { IfOk result (Fits rules.now) }
-    ensures unwritten { IfErr result (λ e. e ≢ RunFault.Write) }
 {
     let template = template_of(alloc, source)?;
     let index = match index_of(&template, which) {

@@ -1,5 +1,5 @@
 //! The settings of a template: from a template to the number of its settings, and its constants.
-ghost use Rattle.std.specs.Prelude.{◌≡◌, ◌≢◌, false, IfErr};
+ghost use Rattle.std.specs.Prelude.{◌≡◌, false};
 ghost use Rattle.tune_runs.specs.Runs.{Returns, IsRun};
 ghost use Rattle.tune_runs.specs.SettingsRun.{settings_answer};
 
@@ -35,8 +35,7 @@ pub fn settings_run<W: Write>(
 }
 
 fn text_of(alloc: Global, source: &[u8]) -> Result<Vec<u8>, RunFault>
-    ensures answer { Returns (λ text. (tt, text.items)) result (settings_answer source.now) }
-    ensures unwritten { IfErr result (λ e. e ≢ RunFault.Write) }
+    ensures { Returns (λ text. (tt, text.items)) result (settings_answer source.now) }
 {
     let template = template_of(alloc, source)?;
     Ok(settings_text_of(alloc, &template)?)

@@ -1,5 +1,5 @@
 //! A tuning: from texts to the certificate of the best setting, and a report.
-ghost use Rattle.std.specs.Prelude.{◌≡◌, ◌≢◌, ◌↔◌, ◌≤◌, ◌<◌, ◌^◌, ◌⊎◌, map, length, true, false, IfOk, IfErr, OnOk, IsErrOf, IsTrue};
+ghost use Rattle.std.specs.Prelude.{◌≡◌, ◌≢◌, ◌↔◌, ◌≤◌, ◌<◌, ◌^◌, ◌⊎◌, length, true, false, IfOk, IfErr, OnOk, IsErrOf, IsTrue};
 ghost use Rattle.std.specs.Io.KnownBytes.{Appends};
 ghost use Rattle.tune_cert.specs.CertText.{statement_text, statement_with};
 ghost use Rattle.tune_problem.specs.Problem.{problem_of};
@@ -9,8 +9,8 @@ ghost use Rattle.tune_search.specs.Limits.{MOST_CAPACITY};
 ghost use Rattle.tune_search.specs.Method.{HasCapacity};
 ghost use Rattle.tune_search.specs.Found.{NoneAssembles};
 ghost use Rattle.tune_search.specs.Findings.{IsSearchFrom};
-ghost use Rattle.tune_runs.specs.TuneRun.{texts, answer_of, IsTuneRun, WritesTuning, WritesTuningFrom};
-ghost use Rattle.tune_runs.specs.Given.{texts_given};
+ghost use Rattle.tune_runs.specs.TuneRun.{answer_of, IsTuneRun, WritesTuning, WritesTuningFrom};
+ghost use Rattle.tune_runs.specs.Given.{all_given, texts_given};
 
 use crate::fault::RunFault;
 use crate::given::TuneTexts;
@@ -50,16 +50,13 @@ pub fn tune_run<W: Write, V: Write>(
     cert: &mut Outlet<V>,
 ) -> Result<(), RunFault>
     requires capacity { (1 ≤ capacity) × (capacity ≤ MOST_CAPACITY) }
-    requires report { report.old.failed ≡ false }
-    requires cert { cert.old.failed ≡ false }
+    requires outlets { (report.old.failed ≡ false) × (cert.old.failed ≡ false) }
 
     // Both texts are of one `Found` for which `IsSearch` holds: a valid certificate was written,
-    // and the report of its best setting, the optimum.
-    ensures tuning { OnOk result (WritesTuning (texts template.now (map (λ o. o.items) opponents.now) schedule.now rules.now) (Method.Dropping capacity)
-        report.old.bytes report.new.bytes cert.old.bytes cert.new.bytes) }
-
-    // Only texts without a meaning or a candidate are refused, and then nothing was written.
-    ensures run { IsTuneRun (texts template.now (map (λ o. o.items) opponents.now) schedule.now rules.now) result report.old report.new cert.old cert.new }
+    // and the report of its best setting, the optimum. Only texts without a meaning or a candidate
+    // are refused, and then nothing was written.
+    ensures run { let t = all_given template.now opponents.now schedule.now rules.now in
+        IsTuneRun t (WritesTuning t (Method.Dropping capacity)) result report.old report.new cert.old cert.new }
 
     // Every template has a part 1 of 1.
     ensures whole { IfErr result (λ e. e ≢ RunFault.Part) }
@@ -101,13 +98,11 @@ pub fn tune_by_run<T: Watcher, W: Write, V: Write>(
     cert: &mut Outlet<V>,
 ) -> Result<(), RunFault>
     requires capacity { HasCapacity method }
-    requires report { report.old.failed ≡ false }
-    requires cert { cert.old.failed ≡ false }
+    requires outlets { (report.old.failed ≡ false) × (cert.old.failed ≡ false) }
 
     // Both texts are of one `Found` for which `IsSearch` holds, as those of `tune_run`.
-    ensures tuning { OnOk result (WritesTuning (texts_given given.now) method
-        report.old.bytes report.new.bytes cert.old.bytes cert.new.bytes) }
-    ensures run { IsTuneRun (texts_given given.now) result report.old report.new cert.old cert.new }
+    ensures run { let t = texts_given given.now in
+        IsTuneRun t (WritesTuning t method) result report.old report.new cert.old cert.new }
 {
     tune_from_run(
         alloc,
@@ -120,13 +115,14 @@ pub fn tune_by_run<T: Watcher, W: Write, V: Write>(
     )
 }
 
-/// Does what `tune_by_run` does, with an aim: keeps the first `keep` settings of the ranking, 1 to
-/// 1000, of those that total `floor` or more.
+/// Does what `tune_by_run` does for an aim: ranks the settings that total `floor` or more, and
+/// keeps the first `keep` of them, 1 to 1000.
 ///
-/// If more than one is kept, the report has a line for each after its six lines: `rank I setting W
-/// total T NAME=value ..`. If no setting reaches the floor, the certificate has the record
-/// `none,-,F` in place of the best setting, and the report `best -`, `constants -` and `total below
-/// F of G`. With keep 1 and the floor 0 this is `tune_by_run`.
+/// If `keep` is above 1, the report has a line for each kept setting after its six lines: `rank I
+/// setting W total T NAME=value ..`. If no setting totals `floor` F or more, the certificate has
+/// the record `none,-,F` in place of the best setting, and the report the lines `best -`,
+/// `constants -` and `total below F of M`, where M is the greatest total possible. With `keep` 1
+/// and `floor` 0 this is `tune_by_run`.
 ///
 /// # Errors
 ///
@@ -142,14 +138,12 @@ pub fn tune_from_run<T: Watcher, W: Write, V: Write>(
 ) -> Result<(), RunFault>
     requires aim { IsAim aim }
     requires capacity { HasCapacity method }
-    requires report { report.old.failed ≡ false }
-    requires cert { cert.old.failed ≡ false }
+    requires outlets { (report.old.failed ≡ false) × (cert.old.failed ≡ false) }
 
     // Both texts are of one `Findings` for which `IsSearchFrom` holds: a valid certificate was
     // written, of the best setting or that none reaches the floor, and the report of the ranking.
-    ensures tuning { OnOk result (WritesTuningFrom (texts_given given.now) aim method
-        report.old.bytes report.new.bytes cert.old.bytes cert.new.bytes) }
-    ensures run { IsTuneRun (texts_given given.now) result report.old report.new cert.old cert.new }
+    ensures run { let t = texts_given given.now in
+        IsTuneRun t (WritesTuningFrom t aim method) result report.old report.new cert.old cert.new }
 {
     let inputs = inputs_of(alloc, given)?;
     let found = find(alloc, &inputs, aim, method, watcher)?;
@@ -167,8 +161,7 @@ fn find<T: Watcher>(
 ) -> Result<Findings, RunFault>
     requires aim { IsAim aim }
     requires capacity { HasCapacity method }
-    ensures found { IfOk result (IsSearchFrom (problem_of inputs.now) aim method) }
-    ensures some { IfOk result (λ f. 0 < f.candidates) }
+    ensures found { IfOk result (λ f. IsSearchFrom (problem_of inputs.now) aim method f × (0 < f.candidates)) }
     ensures none { IfErr result (λ e. (e ≡ RunFault.OutOfMemory) ⊎ ((e ≡ RunFault.NoCandidate) × NoneAssembles (problem_of inputs.now))) }
 {
     watcher.begin(inputs);
@@ -198,8 +191,7 @@ fn write_both<W: Write, V: Write>(
 ) -> Result<(), RunFault>
     requires version { IsVersion found.now.version }
     requires few { length found.now.rows < 2 ^ 32 }
-    requires report { report.old.failed ≡ false }
-    requires cert { cert.old.failed ≡ false }
+    requires outlets { (report.old.failed ≡ false) × (cert.old.failed ≡ false) }
     ensures cert { OnOk result (Appends cert.old.bytes cert.new.bytes
         (statement_text (statement_with found.now.version (answer_of floor (first_of found.now.ranking)) found.now.rows))) }
     ensures report { OnOk result (Appends report.old.bytes report.new.bytes text.now) }

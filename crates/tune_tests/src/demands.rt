@@ -2,8 +2,6 @@
 //! first fight and ties the second, so its total is 4. A row that lists the tie alone has a cap of
 //! 4, and one that lists the win alone a cap of 6.
 
-ghost use Rattle.tune_cert.specs.Judgement.{IsDemand};
-
 use crate::searches::inputs_of;
 use std::alloc::Global;
 use std::test::Fail;
@@ -27,15 +25,9 @@ struct Said {
     rejected: Option<(u64, Reason)>,
 }
 
-// A demand for the first `keep`, if that is 1 to 1000, with this floor.
-fn demand_of(keep: u32, floor: Option<u32>) -> Demand
-    ensures { IsDemand result }
-{
-    let keep = if 1 <= keep && keep <= 1000 {
-        Some(keep)
-    } else {
-        None
-    };
+// A demand for the first `keep`, if that is not 0, with this floor.
+fn demand_of(keep: u32, floor: Option<u32>) -> Demand {
+    let keep = if keep > 0 { Some(keep) } else { None };
     Demand { keep, floor }
 }
 

@@ -1,5 +1,6 @@
-//! Tests of searches with a floor, and for more settings than the best, on templates that were worked out by hand: each setting that
-//! assembles is an imp, which wins the first fight and ties the second, so its total is 4.
+//! Tests of searches with a floor, and for more settings than the best, on templates that were
+//! worked out by hand: each setting that assembles is an imp, which wins the first fight and ties
+//! the second, so its total is 4.
 ghost use Rattle.std.specs.Prelude.{◌<◌, ◌^◌, length};
 ghost use Rattle.tune_cert.specs.Spelling.{IsVersion};
 

@@ -2,7 +2,7 @@ use Rattle.std.proofs.Common.{rules, ◌≡◌, true, length, map, arith, Ok, re
 use Rattle.std.specs.Prelude.{nat_le}
 use Rattle.std.proofs.lemmas.List.{length-map}
 use borrow.Author.Tests.{le-leb}
-use Rattle.rc_asm.proofs.Outcomes.{ok_of}
+use Rattle.rc_instr.proofs.Chains.{ok_of}
 use Rattle.mars_fight.specs.Schedule.{schedule_of}
 use Rattle.tune_template.specs.Instances.{setting_count, template_of}
 use Rattle.tune_problem.specs.Limits.{MOST_OPPONENTS}
@@ -13,8 +13,8 @@ use Rattle.tune_runs.specs.Given.{texts_given}
 use Rattle.tune_runs.proofs.Meaning.{means}
 use Rattle.tune_runs.proofs.inputs.inputs_of.Goals as goal
 
-pub returns-in-Some-clause-inputs : goal.returns-in-Some-clause-inputs
-returns-in-Some-clause-inputs c =
+pub returns-in-Some : goal.returns-in-Some
+returns-in-Some c =
     let t = texts_given c.args.given.now in
     let i = c.in-Some.inputs in
     let template = c.in_ok-template.template in
@@ -26,7 +26,7 @@ returns-in-Some-clause-inputs c =
     let schedule : schedule_of t.rules (length t.opponents) t.schedule ≡ Ok c.in_ok-schedule.schedule = rw count (search rules) in
     means t made (record {
       few = few;
-      template = ok_of template_fault (template_of t.template) template c.in_ok-template.ensures.template;
+      template = ok_of template_fault (template_of t.template) template c.in_ok-template.ensures;
       opponents = c.in_ok-warriors.ensures.warriors;
       schedule = schedule;
       parted = subst (λ (x : InputsView). IsPart x.part (setting_count x.template)) same part;

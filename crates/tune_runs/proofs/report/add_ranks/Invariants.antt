@@ -1,6 +1,5 @@
-use Rattle.std.proofs.Common.{◌≡◌, ◌+◌, ◌≤◌, ◌++◌, map, length}
+use Rattle.std.proofs.Common.{◌≡◌, ◌+◌, ◌<◌, ◌^◌, ◌++◌, map, length}
 use Rattle.std.specs.List.{AllByRecursion}
-use Rattle.tune_problem.specs.Limits.{MOST_KEPT}
 use Rattle.tune_runs.specs.Report.{IsSettingOf, rank_lines, told}
 use Rattle.tune_runs.proofs.report.add_ranks.Given as goal
 
@@ -8,9 +7,9 @@ use Rattle.tune_runs.proofs.report.add_ranks.Given as goal
 abbrev pub invariant-loop-best : goal.invariant-loop-best
 invariant-loop-best l =
     (l.initial.text.items ++ rank_lines 1 (map (told l.fn.inputs) l.fn.ranking)
-    ≡ l.text.items ++ rank_lines l.rank (map (told l.fn.inputs) l.rest))
+    ≡ l.text.items ++ rank_lines (l.rank + 1) (map (told l.fn.inputs) l.rest))
     × AllByRecursion (IsSettingOf l.fn.inputs) l.rest
-    × (l.rank + length l.rest ≤ 1 + MOST_KEPT)
+    × (l.rank + length l.rest < 2 ^ 32)
 
 abbrev pub decreases-loop-best : goal.decreases-loop-best
 decreases-loop-best l = length l.rest

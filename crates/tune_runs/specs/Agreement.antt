@@ -1,0 +1,164 @@
+-- What tunings and checks of the same texts wrote, and how they agree.
+use Rattle.std.specs.Prelude.{◌≡◌, ℕ, ◌≤◌, ℤ, Bool, true, List, [], ◌++◌, codes, Option, Some, None}
+use Rattle.std.specs.Io.KnownBytes.{Appends}
+use Rattle.tables.specs.Records.{Fields, records_of}
+use Rattle.tune_problem.specs.Below.{AllBelow}
+use Rattle.tune_problem.specs.BestPart.{in_whole, IsBest, AllStayBelow, IsBestPart}
+use Rattle.tune_problem.specs.Inputs.{InputsView}
+use Rattle.tune_problem.specs.Parts.{part}
+use Rattle.tune_problem.specs.Problem.{problem_of}
+use Rattle.tune_problem.specs.Valid.{cert_of}
+use Rattle.tune_problem.specs.declared.aim.Aim.{Aim}
+use Rattle.tune_problem.specs.declared.cert.Found.{Found}
+use Rattle.tune_problem.specs.declared.part.Part.{Part}
+use Rattle.tune_problem.specs.declared.statement.Answer.{Answer}
+use Rattle.tune_problem.specs.declared.watcher.Best.{Best}
+use Rattle.tune_cert.specs.CertText.{cert_text}
+use Rattle.tune_cert.specs.declared.demand.Demand.{Demand}
+use Rattle.tune_cert.specs.declared.verdict.Verdict.{Verdict}
+use Rattle.tune_cert.specs.declared.verdict.Verdict.TheVariants.{Accepted}
+use Rattle.tune_search.specs.Found.{IsSearch}
+use Rattle.tune_search.specs.declared.method.Method.{Method}
+use Rattle.tune_runs.specs.Report.{report_text, report_for}
+use Rattle.tune_runs.specs.TuneRun.{Texts, of_part, Means, IsTuning, WritesTuning, WritesTuningFrom}
+use Rattle.tune_runs.specs.CheckRun.{WritesVerdict, WritesShare, WritesJudgement, HasRightVerdict, Accepts, AcceptsFor, IsShown, accepts, answer_text, check_line, share_line}
+
+-- ---- writers
+
+-- A writer over a run: the bytes that it holds before and after it, if they are known.
+pub record Writer : Type 0 where
+  pub old : Option (List ℕ)
+  pub new : Option (List ℕ)
+
+-- A writer that was empty, and holds these bytes.
+abbrev pub filled : List ℕ → Writer
+filled bytes = record { old = Some []; new = Some bytes }
+
+-- A text was appended.
+abbrev pub Gets : Writer → List ℕ → Type 0
+Gets out text = Appends out.old out.new text
+
+-- ---- tunings
+
+-- A tuning by this method wrote its report and its certificate.
+abbrev pub Tunes : Texts → Method → (report cert : Writer) → Type 0
+Tunes t method report cert = WritesTuning t method report.old report.new cert.old cert.new
+
+-- A tuning with an aim wrote its report and its certificate.
+abbrev pub TunesFrom : Texts → Aim → Method → (report cert : Writer) → Type 0
+TunesFrom t aim method report cert = WritesTuningFrom t aim method report.old report.new cert.old cert.new
+
+-- The bytes that a tuning gave two empty writers.
+pub record Output : Type 0 where
+  pub report : List ℕ
+  pub cert : List ℕ
+
+-- A tuning by this method gave these bytes.
+abbrev pub IsOutput : Texts → Method → Output → Type 0
+IsOutput t method o = Tunes t method (filled o.report) (filled o.cert)
+
+-- The texts mean these inputs, and a search by this method may find this for them.
+pub record MayFind (t : Texts) (method : Method) (i : InputsView) (f : Found) : Type 0 where
+  pub means : Means t i
+  pub search : IsSearch (problem_of i) method f
+
+-- The records of the certificate of what was found.
+abbrev pub written : Found → List Fields
+written f = records_of (cert_text (cert_of f))
+
+-- ---- checks
+
+-- A check of all rows of these bytes wrote its line; `accepted` says whether it accepts.
+abbrev pub Checks : Texts → List ℕ → (accepted : Bool) → Writer → Type 0
+Checks t bytes accepted out = WritesVerdict t bytes accepted out.old out.new
+
+-- An empty writer got a certificate, and a check of its bytes wrote its line.
+pub record ChecksCert (t : Texts) (cert : Writer) (accepted : Bool) (out : Writer) : Type 0 where
+  pub bytes : List ℕ
+  pub held : cert ≡ filled bytes
+  pub checked : Checks t bytes accepted out
+
+-- The line is that of the right verdict on the bytes, and `accepted` says whether that accepts.
+pub record IsRightLine (t : Texts) (bytes : List ℕ) (accepted : Bool) (out : Writer) : Type 0 where
+  pub verdict : Verdict
+  pub right : HasRightVerdict t bytes verdict
+  pub says : accepted ≡ accepts verdict
+  pub line : Gets out (check_line verdict)
+
+-- The certificate, the report and the line of a check name the setting that the tuning found, with
+-- its total: the optimum.
+pub record Agree (t : Texts) (method : Method) (report cert line : Writer) : Type 0 where
+  pub inputs : InputsView
+  pub found : Found
+  pub values : List ℤ
+  pub tuning : IsTuning t method inputs found values
+  pub certified : Gets cert (cert_text (cert_of found))
+  pub reported : Gets report (report_text (report_for inputs found values))
+  pub accepted : Gets line (check_line (Accepted found.best found.total))
+
+-- A check of all rows of these bytes with a demand wrote its lines; `accepted` says whether it
+-- accepts.
+abbrev pub ChecksFor : Texts → Demand → List ℕ → (accepted : Bool) → Writer → Type 0
+ChecksFor t demand bytes accepted out = WritesJudgement t demand None bytes accepted out.old out.new
+
+-- The first line says `accepted` and an answer, with which the bytes are accepted.
+pub record NamesAnswer (t : Texts) (demand : Demand) (bytes : List ℕ) (out : Writer) : Type 0 where
+  pub answer : Answer
+  pub accepts : AcceptsFor t demand bytes answer
+  pub rest : List ℕ
+  pub lines : Gets out (codes "accepted" ++ answer_text answer ++ rest)
+
+-- ---- parts
+
+-- For each part, a check accepts these bytes with its outcome, or the part has no candidate.
+abbrev pub AreShown : Texts → (parts : ℕ) → (cert : ℕ → List ℕ) → (outcome : ℕ → Answer) → Type 0
+AreShown t parts cert outcome = (n : ℕ) → 1 ≤ n → n ≤ parts → IsShown (of_part t n parts) (cert n) (outcome n)
+
+-- The outcome of each part is shown, and `number` is the first part with the greatest total.
+pub record IsBestShown (t : Texts) (parts number : ℕ) (best : Best) : Type 0 where
+  pub cert : ℕ → List ℕ
+  pub outcome : ℕ → Answer
+  pub shown : AreShown t parts cert outcome
+  pub first : IsBestPart parts outcome number best
+
+-- The best setting of a part is the optimum of all settings. Its index among all is counted on from
+-- where its part begins.
+abbrev pub IsBestOfAll : Texts → (parts number : ℕ) → Best → Type 0
+IsBestOfAll t parts number best = (i : InputsView) × Means (of_part t 1 1) i × IsBest (problem_of i) (in_whole i number parts best)
+
+-- The outcomes of the parts are shown, and by them no candidate reaches the floor.
+pub record AreShownBelow (t : Texts) (parts floor : ℕ) : Type 0 where
+  pub some : 1 ≤ parts
+  pub cert : ℕ → List ℕ
+  pub outcome : ℕ → Answer
+  pub shown : AreShown t parts cert outcome
+  pub below : AllStayBelow floor parts outcome
+
+-- No candidate of all settings reaches the floor.
+abbrev pub AreAllBelow : Texts → (floor : ℕ) → Type 0
+AreAllBelow t floor = (i : InputsView) × Means (of_part t 1 1) i × AllBelow (problem_of i) floor
+
+-- ---- shares
+
+-- A check of a share of the rows of these bytes wrote its line; `accepted` says whether it accepts.
+abbrev pub ChecksShare : Texts → (share : Part) → List ℕ → (accepted : Bool) → Writer → Type 0
+ChecksShare t share bytes accepted out = WritesShare t share bytes accepted out.old out.new
+
+-- Each share of these bytes was checked, and accepts them.
+pub record AllAccept (t : Texts) (shares : ℕ) (bytes : List ℕ) (out : ℕ → Writer) : Type 0 where
+  pub some : 1 ≤ shares
+  pub each : (n : ℕ) → 1 ≤ n → n ≤ shares → ChecksShare t (part n shares) bytes true (out n)
+
+-- The line of a share names this best setting and total.
+abbrev pub NamesIn : (share : Part) → (best total : ℕ) → Writer → Type 0
+NamesIn share best total out = Gets out (share_line share (Accepted best total))
+
+-- The line of each share names this best setting and total.
+abbrev pub AllName : (shares best total : ℕ) → (out : ℕ → Writer) → Type 0
+AllName shares best total out = (n : ℕ) → 1 ≤ n → n ≤ shares → NamesIn (part n shares) best total (out n)
+
+-- If a check of all rows accepts these bytes, the share accepts them, too, and names the same best
+-- setting and total.
+abbrev pub AcceptsAsWhole : Texts → (share : Part) → List ℕ → (accepted : Bool) → Writer → Type 0
+AcceptsAsWhole t share bytes accepted out =
+    (best total : ℕ) → Accepts t bytes best total → (accepted ≡ true) × NamesIn share best total out
