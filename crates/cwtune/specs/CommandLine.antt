@@ -1,12 +1,17 @@
 -- What the words of a command line ask for.
-use Rattle.std.specs.Prelude.{if◌then◌else◌, ◌≡◌, ℕ, ◌≤◌, ◌<◌, ◌^◌, ◌||◌, Bool, List, [], ◌∷◌, ◌++◌, codes, IsTrue}
+use Rattle.std.specs.Prelude.{if◌then◌else◌, ◌≡◌, ℕ, ◌≤◌, ◌<◌, ◌^◌, ◌||◌, ◌&&◌, nat_le, Bool, Option, Some, None, List, [], ◌∷◌, ◌++◌, codes, IsTrue}
 use Rattle.std.specs.List.{list_any}
+use Rattle.std.specs.Option.{unwrap_or}
 use Rattle.std.specs.Str.{bytes_eq}
 use Rattle.std.specs.Fmt.{decimal}
+use Rattle.tune_problem.specs.declared.aim.Aim.{Aim}
 use Rattle.tune_problem.specs.declared.part.Part.{Part}
-use Rattle.tune_problem.specs.Ranking.{IsAim}
-use Rattle.tune_cert.specs.Judgement.{IsDemand}
-use Rattle.tune_search.specs.Method.{HasCapacity}
+use Rattle.tune_problem.specs.Limits.{MOST_KEPT}
+use Rattle.tune_cert.specs.declared.demand.Demand.{Demand}
+use Rattle.tune_search.specs.Limits.{MOST_CAPACITY}
+use Rattle.tune_search.specs.declared.method.Method.{Method}
+use Rattle.tune_search.specs.declared.method.Method.TheVariants.{Dropping, PlayingAll}
+use Rattle.cwtune.specs.declared.method_options.MethodWords.{MethodWords}
 use Rattle.cwtune.specs.declared.command_line.Request.{Request}
 use Rattle.cwtune.specs.declared.command_line.Request.TheVariants.{Fight, Duel, Asm, Settings, Tune, Check}
 
@@ -32,7 +37,7 @@ command_word Fight = codes "fight"
 command_word (Duel words) = codes "fight"
 command_word (Asm words) = codes "asm"
 command_word (Settings file) = codes "settings"
-command_word (Tune words method aim) = codes "tune"
+command_word (Tune words method demand) = codes "tune"
 command_word (Check words share demand) = codes "check"
 
 -- A word that asks for help, or for the version.
@@ -44,12 +49,24 @@ is_help_word word =
 abbrev pub AsksForHelp : List (List ℕ) → Type 0
 AsksForHelp words = IsTrue (list_any is_help_word words)
 
--- The capacity of a search is 1 to `MOST_CAPACITY`. A tuning keeps, and a check asks for, the first
--- 1 to `MOST_KEPT` of the ranking.
-abbrev pub IsRequest : Request → Type 0
-IsRequest (Tune words method aim) = HasCapacity method × IsAim aim
-IsRequest (Check words share demand) = IsDemand demand
-IsRequest _ = Unit {0}
+-- The number of `--keep`, or None if it is not given. `clap` refuses one that is not 1 to
+-- `MOST_KEPT`.
+abbrev pub kept_asked : Option ℕ → Option ℕ
+kept_asked None = None
+kept_asked (Some keep) = if nat_le 1 keep && nat_le keep MOST_KEPT then Some keep else None
+
+-- The aim of a tuning with this demand: one setting and the floor 0, unless they are given.
+abbrev pub aim_meant : Demand → Aim
+aim_meant demand = record { keep = unwrap_or (kept_asked demand.keep) 1; floor = unwrap_or demand.floor 0 }
+
+-- The capacity that is given, which `clap` keeps within its limits, or 4096.
+abbrev pub capacity_meant : Option ℕ → ℕ
+capacity_meant None = 4096
+capacity_meant (Some capacity) = if nat_le 1 capacity && nat_le capacity MOST_CAPACITY then capacity else 4096
+
+-- How a tuning with these words searches.
+abbrev pub method_meant : MethodWords → Method
+method_meant words = if words.all then PlayingAll else Dropping (capacity_meant words.cache)
 
 -- The word for part I of K is `I/K`.
 abbrev pub part_word : Part → List ℕ

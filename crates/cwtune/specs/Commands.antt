@@ -1,5 +1,5 @@
 -- What the commands write of the files that they read, and how they end.
-use Rattle.std.specs.Prelude.{◌≡◌, ◌||◌, ℕ, Bool, true, false, List, Option, Some, None, Result, Ok, Err, IsErrOf, IsTrue}
+use Rattle.std.specs.Prelude.{◌≡◌, ◌≢◌, ◌⊎◌, ◌||◌, ℕ, Bool, true, false, List, Option, Some, None, Result, Ok, Err, IfErr, OnOk, IsErrOf, IsTrue}
 use Rattle.std.specs.Option.{is_some, option_map}
 use Rattle.rc_instr.specs.Outlet.{OutletView}
 use Rattle.rc_instr.specs.Rules.{RulesView}
@@ -8,16 +8,19 @@ use Rattle.tune_problem.specs.declared.part.Part.{Part}
 use Rattle.tune_cert.specs.declared.demand.Demand.{Demand}
 use Rattle.tune_cert.specs.declared.share.Share.{Share}
 use Rattle.mars_core.specs.declared.side.Side.{Side}
-use Rattle.tune_runs.specs.AsmRun.{WritesWarrior}
-use Rattle.tune_runs.specs.DuelRun.{duel, WritesDuel}
+use Rattle.tune_runs.specs.Runs.{Writes}
+use Rattle.tune_runs.specs.AsmRun.{asm_answer}
+use Rattle.tune_runs.specs.DuelRun.{duel, position_meant, WritesDuel}
 use Rattle.tune_runs.specs.FightRun.{WritesFight}
-use Rattle.tune_runs.specs.SettingRun.{WritesSetting}
+use Rattle.tune_runs.specs.SettingRun.{setting_answer}
 use Rattle.tune_runs.specs.SettingsRun.{WritesSettings}
 use Rattle.tune_runs.specs.TuneRun.{Texts, part_texts, WritesTuningFrom}
-use Rattle.tune_runs.specs.CheckRun.{WritesVerdict, WritesShare, WritesJudgement}
+use Rattle.tune_runs.specs.CheckRun.{check_answer, share_answer, verdict_answer}
 use Rattle.tune_runs.specs.Given.{part_given}
 use Rattle.tune_search.specs.declared.method.Method.{Method}
 use Rattle.tune_runs.specs.declared.given.WhichSetting.{WhichSetting}
+use Rattle.tune_runs.specs.declared.fault.RunFault.{RunFault}
+use Rattle.tune_runs.specs.declared.fault.RunFault.TheVariants.{Write, OutOfMemory}
 use Rattle.cwtune.specs.Input.{IsInput}
 use Rattle.cwtune.specs.declared.ending.Ending.{Ending}
 use Rattle.cwtune.specs.declared.ending.Ending.TheVariants.{Refused, Misused, Failed}
@@ -26,10 +29,19 @@ use Rattle.cwtune.specs.declared.ending.Ending.TheVariants.{Refused, Misused, Fa
 abbrev pub WritesFightIn : Option (List ℕ) → Option (List ℕ) → Option (List ℕ) → Type 0
 WritesFightIn input old new = (text : List ℕ) × IsInput input text × WritesFight text old new
 
--- The load file of a text was written, or that of a setting of a template.
+-- The load file of a text, or of a setting of a template; or the first fault.
+abbrev pub file_answer : List ℕ → Option WhichSetting → RulesView → Result (Unit {0} × List ℕ) RunFault
+file_answer source None rules = asm_answer source rules
+file_answer source (Some which) rules = setting_answer source which rules
+
+-- The load file was written.
 abbrev pub WritesLoadFile : List ℕ → Option WhichSetting → RulesView → Option (List ℕ) → Option (List ℕ) → Type 0
-WritesLoadFile source None rules old new = WritesWarrior source rules old new
-WritesLoadFile source (Some which) rules old new = WritesSetting source which rules old new
+WritesLoadFile source setting rules old new = Writes (file_answer source setting rules) tt old new
+
+-- The result line of a fight of two texts was written. Without a position it is half of the core.
+abbrev pub WritesDuelOf : RulesView → (position : Option ℕ) → (first : Side) → Option (List ℕ) → Option (List ℕ) → Type 0
+WritesDuelOf rules position first old new =
+    (candidate : List ℕ) × (opponent : List ℕ) × WritesDuel (duel candidate opponent rules (position_meant rules position) first) old new
 
 -- The report of a tuning of some texts was written, and a certificate.
 abbrev pub WritesReport : Aim → Method → RulesView → Part → Option (List ℕ) → Option (List ℕ) → Type 0
@@ -41,15 +53,20 @@ WritesReport aim method rules part old new =
 abbrev pub is_asked : Demand → Bool
 is_asked demand = is_some demand.keep || is_some demand.floor
 
--- The line of the verdict on a certificate was written, or that of a share's verdict; or the lines
--- of the judgement, if a ranking or a floor is asked for.
-abbrev pub WritesBy : Bool → Demand → Option Share → Texts → List ℕ → Bool → Option (List ℕ) → Option (List ℕ) → Type 0
-WritesBy true demand share t cert accepted old new = WritesJudgement t demand (option_map part_given share) cert accepted old new
-WritesBy false demand None t cert accepted old new = WritesVerdict t cert accepted old new
-WritesBy false demand (Some share) t cert accepted old new = WritesShare t (part_given share) cert accepted old new
+-- Whether a certificate is accepted, and the line of the verdict, or of a share's verdict; or the
+-- lines of the judgement, if a ranking or a floor is asked for; or the first fault of the texts.
+abbrev pub answer_by : Bool → Demand → Option Share → Texts → List ℕ → Result (Bool × List ℕ) RunFault
+answer_by true demand share t cert = check_answer t demand (option_map part_given share) cert
+answer_by false demand None t cert = verdict_answer t cert
+answer_by false demand (Some share) t cert = share_answer t (part_given share) cert
 
+-- The same, by whether a ranking or a floor is asked for.
+abbrev pub answer_for : Demand → Option Share → Texts → List ℕ → Result (Bool × List ℕ) RunFault
+answer_for demand share t cert = answer_by (is_asked demand) demand share t cert
+
+-- The lines were written, and `accepted` says whether the certificate is accepted.
 abbrev pub WritesVerdictOf : Demand → Option Share → Texts → List ℕ → Bool → Option (List ℕ) → Option (List ℕ) → Type 0
-WritesVerdictOf demand share t cert accepted old new = WritesBy (is_asked demand) demand share t cert accepted old new
+WritesVerdictOf demand share t cert accepted old new = Writes (answer_for demand share t cert) accepted old new
 
 -- The lines of a check of some texts and a certificate were written.
 abbrev pub WritesCheckLine : RulesView → Part → Demand → Option Share → Bool → Option (List ℕ) → Option (List ℕ) → Type 0
@@ -84,8 +101,28 @@ status_of (Err Refused) = 1
 status_of (Err Misused) = 2
 status_of (Err Failed) = 3
 
--- A refusal or a usage error left standard output as it was, and a failed write ended as `Failed`.
-pub record IsEnded {X : Type 0} (old new : OutletView) (result : Result X Ending) : Type 0 where
+-- How a command ends. `Wrote` says what it writes if it succeeds. A refusal or a usage error left
+-- standard output as it was, and a failed write ended as `Failed`.
+pub record IsEnded {X : Type 0} (Wrote : Type 0) (old new : OutletView) (result : Result X Ending) : Type 0 where
+  pub done : OnOk result Wrote
   pub refused : IsErrOf result Refused → new ≡ old
   pub misused : IsErrOf result Misused → new ≡ old
   pub failed : IsTrue new.failed → IsErrOf result Failed
+
+-- How a command ends whose words are understood: never with a usage error.
+abbrev pub EndsUnderstood : {X : Type 0} → (Wrote : Type 0) → (old new : OutletView) → Result X Ending → Type 0
+EndsUnderstood Wrote old new result = IsEnded Wrote old new result × IfErr result (λ e. e ≢ Misused)
+
+-- How a check ends. `Wrote` says what it writes if it accepts, and if it does not. An input that is
+-- refused, or a usage error, left standard output as it was, and a failed write ended as `Failed`.
+pub record IsCheckEnded {X : Type 0} (Wrote : Bool → Option (List ℕ) → Option (List ℕ) → Type 0) (old new : OutletView) (result : Result X Ending) : Type 0 where
+  pub done : OnOk result (Wrote true old.bytes new.bytes)
+  pub refused : IsErrOf result Refused → (new ≡ old) ⊎ Wrote false old.bytes new.bytes
+  pub misused : IsErrOf result Misused → new ≡ old
+  pub failed : IsTrue new.failed → IsErrOf result Failed
+
+-- An ending that a fault of a run may have: `Failed`, or `Refused` unless a write failed or memory
+-- ran out.
+pub record IsEndingOf (fault : RunFault) (ending : Ending) : Type 0 where
+  pub refused : ending ≡ Refused → (fault ≢ Write) × (fault ≢ OutOfMemory)
+  pub either : (ending ≡ Refused) ⊎ (ending ≡ Failed)

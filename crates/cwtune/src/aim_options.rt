@@ -1,8 +1,9 @@
 //! The options `--keep` and `--floor`.
-ghost use Rattle.std.specs.Prelude.{◌≡◌, ◌≤◌, Some, None, IfOk, IfSome, IsNone};
+ghost use Rattle.std.specs.Prelude.{◌≡◌, ◌≤◌};
+ghost use Rattle.std.specs.Option.{unwrap_or};
 ghost use Rattle.tune_problem.specs.Limits.{MOST_KEPT};
 ghost use Rattle.tune_problem.specs.Ranking.{IsAim};
-ghost use Rattle.tune_cert.specs.Judgement.{IsDemand};
+ghost use Rattle.cwtune.specs.CommandLine.{aim_meant, kept_asked};
 
 use crate::options::{number, number_of};
 use crate::usage_error::BadValue;
@@ -27,60 +28,48 @@ pub(crate) fn floor_option<'a>(alloc: Global, help: &'a str) -> Arg<'a> {
     number(alloc, "floor", help)
 }
 
-// Returns how many settings a tuning keeps, and its floor.
-pub(crate) fn aim_of<'a>(found: &ArgMatches<'a>) -> Result<Aim, BadValue<'a>>
-    ensures { IfOk result IsAim }
-{
-    let floor = floor_of(found)?;
-    Ok(Aim {
-        keep: kept_meant(found.get_one::<u32>("keep")),
-        floor: floor.unwrap_or(0),
-    })
-}
-
-// Returns the value of `--keep`, which `clap` keeps within its range, or 1. Out of line, so that the
-// hot loop begins at a multiple of 32 (docs/HOT_LOOP.md, "To move it").
-#[inline(never)]
-fn kept_meant(given: Option<u32>) -> u32
-    ensures within { (1 ≤ result) × (result ≤ MOST_KEPT) }
-    ensures given { IfSome given (λ n. 1 ≤ n → n ≤ MOST_KEPT → result ≡ n) }
-    ensures default { IsNone given → result ≡ 1 }
-{
-    match given {
-        Some(keep) if 1 <= keep && keep <= limits::MOST_KEPT => keep,
-        _ => 1,
-    }
-}
-
-// Returns the value of `--floor`, if it is given.
-fn floor_of<'a>(found: &ArgMatches<'a>) -> Result<Option<u32>, BadValue<'a>> {
-    number_of(
+// Returns what a tuning, or a check, is asked for beside the optimum.
+pub(crate) fn demand_of<'a>(found: &ArgMatches<'a>) -> Result<Demand, BadValue<'a>> {
+    let floor = number_of(
         found,
         "floor",
         "--floor <NUMBER>",
         "a number from 0 to 4294967295 is wanted",
-    )
-}
-
-// Returns what a check is asked for, beside the optimum.
-pub(crate) fn demand_of<'a>(found: &ArgMatches<'a>) -> Result<Demand, BadValue<'a>>
-    ensures { IfOk result IsDemand }
-{
-    let floor = floor_of(found)?;
+    )?;
     Ok(Demand {
         keep: kept_asked(found.get_one::<u32>("keep")),
         floor,
     })
 }
 
-// Returns the value of `--keep`, if it is given.
+// Returns the value of `--keep`, which `clap` keeps within its range, if it is given.
 fn kept_asked(given: Option<u32>) -> Option<u32>
-    ensures within { IfSome result (λ n. (1 ≤ n) × (n ≤ MOST_KEPT)) }
-    ensures given { IfSome given (λ n. 1 ≤ n → n ≤ MOST_KEPT → result ≡ Some n) }
-    ensures none { IsNone given → result ≡ None }
+    ensures { result ≡ kept_asked given }
 {
     match given {
         Some(keep) if 1 <= keep && keep <= limits::MOST_KEPT => Some(keep),
         _ => None,
+    }
+}
+
+// Returns the aim of a tuning with this demand.
+pub(crate) fn aim_meant(demand: Demand) -> Aim
+    ensures aim { result ≡ aim_meant demand }
+    ensures is_aim { IsAim result }
+{
+    Aim {
+        keep: kept_meant(demand.keep),
+        floor: demand.floor.unwrap_or(0),
+    }
+}
+
+// Returns how many settings a tuning keeps: 1, if nothing is asked for.
+fn kept_meant(asked: Option<u32>) -> u32
+    ensures kept { result ≡ unwrap_or (kept_asked asked) 1 }
+    ensures within { (1 ≤ result) × (result ≤ MOST_KEPT) }
+{
+    match kept_asked(asked) {
+        Some(keep) => keep,
+        None => 1,
     }
 }

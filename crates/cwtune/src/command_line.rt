@@ -1,12 +1,11 @@
 //! The command line, as the library `clap` reads it.
 ghost use Rattle.std.specs.Prelude.{◌≡◌, ◌≤◌, map, IfOk, IfSome, IsNone, string_bytes};
-ghost use Rattle.tune_search.specs.Limits.{MOST_CAPACITY};
-ghost use Rattle.tune_search.specs.Method.{HasCapacity};
-ghost use Rattle.cwtune.specs.CommandLine.{AskForFight, IsRequest, command_of, command_word};
+ghost use Rattle.cwtune.specs.CommandLine.{AskForFight, command_of, command_word};
 
 use crate::aim_options::{floor_option, keep_option};
 use crate::command_word::{ask_for_fight, is_named};
 use crate::help::{asks_for_help, command_in};
+use crate::method_options::{MethodWords, all_option, cache_option, method_words};
 use crate::options::{
     check_options, explain_option, fight_numbers, number, progress_option, rules_of, tune_options,
     with_rules,
@@ -20,18 +19,13 @@ use clap::{Arg, ArgAction, ArgMatches, Command, Error, value_parser};
 use mars_core::Side;
 use std::alloc::{AllocError, Global};
 use tune_cert::{Demand, Share};
-use tune_problem::Aim;
-use tune_runs::{Method, Part, RawRules, WhichSetting};
-use tune_search::limits;
+use tune_runs::{Part, RawRules, WhichSetting};
 
 // The words for the sides, as in a schedule: candidate and opponent.
 const SIDES: [&str; 2] = ["c", "o"];
 
 // What `--version` says after the name: the version, and the kit that all proofs passed with.
 pub(crate) const VERSION: &str = "1.0.0 (proved with rattle-kit-13f)";
-
-// The default of `--cache`.
-const DEFAULT_CAPACITY: u32 = 4096;
 
 // The rules, the names of the files and the part of a tuning, or of a check of its certificate.
 #[derive(Drop)]
@@ -76,8 +70,8 @@ pub(crate) enum Request<'a> {
     },
     Tune {
         words: TuneWords<'a>,
-        method: Method,
-        aim: Aim,
+        method: MethodWords,
+        demand: Demand,
     },
     // Checks a certificate of a tuning, or a share of it.
     Check {
@@ -92,7 +86,6 @@ pub(crate) enum Request<'a> {
 pub(crate) fn request_of<'a>(alloc: Global, words: &'a [String]) -> Result<Request<'a>, Error>
     ensures fight { AskForFight (map string_bytes words.entry.now) → result ≡ Ok Request.Fight }
     ensures named { IfOk result (λ r. command_of (map string_bytes words.entry.now) ≡ command_word r) }
-    ensures capacity { IfOk result IsRequest }
 {
     if ask_for_fight(words) {
         return Ok(Request::Fight);
@@ -109,9 +102,7 @@ pub(crate) fn request_of<'a>(alloc: Global, words: &'a [String]) -> Result<Reque
 }
 
 // Parses the words.
-fn parsed_request<'a>(alloc: Global, words: &'a [String]) -> Result<Request<'a>, Error>
-    ensures { IfOk result IsRequest }
-{
+fn parsed_request<'a>(alloc: Global, words: &'a [String]) -> Result<Request<'a>, Error> {
     let matches = commands(alloc, duel(alloc)?)?.try_get_matches_from(words)?;
     match matches.subcommand() {
         Some(("fight", found)) => fight_request(alloc, words, found),
@@ -169,9 +160,7 @@ fn fight_request<'a>(
     alloc: Global,
     words: &'a [String],
     found: &ArgMatches<'a>,
-) -> Result<Request<'a>, Error>
-    ensures { IfOk result IsRequest }
-{
+) -> Result<Request<'a>, Error> {
     let Some(candidate) = found.get_str("CANDIDATE") else {
         return request_without_files(alloc, words);
     };
@@ -192,9 +181,7 @@ fn fight_request<'a>(
 
 // Returns what `fight` without files asks for. It takes no words but `--explain`, so `clap` is
 // asked again for such a command, and reports any other word as unexpected.
-fn request_without_files<'a>(alloc: Global, words: &'a [String]) -> Result<Request<'a>, Error>
-    ensures { IfOk result IsRequest }
-{
+fn request_without_files<'a>(alloc: Global, words: &'a [String]) -> Result<Request<'a>, Error> {
     let _nothing = commands(alloc, fight(alloc)?)?.try_get_matches_from(words)?;
     Ok(Request::Fight)
 }
@@ -225,9 +212,7 @@ fn asm<'a>(alloc: Global) -> Result<Command<'a>, AllocError> {
     with_rules(alloc, command)
 }
 
-fn asm_request<'a>(alloc: Global, found: &ArgMatches<'a>) -> Result<Request<'a>, Error>
-    ensures { IfOk result IsRequest }
-{
+fn asm_request<'a>(alloc: Global, found: &ArgMatches<'a>) -> Result<Request<'a>, Error> {
     let rules = match rules_of(found) {
         Ok(rules) => rules,
         Err(bad) => return Err(bad_value(alloc, bad, asm(alloc)?, "cwtune asm")?),
@@ -311,29 +296,6 @@ fn with_files<'a>(
     with_rules(alloc, command)
 }
 
-// Makes `--cache`.
-fn cache_option<'a>(alloc: Global) -> Arg<'a> {
-    Arg::new(alloc, "cache")
-        .long("cache")
-        .value_name("NUMBER")
-        .action(ArgAction::Set)
-        .allow_negative_numbers(true)
-        .value_parser(value_parser!(u32).range(1..i64::from(limits::MOST_CAPACITY) + 1))
-        .help(
-            "Settings to remember, so that equal warriors share fights, 1 to 65536 [default: 4096]",
-        )
-}
-
-// Makes `--all`.
-fn all_option<'a>(alloc: Global) -> Result<Arg<'a>, AllocError> {
-    let all = Arg::new(alloc, "all")
-        .long("all")
-        .action(ArgAction::SetTrue)
-        .conflicts_with("cache")?
-        .help("Play every fight of every setting, and list all of them in the certificate");
-    Ok(all)
-}
-
 const TUNE_KEEP: &str =
     "How many settings to find, the best, the second best and so on, 1 to 1000; above 1 each has a line `rank ..` after the report [default: 1]";
 
@@ -356,14 +318,12 @@ fn tune<'a>(alloc: Global) -> Result<Command<'a>, AllocError> {
     )
 }
 
-fn tune_request<'a>(alloc: Global, found: &ArgMatches<'a>) -> Result<Request<'a>, Error>
-    ensures { IfOk result IsRequest }
-{
+fn tune_request<'a>(alloc: Global, found: &ArgMatches<'a>) -> Result<Request<'a>, Error> {
     match tune_options(found) {
-        Ok((rules, part, aim)) => Ok(Request::Tune {
+        Ok((rules, part, demand)) => Ok(Request::Tune {
             words: tune_words(alloc, found, rules, part)?,
-            method: method_of(found),
-            aim,
+            method: method_words(found),
+            demand,
         }),
         Err(bad) => Err(bad_value(alloc, bad, tune(alloc)?, "cwtune tune")?),
     }
@@ -384,9 +344,7 @@ fn check<'a>(alloc: Global) -> Result<Command<'a>, AllocError> {
     with_files(alloc, command, "File of the certificate")
 }
 
-fn check_request<'a>(alloc: Global, found: &ArgMatches<'a>) -> Result<Request<'a>, Error>
-    ensures { IfOk result IsRequest }
-{
+fn check_request<'a>(alloc: Global, found: &ArgMatches<'a>) -> Result<Request<'a>, Error> {
     match check_options(found) {
         Ok((rules, part, share, demand)) => Ok(Request::Check {
             words: tune_words(alloc, found, rules, part)?,
@@ -420,30 +378,6 @@ fn commands<'a>(alloc: Global, fight: Command<'a>) -> Result<Command<'a>, AllocE
         .subcommand(settings(alloc)?)?
         .subcommand(tune(alloc)?)?
         .subcommand(check(alloc)?)
-}
-
-// Returns how `tune` searches.
-fn method_of(found: &ArgMatches<'_>) -> Method
-    ensures { HasCapacity result }
-{
-    if found.get_flag("all") {
-        return Method::PlayingAll;
-    }
-    Method::Dropping {
-        capacity: capacity_meant(found.get_one::<u32>("cache")),
-    }
-}
-
-// Returns the capacity that is given, which `clap` keeps in its range, or the default.
-fn capacity_meant(given: Option<u32>) -> u32
-    ensures within { (1 ≤ result) × (result ≤ MOST_CAPACITY) }
-    ensures given { IfSome given (λ n. 1 ≤ n → n ≤ MOST_CAPACITY → result ≡ n) }
-    ensures default { IsNone given → result ≡ 4096 }
-{
-    match given {
-        Some(capacity) if 1 <= capacity && capacity <= limits::MOST_CAPACITY => capacity,
-        _ => DEFAULT_CAPACITY,
-    }
 }
 
 // `clap` requires each of the files, so the empty names are never used.

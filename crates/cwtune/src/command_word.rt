@@ -46,7 +46,7 @@ fn word_for(request: &Request<'_>) -> &'static str
         Request::Tune {
             words: _,
             method: _,
-            aim: _,
+            demand: _,
         } => "tune",
         Request::Check {
             words: _,

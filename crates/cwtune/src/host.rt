@@ -1,6 +1,7 @@
 //! What the commands work with, and the lines on standard error with which they end.
-ghost use Rattle.std.specs.Prelude.{◌≡◌, ◌≢◌, ◌⊎◌, IfOk, IfErr};
+ghost use Rattle.std.specs.Prelude.{◌≡◌, ◌≢◌, IfOk, IfErr};
 ghost use Rattle.tune_runs.specs.Given.{rules_given};
+ghost use Rattle.cwtune.specs.Commands.{IsEndingOf};
 
 use crate::cert_file::{CertFile, NotOpened};
 use crate::command_line::{DuelWords, TuneWords};
@@ -77,8 +78,7 @@ impl<F: Files, T: Witness, V: Write> Host<'_, F, T, V> {
 
     // Names the fault of a run.
     pub(crate) fn end(&mut self, fault: RunFault) -> Ending
-        ensures refused { result ≡ Ending.Refused → (fault ≢ RunFault.Write) × (fault ≢ RunFault.OutOfMemory) }
-        ensures ending { (result ≡ Ending.Refused) ⊎ (result ≡ Ending.Failed) }
+        ensures { IsEndingOf fault result }
     {
         say_run(self.err, fault);
         match fault {
@@ -89,8 +89,7 @@ impl<F: Files, T: Witness, V: Write> Host<'_, F, T, V> {
 
     // Names the fault of a run, and lets the witness explain it.
     pub(crate) fn refuse(&mut self, refused: &Refused<'_>, fault: RunFault) -> Ending
-        ensures refused { result ≡ Ending.Refused → (fault ≢ RunFault.Write) × (fault ≢ RunFault.OutOfMemory) }
-        ensures ending { (result ≡ Ending.Refused) ⊎ (result ≡ Ending.Failed) }
+        ensures { IsEndingOf fault result }
     {
         let ending = self.end(fault);
         self.witness.refuse(self.alloc, refused, fault);
@@ -123,8 +122,7 @@ impl<F: Files, T: Witness, V: Write> Host<'_, F, T, V> {
         texts: &DuelTexts<'_>,
         fault: RunFault,
     ) -> Ending
-        ensures refused { result ≡ Ending.Refused → (fault ≢ RunFault.Write) × (fault ≢ RunFault.OutOfMemory) }
-        ensures ending { (result ≡ Ending.Refused) ⊎ (result ≡ Ending.Failed) }
+        ensures { IsEndingOf fault result }
     {
         let refused = Refused::Duel { words, texts };
         match fault {

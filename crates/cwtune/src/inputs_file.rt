@@ -1,5 +1,6 @@
 //! The file CERT.inputs beside a certificate: program, rules, part and method of the tuning, the
-//! folder that it ran in, and the size and the digest of each of its files. No result depends on it.
+//! folder that it ran in, and the size and the digest of each of its files. No result depends on
+//! it.
 
 use crate::beginning::begins_with;
 use crate::command_line::{TuneWords, VERSION};
@@ -115,6 +116,8 @@ fn replace_inputs<R: Files + Copy>(
     place.finish()
 }
 
+// Out of line, so that the hot loop begins at a multiple of 32 (docs/HOT_LOOP.md, "To move it").
+#[inline(never)]
 fn is_file<F: Files>(rt: &F, name: &str) -> bool {
     match fs::metadata(rt, name) {
         Ok(found) => found.is_file(),

@@ -21,6 +21,7 @@ mod help_lines;
 mod host;
 mod inputs_file;
 mod line;
+mod method_options;
 mod names_in;
 mod notes;
 mod options;
@@ -75,8 +76,7 @@ fn run<R: Read, W: Write, V: Write>(
     out: &mut Outlet<W>,
     err: &mut Outlet<V>,
 ) -> u8
-    requires out { out.old.failed ≡ false }
-    requires err { err.old.failed ≡ false }
+    requires { out.old.failed ≡ false }
     ensures { IsProgramRun (map string_bytes words.now) (R.remaining input.old) out.old out.new result }
 {
     let at_terminal = rt.stderr().is_terminal();

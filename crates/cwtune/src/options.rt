@@ -1,10 +1,8 @@
 //! The options that several commands have.
 ghost use Rattle.std.specs.Prelude.{◌≡◌, IfOk};
 ghost use Rattle.std.specs.Option.{unwrap_or};
-ghost use Rattle.tune_problem.specs.Ranking.{IsAim};
-ghost use Rattle.tune_cert.specs.Judgement.{IsDemand};
 
-use crate::aim_options::{aim_of, demand_of};
+use crate::aim_options::demand_of;
 use crate::part_word::part_of;
 use crate::share_word::share_of;
 use crate::usage_error::BadValue;
@@ -12,7 +10,6 @@ use clap::{Arg, ArgAction, ArgMatches, Command};
 use rc_instr::Rules;
 use std::alloc::{AllocError, Global};
 use tune_cert::{Demand, Share};
-use tune_problem::Aim;
 use tune_runs::{Part, RawRules};
 
 // Returns whether a flag is among the words before `--`. After it they are files.
@@ -196,24 +193,20 @@ pub(crate) fn fight_numbers<'a>(
     Ok((rules, position))
 }
 
-// Returns the rules, the part and the aim of a tuning.
+// Returns the rules, the part and the demand of a tuning.
 pub(crate) fn tune_options<'a>(
     found: &ArgMatches<'a>,
-) -> Result<(RawRules, Part, Aim), BadValue<'a>>
-    ensures { IfOk result (λ x. IsAim x.2) }
-{
+) -> Result<(RawRules, Part, Demand), BadValue<'a>> {
     let rules = rules_of(found)?;
     let part = part_of(found)?;
-    let aim = aim_of(found)?;
-    Ok((rules, part, aim))
+    let demand = demand_of(found)?;
+    Ok((rules, part, demand))
 }
 
 // Returns the rules, the part, the share and the demand of a check.
 pub(crate) fn check_options<'a>(
     found: &ArgMatches<'a>,
-) -> Result<(RawRules, Part, Option<Share>, Demand), BadValue<'a>>
-    ensures { IfOk result (λ x. IsDemand x.3) }
-{
+) -> Result<(RawRules, Part, Option<Share>, Demand), BadValue<'a>> {
     let rules = rules_of(found)?;
     let part = part_of(found)?;
     let share = share_of(found)?;

@@ -1,5 +1,5 @@
 //! The program, apart from `main`: words and three streams in, an exit status out.
-ghost use Rattle.std.specs.Prelude.{◌≡◌, ◌≢◌, ◌⊎◌, map, false, string_bytes, IfErr, OnOk};
+ghost use Rattle.std.specs.Prelude.{◌≡◌, ◌≢◌, ◌⊎◌, map, false, string_bytes, IfErr};
 ghost use Rattle.cwtune.specs.CommandLine.{AsksForHelp};
 ghost use Rattle.cwtune.specs.Commands.{IsEnded};
 ghost use Rattle.cwtune.specs.Program.{IsProgramRun};
@@ -43,7 +43,7 @@ use tune_runs::RunFault;
 ///
 /// A text may have at most 1073741824 bytes. On standard error goes a line `refused: ..` for an
 /// input that is refused, the usage error, or a line `failed: ..` with status 3; that such a
-/// write fails changes nothing. Neither outlet may have failed.
+/// write fails changes nothing. The outlet `out` must not have failed.
 pub fn program<F: Files, R: Read, W: Write, V: Write>(
     rt: &F,
     alloc: Global,
@@ -52,8 +52,7 @@ pub fn program<F: Files, R: Read, W: Write, V: Write>(
     out: &mut Outlet<W>,
     err: &mut Outlet<V>,
 ) -> u8
-    requires out { out.old.failed ≡ false }
-    requires err { err.old.failed ≡ false }
+    requires { out.old.failed ≡ false }
     ensures { IsProgramRun (map string_bytes words.now) (R.remaining input.old) out.old out.new result }
 {
     let host = Host {
@@ -81,9 +80,13 @@ pub(crate) fn watched_program<F: Files, R: Read, W: Write, V: Write, T: Witness>
         Ok(Request::Duel(words)) => status_of(duel(host, &words, out)),
         Ok(Request::Asm(words)) => status_of(asm(host, &words, out)),
         Ok(Request::Settings { file }) => status_of(settings(host, file, out)),
-        Ok(Request::Tune { words, method, aim }) => {
-            status_of(tune(host, &words, method, aim, out))
-        }
+        Ok(
+            Request::Tune {
+                words,
+                method,
+                demand,
+            },
+        ) => { status_of(tune(host, &words, method, demand, out)) }
         Ok(
             Request::Check {
                 words,
@@ -116,8 +119,7 @@ fn show<F: Files, W: Write, V: Write, T: Witness>(
     out: &mut Outlet<W>,
 ) -> Result<(), Ending>
     requires { out.old.failed ≡ false }
-    ensures asked { OnOk result (AsksForHelp (map string_bytes words.now)) }
-    ensures ended { IsEnded out.old out.new result }
+    ensures ended { IsEnded (AsksForHelp (map string_bytes words.now)) out.old out.new result }
     ensures known { IfErr result (λ e. e ≢ Ending.Refused) }
 {
     if answer.kind() == ErrorKind::OutOfMemory {

@@ -1,7 +1,8 @@
 //! The command `asm`: from a Redcode text, or a setting of a template, to a load file.
-ghost use Rattle.std.specs.Prelude.{◌≡◌, ◌≢◌, ◌↔◌, ℕ, List, false, IfErr, OnOk, IsErrOf, IsTrue};
+ghost use Rattle.std.specs.Prelude.{◌≡◌, ℕ, List, false};
 ghost use Rattle.tune_runs.specs.Given.{rules_given};
-ghost use Rattle.cwtune.specs.Commands.{WritesLoadFile, IsEnded};
+ghost use Rattle.tune_runs.specs.Runs.{IsRun};
+ghost use Rattle.cwtune.specs.Commands.{file_answer, WritesLoadFile, EndsUnderstood};
 
 use crate::command_line::AsmWords;
 use crate::ending::Ending;
@@ -21,9 +22,8 @@ pub(crate) fn asm<F: Files, T: Witness, W: Write, V: Write>(
     out: &mut Outlet<W>,
 ) -> Result<(), Ending>
     requires { out.old.failed ≡ false }
-    ensures done { OnOk result ((source : List ℕ) × WritesLoadFile source words.now.setting (rules_given words.now.rules) out.old.bytes out.new.bytes) }
-    ensures ended { IsEnded out.old out.new result }
-    ensures understood { IfErr result (λ e. e ≢ Ending.Misused) }
+    ensures { let rules = rules_given words.now.rules in
+        EndsUnderstood ((source : List ℕ) × WritesLoadFile source words.now.setting rules out.old.bytes out.new.bytes) out.old out.new result }
 {
     let rules = host.rules(words.rules)?;
     let source = host.read(words.file)?;
@@ -53,9 +53,7 @@ fn assemble<W: Write>(
     out: &mut Outlet<W>,
 ) -> Result<(), RunFault>
     requires { out.old.failed ≡ false }
-    ensures warrior { OnOk result (WritesLoadFile source.now setting rules.now out.old.bytes out.new.bytes) }
-    ensures refused { IfErr result (λ e. e ≢ RunFault.Write → out.new ≡ out.old) }
-    ensures write { IsErrOf result RunFault.Write ↔ IsTrue out.new.failed }
+    ensures { IsRun (file_answer source.now setting rules.now) result out.old out.new }
 {
     match setting {
         Some(which) => setting_run(alloc, source, which, rules, out),

@@ -1,8 +1,8 @@
 //! The command `check`: from texts and a certificate to the line of the verdict.
-ghost use Rattle.std.specs.Prelude.{◌≡◌, ◌≢◌, ◌↔◌, ◌⊎◌, true, false, IfOk, IfErr, OnOk, IsErrOf, IsTrue};
-ghost use Rattle.tune_cert.specs.Judgement.{IsDemand};
+ghost use Rattle.std.specs.Prelude.{◌≡◌, false};
 ghost use Rattle.tune_runs.specs.Given.{rules_given, texts_given};
-ghost use Rattle.cwtune.specs.Commands.{WritesCheckLine, WritesVerdictOf};
+ghost use Rattle.tune_runs.specs.Runs.{IsRun};
+ghost use Rattle.cwtune.specs.Commands.{answer_for, WritesCheckLine, WritesVerdictOf, IsCheckEnded};
 
 use crate::command_line::TuneWords;
 use crate::ending::Ending;
@@ -25,12 +25,8 @@ pub(crate) fn check<F: Files, T: Witness, W: Write, V: Write>(
     demand: Demand,
     out: &mut Outlet<W>,
 ) -> Result<(), Ending>
-    requires demand { IsDemand demand }
     requires out { out.old.failed ≡ false }
-    ensures done { OnOk result (WritesCheckLine (rules_given words.now.rules) words.now.part demand share true out.old.bytes out.new.bytes) }
-    ensures refused { IsErrOf result Ending.Refused → (out.new ≡ out.old) ⊎ WritesCheckLine (rules_given words.now.rules) words.now.part demand share false out.old.bytes out.new.bytes }
-    ensures misused { IsErrOf result Ending.Misused → out.new ≡ out.old }
-    ensures failed { IsTrue out.new.failed → IsErrOf result Ending.Failed }
+    ensures { IsCheckEnded (WritesCheckLine (rules_given words.now.rules) words.now.part demand share) out.old out.new result }
 {
     let rules = host.rules(words.rules)?;
     let template = host.read(words.template)?;
@@ -56,12 +52,8 @@ fn check_texts<F: Files, T: Witness, W: Write, V: Write>(
     cert: &[u8],
     out: &mut Outlet<W>,
 ) -> Result<(), Ending>
-    requires demand { IsDemand demand }
     requires out { out.old.failed ≡ false }
-    ensures done { OnOk result (WritesVerdictOf demand share (texts_given texts.now) cert.now true out.old.bytes out.new.bytes) }
-    ensures refused { IsErrOf result Ending.Refused → (out.new ≡ out.old) ⊎ WritesVerdictOf demand share (texts_given texts.now) cert.now false out.old.bytes out.new.bytes }
-    ensures misused { IsErrOf result Ending.Misused → out.new ≡ out.old }
-    ensures failed { IsTrue out.new.failed → IsErrOf result Ending.Failed }
+    ensures { IsCheckEnded (WritesVerdictOf demand share (texts_given texts.now) cert.now) out.old out.new result }
 {
     host.witness.name(host.alloc, words, texts);
     match verdict_on(host.alloc, texts, share, demand, host.witness, cert, out) {
@@ -85,11 +77,8 @@ fn verdict_on<T: Watcher, W: Write>(
     cert: &[u8],
     out: &mut Outlet<W>,
 ) -> Result<bool, RunFault>
-    requires demand { IsDemand demand }
     requires out { out.old.failed ≡ false }
-    ensures verdict { IfOk result (λ accepted. WritesVerdictOf demand share (texts_given texts.now) cert.now accepted out.old.bytes out.new.bytes) }
-    ensures write { IsErrOf result RunFault.Write ↔ IsTrue out.new.failed }
-    ensures refused { IfErr result (λ e. e ≢ RunFault.Write → out.new ≡ out.old) }
+    ensures { IsRun (answer_for demand share (texts_given texts.now) cert.now) result out.old out.new }
 {
     if demand.keep.is_some() || demand.floor.is_some() {
         return check_for_run(alloc, texts, demand, share, watcher, cert, out);

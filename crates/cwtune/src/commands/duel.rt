@@ -1,8 +1,8 @@
 //! The command `fight` with two files: from two Redcode texts to a result line.
-ghost use Rattle.std.specs.Prelude.{◌≡◌, ◌≢◌, ◌/◌, ℕ, List, false, IfErr, OnOk};
+ghost use Rattle.std.specs.Prelude.{◌≡◌, ◌/◌, false};
 ghost use Rattle.tune_runs.specs.Given.{rules_given};
-ghost use Rattle.tune_runs.specs.DuelRun.{duel, position_meant, WritesDuel};
-ghost use Rattle.cwtune.specs.Commands.{IsEnded};
+ghost use Rattle.tune_runs.specs.DuelRun.{position_meant};
+ghost use Rattle.cwtune.specs.Commands.{WritesDuelOf, EndsUnderstood};
 
 use crate::command_line::DuelWords;
 use crate::ending::Ending;
@@ -20,10 +20,8 @@ pub(crate) fn duel<F: Files, T: Witness, W: Write, V: Write>(
     out: &mut Outlet<W>,
 ) -> Result<(), Ending>
     requires { out.old.failed ≡ false }
-    ensures done { let rules = rules_given words.now.rules in OnOk result ((c : List ℕ) × (o : List ℕ)
-        × WritesDuel (duel c o rules (position_meant rules words.now.position) words.now.first) out.old.bytes out.new.bytes) }
-    ensures ended { IsEnded out.old out.new result }
-    ensures understood { IfErr result (λ e. e ≢ Ending.Misused) }
+    ensures { let w = words.now in
+        EndsUnderstood (WritesDuelOf (rules_given w.rules) w.position w.first out.old.bytes out.new.bytes) out.old out.new result }
 {
     let rules = host.rules(words.rules)?;
     let candidate = host.read(words.candidate)?;

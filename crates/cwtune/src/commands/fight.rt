@@ -1,8 +1,8 @@
 //! The command `fight`: from a fight text to a result line.
-ghost use Rattle.std.specs.Prelude.{◌≡◌, ◌≢◌, false, List, ℕ, Err, IfErr, IsErrOf, OnOk};
+ghost use Rattle.std.specs.Prelude.{◌≡◌, false, List, ℕ, Err, IsErrOf};
 ghost use Rattle.tune_runs.specs.FightRun.{fight_answer};
 ghost use Rattle.tune_runs.specs.declared.fault.RunFault.{RunFault};
-ghost use Rattle.cwtune.specs.Commands.{WritesFightIn, IsEnded};
+ghost use Rattle.cwtune.specs.Commands.{WritesFightIn, EndsUnderstood};
 ghost use Rattle.cwtune.specs.Input.{IsInput};
 
 use crate::ending::Ending;
@@ -21,10 +21,8 @@ pub(crate) fn fight<F: Files, R: Read, T: Witness, W: Write, V: Write>(
     out: &mut Outlet<W>,
 ) -> Result<(), Ending>
     requires { out.old.failed ≡ false }
-    ensures done { OnOk result (WritesFightIn (R.remaining input.old) out.old.bytes out.new.bytes) }
+    ensures ended { EndsUnderstood (WritesFightIn (R.remaining input.old) out.old.bytes out.new.bytes) out.old out.new result }
     ensures refused { IsErrOf result Ending.Refused → (text : List ℕ) × (fault : RunFault) × IsInput (R.remaining input.old) text × (fight_answer text ≡ Err fault) }
-    ensures ended { IsEnded out.old out.new result }
-    ensures understood { IfErr result (λ e. e ≢ Ending.Misused) }
 {
     let text = match read_text(host.alloc, input) {
         Ok(text) => text,

@@ -1,7 +1,7 @@
 //! The command `settings`: from a template to the number of its settings, and its constants.
-ghost use Rattle.std.specs.Prelude.{◌≡◌, ◌≢◌, ℕ, List, false, IfErr, OnOk};
+ghost use Rattle.std.specs.Prelude.{◌≡◌, ℕ, List, false};
 ghost use Rattle.tune_runs.specs.SettingsRun.{WritesSettings};
-ghost use Rattle.cwtune.specs.Commands.{IsEnded};
+ghost use Rattle.cwtune.specs.Commands.{EndsUnderstood};
 
 use crate::ending::Ending;
 use crate::host::Host;
@@ -19,9 +19,7 @@ pub(crate) fn settings<F: Files, T: Witness, W: Write, V: Write>(
     out: &mut Outlet<W>,
 ) -> Result<(), Ending>
     requires { out.old.failed ≡ false }
-    ensures done { OnOk result ((source : List ℕ) × WritesSettings source out.old.bytes out.new.bytes) }
-    ensures ended { IsEnded out.old out.new result }
-    ensures understood { IfErr result (λ e. e ≢ Ending.Misused) }
+    ensures { EndsUnderstood ((source : List ℕ) × WritesSettings source out.old.bytes out.new.bytes) out.old out.new result }
 {
     let source = host.read(file)?;
     let text = source.as_slice();

@@ -6,15 +6,19 @@ ghost use Rattle.tune_problem.specs.Ranking.{IsAim};
 ghost use Rattle.tune_search.specs.Method.{HasCapacity};
 ghost use Rattle.cwtune.specs.CertFile.{names_twice};
 ghost use Rattle.cwtune.specs.Commands.{WritesReport, IsEnded};
+ghost use Rattle.cwtune.specs.CommandLine.{aim_meant, method_meant};
 
+use crate::aim_options::aim_meant;
 use crate::cert_file::open_cert;
 use crate::command_line::TuneWords;
 use crate::ending::Ending;
 use crate::host::Host;
+use crate::method_options::{MethodWords, method_meant};
 use crate::witness::Witness;
 use rc_instr::Outlet;
 use std::io::Write;
 use std::rt::Files;
+use tune_cert::Demand;
 use tune_problem::Aim;
 use tune_runs::{Method, TuneTexts, tune_from_run};
 
@@ -24,15 +28,13 @@ use tune_runs::{Method, TuneTexts, tune_from_run};
 pub(crate) fn tune<F: Files, T: Witness, W: Write, V: Write>(
     host: &mut Host<'_, F, T, V>,
     words: &TuneWords<'_>,
-    method: Method,
-    aim: Aim,
+    method: MethodWords,
+    demand: Demand,
     out: &mut Outlet<W>,
 ) -> Result<(), Ending>
-    requires capacity { HasCapacity method }
-    requires aim { IsAim aim }
     requires out { out.old.failed ≡ false }
-    ensures done { OnOk result (WritesReport aim method (rules_given words.now.rules) words.now.part out.old.bytes out.new.bytes) }
-    ensures ended { IsEnded out.old out.new result }
+    ensures ended { let rules = rules_given words.now.rules in
+        IsEnded (WritesReport (aim_meant demand) (method_meant method) rules words.now.part out.old.bytes out.new.bytes) out.old out.new result }
     ensures named { IsTrue (names_twice words.now) → IsErr result × (out.new ≡ out.old) }
 {
     let rules = host.rules(words.rules)?;
@@ -44,6 +46,8 @@ pub(crate) fn tune<F: Files, T: Witness, W: Write, V: Write>(
     let beside = host.inputs_beside(words, &file)?;
     let mut cert = Outlet::new(file);
     let texts = files.texts(&rules, words.part);
+    let method = method_meant(method);
+    let aim = aim_meant(demand);
     match tune_into(host, words, &texts, method, aim, out, &mut cert) {
         Ok(()) => {
             host.end_files(words, &texts, method, cert, beside);
@@ -67,13 +71,12 @@ fn tune_into<F: Files, T: Witness, W: Write, V: Write, X: Write>(
     out: &mut Outlet<W>,
     cert: &mut Outlet<X>,
 ) -> Result<(), Ending>
-    requires capacity { HasCapacity method }
     requires aim { IsAim aim }
+    requires capacity { HasCapacity method }
     requires out { out.old.failed ≡ false }
     requires cert { cert.old.failed ≡ false }
-    ensures done { OnOk result (WritesTuningFrom (texts_given texts.now) aim method
-        out.old.bytes out.new.bytes cert.old.bytes cert.new.bytes) }
-    ensures ended { IsEnded out.old out.new result }
+    ensures ended { let t = texts_given texts.now in
+        IsEnded (WritesTuningFrom t aim method out.old.bytes out.new.bytes cert.old.bytes cert.new.bytes) out.old out.new result }
     ensures unwritten { IfErr result (λ e. e ≢ Ending.Failed → cert.new ≡ cert.old) }
     ensures flushed { OnOk result (cert.new.flushed ≡ true) }
     ensures before { (out.new ≡ out.old) ⊎ (cert.new.flushed ≡ true) }
