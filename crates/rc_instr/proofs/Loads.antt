@@ -172,36 +172,40 @@ no_warrior line (Err x) e = let q : Warrior x ≡ Malformed line = cc in cc
 same_line : (a b : ℕ) → Malformed a ≡ Malformed b → a ≡ b
 same_line a b e = cc
 
--- after a first line, a malformed line is the one after the lines of code
-line_after : (start line : ℕ) (rules : RulesView) (read : List Instruction × List ℕ)
-    → and_then (λ code. with_fault Warrior (warrior_of rules (warrior_view code start))) (only_lines read.0 read.1) ≡ Err (Malformed line) → (length read.0 + 2 ≡ line) × (read.1 ≡ [] → ⊥)
-line_after start line rules (code, []) e = absurd (no_warrior line (warrior_of rules (warrior_view code start)) e)
-line_after start line rules (code, b ∷ rest) e =
-    let f : Malformed (length code + 2) ≡ Malformed line = cc in
-    (same_line (length code + 2) line f, λ n. absurd (cc))
-
-pub first_line : (rules : RulesView) (bytes : List ℕ) → load_meaning rules bytes ≡ Err (Malformed 1) → start_at bytes ≡ None
-unfolding load_meaning code_of
-first_line rules bytes e = by_start (start_at bytes) e where
-  by_start : (o : Option (ℕ × List ℕ))
-      → and_then (λ start. and_then (λ code. with_fault Warrior (warrior_of rules (warrior_view code start.0))) (code_of rules.core start.1)) (ok_or o (Malformed 1)) ≡ Err (Malformed 1) → o ≡ None
-  by_start None q = refl
-  by_start (Some x) q = let l = line_after x.0 1 rules (lines_at rules.core x.1) q in let n = l.0 in absurd (omega (arith, n))
-
-pub later_line : (rules : RulesView) (bytes lines : List ℕ) (start n : ℕ) → start_at bytes ≡ Some (start, lines) → load_meaning rules bytes ≡ Err (Malformed (n + 2))
-    → (length (lines_at rules.core lines).0 ≡ n) × ((lines_at rules.core lines).1 ≡ [] → ⊥)
-unfolding load_meaning code_of
-later_line rules bytes lines start n s e =
-    let l = line_after start (n + 2) rules (lines_at rules.core lines) (sym (rw s refl) ∙ e) in
-    let number = l.0 in
-    (omega (arith, number), l.1)
-
-pub bad_line : (rules : RulesView) (bytes lines : List ℕ) (start n : ℕ) → start_at bytes ≡ Some (start, lines) → length (lines_at rules.core lines).0 ≡ n
-    → ((lines_at rules.core lines).1 ≡ [] → ⊥) → load_meaning rules bytes ≡ Err (Malformed (n + 2))
+-- the malformed line of a text after its first line is that of the lines of code
+pub later_line : (rules : RulesView) (bytes lines : List ℕ) (start line : ℕ) → start_at bytes ≡ Some (start, lines) → load_meaning rules bytes ≡ Err (Malformed line)
+    → code_of rules.core lines ≡ Err (Malformed line)
 unfolding load_meaning
-bad_line rules bytes lines start n s k some =
-    let read = lines_at rules.core lines in
-    rw (s, told rules.core lines read.0 read.1 refl some, k) refl
+later_line rules bytes lines start line s e = by_code (code_of rules.core lines) (sym (rw s refl) ∙ e) where
+  by_code : (r : Result (List Instruction) LoadFault) → and_then (λ code. with_fault Warrior (warrior_of rules (warrior_view code start))) r ≡ Err (Malformed line) → r ≡ Err (Malformed line)
+  by_code (Ok code) q = absurd (no_warrior line (warrior_of rules (warrior_view code start)) q)
+  by_code (Err f) q = let g : f ≡ Malformed line = cc in ap Err g
+
+pub line_later : (rules : RulesView) (bytes lines : List ℕ) (start line : ℕ) → start_at bytes ≡ Some (start, lines) → code_of rules.core lines ≡ Err (Malformed line)
+    → load_meaning rules bytes ≡ Err (Malformed line)
+unfolding load_meaning
+line_later rules bytes lines start line s e = rw (s, e) refl
+
+-- it is the one after the lines that are read
+after_lines : (read : List Instruction × List ℕ) (line : ℕ) → only_lines read.0 read.1 ≡ Err (Malformed line) → (line ≡ length read.0 + 2) × (read.1 ≡ [] → ⊥)
+after_lines (code, []) line e = absurd (cc)
+after_lines (code, b ∷ rest) line e =
+    let f : Malformed (length code + 2) ≡ Malformed line = cc in
+    (sym (same_line (length code + 2) line f), λ n. absurd (cc))
+
+pub code_line : (m line : ℕ) (lines : List ℕ) → code_of m lines ≡ Err (Malformed line) → (line ≡ length (lines_at m lines).0 + 2) × ((lines_at m lines).1 ≡ [] → ⊥)
+unfolding code_of
+code_line m line lines e = after_lines (lines_at m lines) line e
+
+pub line_code : (m line : ℕ) (lines : List ℕ) → line ≡ length (lines_at m lines).0 + 2 → ((lines_at m lines).1 ≡ [] → ⊥) → code_of m lines ≡ Err (Malformed line)
+line_code m line lines k some = told m lines (lines_at m lines).0 (lines_at m lines).1 refl some ∙ ap (λ n. Err (Malformed n)) (sym k)
+
+-- the first line is malformed only if none is read
+pub first_line : (rules : RulesView) (bytes : List ℕ) → load_meaning rules bytes ≡ Err (Malformed 1) → start_at bytes ≡ None
+first_line rules bytes e = by_start (start_at bytes) refl where
+  by_start : (o : Option (ℕ × List ℕ)) → start_at bytes ≡ o → start_at bytes ≡ None
+  by_start None s = s
+  by_start (Some x) s = let l = code_line rules.core 1 x.1 (later_line rules bytes x.1 x.0 1 s e) in let n = l.0 in absurd (omega (arith, n))
 
 -- equal texts have equal warriors
 pub one_warrior : (rules : RulesView) (v w : WarriorView) → IsRules rules → IsWarrior v → IsWarrior w → Fits rules v → Fits rules w

@@ -3,7 +3,7 @@ ghost use Rattle.std.specs.Prelude.{◌≡◌, ◌≢◌, ◌↔◌, ℕ, ◌+�
 ghost use Rattle.rc_instr.specs.Checks.{rules_of, warrior_of};
 ghost use Rattle.rc_instr.specs.Rules.{RulesView, IsRules, IsCoreSize};
 ghost use Rattle.rc_instr.specs.Warrior.{WarriorView, IsWarrior, IsBelow, Fits};
-ghost use Rattle.rc_instr.specs.Loaded.{lines_at, load_meaning};
+ghost use Rattle.rc_instr.specs.Loaded.{lines_at, code_of, load_meaning};
 ghost use Rattle.rc_instr.specs.LoadReaders.{line_at, start_at};
 ghost use Rattle.rc_instr.specs.Words.{opcode_text, modifier_text, opcode_named, modifier_named};
 ghost use Rattle.rc_instr.specs.LoadText.{line_text, start_text, code_text, load_text};
@@ -65,21 +65,26 @@ pub fn a_load_file_means_its_warrior()
 {}
 
 /// The first line is read exactly if it is the text of a start, and a line of code exactly if it is
-/// the text of an instruction. Lines of code are read as long as one follows.
+/// the text of an instruction. Lines of code are read as long as one follows: what was read is
+/// their text, and what is left begins with none.
 pub fn lines_are_read_as_they_are_written()
     ensures start { (bytes rest : List ℕ) (n : ℕ) → start_at bytes ≡ Some (n, rest) ↔ (bytes ≡ start_text n ++ rest) × (n < 2 ^ 16) }
     ensures line { (m : ℕ) (bytes rest : List ℕ) (i : Instruction) → IsCoreSize m
         → line_at m bytes ≡ Some (i, rest) ↔ (bytes ≡ line_text m i ++ rest) × IsBelow m i }
-    ensures lines { (m : ℕ) (bytes rest : List ℕ) (code : List Instruction) → IsCoreSize m
-        → lines_at m bytes ≡ (code, rest) ↔ (bytes ≡ code_text m code ++ rest) × All (IsBelow m) code × (line_at m rest ≡ None) }
+    ensures lines { (m : ℕ) (code : List Instruction) (rest : List ℕ) → IsCoreSize m → All (IsBelow m) code → line_at m rest ≡ None
+        → lines_at m (code_text m code ++ rest) ≡ (code, rest) }
+    ensures read { (m : ℕ) (bytes : List ℕ) → IsCoreSize m → let read = lines_at m bytes in
+        (bytes ≡ code_text m read.0 ++ read.1) × All (IsBelow m) read.0 × (line_at m read.1 ≡ None) }
 {}
 
-/// Line 1 is malformed exactly if no first line is read. Line n + 2 is malformed exactly if n lines
-/// of code are read after the first line, and something comes after them.
+/// Line 1 is the malformed one exactly if no first line is read. After a first line it is that of
+/// the lines of code: the line after those that are read, if something is left.
 pub fn a_malformed_line_is_the_first()
-    ensures start { (rules : RulesView) (bytes : List ℕ) → load_meaning rules bytes ≡ Err (LoadFault.Malformed 1) ↔ start_at bytes ≡ None }
-    ensures code { (rules : RulesView) (bytes lines : List ℕ) (start n : ℕ) → start_at bytes ≡ Some (start, lines) → let read = lines_at rules.core lines in
-        load_meaning rules bytes ≡ Err (LoadFault.Malformed (n + 2)) ↔ (length read.0 ≡ n) × (read.1 ≢ []) }
+    ensures start { (rules : RulesView) (bytes : List ℕ) → load_meaning rules bytes ≡ Err (Malformed 1) ↔ start_at bytes ≡ None }
+    ensures later { (r : RulesView) (bytes lines : List ℕ) (start n : ℕ) → start_at bytes ≡ Some (start, lines)
+        → load_meaning r bytes ≡ Err (Malformed n) ↔ code_of r.core lines ≡ Err (Malformed n) }
+    ensures code { (m n : ℕ) (lines : List ℕ) → let read = lines_at m lines in
+        code_of m lines ≡ Err (Malformed n) ↔ (n ≡ length read.0 + 2) × (read.1 ≢ []) }
 {}
 
 /// Equal load files under equal rules mean equal warriors.

@@ -1,5 +1,4 @@
-use Rattle.std.proofs.Common.{◌≡◌, ◌∙◌, ap, ◌++◌}
-use Rattle.rc_instr.specs.LoadText.{line_text, start_text, code_text}
+use Rattle.std.proofs.Common.{◌∙◌, ap, refl}
 use Rattle.rc_instr.specs.LoadReaders.{line_at, start_at}
 use Rattle.rc_instr.specs.Loaded.{lines_at}
 use Rattle.rc_instr.proofs.LoadReading.{line_read, line_is, start_read, start_is}
@@ -14,7 +13,7 @@ returns-clause-line c m bytes rest i k =
     (λ e. (let l = line_is m bytes i rest k.0 e in (l.text, l.below)), λ h. ap (line_at m) h.0 ∙ line_read m i rest k.1 h.1)
 
 pub returns-clause-lines : goal.returns-clause-lines
-returns-clause-lines c m bytes rest code k = (
-  λ e. (let l = lines_are m bytes (code, rest) k.0 e in (l.text, l.below, l.none)),
-  λ h. ap (lines_at m) h.0 ∙ lines_read m code rest k.0 k.1 h.1 h.2,
-)
+returns-clause-lines c m code rest k h e = lines_read m code rest k.0 k.1 h e
+
+pub returns-clause-read : goal.returns-clause-read
+returns-clause-read c m bytes k = let l = lines_are m bytes (lines_at m bytes) k.0 refl in (l.text, l.below, l.none)
