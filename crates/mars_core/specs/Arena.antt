@@ -10,11 +10,11 @@ use Rattle.mars_core.specs.Snapshot.{SnapshotView}
 pub record ArenaView : Type 0 where
   pub rules : RulesView
   pub state : State
-  -- the turns made since the load
+  -- The turns made since the load.
   pub turns : ℕ
-  -- the fights that were run, modulo 2 to the 64
+  -- The fights that were run, modulo 2 to the 64.
   pub fights : ℕ
-  -- the number of cells that a reset would set
+  -- The number of cells that a reset would set.
   pub marks : ℕ
 
 abbrev pub arena : RulesView → List Instruction → List ℕ → List ℕ → ℕ → ℕ → ℕ → ArenaView

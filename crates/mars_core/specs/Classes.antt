@@ -1,6 +1,6 @@
--- There are 128 classes of instructions. Each of the first 64 is a frequent instruction, all but its
--- numbers; docs/HOT_LOOP.md says how these were chosen. Each of the other 64 says the modes of both
--- operands, and nothing else.
+-- There are 128 classes of instructions. Each of the first 64 is a frequent instruction, all but
+-- its numbers; docs/HOT_LOOP.md says how these were chosen. Each of the other 64 says the modes of
+-- both operands, and nothing else.
 use Rattle.std.specs.Prelude.{◌≡◌, ℕ, ◌+◌, ◌*◌, ◌/◌, ◌<◌, ◌≤◌, ◌==◌, if◌then◌else◌}
 use Rattle.rc_instr.specs.Instruction.{opcode_number, modifier_number, mode_number}
 use Rattle.rc_instr.specs.declared.instruction.Instruction.{Instruction}

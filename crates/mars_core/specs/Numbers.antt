@@ -11,7 +11,7 @@ difference_of m x y = (x + (m - y)) % m
 unfoldable pub product_of : ℕ → ℕ → ℕ → ℕ
 product_of m x y = (x * y) % m
 
--- the two numbers of an instruction
+-- Which of the two numbers of an instruction.
 pub data Field : Type 0 where
   ANumber : Field
   BNumber : Field

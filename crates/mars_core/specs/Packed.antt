@@ -10,11 +10,11 @@ use Rattle.rc_instr.specs.declared.instruction.Instruction.{Instruction}
 use Rattle.mars_core.specs.Classes.{key_of, class_of, IsClassOf}
 use Rattle.mars_core.specs.Codes.{opcode_of, modifier_of, mode_of}
 
--- the word of an instruction without a mark
+-- The word of an instruction, without a mark.
 unfoldable pub packed : Instruction → ℕ
 packed i = key_of i + 65536 * i.a_number + 4294967296 * class_of i + 281474976710656 * i.b_number
 
--- the instruction of a word
+-- The instruction of a word.
 unfoldable pub unpacked : ℕ → Instruction
 unpacked w = record {
   opcode = opcode_of (w / 8 % 16);
@@ -25,7 +25,7 @@ unpacked w = record {
   b_number = w / 281474976710656;
 }
 
--- the class that a word keeps
+-- The class that a word keeps.
 abbrev pub class_in : ℕ → ℕ
 class_in w = w / 4294967296 % 128
 
@@ -33,22 +33,22 @@ class_in w = w / 4294967296 % 128
 pub record IsClassed (w : ℕ) : Type 0 where
   pub class_is : IsClassOf (unpacked w) (class_in w)
 
--- 1 if the word is marked, else 0
+-- 1 if the word is marked, else 0.
 unfoldable pub mark_of : ℕ → ℕ
 mark_of w = w / 32768 % 2
 
--- the word with a mark
+-- The word with a mark.
 unfoldable pub marked : ℕ → ℕ
 marked w = w + 32768 * (1 - mark_of w)
 
 abbrev pub is_marked : ℕ → Bool
 is_marked w = mark_of w == 1
 
--- the word of the empty cell, without a mark
+-- The word of the empty cell, without a mark.
 unfoldable pub empty_word : ℕ
 empty_word = packed empty_cell
 
--- two words agree in all parts of an instruction
+-- Two words agree in all parts of an instruction.
 unfoldable pub same_parts : ℕ → ℕ → Bool
 same_parts x y =
     (x / 8 % 16 == y / 8 % 16)

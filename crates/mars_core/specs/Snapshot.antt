@@ -8,7 +8,7 @@ pub record SnapshotView : Type 0 where
   pub core : List Instruction
   pub mine : List ℕ
   pub theirs : List ℕ
-  -- after how many cycles it was taken, 0 if none was taken in this fight
+  -- After how many cycles it was taken, 0 if none was taken in this fight.
   pub cycles : ℕ
 
 abbrev pub snapshot_view : List Instruction → List ℕ → List ℕ → ℕ → SnapshotView

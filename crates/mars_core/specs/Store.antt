@@ -3,7 +3,8 @@ use Rattle.std.specs.Prelude.{◌≡◌, ℕ, ◌<◌, ◌≤◌, Bool, true, fa
 use Rattle.rc_instr.specs.declared.instruction.Instruction.{Instruction}
 use Rattle.mars_core.specs.Packed.{unpacked, is_marked, empty_word, IsClassed}
 
--- the instructions in the words, the marks of the words, and the number of addresses in the journal
+-- The instructions in the words, the marks of the words, and the number of addresses in the
+-- journal.
 pub record StoreView : Type 0 where
   pub items : List Instruction
   pub marked : List Bool
@@ -23,7 +24,7 @@ pub record IsStore (words journal : List ℕ) (count : ℕ) : Type 0 where
   pub within : All (λ j. j < length words) (take count journal)
   pub classed : All IsClassed words
 
--- a word that is not the empty one has its address in the journal
+-- A word that is not the empty one has its address in the journal.
 pub record ListsWritten (words journal : List ℕ) : Type 0 where
   pub within : All (λ j. j < length words) journal
   pub listed : (k : ℕ) → k < length words → (slice_index words k ≡ empty_word) ⊎ Contains journal k

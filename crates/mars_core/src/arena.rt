@@ -124,10 +124,10 @@ impl<C: Cells> Arena<C> {
     /// the cycles of the rules are over. A cycle is one turn of each side, so there are at most two
     /// turns for each cycle.
     ///
-    /// Requires that no turn was made since the load. On a blank arena no side has a task: returns
-    /// 3 points after 0 turns. The candidate gets 3 points if the opponent has no task
-    /// left, 0 if it has none itself, and 1 if both still have tasks (pMARS, for two warriors). The
-    /// marks grow by at most 3 a turn, and the fights by 1.
+    /// Requires that no turn was made since the load. The candidate gets 3 points if the opponent
+    /// has no task left, 0 if it has none itself, and 1 if both still have tasks (pMARS, for two
+    /// warriors). So a run of a blank arena returns 3 points after 0 turns. The marks grow by at
+    /// most 3 a turn, and the fights by 1.
     pub fn run(&mut self, first: Side) -> Outcome
         requires { self.old.turns ≡ 0 }
         ensures outcome { result ≡ outcome_of self.old.rules.tasks self.old.state first self.old.rules.cycles }

@@ -34,7 +34,7 @@ pub fn a_state_that_comes_back_decides()
 /// least the cells that were not empty at the end.
 ///
 /// The arena must be blank and without marks, as it is when new or reset, and is so again
-/// afterwards. Both warriors must keep its rules, and `at` must keep the distance, both ways round
+/// afterwards. Both warriors must fit its rules, and `at` must keep the distance, both ways round
 /// the core.
 pub fn a_reset_sets_few_cells(
     arena: &mut Arena<PackedCells>,

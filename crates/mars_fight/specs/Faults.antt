@@ -8,10 +8,10 @@ use Rattle.mars_fight.specs.declared.fault.ScheduleFaultKind.TheVariants.{OutOfM
 abbrev pub at_row : ℕ → ScheduleFaultKind → ScheduleFault
 at_row row kind = record { row = row; kind = kind }
 
--- out of memory is at record 0
+-- Out of memory is at record 0.
 abbrev pub IsMemory : ScheduleFault → Type 0
 IsMemory fault = fault ≡ at_row 0 OutOfMemory
 
--- a call returns what the definition gives, seen through `view`, unless memory runs out
+-- A call returns what the definition gives, seen through `view`, unless memory runs out.
 abbrev pub Returns : {A B : Type 0} → (view : A → B) → (result : Result A ScheduleFault) → (definition : Result B ScheduleFault) → Type 0
 Returns view result definition = ReturnsBut IsMemory view result definition

@@ -17,44 +17,44 @@ use Rattle.mars_fight.specs.declared.fault.ScheduleFaultKind.TheVariants.{Header
 use Rattle.mars_fight.specs.declared.fault.ScheduleFault.{ScheduleFault}
 use Rattle.mars_fight.specs.Faults.{at_row}
 
--- the names of the first three fields
-abbrev pub names_fight : List ℕ → List ℕ → List ℕ → Bool
-names_fight a b c = bytes_eq a (codes "opponent") && bytes_eq b (codes "position") && bytes_eq c (codes "first")
+-- The first three fields have the names of a header.
+abbrev pub begins_header : List ℕ → List ℕ → List ℕ → Bool
+begins_header a b c = bytes_eq a (codes "opponent") && bytes_eq b (codes "position") && bytes_eq c (codes "first")
 
--- what a header says of the fields: three, or four with a weight. None if it is no header.
+-- What a header says of the fields: three, or four with a weight. None if it is not a header.
 abbrev pub columns_of : Fields → Option Columns
-columns_of (a ∷ b ∷ c ∷ []) = if names_fight a b c then Some Unweighted else None
-columns_of (a ∷ b ∷ c ∷ d ∷ []) = if names_fight a b c && bytes_eq d (codes "weight") then Some Weighted else None
+columns_of (a ∷ b ∷ c ∷ []) = if begins_header a b c then Some Unweighted else None
+columns_of (a ∷ b ∷ c ∷ d ∷ []) = if begins_header a b c && bytes_eq d (codes "weight") then Some Weighted else None
 columns_of _ = None
 
--- the columns that the first record names: it must be a header
+-- The columns that the first record names: it must be a header.
 abbrev pub header_of : List Fields → Result Columns ScheduleFault
 header_of [] = Err (at_row 0 Header)
 header_of (first ∷ records) = ok_or (columns_of first) (at_row 0 Header)
 
--- the index of one of `opponents` opponents
+-- The index of one of `opponents` opponents.
 abbrev pub opponent_of : ℕ → Option ℕ → Result ℕ ScheduleFaultKind
 opponent_of opponents None = Err BadNumber
 opponent_of opponents (Some number) = if nat_lt number opponents then Ok number else Err NoSuchOpponent
 
--- a position at least the distance away from 0, both ways round the core
+-- A position at least the distance away from 0, both ways round the core.
 abbrev pub position_of : RulesView → Option ℕ → Result ℕ ScheduleFaultKind
 position_of rules None = Err BadNumber
 position_of rules (Some number) =
     if nat_le rules.distance number && nat_le (number + rules.distance) rules.core then Ok number else Err BadPosition
 
--- who moves first: c for the candidate, o for the opponent
+-- Who moves first: c for the candidate, o for the opponent.
 abbrev pub mover_named : List ℕ → Result Side ScheduleFaultKind
 mover_named (x ∷ []) = if x == byte "c" then Ok Candidate else if x == byte "o" then Ok Opponent else Err BadFirst
 mover_named _ = Err BadFirst
 
--- a weight from 1 to `MOST_WEIGHT`
+-- A weight from 1 to `MOST_WEIGHT`.
 abbrev pub weight_of : Option ℕ → Result ℕ ScheduleFaultKind
 weight_of None = Err BadNumber
 weight_of (Some number) = if nat_le 1 number && nat_le number MOST_WEIGHT then Ok number else Err BadWeight
 
--- the fight of three fields and of what `last` says of the weight, or the fault of the leftmost
--- faulty field
+-- The fight of three fields and of what `last` says of the weight, or the fault of the leftmost
+-- faulty field.
 abbrev pub fight_made : RulesView → ℕ → (a b c : List ℕ) → (last : Result ℕ ScheduleFaultKind) → Result Fight ScheduleFaultKind
 fight_made rules opponents a b c last = do
   opponent ← opponent_of opponents (padded_decimal a)
@@ -63,23 +63,23 @@ fight_made rules opponents a b c last = do
   weight ← last
   Ok (record { opponent = opponent; position = position; first = first; weight = weight })
 
--- the fight of a record without a weight, which has three fields: it counts once
+-- The fight of a record without a weight, which has three fields: it counts once.
 abbrev pub unweighted_fight : RulesView → ℕ → Fields → Result Fight ScheduleFaultKind
 unweighted_fight rules opponents (a ∷ b ∷ c ∷ []) = fight_made rules opponents a b c (Ok 1)
 unweighted_fight rules opponents _ = Err FieldCount
 
--- the fight of a record with a weight, which has four fields
+-- The fight of a record with a weight, which has four fields.
 abbrev pub weighted_fight : RulesView → ℕ → Fields → Result Fight ScheduleFaultKind
 weighted_fight rules opponents (a ∷ b ∷ c ∷ d ∷ []) = fight_made rules opponents a b c (weight_of (padded_decimal d))
 weighted_fight rules opponents _ = Err FieldCount
 
--- the fight of a record with the fields that the header names, or what is wrong with it
+-- The fight of a record with the fields that the header names, or what is wrong with it.
 unfoldable pub fight_of : RulesView → ℕ → Columns → Fields → Result Fight ScheduleFaultKind
 fight_of rules opponents Unweighted fields = unweighted_fight rules opponents fields
 fight_of rules opponents Weighted fields = weighted_fight rules opponents fields
 
--- the fights of records of which the first is record `row`, in order, or the first fault; record 1
--- comes after the header
+-- The fights of records of which the first is record `row`, in order, or the first fault. Record 1
+-- comes after the header.
 abbrev pub fights_from : RulesView → ℕ → Columns → (row : ℕ) → List Fields → Result (List Fight) ScheduleFault
 fights_from rules opponents columns row [] = Ok []
 fights_from rules opponents columns row (fields ∷ records) = do
@@ -88,7 +88,7 @@ fights_from rules opponents columns row (fields ∷ records) = do
   fights ← fights_from rules opponents columns (row + 1) records
   Ok (fight ∷ fights)
 
--- the fights of records that begin with the header: at least one
+-- The fights of records that begin with the header: at least one.
 abbrev pub scheduled : RulesView → ℕ → List Fields → Result (List Fight) ScheduleFault
 scheduled rules opponents records = do
   columns ← header_of records
@@ -96,7 +96,7 @@ scheduled rules opponents records = do
   _ ← check (nat_lt 0 (length fights)) (at_row 0 Empty)
   Ok fights
 
--- the fights of a schedule for `opponents` opponents under these rules, in the order of the text,
+-- The fights of a schedule for `opponents` opponents under these rules, in the order of the text,
 -- or its first fault. A fight that is listed twice counts twice.
 unfoldable pub schedule_of : RulesView → ℕ → List ℕ → Result (List Fight) ScheduleFault
 schedule_of rules opponents bytes = scheduled rules opponents (records_of bytes)

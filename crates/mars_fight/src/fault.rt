@@ -48,6 +48,7 @@ pub struct ScheduleFault {
     /// The record. The header is record 0, so the record of the first fight is record 1. It is also
     /// 0 for `Empty` and `OutOfMemory`.
     pub row: u64,
+    /// What is wrong with the record.
     pub kind: ScheduleFaultKind,
 }
 

@@ -21,7 +21,7 @@ pub struct Fight {
     pub position: u32,
     /// The side that makes the first turn.
     pub first: Side,
-    /// By what the points are multiplied in a total: 1 to 1000.
+    /// How many times the points count in a total, 1 to 1000.
     pub weight: u32,
 }
 

@@ -2,7 +2,7 @@
 ghost use Rattle.std.specs.Prelude.{◌≡◌};
 ghost use Rattle.csv.specs.Records.{fields_of};
 ghost use Rattle.rc_instr.specs.Decimal.{padded_decimal};
-ghost use Rattle.mars_fight.specs.Schedule.{opponent_of, position_of, mover_named, weight_of, names_fight, columns_of, unweighted_fight, weighted_fight, fight_of};
+ghost use Rattle.mars_fight.specs.Schedule.{opponent_of, position_of, mover_named, weight_of, begins_header, columns_of, unweighted_fight, weighted_fight, fight_of};
 
 use crate::fault::ScheduleFaultKind;
 use crate::fight::{Fight, is_weight, keeps_distance};
@@ -25,14 +25,14 @@ pub(crate) fn read_columns(fields: &ByteRecord) -> Option<Columns>
     ensures { result ≡ columns_of (fields_of fields.now) }
 {
     if let Some((opponent, position, first)) = three_fields(fields) {
-        return if names_fight(opponent, position, first) {
+        return if begins_header(opponent, position, first) {
             Some(Columns::Unweighted)
         } else {
             None
         };
     }
     let (opponent, position, first, weight) = four_fields(fields)?;
-    if names_fight(opponent, position, first) && weight == b"weight".as_slice() {
+    if begins_header(opponent, position, first) && weight == b"weight".as_slice() {
         Some(Columns::Weighted)
     } else {
         None
@@ -40,8 +40,8 @@ pub(crate) fn read_columns(fields: &ByteRecord) -> Option<Columns>
 }
 
 // Checks the names of the first three fields.
-fn names_fight(opponent: &[u8], position: &[u8], first: &[u8]) -> bool
-    ensures { result ≡ names_fight opponent.now position.now first.now }
+fn begins_header(opponent: &[u8], position: &[u8], first: &[u8]) -> bool
+    ensures { result ≡ begins_header opponent.now position.now first.now }
 {
     opponent == b"opponent".as_slice()
         && position == b"position".as_slice()

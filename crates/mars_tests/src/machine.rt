@@ -66,121 +66,126 @@ fn steps(rt: &HostRuntime, core: u32, code: &[u8], at: u32) -> Result<(Step, Ste
     ))
 }
 
-// Code, an address, the cell there after one step, and the first task then.
-const CHANGES: [(&[u8], u32, &[u8], Option<u32>); 14] = [
-    // the sum overwrites the postincrement
-    (
-        b"ORG 0\nADD.AB #5, >1\nDAT.F $0, $0\n",
-        1,
-        b"ORG 0\nDAT.F $0, $5\n",
-        Some(1),
-    ),
-    // the predecrement stays
-    (
-        b"ORG 0\nMOV.I $0, <1\nDAT.F $0, $4\n",
-        1,
-        b"ORG 0\nDAT.F $0, $3\n",
-        Some(1),
-    ),
-    // the lowered number points to the target
-    (
-        b"ORG 0\nMOV.I $0, <1\nDAT.F $0, $4\n",
-        4,
-        b"ORG 0\nMOV.I $0, <1\n",
-        Some(1),
-    ),
-    // an immediate B-operand is read after A's predecrement
-    (
-        b"ORG 0\nADD.A {0, #0\n",
-        0,
-        b"ORG 0\nADD.A {-1, #0\n",
-        Some(1),
-    ),
-    // DJN counts 0 down to -1 and jumps
-    (
-        b"ORG 0\nDJN.B $0, $1\nDAT.F $0, $0\n",
-        1,
-        b"ORG 0\nDAT.F $0, $-1\n",
-        Some(0),
-    ),
-    // DJN counts 1 down to 0 and does not jump
-    (
-        b"ORG 0\nDJN.B $0, $1\nDAT.F $0, $1\n",
-        1,
-        b"ORG 0\nDAT.F $0, $0\n",
-        Some(1),
-    ),
-    // a division by 0 ends the task, but the other number is divided
-    (
-        b"ORG 0\nDIV.F #0, $2\nDAT.F $0, $0\nDAT.F #6, #6\n",
-        2,
-        b"ORG 0\nDAT.F #6, #3\n",
-        None,
-    ),
-    // DJN lowers the number that the postincrement raised
-    (
-        b"ORG 0\nDJN.I $0, >0\n",
-        0,
-        b"ORG 0\nDJN.I $-1, >0\n",
-        Some(0),
-    ),
-    // BA counts down the A-number
-    (
-        b"ORG 0\nDJN.BA $0, $0\n",
-        0,
-        b"ORG 0\nDJN.BA $-1, $0\n",
-        Some(0),
-    ),
-    // X takes the B-number from the A-number
-    (
-        b"ORG 0\nSUB.X $0, $1\n",
-        1,
-        b"ORG 0\nDAT.F $-1, $0\n",
-        Some(1),
-    ),
-    // 0 - 1 is the greatest number
-    (
-        b"ORG 0\nSUB.B $0, $1\n",
-        1,
-        b"ORG 0\nDAT.F $0, $-1\n",
-        Some(1),
-    ),
-    // A's copy is taken before B's postincrement
-    (
-        b"ORG 0\nMOV.AB $0, }0\n",
-        0,
-        b"ORG 0\nMOV.AB $1, }0\n",
-        Some(1),
-    ),
-    // SPL queues the next address first
-    (
-        b"ORG 0\nSPL.B $2, $0\n",
-        0,
-        b"ORG 0\nSPL.B $2, $0\n",
-        Some(1),
-    ),
-    // NOP evaluates its operands
-    (
-        b"ORG 0\nNOP.F $0, >1\n",
-        1,
-        b"ORG 0\nDAT.F $0, $1\n",
-        Some(1),
-    ),
+// One step of `code`: the cell at `at` after it, and the first task then.
+struct Change {
+    name: &'static str,
+    code: &'static [u8],
+    at: u32,
+    cell: &'static [u8],
+    task: Option<u32>,
+}
+
+const CHANGES: [Change; 14] = [
+    Change {
+        name: "the sum overwrites the postincrement",
+        code: b"ORG 0\nADD.AB #5, >1\nDAT.F $0, $0\n",
+        at: 1,
+        cell: b"ORG 0\nDAT.F $0, $5\n",
+        task: Some(1),
+    },
+    Change {
+        name: "the predecrement stays",
+        code: b"ORG 0\nMOV.I $0, <1\nDAT.F $0, $4\n",
+        at: 1,
+        cell: b"ORG 0\nDAT.F $0, $3\n",
+        task: Some(1),
+    },
+    Change {
+        name: "the lowered number points to the target",
+        code: b"ORG 0\nMOV.I $0, <1\nDAT.F $0, $4\n",
+        at: 4,
+        cell: b"ORG 0\nMOV.I $0, <1\n",
+        task: Some(1),
+    },
+    Change {
+        name: "an immediate B-operand is read after A's predecrement",
+        code: b"ORG 0\nADD.A {0, #0\n",
+        at: 0,
+        cell: b"ORG 0\nADD.A {-1, #0\n",
+        task: Some(1),
+    },
+    Change {
+        name: "DJN counts 0 down to -1 and jumps",
+        code: b"ORG 0\nDJN.B $0, $1\nDAT.F $0, $0\n",
+        at: 1,
+        cell: b"ORG 0\nDAT.F $0, $-1\n",
+        task: Some(0),
+    },
+    Change {
+        name: "DJN counts 1 down to 0 and does not jump",
+        code: b"ORG 0\nDJN.B $0, $1\nDAT.F $0, $1\n",
+        at: 1,
+        cell: b"ORG 0\nDAT.F $0, $0\n",
+        task: Some(1),
+    },
+    Change {
+        name: "a division by 0 ends the task, but the other number is divided",
+        code: b"ORG 0\nDIV.F #0, $2\nDAT.F $0, $0\nDAT.F #6, #6\n",
+        at: 2,
+        cell: b"ORG 0\nDAT.F #6, #3\n",
+        task: None,
+    },
+    Change {
+        name: "DJN lowers the number that the postincrement raised",
+        code: b"ORG 0\nDJN.I $0, >0\n",
+        at: 0,
+        cell: b"ORG 0\nDJN.I $-1, >0\n",
+        task: Some(0),
+    },
+    Change {
+        name: "BA counts down the A-number",
+        code: b"ORG 0\nDJN.BA $0, $0\n",
+        at: 0,
+        cell: b"ORG 0\nDJN.BA $-1, $0\n",
+        task: Some(0),
+    },
+    Change {
+        name: "X takes the B-number from the A-number",
+        code: b"ORG 0\nSUB.X $0, $1\n",
+        at: 1,
+        cell: b"ORG 0\nDAT.F $-1, $0\n",
+        task: Some(1),
+    },
+    Change {
+        name: "0 - 1 is the greatest number",
+        code: b"ORG 0\nSUB.B $0, $1\n",
+        at: 1,
+        cell: b"ORG 0\nDAT.F $0, $-1\n",
+        task: Some(1),
+    },
+    Change {
+        name: "A's copy is taken before B's postincrement",
+        code: b"ORG 0\nMOV.AB $0, }0\n",
+        at: 0,
+        cell: b"ORG 0\nMOV.AB $1, }0\n",
+        task: Some(1),
+    },
+    Change {
+        name: "SPL queues the next address first",
+        code: b"ORG 0\nSPL.B $2, $0\n",
+        at: 0,
+        cell: b"ORG 0\nSPL.B $2, $0\n",
+        task: Some(1),
+    },
+    Change {
+        name: "NOP evaluates its operands",
+        code: b"ORG 0\nNOP.F $0, >1\n",
+        at: 1,
+        cell: b"ORG 0\nDAT.F $0, $1\n",
+        task: Some(1),
+    },
 ];
 
 #[test]
 fn one_step_changes_a_cell(rt: HostRuntime) -> Result<(), Fail> {
-    for &(code, at, cell, task) in &CHANGES {
-        if at < 16 {
-            let (plain, packed) = steps(&rt, 16, code, at)?;
-            let cell = instruction(&rt, 16, cell)?;
-            assert_eq!(rt; plain, (cell, task, 16), "cell {at} after {code:?}");
-            assert_eq!(rt;
-                (packed.0, packed.1),
-                (cell, task),
-                "cell {at} after {code:?}"
-            );
+    for case in &CHANGES {
+        if case.at >= 16 {
+            return Err(Fail::from("no such cell"));
         }
+        let (plain, packed) = steps(&rt, 16, case.code, case.at)?;
+        let cell = instruction(&rt, 16, case.cell)?;
+        assert_eq!(rt; plain, (cell, case.task, 16), "{}", case.name);
+        assert_eq!(rt; (packed.0, packed.1), (cell, case.task), "{}", case.name);
     }
     // the greatest product: 65534 * 65534 is 1 modulo 65535
     let code = b"ORG 0\nMUL.AB #-1, $1\nDAT.F $0, $-1\n";
@@ -190,37 +195,81 @@ fn one_step_changes_a_cell(rt: HostRuntime) -> Result<(), Fail> {
     Ok(())
 }
 
-// Code, and the first task after one step.
-const TASKS: [(&[u8], u32); 11] = [
-    // DJN tests the copy (0), not the raised number (1)
-    (b"ORG 0\nDJN.AB $0, >0\n", 0),
-    // one of two numbers is not counted down to 0
-    (b"ORG 0\nDJN.F >0, $0\n", 0),
-    // one of two numbers is not 0
-    (b"ORG 0\nJMN.F $2, $0\n", 2),
-    (b"ORG 0\nJMZ.I $2, $0\n", 1),
-    // one of two numbers is not less
-    (b"ORG 0\nSLT.X $1, $0\n", 1),
-    // one of two numbers differs
-    (b"ORG 0\nSNE.F $1, $0\n", 2),
-    // the lowered number points to another instruction
-    (b"ORG 0\nSEQ.I $0, {0\n", 1),
-    // the postincrement of A comes after its copy and before B's
-    (b"ORG 0\nSNE.F }0, $0\n", 2),
-    // the lowered number points to the target
-    (b"ORG 0\nJMP.BA {0, $0\n", 15),
-    // two empty cells are equal
-    (b"ORG 0\nSEQ.I $1, $2\n", 2),
-    // AB compares 1 with 2
-    (b"ORG 0\nSLT.AB #1, $1\nDAT.F $0, $2\n", 2),
+// One step of `code`, and the first task after it.
+struct Queued {
+    name: &'static str,
+    code: &'static [u8],
+    task: u32,
+}
+
+const QUEUED: [Queued; 11] = [
+    Queued {
+        name: "DJN tests the copy (0), not the raised number (1)",
+        code: b"ORG 0\nDJN.AB $0, >0\n",
+        task: 0,
+    },
+    Queued {
+        name: "DJN: one of two numbers is not counted down to 0",
+        code: b"ORG 0\nDJN.F >0, $0\n",
+        task: 0,
+    },
+    Queued {
+        name: "JMN: one of two numbers is not 0",
+        code: b"ORG 0\nJMN.F $2, $0\n",
+        task: 2,
+    },
+    Queued {
+        name: "JMZ: one of two numbers is not 0",
+        code: b"ORG 0\nJMZ.I $2, $0\n",
+        task: 1,
+    },
+    Queued {
+        name: "SLT: one of two numbers is not less",
+        code: b"ORG 0\nSLT.X $1, $0\n",
+        task: 1,
+    },
+    Queued {
+        name: "SNE: one of two numbers differs",
+        code: b"ORG 0\nSNE.F $1, $0\n",
+        task: 2,
+    },
+    Queued {
+        name: "the lowered number points to another instruction",
+        code: b"ORG 0\nSEQ.I $0, {0\n",
+        task: 1,
+    },
+    Queued {
+        name: "the postincrement of A comes after its copy and before B's",
+        code: b"ORG 0\nSNE.F }0, $0\n",
+        task: 2,
+    },
+    Queued {
+        name: "the lowered number points to the target",
+        code: b"ORG 0\nJMP.BA {0, $0\n",
+        task: 15,
+    },
+    Queued {
+        name: "two empty cells are equal",
+        code: b"ORG 0\nSEQ.I $1, $2\n",
+        task: 2,
+    },
+    Queued {
+        name: "AB compares 1 with 2",
+        code: b"ORG 0\nSLT.AB #1, $1\nDAT.F $0, $2\n",
+        task: 2,
+    },
 ];
 
 #[test]
 fn one_step_queues_an_address(rt: HostRuntime) -> Result<(), Fail> {
-    for &(code, task) in &TASKS {
-        let (plain, packed) = steps(&rt, 16, code, 0)?;
-        assert_eq!(rt; plain.1, Some(task), "task after {code:?}");
-        assert_eq!(rt; packed.1, Some(task), "task after {code:?}");
+    for case in &QUEUED {
+        let (plain, packed) = steps(&rt, 16, case.code, 0)?;
+        assert_eq!(rt;
+            [plain.1, packed.1],
+            [Some(case.task), Some(case.task)],
+            "{}",
+            case.name
+        );
     }
     Ok(())
 }
@@ -249,14 +298,15 @@ fn play<C: Cells>(
 // Plays a fight on plain and on packed cells, in a core of 16 cells.
 pub(crate) fn plays(
     rt: &HostRuntime,
-    texts: (&[u8], &[u8]),
+    candidate: &[u8],
+    opponent: &[u8],
     cycles: u32,
     tasks: u32,
     first: Side,
 ) -> Result<(Played, Played), Fail> {
     let rules = rules_of(16, cycles, tasks)?;
-    let candidate = read_loadfile(rt.alloc(), texts.0, &rules)?;
-    let opponent = read_loadfile(rt.alloc(), texts.1, &rules)?;
+    let candidate = read_loadfile(rt.alloc(), candidate, &rules)?;
+    let opponent = read_loadfile(rt.alloc(), opponent, &rules)?;
     let mut plain = Arena::<PlainCells>::try_new(rt.alloc(), &rules)?;
     let mut packed = Arena::<PackedCells>::try_new(rt.alloc(), &rules)?;
     Ok((
@@ -271,16 +321,82 @@ const SPLITS: &[u8] = b"ORG 0\nSPL.B $0, $0\n";
 
 const WAITS: &[u8] = b"ORG 0\nJMP.B $0, $0\n";
 
-// Candidate and opponent, cycles, tasks and first mover; points, turns, and the number of cells
-// that were written.
-pub(crate) const FIGHTS: [((&[u8], &[u8]), u32, u32, Side, Played); 7] = [
-    ((IMP, IMP), 20, 4, Side::Candidate, (1, 40, 16)),
-    ((DAT, IMP), 20, 4, Side::Candidate, (0, 1, 2)),
-    ((IMP, DAT), 1, 4, Side::Candidate, (3, 2, 3)),
-    ((IMP, DAT), 1, 4, Side::Opponent, (3, 1, 2)),
-    ((IMP, WAITS), 20, 4, Side::Candidate, (1, 40, 16)),
-    ((DIVIDES, IMP), 20, 4, Side::Candidate, (0, 1, 4)),
-    ((SPLITS, IMP), 20, 1, Side::Candidate, (0, 3, 3)),
+// A fight in a core of 16 cells; `memory` plays them. `played` has points, turns, and the number of
+// cells that were written.
+pub(crate) struct Duel {
+    pub(crate) name: &'static str,
+    pub(crate) candidate: &'static [u8],
+    pub(crate) opponent: &'static [u8],
+    pub(crate) cycles: u32,
+    pub(crate) tasks: u32,
+    pub(crate) first: Side,
+    pub(crate) played: Played,
+}
+
+pub(crate) const DUELS: [Duel; 7] = [
+    Duel {
+        name: "two imps tie",
+        candidate: IMP,
+        opponent: IMP,
+        cycles: 20,
+        tasks: 4,
+        first: Side::Candidate,
+        played: (1, 40, 16),
+    },
+    Duel {
+        name: "a candidate that dies loses in the first turn",
+        candidate: DAT,
+        opponent: IMP,
+        cycles: 20,
+        tasks: 4,
+        first: Side::Candidate,
+        played: (0, 1, 2),
+    },
+    Duel {
+        name: "an opponent that moves second dies in the second turn",
+        candidate: IMP,
+        opponent: DAT,
+        cycles: 1,
+        tasks: 4,
+        first: Side::Candidate,
+        played: (3, 2, 3),
+    },
+    Duel {
+        name: "an opponent that moves first dies in the first turn",
+        candidate: IMP,
+        opponent: DAT,
+        cycles: 1,
+        tasks: 4,
+        first: Side::Opponent,
+        played: (3, 1, 2),
+    },
+    Duel {
+        name: "an imp and a jump to itself tie",
+        candidate: IMP,
+        opponent: WAITS,
+        cycles: 20,
+        tasks: 4,
+        first: Side::Candidate,
+        played: (1, 40, 16),
+    },
+    Duel {
+        name: "a division by 0 ends the task",
+        candidate: DIVIDES,
+        opponent: IMP,
+        cycles: 20,
+        tasks: 4,
+        first: Side::Candidate,
+        played: (0, 1, 4),
+    },
+    Duel {
+        name: "with one task allowed SPL adds none",
+        candidate: SPLITS,
+        opponent: IMP,
+        cycles: 20,
+        tasks: 1,
+        first: Side::Candidate,
+        played: (0, 3, 3),
+    },
 ];
 
 // Plays a fight and resets, makes a step and resets. Returns how many turns the step made, and how

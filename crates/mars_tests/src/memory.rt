@@ -4,19 +4,26 @@
 //! `make test` also runs each of these tests with its first, second and so on request for memory
 //! refused (gate/refuse/growth.py). It then ends with the same results, or with the error
 //! `OutOfMemory` of the call itself, in no other variant.
-use crate::machine::{FIGHTS, plays};
+use crate::machine::{DUELS, plays};
 use mars_fight::{Schedule, ScheduleFaultKind};
 use rc_instr::Rules;
 use std::alloc::Global;
 use std::test::Fail;
 
-// Each fight is played on plain and on packed cells.
+// Each fight is played on plain and on packed cells, in an arena of its own.
 #[test]
-fn an_arena_is_made(rt: HostRuntime) -> Result<(), Fail> {
-    for &(texts, cycles, tasks, first, played) in &FIGHTS {
-        let (plain, packed) = plays(&rt, texts, cycles, tasks, first)?;
-        assert_eq!(rt; plain, (played.0, played.1, 16), "{texts:?}");
-        assert_eq!(rt; packed, played, "{texts:?}");
+fn fights_end_as_worked_out(rt: HostRuntime) -> Result<(), Fail> {
+    for duel in &DUELS {
+        let (plain, packed) = plays(
+            &rt,
+            duel.candidate,
+            duel.opponent,
+            duel.cycles,
+            duel.tasks,
+            duel.first,
+        )?;
+        assert_eq!(rt; plain, (duel.played.0, duel.played.1, 16), "{}", duel.name);
+        assert_eq!(rt; packed, duel.played, "{}", duel.name);
     }
     Ok(())
 }

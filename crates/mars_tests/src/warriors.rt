@@ -1,7 +1,7 @@
 //! The load files of two warriors that most tests fight with.
 
-// It dies at once.
+// Loses its only task in its first turn.
 pub(crate) const DAT: &[u8] = b"ORG 0\nDAT.F $0, $0\n";
 
-// It never dies.
+// Never loses its task.
 pub(crate) const IMP: &[u8] = b"ORG 0\nMOV.I $0, $1\n";

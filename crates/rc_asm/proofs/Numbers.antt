@@ -16,7 +16,7 @@ use Rattle.rc_expand.specs.declared.line.LineWord.{LineWord}
 use Rattle.rc_expand.specs.declared.line.LineWord.TheVariants.{Bare, Code, Org, End, Assert}
 use Rattle.rc_asm.specs.declared.operand.Operand.{Operand}
 use Rattle.rc_asm.specs.declared.fault.AsmKind.TheVariants.{Value, AssertFailed}
-use Rattle.rc_asm.specs.Words.{mode_at}
+use Rattle.rc_asm.specs.Words.{mode_in}
 use Rattle.rc_asm.specs.Names.{NameValues, value_at}
 use Rattle.rc_asm.specs.Shape.{Shape, shape_of}
 use Rattle.rc_asm.specs.Instructions.{natural, core_number, operand, operand_after, operand_at, instruction_of_parts, instruction_of_shape, instruction_at}
@@ -51,7 +51,7 @@ module _ (source : List ℕ) (names : NameValues) (some : 0 < names.rules.core) 
   unfolding operand_at
   operand_low address None o e = let z : Operand = record { mode = Direct; number = 0 } in let f : z ≡ o = cc in subst (λ x. IsLow x) f some
   operand_low address (Some []) o e = absurd (cc)
-  operand_low address (Some (t ∷ ts)) o e = after_low address (mode_at t) t ts o e
+  operand_low address (Some (t ∷ ts)) o e = after_low address (mode_in t) t ts o e
 
   instruction_low : (address : ℕ) (ts : List Token) (i : Instruction) → instruction_at source names address ts ≡ Ok i → IsBelow names.rules.core i
   unfolding instruction_at instruction_of_shape instruction_of_parts

@@ -12,7 +12,7 @@ use Rattle.rc_asm.specs.declared.fault.AsmKind.{AsmKind}
 use Rattle.rc_asm.specs.declared.fault.AsmKind.TheVariants.{Value}
 use Rattle.rc_asm.specs.declared.operand.Operand.{Operand}
 use Rattle.rc_instr.specs.Results.{mapped, with_fault, ◌>>=◌}
-use Rattle.rc_asm.specs.Words.{mode_at}
+use Rattle.rc_asm.specs.Words.{mode_in}
 use Rattle.rc_asm.specs.Names.{NameValues, value_at}
 use Rattle.rc_asm.specs.Shape.{Shape, shape_of}
 
@@ -49,7 +49,7 @@ module _ (source : List ℕ) (names : NameValues) (address : ℕ) where
   unfoldable pub operand_at : Option (List Token) → Result Operand EvalFault
   operand_at None = Ok (record { mode = Direct; number = 0 })
   operand_at (Some []) = Err Syntax
-  operand_at (Some (t ∷ ts)) = operand_after (mode_at t) t ts
+  operand_at (Some (t ∷ ts)) = operand_after (mode_in t) t ts
 
   -- A fault of the A-operand comes before one of the B-operand.
   unfoldable pub instruction_of_shape : Shape → Result Instruction EvalFault

@@ -10,7 +10,7 @@ use Rattle.rc_instr.specs.declared.instruction.Modifier.{Modifier}
 use Rattle.rc_asm.specs.declared.fault.AsmKind.{AsmKind}
 use Rattle.rc_asm.specs.declared.fault.AsmKind.TheVariants.{UnknownOpcode, MissingOperand, ExtraText}
 use Rattle.rc_instr.specs.Results.{mapped, ◌>>=◌}
-use Rattle.rc_asm.specs.Words.{is_comma, opcode_at, modifier_at}
+use Rattle.rc_asm.specs.Words.{is_comma, opcode_in, modifier_in}
 
 -- The parts between commas; there is at least one.
 abbrev pub parts_from : List Token → List (List Token)
@@ -73,7 +73,7 @@ with_operands o m ts = mapped (shape o m) (sides_of o (parts ts))
 unfoldable pub with_modifier : List ℕ → Opcode → List Token → Result Shape AsmKind
 with_modifier source o [] = Err UnknownOpcode
 with_modifier source o (t ∷ ts) = do
-  m ← ok_or (modifier_at source t) UnknownOpcode
+  m ← ok_or (modifier_in source t) UnknownOpcode
   with_operands o (Some m) ts
 
 -- What follows the opcode.
@@ -85,5 +85,5 @@ after_opcode source o (t ∷ ts) = if is_dot t then with_modifier source o ts el
 unfoldable pub shape_of : List ℕ → List Token → Result Shape AsmKind
 shape_of source [] = Err UnknownOpcode
 shape_of source (t ∷ ts) = do
-  o ← ok_or (opcode_at source t) UnknownOpcode
+  o ← ok_or (opcode_in source t) UnknownOpcode
   after_opcode source o ts

@@ -28,8 +28,8 @@ abbrev pub mode_of_kind : Kind → Option Mode
 mode_of_kind (SignOf s) = mode_of s
 mode_of_kind _ = None
 
-abbrev pub mode_at : Token → Option Mode
-mode_at t = mode_of_kind t.kind
+abbrev pub mode_in : Token → Option Mode
+mode_in t = mode_of_kind t.kind
 
 abbrev pub is_comma_kind : Kind → Bool
 is_comma_kind (SignOf Comma) = true
@@ -42,8 +42,8 @@ is_comma t = is_comma_kind t.kind
 abbrev pub is_plain : Token → Bool
 is_plain t = is_name_token t && is_unjoined t.joined
 
-unfoldable pub opcode_at : List ℕ → Token → Option Opcode
-opcode_at source t = if is_plain t then opcode_named (bytes_of source t) else None
+unfoldable pub opcode_in : List ℕ → Token → Option Opcode
+opcode_in source t = if is_plain t then opcode_named (bytes_of source t) else None
 
-unfoldable pub modifier_at : List ℕ → Token → Option Modifier
-modifier_at source t = if is_plain t then modifier_named (bytes_of source t) else None
+unfoldable pub modifier_in : List ℕ → Token → Option Modifier
+modifier_in source t = if is_plain t then modifier_named (bytes_of source t) else None

@@ -92,7 +92,8 @@ fn assemble_lines(
     }
 }
 
-// Makes the warrior of lines that are well formed.
+// Makes the warrior of lines, or returns the fault of the first line that has one. A line may be
+// malformed: the caller then looks for the first that is.
 fn assemble_with(
     alloc: Global,
     source: &[u8],

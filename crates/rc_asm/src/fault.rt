@@ -23,7 +23,7 @@ pub enum AsmKind {
     /// expression.
     #[error("missing operand")]
     MissingOperand,
-    /// A line has two commas.
+    /// A line of code has more than one comma.
     #[error("too many operands")]
     ExtraText,
     /// An expression has no value.
@@ -49,6 +49,7 @@ pub enum AsmKind {
 pub struct AsmFault {
     /// The line of the source, from 1; 0 for `Warrior`, `TextTooLong` and `OutOfMemory`.
     pub line: u64,
+    /// The reason.
     pub kind: AsmKind,
 }
 

@@ -37,7 +37,8 @@ impl<'a> Labels<'a> {
     ghost use Rattle.rc_asm.specs.Names.{Labels as LabelList};
     ghost use Rattle.rc_asm.specs.Names.{Agree};
 
-    // Adds the labels of one line. A name that is already in the table keeps its first address.
+    // Adds the labels of one line. A name that is already in the table keeps its first address. The
+    // expansion has refused such names, but no clause here says so.
     fn insert_all(
         &mut self,
         alloc: Global,
@@ -57,6 +58,7 @@ impl<'a> Labels<'a> {
         Ok(())
     }
 
+    // Collects the labels of all lines, each with its address.
     pub(crate) fn of_lines(
         alloc: Global,
         source: &'a [u8],

@@ -8,10 +8,11 @@ ghost use Rattle.rc_asm.specs.Seen.{seen_names};
 
 use crate::labels::Address;
 use crate::scope::{Context, value_at};
-use crate::word::mode_at;
+use crate::word::mode_in;
 use rc_instr::Mode;
 use rc_text::{EvalFault, Token};
 
+// An operand as an instruction keeps it. Its number is below the core size.
 #[derive(Clone, Copy)]
 pub(crate) struct Operand {
     pub(crate) mode: Mode,
@@ -36,7 +37,7 @@ pub(crate) fn operand_at(
         }),
         Some(tokens) => match tokens {
             [] => Err(EvalFault::Syntax),
-            [first, rest @ ..] => match mode_at(first) {
+            [first, rest @ ..] => match mode_in(first) {
                 Some(mode) => with_value(source, context, address, mode, rest),
                 None => with_value(source, context, address, Mode::Direct, tokens),
             },

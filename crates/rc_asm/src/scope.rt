@@ -1,4 +1,4 @@
-//! The values of names.
+//! What all lines share, and the values of names in one line.
 ghost use Rattle.std.specs.Prelude.{◌≡◌, All};
 ghost use Rattle.rc_asm.specs.Names.{stands_for, value_at};
 ghost use Rattle.rc_asm.specs.Seen.{seen_names};

@@ -5,7 +5,7 @@ ghost use Rattle.rc_asm.specs.Shape.{parts, parts_from, no_side, one_side, two_s
 ghost use Rattle.rc_asm.specs.Seen.{seen_sides, seen_shape};
 
 use crate::fault::AsmKind;
-use crate::word::{is_comma, is_dot, modifier_at, opcode_at};
+use crate::word::{is_comma, is_dot, modifier_in, opcode_in};
 use rc_instr::{Modifier, Opcode};
 use rc_text::Token;
 
@@ -32,7 +32,7 @@ pub(crate) fn shape_of<'a>(source: &[u8], tokens: &'a [Token]) -> Result<Shape<'
     match tokens {
         [] => Err(AsmKind::UnknownOpcode),
         [first, rest @ ..] => {
-            let opcode = opcode_at(source, first).ok_or(AsmKind::UnknownOpcode)?;
+            let opcode = opcode_in(source, first).ok_or(AsmKind::UnknownOpcode)?;
             after_opcode(source, opcode, rest)
         }
     }
@@ -131,7 +131,7 @@ fn with_modifier<'a>(
     match tokens {
         [] => Err(AsmKind::UnknownOpcode),
         [first, rest @ ..] => {
-            let modifier = modifier_at(source, first).ok_or(AsmKind::UnknownOpcode)?;
+            let modifier = modifier_in(source, first).ok_or(AsmKind::UnknownOpcode)?;
             with_operands(opcode, Some(modifier), rest)
         }
     }

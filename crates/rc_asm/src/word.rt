@@ -1,14 +1,14 @@
 //! The words and signs of a line of code: opcodes, modifiers, modes.
 ghost use Rattle.std.specs.Prelude.{◌≡◌, ◌∷◌, [], map, ◌&&◌, option_map, None};
 ghost use Rattle.rc_expand.specs.Heads.Lines.{is_dot, bytes_of};
-ghost use Rattle.rc_asm.specs.Words.{mode_at, is_comma, is_plain, opcode_at, modifier_at};
+ghost use Rattle.rc_asm.specs.Words.{mode_in, is_comma, is_plain, opcode_in, modifier_in};
 
 use rc_instr::{Mode, Modifier, Opcode, modifier_named, opcode_named};
 use rc_text::{Kind, Sign, Token, text_of};
 
-#[tactic(auto, unfolding(crate::specs::Words::opcode_at))]
-pub(crate) fn opcode_at(source: &[u8], token: &Token) -> Option<Opcode>
-    ensures { result ≡ opcode_at source.now token.now }
+#[tactic(auto, unfolding(crate::specs::Words::opcode_in))]
+pub(crate) fn opcode_in(source: &[u8], token: &Token) -> Option<Opcode>
+    ensures { result ≡ opcode_in source.now token.now }
 {
     if is_plain(token) {
         opcode_named(text_of(source, token))
@@ -17,9 +17,9 @@ pub(crate) fn opcode_at(source: &[u8], token: &Token) -> Option<Opcode>
     }
 }
 
-#[tactic(auto, unfolding(crate::specs::Words::modifier_at))]
-pub(crate) fn modifier_at(source: &[u8], token: &Token) -> Option<Modifier>
-    ensures { result ≡ modifier_at source.now token.now }
+#[tactic(auto, unfolding(crate::specs::Words::modifier_in))]
+pub(crate) fn modifier_in(source: &[u8], token: &Token) -> Option<Modifier>
+    ensures { result ≡ modifier_in source.now token.now }
 {
     if is_plain(token) {
         modifier_named(text_of(source, token))
@@ -28,8 +28,8 @@ pub(crate) fn modifier_at(source: &[u8], token: &Token) -> Option<Modifier>
     }
 }
 
-pub(crate) fn mode_at(token: &Token) -> Option<Mode>
-    ensures { result ≡ mode_at token.now }
+pub(crate) fn mode_in(token: &Token) -> Option<Mode>
+    ensures { result ≡ mode_in token.now }
 {
     match token.kind {
         Kind::Sign(Sign::Hash) => Some(Mode::Immediate),

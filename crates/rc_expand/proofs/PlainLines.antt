@@ -15,8 +15,8 @@ use Rattle.rc_expand.specs.Shared.{Shared}
 use Rattle.rc_expand.specs.Heads.Lines.{is_name_token}
 use Rattle.rc_expand.specs.Heads.Tree.{OneLine}
 use Rattle.rc_expand.specs.Replace.{EquText, Replaced, Inner, token_or_body, with_tokens, inner_at, replaced_tokens, exempt_len, line_tokens}
-use Rattle.rc_expand.specs.Unroll.{Unrolled, nothing, with_line as with_head, unrolled_in, unrolled}
-use Rattle.rc_expand.specs.Replace.Lines.{expanded_line, line_of, Replacement, with_line, line_replaced, lines_replaced, no_lines, replaced}
+use Rattle.rc_expand.specs.Unroll.{Unrolled, nothing, with_line, unrolled_in, unrolled}
+use Rattle.rc_expand.specs.Replace.Lines.{expanded_line, line_of, Replacement, with_expanded, line_replaced, lines_replaced, no_lines, replaced}
 use Rattle.rc_expand.specs.Expansion.{expansion_by, expansion_of, IsExpansion}
 use Rattle.rc_expand.proofs.PlainHeads.{PlainWord, AnOpcode, AStart, PlainLine, ArePlain, plain_tokens, head_by, plain_head, plain_heads, plain_blocks, plain_line_by, plain_line, plain_lines, heads_there}
 
@@ -71,8 +71,8 @@ module _ (source : List ℕ) where
     line_next p r h = by_word p.word (line_there p.word p.first p.others h) where
       by_word : (w : PlainWord) → line_of source [] (head_by w p.first p.others) ≡ Ok (plain_line_by w p.first p.others)
           → line_replaced plain (head_by w p.first p.others) r ≡ Ok (record { names = r.names; lines = r.lines ++ (plain_line_by w p.first p.others ∷ []) })
-      by_word (AnOpcode o) k = ap (mapped (with_line r.lines r.names)) k
-      by_word AStart k = ap (mapped (with_line r.lines r.names)) k
+      by_word (AnOpcode o) k = ap (mapped (with_expanded r.lines r.names)) k
+      by_word AStart k = ap (mapped (with_expanded r.lines r.names)) k
 
     all_there : (ps : List PlainLine) (r : Replacement) → ArePlain source ps → lines_replaced plain (plain_heads ps) r ≡ Ok (record { names = r.names; lines = r.lines ++ plain_lines ps })
     all_there [] r a = let e : r.lines ≡ r.lines ++ [] = sym (append-nil r.lines) in (λ x. Ok (record { names = r.names; lines = e x }))
@@ -91,20 +91,20 @@ module _ (source : List ℕ) where
     -- ---- without FOR nothing is unrolled
 
     -- each line stays
-    all_stay : (ps : List PlainLine) (u : Unrolled) → length u.lines + u.copies + length ps ≤ MOST_LINES
+    all_stay : (ps : List PlainLine) (u : Unrolled) → length u.lines + u.copy_count + length ps ≤ MOST_LINES
         → unrolled_in plain (plain_blocks ps) [] u ≡ Ok (record u { lines = u.lines ++ plain_heads ps })
-    all_stay [] u l = let e : u.lines ≡ u.lines ++ [] = sym (append-nil u.lines) in (λ x. Ok (record { lines = e x; copies = u.copies }))
+    all_stay [] u l = let e : u.lines ≡ u.lines ++ [] = sym (append-nil u.lines) in (λ x. Ok (record { lines = e x; copy_count = u.copy_count }))
     all_stay (p ∷ ps) u l =
         let h : Head = plain_head p in
         let more : Unrolled = record u { lines = u.lines ++ (h ∷ []) } in
-        let few : nat_lt (length u.lines + u.copies) MOST_LINES ≡ true = lt-ltb (length u.lines + u.copies) MOST_LINES (omega (arith, l)) in
-        let pushed : with_head h u ≡ Ok more = rw few refl in
+        let few : nat_lt (length u.lines + u.copy_count) MOST_LINES ≡ true = lt-ltb (length u.lines + u.copy_count) MOST_LINES (omega (arith, l)) in
+        let pushed : with_line h u ≡ Ok more = rw few refl in
         let all : (u.lines ++ (h ∷ [])) ++ plain_heads ps ≡ u.lines ++ (h ∷ plain_heads ps) = append_assoc u.lines (h ∷ []) (plain_heads ps) in
         by_word p.word
         ∙ (ap (and_then (unrolled_in plain (plain_blocks ps) [])) pushed
-        ∙ (all_stay ps more (omega (arith, l, length-append u.lines (h ∷ []))) ∙ (λ x. Ok (record { lines = all x; copies = u.copies }))))
+        ∙ (all_stay ps more (omega (arith, l, length-append u.lines (h ∷ []))) ∙ (λ x. Ok (record { lines = all x; copy_count = u.copy_count }))))
       where
-        by_word : (w : PlainWord) → unrolled_in plain (OneLine (head_by w p.first p.others) (plain_blocks ps)) [] u ≡ and_then (unrolled_in plain (plain_blocks ps) []) (with_head (head_by w p.first p.others) u)
+        by_word : (w : PlainWord) → unrolled_in plain (OneLine (head_by w p.first p.others) (plain_blocks ps)) [] u ≡ and_then (unrolled_in plain (plain_blocks ps) []) (with_line (head_by w p.first p.others) u)
         by_word (AnOpcode o) = refl
         by_word AStart = refl
 

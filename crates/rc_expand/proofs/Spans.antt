@@ -27,7 +27,7 @@ use Rattle.rc_expand.specs.Unroll.{Unrolled, Step, nothing, has_room, with_line,
 use Rattle.rc_expand.specs.Unroll.Copies.{Copy, are_any, line_by, line_in, all_of, is_counter, with_number, with_counter, joins, copied_from, copied_tokens, copied_code, copied_rest, or_spoiled, copied_line}
 use Rattle.rc_expand.specs.Unroll.Openings.{Opening, earlier_of, counted_by, count_of, counter_name, counter_of, opening}
 use Rattle.rc_expand.specs.Replace.{Equs, Replaced, Inner, with_token, with_replacement, token_or_body, exempt_len, equ_in, equ_at, with_tokens, inner_at, replaced_within, replaced_tokens, line_tokens}
-use Rattle.rc_expand.specs.Replace.Lines.{own_step, own_labels, other_step, other_labels, expanded_line, made_line, line_with_labels, line_of, names_of, Replacement, no_lines, with_line as with_new, with_names, line_added, line_replaced, lines_replaced, replaced}
+use Rattle.rc_expand.specs.Replace.Lines.{own_step, own_labels, other_step, other_labels, expanded_line, made_line, line_with_labels, line_of, names_of, Replacement, no_lines, with_expanded, with_names, line_added, line_replaced, lines_replaced, replaced}
 use Rattle.rc_expand.specs.Expansion.{LineLies, shared_by, expansion_by, expansion_of, IsExpansion}
 use Rattle.rc_expand.proofs.Reading.LabelLaws.{labels_and_rest}
 
@@ -415,9 +415,9 @@ module _ (s : Shared) where
   Made r = ByRecursion (LineLies s.source) r.lines
 
   module _ (bodies : Bodies s.source s.equs) where
-    made_and_added : (h : Head) (lines : List Line) (names : List (List ℕ)) → IsIn s.source h → ByRecursion (LineLies s.source) lines → IfOk (mapped (with_new lines names) (line_of s.source s.equs h)) Made
+    made_and_added : (h : Head) (lines : List Line) (names : List (List ℕ)) → IsIn s.source h → ByRecursion (LineLies s.source) lines → IfOk (mapped (with_expanded lines names) (line_of s.source s.equs h)) Made
     made_and_added h lines names i j =
-        over (LineLies s.source) Made (with_new lines names) (line_of s.source s.equs h) (line_of_in s.source s.equs bodies h i) (λ l k. both (LineLies s.source) lines (l ∷ []) j (k, tt))
+        over (LineLies s.source) Made (with_expanded lines names) (line_of s.source s.equs h) (line_of_in s.source s.equs bodies h i) (λ l k. both (LineLies s.source) lines (l ∷ []) j (k, tt))
 
     added : (w : HeadWord) (h : Head) (lines : List Line) (names : List (List ℕ)) → IsIn s.source h → ByRecursion (LineLies s.source) lines → IfOk (line_added s w h lines names) Made
     added word.Equ h lines names i j = j

@@ -23,7 +23,8 @@ table_of _ _ = []
 abbrev pub table_in : Constants → Table
 table_in c = table_of c.names.now c.values.now
 
--- The predefined names (pMARS) but for CURLINE, which has no value before lines are counted.
+-- The predefined names of pMARS but for CURLINE, which has no value before lines are counted. That
+-- WARRIORS is 2 and VERSION is 92 is fixed here.
 abbrev pub predefined : RulesView → Table
 predefined r = (codes "CORESIZE", pos r.core) ∷ (codes "MAXPROCESSES", pos r.tasks) ∷ (codes "MAXCYCLES", pos r.cycles) ∷ (codes "MAXLENGTH", pos r.length) ∷ (codes "MINDISTANCE", pos r.distance) ∷ (codes "WARRIORS", pos 2) ∷ (codes "VERSION", pos 92) ∷ []
 

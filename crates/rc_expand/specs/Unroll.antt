@@ -23,11 +23,11 @@ use Rattle.rc_expand.specs.Unroll.Openings.{opening}
 -- The unrolled lines so far, and the number of copies of blocks that were made for them.
 pub record Unrolled : Type 0 where
   pub lines : List Head
-  pub copies : ℕ
+  pub copy_count : ℕ
 
 -- Before the first line.
 abbrev pub nothing : Unrolled
-nothing = record { lines = []; copies = 0 }
+nothing = record { lines = []; copy_count = 0 }
 
 -- A part of the text, as what it adds to the lines so far, or its first fault.
 abbrev pub Step : Type 0
@@ -35,7 +35,7 @@ Step = Unrolled → Result Unrolled ExpandFault
 
 -- There is room for one more line, or for one more copy of a block.
 abbrev pub has_room : Unrolled → Bool
-has_room u = nat_lt (length u.lines + u.copies) MOST_LINES
+has_room u = nat_lt (length u.lines + u.copy_count) MOST_LINES
 
 -- One more line.
 abbrev pub with_line : Head → Step
@@ -43,7 +43,7 @@ with_line h u = if has_room u then Ok (record u { lines = u.lines ++ (h ∷ []) 
 
 -- One more copy of the block whose FOR is at this line.
 abbrev pub with_copy : (line : ℕ) → Step
-with_copy line u = if has_room u then Ok (record u { copies = u.copies + 1 }) else Err (at_line line TooManyLines)
+with_copy line u = if has_room u then Ok (record u { copy_count = u.copy_count + 1 }) else Err (at_line line TooManyLines)
 
 -- `n` copies in turn, for the numbers `k`, `k + 1` and so on; `f` makes one.
 abbrev pub copies_from : (ℕ → Step) → (n k : ℕ) → Step

@@ -9,10 +9,10 @@ pub(crate) mod links;
 
 use crate::context::Context;
 use crate::equ_tokens::links::link_tokens;
-use crate::fault::{ExpandFault, ExpandKind, fault};
-use crate::heads::words::clone_token;
+use crate::fault::{ExpandFault, ExpandKind, at_line};
 use crate::limits::{DEEPEST_EQU, MOST_REPLACEMENTS, MOST_TOKENS};
 use crate::line::Tokens;
+use crate::tokens::clone_token;
 use rc_text::Token;
 use std::marker::Model;
 
@@ -71,7 +71,7 @@ fn push_token(out: &mut Replacing, token: &Token) -> Result<(), ExpandFault>
     ensures { Returns (λ u. out.new) result (with_token token.now out.old) }
 {
     if out.tokens.len() >= MOST_TOKENS {
-        return Err(fault(out.line, ExpandKind::TooManyTokens));
+        return Err(at_line(out.line, ExpandKind::TooManyTokens));
     }
     out.tokens.push(clone_token(token)?)?;
     Ok(())
@@ -93,10 +93,10 @@ fn append_one(
         None => push_token(out, token),
         Some((body, indices)) => {
             if levels == 0 {
-                return Err(fault(out.line, ExpandKind::EquTooDeep));
+                return Err(at_line(out.line, ExpandKind::EquTooDeep));
             }
             if out.replacements >= MOST_REPLACEMENTS {
-                return Err(fault(out.line, ExpandKind::TooManyTokens));
+                return Err(at_line(out.line, ExpandKind::TooManyTokens));
             }
             out.replacements += 1;
             append_replaced(out, context, body, indices, levels - 1)

@@ -6,7 +6,8 @@ use rc_text::LexFault;
 use std::alloc::{AllocError, AllocFailed};
 use thiserror::Error;
 
-/// Why a text cannot be expanded.
+/// Why a text cannot be expanded. The order of these says nothing: [`crate::expand`] says which
+/// comes first.
 #[derive(Clone, Copy, Debug, PartialEq, Eq, Error)]
 pub enum ExpandKind {
     /// The text has a byte or a decimal that is not a token.
@@ -81,10 +82,11 @@ impl<T: Drop> From<AllocFailed<T>> for ExpandFault {
 fn out_of_memory() -> ExpandFault
     ensures { result ≡ record { line = 0; kind = OutOfMemory } }
 {
-    fault(0, ExpandKind::OutOfMemory)
+    at_line(0, ExpandKind::OutOfMemory)
 }
 
-pub(crate) fn fault(line: u64, kind: ExpandKind) -> ExpandFault
+// Gives a fault its line.
+pub(crate) fn at_line(line: u64, kind: ExpandKind) -> ExpandFault
     ensures { result ≡ record { line = line; kind = kind } }
 {
     ExpandFault { line, kind }

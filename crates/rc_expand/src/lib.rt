@@ -16,6 +16,7 @@ mod line;
 mod name_table;
 mod names;
 mod replace;
+mod tokens;
 mod unroll;
 
 pub use constants::Constants;

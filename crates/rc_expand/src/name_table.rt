@@ -228,7 +228,7 @@ fn feed_counter<H: Hasher>(counter: u16, state: &mut H)
     feed_bytes(counter_text(&mut buffer, counter), state);
 }
 
-// Copies the name that a token spells.
+// Copies the name of a token, so that the table outlives the source.
 pub(crate) fn copied_name(
     alloc: Global,
     source: &[u8],
@@ -242,7 +242,7 @@ pub(crate) fn copied_name(
     })
 }
 
-// Returns the name that a token spells, for a table. Only a name with joined counters is copied.
+// Borrows the name of a token from the source. Only a name with joined counters is copied.
 pub(crate) fn kept_name<'a>(
     alloc: Global,
     source: &'a [u8],
@@ -258,7 +258,7 @@ pub(crate) fn kept_name<'a>(
     Ok(KeptName { spelling })
 }
 
-// Returns the name that a token spells.
+// Makes the key by which the name of a token is looked up, without a copy.
 fn spelled<'a>(source: &'a [u8], token: &'a Token) -> JoinedName<'a>
     ensures { joined_name result.bytes.now result.counters.now ≡ name_of source.now token.now }
 {

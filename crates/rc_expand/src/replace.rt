@@ -10,7 +10,7 @@ ghost use Rattle.rc_expand.specs.Replace.Lines.{with_names, line_replaced, repla
 pub(crate) mod finish;
 
 use crate::context::Context;
-use crate::fault::{ExpandFault, ExpandKind, fault};
+use crate::fault::{ExpandFault, ExpandKind, at_line};
 use crate::heads::head::{Head, HeadWord};
 use crate::line::Line;
 use crate::name_table::NameTable;
@@ -118,11 +118,11 @@ fn define_name<'a>(
     ensures { Returns (λ u. names_in names.new) result (with_names (shared context.now) line (name_of context.now.source.now label.now ∷ []) (names_in names.old)) }
 {
     if is_taken(context.names, context.source, label) {
-        return Err(fault(line, ExpandKind::DuplicateName));
+        return Err(at_line(line, ExpandKind::DuplicateName));
     }
     if names.add(context.alloc, context.source, label, ())? {
         Ok(())
     } else {
-        Err(fault(line, ExpandKind::DuplicateName))
+        Err(at_line(line, ExpandKind::DuplicateName))
     }
 }

@@ -17,7 +17,7 @@ pub(crate) mod reached;
 pub(crate) mod unrolling;
 
 use crate::context::Context;
-use crate::fault::{ExpandFault, ExpandKind, fault};
+use crate::fault::{ExpandFault, ExpandKind, at_line};
 use crate::heads::blocks::BlockSlice;
 use crate::heads::head::{Head, HeadWord};
 use crate::unroll::opening::{begin_block, check_rof};
@@ -80,7 +80,7 @@ fn check_line(head: &Head, in_block: bool) -> Result<(), ExpandFault>
     ensures { Returns (λ u. u) result (line_checked head.now.number head.now.word in_block head.now.spoiled) }
 {
     if head.spoiled || (in_block && head.word == HeadWord::Equ) {
-        return Err(fault(head.number, ExpandKind::BadDirective));
+        return Err(at_line(head.number, ExpandKind::BadDirective));
     }
     Ok(())
 }

@@ -9,7 +9,7 @@ use Rattle.rc_instr.specs.Digits.{NoDigitFirst}
 use Rattle.rc_instr.specs.Words.{opcode_text, modifier_text, opcode_of, modifier_of}
 use Rattle.rc_instr.specs.Warrior.{IsBelow}
 use Rattle.rc_instr.specs.LoadText.{mode_text, mode_of, modes, number_text, operand_text, line_text, start_text}
-use Rattle.rc_instr.specs.LoadReaders.{Reader, gives, ◌>>=◌, given, if_passes, byte, opcode_at, modifier_at, mode_at, short_number_at, number_by, number_at, operand_at, head_at, comma_at, line_at, start_at}
+use Rattle.rc_instr.specs.LoadReaders.{Reader, gives, ◌>>=◌, given, if_passes, this_byte, opcode_at, modifier_at, mode_at, short_number_at, number_by, number_at, operand_at, head_at, comma_at, line_at, start_at}
 use Rattle.rc_instr.specs.declared.instruction.Instruction.{Instruction}
 use Rattle.rc_instr.specs.declared.instruction.Opcode.{Opcode}
 use Rattle.rc_instr.specs.declared.instruction.Opcode.TheVariants.{Dat, Mov, Add, Sub, Mul, Div, Mod, Jmp, Jmz, Jmn, Djn, Seq, Sne, Slt, Spl, Nop}
@@ -32,7 +32,7 @@ given_is : {A : Type 0} (o : Option A) (bytes : List ℕ) (x : A) (rest : List �
 given_is None bytes x rest e = absurd (cc)
 given_is {A} (Some y) bytes x rest e = let q = some_is (y, bytes) (x, rest) e in (ap Some (ap (λ (p : A × List ℕ). p.0) q), ap (λ (p : A × List ℕ). p.1) q)
 
-byte_is : (b : ℕ) (bs : List ℕ) (u : Unit {0}) (rest : List ℕ) → byte b bs ≡ Some (u, rest) → bs ≡ b ∷ rest
+byte_is : (b : ℕ) (bs : List ℕ) (u : Unit {0}) (rest : List ℕ) → this_byte b bs ≡ Some (u, rest) → bs ≡ b ∷ rest
 byte_is b [] u rest e = absurd (cc)
 byte_is b (x ∷ xs) u rest e = by_test (x == b) refl e where
   by_test : (t : Bool) → (x == b) ≡ t → if_passes {A = Unit {0} × List ℕ} t (tt, xs) ≡ Some (u, rest) → x ∷ xs ≡ b ∷ rest
@@ -82,7 +82,7 @@ modifier_read X rest = refl
 modifier_read I rest = refl
 
 abbrev modifier_by : Bool → (a b : ℕ) → Reader Modifier
-modifier_by t a b rest = if t then given (modifier_of (a ∷ [])) rest else (given (modifier_of (a ∷ b ∷ [])) >>= (λ m. byte 32 >>= (λ _. gives m))) rest
+modifier_by t a b rest = if t then given (modifier_of (a ∷ [])) rest else (given (modifier_of (a ∷ b ∷ [])) >>= (λ m. this_byte 32 >>= (λ _. gives m))) rest
 
 modifier_is : (bs : List ℕ) (m : Modifier) (rest : List ℕ) → modifier_at bs ≡ Some (m, rest) → bs ≡ modifier_text m ++ 32 ∷ rest
 unfolding modifier_at
@@ -97,7 +97,7 @@ modifier_is (a ∷ b ∷ others) m rest e = by_space (b == 32) refl e where
   by_space false h q =
       let g = went_on (given (modifier_of (a ∷ b ∷ [])) others) _ _ q in
       let t = given_is (modifier_of (a ∷ b ∷ [])) others g.0 g.1 g.2 in
-      let s = went_on (byte 32 g.1) _ _ g.3 in
+      let s = went_on (this_byte 32 g.1) _ _ g.3 in
       let y = some_is (g.0, s.1) (m, rest) s.3 in
       let n : g.0 ≡ m = ap (λ (p : Modifier × List ℕ). p.0) y in
       let e : s.1 ≡ rest = ap (λ (p : Modifier × List ℕ). p.1) y in
@@ -128,7 +128,7 @@ gave : {A : Type 0} (x : A) (bytes : List ℕ) (y : A) (rest : List ℕ) → giv
 gave {A} x bytes y rest e = let q = some_is (x, bytes) (y, rest) e in (ap (λ (p : A × List ℕ). p.0) q, ap (λ (p : A × List ℕ). p.1) q)
 
 -- no decimal begins with a minus sign
-no_minus : (bs : List ℕ) → ((cs : List ℕ) → 45 ∷ cs ≡ bs → ⊥) → byte 45 bs ≡ None
+no_minus : (bs : List ℕ) → ((cs : List ℕ) → 45 ∷ cs ≡ bs → ⊥) → this_byte 45 bs ≡ None
 no_minus [] h = refl
 no_minus (x ∷ xs) h = by_test (x == 45) refl where
   by_test : (t : Bool) → (x == 45) ≡ t → if_passes {A = Unit {0} × List ℕ} t (tt, xs) ≡ None
@@ -154,8 +154,8 @@ pub record IsNumber (m : ℕ) (bs : List ℕ) (n : ℕ) (rest : List ℕ) : Type
 
 number_is : (m : ℕ) (bs : List ℕ) (n : ℕ) (rest : List ℕ) → 0 < m → number_at m bs ≡ Some (n, rest) → IsNumber m bs n rest
 unfolding number_at number_text
-number_is m bs n rest k e = by_sign (byte 45 bs) refl e where
-  by_sign : (o : Option (Unit {0} × List ℕ)) → byte 45 bs ≡ o → number_by m o bs ≡ Some (n, rest) → IsNumber m bs n rest
+number_is m bs n rest k e = by_sign (this_byte 45 bs) refl e where
+  by_sign : (o : Option (Unit {0} × List ℕ)) → this_byte 45 bs ≡ o → number_by m o bs ≡ Some (n, rest) → IsNumber m bs n rest
   by_sign None h q =
       let g = went_on (short_number_at bs) _ _ q in
       let s = short_some bs g.0 g.1 g.2 in
@@ -216,7 +216,7 @@ head_is : (bs : List ℕ) (h : Opcode × Modifier) (rest : List ℕ) → head_at
 unfolding head_at
 head_is bs h rest e =
     let o = went_on (opcode_at bs) _ _ e in
-    let d = went_on (byte 46 o.1) _ _ o.3 in
+    let d = went_on (this_byte 46 o.1) _ _ o.3 in
     let m = went_on (modifier_at d.1) _ _ d.3 in
     let y = gave (o.0, m.0) m.1 h rest m.3 in
     let opcode : o.0 ≡ h.0 = ap (λ (p : Opcode × Modifier). p.0) y.0 in
@@ -227,7 +227,7 @@ head_is bs h rest e =
 comma_is : (bs : List ℕ) (u : Unit {0}) (rest : List ℕ) → comma_at bs ≡ Some (u, rest) → bs ≡ 44 ∷ 32 ∷ rest
 unfolding comma_at
 comma_is bs u rest e =
-    let c = went_on (byte 44 bs) _ _ e in
+    let c = went_on (this_byte 44 bs) _ _ e in
     byte_is 44 bs c.0 c.1 c.2 ∙ ap (λ r. 44 ∷ r) (byte_is 32 c.1 u rest c.3)
 
 -- the parts of a line, one after another
@@ -257,7 +257,7 @@ line_is m bs i rest k e =
     let a = went_on (operand_at m h.1) _ _ h.3 in
     let c = went_on (comma_at a.1) _ _ a.3 in
     let b = went_on (operand_at m c.1) _ _ c.3 in
-    let f = went_on (byte 10 b.1) _ _ b.3 in
+    let f = went_on (this_byte 10 b.1) _ _ b.3 in
     let y = gave _ f.1 i rest f.3 in
     let ao = operand_is m h.1 a.0 a.1 k a.2 in
     let bo = operand_is m c.1 b.0 b.1 k b.2 in
@@ -283,12 +283,12 @@ start_read n rest l = rw (start_parts n rest, short_front n (10 ∷ rest) (decim
 pub start_is : (bs : List ℕ) (n : ℕ) (rest : List ℕ) → start_at bs ≡ Some (n, rest) → (bs ≡ start_text n ++ rest) × (n < 2 ^ 16)
 unfolding start_at
 start_is bs n rest e =
-    let o = went_on (byte 79 bs) _ _ e in
-    let r = went_on (byte 82 o.1) _ _ o.3 in
-    let g = went_on (byte 71 r.1) _ _ r.3 in
-    let s = went_on (byte 32 g.1) _ _ g.3 in
+    let o = went_on (this_byte 79 bs) _ _ e in
+    let r = went_on (this_byte 82 o.1) _ _ o.3 in
+    let g = went_on (this_byte 71 r.1) _ _ r.3 in
+    let s = went_on (this_byte 32 g.1) _ _ g.3 in
     let d = went_on (short_number_at s.1) _ _ s.3 in
-    let f = went_on (byte 10 d.1) _ _ d.3 in
+    let f = went_on (this_byte 10 d.1) _ _ d.3 in
     let y = gave d.0 f.1 n rest f.3 in
     let t = short_some s.1 d.0 d.1 d.2 in
     let last = t.text ∙ ap (λ x. decimal x ++ d.1) y.0 ∙ ap (λ r. decimal n ++ r) (byte_is 10 d.1 f.0 f.1 f.2 ∙ ap (λ r. 10 ∷ r) y.1) in
@@ -297,7 +297,7 @@ start_is bs n rest e =
     let same = y.0 in
     (word ∙ sym (start_parts n rest), omega (arith, small, same))
 
--- a line takes at least a byte
+-- A line takes at least a byte.
 pub line_shorter : (m : ℕ) (i : Instruction) (rest others : List ℕ) → rest ≡ line_text m i ++ others → length others < length rest
 unfolding line_text
 line_shorter m i rest others e = rw e (simp length-append (omega arith))

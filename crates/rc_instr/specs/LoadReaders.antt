@@ -2,7 +2,7 @@
 use Rattle.std.specs.Prelude.{ℕ, ◌-◌, ◌*◌, Bool, ◌&&◌, ◌==◌, nat_lt, nat_le, if◌then◌else◌, List, [], ◌∷◌, length, take, drop, take_while, Option, Some, None, option_map, option_and_then}
 use Rattle.std.specs.Char.{is_ascii_digit}
 use Rattle.std.specs.Fmt.{decimal}
-use Rattle.std.specs.Str.{bytes_eq}
+use Rattle.std.specs.Str.{byte, bytes_eq}
 use Rattle.rc_instr.specs.Digits.{read_on}
 use Rattle.rc_instr.specs.Words.{opcode_of, modifier_of}
 use Rattle.rc_instr.specs.LoadText.{mode_of}
@@ -29,9 +29,9 @@ abbrev pub given : {A : Type 0} → Option A → Reader A
 given o bytes = option_map (λ x. (x, bytes)) o
 
 -- Takes this byte.
-abbrev pub byte : ℕ → Reader (Unit {0})
-byte b [] = None
-byte b (first ∷ rest) = if first == b then Some (tt, rest) else None
+abbrev pub this_byte : ℕ → Reader (Unit {0})
+this_byte b [] = None
+this_byte b (first ∷ rest) = if first == b then Some (tt, rest) else None
 
 -- An opcode is three letters.
 unfoldable pub opcode_at : Reader Opcode
@@ -41,10 +41,10 @@ opcode_at _ = None
 -- A modifier of one or two letters, and the space after it, since `A` alone begins `AB` too.
 unfoldable pub modifier_at : Reader Modifier
 modifier_at (a ∷ b ∷ rest) =
-    if b == 32 then given (modifier_of (a ∷ [])) rest else
+    if b == byte " " then given (modifier_of (a ∷ [])) rest else
     (do
       m ← given (modifier_of (a ∷ b ∷ []))
-      _ ← byte 32
+      _ ← this_byte (byte " ")
       gives m) rest
 modifier_at _ = None
 
@@ -88,7 +88,7 @@ number_by m None bytes = small_at m bytes
 
 -- A number below the core size.
 unfoldable pub number_at : ℕ → Reader ℕ
-number_at m bytes = number_by m (byte 45 bytes) bytes
+number_at m bytes = number_by m (this_byte (byte "-") bytes) bytes
 
 -- An operand is a mode and a number, as `$-1`.
 unfoldable pub operand_at : ℕ → Reader (Mode × ℕ)
@@ -101,15 +101,15 @@ operand_at m = do
 unfoldable pub head_at : Reader (Opcode × Modifier)
 head_at = do
   opcode ← opcode_at
-  _ ← byte 46
+  _ ← this_byte (byte ".")
   modifier ← modifier_at
   gives (opcode, modifier)
 
 -- A comma and a space.
 unfoldable pub comma_at : Reader (Unit {0})
 comma_at = do
-  _ ← byte 44
-  byte 32
+  _ ← this_byte (byte ",")
+  this_byte (byte " ")
 
 -- The line of an instruction, as `MOV.I $0, $1`.
 unfoldable pub line_at : ℕ → Reader Instruction
@@ -118,16 +118,16 @@ line_at m = do
   a ← operand_at m
   _ ← comma_at
   b ← operand_at m
-  _ ← byte 10
+  _ ← this_byte (byte "\n")
   gives (record { opcode = head.0; modifier = head.1; a_mode = a.0; a_number = a.1; b_mode = b.0; b_number = b.1 })
 
 -- The first line, as `ORG 0`.
 unfoldable pub start_at : Reader ℕ
 start_at = do
-  _ ← byte 79
-  _ ← byte 82
-  _ ← byte 71
-  _ ← byte 32
+  _ ← this_byte (byte "O")
+  _ ← this_byte (byte "R")
+  _ ← this_byte (byte "G")
+  _ ← this_byte (byte " ")
   n ← short_number_at
-  _ ← byte 10
+  _ ← this_byte (byte "\n")
   gives n

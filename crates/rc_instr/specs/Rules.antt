@@ -22,7 +22,8 @@ rules_view core cycles tasks length distance =
 abbrev pub HasCore : RulesView → Type 0
 HasCore r = (8 ≤ r.core) × (r.core ≤ 65535)
 
--- A core is not empty, and its numbers fit 16 bits.
+-- A core is not empty, and its numbers fit 16 bits. That is all that load files and numbers need,
+-- so laws of these ask for no rules.
 abbrev pub IsCoreSize : ℕ → Type 0
 IsCoreSize core = (0 < core) × (core ≤ 65535)
 

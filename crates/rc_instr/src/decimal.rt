@@ -78,7 +78,7 @@ fn digit_count(bytes: &[u8]) -> usize
         .count()
 }
 
-// Ten digits at most, so that the value fits a `u64`.
+// Returns the value of at most ten digits. More digits might not fit a `u64`.
 fn digits_value(digits: &[u8]) -> u64
     requires short { length digits.now ≤ 10 }
     requires digits { all_ascii_digits digits.now ≡ true }

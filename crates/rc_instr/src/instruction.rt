@@ -82,11 +82,17 @@ pub enum Mode {
 /// One cell of the core. In a core of M cells both numbers are below M.
 #[derive(Clone, Copy, Debug, PartialEq, Eq)]
 pub struct Instruction {
+    /// What it does.
     pub opcode: Opcode,
+    /// Which numbers it takes.
     pub modifier: Modifier,
+    /// How the A-operand is found.
     pub a_mode: Mode,
+    /// The A-number.
     pub a_number: u16,
+    /// How the B-operand is found.
     pub b_mode: Mode,
+    /// The B-number.
     pub b_number: u16,
 }
 

@@ -28,6 +28,7 @@ impl<X: Write> Model for Outlet<X> {
 pub struct WriteFailed;
 
 impl<X: Write> Outlet<X> {
+    /// Wraps `inner`. No write has failed yet, and nothing is flushed.
     pub fn new(inner: X) -> Outlet<X>
         ensures bytes { result.bytes ≡ X.contents inner }
         ensures failed { result.failed ≡ false }

@@ -19,14 +19,19 @@ pub struct Rules {
 /// Which number is out of its limits: the first in this order.
 #[derive(Clone, Copy, Debug, PartialEq, Eq, Error)]
 pub enum RulesError {
+    /// The core size is not 8 to 65535.
     #[error("core size must be 8 to 65535")]
     Core,
+    /// The cycles are not 1 to 1000000.
     #[error("cycles must be 1 to 1000000")]
     Cycles,
+    /// The most tasks of a warrior are not 1 to 8000.
     #[error("tasks must be 1 to 8000")]
     Tasks,
+    /// The most instructions of a warrior are not 1 to 200.
     #[error("warrior length must be 1 to 200")]
     Length,
+    /// The distance is below the length, or above half the core size.
     #[error("distance must be from the warrior length to half the core size")]
     Distance,
 }
@@ -65,7 +70,9 @@ impl Rules {
     /// - `distance`: the fewest cells between the loads of two warriors, `length` to half of
     ///   `core`.
     ///
-    /// The error names the first number, in this order, that is out of its limits.
+    /// # Errors
+    ///
+    /// Names the first number, in this order, that is out of its limits.
     #[tactic(auto, unfolding(crate::specs::Checks::rules_of))]
     pub fn try_new(
         core: u32,

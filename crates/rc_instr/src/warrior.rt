@@ -68,12 +68,16 @@ impl Model for Warrior {
 /// Why code is not a warrior under the rules: the first reason in this order.
 #[derive(Clone, Copy, Debug, PartialEq, Eq, Error)]
 pub enum WarriorError {
+    /// The code has no instruction.
     #[error("no instructions")]
     Empty,
+    /// The code has more instructions than the rules allow.
     #[error("more instructions than the rules allow")]
     TooLong,
+    /// The start is not the index of an instruction.
     #[error("start outside the code")]
     BadStart,
+    /// An A-number or B-number is not below the core size.
     #[error("instruction number not below the core size")]
     NumberTooLarge,
 }
@@ -82,7 +86,9 @@ pub enum WarriorError {
 #[derive(Debug, Drop, Error)]
 #[error("{error}")]
 pub struct Refused {
+    /// The code as it was given.
     pub code: Code,
+    /// The first reason.
     pub error: WarriorError,
 }
 
@@ -90,6 +96,8 @@ impl Warrior {
     ghost use Rattle.std.specs.Result.{result_err};
     ghost use Rattle.rc_instr.specs.Checks.{warrior_of};
 
+    // Returns the first reason why `code` and `start` are not a warrior, in the order of
+    // `WarriorError`.
     #[tactic(auto, unfolding(crate::specs::Checks::warrior_of))]
     fn refusal_of(code: &[Instruction], start: u32, rules: &Rules) -> Option<WarriorError>
         ensures { result ≡ result_err (warrior_of rules.now (warrior_view code.now start)) }

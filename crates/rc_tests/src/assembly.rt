@@ -21,18 +21,24 @@ pub(crate) fn load_of(alloc: Global, warrior: &Warrior, rules: &Rules) -> Result
 }
 
 // Returns the text of a fault. Out of memory is an error.
-pub(crate) fn text_of(alloc: Global, fault: AsmFault) -> Result<Vec<u8>, Fail> {
+pub(crate) fn fault_text(alloc: Global, fault: AsmFault) -> Result<Vec<u8>, Fail> {
     if fault.kind == AsmKind::OutOfMemory {
         return Err(Fail::from(fault));
     }
     Ok(format!(in alloc; "{fault}")?.into_bytes())
 }
 
+// Returns the names of the constants that texts are read with: K, which is 7.
+pub(crate) fn one_name(alloc: Global) -> Result<Vec<Vec<u8>>, Fail> {
+    let mut names = Vec::new(alloc);
+    names.push(b"K".to_vec(alloc)?)?;
+    Ok(names)
+}
+
 // Assembles `source` under the standard rules with the constant K = 7. Returns the load file of its
 // warrior, or the text of its fault.
 pub(crate) fn assembled(alloc: Global, source: &[u8]) -> Result<Vec<u8>, Fail> {
-    let mut names = Vec::new(alloc);
-    names.push(b"K".to_vec(alloc)?)?;
+    let names = one_name(alloc)?;
     let constants = Constants {
         names: &names,
         values: &[7],
@@ -40,7 +46,7 @@ pub(crate) fn assembled(alloc: Global, source: &[u8]) -> Result<Vec<u8>, Fail> {
     let rules = Rules::standard();
     match assemble(alloc, source, &constants, &rules) {
         Ok(warrior) => load_of(alloc, &warrior, &rules),
-        Err(fault) => text_of(alloc, fault),
+        Err(fault) => fault_text(alloc, fault),
     }
 }
 

@@ -1,7 +1,7 @@
 //! Tests of `rc_instr`: instructions, load files, outlets, and the texts of faults.
-mod instructions;
 mod loadfiles;
 mod numbers;
 pub(crate) mod outlets;
+mod parts;
 pub(crate) mod texts;
 mod warriors;

@@ -2,9 +2,9 @@
 //! (`assembly`); `memory` has those of calls that allocate.
 //!
 //! They show that each public call can succeed, and what neither a clause says nor a run of the
-//! program shows, such as the texts of faults. What a run shows is a case in `cases/`. They are a
-//! crate of their own because a crate with tests is proved twice, once without its tests and once
-//! with them.
+//! program shows, such as the texts of faults. What a run shows is a case in `gate/cases/`. They
+//! are a crate of their own because a crate with tests is proved twice, once without its tests and
+//! once with them.
 #![tactic(auto)]
 
 #[cfg(test)]

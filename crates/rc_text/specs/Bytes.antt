@@ -1,7 +1,7 @@
 -- Classes of bytes, words in any case, and the value of decimal digits.
 use Rattle.std.specs.Prelude.{ℕ, Bool, ◌||◌, ◌==◌, ◌+◌, ◌*◌, ◌-◌, List, take, map, length, fold}
 use Rattle.std.specs.Char.{is_ascii_digit, is_ascii_alphabetic, to_ascii_lowercase}
-use Rattle.std.specs.Str.{bytes_eq}
+use Rattle.std.specs.Str.{byte, bytes_eq}
 
 abbrev pub LINE_FEED : ℕ
 LINE_FEED = 10
@@ -15,7 +15,7 @@ is_blank b = b == 32 || (b == 9 || b == 13)
 
 -- A name begins with a letter or an underscore (the 1994 draft).
 abbrev pub begins_name : ℕ → Bool
-begins_name b = is_ascii_alphabetic b || b == 95
+begins_name b = is_ascii_alphabetic b || b == byte "_"
 
 -- A name goes on with letters, digits and underscores.
 abbrev pub continues_name : ℕ → Bool

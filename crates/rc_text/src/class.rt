@@ -13,9 +13,11 @@ use rc_instr::opcode_named;
 pub enum NameClass {
     /// Not a name: anything but a letter or `_` and then letters, digits and `_`.
     NoName,
-    /// An opcode or a directive, in any case.
+    /// An opcode (the 1994 draft's with CMP; SEQ, SNE and NOP of pMARS), or a directive: ORG, END,
+    /// EQU, FOR or ROF; in any case.
     Reserved,
-    /// A predefined name such as `CORESIZE`, in capitals.
+    /// CORESIZE, MAXPROCESSES, MAXCYCLES, MAXLENGTH, MINDISTANCE, WARRIORS, VERSION or CURLINE
+    /// (pMARS), in capitals.
     Predefined,
     /// Any other name.
     Free,
@@ -37,14 +39,7 @@ pub fn is_reserved_name(name: &[u8]) -> bool
     is_reserved(name) && is_name(name)
 }
 
-/// Returns the class of a name.
-///
-/// - `NoName`: anything but a letter or `_` and then letters, digits and `_`.
-/// - `Reserved`, in any case: the opcodes (the 1994 draft's with CMP; SEQ, SNE and NOP of pMARS),
-///   and ORG, END, EQU, FOR and ROF.
-/// - `Predefined`, in capitals: CORESIZE, MAXPROCESSES, MAXCYCLES, MAXLENGTH, MINDISTANCE,
-///   WARRIORS, VERSION and CURLINE (pMARS).
-/// - `Free`: any other name.
+/// Returns the class of a name: the first of [`NameClass`] that applies, in their order.
 pub fn name_class(bytes: &[u8]) -> NameClass
     ensures { result ≡ class_of bytes.now }
 {
@@ -104,7 +99,7 @@ fn is_directive(name: &[u8]) -> bool
     }
 }
 
-// ORG and END of the 1994 draft; EQU, FOR and ROF of pMARS. The letters are lower case.
+// Checks for ORG or END (1994 draft), or EQU, FOR or ROF (pMARS), in lower case.
 #[inline(always)]
 fn is_directive_word(first: u8, second: u8, third: u8) -> bool
     ensures { result ≡ is_lower_of directives (first ∷ second ∷ third ∷ []) }
@@ -119,7 +114,7 @@ fn is_directive_word(first: u8, second: u8, third: u8) -> bool
     }
 }
 
-// The predefined names (pMARS), in capitals only.
+// Checks for a predefined name (pMARS), in capitals only.
 fn is_predefined(name: &[u8]) -> bool
     ensures { result ≡ is_predefined name.now }
 {

@@ -17,10 +17,12 @@ use crate::token::{Kind, Sign, Token};
 /// Evaluates an expression, which has to be all of `tokens`.
 ///
 /// Unary `+`, `-` and `!` bind tightest, then from tight to loose `*` `/` `%`; `+` `-`; `<` `>`
-/// `<=` `>=`; `==` `!=`; `&&`; `||`, each level from the left (the operators of pMARS). Every
-/// number on the way fits into 64 bits with a sign. Division goes toward zero, and a remainder has
-/// the sign of the dividend. Comparisons and logic give 1 or 0, any value but 0 is true, and both
-/// sides of `&&` and `||` are evaluated.
+/// `<=` `>=`; `==` `!=`; `&&`; `||`, each level from the left. The operators are those of pMARS,
+/// the levels are not. Every number on the way fits into 64 bits with a sign. Division goes toward
+/// zero, and a remainder has the sign of the dividend. Comparisons and logic give 1 or 0, any value
+/// but 0 is true, and both sides of `&&` and `||` are evaluated.
+///
+/// # Errors
 ///
 /// Refuses tokens that are not an expression (`Syntax`) and a 65th open parenthesis (`TooDeep`),
 /// whichever comes first from the left. In an expression it then refuses the first from the left of

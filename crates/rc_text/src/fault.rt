@@ -7,7 +7,7 @@ pub enum LexFault {
     /// A byte that no token begins with; also `=` or `|` alone.
     #[error("unexpected byte")]
     BadByte,
-    /// A number above 4294967295.
+    /// A decimal above 4294967295.
     #[error("number above 4294967295")]
     NumberTooLarge,
 }

@@ -44,7 +44,7 @@ pub(crate) fn lexeme_of(text: &[u8], first: bool) -> Lexeme
     }
 }
 
-// The signs of two bytes.
+// Returns the sign that two bytes spell.
 fn long_sign(first: u8, second: u8) -> Option<Sign>
     ensures { result ≡ long_sign first second }
 {
@@ -59,7 +59,7 @@ fn long_sign(first: u8, second: u8) -> Option<Sign>
     }
 }
 
-// The signs of one byte.
+// Returns the sign that one byte spells.
 fn short_sign(byte: u8) -> Option<Sign>
     ensures { result ≡ short_sign byte }
 {

@@ -38,7 +38,7 @@ pub(crate) fn number_outcome(n: u32) -> Outcome
     Ok(i64::from(n))
 }
 
-// A name without a value is an `UnknownName`.
+// Returns the value of a name, or `UnknownName` if it has none.
 pub(crate) fn name_outcome(value: Option<i64>) -> Outcome
     ensures { result ≡ name_outcome value }
 {

@@ -4,8 +4,8 @@ ghost use Rattle.std.specs.Prelude.{◌≡◌, ◌↔◌, ◌<◌, ◌≤◌, �
 use arrayvec::ArrayVec;
 use std::marker::Model;
 
-/// A sign: punctuation, an operator, or an addressing mode (the 1994 draft; comparisons, logic, `:`
-/// and `&` are from pMARS).
+/// A sign: punctuation, an operator, or an addressing mode (the 1994 draft; the signs of two bytes,
+/// `!`, `:` and `&` are from pMARS).
 #[derive(Clone, Copy, Debug, PartialEq, Eq)]
 pub enum Sign {
     /// `.`
@@ -107,6 +107,7 @@ impl Joined {
         self.counters.len()
     }
 
+    /// Checks whether no counter is joined.
     pub fn is_empty(&self) -> bool
         ensures { IsTrue result ↔ (self.now ≡ []) }
     {

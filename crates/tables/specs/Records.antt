@@ -19,14 +19,14 @@ unfoldable pub records_left : State → Option (List ℕ) → List Fields
 records_left s None = []
 records_left s (Some text) = records_from default_config (length text + 1) s text
 
--- The reader takes all records whole: it has no header row, trims nothing, and a record may have any
--- number of fields.
+-- The reader takes all records whole: it has no header row, trims nothing, and a record may have
+-- any number of fields.
 pub record TakesAll {R : Type 0} (reader : Reader R) : Type 0 where
   pub config : reader_config reader ≡ default_config
   pub trim : reader_trim reader ≡ trim.None
   pub flexible : is_flexible reader ≡ true
   pub ready : Ready reader
 
--- It does, unless it has failed.
+-- A reader that has not failed takes all records whole.
 abbrev pub TakesAllOrFailed : {R : Type 0} → Reader R → Type 0
 TakesAllOrFailed reader = has_failed reader ≡ false → TakesAll reader

@@ -23,7 +23,7 @@ use Rattle.rc_instr.specs.declared.instruction.Instruction.{Instruction}
 use Rattle.rc_asm.specs.declared.fault.AsmKind.TheVariants.{UnknownOpcode, Value}
 use Rattle.rc_asm.specs.declared.operand.Operand.{Operand}
 use Rattle.rc_instr.specs.Results.{mapped, and_then, with_fault}
-use Rattle.rc_asm.specs.Words.{is_plain, opcode_at, modifier_at, mode_of, mode_of_kind, mode_at, is_comma, is_comma_kind}
+use Rattle.rc_asm.specs.Words.{is_plain, opcode_in, modifier_in, mode_of, mode_of_kind, mode_in, is_comma, is_comma_kind}
 use Rattle.rc_asm.specs.Shape.{parts_from, parts, sides, sides_of, Shape, shape, with_operands, with_modifier, after_opcode, shape_of}
 use Rattle.rc_asm.specs.Names.{NameValues, stands_for}
 use Rattle.rc_asm.specs.Instructions.{natural, core_number, operand, operand_after, operand_at, instruction_of_parts, instruction_of_shape, instruction_at}
@@ -47,19 +47,19 @@ word_plain : (source text : List ℕ) (t : Token) → IsWord source text t → i
 word_plain source text t w = (λ x. is_name_kind (w.kind x) && is_unjoined (w.joined x))
 
 -- the token of an opcode's text names the opcode
-opcode_there : (source : List ℕ) (t : Token) (o : Opcode) → IsWord source (opcode_text o) t → opcode_at source t ≡ Some o
-unfolding opcode_at
+opcode_there : (source : List ℕ) (t : Token) (o : Opcode) → IsWord source (opcode_text o) t → opcode_in source t ≡ Some o
+unfolding opcode_in
 opcode_there source t o w =
     ap (λ b. if b then opcode_named (bytes_of source t) else None) (word_plain source (opcode_text o) t w) ∙ ap opcode_named w.bytes ∙ opcode_back o
 
 -- the token of a modifier's text names the modifier
-modifier_there : (source : List ℕ) (t : Token) (m : Modifier) → IsWord source (modifier_text m) t → modifier_at source t ≡ Some m
-unfolding modifier_at
+modifier_there : (source : List ℕ) (t : Token) (m : Modifier) → IsWord source (modifier_text m) t → modifier_in source t ≡ Some m
+unfolding modifier_in
 modifier_there source t m w =
     ap (λ b. if b then modifier_named (bytes_of source t) else None) (word_plain source (modifier_text m) t w) ∙ ap modifier_named w.bytes ∙ modifier_back m
 
 -- the token of a mode's sign means the mode
-mode_there : (t : Token) (m : Mode) → t.kind ≡ SignOf (mode_sign m) → mode_at t ≡ Some m
+mode_there : (t : Token) (m : Mode) → t.kind ≡ SignOf (mode_sign m) → mode_in t ≡ Some m
 mode_there t m k = ap mode_of_kind k ∙ mode_back m
 
 -- ---- numbers

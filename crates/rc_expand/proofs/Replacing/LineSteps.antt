@@ -16,7 +16,7 @@ use Rattle.rc_expand.specs.Shared.{Shared}
 use Rattle.rc_expand.specs.Names.{entry_of, is_among, is_taken}
 use Rattle.rc_expand.specs.NameTables.{with_name, names_in}
 use Rattle.rc_expand.specs.Heads.Lines.{label_token}
-use Rattle.rc_expand.specs.Replace.Lines.{own_labels, own_step, other_labels, other_step, line_of, names_of, with_names, Replacement, with_line, line_added, line_replaced, lines_replaced, no_lines, replaced}
+use Rattle.rc_expand.specs.Replace.Lines.{own_labels, own_step, other_labels, other_step, line_of, names_of, with_names, Replacement, with_expanded, line_added, line_replaced, lines_replaced, no_lines, replaced}
 use Rattle.rc_expand.proofs.Each.{split_at}
 use Rattle.rc_expand.proofs.Reading.TableFound.{seen_found, name_new as is_pushed}
 
@@ -79,10 +79,10 @@ module _ (s : Shared) where
   line_made h r names l lines d w e p =
       ap (and_then (line_added s h.word h r.lines)) d
       ∙ by_word h.word w
-      ∙ ap (mapped (with_line r.lines names)) e
+      ∙ ap (mapped (with_expanded r.lines names)) e
       ∙ (λ x. Ok (record { names = names; lines = sym p x }))
     where
-      by_word : (v : HeadWord) → v ≢ word.Equ → line_added s v h r.lines names ≡ mapped (with_line r.lines names) (line_of s.source s.equs h)
+      by_word : (v : HeadWord) → v ≢ word.Equ → line_added s v h r.lines names ≡ mapped (with_expanded r.lines names) (line_of s.source s.equs h)
       by_word word.Equ w = absurd (w refl)
       by_word _ w = refl
 

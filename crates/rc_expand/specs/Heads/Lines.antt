@@ -135,7 +135,8 @@ module _ (source : List ℕ) where
   abbrev pub has_modifier : Token → Token → Token → Bool
   has_modifier t u v = is_opcode t && (is_dot u && is_name_token v)
 
-  -- A label is a free name, or free names joined by `&`, with an optional colon.
+  -- A label is a free name, or free names joined by `&`, with an optional colon. By cases: `&` and
+  -- a free name go on with the label, a colon ends it, and anything else begins what comes next.
   abbrev pub label_split : List Token → LabelSplit
   label_split [] = no_labels []
   label_split (t ∷ []) = choose (is_free t) (λ i. begin_label t (no_labels [])) (λ i. no_labels (t ∷ []))

@@ -1,4 +1,4 @@
--- What the tree of a text says of its lines, and each fault of its blocks, as a law tells it.
+-- What a law says of the tree of a text and its lines, and of each fault of its blocks.
 use Rattle.std.specs.Prelude.{◌≡◌, ℕ, zero, suc, Bool, true, false, List, [], ◌∷◌, ◌++◌, ◌⊎◌, Result, Ok, Err}
 use Rattle.rc_expand.specs.declared.heads.head.Head.{Head}
 use Rattle.rc_expand.specs.declared.heads.head.HeadWord.{HeadWord}
@@ -31,7 +31,7 @@ abbrev pub open_lines : List Open → List Head
 open_lines [] = []
 open_lines (x ∷ xs) = open_lines xs ++ (lines_of x.before ++ (x.opens ∷ []))
 
--- Each line has the word of its place, and `n` more blocks may be opened, of `DEEPEST_BLOCK` in all.
+-- Each line has the word of its place, and of `DEEPEST_BLOCK` blocks `n` more may be opened.
 abbrev pub AreOpen : ℕ → List Open → Type 0
 AreOpen n [] = n ≡ DEEPEST_BLOCK
 AreOpen n (x ∷ xs) = AreOpen (suc n) xs × IsNested (suc n) x.before × (x.opens.word ≡ word.For)
@@ -74,8 +74,8 @@ pub record IsLeftOpen (hs : List Head) (f : ExpandFault) : Type 0 where
   pub lines : hs ≡ open_lines (innermost ∷ around) ++ lines_of inside
   pub fault : f ≡ at_line (outermost_line innermost around) ForWithoutRof
 
--- A tree has the lines of the text, at most `DEEPEST_BLOCK` deep, and each fault means what its kind
--- says.
+-- A tree has the lines of the text, at most `DEEPEST_BLOCK` deep, and each fault means what its
+-- kind says.
 abbrev pub AreBlocks : List Head → Result Blocks ExpandFault → Type 0
 AreBlocks hs (Ok b) = IsNested DEEPEST_BLOCK b × (hs ≡ lines_of b)
 AreBlocks hs (Err f) = IsRofAlone hs f ⊎ IsNinth hs f ⊎ IsLeftOpen hs f

@@ -71,8 +71,8 @@ pub record Replacement : Type 0 where
 abbrev pub no_lines : Replacement
 no_lines = record { names = []; lines = [] }
 
-abbrev pub with_line : List Line → List (List ℕ) → Line → Replacement
-with_line lines names l = record { names = names; lines = lines ++ (l ∷ []) }
+abbrev pub with_expanded : List Line → List (List ℕ) → Line → Replacement
+with_expanded lines names l = record { names = names; lines = lines ++ (l ∷ []) }
 
 module _ (s : Shared) where
   -- Names are defined one after the other. None may be a constant, a predefined name or defined
@@ -85,7 +85,7 @@ module _ (s : Shared) where
   -- An EQU line is dropped, and any other is added.
   abbrev pub line_added : HeadWord → Head → List Line → List (List ℕ) → Result Replacement ExpandFault
   line_added word.Equ h lines names = Ok (record { names = names; lines = lines })
-  line_added _ h lines names = mapped (with_line lines names) (line_of s.source s.equs h)
+  line_added _ h lines names = mapped (with_expanded lines names) (line_of s.source s.equs h)
 
   -- One more line: its names, then its tokens.
   abbrev pub line_replaced : Head → Replacement → Result Replacement ExpandFault

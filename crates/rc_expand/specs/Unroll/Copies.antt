@@ -66,8 +66,8 @@ module _ (source : List ℕ) where
   BeginsCopy counter k ts at o =
       copied_tokens counter k (drop at ts) ≡ option_and_then (λ p. option_map (λ r. p.0 ∷ r) (copied_tokens counter k (drop p.1 ts))) o
 
-  -- A modifier is no name, even if it spells the counter: at the front of a line of code an opcode, a
-  -- dot and a modifier stay as they are.
+  -- A modifier is not a name, even if it spells the counter: at the front of a line of code an
+  -- opcode, a dot and a modifier stay as they are.
   abbrev pub copied_code : List ℕ → ℕ → List Token → Option (List Token)
   copied_code counter k (t ∷ u ∷ v ∷ ts) =
       choose (has_modifier source t u v) (λ i. option_map (λ r. t ∷ u ∷ v ∷ r) (copied_tokens counter k ts)) (λ i. copied_tokens counter k (t ∷ u ∷ v ∷ ts))

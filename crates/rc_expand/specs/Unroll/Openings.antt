@@ -61,7 +61,8 @@ is_enclosing _ = false
 abbrev pub counter_kind : List Token → ExpandKind
 counter_kind l = if is_enclosing l then DuplicateName else BadDirective
 
--- A counter must not be an EQU name; the fault is told at the later of the FOR and the EQU line.
+-- A counter must not be an EQU name. The fault is reported at the later of the FOR and the EQU
+-- line.
 abbrev pub unless_equ : (line : ℕ) → List ℕ → Option EquText → Result (Option (List ℕ)) ExpandFault
 unless_equ line name None = Ok (Some name)
 unless_equ line name (Some e) = Err (at_line (max line e.line) DuplicateName)
@@ -90,8 +91,8 @@ module _ (s : Shared) where
   abbrev pub counted_by : Head → Option (List ℕ) → Result Opening ExpandFault
   counted_by f name = mapped (λ n. record { counter = name; earlier = earlier_of f.labels; count = n }) (count_of f.number f.rest)
 
-  -- What a FOR says: first its counter is looked at, and then its count. A spoiled FOR, one to a name
-  -- of which a ninth counter would be joined, is `BadDirective`.
+  -- What a FOR says, or its fault: that of the counter comes before that of the count. A FOR is
+  -- spoiled if a ninth counter would be joined to a name in it; that is `BadDirective`.
   unfoldable pub opening : Head → Result Opening ExpandFault
   opening f =
       if f.spoiled then Err (at_line f.number BadDirective) else

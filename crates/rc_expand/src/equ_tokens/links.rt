@@ -5,8 +5,8 @@ ghost use Rattle.rc_expand.specs.Replace.{equ_in};
 ghost use Rattle.rc_expand.specs.NameTables.{at_index, AreIndices, AreLinks};
 
 use crate::heads::equs::Equ;
-use crate::heads::words::is_name_token;
 use crate::name_table::NameTable;
+use crate::tokens::is_name_token;
 use rc_text::Token;
 use std::alloc::{AllocError, Global};
 

@@ -4,7 +4,7 @@ ghost use Rattle.rc_instr.specs.Results.{mapped};
 ghost use Rattle.rc_expand.specs.Results.{Returns};
 ghost use Rattle.rc_expand.specs.Heads.Tree.{NoLine, OneLine, Block, blocks_of, tree_of, distances, HaveDistances};
 
-use crate::fault::{ExpandFault, ExpandKind, fault};
+use crate::fault::{ExpandFault, ExpandKind, at_line};
 use crate::heads::head::{Head, HeadWord};
 use crate::limits::DEEPEST_BLOCK;
 use std::alloc::Global;
@@ -29,8 +29,8 @@ pub(crate) struct BlockSlice<'a> {
 impl Blocks {
     // Finds the blocks of lines.
     //
-    // Refuses, at the first line that has one of them, a ninth FOR inside eight (`ForTooDeep`) and a
-    // ROF without its FOR (`RofWithoutFor`); then a FOR that is still open at the end
+    // Refuses, at the first line that has one of them, a ninth FOR inside eight (`ForTooDeep`) and
+    // a ROF without its FOR (`RofWithoutFor`); then a FOR that is still open at the end
     // (`ForWithoutRof`), at the line of the outermost one. Blocks that will be dropped count too.
     pub(crate) fn find(alloc: Global, heads: Vec<Head>) -> Result<Blocks, ExpandFault>
         ensures { Returns (λ b. tree_of b.heads.items) result (blocks_of heads.items) }
@@ -96,7 +96,7 @@ fn check_blocks(alloc: Global, heads: &[Head]) -> Result<Vec<usize>, ExpandFault
         match head.word {
             HeadWord::For => {
                 if open.len() == DEEPEST_BLOCK {
-                    return Err(fault(head.number, ExpandKind::ForTooDeep));
+                    return Err(at_line(head.number, ExpandKind::ForTooDeep));
                 }
                 if open.is_empty() {
                     outermost = head.number;
@@ -104,7 +104,7 @@ fn check_blocks(alloc: Global, heads: &[Head]) -> Result<Vec<usize>, ExpandFault
                 open.push_front(i)?;
             }
             HeadWord::Rof => match open.pop_front() {
-                None => return Err(fault(head.number, ExpandKind::RofWithoutFor)),
+                None => return Err(at_line(head.number, ExpandKind::RofWithoutFor)),
                 Some(start) => distances[start] = i - start,
             },
             _ => {}
@@ -112,7 +112,7 @@ fn check_blocks(alloc: Global, heads: &[Head]) -> Result<Vec<usize>, ExpandFault
         distances.push(0)?;
     }
     if !open.is_empty() {
-        return Err(fault(outermost, ExpandKind::ForWithoutRof));
+        return Err(at_line(outermost, ExpandKind::ForWithoutRof));
     }
     Ok(distances)
 }

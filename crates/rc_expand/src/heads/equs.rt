@@ -8,14 +8,14 @@ ghost use Rattle.rc_expand.specs.Heads.Tree.{tree_of};
 ghost use Rattle.rc_expand.specs.Shared.{constants_of};
 ghost use Rattle.rc_expand.specs.Names.{entry_of};
 
-use crate::fault::{ExpandFault, ExpandKind, fault};
+use crate::fault::{ExpandFault, ExpandKind, at_line};
 use crate::heads::blocks::BlockSlice;
 use crate::heads::head::{Head, HeadWord};
 use crate::heads::labels::plain_token;
-use crate::heads::words::clone_tokens;
 use crate::line::Tokens;
 use crate::name_table::{KeptName, NameTable, copied_name};
 use crate::names::{GivenNames, is_taken};
+use crate::tokens::clone_tokens;
 use rc_text::Token;
 use std::alloc::Global;
 use std::marker::Model;
@@ -95,7 +95,7 @@ fn equ_token<'a>(source: &[u8], head: &'a Head) -> Result<&'a Token, ExpandFault
     };
     match plain {
         Some(token) => Ok(token),
-        None => Err(fault(head.number, ExpandKind::BadDirective)),
+        None => Err(at_line(head.number, ExpandKind::BadDirective)),
     }
 }
 
@@ -112,7 +112,7 @@ fn read_equ(
 {
     let token = equ_token(source, head)?;
     if is_taken(names, source, token) || equ_line(equs, source, token).is_some() {
-        return Err(fault(head.number, ExpandKind::DuplicateName));
+        return Err(at_line(head.number, ExpandKind::DuplicateName));
     }
     let name = copied_name(alloc, source, token)?;
     let tokens = clone_tokens(alloc, head.rest.as_slice())?;

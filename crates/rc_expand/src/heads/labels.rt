@@ -2,7 +2,8 @@
 ghost use Rattle.std.specs.Prelude.{◌≡◌, [], All, IfSome, option_map};
 ghost use Rattle.rc_expand.specs.Heads.Lines.{label_token, plain_token};
 
-use crate::heads::words::{is_colon, is_free, is_unjoined};
+use crate::heads::words::is_free;
+use crate::tokens::{is_colon, is_unjoined};
 use rc_text::Token;
 
 // Returns the name of a label that is a single name, with or without its colon.

@@ -7,10 +7,11 @@ ghost use Rattle.rc_expand.specs.Results.{Returns};
 ghost use Rattle.rc_expand.specs.Heads.{text_lines};
 ghost use Rattle.rc_expand.specs.Heads.Faults.{IsEnding};
 
-use crate::fault::{ExpandFault, ExpandKind, fault};
+use crate::fault::{ExpandFault, ExpandKind, at_line};
 use crate::heads::head::{Head, HeadWord, Labels};
-use crate::heads::words::{clone_token, clone_tokens, is_ampersand, is_colon, is_free, word_of};
+use crate::heads::words::{is_free, word_of};
 use crate::line::Tokens;
+use crate::tokens::{clone_token, clone_tokens, is_ampersand, is_colon};
 use rc_text::{Kind, Lexer, Token};
 use std::alloc::{AllocError, Global};
 
@@ -164,7 +165,7 @@ fn next_token(lexer: &mut Lexer) -> Result<Option<Token>, ExpandFault>
 {
     match lexer.next_token() {
         Ok(token) => Ok(token),
-        Err(cause) => Err(fault(lexer.line(), ExpandKind::Text(cause))),
+        Err(cause) => Err(at_line(lexer.line(), ExpandKind::Text(cause))),
     }
 }
 

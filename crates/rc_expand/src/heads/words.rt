@@ -1,78 +1,13 @@
-//! Reserved words and kinds of tokens.
-ghost use Rattle.std.specs.Prelude.{◌≡◌, ◌++◌, map, ◌&&◌, ◌<◌, ◌≤◌, length, IfOk};
+//! Reserved words, and the words of lines.
+ghost use Rattle.std.specs.Prelude.{◌≡◌, ◌&&◌};
 ghost use Rattle.std.specs.Str.{bytes_eq};
 ghost use Rattle.rc_text.specs.Bytes.{is_same_word};
 ghost use Rattle.rc_text.specs.NameClasses.{class_of};
-ghost use Rattle.rc_expand.specs.Heads.Lines.{is_reserved_class, is_name_token, is_ampersand, is_colon, is_dot, is_unjoined, is_free, is_opcode, has_modifier, word_of_name, word_of};
+ghost use Rattle.rc_expand.specs.Heads.Lines.{is_reserved_class, is_free, is_opcode, has_modifier, word_of_name, word_of};
 
 use crate::heads::head::HeadWord;
-use crate::line::Tokens;
-use rc_text::{Kind, Sign, Token, is_opcode_word, is_reserved_name, is_same_word, text_of};
-use std::alloc::{AllocError, Global};
-
-pub(crate) fn clone_token(token: &Token) -> Result<Token, AllocError>
-    ensures { IfOk result (λ t. t ≡ token.now) }
-{
-    token.clone()
-}
-
-pub(crate) fn clone_tokens(alloc: Global, tokens: &[Token]) -> Result<Tokens, AllocError>
-    ensures { IfOk result (λ all. all ≡ tokens.now) }
-{
-    let mut all = Vec::with_capacity(alloc, tokens.len())?;
-    for token in tokens {
-        all.push(clone_token(token)?)?;
-    }
-    Ok(Tokens::from_vec(all))
-}
-
-// Concatenates `front` and `tokens`.
-pub(crate) fn with_front(
-    alloc: Global,
-    front: &[Token],
-    tokens: Tokens,
-) -> Result<Tokens, AllocError>
-    ensures { IfOk result (λ all. all ≡ front.now ++ tokens) }
-{
-    let mut tokens = tokens.into_vec();
-    let mut all = Vec::with_capacity(alloc, front.len() + tokens.len())?;
-    for token in front {
-        all.push(clone_token(token)?)?;
-    }
-    all.append(&mut tokens)?;
-    Ok(Tokens::from_vec(all))
-}
-
-pub(crate) fn is_name_token(token: &Token) -> bool
-    ensures { result ≡ is_name_token token.now }
-{
-    matches!(token.kind, Kind::Name)
-}
-
-pub(crate) fn is_ampersand(token: &Token) -> bool
-    ensures { result ≡ is_ampersand token.now }
-{
-    matches!(token.kind, Kind::Sign(Sign::Ampersand))
-}
-
-pub(crate) fn is_colon(token: &Token) -> bool
-    ensures { result ≡ is_colon token.now }
-{
-    matches!(token.kind, Kind::Sign(Sign::Colon))
-}
-
-pub(crate) fn is_dot(token: &Token) -> bool
-    ensures { result ≡ is_dot token.now }
-{
-    matches!(token.kind, Kind::Sign(Sign::Dot))
-}
-
-// Checks that no counter is joined to a token.
-pub(crate) fn is_unjoined(token: &Token) -> bool
-    ensures { result ≡ is_unjoined token.now.joined }
-{
-    token.joined.is_empty()
-}
+use crate::tokens::{is_dot, is_name_token, is_unjoined};
+use rc_text::{Kind, Token, is_opcode_word, is_reserved_name, is_same_word, text_of};
 
 // Checks for a name that is not reserved. A name with joined counters is never reserved.
 #[tactic(auto, unfolding(crate::specs::Heads::Lines::is_free))]

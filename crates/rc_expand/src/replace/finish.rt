@@ -9,8 +9,9 @@ use crate::equ_tokens::replace_tokens;
 use crate::fault::ExpandFault;
 use crate::heads::head::{Head, HeadWord};
 use crate::heads::labels::label_token;
-use crate::heads::words::{clone_token, has_modifier};
+use crate::heads::words::has_modifier;
 use crate::line::{Line, LineWord, Tokens};
+use crate::tokens::clone_token;
 use rc_text::Token;
 use std::alloc::{AllocError, Global};
 

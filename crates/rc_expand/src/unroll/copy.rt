@@ -4,12 +4,11 @@ ghost use Rattle.rc_expand.specs.Heads.Lines.{is_name_token, is_ampersand};
 ghost use Rattle.rc_expand.specs.Unroll.Copies.{is_counter, with_number, joins, copied_tokens, BeginsCopy, copied_code, copied_rest, copied_line, all_of};
 
 use crate::heads::head::{Head, HeadWord, Labels};
-use crate::heads::words::{
-    clone_token, clone_tokens, has_modifier, is_ampersand, is_name_token, with_front,
-};
+use crate::heads::words::has_modifier;
 use crate::limits::MOST_JOINED;
 use crate::line::Tokens;
 use crate::names::spells;
+use crate::tokens::{clone_token, clone_tokens, is_ampersand, is_name_token, with_front};
 use rc_text::{Kind, Token};
 use std::alloc::{AllocError, Global};
 

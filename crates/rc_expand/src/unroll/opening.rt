@@ -8,14 +8,14 @@ ghost use Rattle.rc_expand.specs.Unroll.Openings.{is_plain_number, is_enclosing,
 
 use crate::context::Context;
 use crate::equ_tokens::replace_tokens;
-use crate::fault::{ExpandFault, ExpandKind, fault};
+use crate::fault::{ExpandFault, ExpandKind, at_line};
 use crate::heads::equs::equ_line;
 use crate::heads::head::{Head, Labels};
 use crate::heads::labels::plain_token;
-use crate::heads::words::{is_colon, is_unjoined};
 use crate::limits::MOST_COPIES;
 use crate::line::Tokens;
 use crate::names::is_taken;
+use crate::tokens::{is_colon, is_unjoined};
 use crate::unroll::copy::clone_labels;
 use rc_text::{Kind, Token, eval, text_of};
 use std::alloc::{AllocError, Global};
@@ -36,7 +36,7 @@ pub(crate) fn begin_block<'a>(
     ensures { Returns (seen_start head.now) result (opening (shared context.now) head.now) }
 {
     if head.spoiled {
-        return Err(fault(head.number, ExpandKind::BadDirective));
+        return Err(at_line(head.number, ExpandKind::BadDirective));
     }
     let token = counter_token(context.source, head)?;
     let counter = counter_name(context, token, head.number)?;
@@ -71,9 +71,9 @@ fn counter_fault(line: u64, label: &[Token]) -> ExpandFault
     ensures { result ≡ at_line line (counter_kind label.now) }
 {
     if is_enclosing(label) {
-        fault(line, ExpandKind::DuplicateName)
+        at_line(line, ExpandKind::DuplicateName)
     } else {
-        fault(line, ExpandKind::BadDirective)
+        at_line(line, ExpandKind::BadDirective)
     }
 }
 
@@ -118,9 +118,9 @@ fn count_of(context: &Context, head: &Head) -> Result<u16, ExpandFault>
     match eval(context.source, tokens.as_slice(), context.names) {
         Ok(value) => match small_count(value) {
             Some(count) => Ok(count),
-            None => Err(fault(head.number, ExpandKind::CountRefused)),
+            None => Err(at_line(head.number, ExpandKind::CountRefused)),
         },
-        Err(_) => Err(fault(head.number, ExpandKind::CountRefused)),
+        Err(_) => Err(at_line(head.number, ExpandKind::CountRefused)),
     }
 }
 
@@ -131,7 +131,7 @@ pub(crate) fn check_rof(rof: &Head) -> Result<(), ExpandFault>
     if is_bare_rof(rof) {
         Ok(())
     } else {
-        Err(fault(rof.number, ExpandKind::BadDirective))
+        Err(at_line(rof.number, ExpandKind::BadDirective))
     }
 }
 
@@ -165,10 +165,10 @@ fn check_counter(context: &Context, token: &Token, line: u64) -> Result<(), Expa
     ensures { Returns (λ u. Some (name_of context.now.source.now token.now)) result (counter_name (shared context.now) line (Some token.now)) }
 {
     if is_taken(context.names, context.source, token) {
-        return Err(fault(line, ExpandKind::DuplicateName));
+        return Err(at_line(line, ExpandKind::DuplicateName));
     }
     match equ_line(context.equs, context.source, token) {
-        Some(other) => Err(fault(line.max(other), ExpandKind::DuplicateName)),
+        Some(other) => Err(at_line(line.max(other), ExpandKind::DuplicateName)),
         None => Ok(()),
     }
 }

@@ -3,7 +3,7 @@ ghost use Rattle.std.specs.Prelude.{◌≡◌};
 ghost use Rattle.rc_expand.specs.Results.{Returns};
 ghost use Rattle.rc_expand.specs.Unroll.{nothing, with_line, with_copy};
 
-use crate::fault::{ExpandFault, ExpandKind, fault};
+use crate::fault::{ExpandFault, ExpandKind, at_line};
 use crate::heads::blocks::BlockSlice;
 use crate::limits::MOST_LINES;
 use crate::unroll::reached::Reached;
@@ -24,7 +24,7 @@ impl<'a> Model for Unrolling<'a> {
 
     ghost Value = { Unrolled };
 
-    ghost view = { λ u. record { lines = u.lines.items; copies = u.copy_count } };
+    ghost view = { λ u. record { lines = u.lines.items; copy_count = u.copy_count } };
 
     ghost invariant = { λ u. length u.lines.items + u.copy_count ≤ MOST_LINES };
 }
@@ -45,7 +45,7 @@ impl<'a> Unrolling<'a> {
         ensures { Returns (λ u. self.new) result (with_line line.entry self.old) }
     {
         if self.lines.len() + self.copy_count >= MOST_LINES {
-            return Err(fault(line.number(), ExpandKind::TooManyLines));
+            return Err(at_line(line.number(), ExpandKind::TooManyLines));
         }
         self.lines.push(line)?;
         Ok(())
@@ -56,7 +56,7 @@ impl<'a> Unrolling<'a> {
         ensures { Returns (λ u. self.new) result (with_copy line self.old) }
     {
         if self.lines.len() + self.copy_count >= MOST_LINES {
-            return Err(fault(line, ExpandKind::TooManyLines));
+            return Err(at_line(line, ExpandKind::TooManyLines));
         }
         self.copy_count += 1;
         Ok(())

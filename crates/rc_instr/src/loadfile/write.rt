@@ -28,6 +28,7 @@ pub fn write_loadfile(
     ensures ok { OnOk result (out.new.items ≡ out.old.items ++ load_text rules.now.core warrior.now) }
     ensures err { OnErr result (out.new.items ≡ out.old.items) }
 {
+    // `out` grows by its own allocator. `alloc` says in the signature that this call allocates.
     let _ = alloc;
     let length = out.len();
     let written = append_warrior(out, rules.core(), warrior);

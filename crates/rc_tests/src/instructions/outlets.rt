@@ -73,6 +73,7 @@ fn a_writer_is_not_called_again_after_a_failure(rt: HostRuntime) {
         assert!(rt; !outlet.failed());
         assert_eq!(rt; outlet.write(b"fghij"), Err(WriteFailed));
         assert_eq!(rt; outlet.write(b""), Err(WriteFailed));
+        assert_eq!(rt; outlet.finish(), Err(WriteFailed));
         assert!(rt; outlet.failed());
         let fake = outlet.into_inner();
         assert_eq!(rt; fake.taken.as_slice(), b"abc".as_slice());

@@ -4,7 +4,7 @@ use std::alloc::{AllocError, Global};
 use std::error::Error;
 use std::test::Fail;
 
-pub(crate) fn text_of<E: Error>(alloc: Global, error: &E) -> Result<String, AllocError> {
+pub(crate) fn error_text<E: Error>(alloc: Global, error: &E) -> Result<String, AllocError> {
     format!(in alloc; "{error}")
 }
 
@@ -20,7 +20,7 @@ fn texts_of_rules(rt: HostRuntime) -> Result<(), Fail> {
             "distance must be from the warrior length to half the core size",
         ),
     ] {
-        assert_eq!(rt; text_of(rt.alloc(), &error)?.as_str(), want);
+        assert_eq!(rt; error_text(rt.alloc(), &error)?.as_str(), want);
     }
     Ok(())
 }
@@ -39,14 +39,14 @@ fn texts_of_warriors(rt: HostRuntime) -> Result<(), Fail> {
             "instruction number not below the core size",
         ),
     ] {
-        assert_eq!(rt; text_of(rt.alloc(), &error)?.as_str(), want);
+        assert_eq!(rt; error_text(rt.alloc(), &error)?.as_str(), want);
         let code = Code::from_vec(Vec::new(rt.alloc()));
         assert_eq!(rt;
-            text_of(rt.alloc(), &Refused { code, error })?.as_str(),
+            error_text(rt.alloc(), &Refused { code, error })?.as_str(),
             want
         );
         assert_eq!(rt;
-            text_of(rt.alloc(), &LoadFault::Warrior(error))?.as_str(),
+            error_text(rt.alloc(), &LoadFault::Warrior(error))?.as_str(),
             want
         );
     }
@@ -56,13 +56,13 @@ fn texts_of_warriors(rt: HostRuntime) -> Result<(), Fail> {
 #[test]
 fn texts_of_bytes_and_memory(rt: HostRuntime) -> Result<(), Fail> {
     let malformed = LoadFault::Malformed { line: 12 };
-    let text = text_of(rt.alloc(), &malformed)?;
+    let text = error_text(rt.alloc(), &malformed)?;
     assert_eq!(rt; text.as_str(), "malformed line 12");
-    let text = text_of(rt.alloc(), &LoadFault::OutOfMemory)?;
+    let text = error_text(rt.alloc(), &LoadFault::OutOfMemory)?;
     assert_eq!(rt; text.as_str(), "out of memory");
-    let text = text_of(rt.alloc(), &OutOfMemory::from(AllocError))?;
+    let text = error_text(rt.alloc(), &OutOfMemory::from(AllocError))?;
     assert_eq!(rt; text.as_str(), "out of memory");
-    let text = text_of(rt.alloc(), &WriteFailed)?;
+    let text = error_text(rt.alloc(), &WriteFailed)?;
     assert_eq!(rt; text.as_str(), "write failed");
     Ok(())
 }

@@ -15,4 +15,4 @@ pub returns-else-branch : goal.returns-else-branch
 returns-else-branch c =
     let k = shared c.args.context.now in
     λ h. name_there k c.args.line (name_of k.source c.args.label.now) c.args.names.now c.in_ok-add.field-0
-    (sym c.is_taken.ensures ∙ c.if-is_taken.false) c.if-branch.false c.in_ok-add.ensures.added ∙ ap Err (sym c.fault-else-branch.ensures)
+    (sym c.is_taken.ensures ∙ c.if-is_taken.false) c.if-branch.false c.in_ok-add.ensures.added ∙ ap Err (sym c.at_line-else-branch.ensures)

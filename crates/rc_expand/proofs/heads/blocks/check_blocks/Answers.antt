@@ -17,14 +17,14 @@ returns-then-len-eq-DEEPEST_BLOCK c =
     let hs = drop (c.loop-i.i + 1) c.args.heads.now in
     let h = c.index-heads-i.result in
     let lines = split_at c.args.heads.now c.loop-i.i h c.loop-i-test.true c.index-heads-i.is in
-    λ k. too_deep c.args.heads.now c.loop-i.open.items c.loop-i.distances.items c.loop-i.outermost _ h hs lines c.loop-i.invariant.3 c.in-For.is (omega (arith, c.if-len-eq-DEEPEST_BLOCK.true, c.len.ensures)) ∙ ap Err (sym c.fault.ensures)
+    λ k. too_deep c.args.heads.now c.loop-i.open.items c.loop-i.distances.items c.loop-i.outermost _ h hs lines c.loop-i.invariant.3 c.in-For.is (omega (arith, c.if-len-eq-DEEPEST_BLOCK.true, c.len.ensures)) ∙ ap Err (sym c.at_line.ensures)
 
 pub returns-in-None : goal.returns-in-None
 returns-in-None c =
     let hs = drop (c.loop-i.i + 1) c.args.heads.now in
     let h = c.index-heads-i.result in
     let lines = split_at c.args.heads.now c.loop-i.i h c.loop-i-test.true c.index-heads-i.is in
-    λ k. rof_alone c.args.heads.now c.loop-i.open.items c.loop-i.distances.items c.loop-i.outermost _ h hs lines c.loop-i.invariant.3 c.in-Rof.is (omega (arith, c.in-None.ensures.cases.0)) ∙ ap Err (sym c.fault-in-None.ensures)
+    λ k. rof_alone c.args.heads.now c.loop-i.open.items c.loop-i.distances.items c.loop-i.outermost _ h hs lines c.loop-i.invariant.3 c.in-Rof.is (omega (arith, c.in-None.ensures.cases.0)) ∙ ap Err (sym c.at_line-in-None.ensures)
 
 pub loop-i-preserved : goal.loop-i-preserved
 loop-i-preserved c =
@@ -76,7 +76,7 @@ pub returns-then-not-is_empty : goal.returns-then-not-is_empty
 returns-then-not-is_empty c =
     let none = drop_all c.loop-i.i c.args.heads.now (omega (arith, c.loop-i-test.false)) in
     let end = subst (SoFar c.args.heads.now c.loop-i.open.items c.loop-i.distances.items c.loop-i.outermost) none c.loop-i.invariant.3 in
-    λ k. left_open c.args.heads.now c.loop-i.distances.items c.loop-i.outermost c.loop-i.open.items (λ e. omega (arith, e, eqb-false (deque_len c.loop-i.open) 0 (sym c.if-not-is_empty.ensures), c.loop-i.open.ok)) end ∙ ap Err (sym c.fault-then-not-is_empty.ensures)
+    λ k. left_open c.args.heads.now c.loop-i.distances.items c.loop-i.outermost c.loop-i.open.items (λ e. omega (arith, e, eqb-false (deque_len c.loop-i.open) 0 (sym c.if-not-is_empty.ensures), c.loop-i.open.ok)) end ∙ ap Err (sym c.at_line-then-not-is_empty.ensures)
 
 pub returns : goal.returns
 returns c =

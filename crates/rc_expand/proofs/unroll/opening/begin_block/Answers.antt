@@ -8,7 +8,7 @@ use Rattle.rc_expand.proofs.Unrolling.CountSteps.{opening_spoiled, opening_teste
 use Rattle.rc_expand.proofs.unroll.opening.begin_block.Goals as goal
 
 pub returns-then-head : goal.returns-then-head
-returns-then-head c = λ h. opening_spoiled (shared c.args.context.now) c.args.head.now c.if-head.true ∙ ap Err (sym c.fault.ensures)
+returns-then-head c = λ h. opening_spoiled (shared c.args.context.now) c.args.head.now c.if-head.true ∙ ap Err (sym c.at_line.ensures)
 
 pub returns-in_err-token : goal.returns-in_err-token
 returns-in_err-token c =

@@ -32,7 +32,7 @@ returns-in-Ok c =
     let same = ap (replaced_tokens s.source s.equs n []) (sym c.as_slice.ensures) ∙ ap (λ f. replaced_tokens s.source s.equs n f c.as_slice.result.now) (sym c.new-front.ensures.items) in
     let fed = same ∙ (c.in_ok-tokens.ensures ∙ ap Ok (sym c.as_slice-2.ensures)) in
     let f : FitsSigned w64 c.in-Ok.value = search rules in
-    λ h. count_valued s n c.args.head.now.rest c.as_slice-2.result.now c.in-Ok.value _ fed (sym c.in-Ok.is ∙ c.eval.ensures) (c.in-None.ensures ∙ ap small_count (to_z-of_z w64 c.in-Ok.value f)) ∙ ap Err (sym c.fault.ensures)
+    λ h. count_valued s n c.args.head.now.rest c.as_slice-2.result.now c.in-Ok.value _ fed (sym c.in-Ok.is ∙ c.eval.ensures) (c.in-None.ensures ∙ ap small_count (to_z-of_z w64 c.in-Ok.value f)) ∙ ap Err (sym c.at_line.ensures)
 
 pub returns : goal.returns
 returns c =
@@ -40,4 +40,4 @@ returns c =
     let n = c.args.head.now.number in
     let same = ap (replaced_tokens s.source s.equs n []) (sym c.as_slice.ensures) ∙ ap (λ f. replaced_tokens s.source s.equs n f c.as_slice.result.now) (sym c.new-front.ensures.items) in
     let fed = same ∙ (c.in_ok-tokens.ensures ∙ ap Ok (sym c.as_slice-2.ensures)) in
-    λ h. count_valueless s n c.args.head.now.rest c.as_slice-2.result.now c.in-Err.field-0 fed (sym c.in-Err.is ∙ c.eval.ensures) ∙ ap Err (sym c.fault-in-Err.ensures)
+    λ h. count_valueless s n c.args.head.now.rest c.as_slice-2.result.now c.in-Err.field-0 fed (sym c.in-Err.is ∙ c.eval.ensures) ∙ ap Err (sym c.at_line-in-Err.ensures)

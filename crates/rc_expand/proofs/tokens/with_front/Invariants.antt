@@ -1,5 +1,5 @@
 use Rattle.std.proofs.Common.{◌≡◌, take}
-use Rattle.rc_expand.proofs.heads.words.with_front.Given as goal
+use Rattle.rc_expand.proofs.tokens.with_front.Given as goal
 
 abbrev pub invariant-loop-token : goal.invariant-loop-token
 invariant-loop-token l = l.all.items ≡ take l.token-index l.front
