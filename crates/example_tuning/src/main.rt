@@ -11,7 +11,8 @@ use std::alloc::Global;
 use std::io::Write;
 use tune_runs::{Method, RunFault, tune_run};
 
-// A warrior that copies a DAT to the address AIM, and then waits. AIM is 3998 to 4001.
+// A warrior that copies a DAT to the address AIM, and then waits. AIM is 3998 to 4001: at 4000 the
+// DAT hits the opponent, so setting 2 is the best.
 const TEMPLATE: &[u8] = b";@tune AIM 3998 4001 1 3998\nMOV bomb, AIM\nJMP 0\nbomb DAT 0\n";
 
 // A warrior that waits.

@@ -6,7 +6,7 @@ use Rattle.tables.specs.Records.{Fields}
 use Rattle.tune_problem.specs.declared.cert.Row.{Row}
 use Rattle.tune_problem.specs.declared.statement.Answer.{Answer}
 use Rattle.tune_problem.specs.declared.statement.Statement.{Statement}
-use Rattle.tune_cert.specs.Spelling.{count_of, answer_of, first_as, rows_from, statement_of, cert_by, cert_of, Returns}
+use Rattle.tune_cert.specs.Spelling.{count_of, answer_of, first_as, rows_from, statement_of, cert_by, cert_of_records, Returns}
 use Rattle.tune_cert.specs.declared.fault.ReadFault.{ReadFault}
 use Rattle.tune_cert.specs.declared.fault.ReadFault.TheVariants.{Malformed}
 
@@ -73,12 +73,12 @@ module _ (floors : Bool) (records : List Fields) where
       ∙ went (rows_from 0 others) (λ (made : List Row). Ok (record { version = count.0; count = count.1; answer = answer; rows = made })) rows h)
 
 -- a certificate by its statement
-pub cert_wrong : (records : List Fields) (e : ReadFault) → with_fault Malformed (statement_of false records) ≡ Err e → with_fault Malformed (cert_of records) ≡ Err e
-unfolding cert_of
+pub cert_wrong : (records : List Fields) (e : ReadFault) → with_fault Malformed (statement_of false records) ≡ Err e → with_fault Malformed (cert_of_records records) ≡ Err e
+unfolding cert_of_records
 cert_wrong records e h = faulted (statement_of false records) (λ (s : Statement). cert_by s s.answer) e h
 
-pub cert_made : (records : List Fields) (s : Statement) → with_fault Malformed (statement_of false records) ≡ Ok s → with_fault Malformed (cert_of records) ≡ with_fault Malformed (cert_by s s.answer)
-unfolding cert_of
+pub cert_made : (records : List Fields) (s : Statement) → with_fault Malformed (statement_of false records) ≡ Ok s → with_fault Malformed (cert_of_records records) ≡ with_fault Malformed (cert_by s s.answer)
+unfolding cert_of_records
 cert_made records s h = ap (with_fault Malformed) (went (statement_of false records) (λ (t : Statement). cert_by t t.answer) s h)
 
 -- a call that returns what the definition gives

@@ -12,7 +12,7 @@ use Rattle.tune_problem.specs.declared.cert.Row.TheVariants.{Refused, Same, Cap}
 use Rattle.tune_problem.specs.declared.part.Part.{Part}
 use Rattle.tune_problem.proofs.Certificates.{valid_is_optimum, valid_total}
 use Rattle.tune_cert.proofs.ShareBounds.{whole_bounds}
-use Rattle.tune_cert.specs.Spelling.{Spells, record_of, cert_of}
+use Rattle.tune_cert.specs.Spelling.{Spells, record_of, cert_of_records}
 use Rattle.tune_cert.specs.Checks.{refers, alone_reason, same_reason, row_reason, reason_at, first_wrong, rows_failure, share_settings, failure_by, first_failure, is_version_of, has_row_count, is_best_row}
 use Rattle.tune_cert.specs.Shares.{IsValidInShare}
 use Rattle.tune_cert.specs.Verdict.{verdict_by, verdict_on_read, IsVerdictOf, HasRowCount, IsBestRow, IsWrongRow, IsRejected, IsCheckedBefore, IsFirstRow, IsFirst, IsRightVerdict}
@@ -174,7 +174,7 @@ module _ (p : Problem) (laws : IsProblem p) (records : List Fields) (c : Cert) (
       }
 
 -- the verdict on what is read
-by_read : (p : Problem) (records : List Fields) (r : Result Cert ℕ) → IsProblem p → cert_of records ≡ r → IsRightVerdict p records (verdict_on_read p whole r)
+by_read : (p : Problem) (records : List Fields) (r : Result Cert ℕ) → IsProblem p → cert_of_records records ≡ r → IsRightVerdict p records (verdict_on_read p whole r)
 by_read p records (Ok c) laws e = by_failure p laws records c (cert_spelled records c e) (first_failure p whole c) refl
 by_read p records (Err number) laws e =
     let bad = cert_malformed records number e in
@@ -186,7 +186,7 @@ by_read p records (Err number) laws e =
     }
 
 pub right_verdict : (p : Problem) (records : List Fields) (v : Verdict) → IsProblem p → IsVerdictOf p whole records v → IsRightVerdict p records v
-right_verdict p records v laws is = subst (λ (x : Verdict). IsRightVerdict p records x) (sym is) (by_read p records (cert_of records) laws refl)
+right_verdict p records v laws is = subst (λ (x : Verdict). IsRightVerdict p records x) (sym is) (by_read p records (cert_of_records records) laws refl)
 
 -- ---- a share that accepts
 
@@ -200,9 +200,9 @@ apart best total number reason e = cc
 -- what a share accepts is a certificate that is valid in it
 pub share_accepts : (p : Problem) (share : Part) (records : List Fields) (best total : ℕ) → IsVerdictOf p share records (Accepted best total)
     → (c : Cert) × Spells records c × IsValidInShare p share c × (best ≡ c.best) × (total ≡ c.total)
-share_accepts p share records best total is = by (cert_of records) refl is
+share_accepts p share records best total is = by (cert_of_records records) refl is
   where
-    by : (r : Result Cert ℕ) → cert_of records ≡ r → Accepted best total ≡ verdict_on_read p share r
+    by : (r : Result Cert ℕ) → cert_of_records records ≡ r → Accepted best total ≡ verdict_on_read p share r
         → (c : Cert) × Spells records c × IsValidInShare p share c × (best ≡ c.best) × (total ≡ c.total)
     by (Ok c) e is =
         let one = accepts_one c (first_failure p share c) best total is in

@@ -4,11 +4,11 @@ use Rattle.std.specs.List.{slice_get, range_with_len, sum_by}
 use Rattle.std.proofs.lemmas.List.Sums.{sum_by-cons}
 use Rattle.std.proofs.lemmas.Option.{slice_get_read}
 use Rattle.tune_problem.specs.Problem.{Problem}
-use Rattle.tune_problem.specs.Valid.{listed_in}
+use Rattle.tune_problem.specs.Valid.{listed_by, listed_in}
 use Rattle.tune_problem.specs.declared.aim.Aim.{Aim}
 use Rattle.tune_problem.specs.declared.cert.Cert.{Cert}
 use Rattle.tune_problem.specs.declared.cert.Row.{Row}
-use Rattle.tune_cert.specs.Checks.{refers, same_reason, reason_at, first_wrong, first_of, at_record, fights_listed, listed_by}
+use Rattle.tune_cert.specs.Checks.{refers, same_reason, reason_at, first_wrong, first_of, at_record, listed_fights_of}
 use Rattle.tune_cert.specs.Spelling.{record_of}
 use Rattle.tune_cert.specs.declared.verdict.Reason.{Reason}
 
@@ -50,7 +50,7 @@ module _ (check : ℕ → Row → Option Reason) (rows : List Row) where
 
 -- the fights that the row of v lists, and those of the rows after it
 pub fights_step : (rows : List Row) (v e : ℕ) (row : Row) → v < e → slice_get rows v ≡ Some row
-    → fights_listed rows (range_with_len v (e - v)) ≡ listed_in row + fights_listed rows (range_with_len (v + 1) (e - (v + 1)))
+    → listed_fights_of rows (range_with_len v (e - v)) ≡ listed_in row + listed_fights_of rows (range_with_len (v + 1) (e - (v + 1)))
 fights_step rows v e row l at =
     let by : ℕ → ℕ = λ u. listed_by (slice_get rows u) in
     let here : by v ≡ listed_in row = ap listed_by at in

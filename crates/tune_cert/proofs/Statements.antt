@@ -13,7 +13,7 @@ use Rattle.tune_problem.specs.declared.statement.Answer.{Answer}
 use Rattle.tune_problem.specs.declared.statement.Answer.TheVariants.{Best as TheBest, NoneFrom}
 use Rattle.tune_problem.specs.declared.statement.Statement.{Statement}
 use Rattle.tune_cert.specs.CertText.{row_fields, rows_fields, answer_fields, statement_fields, cert_fields, stated}
-use Rattle.tune_cert.specs.Spelling.{IsRow, IsAnswer, IsCert, IsStatement, Spells, HasForm, IsMalformed, IsFirstMalformed, count_of, answer_of, row_of, record_of, rows_from, statement_of, cert_by, cert_of}
+use Rattle.tune_cert.specs.Spelling.{IsRow, IsAnswer, IsCert, IsStatement, Spells, HasForm, IsMalformed, IsFirstMalformed, count_of, answer_of, row_of, record_of, rows_from, statement_of, cert_by, cert_of_records}
 use Rattle.tune_cert.proofs.Forms.{count_spelled, count_read, best_spelled, answer_spelled, only_best, best_read, none_read, row_spelled, row_read}
 
 -- ---- steps
@@ -142,8 +142,8 @@ statement_spelled floors records s e =
 of_cert : (c : Cert) → IsCert c → IsStatement (stated c)
 of_cert c h = record { version = h.version; count = h.count; answer = (h.best, h.total); rows = h.rows; few = h.few }
 
-pub cert_read : (records : List Fields) (c : Cert) → Spells records c → cert_of records ≡ Ok c
-unfolding cert_of
+pub cert_read : (records : List Fields) (c : Cert) → Spells records c → cert_of_records records ≡ Ok c
+unfolding cert_of_records
 cert_read records c s = rw (s.text, statement_read false (stated c) (of_cert c s.cert) tt) refl
 
 abbrev with_answer : Statement → Answer → Statement
@@ -161,8 +161,8 @@ is_cert c h = record { version = h.version; count = h.count; best = h.answer.0; 
 pub one_spelled : (records : List Fields) (c d : Cert) → Spells records c → Spells records d → c ≡ d
 one_spelled records c d s t = same_Ok c d (sym (cert_read records c s) ∙ cert_read records d t)
 
-pub cert_spelled : (records : List Fields) (c : Cert) → cert_of records ≡ Ok c → Spells records c
-unfolding cert_of
+pub cert_spelled : (records : List Fields) (c : Cert) → cert_of_records records ≡ Ok c → Spells records c
+unfolding cert_of_records
 cert_spelled records c e =
     let w = went_on (statement_of false records) (λ (s : Statement). cert_by s s.answer) c e in
     let same : w.0 ≡ stated c = by_answer w.0 w.0.answer c refl w.2 in
@@ -310,8 +310,8 @@ no_best_answer : (s : Statement) (a : Answer) (n : ℕ) → cert_by s a ≡ Err 
 no_best_answer s (TheBest best) n e = absurd (cc)
 no_best_answer s (NoneFrom floor) n e = (floor, refl)
 
-pub cert_malformed : (records : List Fields) (n : ℕ) → cert_of records ≡ Err n → IsFirstMalformed records n
-unfolding cert_of
+pub cert_malformed : (records : List Fields) (n : ℕ) → cert_of_records records ≡ Err n → IsFirstMalformed records n
+unfolding cert_of_records
 cert_malformed records n e = elim (stopped (statement_of false records) (λ (s : Statement). cert_by s s.answer) n e) [
   | inl at ↦ statement_malformed records n at
   | inr on ↦
@@ -354,9 +354,9 @@ pub none_malformed : (records : List Fields) (c : Cert) → Spells records c →
 none_malformed records c s k (inl missing) = two_records c k missing.0 (subst (λ (r : List Fields). length r ≤ k) s.text missing.1)
 none_malformed records c s k (inr bad) = bad.2 (form_at c k bad.0 s.cert (subst (λ (r : List Fields). slice_get r k ≡ Some bad.0) s.text bad.1))
 
-pub malformed_read : (records : List Fields) (n : ℕ) → IsFirstMalformed records n → cert_of records ≡ Err n
-malformed_read records n h = by (cert_of records) refl
+pub malformed_read : (records : List Fields) (n : ℕ) → IsFirstMalformed records n → cert_of_records records ≡ Err n
+malformed_read records n h = by (cert_of_records records) refl
   where
-    by : (r : Result Cert ℕ) → cert_of records ≡ r → cert_of records ≡ Err n
+    by : (r : Result Cert ℕ) → cert_of_records records ≡ r → cert_of_records records ≡ Err n
     by (Err m) e = e ∙ ap Err (one_first records m n (cert_malformed records m e) h)
     by (Ok c) e = absurd (none_malformed records c (cert_spelled records c e) n h.malformed)

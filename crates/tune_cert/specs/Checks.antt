@@ -8,7 +8,7 @@ use Rattle.rc_instr.specs.declared.instruction.Instruction.{Instruction}
 use Rattle.tune_problem.specs.Parts.{part_first, part_end}
 use Rattle.tune_problem.specs.Problem.{Problem}
 use Rattle.tune_problem.specs.Optimum.{all_fights, beats}
-use Rattle.tune_problem.specs.Valid.{listed_total, listed_in}
+use Rattle.tune_problem.specs.Valid.{listed_total, listed_by}
 use Rattle.tune_problem.specs.Ranking.{contends}
 use Rattle.tune_problem.specs.Exact.{lists_all, listed_cap, listed_ranking}
 use Rattle.tune_problem.specs.declared.aim.Aim.{Aim}
@@ -155,14 +155,9 @@ wrong_same p c aim settings = first_wrong (reason_at (same_reason p c aim) c.row
 abbrev pub rows_failure : Problem → Cert → Option Aim → List ℕ → Option (ℕ × Reason)
 rows_failure p c aim settings = first_of (wrong_alone p c aim settings ∷ wrong_same p c aim settings ∷ [])
 
--- The number of fights that the row of setting v lists.
-abbrev pub listed_by : Option Row → ℕ
-listed_by None = 0
-listed_by (Some row) = listed_in row
-
 -- The number of fights that the rows of some settings list together.
-abbrev pub fights_listed : List Row → List ℕ → ℕ
-fights_listed rows settings = sum_by (λ v. listed_by (slice_get rows v)) settings
+abbrev pub listed_fights_of : List Row → List ℕ → ℕ
+listed_fights_of rows settings = sum_by (λ v. listed_by (slice_get rows v)) settings
 
 -- At most `listed` more fights were played, unless the count of fights would wrap around.
 abbrev pub PlaysAtMost : ArenaView → ArenaView → ℕ → Type 0

@@ -117,8 +117,8 @@ cert_by s (TheBest best) = Ok (record { version = s.version; count = s.count; be
 cert_by s (NoneFrom floor) = Err 1
 
 -- The certificate that records spell, or the index of the first malformed record.
-unfoldable pub cert_of : List Fields → Result Cert ℕ
-cert_of records = statement_of false records >>= λ s. cert_by s s.answer
+unfoldable pub cert_of_records : List Fields → Result Cert ℕ
+cert_of_records records = statement_of false records >>= λ s. cert_by s s.answer
 
 -- ---- what is spelled, and what is malformed
 

@@ -8,7 +8,7 @@ use Rattle.tune_problem.specs.declared.cert.Cert.{Cert}
 use Rattle.tune_problem.specs.declared.cert.Row.{Row}
 use Rattle.tune_problem.specs.declared.cert.Row.TheVariants.{Refused, Same, Cap}
 use Rattle.tune_problem.specs.declared.part.Part.{Part}
-use Rattle.tune_cert.specs.Spelling.{Spells, IsMalformed, IsFirstMalformed, record_of, cert_of}
+use Rattle.tune_cert.specs.Spelling.{Spells, IsMalformed, IsFirstMalformed, record_of, cert_of_records}
 use Rattle.tune_cert.specs.Checks.{row_reason, first_failure}
 use Rattle.tune_cert.specs.declared.verdict.Reason.{Reason}
 use Rattle.tune_cert.specs.declared.verdict.Reason.TheVariants.{Malformed, RowCount, BestRow, Version}
@@ -32,7 +32,7 @@ verdict_on_read p share (Err number) = Rejected number Malformed
 -- The verdict of a share on records: on the certificate that they spell, or else Malformed at the
 -- first malformed one.
 abbrev pub verdict_of : Problem → Part → List Fields → Verdict
-verdict_of p share records = verdict_on_read p share (cert_of records)
+verdict_of p share records = verdict_on_read p share (cert_of_records records)
 
 abbrev pub IsVerdictOf : Problem → Part → List Fields → Verdict → Type 0
 IsVerdictOf p share records verdict = verdict ≡ verdict_of p share records

@@ -4,7 +4,7 @@ ghost use Rattle.mars_core.specs.Arena.{IsBlank};
 ghost use Rattle.tables.specs.Records.{records_of};
 ghost use Rattle.tune_problem.specs.Parts.{whole, part};
 ghost use Rattle.tune_problem.specs.Problem.{problem_of};
-ghost use Rattle.tune_cert.specs.Checks.{wrong_alone, wrong_same, rows_failure, settings_between, share_settings, fights_listed, PlaysAtMost, is_version_of, has_row_count};
+ghost use Rattle.tune_cert.specs.Checks.{wrong_alone, wrong_same, rows_failure, settings_between, share_settings, listed_fights_of, PlaysAtMost, is_version_of, has_row_count};
 ghost use Rattle.tune_cert.specs.Verdict.{verdict_on, IsVerdictOf};
 ghost use Rattle.tune_cert.specs.Judgement.{is_answered, as_cert, judgement_on, judgement_of, IsOfSettings};
 
@@ -88,9 +88,10 @@ pub fn check_share<T: Watcher>(
 /// With `keep` a certificate that names a best setting has to show the first of the ranking too.
 /// The settings of which every fight is listed, by their own rows or by those to which they refer,
 /// are ranked by their listed totals. The cap of any other setting that assembles must not contend
-/// with the first `keep` of these (else `CapTooHigh`, as the last reason of its row). So whatever
-/// `check` rejects is rejected at the same record, or at one that is checked before it. All shares
-/// accept a certificate exactly if the whole does, each with the same answer and ranking.
+/// with the first `keep` of these (else `CapTooHigh`, as the last reason of its row). So a
+/// certificate with a best setting that `check` rejects is rejected at the same record, or at one
+/// that is checked before it. All shares accept a certificate exactly if the whole does, each with
+/// the same answer and ranking.
 ///
 /// Without a demand this is `check_share`. Reserves no more than that and the ranking.
 ///
@@ -131,7 +132,7 @@ fn check_rows_alone<T: Watcher>(
     ensures wrong { IfOk result (λ o. o ≡ wrong_alone (problem_of claim.now.inputs.now) claim.now.cert.now claim.now.aim (settings_between first end)) }
 
     // At most as many fights are played as these rows list.
-    ensures most { PlaysAtMost arena.old arena.new (fights_listed claim.now.cert.now.rows (settings_between first end)) }
+    ensures most { PlaysAtMost arena.old arena.new (listed_fights_of claim.now.cert.now.rows (settings_between first end)) }
 {
     let rows = claim.cert.rows.as_slice();
     for vector in first..end {
@@ -228,7 +229,7 @@ fn check_rows<T: Watcher>(
 
     // At most as many fights are played as the rows of the share list.
     ensures most { PlaysAtMost arena.old arena.new
-        (fights_listed claim.now.cert.now.rows (share_settings (part share.number share.shares) (problem_of claim.now.inputs.now).count)) }
+        (listed_fights_of claim.now.cert.now.rows (share_settings (part share.number share.shares) (problem_of claim.now.inputs.now).count)) }
 {
     let count = claim.inputs.count();
     let first = share.first(count);

@@ -8,8 +8,9 @@ use tune_problem::{Aim, Answer};
 /// optimum alone, as by `check`.
 #[derive(Clone, Copy, Debug, PartialEq, Eq)]
 pub struct Demand {
-    /// How many of the first of the ranking the rows have to show, 1 to 1000. With `floor`, the
-    /// ranking is of the settings that total it or more.
+    /// The rows have to show this many settings, from the first of the ranking on. With `floor`,
+    /// only settings that total it or more are ranked. Any number is taken; the laws say for 1 to
+    /// 1000 that the ranking is that of all settings.
     pub keep: Option<u32>,
     /// The floor that a certificate may say no setting reaches. Without `floor`, a certificate has
     /// to name a best setting.

@@ -8,7 +8,7 @@ ghost use Rattle.tune_problem.specs.Valid.{IsValid};
 ghost use Rattle.tune_problem.specs.declared.part.Part.{Part};
 ghost use Rattle.tune_problem.specs.declared.statement.Statement.{Statement};
 ghost use Rattle.tune_cert.specs.CertText.{cert_text, statement_text, statement_fields, stated};
-ghost use Rattle.tune_cert.specs.Spelling.{IsCert, IsStatement, IsFirstMalformed, Spells, statement_of, cert_of};
+ghost use Rattle.tune_cert.specs.Spelling.{IsCert, IsStatement, IsFirstMalformed, Spells, statement_of, cert_of_records};
 ghost use Rattle.tune_cert.specs.Shares.{IsValidInShare};
 ghost use Rattle.tune_cert.specs.Verdict.{verdict_on, IsVerdictOf, IsRightVerdict};
 ghost use Rattle.tune_cert.specs.Judgement.{judgement_on, accepted_with, judged, no_demand, MeetsDemand};
@@ -32,8 +32,8 @@ pub fn a_written_certificate_is_read()
 /// the certificate, or else the first malformed record.
 pub fn records_are_read_as_they_are_spelled()
     ensures statement { (records : List Fields) (s : Statement) → (statement_of true records ≡ Ok s) ↔ (IsStatement s × (records ≡ statement_fields s)) }
-    ensures cert { (records : List Fields) (c : Cert) → (cert_of records ≡ Ok c) ↔ Spells records c }
-    ensures fault { (records : List Fields) (n : ℕ) → (cert_of records ≡ Err n) ↔ IsFirstMalformed records n }
+    ensures cert { (records : List Fields) (c : Cert) → (cert_of_records records ≡ Ok c) ↔ Spells records c }
+    ensures fault { (records : List Fields) (n : ℕ) → (cert_of_records records ≡ Err n) ↔ IsFirstMalformed records n }
 {}
 
 /// States that records spell at most one certificate.

@@ -5,7 +5,7 @@ ghost use Rattle.std.specs.Option.{option_map};
 ghost use Rattle.csv.specs.Records.{fields_of};
 ghost use Rattle.rc_instr.specs.Results.{with_fault};
 ghost use Rattle.tables.specs.Records.{records_of};
-ghost use Rattle.tune_cert.specs.Spelling.{decimal_of, version_of, points_of, item_of, listing_of, count_of, best_of, none_of, answer_of, row_by, row_of, record_of, first_as, rows_from, statement_of, cert_by, cert_of, Returns};
+ghost use Rattle.tune_cert.specs.Spelling.{decimal_of, version_of, points_of, item_of, listing_of, count_of, best_of, none_of, answer_of, row_by, row_of, record_of, first_as, rows_from, statement_of, cert_by, cert_of_records, Returns};
 ghost use Rattle.tune_cert.specs.declared.fault.ReadFault.TheVariants.{Malformed};
 
 use crate::fault::ReadFault;
@@ -28,7 +28,7 @@ use tune_problem::{Answer, Best, Cert, Listing, Row, Rows, Statement};
 /// `Malformed` names the first record that is not of this form, or record 0 or 1 if it is missing.
 /// `OutOfMemory` if an allocation failed.
 pub fn read_cert(alloc: Global, bytes: &[u8]) -> Result<Cert, ReadFault>
-    ensures { Returns (λ c. c) result (with_fault Malformed (cert_of (records_of bytes.now))) }
+    ensures { Returns (λ c. c) result (with_fault Malformed (cert_of_records (records_of bytes.now))) }
 {
     let statement = read_statement(alloc, false, bytes)?;
     cert_by(statement)
@@ -132,7 +132,7 @@ fn read_rows(
     Ok(rows)
 }
 
-// Returns the record of a setting's row: 0 is that of the count, and 1 that of the best setting.
+// Returns the record of a setting's row. Record 0 has the count, and record 1 the answer.
 pub(crate) fn record_of(vector: u64) -> u64
     requires { vector ≤ 2 ^ 32 }
     ensures { result ≡ record_of vector }

@@ -14,10 +14,10 @@ ghost use Rattle.tune_cert.specs.Steps.{AreAssembled, listed_most};
 
 use crate::fault::CheckFault;
 use crate::verdict::Reason;
-use crate::warriors::assemble_once;
+use crate::warriors::share_warrior;
 use mars_core::{Arena, PackedCells};
 use mars_fight::MOST_POINTS;
-use rc_instr::{Instruction, Warrior};
+use rc_instr::Warrior;
 use std::alloc::Global;
 use tune_problem::{
     Aim, Best, Cert, Inputs, Ranking, Row, Rows, Watcher, beats, contends, fight_count,
@@ -192,28 +192,6 @@ fn check_cap<T: Watcher>(
     Ok(None)
 }
 
-fn is_same_code(one: &[Instruction], other: &[Instruction]) -> bool
-    ensures { IsTrue result ↔ (one.now ≡ other.now) }
-{
-    let mut rest = other;
-    for mine in one {
-        let Some((theirs, after)) = rest.split_first() else {
-            return false;
-        };
-        if !mine.is_same(theirs) {
-            return false;
-        }
-        rest = after;
-    }
-    rest.is_empty()
-}
-
-fn is_same_warrior(one: &Warrior, other: &Warrior) -> bool
-    ensures { IsTrue result ↔ (one.now ≡ other.now) }
-{
-    one.start() == other.start() && is_same_code(one.code(), other.code())
-}
-
 // Checks the row of setting `vector` that refers to setting `other`: that must have a cap row of
 // rising fights and the same warrior, and the cap must not beat the best for `vector` either. Takes
 // the listed points as they are: whether they are right is a check of the row of `other`.
@@ -235,14 +213,8 @@ fn check_reference(
     if other == vector {
         return Ok(Some(Reason::NotSame));
     }
-    let Some(own) = setting_warrior(alloc, claim.inputs, vector)? else {
-        return Ok(Some(Reason::NotSame));
-    };
-    assemble_once(alloc, claim.inputs, warriors, other)?;
-    let Some(theirs) = &warriors[other as usize] else {
-        return Ok(Some(Reason::NotSame));
-    };
-    if !is_same_warrior(&own, theirs) {
+    let shared = share_warrior(alloc, claim.inputs, warriors, vector, other)?;
+    if !shared {
         return Ok(Some(Reason::NotSame));
     }
     if !is_rising(listed) {

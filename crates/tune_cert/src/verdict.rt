@@ -7,8 +7,8 @@ use tune_problem::{Answer, Ranking};
 pub enum Reason {
     /// A record is malformed for its position, or record 0 or 1 is missing.
     Malformed,
-    /// The certificate does not have a row for each setting of the template, or claims another
-    /// count.
+    /// The certificate does not have a row for each setting of the template or part, or claims
+    /// another count.
     RowCount,
     /// The row of the best setting does not list every fight in order, or its points, each times
     /// the weight of the fight, do not add up to the total. In a check with a demand also: the

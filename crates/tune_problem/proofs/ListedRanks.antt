@@ -47,7 +47,7 @@ same_settings p aim among later xs on back h = record {
   members = all_map xs (λ x r. record {
     warrior = r.warrior;
     inside = r.inside;
-    visited = on x.vector r.visited;
+    is_among = on x.vector r.is_among;
     candidate = r.candidate;
     scores = r.scores;
     reaches = r.reaches;
@@ -124,7 +124,7 @@ module _ (p : Problem) (laws : IsProblem p) (c : Cert) (valid : IsValid p c) whe
       members = all_map (listed_ranking p aim c.rows) (λ x r. record {
         warrior = r.warrior;
         inside = r.inside;
-        visited = tt;
+        is_among = tt;
         candidate = r.candidate;
         scores = r.scores;
         reaches = r.reaches;

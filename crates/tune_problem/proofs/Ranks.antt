@@ -256,7 +256,7 @@ module _ (p : Problem) (aim : Aim) (is_aim : IsAim aim) (among later : ℕ → T
   more x r = record {
     warrior = r.warrior;
     inside = r.inside;
-    visited = grows x.vector r.visited;
+    is_among = grows x.vector r.is_among;
     candidate = r.candidate;
     scores = r.scores;
     reaches = r.reaches;
@@ -300,7 +300,7 @@ module _ (p : Problem) (aim : Aim) (is_aim : IsAim aim) (among later : ℕ → T
     }
 
     apart : AllByRecursion (Apart it) xs
-    apart = all_map xs (λ x r. fresh x.vector r.visited) h.members
+    apart = all_map xs (λ x r. fresh x.vector r.is_among) h.members
 
     order_all : InOrder (ranked it xs)
     order_all = order_ranked it xs apart h.order
@@ -311,7 +311,7 @@ module _ (p : Problem) (aim : Aim) (is_aim : IsAim aim) (among later : ℕ → T
       members = all_take (IsRanked p aim later) aim.keep (ranked it xs) (all_ranked (IsRanked p aim later) it xs (record {
         warrior = w;
         inside = inside;
-        visited = now;
+        is_among = now;
         candidate = is;
         scores = refl;
         reaches = reaching aim (total_of p w) v xs run;

@@ -12,9 +12,9 @@ use Rattle.tune_problem.specs.declared.watcher.Best.{Best}
 abbrev pub IsAim : Aim → Type 0
 IsAim aim = (1 ≤ aim.keep) × (aim.keep ≤ MOST_KEPT)
 
--- The best setting, whatever its total.
-abbrev pub the_best : Aim
-the_best = record { keep = 1; floor = 0 }
+-- The aim of a search for the best setting alone, whatever its total.
+abbrev pub best_alone : Aim
+best_alone = record { keep = 1; floor = 0 }
 
 -- ---- what contends
 
@@ -59,7 +59,7 @@ first_of ranking = slice_get ranking 0
 pub record IsRanked (p : Problem) (aim : Aim) (among : ℕ → Type 0) (best : Best) : Type 0 where
   pub warrior : WarriorView
   pub inside : best.vector < p.count
-  pub visited : among best.vector
+  pub is_among : among best.vector
   pub candidate : p.warrior best.vector ≡ Some warrior
   pub scores : total_of p warrior ≡ best.total
   pub reaches : aim.floor ≤ best.total

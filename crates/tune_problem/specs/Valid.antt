@@ -1,5 +1,5 @@
 -- Valid certificates.
-use Rattle.std.specs.Prelude.{◌≡◌, ◌≢◌, ◌⊎◌, ℕ, ◌+◌, ◌*◌, ◌<◌, ◌≤◌, false, List, [], ◌∷◌, length, map, slice_get, Some, None}
+use Rattle.std.specs.Prelude.{◌≡◌, ◌≢◌, ◌⊎◌, ℕ, ◌+◌, ◌*◌, ◌<◌, ◌≤◌, false, List, [], ◌∷◌, length, map, slice_get, Option, Some, None}
 use Rattle.std.specs.List.{sum_by}
 use Rattle.rc_instr.specs.Warrior.{WarriorView}
 use Rattle.tune_problem.specs.Problem.{Problem, CountsOnce}
@@ -30,6 +30,11 @@ abbrev pub listed_in : Row → ℕ
 listed_in Refused = 0
 listed_in (Same u) = 0
 listed_in (Cap row) = length row
+
+-- The number of fights that a row lists, and 0 without a row.
+abbrev pub listed_by : Option Row → ℕ
+listed_by None = 0
+listed_by (Some row) = listed_in row
 
 -- The number of fights that the rows list together.
 unfoldable pub listed_fights : List Row → ℕ

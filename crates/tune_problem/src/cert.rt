@@ -5,7 +5,7 @@ ghost use Rattle.std.specs.List.{slice_set};
 use std::alloc::{AllocError, Global};
 use std::marker::Model;
 
-/// A certificate as its text spells it. `check` decides whether it is right.
+/// A certificate as its text spells it. `tune_cert::check` decides whether it is right.
 #[derive(Debug, Drop)]
 pub struct Cert {
     /// The version, 1 or 2. Version 1 is for schedules in which every fight has the weight 1.
@@ -16,7 +16,8 @@ pub struct Cert {
     pub best: u32,
     /// The total that the certificate claims for it.
     pub total: u32,
-    /// A row for each setting, in the order of the settings.
+    /// The rows, in the order of the settings. If the certificate was read, there may be more or
+    /// fewer than `count`.
     pub rows: Rows,
 }
 
@@ -143,7 +144,8 @@ impl Rows {
     }
 }
 
-/// The answer of a search: the optimum, and the rows of a certificate for it.
+/// The answer of a search: the optimum, and the rows of a certificate for it. It is defined below
+/// the search, so that `tune_cert::write_cert` can take it.
 #[derive(Debug, Drop)]
 pub struct Found {
     /// The version of its certificate: 1 if every fight has the weight 1, and otherwise 2.

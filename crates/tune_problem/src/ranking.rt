@@ -1,5 +1,5 @@
 //! The first of the ranking: the settings that a search keeps.
-ghost use Rattle.std.specs.Prelude.{◌≡◌, ◌≤◌, ◌∷◌, ◌++◌, [], take, drop, length, OnOk};
+ghost use Rattle.std.specs.Prelude.{◌≡◌, ◌≤◌, ◌∷◌, ◌++◌, [], take, drop, length, OnErr, OnOk};
 ghost use Rattle.tune_problem.specs.Ranking.{beats_lead, contends, first_of, next_ranking, ranked};
 
 use crate::aim::Aim;
@@ -52,9 +52,10 @@ impl Ranking {
     /// Ranks setting `vector` with the total `cap`, if that contends: puts it before the first
     /// setting that it beats, and removes the last one if there are then more than `aim` keeps.
     ///
-    /// Fails only if out of memory.
+    /// Fails only if out of memory, and is then as it was.
     pub fn rank(&mut self, aim: Aim, cap: u32, vector: u32) -> Result<(), AllocError>
-        ensures { OnOk result (self.new ≡ next_ranking aim cap vector self.old) }
+        ensures ranked { OnOk result (self.new ≡ next_ranking aim cap vector self.old) }
+        ensures kept { OnErr result (self.new ≡ self.old) }
     {
         if !contends(aim, cap, vector, self.settings.as_slice()) {
             return Ok(());

@@ -22,6 +22,7 @@ pub struct Statement {
     pub count: u32,
     /// Which setting is the best, or that none reaches a floor.
     pub answer: Answer,
-    /// A row for each setting, in the order of the settings.
+    /// The rows, in the order of the settings. If the text was read, there may be more or fewer
+    /// than `count`.
     pub rows: Rows,
 }

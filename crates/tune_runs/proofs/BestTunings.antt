@@ -10,7 +10,7 @@ use Rattle.tune_problem.specs.Inputs.{InputsView, settings_of}
 use Rattle.tune_problem.specs.Problem.{Problem, problem_of}
 use Rattle.tune_problem.specs.Optimum.{candidates_of}
 use Rattle.tune_problem.specs.Valid.{cert_of}
-use Rattle.tune_problem.specs.Ranking.{first_of, the_best}
+use Rattle.tune_problem.specs.Ranking.{first_of, best_alone}
 use Rattle.tune_problem.specs.declared.watcher.Best.{Best}
 use Rattle.tune_problem.proofs.Certificates.{slice_get_some}
 use Rattle.tune_cert.specs.CertText.{cert_text, statement_text, statement_with}
@@ -40,7 +40,7 @@ pub no_candidates : (p : Problem) → NoneAssembles p → candidates_of p ≡ 0
 unfolding candidates_of
 no_candidates p none = none_count (λ v. is_some (p.warrior v)) 0 p.count (λ k l. let at : 0 + k ≡ k = omega arith in ap (λ v. is_some (p.warrior v)) at ∙ ap is_some (none k l))
 
-module _ (t : Texts) (method : Method) (i : InputsView) (f : Findings) (s : IsSearchFrom (problem_of i) the_best method f) (some : 0 < f.candidates) where
+module _ (t : Texts) (method : Method) (i : InputsView) (f : Findings) (s : IsSearchFrom (problem_of i) best_alone method f) (some : 0 < f.candidates) where
   -- some setting is ranked
   pub ranks_one : (best : Best) × (first_of f.ranking ≡ Some best)
   ranks_one = by_first (first_of f.ranking) refl
@@ -53,7 +53,7 @@ module _ (t : Texts) (method : Method) (i : InputsView) (f : Findings) (s : IsSe
 
   -- the report is that of what is found
   pub same_report : (best : Best) (values : List ℤ) → first_of f.ranking ≡ Some best → slice_get (settings_of i) best.vector ≡ Some values
-      → report_from i the_best f ≡ report_for i (found_of f best) values
+      → report_from i best_alone f ≡ report_for i (found_of f best) values
   same_report best values is at =
       let named : option_map (told i) (first_of f.ranking) ≡ Some (best, constants_of i.template.ranges.names values) =
       ap (option_map (told i)) is ∙ ap (λ (o : Option (List ℤ)). Some (best, constants_with i o)) at in
@@ -62,9 +62,9 @@ module _ (t : Texts) (method : Method) (i : InputsView) (f : Findings) (s : IsSe
         candidates = candidates_of (problem_of i);
         best = named j;
         floor = 0;
-        most = (report_from i the_best f).most;
+        most = (report_from i best_alone f).most;
         fights = f.fights;
-        all_fights = (report_from i the_best f).all_fights;
+        all_fights = (report_from i best_alone f).all_fights;
         ranking = [];
       }
 
@@ -72,7 +72,7 @@ module _ (t : Texts) (method : Method) (i : InputsView) (f : Findings) (s : IsSe
       → statement_text (statement_with f.version (answer_of 0 (first_of f.ranking)) f.rows) ≡ cert_text (cert_of (found_of f best))
   same_cert best is = ap (λ (o : Option Best). statement_text (statement_with f.version (answer_of 0 o) f.rows)) is
 
-pub writes_tuning : (t : Texts) (method : Method) (a b c d : Option (List ℕ)) → WritesTuningFrom t the_best method a b c d → WritesTuning t method a b c d
+pub writes_tuning : (t : Texts) (method : Method) (a b c d : Option (List ℕ)) → WritesTuningFrom t best_alone method a b c d → WritesTuning t method a b c d
 writes_tuning t method a b c d (i, f, (means, s, some), wrote_cert, wrote_report) =
     let best = ranks_one t method i f s some in
     let found : IsSearch (problem_of i) method (found_of f best.0) = as_found (problem_of i) method f best.0 best.1 s in
@@ -85,12 +85,12 @@ writes_tuning t method a b c d (i, f, (means, s, some), wrote_cert, wrote_report
       subst (λ (r : Report). Appends a b (report_text r)) (same_report t method i f s some best.0 values.0 best.1 values.1) wrote_report,
     )
 
-as_written : {X : Type 0} (r : Result X RunFault) (t : Texts) (method : Method) (a b c d : Option (List ℕ)) → OnOk r (WritesTuningFrom t the_best method a b c d) → OnOk r (WritesTuning t method a b c d)
+as_written : {X : Type 0} (r : Result X RunFault) (t : Texts) (method : Method) (a b c d : Option (List ℕ)) → OnOk r (WritesTuningFrom t best_alone method a b c d) → OnOk r (WritesTuning t method a b c d)
 as_written (Ok x) t method a b c d h = writes_tuning t method a b c d h
 as_written (Err e) t method a b c d h = tt
 
 -- the run of such a tuning is the run of a tuning
-pub is_tuning : {X : Type 0} (r : Result X RunFault) (t : Texts) (method : Method) (a b c d : OutletView) → IsTuneRun t (WritesTuningFrom t the_best method) r a b c d → IsTuneRun t (WritesTuning t method) r a b c d
+pub is_tuning : {X : Type 0} (r : Result X RunFault) (t : Texts) (method : Method) (a b c d : OutletView) → IsTuneRun t (WritesTuningFrom t best_alone method) r a b c d → IsTuneRun t (WritesTuning t method) r a b c d
 is_tuning r t method a b c d h = record {
   done = as_written r t method a.bytes b.bytes c.bytes d.bytes h.done;
   stopped = h.stopped;

@@ -2,7 +2,7 @@
 use Rattle.std.proofs.Common.{◌≡◌, ℕ, Bool, true, false, List, [], ◌∷◌, ◌++◌, refl, sym, ◌∙◌, ap, append_assoc, append-nil}
 use Rattle.std.specs.Prelude.{Option, Some, None, ◌==◌, if◌then◌else◌, codes}
 use Rattle.std.specs.Option.{option_map}
-use Rattle.tune_runs.specs.FightText.{after_word, parted, parted_or}
+use Rattle.tune_runs.specs.FightLines.{after_word, parted, parted_or}
 
 -- the parts of what stands behind the front, with the front before the first
 abbrev pub joined : List ℕ → Option (List ℕ × List ℕ) → Option (List ℕ × List ℕ)

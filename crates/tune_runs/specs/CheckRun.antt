@@ -44,9 +44,13 @@ abbrev pub check_line : Verdict → List ℕ
 check_line (Accepted best total) = codes "accepted" ++ best_text best total
 check_line (Rejected row reason) = codes "rejected row " ++ decimal row ++ 32 ∷ reason_text reason ++ 10 ∷ []
 
+-- `accepted share I/K`.
+unfoldable pub share_words : (number shares : ℕ) → List ℕ
+share_words number shares = codes "accepted share " ++ decimal number ++ codes "/" ++ decimal shares
+
 -- The line of a share: `accepted share I/K best W total T`, or the line of a rejection.
 abbrev pub share_line : Part → Verdict → List ℕ
-share_line share (Accepted best total) = codes "accepted share " ++ decimal share.number ++ codes "/" ++ decimal share.parts ++ best_text best total
+share_line share (Accepted best total) = share_words share.number share.parts ++ best_text best total
 share_line share (Rejected row reason) = check_line (Rejected row reason)
 
 abbrev pub accepts : Verdict → Bool
@@ -54,9 +58,6 @@ accepts (Accepted best total) = true
 accepts (Rejected row reason) = false
 
 -- ---- checks with a demand
-
-unfoldable pub share_words : (number shares : ℕ) → List ℕ
-share_words number shares = codes "accepted share " ++ decimal number ++ codes "/" ++ decimal shares
 
 -- `accepted`, or `accepted share I/K`.
 abbrev pub accepted_words : Option Part → List ℕ

@@ -2,6 +2,7 @@
 -- result line, a report and a check line say what came of them. A run over bytes writes exactly the
 -- text that the definitions give, or refuses with the first fault that applies.
 pub mod Runs
+pub mod FightLines
 pub mod FightText
 pub mod ResultLine
 pub mod AsmRun

@@ -36,8 +36,8 @@ unfoldable pub number_line : List ℕ → ℕ → List ℕ
 number_line word n = word ++ decimal n ++ 10 ∷ []
 
 -- `WORD PART of WHOLE`.
-unfoldable pub share_line : List ℕ → ℕ → ℕ → List ℕ
-share_line word part whole = word ++ decimal part ++ codes " of " ++ decimal whole ++ 10 ∷ []
+unfoldable pub of_line : List ℕ → ℕ → ℕ → List ℕ
+of_line word part whole = word ++ decimal part ++ codes " of " ++ decimal whole ++ 10 ∷ []
 
 -- For example ` STEP=-3`, with the space before it.
 unfoldable pub constant_text : List ℕ → ℤ → List ℕ
@@ -58,7 +58,7 @@ constants_line cs = codes "constants" ++ constants_or_none cs ++ 10 ∷ []
 
 -- The lines of a report without a best setting, since no candidate reaches the floor.
 unfoldable pub none_lines : (floor most : ℕ) → List ℕ
-none_lines floor most = codes "best -\n" ++ codes "constants -\n" ++ share_line (codes "total below ") floor most
+none_lines floor most = codes "best -\n" ++ codes "constants -\n" ++ of_line (codes "total below ") floor most
 
 -- The lines of the best setting, or of none.
 unfoldable pub best_lines : (floor most : ℕ) → Option Told → List ℕ
@@ -66,7 +66,7 @@ best_lines floor most None = none_lines floor most
 best_lines floor most (Some told) =
     number_line (codes "best ") told.0.vector
     ++ constants_line told.1
-    ++ share_line (codes "total ") told.0.total most
+    ++ of_line (codes "total ") told.0.total most
 
 -- `rank I setting W total T NAME=value ..`, with nothing after T if there are no constants.
 unfoldable pub rank_line : (rank : ℕ) → Told → List ℕ
@@ -85,7 +85,7 @@ report_text r =
     number_line (codes "vectors ") r.vectors
     ++ number_line (codes "candidates ") r.candidates
     ++ best_lines r.floor r.most r.best
-    ++ share_line (codes "fights ") r.fights r.all_fights
+    ++ of_line (codes "fights ") r.fights r.all_fights
     ++ rank_lines 1 r.ranking
 
 -- The report of what a search found. The best setting gives the constants these values.

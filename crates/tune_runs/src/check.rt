@@ -127,8 +127,8 @@ pub fn check_share_run<T: Watcher, W: Write>(
 /// the judgement. Returns whether it is accepted.
 ///
 /// With `floor` F, a certificate may also say that no setting totals F or more (`none,-,F`): the
-/// line is then `accepted none below F`. With `keep` above 1 a line `rank I setting W total T
-/// NAME=value ..` follows for each of the first of the ranking, which the rows then have to show.
+/// line is then `accepted none below F`. With `keep` the rows have to show the first `keep` of the
+/// ranking; if it is above 1, a line `rank I setting W total T NAME=value ..` follows for each.
 /// For a share the first line is `accepted share I/K ..`; the bytes meet the demand if all K shares
 /// accept them. The rest is as for `check_part_run`, which is this run without a demand.
 ///

@@ -14,8 +14,8 @@ use tune_cert::CheckFault;
 use tune_search::SearchFault;
 use tune_template::{TemplateFault, TemplateKind};
 
-/// Why a run ends without its answer. If several faults apply, the first in this order is returned,
-/// except that `Part` comes before `NoCandidate`, and `Position` last in a fight of two texts.
+/// Why a run ends without its answer. If several faults apply, the first is returned, in the order
+/// in which `# Errors` of the run has them.
 ///
 /// `FightText`, `Rules`, `Load` and `Position` are of fights; `Asm` is of an assembly, and of the
 /// candidate's text in a fight of two texts, whose other text is `Opponent` with index 0;
@@ -51,7 +51,7 @@ pub enum RunFault {
     /// The schedule has a bad record.
     #[error("schedule: {0}")]
     Schedule(ScheduleFault),
-    /// No setting of the template assembles.
+    /// No setting of the template, or of the part that is tuned, assembles.
     #[error("no setting of the template assembles")]
     NoCandidate,
     /// A writer failed.

@@ -2,7 +2,8 @@
 ghost use Rattle.std.specs.Prelude.{◌≡◌, ◌+◌, ◌==◌, length, position, MatchOption, MatchResult, Some, None, Ok, Err, count_by, true};
 ghost use Rattle.mars_core.specs.declared.side.Side.{Side};
 ghost use Rattle.rc_instr.specs.Rules.{rules_view};
-ghost use Rattle.tune_runs.specs.FightText.{cut_at, number_before, after_word, raw_rules, rules_line, mover_line, fight_line, parted, fight_words};
+ghost use Rattle.tune_runs.specs.FightLines.{cut_at, number_before, after_word, raw_rules, rules_line, mover_line, fight_line, parted};
+ghost use Rattle.tune_runs.specs.FightText.{fight_words};
 ghost use Rattle.tune_runs.specs.Given.{words_said};
 
 use crate::given::RawRules;
@@ -53,7 +54,7 @@ fn index_of(byte: u8, bytes: &[u8]) -> Option<usize>
 }
 
 // Cuts at the first `byte`: returns what comes before and after it.
-#[tactic(auto, using(std::proofs::lemmas::Slice::between_to_end), unfolding(crate::specs::FightText::cut_at))]
+#[tactic(auto, using(std::proofs::lemmas::Slice::between_to_end), unfolding(crate::specs::FightLines::cut_at))]
 fn cut_at(byte: u8, bytes: &[u8]) -> Option<(&[u8], &[u8])>
     ensures { MatchOption result (cut_at byte bytes.now ≡ None) (λ x. cut_at byte bytes.now ≡ Some (x.0.now, x.1.now)) }
 {
@@ -62,7 +63,7 @@ fn cut_at(byte: u8, bytes: &[u8]) -> Option<(&[u8], &[u8])>
 }
 
 // Takes a decimal and the `byte` after it off the front.
-#[tactic(auto, unfolding(crate::specs::FightText::number_before))]
+#[tactic(auto, unfolding(crate::specs::FightLines::number_before))]
 fn number_before(byte: u8, bytes: &[u8]) -> Option<(u32, &[u8])>
     ensures { MatchOption result (number_before byte bytes.now ≡ None) (λ x. number_before byte bytes.now ≡ Some (x.0, x.1.now)) }
 {
@@ -70,7 +71,7 @@ fn number_before(byte: u8, bytes: &[u8]) -> Option<(u32, &[u8])>
     Some((padded_decimal(digits)?, rest))
 }
 
-#[tactic(auto, unfolding(crate::specs::FightText::after_word))]
+#[tactic(auto, unfolding(crate::specs::FightLines::after_word))]
 fn after_word<'a>(word: &[u8], bytes: &'a [u8]) -> Option<&'a [u8]>
     ensures { MatchOption result (after_word word.now bytes.now ≡ None) (λ x. after_word word.now bytes.now ≡ Some x.now) }
 {
@@ -78,7 +79,7 @@ fn after_word<'a>(word: &[u8], bytes: &'a [u8]) -> Option<&'a [u8]>
 }
 
 // Takes five decimals off the front, with single spaces between them and a line feed at the end.
-#[tactic(auto, unfolding(crate::specs::FightText::raw_rules))]
+#[tactic(auto, unfolding(crate::specs::FightLines::raw_rules))]
 fn raw_rules(bytes: &[u8]) -> Option<(RawRules, &[u8])>
     ensures { MatchOption result (raw_rules bytes.now ≡ None)
         (λ x. raw_rules bytes.now ≡ Some (rules_view x.0.core x.0.cycles x.0.tasks x.0.length x.0.distance, x.1.now)) }
@@ -99,7 +100,7 @@ fn raw_rules(bytes: &[u8]) -> Option<(RawRules, &[u8])>
 }
 
 // Takes the line `rules M C P L D` off the front.
-#[tactic(auto, unfolding(crate::specs::FightText::rules_line))]
+#[tactic(auto, unfolding(crate::specs::FightLines::rules_line))]
 fn rules_line(bytes: &[u8]) -> Option<(RawRules, &[u8])>
     ensures { MatchOption result (rules_line bytes.now ≡ None)
         (λ x. rules_line bytes.now ≡ Some (rules_view x.0.core x.0.cycles x.0.tasks x.0.length x.0.distance, x.1.now)) }
@@ -108,7 +109,7 @@ fn rules_line(bytes: &[u8]) -> Option<(RawRules, &[u8])>
 }
 
 // Takes the side that moves first, `c` or `o`, and a line feed off the front.
-#[tactic(auto, unfolding(crate::specs::FightText::mover_line))]
+#[tactic(auto, unfolding(crate::specs::FightLines::mover_line))]
 fn mover_line(bytes: &[u8]) -> Option<(Side, &[u8])>
     ensures { MatchOption result (mover_line bytes.now ≡ None) (λ x. mover_line bytes.now ≡ Some (x.0, x.1.now)) }
 {
@@ -120,9 +121,9 @@ fn mover_line(bytes: &[u8]) -> Option<(Side, &[u8])>
 }
 
 // Takes the line `fight POSITION FIRST` off the front.
-#[tactic(auto, unfolding(crate::specs::FightText::fight_line))]
+#[tactic(auto, unfolding(crate::specs::FightLines::fight_line))]
 fn fight_line(bytes: &[u8]) -> Option<(u32, Side, &[u8])>
-    ensures { MatchOption result (fight_line bytes.now ≡ None) (λ x. fight_line bytes.now ≡ Some (x.0, x.1, x.2.now)) }
+    ensures { MatchOption result (fight_line bytes.now ≡ None) (λ x. fight_line bytes.now ≡ Some ((x.0, x.1), x.2.now)) }
 {
     let bytes = after_word(b"fight ", bytes)?;
     let (position, bytes) = number_before(b' ', bytes)?;

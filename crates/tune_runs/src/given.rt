@@ -27,7 +27,9 @@ pub struct RawRules {
 pub struct DuelTexts<'a> {
     /// The text of the candidate, which is loaded at address 0.
     pub candidate: &'a [u8],
+    /// The text of the opponent.
     pub opponent: &'a [u8],
+    /// The rules of the fight.
     pub rules: &'a Rules,
     /// The address at which the opponent is loaded.
     pub position: u32,
@@ -53,7 +55,9 @@ pub struct TuneTexts<'a> {
     pub opponents: &'a [Vec<u8>],
     /// A table of fights.
     pub schedule: &'a [u8],
+    /// The rules of all fights.
     pub rules: &'a Rules,
+    /// The part of the settings that is searched.
     pub part: Part,
 }
 

@@ -3,7 +3,7 @@
 ghost use Rattle.std.specs.Prelude.{◌≡◌, ◌≤◌, ◌⊎◌, ℕ, Bool, List, true, Err, IsTrue};
 ghost use Rattle.tune_problem.specs.Inputs.{InputsView};
 ghost use Rattle.tune_problem.specs.Problem.{problem_of};
-ghost use Rattle.tune_problem.specs.Ranking.{the_best};
+ghost use Rattle.tune_problem.specs.Ranking.{best_alone};
 ghost use Rattle.tune_problem.specs.Valid.{cert_of};
 ghost use Rattle.tune_problem.specs.declared.part.Part.{Part};
 ghost use Rattle.tune_problem.specs.declared.watcher.Best.{Best};
@@ -11,7 +11,8 @@ ghost use Rattle.tune_cert.specs.Spelling.{Spells};
 ghost use Rattle.tune_cert.specs.Verdict.{IsRightVerdict};
 ghost use Rattle.tune_runs.specs.TuneRun.{Texts, of_part, meaning_of, is_text_fault, Means, HasNoCandidate};
 ghost use Rattle.tune_runs.specs.CheckRun.{Accepts, check_line};
-ghost use Rattle.tune_runs.specs.Agreement.{Writer, Output, Gets, Tunes, TunesFrom, IsOutput, MayFind, written, Checks, ChecksCert, IsRightLine, Agree, ChecksFor, NamesAnswer, IsBestShown, IsBestOfAll, AreShownBelow, AreAllBelow, ChecksShare, AllAccept, AllName, AcceptsAsWhole};
+ghost use Rattle.tune_runs.specs.Agreement.{Writer, filled, Output, Gets, Tunes, TunesFrom, IsOutput, MayFind, written, Checks, ChecksCert, IsRightLine, Agree, ChecksFor, NamesAnswer, IsBestShown, IsBestOfAll, AreShownBelow, AreAllBelow, ChecksShare, AllAccept, AllName, AcceptsAsWhole};
+ghost use Rattle.tune_runs.specs.AimedRuns.{Asked, IsAsked, TunesAsked, ChecksAsked, AgreeAsked};
 
 use crate::fault::RunFault;
 use tune_cert::{Demand, Found, Verdict};
@@ -41,7 +42,7 @@ pub fn equal_tunings_write_equal_bytes()
 /// States that a tuning that keeps one setting and has the floor 0 writes what `WritesTuning` says:
 /// the certificate and the report of the optimum.
 pub fn a_tuning_without_a_floor_is_a_tuning()
-    ensures { (t : Texts) (method : Method) (report cert : Writer) → TunesFrom t the_best method report cert → Tunes t method report cert }
+    ensures { (t : Texts) (method : Method) (report cert : Writer) → TunesFrom t best_alone method report cert → Tunes t method report cert }
 {}
 
 /// States that the line of a check is that of the right verdict on the bytes, whoever made them:
@@ -56,6 +57,15 @@ pub fn a_check_writes_the_right_verdict()
 pub fn a_tuning_is_accepted_by_its_check()
     ensures { (t : Texts) (method : Method) (accepted : Bool) (report cert out : Writer)
         → Tunes t method report cert → ChecksCert t cert accepted out → IsTrue accepted × Agree t method report cert out }
+{}
+
+/// States that a check accepts the bytes that a tuning wrote with the same `keep` and the same
+/// `floor`, each given to both or to neither. Its lines name the best setting and the total of the
+/// report, or the floor that no setting reaches, and the ranking, if the report has one. So does a
+/// check of any share of the rows.
+pub fn a_tuning_with_an_aim_is_accepted_by_its_check()
+    ensures { (a : Asked) (bytes : List ℕ) (accepted : Bool) (report out : Writer) → IsAsked a
+        → TunesAsked a report (filled bytes) → ChecksAsked a bytes accepted out → (accepted ≡ true) × AgreeAsked a report out }
 {}
 
 /// States the certified optimum: if a tuning wrote its certificate and its report, and a check of

@@ -4,7 +4,6 @@
 //! the same texts name one setting and one total. In this API a setting is called a vector.
 #![tactic(auto)]
 
-pub mod aim_laws;
 mod asm;
 mod check;
 mod duel;
@@ -32,5 +31,5 @@ pub use setting::setting_run;
 pub use settings::settings_run;
 pub use tune::{tune_by_run, tune_from_run, tune_run};
 pub use tune_cert::{Demand, Share};
-pub use tune_problem::{Inputs, Part};
+pub use tune_problem::{Aim, Best, Inputs, Part, Silent, Standing, Watcher};
 pub use tune_search::Method;

@@ -179,10 +179,7 @@ fn accepted_share_line(
     ensures { IfOk result (λ line. line.items ≡ share_line (part share.number share.shares) (Verdict.Accepted best total)) }
 {
     let mut line = Vec::new(alloc);
-    line.extend_from_slice(b"accepted share ")?;
-    line.extend_from_slice(Buffer::new().format(share.number).as_bytes())?;
-    line.extend_from_slice(b"/")?;
-    line.extend_from_slice(Buffer::new().format(share.shares).as_bytes())?;
+    add_share(&mut line, share)?;
     add_best(&mut line, best, total)?;
     Ok(line)
 }

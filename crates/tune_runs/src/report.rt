@@ -6,7 +6,7 @@ ghost use Rattle.tune_template.specs.Instances.{constants_of};
 ghost use Rattle.tune_problem.specs.Problem.{problem_of};
 ghost use Rattle.tune_problem.specs.Optimum.{candidates_of, greatest_of};
 ghost use Rattle.tune_cert.specs.Judgement.{AreSettings};
-ghost use Rattle.tune_runs.specs.Report.{number_line, share_line, constant_text, constants_text, constants_or_none, constants_line, best_lines, none_lines, rank_line, rank_lines, told, told_if, report_text, report_from, IsSettingOf};
+ghost use Rattle.tune_runs.specs.Report.{number_line, of_line, constant_text, constants_text, constants_or_none, constants_line, best_lines, none_lines, rank_line, rank_lines, told, told_if, report_text, report_from, IsSettingOf};
 
 use itoa::Buffer;
 use rc_instr::OutOfMemory;
@@ -31,8 +31,8 @@ pub(crate) fn report_of(
     let mut text = Vec::new(alloc);
     add_number(&mut text, b"vectors ", inputs.count())?;
     add_number(&mut text, b"candidates ", found.candidates)?;
-    add_answer(&mut text, inputs, aim.floor, found.ranking.first())?;
-    add_share(
+    add_best_lines(&mut text, inputs, aim.floor, found.ranking.first())?;
+    add_of_line(
         &mut text,
         b"fights ",
         found.fights,
@@ -44,7 +44,7 @@ pub(crate) fn report_of(
 
 // Appends the lines of the best setting, or of none.
 #[tactic(auto, unfolding(crate::specs::Report::best_lines))]
-fn add_answer(
+fn add_best_lines(
     text: &mut Vec<u8>,
     inputs: &Inputs,
     floor: u32,
@@ -55,24 +55,24 @@ fn add_answer(
 {
     let most = greatest_total(inputs) as u64;
     match best {
-        None => add_none(text, floor, most),
+        None => add_none_lines(text, floor, most),
         Some(best) => {
             let values = inputs.vector(best.vector);
             add_number(text, b"best ", best.vector)?;
             add_constants(text, inputs.template().names(), values.as_slice())?;
-            add_share(text, b"total ", best.total as u64, most)
+            add_of_line(text, b"total ", best.total as u64, most)
         }
     }
 }
 
 // Appends the lines that no total reaches the floor.
 #[tactic(auto, unfolding(crate::specs::Report::none_lines))]
-fn add_none(text: &mut Vec<u8>, floor: u32, most: u64) -> Result<(), OutOfMemory>
+fn add_none_lines(text: &mut Vec<u8>, floor: u32, most: u64) -> Result<(), OutOfMemory>
     ensures { OnOk result (text.new.items ≡ text.old.items ++ none_lines floor most) }
 {
     text.extend_from_slice(b"best -\n")?;
     text.extend_from_slice(b"constants -\n")?;
-    add_share(text, b"total below ", floor as u64, most)
+    add_of_line(text, b"total below ", floor as u64, most)
 }
 
 // Appends a line for each setting of a ranking, if more than one is asked for.
@@ -141,9 +141,9 @@ pub(crate) fn add_number(text: &mut Vec<u8>, word: &[u8], number: u32) -> Result
 }
 
 // Appends the line `WORD PART of WHOLE`.
-#[tactic(auto, unfolding(crate::specs::Report::share_line))]
-fn add_share(text: &mut Vec<u8>, word: &[u8], part: u64, whole: u64) -> Result<(), OutOfMemory>
-    ensures { OnOk result (text.new.items ≡ text.old.items ++ share_line word.now part whole) }
+#[tactic(auto, unfolding(crate::specs::Report::of_line))]
+fn add_of_line(text: &mut Vec<u8>, word: &[u8], part: u64, whole: u64) -> Result<(), OutOfMemory>
+    ensures { OnOk result (text.new.items ≡ text.old.items ++ of_line word.now part whole) }
 {
     text.extend_from_slice(word)?;
     text.extend_from_slice(Buffer::new().format(part).as_bytes())?;

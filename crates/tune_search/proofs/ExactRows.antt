@@ -127,7 +127,7 @@ module _ (p : Problem) (laws : IsProblem p) (aim : Aim) (is_aim : IsAim aim) (st
     record {
       warrior = h.0.warrior;
       inside = h.0.inside;
-      visited = (omega (arith, h.0.inside, rows_are), listed_total p full.0.1, shown_full b h.0 full.0);
+      is_among = (omega (arith, h.0.inside, rows_are), listed_total p full.0.1, shown_full b h.0 full.0);
       candidate = h.0.candidate;
       scores = h.0.scores;
       reaches = h.0.reaches;

@@ -30,7 +30,7 @@ use Rattle.tune_search.proofs.Cached.{none_is}
 use Rattle.tune_search.proofs.Places.{lesser, place_below}
 use Rattle.tune_problem.specs.declared.aim.Aim.{Aim}
 use Rattle.tune_search.specs.declared.method.Method.{Method}
-use Rattle.tune_problem.specs.Ranking.{contends, IsAim, the_best, first_of}
+use Rattle.tune_problem.specs.Ranking.{contends, IsAim, best_alone, first_of}
 use Rattle.tune_problem.proofs.Ranks.{all_map, Beaten, beaten_later, behind_first}
 
 -- the version that a search writes is one that its certificate may have
@@ -329,7 +329,7 @@ module _ (p : Problem) (laws : IsProblem p) (start : p.start < p.count) (rules :
       }
 
 -- without a floor
-pub as_found : (p : Problem) (method : Method) (f : Findings) (best : Best) → first_of f.ranking ≡ Some best → IsSearchFrom p the_best method f → IsSearch p method (found_of f best)
+pub as_found : (p : Problem) (method : Method) (f : Findings) (best : Best) → first_of f.ranking ≡ Some best → IsSearchFrom p best_alone method f → IsSearch p method (found_of f best)
 as_found p method f best is s =
     let found : IsBestFrom p 0 (Some best) = subst (IsBestFrom p 0) is s.best in
     record {

@@ -19,7 +19,7 @@ use Rattle.tune_search.specs.Sharing.{HasRowOf, Shares, copies}
 use Rattle.tune_search.specs.Found.{IsSearch, copied_fights}
 use Rattle.tune_search.proofs.Unique.{apart_recent, none_of, recent_one, split_one, Apart}
 use Rattle.tune_search.specs.declared.method.Method.{Method}
-use Rattle.tune_problem.specs.Ranking.{the_best, first_of}
+use Rattle.tune_problem.specs.Ranking.{best_alone, first_of}
 
 abbrev Entry : Type 0
 Entry = ℕ × ℕ
@@ -104,10 +104,10 @@ version_one p m n a b = elim a [
 ]
 
 module _ (p : Problem) (method : Method) (f g : Found) (s : IsSearch p method f) (t : IsSearch p method g) where
-  fought_same : (v : ℕ) (w : WarriorView) → IsFought p the_best method f.rows v w → IsFought p the_best method g.rows v w → slice_get f.rows v ≡ slice_get g.rows v
+  fought_same : (v : ℕ) (w : WarriorView) → IsFought p best_alone method f.rows v w → IsFought p best_alone method g.rows v w → slice_get f.rows v ≡ slice_get g.rows v
   fought_same v w a b =
       let order = fight_order p v in
-      let fights : IsPermutation (played p w (take (enough p method (aim_at p the_best v) w order v (ranking_at p the_best v)) order)) a.row = a.listed.same in
+      let fights : IsPermutation (played p w (take (enough p method (aim_at p best_alone v) w order v (ranking_at p best_alone v)) order)) a.row = a.listed.same in
       let moved : IsPermutation a.row b.row = IsPermutation-trans _ _ _ (IsPermutation-sym _ _ fights) b.listed.same in
       let x = s.valid.right v (Cap a.row) a.at in
       let y = t.valid.right v (Cap b.row) b.at in
@@ -125,9 +125,9 @@ module _ (p : Problem) (method : Method) (f g : Found) (s : IsSearch p method f)
   row_same u v true same x y = record { row = x.1 ∙ same ∙ sym y.1; there = λ e. y.0; back = λ e. x.0 }
   row_same u v false same x y = record { row = x.1 ∙ sym y.1; there = λ e. absurd (x.0 e); back = λ e. absurd (y.0 e) }
 
-  shared_same : (u v : ℕ) (w : WarriorView) → Shares p the_best method f.rows f.copied u v w → Shares p the_best method g.rows g.copied u v w → Alike v
+  shared_same : (u v : ℕ) (w : WarriorView) → Shares p best_alone method f.rows f.copied u v w → Shares p best_alone method g.rows g.copied u v w → Alike v
   shared_same u v w a b =
-      row_same u v (copies p.start u v (first_of (ranking_at p the_best v))) (fought_same u w a.fought b.fought) a.row b.row
+      row_same u v (copies p.start u v (first_of (ranking_at p best_alone v))) (fought_same u w a.fought b.fought) a.row b.row
 
   never_both : (w : WarriorView) (u : ℕ) (us : List ℕ) → Has p w u us → NoneHas p w us → ⊥
   never_both w u us h none = none_of p w u h.front h.back (subst (NoneHas p w) h.split none) h.alike
@@ -153,7 +153,7 @@ module _ (p : Problem) (method : Method) (f g : Found) (s : IsSearch p method f)
               let apart : Apart p (x.1.front ++ x.0 ∷ x.1.back) = subst (Apart p) x.1.split (apart_recent p (capacity_of method) (place p.start v) a.recent a.is_recent) in
               let both : x.1.front ++ x.0 ∷ x.1.back ≡ y.1.front ++ y.0 ∷ y.1.back = sym x.1.split ∙ same ∙ y.1.split in
               let one : x.0 ≡ y.0 = (split_one p w x.0 y.0 x.1.back y.1.back x.1.front y.1.front x.1.alike y.1.alike apart both).0 in
-              shared_same y.0 v w (subst (λ (u : ℕ). Shares p the_best method f.rows f.copied u v w) one x.2) y.2
+              shared_same y.0 v w (subst (λ (u : ℕ). Shares p best_alone method f.rows f.copied u v w) one x.2) y.2
         ]
       ]
 

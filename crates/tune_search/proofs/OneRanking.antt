@@ -95,7 +95,7 @@ module _ (p : Problem) (aim : Aim) (is_aim : IsAim aim) (among : ℕ → Type 0)
   placed : (x : Best) (ys : List Best) → IsRanked p aim among x → IsRanking p aim among ys → Placed last ys x
   placed x ys m h =
       let here : In x ys ⊎ (contends aim x.total x.vector ys ≡ false) =
-      subst (λ (n : ℕ). In (record { total = n; vector = x.vector }) ys ⊎ (contends aim n x.vector ys ≡ false)) m.scores (h.others x.vector m.warrior m.inside m.visited m.candidate) in
+      subst (λ (n : ℕ). In (record { total = n; vector = x.vector }) ys ⊎ (contends aim n x.vector ys ≡ false)) m.scores (h.others x.vector m.warrior m.inside m.is_among m.candidate) in
       elim here [
         | inl inside ↦ inl inside
         | inr out ↦ elim (short_of aim x.total x.vector ys out) [

@@ -23,7 +23,7 @@ use Rattle.tune_search.proofs.ListedFights.{listed_is_row, listed_length, order_
 use Rattle.tune_search.proofs.OneAnswer.{same_lists}
 use Rattle.tune_search.proofs.Orders.{order_permutes}
 use Rattle.tune_search.proofs.Totals.{order_length}
-use Rattle.tune_problem.specs.Ranking.{the_best}
+use Rattle.tune_problem.specs.Ranking.{best_alone}
 
 -- it remembers no setting
 nothing : (u : ℕ) (front back : List ℕ) → [] ≡ front ++ u ∷ back → ⊥
@@ -51,7 +51,7 @@ row_played p w a (e ∷ row) h = let rest = row_played p w (e.0 + 1) row h.3 in 
 
 module _ (p : Problem) (f : Found) (s : IsSearch p PlayingAll f) where
   -- a setting that assembles is fought, and no copy
-  own : (v : ℕ) (w : WarriorView) → v < p.count → p.warrior v ≡ Some w → (f.copied ≢ Some v) × IsFought p the_best PlayingAll f.rows v w
+  own : (v : ℕ) (w : WarriorView) → v < p.count → p.warrior v ≡ Some w → (f.copied ≢ Some v) × IsFought p best_alone PlayingAll f.rows v w
   own v w l is =
       let h = s.shared v w l is in
       let none : h.recent ≡ [] = none_recent p (place p.start v) h.recent h.is_recent in
@@ -79,8 +79,8 @@ module _ (p : Problem) (f : Found) (s : IsSearch p PlayingAll f) where
         let order = fight_order p v in
         let permutes : IsPermutation (all_fights p) order = order_permutes p v laws in
         let many : length order ≡ p.fights = order_length p order permutes in
-        let all : take (enough p PlayingAll (aim_at p the_best v) w order v (ranking_at p the_best v)) order ≡ order =
-        ap (λ j. take j order) (all_enough p (aim_at p the_best v) w order v (ranking_at p the_best v)) ∙ take_all p.fights order (omega (arith, many)) in
+        let all : take (enough p PlayingAll (aim_at p best_alone v) w order v (ranking_at p best_alone v)) order ≡ order =
+        ap (λ j. take j order) (all_enough p (aim_at p best_alone v) w order v (ranking_at p best_alone v)) ∙ take_all p.fights order (omega (arith, many)) in
         let listed : IsListed p w order h.row = subst (λ (ks : List ℕ). IsListed p w ks h.row) all h.listed in
         let row : IsCapRow p w 0 h.row = listed_is_row p w order h.row (order_below p order permutes) listed in
         let indices : listed_indices h.row ≡ all_fights p = whole p laws w p.fights 0 h.row (omega arith) row (listed_length p w order h.row listed ∙ many) in

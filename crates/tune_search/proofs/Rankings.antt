@@ -61,7 +61,7 @@ module _ (p : Problem) (aim : Aim) (is_aim : IsAim aim) where
     members = all_map xs (λ x r. record {
       warrior = r.warrior;
       inside = r.inside;
-      visited = tt;
+      is_among = tt;
       candidate = r.candidate;
       scores = r.scores;
       reaches = r.reaches;

@@ -136,7 +136,7 @@ module _ (p : Problem) (laws : IsProblem p) (start : p.start < p.count) (rules :
               let here : IsRankingBy p aim k (x ∷ xs) = subst (λ (r : List Best). IsRankingBy p aim k r) e now.is_ranking in
               let no_copy : copies p.start u v (Some x) ≡ false = ap (λ r. copies p.start u v (first_of r)) (sym e) ∙ apart in
               ap (λ c. beats c v x.total x.vector) (u_whole run).0
-              ∙ shares_trails p.start u v x.total x.vector (total_of p w) u_earlier (let b : place p.start x.vector < k = here.members.0.visited in let q : place p.start v ≡ k = now.its_place in omega arith) no_copy
+              ∙ shares_trails p.start u v x.total x.vector (total_of p w) u_earlier (let b : place p.start x.vector < k = here.members.0.is_among in let q : place p.start v ≡ k = now.its_place in omega arith) no_copy
               (visited_behind p aim is_aim k (x ∷ xs) here u w u_inside u_before u_is)
 
       first_by : (run : Bool) → contends aim other.cap v g.ranking ≡ run → first_of (ranking_by aim other.cap v g.ranking run) ≡ first_of g.ranking

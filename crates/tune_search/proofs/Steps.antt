@@ -6,12 +6,12 @@ use Rattle.std.proofs.lemmas.List.Sums.{sum_by-set}
 use Rattle.rc_instr.specs.Rules.{RulesView}
 use Rattle.rc_instr.specs.Warrior.{WarriorView}
 use Rattle.tune_problem.specs.Problem.{Problem}
-use Rattle.tune_problem.specs.Valid.{listed_fights, listed_in}
+use Rattle.tune_problem.specs.Valid.{listed_by, listed_fights, listed_in}
 use Rattle.tune_problem.specs.declared.cert.Row.{Row}
 use Rattle.tune_problem.specs.declared.cert.Row.TheVariants.{Cap, Refused}
 use Rattle.tune_search.specs.Visits.{IsFought, place, visit}
 use Rattle.tune_search.specs.Sharing.{HasRowOf, IsExplained}
-use Rattle.tune_search.specs.Found.{copied_fights, listed_at}
+use Rattle.tune_search.specs.Found.{copied_fights}
 use Rattle.tune_search.specs.Findings.{IsFull}
 use Rattle.tune_search.specs.State.{IsKnown, IsWhole, is_filled}
 use Rattle.tune_problem.specs.declared.watcher.Best.{Best}
@@ -151,10 +151,10 @@ module _ (p : Problem) (rules : RulesView) (aim : Aim) (method : Method) (k v : 
       (f + listed_in row) + copied_fights after copied ≡ listed_fights after
   work_more f None e other = let more = sum_more in omega (arith, more)
   work_more f (Some u) e other =
-      let same : listed_at (slice_get after u) ≡ listed_at (slice_get rows u) = ap listed_at (slot_other rows v u row (λ same. other (ap Some same))) in
+      let same : listed_by (slice_get after u) ≡ listed_by (slice_get rows u) = ap listed_by (slot_other rows v u row (λ same. other (ap Some same))) in
       let more = sum_more in omega (arith, more, same)
 
   pub work_copied : (f : ℕ) → f + 0 ≡ listed_fights rows → f + copied_fights after (Some v) ≡ listed_fights after
   work_copied f e =
-      let same : listed_at (slice_get after v) ≡ listed_in row = ap listed_at (slot_same rows v row inside_rows) in
+      let same : listed_by (slice_get after v) ≡ listed_in row = ap listed_by (slot_same rows v row inside_rows) in
       let more = sum_more in omega (arith, more, same)

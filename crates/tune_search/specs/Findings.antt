@@ -52,20 +52,26 @@ abbrev pub IsFull : Problem → List Row → Best → Type 0
 IsFull p rows best = (u : ℕ) × (row : List (ℕ × ℕ)) × (slice_get rows u ≡ Some (Cap row)) × (length row ≡ p.fights)
     × ((u ≡ best.vector) ⊎ (slice_get rows best.vector ≡ Some (Same u)))
 
--- What a search by a method finds that is asked for the first of the ranking. The fields up to
--- `certified` take the place of `optimum`, `total_is` and `valid` of `IsSearch`. The others are
--- those of `IsSearch`, but a setting is dropped once its cap does not contend, and not once it does
--- not beat the lead.
+-- What a search by a method finds that is asked for the first of the ranking.
 pub record IsSearchFrom (p : Problem) (aim : Aim) (method : Method) (f : Findings) : Type 0 where
+  -- The ranking has the first of all settings that reach the floor, as many as the aim keeps.
   pub ranking : IsRanking p aim Any f.ranking
+  -- Each of them has a row with every fight, or one that refers to such a row.
   pub full : AllByRecursion (IsFull p f.rows) f.ranking
+  -- The first of them is the optimum. Without one no candidate reaches the floor.
   pub best : IsBestFrom p aim.floor (first_of f.ranking)
+  -- The rows are a valid certificate of it, or that no candidate reaches the floor.
   pub certified : IsCertified p aim.floor f.version f.rows (first_of f.ranking)
   pub version : IsOwnVersion p f.version
   pub count : f.candidates ≡ candidates_of p
   pub few : length f.rows ≤ MOST_SETTINGS
+  -- A setting that does not assemble has the row `Refused`.
   pub refused : (v : ℕ) → v < p.count → p.warrior v ≡ None → slice_get f.rows v ≡ Some Refused
+  -- A fought setting lists the fights that it played until its cap did not contend.
   pub fought : (v : ℕ) (w : WarriorView) → v < p.count → p.warrior v ≡ Some w → is_fought f.rows f.copied v ≡ true → IsFought p aim method f.rows v w
+  -- A candidate is fought exactly if no recent setting has its warrior, and else shares its fights.
   pub shared : (v : ℕ) (w : WarriorView) → v < p.count → p.warrior v ≡ Some w → IsVisited p aim method f.rows f.copied v w
+  -- At most one row is copied, that of a candidate.
   pub copied : (v : ℕ) → f.copied ≡ Some v → (v < p.count) × (p.warrior v ≢ None)
+  -- Every listed fight was played once, except those of the copied row.
   pub work : f.fights + copied_fights f.rows f.copied ≡ listed_fights f.rows

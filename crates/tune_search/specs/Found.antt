@@ -5,7 +5,7 @@ use Rattle.rc_instr.specs.Warrior.{WarriorView}
 use Rattle.tune_template.specs.Limits.{MOST_SETTINGS}
 use Rattle.tune_problem.specs.Problem.{Problem}
 use Rattle.tune_problem.specs.Optimum.{IsOptimum, HasTotal, candidates_of}
-use Rattle.tune_problem.specs.Valid.{IsOwnVersion, IsValid, listed_in, listed_fights, cert_of}
+use Rattle.tune_problem.specs.Valid.{IsOwnVersion, IsValid, listed_by, listed_fights, cert_of}
 use Rattle.tune_problem.specs.declared.cert.Found.{Found}
 use Rattle.tune_problem.specs.declared.cert.Row.{Row}
 use Rattle.tune_problem.specs.declared.cert.Row.TheVariants.{Refused, Cap}
@@ -14,7 +14,7 @@ use Rattle.tune_search.specs.Sharing.{IsVisited}
 use Rattle.tune_search.specs.declared.fault.SearchFault.{SearchFault}
 use Rattle.tune_search.specs.declared.fault.SearchFault.TheVariants.{NoCandidate}
 use Rattle.tune_search.specs.declared.method.Method.{Method}
-use Rattle.tune_problem.specs.Ranking.{the_best}
+use Rattle.tune_problem.specs.Ranking.{best_alone}
 
 abbrev pub is_cap : Option Row → Bool
 is_cap (Some (Cap row)) = true
@@ -41,14 +41,10 @@ pub record HasFought (p : Problem) (f : Found) (w : WarriorView) (v : ℕ) : Typ
 unfoldable pub fought_count : Found → ℕ
 fought_count f = count_by (was_fought f) (range_with_len 0 (length f.rows))
 
-abbrev pub listed_at : Option Row → ℕ
-listed_at None = 0
-listed_at (Some row) = listed_in row
-
 -- The number of fights that the copied row lists, 0 if there is none.
 abbrev pub copied_fights : List Row → Option ℕ → ℕ
 copied_fights rows None = 0
-copied_fights rows (Some v) = listed_at (slice_get rows v)
+copied_fights rows (Some v) = listed_by (slice_get rows v)
 
 -- No setting has a warrior.
 abbrev pub NoneAssembles : Problem → Type 0
@@ -71,10 +67,10 @@ pub record IsSearch (p : Problem) (method : Method) (f : Found) : Type 0 where
   -- a setting that does not assemble has the row `Refused`
   pub refused : (v : ℕ) → v < p.count → p.warrior v ≡ None → slice_get f.rows v ≡ Some Refused
   -- the fights of a fought setting are the first ones of its order, exactly as many as are enough
-  pub fought : (v : ℕ) (w : WarriorView) → v < p.count → p.warrior v ≡ Some w → was_fought f v ≡ true → IsFought p the_best method f.rows v w
+  pub fought : (v : ℕ) (w : WarriorView) → v < p.count → p.warrior v ≡ Some w → was_fought f v ≡ true → IsFought p best_alone method f.rows v w
   -- a setting is fought exactly if none of the settings that are recent at its visit has its
   -- warrior; otherwise it shares the fights of the one that has it
-  pub shared : (v : ℕ) (w : WarriorView) → v < p.count → p.warrior v ≡ Some w → IsVisited p the_best method f.rows f.copied v w
+  pub shared : (v : ℕ) (w : WarriorView) → v < p.count → p.warrior v ≡ Some w → IsVisited p best_alone method f.rows f.copied v w
   -- only a setting that assembles has a copied row; `shared` says whose row it copies
   pub copied : (v : ℕ) → f.copied ≡ Some v → (v < p.count) × (p.warrior v ≢ None)
   -- the number of fights played is that of the fights that all rows list, without the copied row's

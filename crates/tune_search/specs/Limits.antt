@@ -1,6 +1,6 @@
 -- The limit of a search.
 use Rattle.std.specs.Prelude.{ℕ}
 
--- the capacity of a search: the settings that its cache may hold
+-- The most settings that the cache of a search may hold.
 abbrev pub MOST_CAPACITY : ℕ
 MOST_CAPACITY = 65536

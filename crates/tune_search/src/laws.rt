@@ -9,7 +9,7 @@ ghost use Rattle.tune_search.specs.Visits.{ranking_after};
 ghost use Rattle.tune_search.specs.Ranking.{IsRankingBy};
 ghost use Rattle.tune_search.specs.Found.{IsSearch, NoneAssembles, HasFought, fought_count};
 ghost use Rattle.tune_search.specs.Findings.{IsSearchFrom, best_from, found_of};
-ghost use Rattle.tune_problem.specs.Ranking.{IsAim, the_best, first_of};
+ghost use Rattle.tune_problem.specs.Ranking.{IsAim, best_alone, first_of};
 ghost use Rattle.tune_problem.specs.Exact.{IsExact, listed_ranking};
 
 use crate::findings::Findings;
@@ -55,8 +55,8 @@ pub fn playing_all_lists_every_fight()
 /// States that what a search finds with keep 1 and the floor 0 is what `IsSearch` says, and that no
 /// setting assembles if it finds no best one.
 pub fn a_search_without_a_floor_is_a_search()
-    ensures found { (p : Problem) (method : Method) (f : Findings) (best : Best) → IsSearchFrom p the_best method f → first_of f.ranking ≡ Some best → IsSearch p method (found_of f best) }
-    ensures none { (p : Problem) (method : Method) (f : Findings) → IsSearchFrom p the_best method f → first_of f.ranking ≡ None → NoneAssembles p }
+    ensures found { (p : Problem) (method : Method) (f : Findings) (best : Best) → IsSearchFrom p best_alone method f → first_of f.ranking ≡ Some best → IsSearch p method (found_of f best) }
+    ensures none { (p : Problem) (method : Method) (f : Findings) → IsSearchFrom p best_alone method f → first_of f.ranking ≡ None → NoneAssembles p }
 {}
 
 /// States that a search with a floor finds the optimum if its total reaches the floor, and no best

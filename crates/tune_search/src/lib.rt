@@ -1,4 +1,4 @@
-//! The search for the optimum of a tuning.
+//! The search for the optimum of a tuning, and for the first of the ranking of its settings.
 #![tactic(auto)]
 
 mod cache;
@@ -8,15 +8,15 @@ mod fights;
 mod findings;
 mod fought;
 pub mod laws;
-mod lead;
 pub mod limits;
 mod method;
 mod order;
+mod sharing;
 mod state;
 mod tuning;
 
 pub use fault::SearchFault;
 pub use findings::Findings;
 pub use method::Method;
-pub use tune_problem::{Aim, Inputs, Ranking};
+pub use tune_problem::{Aim, Best, Found, Inputs, Ranking, Silent, Standing, Watcher};
 pub use tuning::{search, search_by, search_from};

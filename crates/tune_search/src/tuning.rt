@@ -1,5 +1,5 @@
-//! The search for the optimum.
-ghost use Rattle.std.specs.Prelude.{◌<◌, ◌≤◌, MatchResult};
+//! The search for the optimum, and for the first of the ranking.
+ghost use Rattle.std.specs.Prelude.{◌≡◌, ◌<◌, ◌≤◌, MatchResult};
 ghost use Rattle.tune_problem.specs.Problem.{problem_of};
 ghost use Rattle.tune_problem.specs.Ranking.{IsAim};
 ghost use Rattle.tune_search.specs.Limits.{MOST_CAPACITY};
@@ -9,11 +9,11 @@ ghost use Rattle.tune_search.specs.Findings.{IsSearchFrom};
 
 use crate::fault::SearchFault;
 use crate::findings::Findings;
-use crate::lead::standing;
 use crate::method::Method;
 use crate::state::State;
+use mars_core::{Arena, PackedCells};
 use std::alloc::Global;
-use tune_problem::{Aim, Found, Inputs, Silent, Watcher, part_size};
+use tune_problem::{Aim, Best, Found, Inputs, Silent, Standing, Watcher, part_size};
 
 /// Finds the optimum: the first setting of the template with the greatest total in the fights of
 /// the schedule. Plays only fights that can matter.
@@ -118,4 +118,22 @@ pub fn search_from<T: Watcher>(
         return Err(SearchFault::NoCandidate);
     }
     Ok(state.into_findings())
+}
+
+// Returns what a watcher is told after `settings` of `count` settings: the fights that the arena
+// has counted, and the lead.
+pub(crate) fn standing(
+    settings: u32,
+    count: u32,
+    arena: &Arena<PackedCells>,
+    lead: Option<Best>,
+) -> Standing
+    ensures { result ≡ record { settings = settings; count = count; fights = arena.now.fights; best = lead } }
+{
+    Standing {
+        settings,
+        count,
+        fights: arena.fights(),
+        best: lead,
+    }
 }

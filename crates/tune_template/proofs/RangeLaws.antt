@@ -2,6 +2,7 @@
 use Rattle.std.proofs.Common.{◌≡◌, ℕ, ◌+◌, ◌*◌, ◌/◌, ◌≤◌, ◌<◌, Bool, true, false, ◌&&◌, ◌||◌, not, List, [], ◌∷◌, ◌++◌, length, length-append, map, Option, Some, None, refl, sym, ◌∙◌, ap, arith, append_assoc, subst, nat_lt, drop}
 use Rattle.std.specs.Prelude.{ℤ, ◌-ℤ◌, int_lt, nat_le, Result, Ok, Err, if◌then◌else◌, All}
 use Rattle.std.specs.List.{filter}
+use Rattle.std.specs.Option.{ok_or}
 use Rattle.std.specs.Str.{bytes_eq}
 use Rattle.std.specs.Cmp.Lexicographic.{nat_list_eq_equiv}
 use Rattle.std.proofs.lemmas.Bool.{ltb-true}
@@ -15,10 +16,10 @@ use Rattle.rc_asm.specs.Limits.{MOST_BYTES}
 use Rattle.rc_asm.specs.Instructions.{natural}
 use Rattle.tune_template.specs.declared.span.Span.{Span}
 use Rattle.tune_template.specs.declared.fault.TemplateKind.{TemplateKind}
-use Rattle.tune_template.specs.declared.fault.TemplateKind.TheVariants.{DuplicateName, EmptyRange, StartOutside, TooManyConstants, TooManyVectors, TextTooLong}
+use Rattle.tune_template.specs.declared.fault.TemplateKind.TheVariants.{BadLine, DuplicateName, EmptyRange, StartOutside, TooManyConstants, TooManyVectors, TextTooLong}
 use Rattle.tune_template.specs.Limits.{MOST_CONSTANTS, MOST_SETTINGS}
 use Rattle.tune_template.specs.Lines.{lines_of, words_of, is_range_line}
-use Rattle.tune_template.specs.Ranges.{Ranges, ranges, name_checked, span_said, with_range, worded, next_range, vector_count, line_added, ranges_from, ranges_of, HasRanges, signed_number, step_number}
+use Rattle.tune_template.specs.Ranges.{Ranges, ranges, name_checked, span_of_words, with_range, range_of_words, next_range, vector_count, line_added, ranges_from, ranges_of, HasRanges, signed_number, step_number}
 use Rattle.tune_template.specs.Spans.{is_outside, span_of}
 use Rattle.tune_template.specs.Vectors.{vectors_of}
 use Rattle.tune_template.proofs.Counts.{count_push}
@@ -58,28 +59,29 @@ checked names name Free is e = by_among (is_among names name) refl e where
   by_among true a h = absurd (cc)
   by_among false a h = (is, a)
 
-said : (names : List (List ℕ)) (name : List ℕ) (low high : Option ℤ) (step : Option ℕ) (start : Option ℤ) (x : Span) → span_said names name low high step start ≡ Ok x → Passes names name x
-said names name (Some low) (Some high) (Some step) (Some start) x e =
-    let n = went_on (name_checked names (class_of name) name) (λ _. span_of low high step start) x e in
+span_passes : (names : List (List ℕ)) (name low high step start : List ℕ) (x : Span) → span_of_words names name low high step start ≡ Ok x → Passes names name x
+unfolding span_of_words
+span_passes names name low high step start x e =
+    let l = went_on (ok_or (signed_number low) BadLine) _ x e in
+    let h = went_on (ok_or (signed_number high) BadLine) _ x l.2 in
+    let b = went_on (ok_or (step_number step) BadLine) _ x h.2 in
+    let f = went_on (ok_or (signed_number start) BadLine) _ x b.2 in
+    let n = went_on (name_checked names (class_of name) name) (λ _. span_of l.0 h.0 b.0 f.0) x f.2 in
     let c = checked names name (class_of name) refl n.1 in
-    record { free = c.0; new = c.1; some = some_value low high step start x n.2 }
-said names name None high step start x e = cc
-said names name (Some low) None step start x e = cc
-said names name (Some low) (Some high) None start x e = cc
-said names name (Some low) (Some high) (Some step) None x e = cc
+    record { free = c.0; new = c.1; some = some_value l.0 h.0 b.0 f.0 x n.2 }
 
-worded_passes : (r : Ranges) (words : List (List ℕ)) (next : List ℕ × Span) → worded r words ≡ Ok next → (next.0 ≡ first_word words) × Passes r.names next.0 next.1
-unfolding worded
-worded_passes r [] next e = absurd (cc)
-worded_passes r (a ∷ []) next e = absurd (cc)
-worded_passes r (a ∷ b ∷ []) next e = absurd (cc)
-worded_passes r (a ∷ b ∷ c ∷ []) next e = absurd (cc)
-worded_passes r (a ∷ b ∷ c ∷ d ∷ []) next e = absurd (cc)
-worded_passes r (a ∷ b ∷ c ∷ d ∷ f ∷ []) next e =
-    let s = went_on (span_said r.names a (signed_number b) (signed_number c) (step_number d) (signed_number f)) (λ s. Ok (a, s)) next e in
+words_pass : (r : Ranges) (words : List (List ℕ)) (next : List ℕ × Span) → range_of_words r words ≡ Ok next → (next.0 ≡ first_word words) × Passes r.names next.0 next.1
+unfolding range_of_words
+words_pass r [] next e = absurd (cc)
+words_pass r (a ∷ []) next e = absurd (cc)
+words_pass r (a ∷ b ∷ []) next e = absurd (cc)
+words_pass r (a ∷ b ∷ c ∷ []) next e = absurd (cc)
+words_pass r (a ∷ b ∷ c ∷ d ∷ []) next e = absurd (cc)
+words_pass r (a ∷ b ∷ c ∷ d ∷ f ∷ []) next e =
+    let s = went_on (span_of_words r.names a b c d f) (λ s. Ok (a, s)) next e in
     let same : (a, s.0) ≡ next = let q = s.2 in cc in
-    subst (λ (n : List ℕ × Span). (n.0 ≡ a) × Passes r.names n.0 n.1) same (refl, said r.names a (signed_number b) (signed_number c) (step_number d) (signed_number f) s.0 s.1)
-worded_passes r (a ∷ b ∷ c ∷ d ∷ f ∷ g ∷ gs) next e = absurd (cc)
+    subst (λ (n : List ℕ × Span). (n.0 ≡ a) × Passes r.names n.0 n.1) same (refl, span_passes r.names a b c d f s.0 s.1)
+words_pass r (a ∷ b ∷ c ∷ d ∷ f ∷ g ∷ gs) next e = absurd (cc)
 
 -- the names so far, in order, and settings
 record Good (r : Ranges) : Type 0 where
@@ -118,10 +120,10 @@ distinct_push (n ∷ ns) m d s =
 one_more : (r : Ranges) (next : List ℕ × Span) (line : List ℕ) → Good r → next_range r line ≡ Ok next → Good (with_range r next) × (next.0 ≡ name_on line)
 one_more r next line g e =
     let n = went_on (check (nat_lt (length r.names) MOST_CONSTANTS) TooManyConstants) _ next e in
-    let w = went_on (worded r (words_of (drop 6 line))) _ next n.2 in
+    let w = went_on (range_of_words r (words_of (drop 6 line))) _ next n.2 in
     let m = went_on (check (nat_le (vector_count r.spans * w.0.1.count) MOST_SETTINGS) TooManyVectors) _ next w.2 in
     let same : w.0 ≡ next = let q = m.2 in cc in
-    let p = subst (λ (x : List ℕ × Span). (x.0 ≡ name_on line) × Passes r.names x.0 x.1) same (worded_passes r (words_of (drop 6 line)) w.0 w.1) in
+    let p = subst (λ (x : List ℕ × Span). (x.0 ≡ name_on line) × Passes r.names x.0 x.1) same (words_pass r (words_of (drop 6 line)) w.0 w.1) in
     let room : length r.names < MOST_CONSTANTS = ltb-true (length r.names) MOST_CONSTANTS (passed (nat_lt (length r.names) MOST_CONSTANTS) n.1) in (
       record {
         free = All-push (λ name. class_of name ≡ Free) r.names next.0 g.free p.1.free;

@@ -1,5 +1,7 @@
 -- The ranges of a template, line by line, or the first fault.
 use Rattle.std.specs.Prelude.{◌≡◌, ℕ, ◌+◌, ◌*◌, nat_le, nat_lt, ◌==◌, ℤ, pos, neg_ℤ, List, [], ◌∷◌, ◌++◌, length, drop, Option, Some, None, option_map, Result, Ok, Err, if◌then◌else◌}
+use Rattle.std.specs.Option.{ok_or}
+use Rattle.std.specs.Str.{byte}
 use Rattle.rc_text.specs.NameClasses.{class_of}
 use Rattle.rc_text.specs.declared.class.NameClass.{NameClass}
 use Rattle.rc_text.specs.declared.class.NameClass.TheVariants.{NoName, Reserved, Predefined, Free}
@@ -35,7 +37,7 @@ small_number word = if nat_le (length word) 5 then at_most (padded_decimal word)
 -- An optional minus and such a number.
 abbrev pub signed_number : List ℕ → Option ℤ
 signed_number [] = None
-signed_number (b ∷ word) = if b == 45 then option_map (λ n. neg_ℤ (pos n)) (small_number word) else option_map pos (small_number (b ∷ word))
+signed_number (b ∷ word) = if b == byte "-" then option_map (λ n. neg_ℤ (pos n)) (small_number word) else option_map pos (small_number (b ∷ word))
 
 -- A step is 1 to 65535.
 abbrev pub step_number : List ℕ → Option ℕ
@@ -57,30 +59,29 @@ name_checked names Reserved name = Err ReservedName
 name_checked names Predefined name = Err ReservedName
 name_checked names Free name = if is_among names name then Err DuplicateName else Ok tt
 
--- The span of the next constant: a word that is not a number is reported first, then the name's
--- fault, then the span's.
-abbrev pub span_said : List (List ℕ) → List ℕ → Option ℤ → Option ℤ → Option ℕ → Option ℤ → Result Span TemplateKind
-span_said names name (Some low) (Some high) (Some step) (Some start) = do
+-- The span of the next constant, from the five words of a range line. A word that is not a decimal
+-- is reported first, then the name's fault, then the span's.
+unfoldable pub span_of_words : List (List ℕ) → (name low high step start : List ℕ) → Result Span TemplateKind
+span_of_words names name low high step start = do
+  least ← ok_or (signed_number low) BadLine
+  most ← ok_or (signed_number high) BadLine
+  by ← ok_or (step_number step) BadLine
+  first ← ok_or (signed_number start) BadLine
   _ ← name_checked names (class_of name) name
-  span_of low high step start
-span_said names name _ _ _ _ = Err BadLine
+  span_of least most by first
 
--- The span of the next constant, from the five words of a line.
-abbrev pub span_worded : List (List ℕ) → (name low high step start : List ℕ) → Result Span TemplateKind
-span_worded names name low high step start = span_said names name (signed_number low) (signed_number high) (step_number step) (signed_number start)
-
--- Five words: NAME LOW HIGH STEP START.
-unfoldable pub worded : Ranges → List (List ℕ) → Result (List ℕ × Span) TemplateKind
-worded r (name ∷ low ∷ high ∷ step ∷ start ∷ []) = do
-  s ← span_worded r.names name low high step start
-  Ok (name, s)
-worded r _ = Err BadLine
+-- The range of five words: NAME LOW HIGH STEP START.
+unfoldable pub range_of_words : Ranges → List (List ℕ) → Result (List ℕ × Span) TemplateKind
+range_of_words r (name ∷ low ∷ high ∷ step ∷ start ∷ []) = do
+  span ← span_of_words r.names name low high step start
+  Ok (name, span)
+range_of_words r _ = Err BadLine
 
 -- The range that a range line adds to those so far, or its first fault.
 abbrev pub next_range : Ranges → List ℕ → Result (List ℕ × Span) TemplateKind
 next_range r line = do
   _ ← check (nat_lt (length r.names) MOST_CONSTANTS) TooManyConstants
-  next ← worded r (words_of (drop 6 line))
+  next ← range_of_words r (words_of (drop 6 line))
   _ ← check (nat_le (vector_count r.spans * next.1.count) MOST_SETTINGS) TooManyVectors
   Ok next
 

@@ -43,6 +43,7 @@ pub enum TemplateKind {
 pub struct TemplateFault {
     /// The line, from 1; 0 for `TextTooLong` and `OutOfMemory`.
     pub line: u64,
+    /// What is wrong with the line.
     pub kind: TemplateKind,
 }
 

@@ -12,6 +12,7 @@ mod template;
 mod vector;
 
 pub use fault::{TemplateFault, TemplateKind};
+pub use lines::is_range_line;
 pub use span::Span;
 pub use template::Template;
 pub use vector::Vector;

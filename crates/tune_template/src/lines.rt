@@ -33,8 +33,9 @@ pub(crate) fn first_word<'a>(line: &'a [u8]) -> Option<(&'a [u8], &'a [u8])>
     Some(word.split_at(word_len(word)))
 }
 
-// Checks for `;@tune` at the front, with a blank or nothing after it: `;@tuned` is a comment.
-pub(crate) fn is_range_line(line: &[u8]) -> bool
+/// Checks whether a line is a range line: `;@tune` at the front, with a blank or nothing after it.
+/// So `;@tuned` is a comment.
+pub fn is_range_line(line: &[u8]) -> bool
     ensures { result ≡ is_range_line line.now }
 {
     begins_with(b";@tune", line) && begins_blank(&line[6..])

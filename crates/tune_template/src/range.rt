@@ -8,7 +8,7 @@ ghost use Rattle.tune_template.specs.declared.fault.TemplateKind.TheVariants.{Ba
 ghost use Rattle.tune_template.specs.Faults.{Returns};
 ghost use Rattle.tune_template.specs.Limits.{MOST_CONSTANTS, MOST_SETTINGS};
 ghost use Rattle.tune_template.specs.Lines.{words_of};
-ghost use Rattle.tune_template.specs.Ranges.{Ranges, ranges, worded, name_checked, span_worded, with_range, next_range};
+ghost use Rattle.tune_template.specs.Ranges.{Ranges, ranges, range_of_words, name_checked, span_of_words, with_range, next_range};
 ghost use Rattle.tune_template.specs.Steps.{seen_ranges, HasValues, AreCounted};
 
 use crate::fault::{TemplateFault, TemplateKind};
@@ -70,7 +70,7 @@ impl Reading {
     }
 
     // Reads the constant of a range line and its span, which are the next ones.
-    #[tactic(auto, unfolding(crate::specs::Ranges::worded))]
+    #[tactic(auto, unfolding(crate::specs::Ranges::range_of_words))]
     pub(crate) fn next_range<'a>(&self, line: &'a [u8]) -> Result<(&'a [u8], Span), TemplateKind>
         requires line { 6 ≤ length line.now }
         requires counted { AreCounted (seen_ranges self.now) self.now.count }
@@ -85,7 +85,7 @@ impl Reading {
         let Some(words) = five_words(rest) else {
             return Err(TemplateKind::BadLine);
         };
-        let span = span_said(&self.names, &words)?;
+        let span = span_of_words(&self.names, &words)?;
         if u64::from(self.count) * u64::from(span.count) > limits::MOST_SETTINGS {
             return Err(TemplateKind::TooManyVectors);
         }
@@ -94,9 +94,9 @@ impl Reading {
 }
 
 // Splits a line into words. Returns `None` unless they are five.
-#[tactic(auto, unfolding(crate::specs::Ranges::worded))]
+#[tactic(auto, unfolding(crate::specs::Ranges::range_of_words))]
 fn five_words<'a>(line: &'a [u8]) -> Option<Words<'a>>
-    ensures { MatchOption result ((r : Ranges) → worded r (words_of line.now) ≡ Err BadLine)
+    ensures { MatchOption result ((r : Ranges) → range_of_words r (words_of line.now) ≡ Err BadLine)
         (λ w. words_of line.now ≡ w.name.now ∷ w.low.now ∷ w.high.now ∷ w.step.now ∷ w.start.now ∷ []) }
 {
     let (name, rest) = first_word(line)?;
@@ -145,21 +145,16 @@ fn check_name(names: &[Vec<u8>], name: &[u8]) -> Result<(), TemplateKind>
     }
 }
 
-// Checks the name and the numbers of a line. A word that is not a number comes before a bad name.
-fn span_said(names: &[Vec<u8>], words: &Words) -> Result<Span, TemplateKind>
-    ensures span { let w = words.now in result ≡ span_worded (map (λ n. n.items) names.now) w.name.now w.low.now w.high.now w.step.now w.start.now }
+// Makes the span of a line. Refuses a word that is not a decimal before a bad name.
+#[tactic(auto, unfolding(crate::specs::Ranges::span_of_words))]
+fn span_of_words(names: &[Vec<u8>], words: &Words) -> Result<Span, TemplateKind>
+    ensures span { let w = words.now in result ≡ span_of_words (map (λ n. n.items) names.now) w.name.now w.low.now w.high.now w.step.now w.start.now }
     ensures values { IfOk result HasValues }
 {
-    match (
-        signed_number(words.low),
-        signed_number(words.high),
-        step_number(words.step),
-        signed_number(words.start),
-    ) {
-        (Some(low), Some(high), Some(step), Some(start)) => {
-            check_name(names, words.name)?;
-            Span::try_new(low, high, step, start)
-        }
-        _ => Err(TemplateKind::BadLine),
-    }
+    let low = signed_number(words.low).ok_or(TemplateKind::BadLine)?;
+    let high = signed_number(words.high).ok_or(TemplateKind::BadLine)?;
+    let step = step_number(words.step).ok_or(TemplateKind::BadLine)?;
+    let start = signed_number(words.start).ok_or(TemplateKind::BadLine)?;
+    check_name(names, words.name)?;
+    Span::try_new(low, high, step, start)
 }

@@ -6,16 +6,17 @@ ghost use Rattle.tune_template.specs.Steps.{HasValues};
 
 use crate::fault::TemplateKind;
 
-/// The values of a constant: `low`, `low + step`, .., `count` of them. The start setting has the
-/// one at index `start`.
-///
-/// In a template `low` is -65535 to 65535, `step` 1 to 65535, `count` 1 to 131071, and `start` is
-/// below `count`.
+/// The values of a constant: `low`, `low + step`, .., `count` of them. The ranges are those of a
+/// template.
 #[derive(Clone, Copy, Debug)]
 pub struct Span {
+    /// The least value, -65535 to 65535.
     pub low: i32,
+    /// From one value to the next, 1 to 65535.
     pub step: u16,
+    /// How many values there are, 1 to 131071.
     pub count: u32,
+    /// The index of the value that the start setting has, below `count`.
     pub start: u32,
 }
 

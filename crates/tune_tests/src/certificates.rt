@@ -2,7 +2,7 @@
 ghost use Rattle.std.specs.Prelude.{◌≡◌, ◌<◌, ◌^◌, IfOk, length};
 ghost use Rattle.tune_cert.specs.Spelling.{IsVersion};
 
-use crate::searches::inputs_of;
+use crate::fixtures::inputs_of;
 use crate::writers::{Failing, PIECE};
 use mars_fight::MOST_POINTS;
 use rc_instr::Outlet;

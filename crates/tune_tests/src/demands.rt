@@ -1,21 +1,13 @@
 //! Tests of `check_for`, worked out by hand: each setting that assembles is an imp, which wins the
 //! first fight and ties the second, so its total is 4. A row that lists the tie alone has a cap of
-//! 4, and one that lists the win alone a cap of 6.
+//! 4, and one that lists the win alone a cap of 6. In the certificate of three warriors the last
+//! has not played its first fight.
 
-use crate::searches::inputs_of;
+use crate::fixtures::{FOUR_EQUAL, FOUR_EQUAL_CERT, THREE_UNEQUAL, THREE_UNEQUAL_CERT, inputs_of};
 use std::alloc::Global;
 use std::test::Fail;
 use tune_cert::{Demand, Judgement, Reason, Share, Silent, check_for};
 use tune_problem::{Answer, Best, Inputs};
-
-// Three imps with different warriors.
-const IMPS: &[u8] = b";@tune K 0 2 1 1\nMOV 0, 1\nDAT K";
-
-// Four settings with one warrior.
-const FOUR: &[u8] = b";@tune K 0 3 1 2\nMOV 0, 1";
-
-// A certificate of the three imps, in which the last has not played its first fight.
-const FIRST_TWO: &[u8] = b"cwcert,1,3\nbest,0,4\ncap,0,0:3 1:1\ncap,1,0:3 1:1\ncap,2,1:1\n";
 
 // What a check says: the answer and the ranking, or the record and the reason.
 #[derive(Drop)]
@@ -86,18 +78,18 @@ fn rejected(
 // Without `keep` there is no ranking.
 #[test]
 fn the_first_settings_are_shown(rt: HostRuntime) -> Result<(), Fail> {
-    let inputs = inputs_of(rt.alloc(), IMPS)?;
+    let inputs = inputs_of(rt.alloc(), THREE_UNEQUAL)?;
     assert!(rt;
-        shown(rt.alloc(), &inputs, 0, FIRST_TWO)?
+        shown(rt.alloc(), &inputs, 0, THREE_UNEQUAL_CERT)?
             .as_slice()
             .is_empty()
     );
     assert_eq!(rt;
-        shown(rt.alloc(), &inputs, 1, FIRST_TWO)?.as_slice(),
+        shown(rt.alloc(), &inputs, 1, THREE_UNEQUAL_CERT)?.as_slice(),
         [imp(0)].as_slice()
     );
     assert_eq!(rt;
-        shown(rt.alloc(), &inputs, 2, FIRST_TWO)?.as_slice(),
+        shown(rt.alloc(), &inputs, 2, THREE_UNEQUAL_CERT)?.as_slice(),
         [imp(0), imp(1)].as_slice()
     );
     Ok(())
@@ -106,9 +98,9 @@ fn the_first_settings_are_shown(rt: HostRuntime) -> Result<(), Fail> {
 // With two settings ranked, a third one may still come.
 #[test]
 fn fewer_settings_than_are_kept_leave_room(rt: HostRuntime) -> Result<(), Fail> {
-    let inputs = inputs_of(rt.alloc(), IMPS)?;
+    let inputs = inputs_of(rt.alloc(), THREE_UNEQUAL)?;
     assert_eq!(rt;
-        rejected(rt.alloc(), &inputs, 3, None, FIRST_TWO)?,
+        rejected(rt.alloc(), &inputs, 3, None, THREE_UNEQUAL_CERT)?,
         Some((4, Reason::CapTooHigh))
     );
     Ok(())
@@ -117,7 +109,7 @@ fn fewer_settings_than_are_kept_leave_room(rt: HostRuntime) -> Result<(), Fail> 
 // Setting 1 may total 4, and then comes before setting 2. It does not come before setting 0.
 #[test]
 fn a_cap_that_contends_is_too_high(rt: HostRuntime) -> Result<(), Fail> {
-    let inputs = inputs_of(rt.alloc(), IMPS)?;
+    let inputs = inputs_of(rt.alloc(), THREE_UNEQUAL)?;
     let cert: &[u8] = b"cwcert,1,3\nbest,0,4\ncap,0,0:3 1:1\ncap,1,1:1\ncap,2,0:3 1:1\n";
     assert_eq!(rt;
         shown(rt.alloc(), &inputs, 1, cert)?.as_slice(),
@@ -133,14 +125,13 @@ fn a_cap_that_contends_is_too_high(rt: HostRuntime) -> Result<(), Fail> {
 // A `same` row ranks with the total of the row that it names.
 #[test]
 fn equal_warriors_are_ranked(rt: HostRuntime) -> Result<(), Fail> {
-    let inputs = inputs_of(rt.alloc(), FOUR)?;
-    let cert: &[u8] = b"cwcert,1,4\nbest,0,4\ncap,0,0:3 1:1\nsame,1,2\ncap,2,0:3 1:1\nsame,3,2\n";
+    let inputs = inputs_of(rt.alloc(), FOUR_EQUAL)?;
     assert_eq!(rt;
-        shown(rt.alloc(), &inputs, 10, cert)?.as_slice(),
+        shown(rt.alloc(), &inputs, 10, FOUR_EQUAL_CERT)?.as_slice(),
         [imp(0), imp(1), imp(2), imp(3)].as_slice()
     );
     assert_eq!(rt;
-        shown(rt.alloc(), &inputs, 3, cert)?.as_slice(),
+        shown(rt.alloc(), &inputs, 3, FOUR_EQUAL_CERT)?.as_slice(),
         [imp(0), imp(1), imp(2)].as_slice()
     );
     Ok(())
@@ -150,7 +141,7 @@ fn equal_warriors_are_ranked(rt: HostRuntime) -> Result<(), Fail> {
 // does.
 #[test]
 fn a_same_row_contends_as_its_own_setting(rt: HostRuntime) -> Result<(), Fail> {
-    let inputs = inputs_of(rt.alloc(), FOUR)?;
+    let inputs = inputs_of(rt.alloc(), FOUR_EQUAL)?;
     let cert: &[u8] = b"cwcert,1,4\nbest,0,4\ncap,0,0:3 1:1\nsame,1,3\ncap,2,0:3 1:1\ncap,3,1:1\n";
     assert_eq!(rt;
         shown(rt.alloc(), &inputs, 1, cert)?.as_slice(),
@@ -166,10 +157,24 @@ fn a_same_row_contends_as_its_own_setting(rt: HostRuntime) -> Result<(), Fail> {
 // What does not reach the floor is not ranked, and need not be shown.
 #[test]
 fn a_floor_leaves_less_to_show(rt: HostRuntime) -> Result<(), Fail> {
-    let inputs = inputs_of(rt.alloc(), IMPS)?;
-    let reached = judged(rt.alloc(), &inputs, 2, Some(4), Share::whole(), FIRST_TWO)?;
+    let inputs = inputs_of(rt.alloc(), THREE_UNEQUAL)?;
+    let reached = judged(
+        rt.alloc(),
+        &inputs,
+        2,
+        Some(4),
+        Share::whole(),
+        THREE_UNEQUAL_CERT,
+    )?;
     assert_eq!(rt; reached.ranking.as_slice(), [imp(0), imp(1)].as_slice());
-    let missed = judged(rt.alloc(), &inputs, 3, Some(5), Share::whole(), FIRST_TWO)?;
+    let missed = judged(
+        rt.alloc(),
+        &inputs,
+        3,
+        Some(5),
+        Share::whole(),
+        THREE_UNEQUAL_CERT,
+    )?;
     assert_eq!(rt; missed.answer, Some(Answer::Best(imp(0))));
     assert!(rt; missed.ranking.as_slice().is_empty());
     Ok(())
@@ -177,7 +182,7 @@ fn a_floor_leaves_less_to_show(rt: HostRuntime) -> Result<(), Fail> {
 
 #[test]
 fn no_setting_reaches_the_floor(rt: HostRuntime) -> Result<(), Fail> {
-    let inputs = inputs_of(rt.alloc(), IMPS)?;
+    let inputs = inputs_of(rt.alloc(), THREE_UNEQUAL)?;
     let cert: &[u8] = b"cwcert,1,3\nnone,-,5\ncap,0,1:1\ncap,1,0:3 1:1\ncap,2,1:1\n";
     for keep in 0..4 {
         let said = judged(rt.alloc(), &inputs, keep, Some(5), Share::whole(), cert)?;
@@ -202,7 +207,7 @@ fn no_setting_reaches_the_floor(rt: HostRuntime) -> Result<(), Fail> {
 // A cap that is the floor reaches it.
 #[test]
 fn a_cap_of_the_floor_is_too_high(rt: HostRuntime) -> Result<(), Fail> {
-    let inputs = inputs_of(rt.alloc(), IMPS)?;
+    let inputs = inputs_of(rt.alloc(), THREE_UNEQUAL)?;
     let cert: &[u8] = b"cwcert,1,3\nnone,-,4\ncap,0,1:1\ncap,1,1:1\ncap,2,1:1\n";
     assert_eq!(rt;
         rejected(rt.alloc(), &inputs, 0, Some(4), cert)?,
@@ -214,10 +219,10 @@ fn a_cap_of_the_floor_is_too_high(rt: HostRuntime) -> Result<(), Fail> {
 // Of five shares of three settings some are empty.
 #[test]
 fn each_share_says_what_the_whole_does(rt: HostRuntime) -> Result<(), Fail> {
-    let inputs = inputs_of(rt.alloc(), IMPS)?;
+    let inputs = inputs_of(rt.alloc(), THREE_UNEQUAL)?;
     for number in 1..6 {
         let share = Share { number, shares: 5 };
-        let said = judged(rt.alloc(), &inputs, 2, None, share, FIRST_TWO)?;
+        let said = judged(rt.alloc(), &inputs, 2, None, share, THREE_UNEQUAL_CERT)?;
         assert_eq!(rt; said.answer, Some(Answer::Best(imp(0))));
         assert_eq!(rt; said.ranking.as_slice(), [imp(0), imp(1)].as_slice());
     }

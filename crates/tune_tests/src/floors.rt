@@ -5,16 +5,13 @@ ghost use Rattle.std.specs.Prelude.{◌<◌, ◌^◌, length};
 ghost use Rattle.tune_cert.specs.Spelling.{IsVersion};
 
 use crate::certificates::cert_of;
-use crate::searches::inputs_of;
+use crate::fixtures::{FOUR_EQUAL, THREE_UNEQUAL, inputs_of};
 use std::alloc::Global;
 use std::test::Fail;
 use tune_problem::{Best, Found, Silent};
 use tune_search::{Aim, Findings, Method, SearchFault, search_from};
 
 const DROPPING: Method = Method::Dropping { capacity: 4096 };
-
-// Three imps with different warriors. The search starts with the second.
-const IMPS: &[u8] = b";@tune K 0 2 1 1\nMOV 0, 1\nDAT K";
 
 // Writes a certificate of these rows that says of each that setting 9 is better.
 fn rows_of(alloc: Global, findings: Findings) -> Result<Vec<u8>, Fail>
@@ -43,7 +40,7 @@ fn rows_of(alloc: Global, findings: Findings) -> Result<Vec<u8>, Fail>
 
 #[test]
 fn a_total_of_the_floor_leads(rt: HostRuntime) -> Result<(), Fail> {
-    let inputs = inputs_of(rt.alloc(), IMPS)?;
+    let inputs = inputs_of(rt.alloc(), THREE_UNEQUAL)?;
     let findings = search_from(
         rt.alloc(),
         &inputs,
@@ -66,7 +63,7 @@ fn a_total_of_the_floor_leads(rt: HostRuntime) -> Result<(), Fail> {
 // second fight leaves them a cap of 4.
 #[test]
 fn no_setting_reaches_a_floor_of_5(rt: HostRuntime) -> Result<(), Fail> {
-    let inputs = inputs_of(rt.alloc(), IMPS)?;
+    let inputs = inputs_of(rt.alloc(), THREE_UNEQUAL)?;
     let findings = search_from(
         rt.alloc(),
         &inputs,
@@ -85,7 +82,7 @@ fn no_setting_reaches_a_floor_of_5(rt: HostRuntime) -> Result<(), Fail> {
 // does not copy its row.
 #[test]
 fn no_row_is_copied_below_a_floor(rt: HostRuntime) -> Result<(), Fail> {
-    let inputs = inputs_of(rt.alloc(), b";@tune K 0 3 1 2\nMOV 0, 1")?;
+    let inputs = inputs_of(rt.alloc(), FOUR_EQUAL)?;
     let findings = search_from(
         rt.alloc(),
         &inputs,
@@ -120,7 +117,7 @@ fn nothing_assembles_below_a_floor(rt: HostRuntime) -> Result<(), Fail> {
 // contends no more after its tie.
 #[test]
 fn the_first_two_are_kept(rt: HostRuntime) -> Result<(), Fail> {
-    let inputs = inputs_of(rt.alloc(), IMPS)?;
+    let inputs = inputs_of(rt.alloc(), THREE_UNEQUAL)?;
     let findings = search_from(
         rt.alloc(),
         &inputs,
@@ -144,7 +141,7 @@ fn the_first_two_are_kept(rt: HostRuntime) -> Result<(), Fail> {
 // All settings share the fights of the third, and rank with its total.
 #[test]
 fn settings_that_share_are_ranked(rt: HostRuntime) -> Result<(), Fail> {
-    let inputs = inputs_of(rt.alloc(), b";@tune K 0 3 1 2\nMOV 0, 1")?;
+    let inputs = inputs_of(rt.alloc(), FOUR_EQUAL)?;
     let findings = search_from(
         rt.alloc(),
         &inputs,

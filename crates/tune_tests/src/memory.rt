@@ -9,9 +9,12 @@ ghost use Rattle.rc_instr.specs.Warrior.{Fits};
 ghost use Rattle.tune_search.specs.Limits.{MOST_CAPACITY};
 
 use crate::certificates::{FIVE, cert_of, five_rows};
-use crate::searches::{THREE, inputs_of};
+use crate::fixtures::{
+    FIRST_REFUSED, FOUR_EQUAL, FOUR_EQUAL_CERT, THREE_UNEQUAL, THREE_UNEQUAL_CERT, TWO_IN_TURN,
+    inputs_of, small_rules,
+};
 use rc_asm::AsmKind;
-use rc_instr::{Outlet, Rules, write_loadfile};
+use rc_instr::{Outlet, write_loadfile};
 use std::alloc::Global;
 use std::test::Fail;
 use tune_cert::{Reason, Verdict, check, read_cert, write_cert};
@@ -58,22 +61,13 @@ fn a_template_is_read(rt: HostRuntime) -> Result<(), Fail> {
     Ok(())
 }
 
-// Four settings with one warrior.
-const IMPS: &[u8] = b";@tune K 0 3 1 2\nMOV 0, 1";
-
-// Three settings with unequal warriors.
-const ORDER: &[u8] = b";@tune K 0 2 1 1\nMOV 0, 1\nDAT K";
-
-// Six settings with two warriors.
-const HALF: &[u8] = b";@tune K 0 5 1 0\nMOV 0, 1\nDAT K % 2";
-
 // Templates, the index of a setting, and its load file or its fault.
 const INSTANCES: [(&[u8], u32, &[u8]); 12] = [
     (b"MOV 0, 1", 0, b"ORG 0\nMOV.I $0, $1\n"),
-    (IMPS, 3, b"ORG 0\nMOV.I $0, $1\n"),
-    (THREE, 0, b"line 3: division by zero"),
-    (THREE, 1, b"ORG 0\nMOV.I $0, $1\nDAT.F $0, $1\n"),
-    (ORDER, 2, b"ORG 0\nMOV.I $0, $1\nDAT.F $0, $2\n"),
+    (FOUR_EQUAL, 3, b"ORG 0\nMOV.I $0, $1\n"),
+    (FIRST_REFUSED, 0, b"line 3: division by zero"),
+    (FIRST_REFUSED, 1, b"ORG 0\nMOV.I $0, $1\nDAT.F $0, $1\n"),
+    (THREE_UNEQUAL, 2, b"ORG 0\nMOV.I $0, $1\nDAT.F $0, $2\n"),
     (
         b";@tune A 0 1 1 1\n;@tune B 5 9 2 9\nDAT A, B",
         4,
@@ -107,10 +101,10 @@ const INSTANCES: [(&[u8], u32, &[u8]); 12] = [
     (b";@tune K 0 1 1 0\nDAT k", 0, b"line 2: unknown name"),
 ];
 
-// Assembles the setting of index `index`. Returns its load file, or the text of its fault. The
-// rules are 16 cells, 20 cycles, 4 tasks, length 4 and distance 4.
+// Assembles the setting at `index` under `small_rules`. Returns its load file, or the text of its
+// fault.
 fn instance_text(alloc: Global, text: &[u8], index: u32) -> Result<Vec<u8>, Fail> {
-    let rules = Rules::try_new(16, 20, 4, 4, 4)?;
+    let rules = small_rules()?;
     let template = Template::read(alloc, text)?;
     if index >= template.count() {
         return Err(Fail::from("no such setting"));
@@ -146,21 +140,13 @@ fn found_by(alloc: Global, text: &[u8], capacity: u32) -> Result<(u64, Vec<u8>),
 // Templates, with the fights of a search that remembers 4096 settings, and the certificate.
 const SEARCHES: [(&[u8], u64, &[u8]); 4] = [
     (b"MOV 0, 1", 2, b"cwcert,1,1\nbest,0,4\ncap,0,0:3 1:1\n"),
+    (FOUR_EQUAL, 2, FOUR_EQUAL_CERT),
     (
-        IMPS,
-        2,
-        b"cwcert,1,4\nbest,0,4\ncap,0,0:3 1:1\nsame,1,2\ncap,2,0:3 1:1\nsame,3,2\n",
-    ),
-    (
-        THREE,
+        FIRST_REFUSED,
         3,
         b"cwcert,1,3\nbest,1,4\nrefused,0,-\ncap,1,0:3 1:1\ncap,2,1:1\n",
     ),
-    (
-        ORDER,
-        5,
-        b"cwcert,1,3\nbest,0,4\ncap,0,0:3 1:1\ncap,1,0:3 1:1\ncap,2,1:1\n",
-    ),
+    (THREE_UNEQUAL, 5, THREE_UNEQUAL_CERT),
 ];
 
 #[test]
@@ -176,7 +162,7 @@ fn search_finds_the_optimum(rt: HostRuntime) -> Result<(), Fail> {
 // The cache has room for both warriors.
 #[test]
 fn search_with_a_cache_of_two(rt: HostRuntime) -> Result<(), Fail> {
-    let (played, bytes) = found_by(rt.alloc(), HALF, 2)?;
+    let (played, bytes) = found_by(rt.alloc(), TWO_IN_TURN, 2)?;
     let cert =
         b"cwcert,1,6\nbest,0,4\ncap,0,0:3 1:1\ncap,1,1:1\nsame,2,0\nsame,3,1\nsame,4,0\nsame,5,1\n";
     assert_eq!(rt; played, 3);
@@ -208,7 +194,7 @@ fn read_cert_reads_every_row(rt: HostRuntime) -> Result<(), Fail> {
     Ok(())
 }
 
-// Certificates of `IMPS`, with the number of their rows, and their verdicts.
+// Certificates of `FOUR_EQUAL`, with the number of their rows, and their verdicts.
 const CERTS: [(&[u8], usize, Verdict); 8] = [
     (
         b"cwcert,1,4\nbest,0,4\ncap,0,0:3 1:1\nsame,1,2\ncap,2,0:3 1:1\nsame,3,2\n",
@@ -273,9 +259,9 @@ const CERTS: [(&[u8], usize, Verdict); 8] = [
     ),
 ];
 
-// Checks a certificate of `IMPS`.
+// Checks a certificate of `FOUR_EQUAL`.
 fn verdict_of(alloc: Global, cert: &[u8]) -> Result<Verdict, Fail> {
-    let inputs = inputs_of(alloc, IMPS)?;
+    let inputs = inputs_of(alloc, FOUR_EQUAL)?;
     Ok(check(alloc, &inputs, cert)?)
 }
 

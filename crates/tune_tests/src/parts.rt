@@ -1,13 +1,11 @@
 //! Tests of the parts of a template's settings, worked out by hand.
 ghost use Rattle.std.specs.Prelude.{◌<◌};
 
-use crate::opponents::{BOTH, two_opponents};
-use mars_fight::Schedule;
-use rc_instr::{Rules, write_loadfile};
+use crate::fixtures::inputs_of;
+use rc_instr::write_loadfile;
 use std::alloc::Global;
 use std::test::Fail;
 use tune_problem::{Inputs, Part, part_size, setting_warrior, start_setting};
-use tune_template::Template;
 
 // Parts of six settings, of which the search begins with the fifth: number and parts; the count of
 // settings, the index of the start setting, and the first setting.
@@ -21,15 +19,11 @@ const PARTS: [(u32, u32, u32, u32, [i64; 2]); 6] = [
 ];
 
 fn six_settings(alloc: Global) -> Result<Inputs, Fail> {
-    let rules = Rules::try_new(16, 20, 4, 4, 4)?;
-    let template = Template::read(alloc, b";@tune A 0 2 1 2\n;@tune B 5 6 1 5\nDAT A, B")?;
-    let opponents = two_opponents(alloc, &rules)?;
-    let schedule = Schedule::read(alloc, BOTH, 2, &rules)?;
-    Ok(Inputs::new(template, opponents, schedule, rules))
+    inputs_of(alloc, b";@tune A 0 2 1 2\n;@tune B 5 6 1 5\nDAT A, B")
 }
 
-// Whether a part has this count of settings, this start setting and this first setting.
-fn is_as(part: &Inputs, count: u32, start: u32, first: [i64; 2]) -> bool {
+// Checks that a part has this count of settings, this start setting and this first setting.
+fn has_settings(part: &Inputs, count: u32, start: u32, first: [i64; 2]) -> bool {
     prove!(0 < part.count());
     (part_size(part), start_setting(part)) == (count, start)
         && (part.count(), part.start_number()) == (count, start)
@@ -40,7 +34,10 @@ fn is_as(part: &Inputs, count: u32, start: u32, first: [i64; 2]) -> bool {
 fn parts_have_their_settings(rt: HostRuntime) -> Result<(), Fail> {
     for &(number, parts, count, start, first) in &PARTS {
         match six_settings(rt.alloc())?.part(Part { number, parts }) {
-            Some(part) => assert!(rt; is_as(&part, count, start, first), "{number}/{parts}"),
+            Some(part) => assert!(rt;
+                has_settings(&part, count, start, first),
+                "{number}/{parts}"
+            ),
             None => assert!(rt; false, "{number}/{parts}"),
         }
     }

@@ -1,16 +1,11 @@
-//! Tests of `check_share`.
+//! Tests of `check_share`, on certificates of four settings with one warrior. In the valid one
+//! settings 1 and 3 refer to setting 2.
 
-use crate::searches::inputs_of;
+use crate::fixtures::{FOUR_EQUAL, FOUR_EQUAL_CERT, inputs_of};
 use std::alloc::Global;
 use std::test::Fail;
 use tune_cert::{Reason, Share, Silent, Verdict, check_share};
 use tune_problem::Inputs;
-
-// Four settings with one warrior, which beats the first opponent and ties with the second.
-const FOUR: &[u8] = b";@tune K 0 3 1 2\nMOV 0, 1";
-
-// A valid certificate of them. Settings 1 and 3 refer to setting 2.
-const CERT: &[u8] = b"cwcert,1,4\nbest,0,4\ncap,0,0:3 1:1\nsame,1,2\ncap,2,0:3 1:1\nsame,3,2\n";
 
 // Damaged certificates, and what the two shares of two say. The first takes the fights of setting 2
 // as listed when it checks the row of setting 1.
@@ -100,11 +95,14 @@ fn verdict_of(
 // More shares than settings leave some empty; these too see the first records and the best row.
 #[test]
 fn a_valid_certificate_is_accepted_in_each_share(rt: HostRuntime) -> Result<(), Fail> {
-    let inputs = inputs_of(rt.alloc(), FOUR)?;
+    let inputs = inputs_of(rt.alloc(), FOUR_EQUAL)?;
     for &shares in &[1, 2, 3, 4, 7, 4_294_967_295] {
-        assert_eq!(rt; verdict_of(rt.alloc(), &inputs, 1, shares, CERT)?, ACCEPTED);
         assert_eq!(rt;
-            verdict_of(rt.alloc(), &inputs, shares, shares, CERT)?,
+            verdict_of(rt.alloc(), &inputs, 1, shares, FOUR_EQUAL_CERT)?,
+            ACCEPTED
+        );
+        assert_eq!(rt;
+            verdict_of(rt.alloc(), &inputs, shares, shares, FOUR_EQUAL_CERT)?,
             ACCEPTED
         );
     }
@@ -113,7 +111,7 @@ fn a_valid_certificate_is_accepted_in_each_share(rt: HostRuntime) -> Result<(), 
 
 #[test]
 fn a_share_sees_its_own_rows(rt: HostRuntime) -> Result<(), Fail> {
-    let inputs = inputs_of(rt.alloc(), FOUR)?;
+    let inputs = inputs_of(rt.alloc(), FOUR_EQUAL)?;
     for &(cert, first, second) in &DAMAGED {
         assert_eq!(rt; verdict_of(rt.alloc(), &inputs, 1, 2, cert)?, first);
         assert_eq!(rt; verdict_of(rt.alloc(), &inputs, 2, 2, cert)?, second);
@@ -124,7 +122,7 @@ fn a_share_sees_its_own_rows(rt: HostRuntime) -> Result<(), Fail> {
 // Of five shares of four settings the first is empty.
 #[test]
 fn an_empty_share_sees_the_best_row(rt: HostRuntime) -> Result<(), Fail> {
-    let inputs = inputs_of(rt.alloc(), FOUR)?;
+    let inputs = inputs_of(rt.alloc(), FOUR_EQUAL)?;
     let cert: &[u8] = b"cwcert,1,4\nbest,0,5\ncap,0,0:3 1:1\nsame,1,2\ncap,2,0:3 1:1\nsame,3,2\n";
     let want = Verdict::Rejected {
         row: 1,

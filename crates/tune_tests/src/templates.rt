@@ -2,7 +2,7 @@
 //! worked out by hand.
 ghost use Rattle.std.specs.Prelude.{◌<◌};
 
-use crate::searches::inputs_of;
+use crate::fixtures::inputs_of;
 use std::test::Fail;
 use tune_template::Template;
 

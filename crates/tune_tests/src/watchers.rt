@@ -1,11 +1,11 @@
 //! Tests of what searches and checks tell their watchers.
 
-use crate::searches::{THREE, inputs_of};
+use crate::fixtures::{FIRST_REFUSED, FOUR_EQUAL, FOUR_EQUAL_CERT, THREE_UNEQUAL, inputs_of};
 use std::process::Abort;
 use std::test::Fail;
-use tune_cert::{Best, Share, Standing, Verdict, Watcher, check_share};
+use tune_cert::{Best, Demand, Share, Standing, Verdict, Watcher, check_for, check_share};
 use tune_problem::Inputs;
-use tune_search::{Method, search_by};
+use tune_search::{Aim, Method, search_by, search_from};
 
 // A watcher that keeps the first four standings, and counts all. `heard` stays true if `hear`
 // gets 1, 2, .. and each standing has the last of these.
@@ -90,8 +90,8 @@ fn a_check_stops_at_what_is_wrong(rt: HostRuntime) -> Result<(), Fail> {
     Ok(())
 }
 
-// Setting 1 of `THREE`, an imp with the total 4.
-const IMP: Option<Best> = Some(Best {
+// Setting 1 of `FIRST_REFUSED`, an imp.
+const SECOND: Option<Best> = Some(Best {
     vector: 1,
     total: 4,
 });
@@ -99,7 +99,7 @@ const IMP: Option<Best> = Some(Best {
 // Setting 1 is visited first. Setting 0 does not assemble.
 #[test]
 fn a_search_tells_how_far_it_is(rt: HostRuntime) -> Result<(), Fail> {
-    let inputs = inputs_of(rt.alloc(), THREE)?;
+    let inputs = inputs_of(rt.alloc(), FIRST_REFUSED)?;
     let mut notes = Notes::new();
     search_by(
         rt.alloc(),
@@ -108,9 +108,9 @@ fn a_search_tells_how_far_it_is(rt: HostRuntime) -> Result<(), Fail> {
         &mut notes,
     )?;
     let want = [
-        after(1, 3, 2, IMP),
-        after(2, 3, 2, IMP),
-        after(3, 3, 3, IMP),
+        after(1, 3, 2, SECOND),
+        after(2, 3, 2, SECOND),
+        after(3, 3, 3, SECOND),
         None,
     ];
     notes.expect(&rt, want, 3)
@@ -119,13 +119,82 @@ fn a_search_tells_how_far_it_is(rt: HostRuntime) -> Result<(), Fail> {
 // Setting 1 is visited first here too.
 #[test]
 fn a_search_that_plays_all_tells_how_far_it_is(rt: HostRuntime) -> Result<(), Fail> {
-    let inputs = inputs_of(rt.alloc(), THREE)?;
+    let inputs = inputs_of(rt.alloc(), FIRST_REFUSED)?;
     let mut notes = Notes::new();
     search_by(rt.alloc(), &inputs, Method::PlayingAll, &mut notes)?;
     let want = [
-        after(1, 3, 2, IMP),
-        after(2, 3, 2, IMP),
-        after(3, 3, 4, IMP),
+        after(1, 3, 2, SECOND),
+        after(2, 3, 2, SECOND),
+        after(3, 3, 4, SECOND),
+        None,
+    ];
+    notes.expect(&rt, want, 3)
+}
+
+// Setting 1 is visited first, then setting 0, which comes before it. Setting 2 is dropped after one
+// fight.
+#[test]
+fn a_search_for_two_settings_tells_the_first(rt: HostRuntime) -> Result<(), Fail> {
+    let inputs = inputs_of(rt.alloc(), THREE_UNEQUAL)?;
+    let mut notes = Notes::new();
+    search_from(
+        rt.alloc(),
+        &inputs,
+        Aim { keep: 2, floor: 0 },
+        Method::Dropping { capacity: 1 },
+        &mut notes,
+    )?;
+    let first = Some(Best {
+        vector: 0,
+        total: 4,
+    });
+    let want = [
+        after(1, 3, 2, SECOND),
+        after(2, 3, 4, first),
+        after(3, 3, 5, first),
+        None,
+    ];
+    notes.expect(&rt, want, 3)
+}
+
+// The second of two shares has settings 1 and 2.
+#[test]
+fn a_check_of_a_share_tells_how_far_it_is(rt: HostRuntime) -> Result<(), Fail> {
+    let inputs = inputs_of(rt.alloc(), FIRST_REFUSED)?;
+    let cert: &[u8] = b"cwcert,1,3\nbest,1,4\nrefused,0,-\ncap,1,0:3 1:1\ncap,2,1:1\n";
+    let share = Share {
+        number: 2,
+        shares: 2,
+    };
+    let mut notes = Notes::new();
+    let verdict = check_share(rt.alloc(), &inputs, share, cert, &mut notes)?;
+    assert_eq!(rt; verdict, Verdict::Accepted { best: 1, total: 4 });
+    let want = [after(1, 2, 2, SECOND), after(2, 2, 3, SECOND), None, None];
+    notes.expect(&rt, want, 2)
+}
+
+// Such a certificate names no best setting.
+#[test]
+fn a_check_without_a_best_setting_tells_none(rt: HostRuntime) -> Result<(), Fail> {
+    let inputs = inputs_of(rt.alloc(), THREE_UNEQUAL)?;
+    let cert: &[u8] = b"cwcert,1,3\nnone,-,5\ncap,0,1:1\ncap,1,0:3 1:1\ncap,2,1:1\n";
+    let demand = Demand {
+        keep: None,
+        floor: Some(5),
+    };
+    let mut notes = Notes::new();
+    check_for(
+        rt.alloc(),
+        &inputs,
+        demand,
+        Share::whole(),
+        cert,
+        &mut notes,
+    )?;
+    let want = [
+        after(1, 3, 1, None),
+        after(2, 3, 3, None),
+        after(3, 3, 4, None),
         None,
     ];
     notes.expect(&rt, want, 3)
@@ -134,10 +203,15 @@ fn a_search_that_plays_all_tells_how_far_it_is(rt: HostRuntime) -> Result<(), Fa
 // Rows that refer to other settings are checked last, and no fight is played for them.
 #[test]
 fn a_check_tells_how_far_it_is(rt: HostRuntime) -> Result<(), Fail> {
-    let inputs = inputs_of(rt.alloc(), b";@tune K 0 3 1 2\nMOV 0, 1")?;
-    let cert: &[u8] = b"cwcert,1,4\nbest,0,4\ncap,0,0:3 1:1\nsame,1,2\ncap,2,0:3 1:1\nsame,3,2\n";
+    let inputs = inputs_of(rt.alloc(), FOUR_EQUAL)?;
     let mut notes = Notes::new();
-    let verdict = check_share(rt.alloc(), &inputs, Share::whole(), cert, &mut notes)?;
+    let verdict = check_share(
+        rt.alloc(),
+        &inputs,
+        Share::whole(),
+        FOUR_EQUAL_CERT,
+        &mut notes,
+    )?;
     assert_eq!(rt; verdict, Verdict::Accepted { best: 0, total: 4 });
     let best = Some(Best {
         vector: 0,

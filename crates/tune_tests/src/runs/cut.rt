@@ -1,7 +1,9 @@
 //! Each run on writers that take some pieces of its text and then fail, or then take no byte; and
 //! on writers that fail at once, if it refuses its input.
-use crate::runs::memory::IMPS;
-use crate::runs::tuning::{BOTH, ORDER, ORDER_CERT, ORDER_REPORT, both_opponents};
+use crate::fixtures::{
+    BOTH, THREE_UNEQUAL, THREE_UNEQUAL_CERT, THREE_UNEQUAL_REPORT, both_opponents, small_rules,
+};
+use crate::runs::memory::FIGHT_OF_IMPS;
 use crate::writers::{Broken, Failing, PIECE};
 use mars_fight::{ScheduleFault, ScheduleFaultKind};
 use rc_asm::{AsmFault, AsmKind};
@@ -24,7 +26,7 @@ fn is_cut(ended: Result<(), RunFault>, taken: &[u8], writes: usize, text: &[u8])
 
 #[test]
 fn an_assembly_is_cut(rt: HostRuntime) -> Result<(), Fail> {
-    let rules = Rules::try_new(16, 20, 4, 4, 4)?;
+    let rules = small_rules()?;
     for writes in 0..4usize {
         for fails in [true, false] {
             let mut out = Outlet::new(Failing::after(rt.alloc(), writes, fails));
@@ -42,7 +44,7 @@ fn a_fight_is_cut(rt: HostRuntime) {
     for writes in 0..4usize {
         for fails in [true, false] {
             let mut out = Outlet::new(Failing::after(rt.alloc(), writes, fails));
-            let result = fight_run(rt.alloc(), IMPS, &mut out);
+            let result = fight_run(rt.alloc(), FIGHT_OF_IMPS, &mut out);
             let bytes = out.into_inner().taken;
             assert!(rt;
                 is_cut(result, bytes.as_slice(), writes, b"tie 1 turns 40\n"),
@@ -52,13 +54,21 @@ fn a_fight_is_cut(rt: HostRuntime) {
     }
 }
 
-// Checks the certificate of `ORDER` on a writer. Returns the result and what was written.
+// Checks the certificate of `THREE_UNEQUAL` on a writer. Returns the result and what was written.
 fn checked(alloc: Global, writer: Failing) -> Result<(Result<(), RunFault>, Vec<u8>), Fail> {
-    let rules = Rules::try_new(16, 20, 4, 4, 4)?;
+    let rules = small_rules()?;
     let opponents = both_opponents(alloc)?;
     let mut out = Outlet::new(writer);
     let texts = opponents.as_slice();
-    let result = check_run(alloc, ORDER, texts, BOTH, &rules, ORDER_CERT, &mut out);
+    let result = check_run(
+        alloc,
+        THREE_UNEQUAL,
+        texts,
+        BOTH,
+        &rules,
+        THREE_UNEQUAL_CERT,
+        &mut out,
+    );
     let bytes = out.into_inner().taken;
     match result {
         Ok(_) => Ok((Ok(()), bytes)),
@@ -81,16 +91,16 @@ fn a_check_is_cut(rt: HostRuntime) -> Result<(), Fail> {
 // What a tuning returned, and what it wrote as a report and as a certificate.
 type Tuned = (Result<(), RunFault>, Vec<u8>, Vec<u8>);
 
-// Tunes `ORDER` on two writers.
+// Tunes `THREE_UNEQUAL` on two writers.
 fn tuned(alloc: Global, report: Failing, cert: Failing) -> Result<Tuned, Fail> {
-    let rules = Rules::try_new(16, 20, 4, 4, 4)?;
+    let rules = small_rules()?;
     let opponents = both_opponents(alloc)?;
     let mut report = Outlet::new(report);
     let mut cert = Outlet::new(cert);
     let texts = opponents.as_slice();
     let result = tune_run(
         alloc,
-        ORDER,
+        THREE_UNEQUAL,
         texts,
         BOTH,
         &rules,
@@ -110,7 +120,7 @@ fn a_certificate_is_cut(rt: HostRuntime) -> Result<(), Fail> {
             let report = Failing::after(rt.alloc(), 100, true);
             let (result, report, cert) = tuned(rt.alloc(), report, cert)?;
             assert!(rt;
-                is_cut(result, cert.as_slice(), writes, ORDER_CERT),
+                is_cut(result, cert.as_slice(), writes, THREE_UNEQUAL_CERT),
                 "{writes}"
             );
             assert_eq!(rt; report.is_empty(), writes < 9, "{writes}");
@@ -126,7 +136,7 @@ fn a_certificate_is_not_flushed(rt: HostRuntime) -> Result<(), Fail> {
     let report = Failing::after(rt.alloc(), 100, true);
     let (result, report, cert) = tuned(rt.alloc(), report, cert)?;
     assert_eq!(rt; result, Err(RunFault::Write));
-    assert_eq!(rt; cert.as_slice(), ORDER_CERT);
+    assert_eq!(rt; cert.as_slice(), THREE_UNEQUAL_CERT);
     assert!(rt; report.is_empty());
     Ok(())
 }
@@ -140,10 +150,10 @@ fn a_report_is_cut(rt: HostRuntime) -> Result<(), Fail> {
             let report = Failing::after(rt.alloc(), writes, fails);
             let (result, report, cert) = tuned(rt.alloc(), report, cert)?;
             assert!(rt;
-                is_cut(result, report.as_slice(), writes, ORDER_REPORT),
+                is_cut(result, report.as_slice(), writes, THREE_UNEQUAL_REPORT),
                 "{writes}"
             );
-            assert_eq!(rt; cert.as_slice(), ORDER_CERT, "{writes}");
+            assert_eq!(rt; cert.as_slice(), THREE_UNEQUAL_CERT, "{writes}");
         }
     }
     Ok(())
@@ -151,7 +161,7 @@ fn a_report_is_cut(rt: HostRuntime) -> Result<(), Fail> {
 
 // Tunes on two writers that fail at once. Returns the fault, if neither was given anything.
 fn refusal(alloc: Global, template: &[u8], schedule: &[u8]) -> Result<Option<RunFault>, Fail> {
-    let rules = Rules::try_new(16, 20, 4, 4, 4)?;
+    let rules = small_rules()?;
     let opponents = both_opponents(alloc)?;
     let mut report = Outlet::new(Broken);
     let mut cert = Outlet::new(Broken);
@@ -188,7 +198,7 @@ const REFUSED: [(&[u8], &[u8], RunFault); 3] = [
         }),
     ),
     (
-        ORDER,
+        THREE_UNEQUAL,
         b"opponent,position,first\n0,3,c\n",
         RunFault::Schedule(ScheduleFault {
             row: 1,
@@ -235,7 +245,15 @@ fn a_refused_check_writes_nothing(rt: HostRuntime) -> Result<(), Fail> {
         row: 0,
         kind: ScheduleFaultKind::Header,
     };
-    let result = check_run(rt.alloc(), ORDER, texts, b"", &rules, ORDER_CERT, &mut out);
+    let result = check_run(
+        rt.alloc(),
+        THREE_UNEQUAL,
+        texts,
+        b"",
+        &rules,
+        THREE_UNEQUAL_CERT,
+        &mut out,
+    );
     assert_eq!(rt; result, Err(RunFault::Schedule(fault)));
     assert!(rt; !out.failed());
     Ok(())

@@ -1,6 +1,5 @@
-//! One test for each run that allocates, under rules of 16 cells, 20 cycles, 4
-//! tasks, length 4 and distance 4: results worked out by hand, and `OutOfMemory` passed on as the
-//! test's error. The writers have their room beforehand.
+//! One test for each run that allocates: results worked out by hand, and `OutOfMemory` passed on as
+//! the test's error. The writers have their room beforehand.
 //!
 //! `make test` also runs each of these tests with its first, second and so on request for memory
 //! refused (gate/refuse/growth.py). It then ends with the same results, or with the error
@@ -8,8 +7,11 @@
 ghost use Rattle.std.specs.Prelude.{◌≡◌, ◌≤◌, false, IfOk};
 ghost use Rattle.tune_search.specs.Limits.{MOST_CAPACITY};
 
-use crate::runs::tuning::{BOTH, ORDER, ORDER_CERT, ORDER_REPORT, both_opponents};
-use rc_instr::{Outlet, Rules};
+use crate::fixtures::{
+    BOTH, FIRST_REFUSED, FOUR_EQUAL, FOUR_EQUAL_CERT, THREE_UNEQUAL, THREE_UNEQUAL_CERT,
+    THREE_UNEQUAL_REPORT, both_opponents, small_rules,
+};
+use rc_instr::Outlet;
 use std::alloc::{AllocError, Global};
 use std::test::Fail;
 use tune_runs::{RunFault, asm_run, check_run, fight_run, tune_run};
@@ -67,7 +69,7 @@ const ASSEMBLIES: [(&[u8], &[u8]); 12] = [
 ];
 
 fn assembled(alloc: Global, text: &[u8]) -> Result<Vec<u8>, Fail> {
-    let rules = Rules::try_new(16, 20, 4, 4, 4)?;
+    let rules = small_rules()?;
     let mut out = outlet(alloc)?;
     let ended = asm_run(alloc, text, &rules, &mut out);
     outcome(alloc, ended, out)
@@ -82,12 +84,12 @@ fn asm_run_writes_the_load_file(rt: HostRuntime) -> Result<(), Fail> {
 }
 
 // Two imps, which tie.
-pub(crate) const IMPS: &[u8] =
+pub(crate) const FIGHT_OF_IMPS: &[u8] =
     b"rules 16 20 4 4 4\nfight 8 c\ncandidate\nORG 0\nMOV.I $0, $1\nopponent\nORG 0\nMOV.I $0, $1\n";
 
 // Texts of fights, and their lines.
 const FIGHTS: [(&[u8], &[u8]); 4] = [
-    (IMPS, b"tie 1 turns 40\n"),
+    (FIGHT_OF_IMPS, b"tie 1 turns 40\n"),
     (
         b"rules 16 20 4 4 4\nfight 8 c\ncandidate\nORG 0\nDAT.F $0, $0\nopponent\nORG 0\nMOV.I $0, $1\n",
         b"loss 0 turns 1\n",
@@ -123,7 +125,7 @@ type Tuned = (Vec<u8>, Vec<u8>);
 fn tuned(alloc: Global, template: &[u8], capacity: u32) -> Result<Tuned, Fail>
     requires { (1 ≤ capacity) × (capacity ≤ MOST_CAPACITY) }
 {
-    let rules = Rules::try_new(16, 20, 4, 4, 4)?;
+    let rules = small_rules()?;
     let opponents = both_opponents(alloc)?;
     let mut report = outlet(alloc)?;
     let mut cert = outlet(alloc)?;
@@ -145,9 +147,6 @@ fn tuned(alloc: Global, template: &[u8], capacity: u32) -> Result<Tuned, Fail>
     Ok((outcome(alloc, ended, report)?, rows))
 }
 
-// Four settings with one warrior.
-const SHARED: &[u8] = b";@tune K 0 3 1 2\nMOV 0, 1";
-
 // Templates, the report of a tuning that remembers 4096 settings or its fault, and the certificate.
 const TUNINGS: [(&[u8], &[u8], &[u8]); 5] = [
     (
@@ -156,12 +155,12 @@ const TUNINGS: [(&[u8], &[u8], &[u8]); 5] = [
         b"cwcert,1,1\nbest,0,4\ncap,0,0:3 1:1\n",
     ),
     (
-        SHARED,
+        FOUR_EQUAL,
         b"vectors 4\ncandidates 4\nbest 0\nconstants K=0\ntotal 4 of 6\nfights 2 of 8\n",
-        b"cwcert,1,4\nbest,0,4\ncap,0,0:3 1:1\nsame,1,2\ncap,2,0:3 1:1\nsame,3,2\n",
+        FOUR_EQUAL_CERT,
     ),
     (
-        b";@tune K 0 2 1 1\nMOV 0, 1\nDAT 1/K",
+        FIRST_REFUSED,
         b"vectors 3\ncandidates 2\nbest 1\nconstants K=1\ntotal 4 of 6\nfights 3 of 4\n",
         b"cwcert,1,3\nbest,1,4\nrefused,0,-\ncap,1,0:3 1:1\ncap,2,1:1\n",
     ),
@@ -170,7 +169,7 @@ const TUNINGS: [(&[u8], &[u8], &[u8]); 5] = [
         b"no setting of the template assembles",
         b"",
     ),
-    (ORDER, ORDER_REPORT, ORDER_CERT),
+    (THREE_UNEQUAL, THREE_UNEQUAL_REPORT, THREE_UNEQUAL_CERT),
 ];
 
 #[test]
@@ -199,7 +198,7 @@ fn tune_run_with_a_cache_of_two(rt: HostRuntime) -> Result<(), Fail> {
     Ok(())
 }
 
-// Certificates of `SHARED`, the result of a check, and its line.
+// Certificates of `FOUR_EQUAL`, the result of a check, and its line.
 const CHECKS: [(&[u8], bool, &[u8]); 9] = [
     (
         b"cwcert,1,4\nbest,0,4\ncap,0,0:3 1:1\nsame,1,2\ncap,2,0:3 1:1\nsame,3,2\n",
@@ -248,13 +247,14 @@ const CHECKS: [(&[u8], bool, &[u8]); 9] = [
     ),
 ];
 
-// Checks a certificate of `SHARED`. Returns the verdict and its line. Out of memory is an error.
+// Checks a certificate of `FOUR_EQUAL`. Returns the verdict and its line. Out of memory is an
+// error.
 fn checked(alloc: Global, cert: &[u8]) -> Result<(bool, Vec<u8>), Fail> {
-    let rules = Rules::try_new(16, 20, 4, 4, 4)?;
+    let rules = small_rules()?;
     let opponents = both_opponents(alloc)?;
     let mut out = outlet(alloc)?;
     let texts = opponents.as_slice();
-    let ended = check_run(alloc, SHARED, texts, BOTH, &rules, cert, &mut out);
+    let ended = check_run(alloc, FOUR_EQUAL, texts, BOTH, &rules, cert, &mut out);
     let bytes = out.into_inner();
     if ended.is_err() && !bytes.is_empty() {
         return Err(Fail::from("a refused run wrote something"));

@@ -1,6 +1,5 @@
-//! `tune_by_run` by either method, under rules of 16 cells, 20 cycles, 4 tasks, length 4 and
-//! distance 4.
-use crate::runs::tuning::{BOTH, both_opponents};
+//! `tune_by_run` by either method.
+use crate::fixtures::{BOTH, both_opponents, small_rules};
 use crate::writers::Broken;
 use rc_instr::{Outlet, Rules};
 use std::test::Fail;
@@ -8,8 +7,8 @@ use tune_cert::Silent;
 use tune_problem::Part;
 use tune_runs::{Method, RunFault, TuneTexts, tune_by_run};
 
-// Returns the texts of a tuning of two settings with one warrior, an imp.
-fn imps<'a>(opponents: &'a [Vec<u8>], rules: &'a Rules) -> TuneTexts<'a> {
+// Returns the texts of a tuning of two imps with one warrior.
+fn two_equal<'a>(opponents: &'a [Vec<u8>], rules: &'a Rules) -> TuneTexts<'a> {
     TuneTexts {
         template: b";@tune K 0 1 1 1\nMOV 0, 1",
         opponents,
@@ -36,9 +35,9 @@ const METHODS: [(Method, &[u8]); 2] = [
 
 #[test]
 fn both_methods_find_the_optimum(rt: HostRuntime) -> Result<(), Fail> {
-    let rules = Rules::try_new(16, 20, 4, 4, 4)?;
+    let rules = small_rules()?;
     let opponents = both_opponents(rt.alloc())?;
-    let texts = imps(opponents.as_slice(), &rules);
+    let texts = two_equal(opponents.as_slice(), &rules);
     for &(method, told) in &METHODS {
         let mut report = Outlet::new(Vec::new(rt.alloc()));
         let mut cert = Outlet::new(Vec::new(rt.alloc()));
@@ -59,11 +58,11 @@ fn both_methods_find_the_optimum(rt: HostRuntime) -> Result<(), Fail> {
 
 #[test]
 fn a_write_failure_is_reported_before_the_report(rt: HostRuntime) -> Result<(), Fail> {
-    let rules = Rules::try_new(16, 20, 4, 4, 4)?;
+    let rules = small_rules()?;
     let opponents = both_opponents(rt.alloc())?;
     let mut report = Outlet::new(Vec::new(rt.alloc()));
     let mut cert = Outlet::new(Broken);
-    let texts = imps(opponents.as_slice(), &rules);
+    let texts = two_equal(opponents.as_slice(), &rules);
     let tuned = tune_by_run(
         rt.alloc(),
         &texts,

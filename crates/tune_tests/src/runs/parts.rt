@@ -1,22 +1,18 @@
-//! `tune_by_run` and `check_part_run`, under rules of 16 cells, 20 cycles, 4 tasks, length 4 and
-//! distance 4.
-use crate::runs::tuning::{BOTH, both_opponents};
+//! `tune_by_run` and `check_part_run` of a part.
+use crate::fixtures::{BOTH, TWO_IN_TURN, both_opponents, small_rules};
 use rc_instr::{Outlet, Rules};
 use std::test::Fail;
 use tune_cert::Silent;
 use tune_problem::Part;
 use tune_runs::{Method, TuneTexts, check_part_run, tune_by_run};
 
-// Six settings that make two warriors in turn.
-const HALF: &[u8] = b";@tune K 0 5 1 0\nMOV 0, 1\nDAT K % 2";
-
 // The certificate of the second half of the settings.
-const CERT: &[u8] = b"cwcert,1,3\nbest,0,4\ncap,0,0:3 1:1\ncap,1,1:1\nsame,2,0\n";
+const HALF_CERT: &[u8] = b"cwcert,1,3\nbest,0,4\ncap,0,0:3 1:1\ncap,1,1:1\nsame,2,0\n";
 
 // Returns the texts of a tuning of the second half of the settings.
 fn second_half<'a>(opponents: &'a [Vec<u8>], rules: &'a Rules) -> TuneTexts<'a> {
     TuneTexts {
-        template: HALF,
+        template: TWO_IN_TURN,
         opponents,
         schedule: BOTH,
         rules,
@@ -29,7 +25,7 @@ fn second_half<'a>(opponents: &'a [Vec<u8>], rules: &'a Rules) -> TuneTexts<'a> 
 
 #[test]
 fn a_part_is_tuned(rt: HostRuntime) -> Result<(), Fail> {
-    let rules = Rules::try_new(16, 20, 4, 4, 4)?;
+    let rules = small_rules()?;
     let opponents = both_opponents(rt.alloc())?;
     let mut report = Outlet::new(Vec::new(rt.alloc()));
     let mut cert = Outlet::new(Vec::new(rt.alloc()));
@@ -46,20 +42,20 @@ fn a_part_is_tuned(rt: HostRuntime) -> Result<(), Fail> {
         report.into_inner().as_slice(),
         b"vectors 3\ncandidates 3\nbest 0\nconstants K=3\ntotal 4 of 6\nfights 3 of 6\n".as_slice()
     );
-    assert_eq!(rt; cert.into_inner().as_slice(), CERT);
+    assert_eq!(rt; cert.into_inner().as_slice(), HALF_CERT);
     Ok(())
 }
 
 #[test]
 fn a_part_is_checked(rt: HostRuntime) -> Result<(), Fail> {
-    let rules = Rules::try_new(16, 20, 4, 4, 4)?;
+    let rules = small_rules()?;
     let opponents = both_opponents(rt.alloc())?;
     let mut line = Outlet::new(Vec::new(rt.alloc()));
     let checked = check_part_run(
         rt.alloc(),
         &second_half(opponents.as_slice(), &rules),
         &mut Silent,
-        CERT,
+        HALF_CERT,
         &mut line,
     );
     assert_eq!(rt; checked, Ok(true));

@@ -1,4 +1,5 @@
-//! `setting_run`, under rules of 16 cells, 20 cycles, 4 tasks, length 4 and distance 4.
+//! `setting_run`.
+use crate::fixtures::small_rules;
 use crate::writers::Broken;
 use rc_instr::{Outlet, Rules};
 use std::test::Fail;
@@ -17,7 +18,7 @@ const SETTINGS: [(WhichSetting, &[u8]); 3] = [
 
 #[test]
 fn a_setting_gives_the_load_file_of_its_warrior(rt: HostRuntime) -> Result<(), Fail> {
-    let rules = Rules::try_new(16, 20, 4, 4, 4)?;
+    let rules = small_rules()?;
     for &(which, file) in &SETTINGS {
         let mut out = Outlet::new(Vec::new(rt.alloc()));
         assert_eq!(rt;

@@ -1,22 +1,17 @@
-//! `check_share_run`, under rules of 16 cells, 20 cycles, 4 tasks, length 4 and distance 4.
-use crate::runs::tuning::{BOTH, both_opponents};
-use rc_instr::{Outlet, Rules};
+//! `check_share_run`.
+use crate::fixtures::{BOTH, FOUR_EQUAL, FOUR_EQUAL_CERT, both_opponents, small_rules};
+use rc_instr::Outlet;
 use std::test::Fail;
 use tune_cert::Silent;
 use tune_problem::Part;
 use tune_runs::{Share, TuneTexts, check_share_run};
 
-// Four settings with one warrior, and a valid certificate of them.
-const FOUR: &[u8] = b";@tune K 0 3 1 2\nMOV 0, 1";
-
-const CERT: &[u8] = b"cwcert,1,4\nbest,0,4\ncap,0,0:3 1:1\nsame,1,2\ncap,2,0:3 1:1\nsame,3,2\n";
-
 #[test]
 fn a_share_has_a_line_of_its_own(rt: HostRuntime) -> Result<(), Fail> {
-    let rules = Rules::try_new(16, 20, 4, 4, 4)?;
+    let rules = small_rules()?;
     let opponents = both_opponents(rt.alloc())?;
     let given = TuneTexts {
-        template: FOUR,
+        template: FOUR_EQUAL,
         opponents: opponents.as_slice(),
         schedule: BOTH,
         rules: &rules,
@@ -27,7 +22,14 @@ fn a_share_has_a_line_of_its_own(rt: HostRuntime) -> Result<(), Fail> {
         shares: 3,
     };
     let mut line = Outlet::new(Vec::new(rt.alloc()));
-    let checked = check_share_run(rt.alloc(), &given, share, &mut Silent, CERT, &mut line);
+    let checked = check_share_run(
+        rt.alloc(),
+        &given,
+        share,
+        &mut Silent,
+        FOUR_EQUAL_CERT,
+        &mut line,
+    );
     assert_eq!(rt; checked, Ok(true));
     assert_eq!(rt;
         line.into_inner().as_slice(),

@@ -1,11 +1,10 @@
-//! What runs tell their watchers, under rules of 16 cells, 20 cycles, 4 tasks, length 4 and
-//! distance 4.
-use crate::runs::tuning::{BOTH, ORDER, ORDER_CERT, both_opponents};
+//! What runs tell their watchers.
+use crate::fixtures::{BOTH, THREE_UNEQUAL, THREE_UNEQUAL_CERT, both_opponents, small_rules};
 use rc_instr::{Outlet, Rules};
 use std::test::Fail;
 use tune_cert::{Standing, Watcher};
 use tune_problem::{Inputs, Part};
-use tune_runs::{Method, RunFault, TuneTexts, check_part_run, tune_by_run};
+use tune_runs::{Demand, Method, RunFault, TuneTexts, check_for_run, check_part_run, tune_by_run};
 
 // Counts the begins, settings, fights and ends that it is told of, and what it is told after an
 // end.
@@ -73,10 +72,10 @@ impl Watcher for Told {
 // How a tuning searches unless it is told otherwise.
 const DROPPING: Method = Method::Dropping { capacity: 4096 };
 
-// Returns the texts of a tuning of all settings of `ORDER`.
-fn order<'a>(opponents: &'a [Vec<u8>], rules: &'a Rules) -> TuneTexts<'a> {
+// Returns the texts of a tuning of all settings of `THREE_UNEQUAL`.
+fn three_unequal<'a>(opponents: &'a [Vec<u8>], rules: &'a Rules) -> TuneTexts<'a> {
     TuneTexts {
-        template: ORDER,
+        template: THREE_UNEQUAL,
         opponents,
         schedule: BOTH,
         rules,
@@ -87,9 +86,9 @@ fn order<'a>(opponents: &'a [Vec<u8>], rules: &'a Rules) -> TuneTexts<'a> {
 // A setting is dropped after one fight of two.
 #[test]
 fn a_tuning_tells_its_watcher_once(rt: HostRuntime) -> Result<(), Fail> {
-    let rules = Rules::try_new(16, 20, 4, 4, 4)?;
+    let rules = small_rules()?;
     let opponents = both_opponents(rt.alloc())?;
-    let texts = order(opponents.as_slice(), &rules);
+    let texts = three_unequal(opponents.as_slice(), &rules);
     let mut told = Told::nothing();
     let mut report = Outlet::new(Vec::new(rt.alloc()));
     let mut cert = Outlet::new(Vec::new(rt.alloc()));
@@ -107,9 +106,9 @@ fn a_tuning_tells_its_watcher_once(rt: HostRuntime) -> Result<(), Fail> {
 
 #[test]
 fn a_tuning_that_plays_all_tells_its_watcher_once(rt: HostRuntime) -> Result<(), Fail> {
-    let rules = Rules::try_new(16, 20, 4, 4, 4)?;
+    let rules = small_rules()?;
     let opponents = both_opponents(rt.alloc())?;
-    let texts = order(opponents.as_slice(), &rules);
+    let texts = three_unequal(opponents.as_slice(), &rules);
     let mut told = Told::nothing();
     let mut report = Outlet::new(Vec::new(rt.alloc()));
     let mut cert = Outlet::new(Vec::new(rt.alloc()));
@@ -127,12 +126,37 @@ fn a_tuning_that_plays_all_tells_its_watcher_once(rt: HostRuntime) -> Result<(),
 
 #[test]
 fn a_check_tells_its_watcher_once(rt: HostRuntime) -> Result<(), Fail> {
-    let rules = Rules::try_new(16, 20, 4, 4, 4)?;
+    let rules = small_rules()?;
     let opponents = both_opponents(rt.alloc())?;
-    let texts = order(opponents.as_slice(), &rules);
+    let texts = three_unequal(opponents.as_slice(), &rules);
     let mut told = Told::nothing();
     let mut line = Outlet::new(Vec::new(rt.alloc()));
-    let accepted = check_part_run(rt.alloc(), &texts, &mut told, ORDER_CERT, &mut line)?;
+    let accepted = check_part_run(rt.alloc(), &texts, &mut told, THREE_UNEQUAL_CERT, &mut line)?;
+    assert!(rt; accepted);
+    assert_eq!(rt; told.numbers(), (1, 3, 5, 1, 0));
+    Ok(())
+}
+
+#[test]
+fn a_check_with_a_demand_tells_its_watcher_once(rt: HostRuntime) -> Result<(), Fail> {
+    let rules = small_rules()?;
+    let opponents = both_opponents(rt.alloc())?;
+    let texts = three_unequal(opponents.as_slice(), &rules);
+    let demand = Demand {
+        keep: Some(2),
+        floor: None,
+    };
+    let mut told = Told::nothing();
+    let mut lines = Outlet::new(Vec::new(rt.alloc()));
+    let accepted = check_for_run(
+        rt.alloc(),
+        &texts,
+        demand,
+        None,
+        &mut told,
+        THREE_UNEQUAL_CERT,
+        &mut lines,
+    )?;
     assert!(rt; accepted);
     assert_eq!(rt; told.numbers(), (1, 3, 5, 1, 0));
     Ok(())
@@ -141,11 +165,11 @@ fn a_check_tells_its_watcher_once(rt: HostRuntime) -> Result<(), Fail> {
 // No setting assembles.
 #[test]
 fn a_refused_tuning_tells_its_watcher_once(rt: HostRuntime) -> Result<(), Fail> {
-    let rules = Rules::try_new(16, 20, 4, 4, 4)?;
+    let rules = small_rules()?;
     let opponents = both_opponents(rt.alloc())?;
     let texts = TuneTexts {
         template: b";@tune K 0 1 1 0\nMOV 0, K\nDAT 1/0\n",
-        ..order(opponents.as_slice(), &rules)
+        ..three_unequal(opponents.as_slice(), &rules)
     };
     let mut told = Told::nothing();
     let mut report = Outlet::new(Vec::new(rt.alloc()));

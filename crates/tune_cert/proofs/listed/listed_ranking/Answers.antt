@@ -11,7 +11,7 @@ pub loop-vector-preserved : goal.loop-vector-preserved
 loop-vector-preserved c = elim c.match-total_at.branch [
   | in-Some+in_ok-rank w ↦
       w.ranking-is ∙ shown_next (problem_of c.args.inputs.now) c.args.aim c.args.rows.now c.loop-vector.vector w.in-Some.total c.total_at.result c.loop-vector.ranking w.rank.new.self
-      c.loop-vector.invariant c.total_at.ensures w.in-Some.is w.in_ok-rank.ensures
+      c.loop-vector.invariant c.total_at.ensures w.in-Some.is w.in_ok-rank.ensures.ranked
   | in_default w ↦
       w.ranking-is ∙ unshown_next (problem_of c.args.inputs.now) c.args.aim c.args.rows.now c.loop-vector.vector c.total_at.result c.loop-vector.ranking
       c.loop-vector.invariant c.total_at.ensures w.in_default.is

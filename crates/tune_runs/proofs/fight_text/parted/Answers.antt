@@ -2,7 +2,7 @@ use Rattle.std.proofs.Common.{◌≡◌, ◌-◌, length, take, drop, ap, sym, �
 use Rattle.std.specs.Prelude.{Some, codes}
 use Rattle.std.proofs.Math.Seq.{drop-cons}
 use Rattle.std.proofs.lemmas.Slice.{between_to_end}
-use Rattle.tune_runs.specs.FightText.{after_word, parted}
+use Rattle.tune_runs.specs.FightLines.{after_word, parted}
 use Rattle.tune_runs.proofs.Parting.{joined, ends_here}
 use Rattle.tune_runs.proofs.fight_text.parted.Goals as goal
 

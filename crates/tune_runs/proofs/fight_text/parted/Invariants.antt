@@ -1,5 +1,5 @@
 use Rattle.std.proofs.Common.{◌≡◌, take, drop, true}
-use Rattle.tune_runs.specs.FightText.{parted}
+use Rattle.tune_runs.specs.FightLines.{parted}
 use Rattle.tune_runs.proofs.Parting.{joined}
 use Rattle.tune_runs.proofs.fight_text.parted.Given as goal
 

@@ -102,7 +102,7 @@ returns-then-copied g c =
           (progress_of s) c.requires.state.going
           e.warrior is.warrior_is is.rules_hold is.is_warrior is.fits u look row row_of apart)
           (sym c.set.ensures)
-          (sym c.in_ok-rank.ensures)
+          (sym c.in_ok-rank.ensures.ranked)
           refl
           refl
           (ap (λ t. promoted (same_text t) s.cache.known) (sym text) ∙ sym (ap (λ (m : CacheView). m.known) c.in-Some-recall.ensures.known));
@@ -137,7 +137,7 @@ returns g c =
           (progress_of s) c.requires.state.going
           e.warrior is.warrior_is is.rules_hold is.is_warrior is.fits u look apart)
           (sym c.set-2.ensures)
-          (sym c.in_ok-rank.ensures)
+          (sym c.in_ok-rank.ensures.ranked)
           refl
           refl
           (ap (λ t. promoted (same_text t) s.cache.known) (sym text) ∙ sym (ap (λ (m : CacheView). m.known) c.in-Some-recall.ensures.known));

@@ -1,5 +1,5 @@
 use Rattle.std.proofs.Common.{◌≡◌, ◌↔◌, drop}
-use Rattle.tune_cert.proofs.row_checks.is_same_code.Given as goal
+use Rattle.tune_cert.proofs.warriors.is_same_code.Given as goal
 
 -- the lists are equal if what is left of them is
 abbrev pub invariant-loop-mine : goal.invariant-loop-mine
