@@ -14,7 +14,7 @@ use Rattle.tune_runs.specs.SettingsRun.{WritesSettings}
 use Rattle.tune_runs.specs.declared.given.WhichSetting.{WhichSetting}
 use Rattle.tune_problem.specs.declared.aim.Aim.{Aim}
 use Rattle.tune_search.specs.declared.method.Method.{Method}
-use Rattle.cwtune.specs.CommandLine.{AskForFight, AsksForHelp, command_of, is_command}
+use Rattle.cwtune.specs.CommandLine.{AsksForFight, AsksForHelp, command_of, is_command}
 use Rattle.cwtune.specs.Commands.{IsEnded, IsCheckEnded, WritesFightIn, WritesDuelOf, WritesSomeDuel, WritesLoadFile, WritesSomeLoadFile, WritesSomeSettings, WritesReport, WritesSomeReport, WritesCheckLine, WritesSomeCheckLine, status_of}
 use Rattle.cwtune.specs.Program.{IsProgramRun, IsSuccess}
 use Rattle.cwtune.specs.declared.ending.Ending.{Ending}
@@ -51,7 +51,7 @@ named_at P r x is h = subst (λ q. IfOk q P) is h
 
 -- what is promised of a fight holds of words that ask for none
 other_run : {X : Type 0} (words : List (List ℕ)) (input : Option (List ℕ)) (old new : OutletView) (ended : Result X Ending) (status : ℕ)
-    → status ≡ status_of ended → (AskForFight words → ⊥) → (IsErrOf ended Misused → new ≡ old)
+    → status ≡ status_of ended → (AsksForFight words → ⊥) → (IsErrOf ended Misused → new ≡ old)
     → (IsErrOf ended Refused → (new ≡ old) ⊎ WritesSomeCheckLine false old.bytes new.bytes) → (IsTrue new.failed → IsErrOf ended Failed)
     → (status ≡ 0 → AsksForHelp words ⊎ IsSuccess words input old.bytes new.bytes) → IsProgramRun words input old new status
 other_run words input old new ended status is other misused unwritten failed success = record {
@@ -67,7 +67,7 @@ other_run words input old new ended status is other misused unwritten failed suc
 
 -- a run that writes nothing unless it succeeds
 quiet_run : {X Wrote : Type 0} (words : List (List ℕ)) (input : Option (List ℕ)) (old new : OutletView) (ended : Result X Ending) (status : ℕ)
-    → status ≡ status_of ended → (AskForFight words → ⊥) → IsEnded Wrote old new ended
+    → status ≡ status_of ended → (AsksForFight words → ⊥) → IsEnded Wrote old new ended
     → (status ≡ 0 → AsksForHelp words ⊎ IsSuccess words input old.bytes new.bytes) → IsProgramRun words input old new status
 quiet_run words input old new ended status is other ended_so success =
     other_run words input old new ended status is other ended_so.misused (λ e. inl (ended_so.refused e)) ended_so.failed success
@@ -99,35 +99,35 @@ pub fight_success : (words : List (List ℕ)) (input old new : Option (List ℕ)
 fight_success words input old new named wrote = success_of (codes "fight") words input old new named refl (λ _. wrote) no no no no
 
 pub duel_run : {X : Type 0} (words : List (List ℕ)) (input : Option (List ℕ)) (old new : OutletView) (rules : RulesView) (position : Option ℕ) (first : Side)
-    (ended : Result X Ending) (status : ℕ) → status ≡ status_of ended → (AskForFight words → ⊥) → IsEnded (WritesDuelOf rules position first old.bytes new.bytes) old new ended
+    (ended : Result X Ending) (status : ℕ) → status ≡ status_of ended → (AsksForFight words → ⊥) → IsEnded (WritesDuelOf rules position first old.bytes new.bytes) old new ended
     → command_of words ≡ codes "fight" → IsProgramRun words input old new status
 duel_run words input old new rules position first ended status is other ended_so named =
     quiet_run words input old new ended status is other ended_so (λ e. let (c, o, line) = done_at ended status is ended_so.done e in
     inr (fight_success words input old.bytes new.bytes named (inr (c, o, rules, position_meant rules position, first, line))))
 
 pub asm_run : {X : Type 0} (words : List (List ℕ)) (input : Option (List ℕ)) (old new : OutletView) (setting : Option WhichSetting) (rules : RulesView)
-    (ended : Result X Ending) (status : ℕ) → status ≡ status_of ended → (AskForFight words → ⊥)
+    (ended : Result X Ending) (status : ℕ) → status ≡ status_of ended → (AsksForFight words → ⊥)
     → IsEnded ((source : List ℕ) × WritesLoadFile source setting rules old.bytes new.bytes) old new ended → command_of words ≡ codes "asm" → IsProgramRun words input old new status
 asm_run words input old new setting rules ended status is other ended_so named =
     quiet_run words input old new ended status is other ended_so (λ e. let (source, text) = done_at ended status is ended_so.done e in
     inr (success_of (codes "asm") words input old.bytes new.bytes named refl no (λ _. (source, setting, rules, text)) no no no))
 
 pub settings_run : {X : Type 0} (words : List (List ℕ)) (input : Option (List ℕ)) (old new : OutletView) (ended : Result X Ending) (status : ℕ)
-    → status ≡ status_of ended → (AskForFight words → ⊥) → IsEnded ((source : List ℕ) × WritesSettings source old.bytes new.bytes) old new ended
+    → status ≡ status_of ended → (AsksForFight words → ⊥) → IsEnded ((source : List ℕ) × WritesSettings source old.bytes new.bytes) old new ended
     → command_of words ≡ codes "settings" → IsProgramRun words input old new status
 settings_run words input old new ended status is other ended_so named =
     quiet_run words input old new ended status is other ended_so (λ e. let text = done_at ended status is ended_so.done e in
     inr (success_of (codes "settings") words input old.bytes new.bytes named refl no no (λ _. text) no no))
 
 pub tune_run : {X : Type 0} (words : List (List ℕ)) (input : Option (List ℕ)) (old new : OutletView) (aim : Aim) (method : Method) (rules : RulesView) (part : Part)
-    (ended : Result X Ending) (status : ℕ) → status ≡ status_of ended → (AskForFight words → ⊥) → IsEnded (WritesReport aim method rules part old.bytes new.bytes) old new ended
+    (ended : Result X Ending) (status : ℕ) → status ≡ status_of ended → (AsksForFight words → ⊥) → IsEnded (WritesReport aim method rules part old.bytes new.bytes) old new ended
     → command_of words ≡ codes "tune" → IsProgramRun words input old new status
 tune_run words input old new aim method rules part ended status is other ended_so named =
     quiet_run words input old new ended status is other ended_so (λ e. let text = done_at ended status is ended_so.done e in
     inr (success_of (codes "tune") words input old.bytes new.bytes named refl no no no (λ _. (aim, method, rules, part, text)) no))
 
 pub check_run : {X : Type 0} (words : List (List ℕ)) (input : Option (List ℕ)) (old new : OutletView) (rules : RulesView) (part : Part)
-    (demand : Demand) (share : Option Share) (ended : Result X Ending) (status : ℕ) → status ≡ status_of ended → (AskForFight words → ⊥)
+    (demand : Demand) (share : Option Share) (ended : Result X Ending) (status : ℕ) → status ≡ status_of ended → (AsksForFight words → ⊥)
     → IsCheckEnded (WritesCheckLine rules part demand share) old new ended → command_of words ≡ codes "check" → IsProgramRun words input old new status
 check_run words input old new rules part demand share ended status is other ended_so named =
     other_run words input old new ended status is other ended_so.misused
@@ -136,6 +136,6 @@ check_run words input old new rules part demand share ended status is other ende
     inr (success_of (codes "check") words input old.bytes new.bytes named refl no no no no (λ _. (rules, part, demand, share, line))))
 
 pub help_run : {X : Type 0} (words : List (List ℕ)) (input : Option (List ℕ)) (old new : OutletView) (ended : Result X Ending) (status : ℕ)
-    → status ≡ status_of ended → (AskForFight words → ⊥) → IsEnded (AsksForHelp words) old new ended → IsProgramRun words input old new status
+    → status ≡ status_of ended → (AsksForFight words → ⊥) → IsEnded (AsksForHelp words) old new ended → IsProgramRun words input old new status
 help_run words input old new ended status is other ended_so =
     quiet_run words input old new ended status is other ended_so (λ e. inl (done_at ended status is ended_so.done e))

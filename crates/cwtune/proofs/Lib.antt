@@ -1,3 +1,3 @@
 pub mod Endings
 pub mod ReadLimits
-pub mod Words
+pub mod CommandWords

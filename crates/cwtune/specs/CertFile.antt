@@ -2,7 +2,7 @@
 use Rattle.std.specs.Prelude.{◌≡◌, ◌||◌, ℕ, Bool, List, take, codes}
 use Rattle.std.specs.List.{list_any}
 use Rattle.std.specs.Str.{bytes_eq}
-use Rattle.cwtune.specs.declared.command_line.TuneWords.{TuneWords}
+use Rattle.cwtune.specs.declared.words.command_line.TuneWords.{TuneWords}
 
 -- A text begins as a certificate does.
 abbrev pub BeginsAsCert : List ℕ → Type 0

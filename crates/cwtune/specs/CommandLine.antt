@@ -11,15 +11,15 @@ use Rattle.tune_cert.specs.declared.demand.Demand.{Demand}
 use Rattle.tune_search.specs.Limits.{MOST_CAPACITY}
 use Rattle.tune_search.specs.declared.method.Method.{Method}
 use Rattle.tune_search.specs.declared.method.Method.TheVariants.{Dropping, PlayingAll}
-use Rattle.cwtune.specs.declared.method_options.MethodWords.{MethodWords}
-use Rattle.cwtune.specs.declared.command_line.Request.{Request}
-use Rattle.cwtune.specs.declared.command_line.Request.TheVariants.{Fight, Duel, Asm, Settings, Tune, Check}
+use Rattle.cwtune.specs.declared.words.method_options.MethodWords.{MethodWords}
+use Rattle.cwtune.specs.declared.words.command_line.Request.{Request}
+use Rattle.cwtune.specs.declared.words.command_line.Request.TheVariants.{Fight, Duel, Asm, Settings, Tune, Check}
 
 -- No word, or `fight` alone, asks for the fight on standard input. Words are given as their bytes.
-abbrev pub AskForFight : List (List ℕ) → Type 0
-AskForFight [] = Unit {0}
-AskForFight (word ∷ []) = word ≡ codes "fight"
-AskForFight (word ∷ next ∷ more) = ⊥
+abbrev pub AsksForFight : List (List ℕ) → Type 0
+AsksForFight [] = Unit {0}
+AsksForFight (word ∷ []) = word ≡ codes "fight"
+AsksForFight (word ∷ next ∷ more) = ⊥
 
 -- The command that the words name: the first of them; `fight` if there is none, or if it is `--`.
 abbrev pub command_of : List (List ℕ) → List ℕ

@@ -30,13 +30,13 @@ abbrev pub WritesFightIn : Option (List ℕ) → Option (List ℕ) → Option (L
 WritesFightIn input old new = (text : List ℕ) × IsInput input text × WritesFight text old new
 
 -- The load file of a text, or of a setting of a template; or the first fault.
-abbrev pub file_answer : List ℕ → Option WhichSetting → RulesView → Result (Unit {0} × List ℕ) RunFault
-file_answer source None rules = asm_answer source rules
-file_answer source (Some which) rules = setting_answer source which rules
+abbrev pub load_file_answer : List ℕ → Option WhichSetting → RulesView → Result (Unit {0} × List ℕ) RunFault
+load_file_answer source None rules = asm_answer source rules
+load_file_answer source (Some which) rules = setting_answer source which rules
 
 -- The load file was written.
 abbrev pub WritesLoadFile : List ℕ → Option WhichSetting → RulesView → Option (List ℕ) → Option (List ℕ) → Type 0
-WritesLoadFile source setting rules old new = Writes (file_answer source setting rules) tt old new
+WritesLoadFile source setting rules old new = Writes (load_file_answer source setting rules) tt old new
 
 -- The result line of a fight of two texts was written. Without a position it is half of the core.
 abbrev pub WritesDuelOf : RulesView → (position : Option ℕ) → (first : Side) → Option (List ℕ) → Option (List ℕ) → Type 0

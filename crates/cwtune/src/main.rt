@@ -5,49 +5,23 @@
 ghost use Rattle.std.specs.Prelude.{◌≡◌, map, false, string_bytes, IsTrue};
 ghost use Rattle.cwtune.specs.Program.{IsProgramRun};
 
-mod aim_options;
-mod beginning;
-mod bounds;
-mod cert_file;
-mod command_line;
-mod command_word;
 mod commands;
-mod digest;
 mod ending;
-mod fault_line;
-mod finding;
-mod help;
-mod help_lines;
+mod files;
 mod host;
-mod inputs_file;
-mod line;
-mod method_options;
-mod names_in;
-mod notes;
-mod options;
-mod other_inputs;
-mod part_word;
 pub mod program;
-mod progress_line;
-mod range_line;
-mod reading;
-mod refusal;
-mod replacing;
-mod setting_word;
-mod share_word;
 mod telling;
-mod usage_error;
-mod witness;
+mod words;
 
-use command_word::ask_for_fight;
 use host::Host;
-use options::is_given;
-use progress_line::{Progress, Style};
 use rc_instr::Outlet;
 use std::io::{IsTerminal, Read, Write};
 use std::process::ExitCode;
 use std::{env, io};
+use telling::progress_line::{Progress, Style};
 use telling::tell;
+use words::command_word::asks_for_fight;
+use words::options::is_given;
 
 // Returns the words after the program's name.
 fn words_of(rt: &HostRuntime) -> io::Result<Vec<String>> {
@@ -98,11 +72,11 @@ fn run<R: Read, W: Write, V: Write>(
 
 // Says at a terminal what is read from it.
 fn invite(rt: &HostRuntime, words: &[String], at_terminal: bool) {
-    if at_terminal && rt.stdin().is_terminal() && ask_for_fight(words) {
+    if at_terminal && rt.stdin().is_terminal() && asks_for_fight(words) {
         let mut err = Outlet::new(rt.stderr());
         tell(
             &mut err,
-            &["reading a fight text, which Ctrl-D ends; `cwtune --help` tells of the commands\n"],
+            &["reading a fight text, which Ctrl-D ends; `cwtune --help` lists the commands\n"],
         );
     }
 }

@@ -4,14 +4,14 @@ ghost use Rattle.cwtune.specs.CommandLine.{AsksForHelp};
 ghost use Rattle.cwtune.specs.Commands.{IsEnded};
 ghost use Rattle.cwtune.specs.Program.{IsProgramRun};
 
-use crate::command_line::{Request, request_of};
 use crate::commands::{asm, check, duel, fight, settings, tune};
 use crate::ending::{Ending, status_of};
-use crate::fault_line::say_run;
-use crate::help::mentions_help;
 use crate::host::Host;
+use crate::telling::fault_line::say_run;
 use crate::telling::tell;
-use crate::witness::{Quiet, Witness};
+use crate::telling::witness::{Quiet, Witness};
+use crate::words::command_line::{Request, request_of};
+use crate::words::help::mentions_help;
 use clap::error::ErrorKind;
 use rc_instr::Outlet;
 use std::alloc::Global;
@@ -38,7 +38,8 @@ use tune_runs::RunFault;
 ///   `docs/FORMATS.md` describes it; a text of that name that is not such a file stays, too. If the
 ///   certificate was found and cannot be written, a line `found: ..` names the best setting.
 /// - `check`: checks the rules, reads the template, the schedule, the certificate and the
-///   opponents, and writes the line of the verdict, or of the verdict on a share.
+///   opponents, and writes the line of the verdict, on all rows or on a share. With `--keep` or
+///   `--floor` it writes the lines of the judgement.
 /// - `--help`, `help`: writes the help text. `--version`: writes the version.
 ///
 /// A text may have at most 1073741824 bytes. On standard error goes a line `refused: ..` for an

@@ -1,5 +1,18 @@
-//! Lines on standard error; those that explain are indented by two blanks. A write that fails ends
-//! them silently.
+//! Lines on standard error: of faults, of progress, and explanations, which are indented by two
+//! spaces. A write that fails ends them silently.
+
+pub(crate) mod bounds;
+pub(crate) mod fault_line;
+pub(crate) mod finding;
+pub(crate) mod help_lines;
+pub(crate) mod line;
+pub(crate) mod names_in;
+pub(crate) mod notes;
+pub(crate) mod progress_line;
+pub(crate) mod range_line;
+pub(crate) mod refusal;
+pub(crate) mod witness;
+
 use itoa::Buffer;
 use rc_instr::Outlet;
 use std::alloc::Global;

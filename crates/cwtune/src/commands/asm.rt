@@ -2,13 +2,13 @@
 ghost use Rattle.std.specs.Prelude.{◌≡◌, ℕ, List, false};
 ghost use Rattle.tune_runs.specs.Given.{rules_given};
 ghost use Rattle.tune_runs.specs.Runs.{IsRun};
-ghost use Rattle.cwtune.specs.Commands.{file_answer, WritesLoadFile, EndsUnderstood};
+ghost use Rattle.cwtune.specs.Commands.{load_file_answer, WritesLoadFile, EndsUnderstood};
 
-use crate::command_line::AsmWords;
 use crate::ending::Ending;
 use crate::host::Host;
-use crate::refusal::Refused;
-use crate::witness::Witness;
+use crate::telling::refusal::Refused;
+use crate::telling::witness::Witness;
+use crate::words::command_line::AsmWords;
 use rc_instr::{Outlet, Rules};
 use std::alloc::Global;
 use std::io::Write;
@@ -53,7 +53,7 @@ fn assemble<W: Write>(
     out: &mut Outlet<W>,
 ) -> Result<(), RunFault>
     requires { out.old.failed ≡ false }
-    ensures { IsRun (file_answer source.now setting rules.now) result out.old out.new }
+    ensures { IsRun (load_file_answer source.now setting rules.now) result out.old out.new }
 {
     match setting {
         Some(which) => setting_run(alloc, source, which, rules, out),

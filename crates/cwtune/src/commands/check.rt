@@ -4,11 +4,11 @@ ghost use Rattle.tune_runs.specs.Given.{rules_given, texts_given};
 ghost use Rattle.tune_runs.specs.Runs.{IsRun};
 ghost use Rattle.cwtune.specs.Commands.{answer_for, WritesCheckLine, WritesVerdictOf, IsCheckEnded};
 
-use crate::command_line::TuneWords;
 use crate::ending::Ending;
+use crate::files::reading::TuneFiles;
 use crate::host::Host;
-use crate::reading::TuneFiles;
-use crate::witness::Witness;
+use crate::telling::witness::Witness;
+use crate::words::command_line::TuneWords;
 use rc_instr::Outlet;
 use std::alloc::Global;
 use std::io::Write;

@@ -4,10 +4,10 @@ ghost use Rattle.tune_runs.specs.Given.{rules_given};
 ghost use Rattle.tune_runs.specs.DuelRun.{position_meant};
 ghost use Rattle.cwtune.specs.Commands.{WritesDuelOf, EndsUnderstood};
 
-use crate::command_line::DuelWords;
 use crate::ending::Ending;
 use crate::host::Host;
-use crate::witness::Witness;
+use crate::telling::witness::Witness;
+use crate::words::command_line::DuelWords;
 use rc_instr::{Outlet, Rules};
 use std::io::Write;
 use std::rt::Files;

@@ -6,9 +6,9 @@ ghost use Rattle.cwtune.specs.Commands.{WritesFightIn, EndsUnderstood};
 ghost use Rattle.cwtune.specs.Input.{IsInput};
 
 use crate::ending::Ending;
+use crate::files::reading::read_text;
 use crate::host::Host;
-use crate::reading::read_text;
-use crate::witness::Witness;
+use crate::telling::witness::Witness;
 use rc_instr::Outlet;
 use std::io::{Read, Write};
 use std::rt::Files;

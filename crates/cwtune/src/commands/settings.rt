@@ -5,8 +5,8 @@ ghost use Rattle.cwtune.specs.Commands.{EndsUnderstood};
 
 use crate::ending::Ending;
 use crate::host::Host;
-use crate::refusal::Refused;
-use crate::witness::Witness;
+use crate::telling::refusal::Refused;
+use crate::telling::witness::Witness;
 use rc_instr::Outlet;
 use std::io::Write;
 use std::rt::Files;

@@ -8,13 +8,13 @@ ghost use Rattle.cwtune.specs.CertFile.{names_twice};
 ghost use Rattle.cwtune.specs.Commands.{WritesReport, IsEnded};
 ghost use Rattle.cwtune.specs.CommandLine.{aim_meant, method_meant};
 
-use crate::aim_options::aim_meant;
-use crate::cert_file::open_cert;
-use crate::command_line::TuneWords;
 use crate::ending::Ending;
+use crate::files::cert_file::open_cert;
 use crate::host::Host;
-use crate::method_options::{MethodWords, method_meant};
-use crate::witness::Witness;
+use crate::telling::witness::Witness;
+use crate::words::aim_options::aim_meant;
+use crate::words::command_line::TuneWords;
+use crate::words::method_options::{MethodWords, method_meant};
 use rc_instr::Outlet;
 use std::io::Write;
 use std::rt::Files;

@@ -1,6 +1,6 @@
 use Rattle.std.proofs.Common.{◌≡◌, ◌≢◌, ◌∙◌, IfErr, inl, inr, map, string_bytes, ap, subst, refl}
 use Rattle.cwtune.specs.declared.ending.Ending.TheVariants.{Misused}
-use Rattle.cwtune.specs.CommandLine.{AskForFight, command_of, command_word}
+use Rattle.cwtune.specs.CommandLine.{AsksForFight, command_of, command_word}
 use Rattle.cwtune.specs.Commands.{status_of}
 use Rattle.cwtune.proofs.Endings.{done_at, refused_at, misused_at, at_most, named_at, fight_success, duel_run, asm_run, settings_run, tune_run, check_run, help_run}
 use Rattle.cwtune.proofs.program.watched_program.Goals as goal
@@ -25,7 +25,7 @@ returns-in-Ok-Fight g c =
 pub returns-in-Ok-Duel : goal.returns-in-Ok-Duel
 returns-in-Ok-Duel g c =
     let words = map string_bytes c.args.words.now in
-    let other : AskForFight words → ⊥ = λ asked. let fight = c.request_of.ensures.fight asked in let not_fight = c.in-Ok-Duel.is in cc in
+    let other : AsksForFight words → ⊥ = λ asked. let fight = c.request_of.ensures.fight asked in let not_fight = c.in-Ok-Duel.is in cc in
     let named = named_at (λ r. command_of words ≡ command_word r) _ _ c.in-Ok-Duel.is c.request_of.ensures.named ∙ ap command_word c.in-Ok-Duel.field-0-is in
     duel_run words _ _ _ _ c.in-Ok-Duel.words.position c.in-Ok-Duel.words.first _ _ c.status_of-in-Ok-Duel.ensures
     other c.duel.ensures.0 named
@@ -33,7 +33,7 @@ returns-in-Ok-Duel g c =
 pub returns-in-Ok-Asm : goal.returns-in-Ok-Asm
 returns-in-Ok-Asm g c =
     let words = map string_bytes c.args.words.now in
-    let other : AskForFight words → ⊥ = λ asked. let fight = c.request_of.ensures.fight asked in let not_fight = c.in-Ok-Asm.is in cc in
+    let other : AsksForFight words → ⊥ = λ asked. let fight = c.request_of.ensures.fight asked in let not_fight = c.in-Ok-Asm.is in cc in
     let named = named_at (λ r. command_of words ≡ command_word r) _ _ c.in-Ok-Asm.is c.request_of.ensures.named ∙ ap command_word c.in-Ok-Asm.field-0-is in
     asm_run words _ _ _ _ _ _ _ c.status_of-in-Ok-Asm.ensures
     other c.asm.ensures.0 named
@@ -41,7 +41,7 @@ returns-in-Ok-Asm g c =
 pub returns-in-Ok-Settings : goal.returns-in-Ok-Settings
 returns-in-Ok-Settings g c =
     let words = map string_bytes c.args.words.now in
-    let other : AskForFight words → ⊥ = λ asked. let fight = c.request_of.ensures.fight asked in let not_fight = c.in-Ok-Settings.is in cc in
+    let other : AsksForFight words → ⊥ = λ asked. let fight = c.request_of.ensures.fight asked in let not_fight = c.in-Ok-Settings.is in cc in
     let named = named_at (λ r. command_of words ≡ command_word r) _ _ c.in-Ok-Settings.is c.request_of.ensures.named ∙ ap command_word c.in-Ok-Settings.field-0-is in
     settings_run words _ _ _ _ _ c.status_of-in-Ok-Settings.ensures
     other c.settings.ensures.0 named
@@ -49,7 +49,7 @@ returns-in-Ok-Settings g c =
 pub returns-in-Ok-Tune : goal.returns-in-Ok-Tune
 returns-in-Ok-Tune g c =
     let words = map string_bytes c.args.words.now in
-    let other : AskForFight words → ⊥ = λ asked. let fight = c.request_of.ensures.fight asked in let not_fight = c.in-Ok-Tune.is in cc in
+    let other : AsksForFight words → ⊥ = λ asked. let fight = c.request_of.ensures.fight asked in let not_fight = c.in-Ok-Tune.is in cc in
     let named = named_at (λ r. command_of words ≡ command_word r) _ _ c.in-Ok-Tune.is c.request_of.ensures.named ∙ ap command_word c.in-Ok-Tune.field-0-is in
     tune_run words _ _ _ _ _ _ _ _ _ c.status_of-in-Ok-Tune.ensures
     other c.tune.ensures.ended named
@@ -57,7 +57,7 @@ returns-in-Ok-Tune g c =
 pub returns-in-Ok-Check : goal.returns-in-Ok-Check
 returns-in-Ok-Check g c =
     let words = map string_bytes c.args.words.now in
-    let other : AskForFight words → ⊥ = λ asked. let fight = c.request_of.ensures.fight asked in let not_fight = c.in-Ok-Check.is in cc in
+    let other : AsksForFight words → ⊥ = λ asked. let fight = c.request_of.ensures.fight asked in let not_fight = c.in-Ok-Check.is in cc in
     let named = named_at (λ r. command_of words ≡ command_word r) _ _ c.in-Ok-Check.is c.request_of.ensures.named ∙ ap command_word c.in-Ok-Check.field-0-is in
     check_run words _ _ _ _ _ _ _ _ _ c.status_of-in-Ok-Check.ensures
     other c.check.ensures named

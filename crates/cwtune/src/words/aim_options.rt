@@ -5,8 +5,8 @@ ghost use Rattle.tune_problem.specs.Limits.{MOST_KEPT};
 ghost use Rattle.tune_problem.specs.Ranking.{IsAim};
 ghost use Rattle.cwtune.specs.CommandLine.{aim_meant, kept_asked};
 
-use crate::options::{number, number_of};
-use crate::usage_error::BadValue;
+use crate::words::options::{number_of, number_option};
+use crate::words::usage_error::BadValue;
 use clap::{Arg, ArgAction, ArgMatches, value_parser};
 use std::alloc::Global;
 use tune_cert::Demand;
@@ -25,7 +25,7 @@ pub(crate) fn keep_option<'a>(alloc: Global, help: &'a str) -> Arg<'a> {
 
 // Makes `--floor`.
 pub(crate) fn floor_option<'a>(alloc: Global, help: &'a str) -> Arg<'a> {
-    number(alloc, "floor", help)
+    number_option(alloc, "floor", help)
 }
 
 // Returns what a tuning, or a check, is asked for beside the optimum.

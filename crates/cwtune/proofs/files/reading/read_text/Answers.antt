@@ -1,7 +1,7 @@
 use Rattle.std.proofs.Common.{◌≡◌, ◌≤◌, length, arith, ap, subst}
 use Rattle.std.specs.Prelude.{IfSome}
 use Rattle.cwtune.proofs.ReadLimits.{whole_text}
-use Rattle.cwtune.proofs.reading.read_text.Goals as goal
+use Rattle.cwtune.proofs.files.reading.read_text.Goals as goal
 
 pub returns-clause-bytes : goal.returns-clause-bytes
 returns-clause-bytes g c =

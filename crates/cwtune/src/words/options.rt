@@ -2,10 +2,10 @@
 ghost use Rattle.std.specs.Prelude.{◌≡◌, IfOk};
 ghost use Rattle.std.specs.Option.{unwrap_or};
 
-use crate::aim_options::demand_of;
-use crate::part_word::part_of;
-use crate::share_word::share_of;
-use crate::usage_error::BadValue;
+use crate::words::aim_options::demand_of;
+use crate::words::part_word::part_of;
+use crate::words::share_word::share_of;
+use crate::words::usage_error::BadValue;
 use clap::{Arg, ArgAction, ArgMatches, Command};
 use rc_instr::Rules;
 use std::alloc::{AllocError, Global};
@@ -42,7 +42,7 @@ pub(crate) fn progress_option<'a>(alloc: Global) -> Arg<'a> {
 }
 
 // Makes an option that takes a 32-bit number. Its range is checked later, with the other rules.
-pub(crate) fn number<'a>(alloc: Global, name: &'a str, help: &'a str) -> Arg<'a> {
+pub(crate) fn number_option<'a>(alloc: Global, name: &'a str, help: &'a str) -> Arg<'a> {
     Arg::new(alloc, name)
         .long(name)
         .value_name("NUMBER")
@@ -58,27 +58,27 @@ pub(crate) fn with_rules<'a>(
 ) -> Result<Command<'a>, AllocError> {
     command
         .next_help_heading("Rules")
-        .arg(number(
+        .arg(number_option(
             alloc,
             "core",
             "Core size in cells, 8 to 65535 [default: 8000]",
         ))?
-        .arg(number(
+        .arg(number_option(
             alloc,
             "cycles",
             "Cycles until a tie, one turn per warrior each, 1 to 1000000 [default: 80000]",
         ))?
-        .arg(number(
+        .arg(number_option(
             alloc,
             "tasks",
             "Most tasks of a warrior, 1 to 8000 [default: 8000]",
         ))?
-        .arg(number(
+        .arg(number_option(
             alloc,
             "length",
             "Most instructions of a warrior, 1 to 200 [default: 100]",
         ))?
-        .arg(number(
+        .arg(number_option(
             alloc,
             "distance",
             "Least distance between warriors in cells, from the length to half the core [default: 100]",
@@ -105,9 +105,7 @@ pub(crate) fn number_of<'a>(
     }
 }
 
-// Returns the 32-bit number that a word is. It may have a sign. Out of line, so that the hot loop
-// begins at a multiple of 32 (docs/HOT_LOOP.md, "To move it").
-#[inline(never)]
+// Returns the 32-bit number that a word is. It may have a sign.
 fn number_in(word: &str) -> Option<u32> {
     match word.parse::<i64>() {
         Ok(number) => u32::try_from(number).ok(),

@@ -1,12 +1,12 @@
 //! Progress and explanations on standard error.
-ghost use Rattle.std.specs.Prelude.{◌≡◌, ◌<◌, ◌≤◌, ◌/◌};
+ghost use Rattle.std.specs.Prelude.{◌≡◌, ◌<◌, ◌≤◌, ◌/◌, codes};
 
-use crate::command_line::TuneWords;
-use crate::finding::Finding;
-use crate::notes::{tell_idle, tell_lost_ranges, tell_template_notes, tell_unused};
-use crate::refusal::{Refused, explain};
+use crate::telling::finding::Finding;
+use crate::telling::notes::{tell_idle, tell_lost_ranges, tell_template_notes, tell_unused};
+use crate::telling::refusal::{Refused, explain};
+use crate::telling::witness::Witness;
 use crate::telling::{tell, tell_error, tell_line};
-use crate::witness::Witness;
+use crate::words::command_line::TuneWords;
 use itoa::Buffer;
 use rc_instr::Outlet;
 use std::alloc::{AllocError, Global};
@@ -296,9 +296,9 @@ fn tell_left<V: Write>(err: &mut Outlet<V>, done: u64, count: u64, millis: u64) 
 
 // Returns a time in whole seconds, minutes or hours, and the unit.
 fn in_units(seconds: u64) -> (u64, &'static str)
-    ensures seconds { seconds < 120 → result.0 ≡ seconds }
-    ensures minutes { 120 ≤ seconds → seconds < 7200 → result.0 ≡ seconds / 60 }
-    ensures hours { 7200 ≤ seconds → result.0 ≡ seconds / 3600 }
+    ensures seconds { seconds < 120 → (result.0 ≡ seconds) × (result.1.now ≡ codes " s") }
+    ensures minutes { 120 ≤ seconds → seconds < 7200 → (result.0 ≡ seconds / 60) × (result.1.now ≡ codes " min") }
+    ensures hours { 7200 ≤ seconds → (result.0 ≡ seconds / 3600) × (result.1.now ≡ codes " h") }
 {
     if seconds < 120 {
         (seconds, " s")

@@ -4,8 +4,8 @@ ghost use Rattle.tune_problem.specs.Parts.{part};
 ghost use Rattle.tune_problem.specs.declared.part.Part.{Part};
 ghost use Rattle.cwtune.specs.CommandLine.{part_word, IsCounted};
 
-use crate::part_word::read_part;
-use crate::usage_error::BadValue;
+use crate::words::part_word::read_part;
+use crate::words::usage_error::BadValue;
 use clap::{Arg, ArgAction, ArgMatches};
 use std::alloc::Global;
 use tune_cert::Share;

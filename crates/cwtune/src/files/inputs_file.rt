@@ -2,10 +2,10 @@
 //! folder that it ran in, and the size and the digest of each of its files. No result depends on
 //! it.
 
-use crate::beginning::begins_with;
-use crate::command_line::{TuneWords, VERSION};
-use crate::digest::Digested;
-use crate::replacing::place_at;
+use crate::files::beginning::begins_with;
+use crate::files::digest::Digested;
+use crate::files::replacing::place_at;
+use crate::words::command_line::{TuneWords, VERSION};
 use std::alloc::{AllocError, Global};
 use std::fs::Metadata;
 use std::os::unix::fs::MetadataExt;

@@ -1,11 +1,11 @@
 //! Why a text is refused, in words, and the limits that faults are about.
 
-use crate::command_line::TuneWords;
-use crate::help_lines::tell_help;
-use crate::range_line::{tell_bad_range, tell_neighbours};
+use crate::telling::help_lines::tell_help;
+use crate::telling::range_line::{tell_bad_range, tell_neighbours};
 use crate::telling::{
     line_at, records_in, tell, tell_broken, tell_most, tell_reason, tell_record, tell_source,
 };
+use crate::words::command_line::TuneWords;
 use itoa::Buffer;
 use mars_fight::{ScheduleFault, ScheduleFaultKind};
 use rc_asm::{AsmFault, AsmKind};

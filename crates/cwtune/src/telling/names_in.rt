@@ -1,8 +1,9 @@
 //! The names of a text: where one is defined, and which one of a line has no value.
 
-use crate::line::{Line, line_of};
-use rc_text::{NameClass, is_reserved_name, is_same_word, name_class};
+use crate::telling::line::{Line, line_of};
+use rc_text::{NameClass, is_blank, is_reserved_name, is_same_word, name_class};
 use std::alloc::Global;
+use tune_template::is_range_line;
 
 // The most lines that are looked into for a name without a value.
 const MOST_LINES: usize = 64;
@@ -64,8 +65,11 @@ pub(crate) fn has_ranges(text: &[u8]) -> bool {
 
 // Returns the name of the constant of a range line.
 fn constant_in(line: &[u8]) -> Option<&[u8]> {
+    if !is_range_line(line) {
+        return None;
+    }
     let rest = line.strip_prefix(b";@tune")?;
-    rest.split(|byte| *byte == b' ' || *byte == b'\t')
+    rest.split(|byte| is_blank(*byte))
         .find(|word| !word.is_empty())
 }
 

@@ -3,10 +3,10 @@
 ghost use Rattle.std.specs.Prelude.{◌≡◌, ◌↔◌, ◌≤◌, length, IfOk, IfSome, IsTrue, IsErrOf};
 ghost use Rattle.cwtune.specs.CertFile.{BeginsAsCert, names_twice};
 
-use crate::beginning::begins_with;
-use crate::command_line::TuneWords;
-use crate::digest::{Digested, Digesting};
-use crate::replacing::{Place, place_at};
+use crate::files::beginning::begins_with;
+use crate::files::digest::{Digested, Digesting};
+use crate::files::replacing::{Place, place_at};
+use crate::words::command_line::TuneWords;
 use std::alloc::Global;
 use std::fs::{Metadata, OpenFile, OpenOptions};
 use std::io::{Read, Write};

@@ -1,12 +1,12 @@
-//! The command that the words name: the first word, since no option stands before it.
+//! The command that the words name: the first word, since no option comes before it.
 ghost use Rattle.std.specs.Prelude.{◌≡◌, ◌↔◌, map, IsTrue, string_bytes};
-ghost use Rattle.cwtune.specs.CommandLine.{AskForFight, command_of, command_word};
+ghost use Rattle.cwtune.specs.CommandLine.{AsksForFight, command_of, command_word};
 
-use crate::command_line::Request;
+use crate::words::command_line::Request;
 
 // Checks for the shortest words of a fight: none, or `fight` alone.
-pub(crate) fn ask_for_fight(words: &[String]) -> bool
-    ensures { IsTrue result ↔ AskForFight (map string_bytes words.now) }
+pub(crate) fn asks_for_fight(words: &[String]) -> bool
+    ensures { IsTrue result ↔ AsksForFight (map string_bytes words.now) }
 {
     match words {
         [] => true,

@@ -1,19 +1,19 @@
 //! The command line, as the library `clap` reads it.
 ghost use Rattle.std.specs.Prelude.{◌≡◌, ◌≤◌, map, IfOk, IfSome, IsNone, string_bytes};
-ghost use Rattle.cwtune.specs.CommandLine.{AskForFight, command_of, command_word};
+ghost use Rattle.cwtune.specs.CommandLine.{AsksForFight, command_of, command_word};
 
-use crate::aim_options::{floor_option, keep_option};
-use crate::command_word::{ask_for_fight, is_named};
-use crate::help::{asks_for_help, command_in};
-use crate::method_options::{MethodWords, all_option, cache_option, method_words};
-use crate::options::{
-    check_options, explain_option, fight_numbers, number, progress_option, rules_of, tune_options,
-    with_rules,
+use crate::words::aim_options::{floor_option, keep_option};
+use crate::words::command_word::{asks_for_fight, is_named};
+use crate::words::help::{asks_for_help, command_in};
+use crate::words::method_options::{MethodWords, all_option, cache_option, method_words};
+use crate::words::options::{
+    check_options, explain_option, fight_numbers, number_option, progress_option, rules_of,
+    tune_options, with_rules,
 };
-use crate::part_word::part_option;
-use crate::setting_word::which_setting;
-use crate::share_word::share_option;
-use crate::usage_error::{BadValue, bad_value, not_first, one_file};
+use crate::words::part_word::part_option;
+use crate::words::setting_word::which_setting;
+use crate::words::share_word::share_option;
+use crate::words::usage_error::{BadValue, bad_value, not_first, one_file};
 use clap::builder::ValueParser;
 use clap::{Arg, ArgAction, ArgMatches, Command, Error, value_parser};
 use mars_core::Side;
@@ -84,10 +84,10 @@ pub(crate) enum Request<'a> {
 // Returns what the words after the program's name ask for, or `clap`'s answer: its help, or a usage
 // error. The shortest words for a fight are recognised without `clap`, so that they take no memory.
 pub(crate) fn request_of<'a>(alloc: Global, words: &'a [String]) -> Result<Request<'a>, Error>
-    ensures fight { AskForFight (map string_bytes words.entry.now) → result ≡ Ok Request.Fight }
+    ensures fight { AsksForFight (map string_bytes words.entry.now) → result ≡ Ok Request.Fight }
     ensures named { IfOk result (λ r. command_of (map string_bytes words.entry.now) ≡ command_word r) }
 {
-    if ask_for_fight(words) {
+    if asks_for_fight(words) {
         return Ok(Request::Fight);
     }
     let command = command_in(words);
@@ -98,12 +98,12 @@ pub(crate) fn request_of<'a>(alloc: Global, words: &'a [String]) -> Result<Reque
     if is_named(words, &request) {
         return Ok(request);
     }
-    Err(not_first(commands(alloc, duel(alloc)?)?)?)
+    Err(not_first(commands(alloc, duel_command(alloc)?)?)?)
 }
 
 // Parses the words.
 fn parsed_request<'a>(alloc: Global, words: &'a [String]) -> Result<Request<'a>, Error> {
-    let matches = commands(alloc, duel(alloc)?)?.try_get_matches_from(words)?;
+    let matches = commands(alloc, duel_command(alloc)?)?.try_get_matches_from(words)?;
     match matches.subcommand() {
         Some(("fight", found)) => fight_request(alloc, words, found),
         Some(("asm", found)) => asm_request(alloc, found),
@@ -124,12 +124,12 @@ fn give_help(alloc: Global, command: &str) -> Result<(), Error> {
         words.push(String::from_str(alloc, command)?)?;
     }
     words.push(String::from_str(alloc, "--help")?)?;
-    let _nothing = commands(alloc, duel(alloc)?)?.try_get_matches_from(words.as_slice())?;
+    let _nothing = commands(alloc, duel_command(alloc)?)?.try_get_matches_from(words.as_slice())?;
     Ok(())
 }
 
 // Makes the command `fight` without words of its own: the fight text is on standard input.
-fn fight<'a>(alloc: Global) -> Result<Command<'a>, AllocError> {
+fn fight_command<'a>(alloc: Global) -> Result<Command<'a>, AllocError> {
     Command::new(alloc, "fight")
         .about("Play a fight, of two Redcode files or the one described on standard input")
         .override_usage("cwtune fight\n       cwtune fight [OPTIONS] CANDIDATE OPPONENT")
@@ -137,7 +137,7 @@ fn fight<'a>(alloc: Global) -> Result<Command<'a>, AllocError> {
 }
 
 // Makes the command `fight` with two files.
-fn duel<'a>(alloc: Global) -> Result<Command<'a>, AllocError> {
+fn duel_command<'a>(alloc: Global) -> Result<Command<'a>, AllocError> {
     let candidate = "Redcode source of the candidate, at address 0";
     let opponent = "Redcode source of the opponent";
     let position = "Where the opponent is loaded [default: half of the core]";
@@ -147,10 +147,10 @@ fn duel<'a>(alloc: Global) -> Result<Command<'a>, AllocError> {
         .action(ArgAction::Set)
         .value_parser(ValueParser::Names(&SIDES))
         .help("Who moves first, the candidate or the opponent [default: c]");
-    let command = fight(alloc)?
+    let command = fight_command(alloc)?
         .arg(file(alloc, "CANDIDATE", candidate).required(false))?
         .arg(file(alloc, "OPPONENT", opponent).required(false))?
-        .arg(number(alloc, "position", position))?
+        .arg(number_option(alloc, "position", position))?
         .arg(first)?;
     with_rules(alloc, command)
 }
@@ -165,7 +165,7 @@ fn fight_request<'a>(
         return request_without_files(alloc, words);
     };
     let Some(opponent) = found.get_str("OPPONENT") else {
-        return Err(one_file(duel(alloc)?)?);
+        return Err(one_file(duel_command(alloc)?)?);
     };
     match fight_numbers(found) {
         Ok((rules, position)) => Ok(Request::Duel(DuelWords {
@@ -175,14 +175,14 @@ fn fight_request<'a>(
             position,
             first: side_of(found.get_str("first")),
         })),
-        Err(bad) => Err(bad_value(alloc, bad, duel(alloc)?, "cwtune fight")?),
+        Err(bad) => Err(bad_value(alloc, bad, duel_command(alloc)?, "cwtune fight")?),
     }
 }
 
 // Returns what `fight` without files asks for. It takes no words but `--explain`, so `clap` is
 // asked again for such a command, and reports any other word as unexpected.
 fn request_without_files<'a>(alloc: Global, words: &'a [String]) -> Result<Request<'a>, Error> {
-    let _nothing = commands(alloc, fight(alloc)?)?.try_get_matches_from(words)?;
+    let _nothing = commands(alloc, fight_command(alloc)?)?.try_get_matches_from(words)?;
     Ok(Request::Fight)
 }
 
@@ -194,7 +194,7 @@ fn side_of(word: Option<&str>) -> Side {
     }
 }
 
-fn asm<'a>(alloc: Global) -> Result<Command<'a>, AllocError> {
+fn asm_command<'a>(alloc: Global) -> Result<Command<'a>, AllocError> {
     let file = Arg::new(alloc, "FILE")
         .required(true)
         .action(ArgAction::Set)
@@ -215,7 +215,7 @@ fn asm<'a>(alloc: Global) -> Result<Command<'a>, AllocError> {
 fn asm_request<'a>(alloc: Global, found: &ArgMatches<'a>) -> Result<Request<'a>, Error> {
     let rules = match rules_of(found) {
         Ok(rules) => rules,
-        Err(bad) => return Err(bad_value(alloc, bad, asm(alloc)?, "cwtune asm")?),
+        Err(bad) => return Err(bad_value(alloc, bad, asm_command(alloc)?, "cwtune asm")?),
     };
     // `clap` requires the file.
     let file = found.get_str("FILE").unwrap_or("");
@@ -243,7 +243,7 @@ fn bad_setting(alloc: Global, word: &str) -> Result<Error, AllocError> {
         option: "--setting <W>",
         wanted: "neither an index nor `start`",
     };
-    bad_value(alloc, bad, asm(alloc)?, "cwtune asm")
+    bad_value(alloc, bad, asm_command(alloc)?, "cwtune asm")
 }
 
 fn file<'a>(alloc: Global, name: &'a str, help: &'a str) -> Arg<'a> {
@@ -260,7 +260,7 @@ fn template<'a>(alloc: Global) -> Arg<'a> {
     file(alloc, "TEMPLATE", help)
 }
 
-fn settings<'a>(alloc: Global) -> Result<Command<'a>, AllocError> {
+fn settings_command<'a>(alloc: Global) -> Result<Command<'a>, AllocError> {
     Command::new(alloc, "settings")
         .about(
             "Print the number of settings of a template, and the name, number of values and START of each constant",
@@ -302,7 +302,7 @@ const TUNE_KEEP: &str =
 const TUNE_FLOOR: &str =
     "Find settings that total this or more, and drop the others early [default: 0]";
 
-fn tune<'a>(alloc: Global) -> Result<Command<'a>, AllocError> {
+fn tune_command<'a>(alloc: Global) -> Result<Command<'a>, AllocError> {
     let command = Command::new(alloc, "tune")
         .about(
             "Find the best setting of a template, write its certificate to CERT, and print a report",
@@ -325,7 +325,7 @@ fn tune_request<'a>(alloc: Global, found: &ArgMatches<'a>) -> Result<Request<'a>
             method: method_words(found),
             demand,
         }),
-        Err(bad) => Err(bad_value(alloc, bad, tune(alloc)?, "cwtune tune")?),
+        Err(bad) => Err(bad_value(alloc, bad, tune_command(alloc)?, "cwtune tune")?),
     }
 }
 
@@ -335,7 +335,7 @@ const CHECK_KEEP: &str =
 const CHECK_FLOOR: &str =
     "Accept also a certificate that no setting totals this or more, with the line `accepted none below F`";
 
-fn check<'a>(alloc: Global) -> Result<Command<'a>, AllocError> {
+fn check_command<'a>(alloc: Global) -> Result<Command<'a>, AllocError> {
     let command = Command::new(alloc, "check")
         .about("Check a certificate: print `accepted best W total T` or `rejected row R REASON`")
         .arg(share_option(alloc))?
@@ -351,7 +351,7 @@ fn check_request<'a>(alloc: Global, found: &ArgMatches<'a>) -> Result<Request<'a
             share,
             demand,
         }),
-        Err(bad) => Err(bad_value(alloc, bad, check(alloc)?, "cwtune check")?),
+        Err(bad) => Err(bad_value(alloc, bad, check_command(alloc)?, "cwtune check")?),
     }
 }
 
@@ -374,10 +374,10 @@ fn top_command<'a>(alloc: Global) -> Result<Command<'a>, AllocError> {
 fn commands<'a>(alloc: Global, fight: Command<'a>) -> Result<Command<'a>, AllocError> {
     top_command(alloc)?
         .subcommand(fight)?
-        .subcommand(asm(alloc)?)?
-        .subcommand(settings(alloc)?)?
-        .subcommand(tune(alloc)?)?
-        .subcommand(check(alloc)?)
+        .subcommand(asm_command(alloc)?)?
+        .subcommand(settings_command(alloc)?)?
+        .subcommand(tune_command(alloc)?)?
+        .subcommand(check_command(alloc)?)
 }
 
 // `clap` requires each of the files, so the empty names are never used.

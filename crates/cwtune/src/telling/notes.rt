@@ -7,7 +7,7 @@ use rc_instr::Outlet;
 use rc_text::{Lexer, is_blank, is_same_word};
 use std::alloc::Global;
 use std::io::Write;
-use tune_template::Template;
+use tune_template::{Template, is_range_line};
 
 // Some editors begin a file with it.
 const BYTE_ORDER_MARK: &[u8] = b"\xef\xbb\xbf";
@@ -75,7 +75,7 @@ fn why_lost(line: &[u8]) -> &'static str {
 // Returns whether a line that is not a range line has a comment that begins as one does: after a
 // byte order mark or something else, or in other letters.
 fn has_lost_range(line: &[u8]) -> bool {
-    if is_range(line) {
+    if is_range_line(line) {
         return false;
     }
     for comment in line.split(|byte| *byte == b';').skip(1) {
@@ -84,21 +84,6 @@ fn has_lost_range(line: &[u8]) -> bool {
         }
     }
     false
-}
-
-fn is_range(line: &[u8]) -> bool {
-    match line.strip_prefix(b";@tune") {
-        Some(rest) => begins_blank(rest),
-        None => false,
-    }
-}
-
-// Checks for a blank at the front, or an empty text.
-fn begins_blank(text: &[u8]) -> bool {
-    match text {
-        [] => true,
-        [first, ..] => is_blank(*first),
-    }
 }
 
 // Returns whether the first word of a comment is `@tune`, in any letters.

@@ -1,9 +1,9 @@
 //! Which inputs of a rejected certificate differ from those of its tuning, as CERT.inputs says.
 
-use crate::command_line::TuneWords;
-use crate::digest::Digested;
-use crate::inputs_file::{digest_word, name_beside, part_word, rules_word};
-use crate::reading::read_file;
+use crate::files::digest::Digested;
+use crate::files::inputs_file::{digest_word, name_beside, part_word, rules_word};
+use crate::files::reading::read_file;
+use crate::words::command_line::TuneWords;
 use std::alloc::{AllocError, Global};
 use std::rt::Files;
 use std::str;

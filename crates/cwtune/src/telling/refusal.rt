@@ -1,9 +1,9 @@
 //! Explains a refusal after its line: the line of text at fault, and why it is refused.
 
-use crate::bounds::{tell_asm, tell_positions, tell_rules, tell_schedule, tell_template};
-use crate::command_line::{DuelWords, TuneWords};
-use crate::fault_line::say_asm;
+use crate::telling::bounds::{tell_asm, tell_positions, tell_rules, tell_schedule, tell_template};
+use crate::telling::fault_line::say_asm;
 use crate::telling::{tell, tell_broken, tell_most};
+use crate::words::command_line::{DuelWords, TuneWords};
 use rc_asm::AsmFault;
 use rc_instr::{Outlet, Rules};
 use std::alloc::Global;

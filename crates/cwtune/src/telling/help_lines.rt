@@ -1,7 +1,9 @@
 //! Lines `help: ..` after the reason of a refusal: what to write in place of what is refused here.
 
-use crate::line::{Line, bad_byte, line_of};
-use crate::names_in::{Meaning, definition_of, has_ranges, like_name, range_of, unknown_name};
+use crate::telling::line::{Line, bad_byte, line_of};
+use crate::telling::names_in::{
+    Meaning, definition_of, has_ranges, like_name, range_of, unknown_name,
+};
 use crate::telling::{tell, tell_bytes, tell_name};
 use itoa::Buffer;
 use rc_asm::AsmKind;

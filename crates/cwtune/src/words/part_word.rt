@@ -4,7 +4,7 @@ ghost use Rattle.tune_problem.specs.Parts.{whole};
 ghost use Rattle.tune_problem.specs.declared.part.Part.{Part};
 ghost use Rattle.cwtune.specs.CommandLine.{part_word, IsCounted};
 
-use crate::usage_error::BadValue;
+use crate::words::usage_error::BadValue;
 use clap::{Arg, ArgAction, ArgMatches};
 use rc_instr::{after, decimal_at, decimal_of};
 use std::alloc::Global;

@@ -26,7 +26,7 @@ const VALUED: [(&str, &str); 11] = [
 
 // Returns whether a word asks for help or for the version. Without such a word no run that only
 // prints what `clap` says is a success.
-#[tactic(auto, using(crate::proofs::Words::asks_for_help))]
+#[tactic(auto, using(crate::proofs::CommandWords::asks_for_help))]
 pub(crate) fn mentions_help(words: &[String]) -> bool
     ensures { IsTrue result → AsksForHelp (map string_bytes words.now) }
 {

@@ -1,8 +1,8 @@
 //! What the program tells of a run besides its result.
 
-use crate::command_line::TuneWords;
-use crate::finding::Finding;
-use crate::refusal::Refused;
+use crate::telling::finding::Finding;
+use crate::telling::refusal::Refused;
+use crate::words::command_line::TuneWords;
 use std::alloc::Global;
 use std::io;
 use tune_cert::{Standing, Watcher};
