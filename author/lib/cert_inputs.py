@@ -11,6 +11,7 @@ from .endings import Fault
 from .program import HILLS, Rules, fill_rules
 
 KINDS = ["template", "schedule", "opponent"]
+SO = ", so files and rules cannot be compared with the tuning's\n"
 
 
 class Listed(NamedTuple):
@@ -78,7 +79,7 @@ def settle(asked):
         fill_rules(asked, HILLS[asked.hill])
     if isinstance(found, str):
         fill_rules(asked, Rules())
-        return f"note: {found}, so files and rules cannot be compared with the tuning's\n"
+        return f"note: {found}{SO}"
     fill_rules(asked, found.rules)
     refuse_rules(asked, found.rules)
     for kind in KINDS[:2]:
@@ -87,6 +88,11 @@ def settle(asked):
     if hasattr(asked, "opponents"):
         asked.opponents = settled_opponents(found, asked.opponents)
     return ""
+
+
+def why_of(note):
+    """Returns why the files of the tuning are not known, taken from the note of `settle`."""
+    return note.removeprefix("note: ").removesuffix(SO)
 
 
 def refuse_others(asked, cert, part, method):

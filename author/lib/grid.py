@@ -24,7 +24,7 @@ class Grid:
         """Returns the number of settings."""
         return math.prod(map(len, self.values))
 
-    def told(self, setting):
+    def constants(self, setting):
         """Returns the values of a setting as the report of `cwtune tune` says them."""
         return " ".join(f"{name}={value}" for name, value in zip(self.names, setting))
 

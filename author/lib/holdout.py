@@ -141,8 +141,8 @@ def read_words():
     asked = parser.parse_intermixed_args()
     asked.note = cert_inputs.settle(asked)
     if not asked.opponents:
-        why = asked.note.removeprefix("note: ").partition(",")[0].strip()
-        parser.error(f"give OPPONENT..: {why or 'the opponents of the tuning are not there'}")
+        why = cert_inputs.why_of(asked.note) or "the opponents of the tuning are not there"
+        parser.error(f"give OPPONENT..: {why}")
     if asked.rounds * len(asked.opponents) > MOST_FIGHTS:
         parser.error(f"the opponents times --rounds are more than {MOST_FIGHTS} fights")
     rules = rules_of(asked)
@@ -170,15 +170,15 @@ def main():
             print(f"{asked.against}: fresh {other}")
             print_gain(asked.against, found.best, best.minus(other))
         elif found.points(start := template.start) is None:
-            print(f"start {start}: does not assemble")
+            print(f"START, setting {start}: does not assemble")
         elif start == found.best:
             print(f"setting {start} is START: the tuning found nothing better")
         else:
             other = made.get(start) or play(asked, rules, shares, folder, "--setting", str(start),
                                             asked.template)
-            print_line(f"start {start}", found.total_of(start, fights), fights.greatest, other,
-                       template.constants(start))
-            print_gain("the start", found.best, best.minus(other))
+            print_line(f"START, setting {start}", found.total_of(start, fights), fights.greatest,
+                       other, template.constants(start))
+            print_gain("START", found.best, best.minus(other))
     if dropped:
         said = tuning_files.said_of_places(exact, asked.top)
         print(f"{dropped} settings were dropped: of the ranking {said}")

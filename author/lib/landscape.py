@@ -92,7 +92,7 @@ def draw_line(plot, table):
     return figure
 
 
-def squares(plot, table, x, y):
+def squares(table, x, y):
     """Returns totals and caps as arrays whose last two dimensions are those of y and x."""
     import numpy
     sizes = [len(values) for values in table.template.values]
@@ -111,7 +111,8 @@ def ticks(set_ticks, values):
 def grid_of(plot, count):
     """Returns a figure with room for `count` maps, and the axes of these."""
     if count > MOST_MAPS:
-        raise Fault(f"{count} maps; at most {MOST_MAPS} can be read")
+        raise Fault(f"{count} maps, one for each choice of the other constants; at most "
+                    f"{MOST_MAPS}: tune a template with fewer of them")
     columns = math.ceil(math.sqrt(count))
     rows = math.ceil(count / columns)
     figure, grid = plot.subplots(rows, columns, squeeze=False, layout="constrained",
@@ -124,7 +125,7 @@ def grid_of(plot, count):
 def draw_maps(plot, table, x, y):
     """Draws a map over the constants x and y for each choice of the others."""
     names, values = table.template.names, table.template.values
-    (totals, caps), others = squares(plot, table, x, y)
+    (totals, caps), others = squares(table, x, y)
     figure, maps, grid = grid_of(plot, len(totals))
     numbers = [total for total in table.totals if not math.isnan(total)]
     scale, greys = {"origin": "lower", "aspect": "auto"}, table.greys()
@@ -189,6 +190,18 @@ def axes_of(parser, asked, names):
     return names.index(wanted[0]), names.index(wanted[1])
 
 
+def refuse_opponent(parser, asked, fights):
+    """Refuses an opponent whose fights are not known, or that has none."""
+    if asked.opponent is None:
+        return
+    if not asked.schedule:
+        parser.error("--opponent needs --schedule")
+    opponents = sorted({fight.opponent for fight in fights})
+    if asked.opponent not in opponents:
+        parser.error(f"--opponent {asked.opponent}: the opponents of the schedule are "
+                     f"{', '.join(map(str, opponents))}")
+
+
 def make_parser():
     parser = command_parser(__doc__)
     add_words(parser, "template", "cert")
@@ -222,12 +235,10 @@ def main():
     template = tuning_files.Template(asked.template)
     found = tuning_files.Certificate(asked.cert)
     note = cert_inputs.settle(asked)
-    if not template.names or len(template.settings) != len(found.rows):
-        parser.error("the template has no constants, or the certificate is not of that template")
+    if not template.of(found).names:
+        parser.error("the template has no constants to draw")
     fights = found.fights(asked.schedule)
-    if asked.opponent is not None and not (
-            asked.schedule and any(fight.opponent == asked.opponent for fight in fights)):
-        parser.error("--opponent names an opponent of --schedule, from 0")
+    refuse_opponent(parser, asked, fights)
     places = axes_of(parser, asked, template.names)
     table, plot = Table(template, found, fights, asked.opponent), load_pyplot()
     title = (f"best {found.best}: {template.constants(found.best)}, total {found.total} of "

@@ -33,10 +33,10 @@ def print_scores(title, points, fights):
 
 
 def print_start(found, fights, template):
-    """Prints what the start setting made, and how much less than the best."""
+    """Prints what START made, and how much less than the best."""
     total = found.total_of(template.start, fights)
     said = "" if total is None else f", total {total}, {found.total - total} less than the best"
-    print_scores(f"start setting {template.start}{said} {template.constants(template.start)}",
+    print_scores(f"START, setting {template.start}{said} {template.constants(template.start)}",
                  found.points(template.start), fights)
 
 
@@ -100,8 +100,8 @@ def make_parser():
     add_words(parser, "cert")
     parser.add_argument("schedule", metavar="SCHEDULE", nargs="?",
                         help=f"{WORDS['schedule']} [default: that of the tuning]")
-    parser.add_argument("--template", metavar="FILE", help="names constants, and shows the start "
-                        "setting too [default: that of the tuning]")
+    parser.add_argument("--template", metavar="FILE", help="names constants, and shows START too "
+                        "[default: that of the tuning]")
     parser.add_argument("--top", type=number_from(1), default=10, metavar="K",
                         help="how many of the best settings [default: 10]")
     add_program(parser)
@@ -114,7 +114,8 @@ def main():
     asked = parser.parse_intermixed_args()
     note = cert_inputs.settle(asked)
     if asked.schedule is None:
-        parser.error("give SCHEDULE: CERT.inputs names none that is there")
+        why = cert_inputs.why_of(note) or "the schedule of the tuning is not there"
+        parser.error(f"give SCHEDULE: {why}")
     found = tuning_files.Certificate(asked.cert)
     fights = found.fights(asked.schedule)
     template = tuning_files.Template(asked.template).of(found) if asked.template else None

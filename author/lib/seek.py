@@ -89,8 +89,8 @@ class Climb:
         alone = self.tunings.best(self.setting, ())
         self.total = alone and alone[0]
         self.first = self.total
-        told = f"total {self.total} of {self.tunings.greatest}" if alone else "does not assemble:"
-        print(f"start: {told} {self.grid.told(self.setting)}", file=sys.stderr, flush=True)
+        said = f"total {self.total} of {self.tunings.greatest}" if alone else "does not assemble:"
+        print(f"start: {said} {self.grid.constants(self.setting)}", file=sys.stderr, flush=True)
         idle = 0
         for free in itertools.cycle(choices):
             if idle == len(choices):
@@ -98,7 +98,7 @@ class Climb:
             idle = 0 if self.step(free) else idle + 1
 
     def step(self, free):
-        """Tunes the constants `free`, tells of it, and returns whether that gained."""
+        """Tunes the constants `free`, prints what came, and returns whether that gained."""
         known = self.tunings.is_made(self.setting, free)
         best = self.tunings.best(self.setting, free)
         if best is None:
@@ -110,7 +110,7 @@ class Climb:
             self.setting, self.total = setting, total
         names = ",".join(self.grid.names[k] for k in free)
         if gains or not known:
-            print(f"{names}: total {self.total}{gain} {self.grid.told(self.setting)}, "
+            print(f"{names}: total {self.total}{gain} {self.grid.constants(self.setting)}, "
                   f"{0 if known else fights} fights", file=sys.stderr, flush=True)
         return gains
 
@@ -160,10 +160,10 @@ def higher(best, climb):
     return climb if best is None or climb.total > best.total else best
 
 
-def tell_end(args, grid, tunings, best, ended):
+def print_end(args, grid, tunings, best, ended):
     """Says what was found, and what is certain of it."""
     free = min(len(grid.names), 2 if args.pairs else 1)
-    print(f"found: total {best.total} of {tunings.greatest} {grid.told(best.setting)}, "
+    print(f"found: total {best.total} of {tunings.greatest} {grid.constants(best.setting)}, "
           f"{tunings.fights} fights in {len(tunings.made)} tunings{ended}", file=sys.stderr)
     if best.setting == grid.start:
         print("note: it is START, so nothing was gained", file=sys.stderr)
@@ -174,6 +174,20 @@ def tell_end(args, grid, tunings, best, ended):
     else:
         print(f"note: no setting of a {'plane' if free == 2 else 'line'} through it has a greater "
               f"total; one of the other {grid.count()} settings may", file=sys.stderr)
+
+
+def values_of(args, grid, setting):
+    """Returns the values of the template that is printed: those of the box, unless it has more
+    settings than `cwtune tune` takes."""
+    if args.box is None:
+        return grid.values
+    values = grid.box(setting, args.box)
+    settings = math.prod(map(len, values))
+    if settings <= MOST_SETTINGS:
+        return values
+    print(f"note: --box={args.box} would leave {settings} settings, more than the {MOST_SETTINGS} "
+          "that `cwtune tune` takes, so the ranges are not cut", file=sys.stderr)
+    return grid.values
 
 
 def make_parser():
@@ -206,10 +220,6 @@ def main():
     if best is None:
         raise Fault("no setting that was tried assembles; `cwtune asm --setting start` says why of "
                     "START")
-    tell_end(args, grid, tunings, best, ended)
-    values = grid.values if args.box is None else grid.box(best.setting, args.box)
-    settings = math.prod(map(len, values))
-    if args.box is not None and settings > MOST_SETTINGS:
-        raise Fault(f"a box of {settings} settings is more than the {MOST_SETTINGS} that `cwtune "
-                    "tune` takes: give a smaller --box", 2)
+    print_end(args, grid, tunings, best, ended)
+    values = values_of(args, grid, best.setting)
     sys.stdout.buffer.write(grid.text(values, best.setting))

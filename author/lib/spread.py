@@ -8,9 +8,10 @@ With --check-only a CERT that is there already, from wherever, is checked that w
 tuned.
 A job of a check holds the whole certificate in memory, 1 GiB of it at most.
 
-START is played first, for its total, and then its part begins before the others. Each part has the
-best total that is known when it begins as its floor (`cwtune tune --floor`), or one more if that
-setting comes before the part, so it drops what cannot be the best of all. With --keep K the first K
+START is played first, for its total, and then its part begins before the others. Each part begins
+with its setting that is the fewest steps from START, from which the others learn the order of their
+fights. Its floor (`cwtune tune --floor`) is the best total that is known when it begins, or one
+more if that setting comes before the part, so it drops what cannot be the best of all. With --keep K the first K
 of the ranking are found, and printed after the report. START is then not played first, and the
 floor is the K-th best total, once K are known. Rows and fights depend on which part ends when; the
 best setting, the ranking and the totals do not. With --hosts all parts have the floor that is known
@@ -42,41 +43,60 @@ NO_SUCH_PART = b"error: --part I/K: the template has fewer than K settings\n"
 MOST, MOST_KEPT = 2 ** 32 - 1, 1000
 
 
-def make_parser():
-    parser = command_parser(__doc__)
-    parser.add_argument("--jobs", type=number_from(1), default=os.cpu_count(), metavar="N",
-                        help="jobs that run side by side, on each host "
-                        "[default: the processors of this one]")
-    parser.add_argument("--parts", type=number_from(1), metavar="K",
-                        help="parts to split the settings into [default: 8 for each job]")
-    parser.add_argument("--shares", type=number_from(1, MOST), metavar="K",
-                        help="shares to split a check into [default: 8 for each job]")
-    parser.add_argument("--hosts", metavar="FILE", help="run on these hosts, a line each, over "
-                        "ssh (--sshloginfile of GNU parallel; `:` is this one)")
-    parser.add_argument("--anew", action="store_true",
-                        help="throw away what is done, and begin again")
-    parser.add_argument("--merge", type=number_from(1), metavar="K", help="run nothing, and put "
-                        "together what K jobs of a cluster wrote: CERT.1 .. CERT.K, or with "
-                        "--check-only CERT.1.check .. CERT.K.check")
-    checks = parser.add_mutually_exclusive_group()
+def add_jobs(parser):
+    """Adds the options of where the jobs run, and of how they are split."""
+    group = parser.add_argument_group("jobs")
+    group.add_argument("--jobs", type=number_from(1), default=os.cpu_count(), metavar="N",
+                       help="jobs that run side by side, on each host "
+                       "[default: the processors of this one]")
+    group.add_argument("--parts", type=number_from(1), metavar="K",
+                       help="parts to split the settings into [default: 8 for each job]")
+    group.add_argument("--shares", type=number_from(1, MOST), metavar="K",
+                       help="shares to split a check into [default: 8 for each job]")
+    group.add_argument("--hosts", metavar="FILE", help="run on these hosts, a line each, over "
+                       "ssh (--sshloginfile of GNU parallel; `:` is this one)")
+    group.add_argument("--anew", action="store_true",
+                       help="throw away what is done, and begin again")
+    group.add_argument("--merge", type=number_from(1), metavar="K", help="run nothing, and put "
+                       "together what K jobs of a cluster wrote: CERT.1 .. CERT.K, or with "
+                       "--check-only CERT.1.check .. CERT.K.check")
+
+
+def add_search(parser):
+    """Adds the options of how a part is tuned."""
+    group = parser.add_argument_group("search")
+    group.add_argument("--keep", type=number_from(1, MOST_KEPT), default=1, metavar="K",
+                       help="take the first K of the ranking in place of the best setting, as "
+                       "`--keep` of `cwtune tune` and `cwtune check` [default: 1]")
+    methods = group.add_mutually_exclusive_group()
+    methods.add_argument("--all", action="store_true",
+                         help="play every fight of every setting, as `cwtune tune --all`")
+    methods.add_argument("--cache", type=int, default=4096, metavar="N",
+                         help="how many settings are remembered in each part [default: 4096]")
+
+
+def add_check(parser):
+    """Adds the options of a check."""
+    group = parser.add_argument_group("check")
+    checks = group.add_mutually_exclusive_group()
     checks.add_argument("--check", action="store_true",
                         help="check the certificate, in shares, before it is written")
     checks.add_argument("--check-only", action="store_true",
                         help="tune nothing, and check CERT, in shares")
-    parser.add_argument("--work", metavar="FOLDER",
-                        help="where the shares that are done stay [default: CERT.shares]")
-    parser.add_argument("--all", action="store_true",
-                        help="play every fight of every setting, as `cwtune tune --all`")
-    parser.add_argument("--keep", type=number_from(1, MOST_KEPT), default=1, metavar="K",
-                        help="take the first K of the ranking in place of the best setting, as "
-                        "`--keep` of `cwtune tune` and `cwtune check` [default: 1]")
+    group.add_argument("--work", metavar="FOLDER",
+                       help="where the shares that are done stay [default: CERT.shares]")
+
+
+def make_parser():
+    parser = command_parser(__doc__)
     parser.add_argument("--progress", action="store_true",
                         help="print a line a minute on standard error, if it is not a terminal")
     parser.add_argument("--explain", action="store_true",
                         help="explain a refusal, and tell of START, as at a terminal")
     add_program(parser)
-    parser.add_argument("--cache", type=int, default=4096, metavar="N",
-                        help="how many settings are remembered in each part [default: 4096]")
+    add_search(parser)
+    add_check(parser)
+    add_jobs(parser)
     add_rules(parser)
     add_words(parser, "template", "schedule")
     parser.add_argument("cert", metavar="CERT", help="the file to which the certificate is "
@@ -135,7 +155,7 @@ def rejected_for_all(args, cert):
     """Returns the line of a certificate that is rejected for its form or for its best row, else
     nothing. Ends as `check` ends if it refuses an input.
 
-    The first of so many shares has no setting, so nothing else is looked at.
+    The first of 4294967295 shares has no setting, so nothing else is looked at.
     """
     done = run_program(args.program, "check", f"--share=1/{MOST}", *explained(args),
                        *spread_shares.keep_words(args.keep), *rules_of(args).words(), "--",
@@ -218,12 +238,14 @@ def say_missing(folder, progress, faults):
 def refuse_floors(parts):
     """Refuses parts of a cluster whose floors were too great to show which setting is the best."""
     best = best_of(parts)
-    most, first = (best.total(), index_of(best)) if best else (0, 0)
+    # A floor of 0 hides nothing. Without a best setting any other may hide one.
+    most, first = (best.total(), index_of(best)) if best else (-1, 0)
     for part in filter(Part.is_below, parts):
         floor = int(part.report["total"].split()[1])
         if floor - 1 > most or floor - 1 == most and part.first < first:
             raise Fault(f"the part from setting {part.first} on is below the floor {floor}, but "
-                        f"the greatest total found is {most}: a greater one may be there", 2)
+                        f"the greatest total found is {max(most, 0)}: a greater one may be there",
+                        2)
 
 
 def refuse_ranking(args, cert):
@@ -258,7 +280,7 @@ def finish(args, folder, progress):
     with whole_file(args.cert) as file, folder.whole().open() as whole:
         shutil.copyfileobj(whole, file)
     write_inputs(args)
-    tell_start(args)
+    print_start(args, folder.whole())
     report = report_of(parts, folder.count) + ranks
     print(*report, *([verdict] if verdict else []), sep="\n", flush=True)
     folder.end()
@@ -281,15 +303,16 @@ def write_inputs(args):
             os.unlink(name)
 
 
-def tell_start(args):
-    """Says on standard error what START made, if it played all fights and somebody asks."""
+def print_start(args, whole):
+    """Prints on standard error what START made, if it played all fights and somebody asks. `whole`
+    is the certificate."""
     if not explained(args):
         return
-    found, template = tuning_files.Certificate(args.cert), tuning_files.Template(args.template)
+    found, template = tuning_files.Certificate(str(whole)), tuning_files.Template(args.template)
     total = found.total_of(template.start, tuning_files.read_schedule(args.schedule))
     if total is not None:
-        print(f"  start {template.start} total {total} {template.constants(template.start)}",
-              file=sys.stderr)
+        print(f"  START, setting {template.start}, total {total} "
+              f"{template.constants(template.start)}", file=sys.stderr)
 
 
 def tune(args, count):
@@ -305,17 +328,27 @@ def tune(args, count):
         return finish(args, folder, progress)
 
 
+def refuse_idle(parser, args):
+    """Refuses options that would do nothing beside the others."""
+    idle = [("--merge", name) for name in ["parts", "hosts"] if args.merge]
+    idle += [("--check-only", name) for name in ["parts", "all"] if args.check_only]
+    for option, name in idle:
+        if getattr(args, name):
+            parser.error(f"argument {option}: not allowed with argument --{name}")
+    for name in ["shares", "work"]:
+        if getattr(args, name) and not (args.check or args.check_only):
+            parser.error(f"argument --{name}: needs --check or --check-only")
+
+
 def main():
     # What `kill` sends ends it as Ctrl-C does.
     signal.signal(signal.SIGTERM, signal.default_int_handler)
     parser = make_parser()
     args = parser.parse_args()
+    refuse_idle(parser, args)
     if not args.check_only:
         refuse_faults(args)
         return tune(args, count_settings(args))
-    for name in ["parts", "all"]:
-        if getattr(args, name):
-            parser.error(f"argument --check-only: not allowed with argument --{name}")
     line, status = check(args, count_settings(args), args.cert)
     print(line, end="", flush=True)
     return status

@@ -44,6 +44,8 @@ class Folder:
     files are its own.
     """
 
+    SENT = []
+
     def __init__(self, args, told, copies, settled, pieces):
         self.told, self.path = told, pathlib.Path(told).resolve()
         self.copies, self.settled, self.name = copies, settled, os.getpid()
@@ -130,6 +132,9 @@ class Folder:
     def in_order(self, todo):
         """Returns the pieces in the order in which they begin."""
         return todo
+
+    def prepare(self, number):
+        """Writes what only this piece reads, the files of the kinds `SENT`."""
 
     def file(self, number, kind):
         """Returns where this run writes something of a piece."""

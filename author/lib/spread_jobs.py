@@ -26,6 +26,7 @@ class Here:
 
     def start(self, number):
         folder = self.folder
+        folder.prepare(number)
         with (folder.file(number, "report").open("wb") as report,
               folder.file(number, "fault").open("wb") as fault):
             return subprocess.Popen(folder.words(number), cwd=folder.path, stdin=subprocess.DEVNULL,
@@ -51,6 +52,8 @@ class Hosts:
         if not shutil.which("parallel"):
             raise Fault("--hosts needs GNU parallel (Debian package `parallel`)", 2)
         self.folder, self.todo, self.over = folder, list(todo), False
+        for number in todo:
+            folder.prepare(number)
         piece = f"{{}}.{folder.name}"
         job = JOB.format(words=" ".join(folder.words("{}")), piece=piece,
                          after=folder.AFTER.format(piece=piece))
@@ -58,6 +61,7 @@ class Hosts:
         words = ["parallel", "--will-cite", "--jobs", str(args.jobs), "--retries", "3",
                  "--sshloginfile", hosts, "--workdir", str(folder.path), "--cleanup"]
         words += [word for copy in folder.copies for word in ("--basefile", copy.name)]
+        words += [word for kind in folder.SENT for word in ("--transferfile", f"{piece}.{kind}")]
         words += [word for kind in [*folder.KINDS, "status"]
                   for word in ("--return", f"{piece}.{kind}")]
         self.parallel = subprocess.Popen([*words, job], cwd=folder.path, stdin=subprocess.PIPE,

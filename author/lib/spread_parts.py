@@ -3,6 +3,8 @@
 In the folder `I.cert` is the certificate of part I, and `I.done` has its report and the hash of the
 certificate: the part is done if the certificate has this hash.
 
+START of a part is the setting in it that is the fewest steps from START of the template.
+
 The floor of a part is the best of the totals that are known when it begins, with --keep K the K-th
 best of them, or one more if the setting with this total comes before the part. If none of its
 settings reaches its floor, its report and its certificate say so.
@@ -14,7 +16,7 @@ from .endings import Fault
 from .program import rules_of
 from .spread_folder import Folder, copies_of, hash_of
 from .spread_jobs import end_with_parent
-from .tuning_files import Template
+from .tuning_files import MOST_BYTES, Template
 
 NO_CANDIDATE = "refused: NoCandidate\n"
 # The first words of the lines of a report, without those of the ranking.
@@ -120,10 +122,11 @@ class Parts(Folder):
     # The files that a run writes, and what the shell does after a run on another host, which may
     # have no certificate to send back.
     KINDS = ["cert", "report", "fault"]
+    SENT = ["red"]
     AFTER = "touch {piece}.cert; rm -f {piece}.cert.inputs; "
 
     def __init__(self, args, count, options):
-        self.options, self.args = options, args
+        self.options, self.args, self.template = options, args, Template(args.template)
         # The totals that are known, by the index of the setting.
         self.totals = {}
         settled = {"rules": rules_of(args)._asdict(), "cache": "all" if args.all else args.cache,
@@ -137,7 +140,7 @@ class Parts(Folder):
     def in_order(self, todo):
         """Returns the parts in the order in which they begin: that of START first. Plays START
         alone, if other parts need its total as their floor."""
-        start = Template(self.args.template).start
+        start = self.template.start
         with_start = part_with(start, self.pieces, self.count)
         others = [number for number in todo if number != with_start]
         if others and not self.args.all and self.args.keep == 1 and not self.totals:
@@ -172,11 +175,22 @@ class Parts(Folder):
         is_before = number != "{}" and v < (number - 1) * self.count // self.pieces
         return [f"--floor={total + is_before}"]
 
+    def prepare(self, number):
+        """Writes the template of a part: its START is the setting of the part that is the fewest
+        steps from START. The others play first the fights in which it made the fewest points, and
+        so are dropped sooner if it is like START. A text that would be too long stays as it is."""
+        own = part_of(number, self.pieces, self.count, {})
+        nearest = self.template.nearest_start(range(own.first, own.first + own.count))
+        text = self.template.with_start(nearest)
+        if len(text) > MOST_BYTES:
+            text = (self.path / "t.red").read_bytes()
+        self.file(number, "red").write_bytes(text)
+
     def words(self, number):
         """Returns the words that tune a part in the folder."""
+        own = f"{number}.{self.name}"
         return ["./cwtune", "tune", f"--part={number}/{self.pieces}", *self.options,
-                *self.floor(number), "t.red", "s.csv", f"{number}.{self.name}.cert",
-                *self.opponents]
+                *self.floor(number), f"{own}.red", "s.csv", f"{own}.cert", *self.opponents]
 
     def keep(self, number, status):
         """Keeps what a run of a part wrote, if that is a result. Returns the fault if it is not."""

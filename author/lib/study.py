@@ -104,7 +104,7 @@ class Study:
         stage("schedule", lambda: self.series(self.args.seed, self.args.rounds, "schedule.csv"),
               "schedule.csv")
         sought = stage("box", self.box, "box.red")
-        tell_box(self.folder.path, sought["sought"])
+        print_box(self.folder.path, sought["sought"])
         spread = stage("best", self.spread, "best.cert", "best.txt")
         winner, points, last = study_fresh.find(self, self.first())
         words = self.own("cwtune-warrior", f"--setting={winner}", "box.red")
@@ -120,7 +120,7 @@ class Study:
         self.folder.write("report.html", study_report.html_of(report).encode(errors="replace"))
 
 
-def tell_box(folder, sought):
+def print_box(folder, sought):
     """Says what will be exact, and what was only sought."""
     count, box = Grid(folder / "template.red").count(), Grid(folder / "box.red").count()
     if sought:
@@ -130,11 +130,11 @@ def tell_box(folder, sought):
         print(f"all {count} settings are tuned: their ranking is exact", flush=True)
 
 
-def told(values):
+def constants(values):
     return " ".join(f"{name}={value}" for name, value in values.items())
 
 
-def tell_end(folder, report):
+def print_end(folder, report):
     best, winner, start = report["ranking"][0], report["winner"], report["start"]
     greatest, gain = report["schedule"]["greatest"], report["gain"]
     print(f"tuned: setting {best['setting']} is best, total {best['tuned']} of {greatest}, START "
@@ -143,7 +143,7 @@ def tell_end(folder, report):
                      ("START", start)]:
         fresh = it["fresh"]
         print(f"fresh: {name}: {fresh['points']} of {3 * fresh['fights']} ({fresh['percent']:.1f}% "
-              f"+- {fresh['error']:.1f}) {told(it['values'])}")
+              f"+- {fresh['error']:.1f}) {constants(it['values'])}")
     if winner["values"] == start["values"]:
         print("the winner is START: nothing better was found")
     else:
@@ -190,7 +190,7 @@ def main():
     args = parser.parse_intermixed_args()
     study = Study(args, study_inputs.read(parser, args))
     try:
-        tell_end(study.folder, study.go())
+        print_end(study.folder, study.go())
     except KeyboardInterrupt:
         print(f"stopped: what is done is kept in {study.folder.told}: repeat the command to go on",
               file=sys.stderr)

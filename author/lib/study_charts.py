@@ -1,7 +1,7 @@
 """Draws bars and lines as SVG, without a script and for a page that has the styles of study_page.
 
-A picture is 360 units wide, as much as a phone shows, and its letters are 11 units high. What it
-says stands in a table beside it, too.
+A picture is 360 units wide, as much as a phone shows, and its letters are 11 units high. A table
+beside it has the same numbers.
 """
 import math
 from typing import NamedTuple

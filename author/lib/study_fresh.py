@@ -18,27 +18,19 @@ FIRST = 10
 START = "start"
 
 
-class Jobs(Here):
-    """Runs of `cwtune`, each with the time when it began."""
-
-    def __init__(self, *more):
-        super().__init__(*more)
-        self.begun = {}
-
-    def start(self, player):
-        self.begun[player] = time.monotonic()
-        return super().start(player)
-
-
 class Round:
     """A round as `Here` runs it: all players play `fights` fights against each opponent."""
 
     def __init__(self, study, number, fights):
         self.study, self.number, self.fights = study, number, fights
-        self.path = study.folder.path
+        self.path, self.begun = study.folder.path, {}
 
     def name(self, player):
         return f"fresh/{player}-{self.number}"
+
+    def prepare(self, player):
+        """Notes when the run of a player begins."""
+        self.begun[player] = time.monotonic()
 
     def words(self, player):
         study = self.study
@@ -54,12 +46,12 @@ class Round:
         who = "the winner and START" if START in players else f"{len(players)} settings"
         print(f"fresh fights, round {self.number}: {who}, "
               f"{self.fights * len(self.study.opponents)} each", file=sys.stderr, flush=True)
-        jobs, seconds = Jobs(self.study.args, self, players), {}
+        jobs, seconds = Here(self.study.args, self, players), {}
         try:
             while jobs.are_running():
                 for player, status in jobs.ended():
                     self.end_as(player, status)
-                    seconds[player] = time.monotonic() - jobs.begun[player]
+                    seconds[player] = time.monotonic() - self.begun[player]
                 time.sleep(0.01)
         finally:
             jobs.stop()
@@ -83,7 +75,8 @@ class Round:
 
 def seed_of(args, number):
     """Returns the first position of a round: another one than that of the schedule and of the other
-    rounds, if there are so many. A series that begins at the least position never leaves it."""
+    rounds, if there are enough positions. A series that begins at the least position never leaves
+    it."""
     rules = rules_of(args)
     low, high = rules.distance + 1, rules.core - rules.distance
     return low + (args.seed + number - low) % (high - low + 1) if low <= high else rules.distance

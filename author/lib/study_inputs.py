@@ -115,12 +115,12 @@ def refuse_start(args, grid):
         refuse(args, f"START of {args.warrior}", "--setting=start", "--", path.name, cwd=folder)
 
 
-def refuse(args, told, *words, **more):
+def refuse(args, name, *words, **more):
     """Refuses a text that `cwtune asm` refuses, with its status."""
     done = run_program(args.program, "asm", *EXPLAIN, *rules_of(args).words(), *words, **more)
     said = done.stderr.decode(errors="surrogateescape").strip()
     if done.returncode == 1:
-        raise Fault(f"{told} does not assemble: {said}")
+        raise Fault(f"{name} does not assemble: {said}")
     if done.returncode:
         raise Fault(said.partition(": ")[2], min(abs(done.returncode), 3))
 

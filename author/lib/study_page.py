@@ -111,7 +111,9 @@ def with_error(value, error):
 
 def percent(fresh):
     """Returns the percent of the points in fresh fights with its error, or a dash."""
-    return NOTHING if fresh is None else f"{decimal(fresh['percent'])}% ± {decimal(fresh['error'])}"
+    if fresh is None:
+        return NOTHING
+    return f"{decimal(fresh['percent'])}% ± {decimal(fresh['error'])}"
 
 
 def boxed(label, piece):
@@ -163,7 +165,7 @@ def listed(pairs):
 
 
 def source(label, plain):
-    """Returns a text as it stands in a file. A page drops the first line end of a `pre`."""
+    """Returns a text as it is in a file. A page drops the first line end of a `pre`."""
     return boxed(label, f"<pre>\n{text(plain)}</pre>")
 
 

@@ -63,9 +63,9 @@ def exactness(report):
         place = ("<strong>Exact, too:</strong> the first of all. The box is the whole template of "
                  f"{count(settings['template'])} settings, so none has a greater tuned total than "
                  "the first of the ranking.")
-    fresh = ("<strong>An estimate:</strong> the percent in fresh fights. The winner did best in the "
-             "fresh fights of the ranking below; then it and START played others, which alone count "
-             "here.")
+    fresh = ("<strong>An estimate:</strong> the percent in fresh fights. The winner did best in "
+             "the fresh fights of the ranking below; then it and START played others, which alone "
+             "count here.")
     return section("What is exact", "<ul>" + "".join(
         f"<li>{said}</li>" for said in (exact, place, fresh)) + "</ul>")
 

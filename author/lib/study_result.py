@@ -48,7 +48,7 @@ class Box:
                 for name, effect in zip(self.template.names, effects)]
 
 
-def fresh_told(points, names):
+def fresh_fights(points, names):
     """Returns the fresh fights of a player as the report has them."""
     fresh = fresh_of(points)
     opponents = [{"name": name, "wins": own.count("3"), "ties": own.count("1"),
@@ -81,7 +81,7 @@ def constants_of(grid, box, best):
 def ranking_of(box, points, names):
     """Returns the first of the ranking, each with its fresh fights."""
     return [{"rank": rank, "setting": v, "values": box.values(v), "tuned": total,
-             "fresh": fresh_told(points[str(v)], names)}
+             "fresh": fresh_fights(points[str(v)], names)}
             for rank, (total, v) in enumerate(box.full[:len(points)], 1)]
 
 
@@ -107,8 +107,8 @@ def report_of(study, sought, spread, winner, points, last):
         "schedule": {"fights": len(box.fights), "rounds": args.rounds, "seed": args.seed,
                      "greatest": box.fights.greatest},
         "start": {"values": dict(zip(grid.names, grid.start)), "tuned": tuned_of(grid, box, sought),
-                  "fresh": fresh_told(last[START], names)},
-        "winner": {**best, "fresh": fresh_told(last[winner], names)}, "ranking": ranking,
+                  "fresh": fresh_fights(last[START], names)},
+        "winner": {**best, "fresh": fresh_fights(last[winner], names)}, "ranking": ranking,
         "gain": gain_of(last[winner], last[START]),
         "landscape": box.landscape(int(winner)), "effects": box.effects(), "check": spread["check"],
         "commands": [it["command"] for it in study.folder.commands()], "files": digests(FILES),

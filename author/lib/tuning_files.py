@@ -7,16 +7,12 @@ import csv, functools, itertools, math, pathlib, re
 from typing import NamedTuple
 
 from .endings import Fault
-from .program import command_parser
 
-ABOUT = """Prints what each file is: a template, a schedule or a certificate.
-
-Example: cwtune-files my.red fights.csv my.cert
-"""
 HEADER = ["opponent", "position", "first"]
 BLANKS = b" \t\r"
 MOST_SETTINGS = 1000000
 MOST_BYTES = 65536
+LAST_WORD = re.compile(rb"[^ \t\r]+(?=[ \t\r]*$)")
 
 
 class Fight(NamedTuple):
@@ -42,7 +38,8 @@ class Template:
         text = pathlib.Path(path).read_bytes()
         if len(text) > MOST_BYTES or b"\0" in text or not text.strip():
             raise Fault(f"{path}: not a template, a schedule or a certificate")
-        lines = enumerate(text.split(b"\n"), 1)
+        self.lines = text.split(b"\n")
+        lines = enumerate(self.lines, 1)
         ranges = [read_range(path, *line) for line in lines if is_range_line(line[1])]
         self.names = [name for name, _, _ in ranges]
         self.values = [values for _, values, _ in ranges]
@@ -50,6 +47,27 @@ class Template:
             raise Fault(f"{path}: more than {MOST_SETTINGS} settings")
         self.settings = list(itertools.product(*self.values))
         self.start = self.settings.index(tuple(start for _, _, start in ranges))
+
+    def steps(self, v):
+        """Returns the index of each value of setting v within its range, the last constant first."""
+        indices = []
+        for values in reversed(self.values):
+            v, index = divmod(v, len(values))
+            indices.append(index)
+        return indices
+
+    def nearest_start(self, settings):
+        """Returns which of the settings, a range of indices, is the fewest steps from START; of
+        several the first."""
+        start = self.steps(self.start)
+        return min(settings, key=lambda v: sum(abs(own - other) for own, other
+                                               in zip(self.steps(v), start)))
+
+    def with_start(self, v):
+        """Returns the text of this template with setting v as START."""
+        values = iter(self.settings[v])
+        return b"\n".join(LAST_WORD.sub(b"%d" % next(values), line) if is_range_line(line) else line
+                          for line in self.lines)
 
     def constants(self, v):
         """Returns the values of setting v as the report says them."""
@@ -59,7 +77,8 @@ class Template:
     def of(self, found):
         """Returns this template, which has to have as many settings as a certificate has rows."""
         if len(self.settings) != len(found.rows):
-            raise Fault("the certificate is not of that template", 2)
+            raise Fault(f"the certificate is of {len(found.rows)} settings, and the template "
+                        f"has {len(self.settings)}", 2)
         return self
 
 
@@ -112,12 +131,14 @@ class Certificate(Rows):
                         f"{self.total}")
 
     def is_of(self, fights):
-        """Returns whether the certificate can be of these fights: the best setting played them
-        all, they give it its total, and no setting played another one."""
+        """Returns whether the certificate can be of these fights: it lists no other ones, and its
+        best setting played them all, has its total, and is the first of the ranking."""
         points = self.points(self.best)
         listed = [rest for kind, rest in self.rows if kind == "cap"]
-        return (sorted(points) == list(range(len(fights))) and cap(points, fights) == self.total
-                and all(fight < len(fights) for rest in listed for fight in rest))
+        if any(not 0 <= i < len(fights) for rest in listed for i in rest):
+            return False
+        return (len(points) == len(fights) and cap(points, fights) == self.total
+                and self.ranked(fights)[0][0][1] == self.best)
 
     def fights(self, schedule):
         """Returns the fights of a schedule, which is a path. Without one each weight is 1, and the
@@ -130,7 +151,7 @@ class Certificate(Rows):
             fights = Fights([Fight(0, 0, "c", 1)] * len(self.points(self.best)))
         if not self.is_of(fights):
             wrong = (f" is not a certificate of the schedule {schedule}" if schedule
-                     else ": the points of the best setting do not make its total")
+                     else ": its rows are not those of its best setting and total")
             raise Fault(self.path + wrong, 2)
         return fights
 
@@ -220,31 +241,3 @@ def said_of_places(exact, wanted):
     """Says how many of the first of a ranking are exact, though settings were dropped."""
     said = "the first is exact" if exact == 1 else f"the first {exact} are exact"
     return said if exact >= wanted else f"only {said} (tune --keep {wanted})"
-
-
-def describe(path):
-    """Returns a line that says what a file is."""
-    first = pathlib.Path(path).read_text("latin-1").split(",", 1)[0].lstrip("\xef\xbb\xbf\"\r\n")
-    if first == "opponent":
-        fights = read_schedule(path)
-        return f"schedule of {len(fights)} fights, greatest total {fights.greatest}"
-    if first == "cwcert":
-        found = Rows(path)
-        said = (f"none reaches the floor {found.total}" if found.best is None
-                else f"best {found.best} total {found.total}")
-        return f"certificate, version {found.version}, of {len(found.rows)} settings: {said}"
-    template = Template(path)
-    if not template.names:
-        return "text without a range line: a template of one setting"
-    return f"template of {len(template.settings)} settings, constants {' '.join(template.names)}"
-
-
-def make_parser():
-    parser = command_parser(ABOUT)
-    parser.add_argument("files", nargs="+", metavar="FILE")
-    return parser
-
-
-def main():
-    for path in make_parser().parse_args().files:
-        print(f"{path}: {describe(path)}")

@@ -1,8 +1,8 @@
 """Makes a template of an ordinary warrior: constants of the text get a range.
 
-The line `NAME EQU number` becomes the range line of NAME, and its number the start value, so that
-one text stays good for pMARS and every template is made from it. All other lines stay as they are.
-The template is printed only if its start setting is the warrior of the text. Without a range the
+The line `NAME EQU number` becomes the range line of NAME, and its number the START of that line, so
+that one text stays good for pMARS and every template is made from it. All other lines stay as they
+are. The template is printed only if its START is the warrior of the text. Without a range the
 numbers of the text that can have one are listed.
 
 Example: cwtune-vary my.red STEP=5:4000:10 FIRST=0:20:1 > my-template.red
@@ -129,8 +129,8 @@ def range_lines(line, equ, values):
     """Returns what takes the place of an EQU line: its comment, and the range line."""
     end = "\r" if line.endswith("\r") else ""
     comment = line.removesuffix("\r").partition(";")
-    told = [comment[1] + comment[2] + end] if comment[1] else []
-    return [*told, f";@tune {equ.name} {values[0]} {values[-1]} {values.step} {equ.value}{end}"]
+    kept = [comment[1] + comment[2] + end] if comment[1] else []
+    return [*kept, f";@tune {equ.name} {values[0]} {values[-1]} {values.step} {equ.value}{end}"]
 
 
 def template_of(path, text, ranges):
@@ -146,7 +146,7 @@ def template_of(path, text, ranges):
 def refuse_another(asked, text):
     """Refuses ranges whose start setting is another warrior than the text.
 
-    For this each constant has its start value alone, as `cwtune` takes at most a million settings.
+    For this each constant has its START alone, as `cwtune` takes at most a million settings.
     """
     starts = [Range(equ.name, range(equ.value, equ.value + 1)) for equ in equs_of(text)
               if equ.name in {wanted.name for wanted in asked.ranges}]
@@ -165,7 +165,7 @@ def refuse_another(asked, text):
         raise Fault("with range lines the text is another warrior")
 
 
-def tell_size(settings):
+def print_size(settings):
     """Says on standard error how many settings there are, and if that is too many for `tune`."""
     more = f", more than the {MOST_SETTINGS} that `cwtune tune` takes" * (settings > MOST_SETTINGS)
     print(f"note: {settings} settings{more}", file=sys.stderr)
@@ -215,4 +215,4 @@ def main():
             print("note: no line `NAME EQU number`", file=sys.stderr)
         return
     sys.stdout.buffer.write(made_of(asked, text))
-    tell_size(math.prod(len(wanted.values) for wanted in asked.ranges))
+    print_size(math.prod(len(wanted.values) for wanted in asked.ranges))

@@ -8,10 +8,10 @@ same load file of it as of the setting.
 
 Example: cwtune-warrior my.red my.cert > winner.red
 """
-import re, sys, tempfile
+import argparse, re, sys, tempfile
 
 from . import cert_inputs, tuning_files
-from .endings import Fault, number_from
+from .endings import Fault
 from .program import WORDS, add_program, add_rules, add_words, command_parser, load_of, rules_of
 
 HEAD = b";redcode"
@@ -20,8 +20,8 @@ MOST_OF_PMARS = 255
 
 
 def equ_line(name, value):
-    """Returns an EQU line. A negative value stands in parentheses, as the text may have a sign
-    before the name."""
+    """Returns an EQU line. A negative value is in parentheses, as the text may have a sign before
+    the name."""
     return f"{name} EQU {value}" if value >= 0 else f"{name} EQU ({value})"
 
 
@@ -65,11 +65,18 @@ def refuse_another(program, rules, path, setting, text):
         raise Fault("with the values as EQU lines the text is another warrior")
 
 
+def setting_word(word):
+    """Reads the W of --setting for argparse."""
+    if word != "start" and not re.fullmatch("[0-9]{1,7}", word):
+        raise argparse.ArgumentTypeError(f"{word} is neither an index from 0 nor `start`")
+    return word
+
+
 def setting_of(template, word):
     """Returns the index that a word names."""
     if word == "start":
         return template.start
-    setting = number_from(0)(word)
+    setting = int(word)
     if setting >= len(template.settings):
         raise Fault(f"the template has {len(template.settings)} settings, from 0", 2)
     return setting
@@ -83,7 +90,7 @@ def total_of_start(found, template, schedule):
     return found.total_of(template.start, found.fights(schedule))
 
 
-def tell_foreign(text):
+def print_foreign(text):
     """Says on standard error which lines pMARS does not take, or takes otherwise."""
     for number, line in enumerate(text.split(b"\n"), 1):
         code = line.partition(b";")[0]
@@ -96,7 +103,8 @@ def tell_foreign(text):
 
 def make_parser():
     parser = command_parser(__doc__)
-    parser.add_argument("--setting", metavar="W", help="the index of a setting, or `start`")
+    parser.add_argument("--setting", type=setting_word, metavar="W",
+                        help="the index of a setting, or `start`")
     add_program(parser)
     add_rules(parser, of_tuning=True)
     add_words(parser, "template")
@@ -124,6 +132,6 @@ def main():
     with open(asked.template, "rb") as file:
         text = text_of(file.read(), template, setting, totals)
     refuse_another(asked.program, rules_of(asked).words(), asked.template, setting, text)
-    tell_foreign(text)
+    print_foreign(text)
     sys.stdout.buffer.write(text)
     sys.stderr.write(note)

@@ -23,8 +23,8 @@ TUNE = ["--core=800", "t.red", "s.csv", "cert", "dat.red", "imp.red"]
 HOLDOUT = "cwtune-holdout --rounds 20 t.red cert"
 GAIN = ("setting 1, rank 1: tuning 16 of 18 (88.9%), fresh 88.9% +- 0.0 K=1\n"
         "setting 0, rank 2: tuning 15 of 18 (83.3%), fresh 83.3% +- 0.0 K=0\n"
-        "start 0: tuning 15 of 18 (83.3%), fresh 83.3% +- 0.0 K=0\n"
-        "over the start, setting 1: +5.6% +- 0.0, a gain\n")
+        "START, setting 0: tuning 15 of 18 (83.3%), fresh 83.3% +- 0.0 K=0\n"
+        "over START, setting 1: +5.6% +- 0.0, a gain\n")
 # Words, and the line with which they end, with status 2.
 OTHERS = [
     (HOLDOUT.replace("t.red", "other.red"), "other.red is not the template of the tuning"),
@@ -60,7 +60,7 @@ def readers(program, folder):
     yield compare("cwtune-holdout by CERT.inputs", (0, GAIN, ""), command(program, HOLDOUT, folder))
     status, out, err = command(program, "cwtune-scores cert", folder)
     yield compare("cwtune-scores by CERT.inputs", (0, True, ""),
-                  (status, "start setting 0, total 15, 1 less than the best K=0\n" in out, err))
+                  (status, "START, setting 0, total 15, 1 less than the best K=0\n" in out, err))
     status, out, err = command(program, "cwtune-warrior t.red cert", folder)
     line = ";strategy cwtune: setting 1 of 2, total 16; total of START 15\n"
     yield compare("cwtune-warrior by CERT.inputs", (0, True, ""), (status, line in out, err))
@@ -69,6 +69,10 @@ def readers(program, folder):
     yield compare("in another folder", (0, ""), (status, err))
     for words, line in OTHERS:
         yield compare(words, (2, "", f"error: {line}\n"), command(program, words, folder))
+    (folder / "s.csv").rename(folder / "moved.csv")
+    yield compare("a schedule that has moved", (2, "", "cwtune-scores: error: give SCHEDULE: the "
+                  "schedule of the tuning is not there\n"),
+                  command(program, "cwtune-scores cert", folder))
     place.write("t.red", FILES["other.red"])
     yield compare("a template that was changed", (2, "", "error: t.red is not the template of the "
                   "tuning\n"), command(program, HOLDOUT, folder))
@@ -91,10 +95,10 @@ def unknown(program, folder):
             place.write("cert.inputs", text)
         said = note(f"cert.inputs {why}")
         yield compare(f"CERT.inputs: {name}", (0, GAIN, said), command(program, given, folder))
-        status, out, err = command(program, HOLDOUT, folder)
-        yield compare(f"CERT.inputs: {name}, no opponents", (
-            2, "", f"cwtune-holdout: error: give OPPONENT..: cert.inputs {why}\n"),
-            (status, out, err))
+        for words, missing in [(HOLDOUT, "OPPONENT.."), ("cwtune-scores cert", "SCHEDULE")]:
+            line = f"{words.split()[0]}: error: give {missing}: cert.inputs {why}\n"
+            yield compare(f"CERT.inputs: {name}, no {missing}", (2, "", line),
+                          command(program, words, folder))
 
 
 def writers(program, folder):

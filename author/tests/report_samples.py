@@ -98,7 +98,7 @@ def sample(sizes, opponents=8):
 
 
 def renamed(piece, names):
-    """Returns a piece of a report in which other words stand for some, and are keys for them."""
+    """Returns a piece of a report in which some words are replaced, as values and as keys."""
     if isinstance(piece, dict):
         return {names.get(name, name): renamed(value, names) for name, value in piece.items()}
     if isinstance(piece, list):

@@ -6,7 +6,7 @@ look at the difference before you keep them. A picture is compared by its words 
 how many grey marks it has. Prints what failed, and as its last line `N passed, N failed`; the exit
 status is 1 if a run failed.
 """
-import argparse, contextlib, os, pathlib, re, signal, subprocess, sys, tempfile, time
+import argparse, contextlib, os, pathlib, re, shutil, signal, subprocess, sys, tempfile, time
 
 from author.lib.endings import Fault, run_tool
 from author.lib.program import program_of
@@ -53,11 +53,21 @@ BAD = {
     "half.cert": b"cwcert,1,2\nnone,0,4\ncap,0,0:0\nsame,1,0\n",
     "dash.cert": b"cwcert,1,2\nbest,-,4\ncap,0,0:0\nsame,1,0\n",
     "total.cert": (TUNING / "step.cert").read_bytes().replace(b"best,3,16", b"best,3,17"),
+    # Setting 0 totals more than the best setting that is named.
+    "lead.cert": b"cwcert,1,2\nbest,1,3\ncap,0,0:3 1:3\ncap,1,0:3 1:0\n",
+    "minus.cert": b"cwcert,1,2\nbest,0,4\ncap,0,0:3 1:1\ncap,1,-9:0\n",
+    "two.red": b";@tune K 0 1 1 0\nJMP 1-K\n",
+    "plain.cert": b"cwcert,1,1\nbest,0,3\ncap,0,0:3\n",
+    "plain.red": b"MOV 0, 1\n",
+    "maps.cert": b"cwcert,1,37\nbest,0,3\ncap,0,0:3\n" + b"".join(
+        b"same,%d,0\n" % v for v in range(1, 37)),
+    "maps.red": b";@tune A 0 36 1 0\n;@tune B 0 0 1 0\n;@tune C 0 0 1 0\nMOV 0, 1\n",
     "range.red": b"NOP\n;@tune K 0 5 1\n",
     "ranges.red": b"".join(b";@tune %c 0 9999 1 0\n" % name for name in b"ABC"),
 }
 NO_FILE = "No such file or directory"
 BELOW = "it names no best setting, since none reaches the floor 4"
+WRONG_ROWS = "its rows are not those of its best setting and total"
 # What the commands have to refuse: the words, the line on standard error, and the status.
 REFUSALS = [
     ("cwtune-scores none schedule.csv", f"failed: none: {NO_FILE}", 3),
@@ -73,6 +83,11 @@ REFUSALS = [
     *((f"cwtune-scores step.cert {name}",
        f"error: step.cert is not a certificate of the schedule {name}", 2)
       for name in ["six.csv", "weighted.csv"]),
+    *((f"cwtune-scores {name} two.csv",
+       f"error: {name} is not a certificate of the schedule two.csv", 2)
+      for name in ["lead.cert", "minus.cert"]),
+    ("cwtune-holdout --top 1 two.red lead.cert x.red", f"error: lead.cert: {WRONG_ROWS}", 2),
+    ("cwtune-landscape two.red minus.cert x.png", f"error: minus.cert: {WRONG_ROWS}", 2),
     ("cwtune-scores step.cert schedule.csv --template range.red",
      "refused: range.red: line 2 is not a range", 1),
     ("cwtune-scores step.cert schedule.csv --template ranges.red",
@@ -98,20 +113,31 @@ REFUSALS = [
     ("cwtune-landscape stone.red all-fights.cert x.png --axes STEP,STEP",
      "cwtune-landscape: error: --axes takes two of the constants STEP, FIRST, as in A,B", 2),
     ("cwtune-landscape stone.red all-fights.cert x.png --opponent 1",
-     "cwtune-landscape: error: --opponent names an opponent of --schedule, from 0", 2),
+     "cwtune-landscape: error: --opponent needs --schedule", 2),
     ("cwtune-landscape stone.red all-fights.cert x.png --schedule schedule.csv --opponent 5",
-     "cwtune-landscape: error: --opponent names an opponent of --schedule, from 0", 2),
+     "cwtune-landscape: error: --opponent 5: the opponents of the schedule are 0, 1, 2, 3, 4", 2),
+    ("cwtune-landscape plain.red plain.cert x.png",
+     "cwtune-landscape: error: the template has no constants to draw", 2),
     ("cwtune-landscape none step.cert x.png", f"failed: none: {NO_FILE}", 3),
     ("cwtune-landscape step.red binary x.png", "refused: binary: not a certificate", 1),
-    ("cwtune-landscape step.red total.cert x.png",
-     "error: total.cert: the points of the best setting do not make its total", 2),
+    ("cwtune-landscape step.red total.cert x.png", f"error: total.cert: {WRONG_ROWS}", 2),
     ("cwtune-landscape step.red step.cert x.png --schedule six.csv",
      "error: step.cert is not a certificate of the schedule six.csv", 2),
     *((f"cwtune-landscape step.red step.cert {name}",
        f"cwtune-landscape: error: the picture's name has to end with .png or .svg: {name}", 2)
       for name in ["x.jpg", "x", "png"]),
 ]
-NO_FOLDER = ("cwtune-landscape step.red step.cert none/x.png", f"failed: none/x.png: {NO_FILE}", 3)
+# What needs matplotlib to be refused.
+NOT_DRAWN = [
+    ("cwtune-landscape step.red step.cert none/x.png", f"failed: none/x.png: {NO_FILE}", 3),
+    ("cwtune-landscape maps.red maps.cert x.png",
+     "refused: 37 maps, one for each choice of the other constants; at most 36: tune a template "
+     "with fewer of them", 1),
+]
+# What runs the program before it writes anything.
+RUNNING = ["cwtune-warrior step.red --setting 3", "cwtune-vary ../warriors/dwarf.red step=4:5",
+           "cwtune-seek --jobs=2 step.red schedule.csv ../warriors/dwarf.red",
+           "cwtune-study step.red ../warriors/dwarf.red"]
 COMMANDS = sorted(path.name for path in AUTHOR.glob("cwtune-*"))
 PICTURES = {
     "line.txt": "cwtune-landscape step.red step.cert",
@@ -155,7 +181,8 @@ def helps():
     """Asks each command for help. Yields names, and what was wrong."""
     for name in COMMANDS:
         status, out, _ = run(name, "--help")
-        yield f"{name} --help", [] if status == 0 and len(out) > 100 else ["no help"]
+        yield compare(f"{name} --help", (0, 1, 1), (
+            status, out.count("\nExit status"), out.count(f"\nExample: {name} ")))
 
 
 def closed():
@@ -165,6 +192,19 @@ def closed():
                               preexec_fn=lambda: os.close(1))
         yield compare(f"{name} without a standard output", (3, "failed: no standard output\n"),
                       (done.returncode, done.stderr))
+
+
+def without_program():
+    """Runs commands of a release where no program is on the PATH. Yields names, and what was
+    wrong."""
+    with tempfile.TemporaryDirectory() as folder:
+        shutil.copytree(AUTHOR, f"{folder}/author", ignore=shutil.ignore_patterns("tests"))
+        for words in RUNNING:
+            done = subprocess.run([sys.executable, *f"{folder}/author/{words}".split()], cwd=TUNING,
+                                  env={"PATH": folder}, capture_output=True, text=True)
+            yield compare(f"{words} without a program", (
+                2, "error: no cwtune here or on the PATH: give --program FILE\n"),
+                (done.returncode, done.stderr))
 
 
 def refusals(rows, python):
@@ -261,13 +301,14 @@ def main():
     results = {name: said(*words.split()) for name, words in PLAIN.items()}
     if not asked.plain:
         python = with_matplotlib()
-        rows = [*REFUSALS, NO_FOLDER]
+        rows = [*REFUSALS, *NOT_DRAWN]
         results |= {name: draw(python, words) for name, words in PICTURES.items()}
     if asked.store:
         EXPECTED.mkdir(exist_ok=True)
         for name, result in results.items():
             (EXPECTED / name).write_text(result, "utf-8")
-    return tally([*stored(results), *helps(), *closed(), *refusals(rows, python), *signals(),
+    return tally([*stored(results), *helps(), *closed(), *without_program(),
+                  *refusals(rows, python), *signals(),
                   *warriors.trials(program), *varying.trials(program), *origins.trials(program),
                   *studying.trials(program), *spreading.trials(program),
                   *sharing.trials(program), *reporting.trials()])

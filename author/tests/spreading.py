@@ -247,6 +247,15 @@ def faults(place):
         name, number = words.split("=")
         said = f"cwtune-spread: error: argument {name}: {number} is not 1 or more\n"
         yield compare(words, (2, "", said), place.spread(words, *SMALL))
+    for words, said in [
+        ("--all --cache=5", "argument --cache: not allowed with argument --all"),
+        ("--merge=2 --parts=2", "argument --merge: not allowed with argument --parts"),
+        ("--merge=2 --hosts=x", "argument --merge: not allowed with argument --hosts"),
+        ("--shares=2", "argument --shares: needs --check or --check-only"),
+        ("--work=x", "argument --work: needs --check or --check-only"),
+    ]:
+        yield compare(words, (2, "", f"cwtune-spread: error: {said}\n"),
+                      place.spread(*words.split(), *SMALL))
 
 
 def methods(place):
@@ -261,7 +270,7 @@ def methods(place):
                   err)
     place.clear()
     yield compare("--explain tells of START", 1, place.spread("--explain", *DECOY)[2].count(
-        "  start 94 total "))
+        "  START, setting 94, total "))
     place.clear()
     place.write("x.red", ";@tune K 0 5 1 2\nDAT 1/0\n")
     tuned = place.tune("--explain", *SMALL)
@@ -348,10 +357,14 @@ RANKED = [*RULES, "steps.red", "both.csv", "CERT", "dat.red", "imp.red"]
 
 def write_ranked(place):
     """Writes a template of 12 settings: three total 4, START among them, two do not assemble, and
-    the others total 3. Also writes a stand-in for `cwtune` that notes what it is asked for."""
+    the others total 3. Also writes a stand-in for `cwtune` that notes what it is asked for, and the
+    range line of a part's template."""
     place.write("steps.red", ";@tune K 0 11 1 5\nJMP K % 5\nDAT 8/(K-3), 7/(K-9)\n")
-    place.write("noting", f'#!/bin/sh\necho "$*" >> {place.folder}/words\nexec {place.program} '
-                          '"$@"\n')
+    place.write("noting", f"""#!/bin/sh
+echo "$*" >> {place.folder}/words
+for word; do case $word in [0-9]*.red) grep '^;@tune' $word >> {place.folder}/ranges;; esac; done
+exec {place.program} "$@"
+""")
     (place.folder / "noting").chmod(0o755)
 
 
@@ -369,6 +382,9 @@ def floors(place):
     yield compare("START's part is first, and floors are the best total, or one more", [
         [], ["--part=2/4", "--floor=4"], ["--part=1/4", "--floor=4"], ["--part=3/4", "--floor=5"],
         ["--part=4/4", "--floor=5"]], parts[1:])
+    yield compare("a part begins with its setting that is the fewest steps from START",
+                  [f";@tune K 0 11 1 {start}" for start in [5, 2, 6, 9]],
+                  place.read("ranges").decode().splitlines())
     place.clear()
 
 
@@ -466,7 +482,8 @@ def progress(place):
     shown = re.compile(r"6 of 12 parts, 63 of 126 settings, \d+ fights, \d+:\d\d left, best \d+ "
                        r"total \d+ DECOY.*\x1b\[K")
     yield compare("a line of progress", True, any(shown.fullmatch(line) for line in lines))
-    told = f"\x1b[K  start 94 total {total_of_start(place)} DECOY=1 PLACE=4000 STEP=3045\n"
+    told = (f"\x1b[K  START, setting 94, total {total_of_start(place)} DECOY=1 PLACE=4000 "
+            "STEP=3045\n")
     yield compare("the line is cleared, and START is told", told, lines[-1])
 
 

@@ -99,8 +99,8 @@ def foreign(place):
     (place.folder / "t.study/best.cert").unlink(missing_ok=True)
     place.write("t.study/best.cert", "a text\n")
     status, _, err = place.study("t.red", "all")
-    yield compare("a command's fault is that of the study", (2, True), (
-        status, "CERT is a text of another kind" in err or "best.cert" in err))
+    yield compare("a command's fault is that of the study", (2, True), (status, err.endswith(
+        "error: CERT is a text but not a certificate, and is not overwritten: best.cert\n")))
 
 
 def refusals(place):

@@ -28,6 +28,7 @@ late    EQU  7
 """
 TEMPLATE = TEXT.replace("STEP EQU 5 ; of the bombs", "; of the bombs\n;@tune STEP 1 9 4 5")
 FAR = ";@tune far -30 10 10 -20"
+LARGE = ";@tune A 0 9999 1 2\n;@tune B 0 9999 1 2\nDAT A, B\n"
 WARRIORS = [str(EXAMPLES / "warriors" / f"{name}.red")
             for name in ["dwarf", "imp-ring", "scanner", "replicator", "core-clear"]]
 
@@ -133,6 +134,11 @@ def climbs(place):
     box = grid.Grid(place.folder / "box.red")
     yield compare("a box is around it", (0, found.start, True), (
         boxed[0], box.start, all(len(values) <= 5 for values in box.values)))
+    place.write("large.red", LARGE)
+    large = sought(place, "--fights=1", "--box=9999", template=place.folder / "large.red")
+    yield compare("a box of too many settings is not cut", (
+        0, LARGE, "note: --box=9999 would leave 100000000 settings, more than the 1000000 that "
+        "`cwtune tune` takes, so the ranges are not cut"), (*large[:2], large[2][-1]))
     few = sought(place, "--fights=1")
     yield compare("--fights ends it after a tuning", (
         0, "found: total 12 of 30 STEP=3045 FIRST=3000, 10 fights in 1 tunings, ended after 10 "
@@ -171,7 +177,7 @@ def refused_climbs(place):
     """Gives `cwtune-seek` what it refuses."""
     place.write("one.red", "MOV 0, 1\n")
     place.write("none.red", ";@tune K 0 5 1 2\nDAT 1/0\n")
-    place.write("large.red", ";@tune A 0 9999 1 2\n;@tune B 0 9999 1 2\nDAT A, B\n")
+    place.write("large.red", LARGE)
     schedule = str(TUNING / "schedule.csv")
     for words, end in [
         (["one.red"], (1, "", "refused: one.red: no range line, which begins `;@tune` at the left "

@@ -67,8 +67,12 @@ def warriors(program, folder):
     for words, said in [
         (["step.red"], "CERT is missing: give it, or --setting W"),
         (["step.red", "step.cert", "--setting", "0"], "give CERT or --setting, and not both"),
-        (["stone.red", "step.cert"], "the certificate is not of that template"),
+        (["stone.red", "step.cert"],
+         "the certificate is of 21 settings, and the template has 273"),
         (["step.red", "--setting", "21"], "the template has 21 settings, from 0"),
+        *((["step.red", "--setting", word],
+           f"argument --setting: {word} is neither an index from 0 nor `start`")
+          for word in ["x", "-1"]),
     ]:
         came = run("cwtune-warrior", "--program", program, *words)
         yield f"cwtune-warrior {' '.join(words)}", [] if (
@@ -98,13 +102,13 @@ def gains(program, folder):
         ("one.csv", ["imp.red"],
          "setting 1, rank 1: tuning 1 of 3 (33.3%), fresh 20 of 60 (33.3% +- 0.0) K=1\n"
          "setting 0, rank 2: tuning 0 of 3 (0.0%), fresh 0 of 60 (0.0% +- 0.0) K=0\n"
-         "start 0: tuning 0 of 3 (0.0%), fresh 0 of 60 (0.0% +- 0.0) K=0\n"
-         "over the start, setting 1: +33.3% +- 0.0, a gain\n"),
+         "START, setting 0: tuning 0 of 3 (0.0%), fresh 0 of 60 (0.0% +- 0.0) K=0\n"
+         "over START, setting 1: +33.3% +- 0.0, a gain\n"),
         ("two.csv", ["dat.red", "imp.red"],
          "setting 1, rank 1: tuning 16 of 18 (88.9%), fresh 88.9% +- 0.0 K=1\n"
          "setting 0, rank 2: tuning 15 of 18 (83.3%), fresh 83.3% +- 0.0 K=0\n"
-         "start 0: tuning 15 of 18 (83.3%), fresh 83.3% +- 0.0 K=0\n"
-         "over the start, setting 1: +5.6% +- 0.0, a gain\n"),
+         "START, setting 0: tuning 15 of 18 (83.3%), fresh 83.3% +- 0.0 K=0\n"
+         "over START, setting 1: +5.6% +- 0.0, a gain\n"),
     ]:
         Place(program, folder, {}).run(["tune", "--all", "t.red", schedule, "cert", *opponents],
                                        keep=True)
