@@ -1,20 +1,28 @@
-.PHONY: look test cases build prove demo bench compare pmars memory tools dist deb install uninstall
+.PHONY: help look demo dist deb install uninstall \
+    test cases prove build tools memory bench compare pmars
 
 PROGRAM = crates/cwtune/out/cwtune
 PREFIX = /usr/local
 PYTHON = python3 -m
 
-# Tunes the example template with a quick build that is not proved: a first look, within two minutes.
-look:
-	@sh gate/look.sh
+# Lists the targets.
+help:
+	@echo 'to use it:     look demo dist deb install uninstall'
+	@echo 'to change it:  test cases prove build tools memory bench compare pmars'
+	@echo 'The comment above each target in Makefile says what it does.'
 
-# Runs the whole gate on a copy of the tree: every proof, every test, every edit that must be refused,
-# and all that tries the program, with one last line `N passed, N failed`.
+# Tunes the example template with a quick build that is not proved: a first look, within two
+# minutes.
+look:
+	@sh examples/look.sh
+
+# Runs the whole gate on a copy of the tree: every proof, every test, every edit that must be
+# refused, and all that tries the program, with one last line `N passed, N failed`.
 test:
 	@$(PYTHON) gate.gate
 
-# Proves and builds the program, and plays the cases of input and output, the pipes, the terminals and
-# the cuts, without the rest of the gate.
+# Proves and builds the program, and plays the cases of input and output, the pipes, the terminals
+# and the cuts, without the rest of the gate.
 cases: build
 	@for one in play_cases pipes terminals cuts; do $(PYTHON) gate.$$one $(PROGRAM) || exit 1; done
 
@@ -48,9 +56,9 @@ memory: build
 tools: build
 	@$(PYTHON) author.tests.run
 
-# Plays a thousand fights and assembles texts by pMARS too, and fails if something differs that is not
-# known to. PMARS=PATH is a server build; without it one is built. SEED=N repeats a comparison, and
-# FIGHTS=N and TEXTS=N say how much is compared.
+# Plays a thousand fights and assembles texts by pMARS too, and fails if something differs that is
+# not known to. PMARS=PATH is a server build; without it one is built. SEED=N repeats a comparison,
+# and FIGHTS=N and TEXTS=N say how much is compared.
 compare: build
 	@$(PYTHON) pmars.compare $(SEED:%=--seed %) $(FIGHTS:%=--fights %) $(TEXTS:%=--texts %) \
 	    $(or $(PMARS),"$$(sh pmars/pmars.sh)")

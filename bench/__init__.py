@@ -1,1 +1,1 @@
-"""The benchmark: `python3 bench/run.py`."""
+"""The benchmark. At the top: `python3 -m bench.measure`."""

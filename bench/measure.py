@@ -4,20 +4,14 @@ Plays each fight of fights/, the same fights cut short, assembles each text of w
 the templates of examples/tuning/, several times; the least time counts. Given a pMARS server
 build, plays the fights with it too, after the series of pairs.py. README.md says what is measured.
 """
+import argparse, math, os, pathlib, subprocess, tempfile, time
 
-import argparse
-import math
-import os
-import pathlib
-import subprocess
-import sys
-import tempfile
-import time
+from author.lib.endings import Fault, number_from, run_tool
+from author.lib.program import BUILT, program_of
 
-from .pairs import WrongPoints, print_pairs, processor_time
+from .pairs import print_pairs, processor_time
 
 HERE = pathlib.Path(__file__).resolve().parent
-PROGRAM = HERE.parent / "crates" / "cwtune" / "out" / "cwtune"
 # The result line that each fight must give.
 EXPECTED = {
     "imps": "tie 1 turns 2000000",
@@ -42,10 +36,10 @@ SMALLEST = "DAT 0\n"
 LEAST_PART = 0.05
 # A program that takes longer for one run than this many seconds is stopped.
 LONGEST = 120
-
-
-class WrongResult(Exception):
-    """A fight that did not end as it must, or was too short to measure."""
+# Options that say how often something is measured: the name, the least and the usual number, and of
+# what.
+COUNTS = [("runs", 1, 10, "fight"), ("series", 0, 3, "series beside pMARS"),
+          ("short", 0, 3, "short fight"), ("texts", 0, 200, "text"), ("tunings", 0, 3, "tuning")]
 
 
 class Fight:
@@ -76,7 +70,7 @@ class Cwtune:
     """The program of this repository: reads a fight text, prints a result line."""
 
     def __init__(self, program):
-        self.program = [str(program)]
+        self.program = [program]
 
     def prepare(self, fight):
         """Returns two plays: of the fight, and of its start alone."""
@@ -113,7 +107,7 @@ class Cwtune:
         """Plays one fight and returns its seconds."""
         seconds, output = timed(self.program, text)
         if expected is not None and output != expected + "\n":
-            raise WrongResult(f"{self.program[0]} gave {output!r}, expected {expected!r}")
+            raise Fault(f"{self.program[0]} gave {output!r}, expected {expected!r}", 3)
         return seconds
 
 
@@ -121,7 +115,7 @@ class Pmars:
     """A pMARS server build, which reads load files as Redcode. The candidate is loaded at 0."""
 
     def __init__(self, program, folder):
-        self.program = str(program)
+        self.program = program
         self.folder = pathlib.Path(folder)
 
     def command(self, fight):
@@ -167,7 +161,7 @@ class Pmars:
         """Plays one fight and returns its seconds."""
         seconds, output = timed(command, "")
         if expected is not None and output != expected:
-            raise WrongResult(f"{self.program} gave {output!r}, expected {expected!r}")
+            raise Fault(f"{self.program} gave {output!r}, expected {expected!r}", 3)
         return seconds
 
 
@@ -177,13 +171,14 @@ def timed(command, text):
         source.write(text.encode("ascii"))
         source.seek(0)
         before = time.perf_counter()
-        done = subprocess.run(
-            command, stdin=source, capture_output=True, timeout=LONGEST, check=False
-        )
+        try:
+            done = subprocess.run(command, stdin=source, capture_output=True, timeout=LONGEST)
+        except subprocess.TimeoutExpired:
+            raise Fault(f"{command[0]} took more than {LONGEST} seconds", 3) from None
         seconds = time.perf_counter() - before
     if done.returncode != 0:
         words = done.stderr.decode(errors="replace").strip()
-        raise WrongResult(f"{command[0]} ended with status {done.returncode}: {words}")
+        raise Fault(f"{command[0]} ended with status {done.returncode}: {words}", 3)
     return seconds, done.stdout.decode("ascii")
 
 
@@ -212,7 +207,7 @@ def rate(turns, seconds, start):
     """Returns turns per second without the start, which must be at most half of the time."""
     if seconds < 2 * start:
         took = f"{turns} turns took {seconds:.6f} s, the start alone {start:.6f} s"
-        raise WrongResult(f"{took}: too short to tell")
+        raise Fault(f"{took}: too short to tell", 3)
     return turns / (seconds - start)
 
 
@@ -246,12 +241,12 @@ def fastest_texts(program, runs):
         best = [math.inf] * len(files)
         start = math.inf
         for _ in range(runs):
-            start = min(start, timed([str(program), "asm", str(smallest)], "")[0])
+            start = min(start, timed([program, "asm", str(smallest)], "")[0])
             for number, file in enumerate(files):
-                seconds, output = timed([str(program), "asm", str(file)], "")
+                seconds, output = timed([program, "asm", str(file)], "")
                 if output != expected[number]:
                     load = file.with_suffix(".load")
-                    raise WrongResult(f"{program} asm {file} did not give {load}")
+                    raise Fault(f"{program} asm {file} did not give {load}", 3)
                 best[number] = min(best[number], seconds)
     instructions = [output.count("\n") - 1 for output in expected]
     return best, instructions, start
@@ -282,7 +277,7 @@ def fastest_tuning(program, name, runs):
         for _ in range(runs):
             seconds, output = processor_time([program, "tune", *files, *opponents])
             if output != report:
-                raise WrongResult(f"{program} tune did not give {TUNING / TEMPLATES[name]}")
+                raise Fault(f"{program} tune did not give {TUNING / TEMPLATES[name]}", 3)
             best = min(best, seconds)
     return best, int(report.split()[1])
 
@@ -295,69 +290,58 @@ def print_tuning(program, runs):
         print(f"{name:<14}{settings:>10}{settings / seconds:>12.1f}", flush=True)
 
 
-def read_options():
-    options = argparse.ArgumentParser(description=__doc__.splitlines()[0])
-    path = {"type": pathlib.Path, "metavar": "PATH"}
-    count = {"type": int, "metavar": "N"}
-    program = "the program (default: crates/cwtune/out/cwtune)"
-    options.add_argument("--bin", default=PROGRAM, help=program, **path)
-    options.add_argument("--pmars", help="a pMARS server build to compare with", **path)
-    options.add_argument("--runs", default=10, help="runs of each fight (default: 10)", **count)
-    options.add_argument("--series", default=3, help="runs of each series (default: 3)", **count)
-    options.add_argument("--short", default=3, help="runs of short fights (default: 3)", **count)
-    options.add_argument("--texts", default=200, help="runs of each text (default: 200)", **count)
-    options.add_argument("--tunings", default=3, help="runs of each tuning (default: 3)", **count)
-    read = options.parse_args()
-    # The processors of a shared machine differ by a third and more, and the two programs would not
-    # be given the same ones.
-    os.sched_setaffinity(0, {min(os.sched_getaffinity(0))})
-    if read.runs < 1:
-        options.error("--runs is at least 1")
-    for name in ("series", "short", "texts", "tunings"):
-        if getattr(read, name) < 0:
-            options.error(f"--{name} is at least 0")
-    for program in (read.bin, read.pmars):
-        if program is not None and not program.is_file():
-            options.error(f"there is no program {program}")
-    return read
+def print_fights(players, fights, runs):
+    """Prints a line per fight: turns per second, and beside pMARS the mean and the least ratio."""
+    heads = f"{'pMARS':>10}{'ratio':>8}" if len(players) > 1 else ""
+    print(f"{'fight':<14}{'turns':>10}{'M turns/s':>12}{heads}", flush=True)
+    ratios = []
+    for fight in fights:
+        rates = best_rates(players, fight, runs)
+        line = f"{fight.name:<14}{fight.turns:>10}{rates[0] / 1e6:>12.1f}"
+        if len(rates) > 1:
+            ratios.append(rates[0] / rates[1])
+            line += f"{rates[1] / 1e6:>10.1f}{ratios[-1]:>8.2f}"
+        print(line, flush=True)
+    if ratios:
+        mean = math.exp(sum(map(math.log, ratios)) / len(ratios))
+        print(f"geometric mean of the ratios {mean:.2f}, least {min(ratios):.2f}")
+
+
+def make_parser():
+    parser = argparse.ArgumentParser(description=__doc__.splitlines()[0])
+    parser.add_argument("--bin", default=str(BUILT), metavar="PATH",
+                        help="the program [default: the one built here]")
+    parser.add_argument("--pmars", metavar="PATH", help="a pMARS server build to compare with")
+    for name, least, number, what in COUNTS:
+        parser.add_argument(f"--{name}", type=number_from(least), default=number, metavar="N",
+                            help=f"runs of each {what} [default: {number}]")
+    return parser
 
 
 def main():
-    options = read_options()
-    if options.pmars is not None and options.series > 0:
-        print_pairs(options.bin.resolve(), options.pmars.resolve(), options.series)
+    asked = make_parser().parse_args()
+    pmars = asked.pmars and program_of([asked.pmars], "make pmars")
+    program = program_of([asked.bin])
+    # The processors of a shared machine differ by a third and more, and the two programs would not
+    # be given the same ones.
+    os.sched_setaffinity(0, {min(os.sched_getaffinity(0))})
+    if pmars and asked.series:
+        print_pairs(program, pmars, asked.series)
         print()
     fights = [Fight(HERE / "fights" / f"{name}.fight") for name in EXPECTED]
-    ratios = []
     with tempfile.TemporaryDirectory() as folder:
-        players = [Cwtune(options.bin.resolve())]
-        if options.pmars is not None:
-            players.append(Pmars(options.pmars.resolve(), folder))
-        heads = f"{'pMARS':>10}{'ratio':>8}" if options.pmars else ""
-        print(f"{'fight':<14}{'turns':>10}{'M turns/s':>12}{heads}", flush=True)
-        for fight in fights:
-            rates = best_rates(players, fight, options.runs)
-            line = f"{fight.name:<14}{fight.turns:>10}{rates[0] / 1e6:>12.1f}"
-            if options.pmars is not None:
-                ratios.append(rates[0] / rates[1])
-                line += f"{rates[1] / 1e6:>10.1f}{ratios[-1]:>8.2f}"
-            print(line, flush=True)
-        if ratios:
-            mean = math.exp(sum(map(math.log, ratios)) / len(ratios))
-            print(f"geometric mean of the ratios {mean:.2f}, least {min(ratios):.2f}")
-        if options.short > 0:
+        players = [Cwtune(program)] + ([Pmars(pmars, folder)] if pmars else [])
+        print_fights(players, fights, asked.runs)
+        if asked.short:
             print()
-            print_short(players, fights, options.short, folder)
-    if options.texts > 0:
+            print_short(players, fights, asked.short, folder)
+    if asked.texts:
         print()
-        print_texts(options.bin.resolve(), options.texts)
-    if options.tunings > 0:
+        print_texts(program, asked.texts)
+    if asked.tunings:
         print()
-        print_tuning(options.bin.resolve(), options.tunings)
+        print_tuning(program, asked.tunings)
 
 
 if __name__ == "__main__":
-    try:
-        main()
-    except (WrongResult, WrongPoints, subprocess.TimeoutExpired) as fault:
-        sys.exit(f"run.py: {fault}")
+    run_tool(main)

@@ -2,14 +2,9 @@
 
 README.md says what is measured.
 """
+import itertools, math, os, pathlib, subprocess, tempfile
 
-import itertools
-import math
-import os
-import pathlib
-import subprocess
-import tempfile
-
+from author.lib.endings import Fault
 from author.lib.program import Rules
 from pmars.games import Game, fights_of
 
@@ -25,16 +20,12 @@ FEWEST, MOST, SEED = 60, 10_000, 3000
 FULL = 1.0
 
 
-class WrongPoints(Exception):
-    """A series in which the two programs differ, or a command that fails."""
-
-
 class Pair:
     """Two warriors, each a name and a load file, and the commands that play their series.
 
     `best` has the least seconds of each program, `points` the candidate's points, `ties` how many
-    fights are ties, and `outside` the share of the turns of the first fight whose instruction has no
-    class of its own.
+    fights are ties, and `outside` the share of the turns of the first fight whose instruction has
+    no class of its own.
     """
 
     def __init__(self, candidate, opponent, programs, folder):
@@ -52,14 +43,14 @@ class Pair:
         self.outside = fight.outside()
         _, came = processor_time(game.fight_words(cwtune, SEED, "c"))
         if came != fight.result():
-            raise WrongPoints(f"{self.name}: cwtune has {came!r}, wide.py {fight.result()!r}")
+            raise Fault(f"{self.name}: cwtune has {came!r}, wide.py {fight.result()!r}", 3)
 
     def play_tune(self):
         """Returns the seconds of the series by `cwtune tune`, and the candidate's points."""
         seconds, output = processor_time(self.tune)
         words = output.split()
         if words[words.index("fights") + 1] != str(self.fights):
-            raise WrongPoints(f"{self.name}: cwtune did not play {self.fights} fights: {output!r}")
+            raise Fault(f"{self.name}: cwtune did not play {self.fights} fights: {output!r}", 3)
         return seconds, int(words[words.index("total") + 1])
 
     def play_pmars(self):
@@ -70,10 +61,10 @@ class Pair:
         return seconds, 3 * wins + self.ties
 
     def play(self):
-        """Plays the series by each program. Raises WrongPoints if their points differ."""
+        """Plays the series by each program. Their points have to be the same."""
         (mine, self.points), (theirs, others) = self.play_tune(), self.play_pmars()
         if self.points != others:
-            raise WrongPoints(f"{self.name}: cwtune has {self.points} points, pMARS {others}")
+            raise Fault(f"{self.name}: cwtune has {self.points} points, pMARS {others}", 3)
         self.best = [min(self.best[0], mine), min(self.best[1], theirs)]
 
 
@@ -90,7 +81,7 @@ def processor_time(command):
         faults.seek(0)
         if process.returncode != 0:
             words = faults.read().decode(errors="replace").strip()
-            raise WrongPoints(f"{command[0]} ended with status {process.returncode}: {words}")
+            raise Fault(f"{command[0]} ended with status {process.returncode}: {words}", 3)
     return usage.ru_utime + usage.ru_stime, output.decode("ascii")
 
 

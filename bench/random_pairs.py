@@ -3,24 +3,20 @@ chose a class for.
 
     python3 -m bench.random_pairs --pmars PATH [--bin PATH] [--pairs N] [--runs N] [--seed S]
 
-Takes pairs whose first fight lasts 2000 turns or more, and plays series of them as run.py does. A
-line for each pair says its fights, how many of them are ties, the share of turns whose instruction
-has no class of its own, the milliseconds of the program and of pMARS, and their ratio. The last
-lines have the geometric mean of the ratios and the least, of all pairs and of those without a tie:
-the program cuts ties short, and pMARS does not.
+Takes pairs whose first fight lasts 2000 turns or more, and plays series of them as measure.py does.
+A line for each pair says its fights, how many of them are ties, the share of turns whose
+instruction has no class of its own, the milliseconds of the program and of pMARS, and their ratio.
+The last lines have the geometric mean of the ratios and the least, of all pairs and of those
+without a tie: the program cuts ties short, and pMARS does not.
 """
-import argparse
-import math
-import pathlib
-import random
-import tempfile
+import argparse, math, random, tempfile
 
-from author.lib.endings import Fault, number_from, run_tool
+from author.lib.endings import number_from, run_tool
 from author.lib.program import BUILT, Rules, program_of
 from pmars.games import Game
 from pmars.random_warriors import random_load
 
-from .pairs import SEED, Pair, WrongPoints, processor_time
+from .pairs import SEED, Pair, processor_time
 
 SHORTEST = 2000
 
@@ -77,13 +73,8 @@ def make_parser():
 
 def main():
     asked = make_parser().parse_args()
-    if not pathlib.Path(asked.pmars).is_file():
-        raise Fault(f"no program {asked.pmars}", 2)
-    programs = program_of([asked.bin]), asked.pmars
-    try:
-        pairs = measured(asked, programs)
-    except WrongPoints as wrong:
-        raise Fault(str(wrong), 3) from None
+    pmars = program_of([asked.pmars], "make pmars")
+    pairs = measured(asked, (program_of([asked.bin]), pmars))
     for pair in pairs:
         mine, theirs = pair.best
         print(f"{pair.name:<12}{pair.fights:>7}{pair.ties:>7}{pair.outside:>6.0%}"

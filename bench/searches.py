@@ -3,10 +3,11 @@
 Each template is tuned against the eight warriors of `examples/warriors/`, with a schedule of
 `cwtune-series`: by `cwtune tune` for the best setting, for the first of the ranking and with every
 fight played, and by `cwtune-spread` on several processors. The ratios are to the first of these.
+The exit status is 3 if a search fails, or if two find different settings.
 """
 import argparse, pathlib, subprocess, sys, tempfile, time
 
-from author.lib.endings import number_from, run_tool
+from author.lib.endings import Fault, number_from, run_tool
 from author.lib.program import BUILT, program_of
 
 ROOT = pathlib.Path(__file__).resolve().parent.parent
@@ -29,19 +30,28 @@ def name_of(kind, asked):
             "spread": f"cwtune-spread --jobs {asked.jobs}"}[kind]
 
 
+def run(name, words):
+    """Runs a command, which has to succeed, and says itself why it does not. Returns what it
+    prints."""
+    done = subprocess.run(words, stdin=subprocess.DEVNULL, stdout=subprocess.PIPE, text=True)
+    if done.returncode != 0:
+        raise Fault(f"{name} ended with status {done.returncode}", 3)
+    return done.stdout
+
+
 def searched(words, template, folder):
     """Searches a template. Returns the fights, the seconds, and what was found."""
     begun = time.monotonic()
-    done = subprocess.run([*words, template, folder / "s.csv", folder / "cert", *WARRIORS],
-                          stdin=subprocess.DEVNULL, stdout=subprocess.PIPE, text=True, check=True)
+    printed = run(f"{template.name}: a search",
+                  [*words, template, folder / "s.csv", folder / "cert", *WARRIORS])
     seconds = time.monotonic() - begun
-    lines = [line.split(" ", 1) for line in done.stdout.splitlines()]
+    lines = [line.split(" ", 1) for line in printed.splitlines()]
     report = dict(line for line in lines if line[0] != "rank")
     return int(report["fights"].split()[0]), seconds, (report["best"], report["total"])
 
 
 def compare(asked, template, folder):
-    """Prints a line for each kind of search. Exits if they find different settings."""
+    """Prints a line for each kind of search. All have to find the same setting."""
     first, found = None, set()
     for kind in asked.kinds:
         fights, seconds, best = searched(words_of(kind, asked), template, folder)
@@ -50,7 +60,7 @@ def compare(asked, template, folder):
         print(f"{template.name}: {name_of(kind, asked)}: {fights} fights, "
               f"{fights / first[0]:.2f}; {seconds:.1f} s, {seconds / first[1]:.2f}", flush=True)
     if len(found) > 1:
-        sys.exit(f"{template.name}: different settings were found: {sorted(found)}")
+        raise Fault(f"{template.name}: different settings were found: {sorted(found)}", 3)
 
 
 def main():
@@ -72,8 +82,7 @@ def main():
         folder = pathlib.Path(name)
         series = [sys.executable, AUTHOR / "cwtune-series", SEED, str(asked.rounds),
                   str(len(WARRIORS))]
-        with (folder / "s.csv").open("wb") as file:
-            subprocess.run(series, stdout=file, check=True)
+        (folder / "s.csv").write_text(run("cwtune-series", series))
         for template in asked.templates:
             compare(asked, template.resolve(), folder)
 

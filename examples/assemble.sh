@@ -7,15 +7,10 @@
 # Use: examples/assemble.sh [PROGRAM]
 
 here=$(dirname "$0")
-program=${1:-$here/../crates/cwtune/out/cwtune}
-[ $# -gt 0 ] || [ -x "$program" ] || program=$(command -v cwtune)
+# shellcheck source=examples/program.sh
+. "$here/program.sh"
 good=0
 all=0
-
-if [ ! -x "$program" ]; then
-    echo "assemble.sh: no program ${program:-here or on the PATH}" >&2
-    exit 1
-fi
 
 work=$(mktemp -d) || exit 1
 trap 'rm -rf "$work"' EXIT

@@ -1,20 +1,15 @@
 #!/bin/sh
 # Checks certificates of the tuning of tuning/: the stored one that lists all fights, one that a
 # tuning writes now, and one that tuning/certify.py makes in its own way. Each must be accepted with
-# the best setting and the total of tuning/report.txt. One with a changed byte must be rejected. Then
-# the same of the tuning with weights, whose certificate is rejected if its version is 1.
+# the best setting and the total of tuning/report.txt. One with a changed byte must be rejected.
+# Then the same of the tuning with weights, whose certificate is rejected if its version is 1.
 # Prints the line of each check. Ends with status 0 if all are as expected, otherwise with 1.
 # Use: examples/check.sh [PROGRAM]
 
 here=$(dirname "$0")
-program=${1:-$here/../crates/cwtune/out/cwtune}
-[ $# -gt 0 ] || [ -x "$program" ] || program=$(command -v cwtune)
+# shellcheck source=examples/program.sh
+. "$here/program.sh"
 wrong=0
-
-if [ ! -x "$program" ]; then
-    echo "check.sh: no program ${program:-here or on the PATH}" >&2
-    exit 1
-fi
 
 work=$(mktemp -d) || exit 1
 trap 'rm -rf "$work"' EXIT

@@ -5,14 +5,9 @@
 # Use: examples/play.sh [PROGRAM]
 
 here=$(dirname "$0")
-program=${1:-$here/../crates/cwtune/out/cwtune}
-[ $# -gt 0 ] || [ -x "$program" ] || program=$(command -v cwtune)
+# shellcheck source=examples/program.sh
+. "$here/program.sh"
 wrong=0
-
-if [ ! -x "$program" ]; then
-    echo "play.sh: no program ${program:-here or on the PATH}" >&2
-    exit 1
-fi
 
 for fight in "$here"/*.fight; do
     if ! grep -q "^$(basename "$fight" .fight) " "$here/expected.txt"; then

@@ -36,9 +36,10 @@ if [ "$1" = --check ]; then
     {
         sha256sum <"$3"
         "$program" check --share "$job" "$@"
+        status=$?
         sha256sum <"$3"
     } >"$out" 2>"$out.fault"
-    exit
+    exit "$status"
 fi
 template=$1 schedule=$2 cert=$3.$SLURM_ARRAY_TASK_ID
 shift 3

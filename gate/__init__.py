@@ -1,1 +1,28 @@
-"""What `make test` runs beside `rt ci`. At the top: `python3 -m gate.NAME`."""
+"""What `make test` runs beside `rt ci`. At the top: `python3 -m gate.NAME`.
+
+gate             runs all of it, on a copy of the tree
+edits            wrong bodies (crates/*/must-fail/) that the prover has to refuse, and for each
+                 crate a body (harmless/) that it must not refuse
+play_cases       the cases: runs of the program as data (cases/)
+documents        the commands that README.md and docs/ show with their output
+pipes            pipes, closed streams, links, kills
+terminals        progress, and what a terminal is told
+cuts             texts that end after each of their bytes
+shares           damaged certificates, checked at once and in shares
+inputs_trials    the file CERT.inputs
+ranking_trials   searches for the first of the ranking and with a floor
+scripts          the scripts of examples/
+runners          the modules of all rooms: their help, and programs that do not exist or fail
+loop_place       where the hot loop lies in the program
+refuse.memory    the program, with each of its requests for memory refused
+refuse.growth    the tests of calls that allocate, likewise
+refuse.writes    the program, with each of its writes failing
+refuse.two_devices
+                 a certificate and a template that have one inode
+
+`author.tests.run` and `release.try_release` try the commands for authors and the release.
+Their libraries: `play` starts the program in a folder, `inputs` has the files that runs share
+(inputs.toml), `tally` counts, `functions` is of `edits`, `inputs_file` of `inputs_trials` and
+`play`, `ranking_model` of `ranking_trials`, and `refuse.runs` and `refuse.once_each` are of
+`refuse`. `prove.sh` is `make prove`.
+"""

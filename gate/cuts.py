@@ -113,7 +113,7 @@ def dwarf_end(text):
     return None
 
 
-def check_dwarf(program, text):
+def try_dwarf(program, text):
     """Assembles a cut of `DWARF`. Returns what is wrong, in a list."""
     came, expected = play(program, ["asm", "x.red"], {"x.red": text}), dwarf_end(text)
     if expected is None:
@@ -121,12 +121,12 @@ def check_dwarf(program, text):
     return compare("", expected, came)[1]
 
 
-def check_fight(program, text):
+def try_fight(program, text):
     """Plays a cut of `FIGHT`. Returns what is wrong, in a list."""
     return compare("", fight_end(text), play(program, [], {}, text=text))[1]
 
 
-def check_cert(program, text):
+def try_cert(program, text):
     """Checks a cut of `CERT`, and a share of it. Returns what is wrong, in a list."""
     words = [*RULES, "imps.red", "both.csv", "x.cert", "dat.red", "imp.red"]
     files = {**BENCHMARK, "x.cert": text}
@@ -138,8 +138,8 @@ def check_cert(program, text):
 
 def main():
     program = program_of(sys.argv[1:])
-    cuts = [(f"{check.__name__} of {length} bytes", check, text[:length])
-            for check, text in [(check_dwarf, DWARF), (check_fight, FIGHT), (check_cert, CERT)]
+    cuts = [(f"{trial.__name__} of {length} bytes", trial, text[:length])
+            for trial, text in [(try_dwarf, DWARF), (try_fight, FIGHT), (try_cert, CERT)]
             for length in range(len(text) + 1)]
     with concurrent.futures.ThreadPoolExecutor(os.cpu_count()) as pool:
         wrong = list(pool.map(lambda cut: cut[1](program, cut[2]), cuts))

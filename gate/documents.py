@@ -19,7 +19,7 @@ DOCUMENTS = [ROOT / "README.md", *sorted((ROOT / "docs").glob("*.md"), reverse=T
 FOLDERS = {"TOOLS.md": "examples/tuning"}
 BLOCK = re.compile(r"(?:^    .*\n)+", re.M)
 # What is saved: `Save this as NAME`, and the next block.
-SAVED = re.compile(r"Save this as `([^`]+)`")
+SAVED = re.compile(r"Save this as\s+`([^`]+)`")
 END = "end of a command"
 SECONDS = 300
 
@@ -79,9 +79,9 @@ def trials(program):
         shutil.copytree(ROOT / "examples", folder / "examples")
         count = 0
         for document in DOCUMENTS:
-            for result in typed(program, document, folder):
+            for trial in typed(program, document, folder):
                 count += 1
-                yield result
+                yield trial
         yield "commands in documents", [] if count else ["none was found"]
 
 

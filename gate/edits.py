@@ -268,8 +268,8 @@ def judge(crate, number, edits, options):
     faults += faults_of(crate, edits, text)
     said = read_check(text)[0]
     by_proofs = [edit for edit in edits if not OPEN.match(words_on(edit, said))]
-    faults += [f"{edit.name}: a proof file refused it: add a line `breaks: CASE` that says in which "
-               "case it breaks the contract" for edit in by_proofs if not edit.breaks]
+    faults += [f"{edit.name}: a proof file refused it: add a line `breaks: CASE` that says in "
+               "which case it breaks the contract" for edit in by_proofs if not edit.breaks]
     by_proofs = [edit.name for edit in by_proofs]
     if not faults:
         keep(key, by_proofs)

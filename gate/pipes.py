@@ -6,8 +6,8 @@ cannot be read, is a terminal or never ends leads to a fault or a result, in bou
 above 1 GiB is refused. A word that is not UTF-8 is a usage error. A run that is killed, or that
 exceeds the size that it may write, leaves an older certificate as it was. CERT may be a link, and
 keeps its permissions; a new one has those that the umask leaves. Expected values follow from
-`docs/FORMATS.md`. Prints what failed, and as its last line `N passed, N failed`. The exit status is
-1 if a check failed.
+`docs/COMMANDS.md`. Prints what failed, and as its last line `N passed, N failed`. The exit status
+is 1 if a trial failed.
 """
 import os, pathlib, pty, resource, shutil, signal, subprocess, sys, tempfile, threading, time
 
@@ -86,7 +86,7 @@ def to_broken_pipe(place, words, *names):
 
 
 def readers_that_go_away(place):
-    """Yields checks of runs of which nobody reads a standard stream: name, expected end, end."""
+    """Tries runs of which nobody reads a standard stream. Yields name, expected end, end."""
     for words in [[], ["asm", "imp.red"], CHECK, ["tune", "--help"], ["--help"]]:
         name = " ".join(words[:1]) or "fight"
         yield f"nobody reads the output of {name}", NO_WRITE, to_broken_pipe(place, words, "stdout")
@@ -124,7 +124,7 @@ def to_named_pipe(place, most, **streams):
 
 
 def certificates_for_pipes(place):
-    """Yields checks of a certificate that goes to a named pipe."""
+    """Tries a certificate that goes to a named pipe."""
     rows = b"".join(b"same,%d,0\n" % number for number in range(1, 20000))
     whole = b"cwcert,1,20000\nbest,0,4\ncap,0,0:3 1:1\n" + rows
     came, text = to_named_pipe(place, 2 * len(whole))
@@ -153,7 +153,7 @@ def at_terminal(place, typed):
 
 
 def standard_inputs(place):
-    """Yields checks of standard inputs that are no plain file."""
+    """Tries standard inputs that are not a plain file."""
     yield "a folder as standard input", NO_READ, from_file(place, ".")
     yield "a standard input that is closed", NO_READ, without(place, 0, [])
     fight = FILES["imps.fight"].encode()
@@ -164,7 +164,7 @@ def standard_inputs(place):
 
 
 def inputs_without_end(place):
-    """Yields checks of inputs that have no end, or nearly none, and of a named pipe."""
+    """Tries inputs that have no end, or nearly none, and a named pipe."""
     yield "an endless standard input", NO_READ, from_file(place, "/dev/zero")
     with subprocess.Popen(["yes"], stdout=subprocess.PIPE) as lines:
         yield "endless lines from a pipe", NO_READ, place.run([], stdin=lines.stdout)
@@ -185,14 +185,14 @@ def inputs_without_end(place):
 
 
 def words_of_bytes(place):
-    """Yields checks of words that are not UTF-8, which no case can have."""
+    """Tries words that are not UTF-8, which no case can have."""
     refused = end(2, err="error: a word of the command line is not UTF-8\n")
     for words in [[b"\xff"], [b"asm", b"imp.red\xc3"]]:
         yield f"the words {words}", refused, from_file(place, "imps.fight", words)
 
 
 def closed_streams(place):
-    """Yields checks that a closed standard stream is never a file that the run opens."""
+    """Tries whether a closed standard stream is ever a file that the run opens."""
     for name, words in [("a load file", ["asm", "imp.red"]), ("a verdict", CHECK),
                         ("help", ["tune", "--help"])]:
         yield f"{name} without a standard output", NO_WRITE, without(place, 1, words)
@@ -208,7 +208,7 @@ def take_interrupts():
 
 
 def interrupted(place):
-    """Yields checks that a tuning that is ended in its search leaves CERT, or none, as it was."""
+    """Tries whether a tuning that is ended in its search leaves CERT, or none, as it was."""
     for sign in [signal.SIGTERM, signal.SIGINT, signal.SIGKILL]:
         for old in [OLD, None]:
             if old:
@@ -223,7 +223,7 @@ def interrupted(place):
 
 
 def limited(place):
-    """Yields checks of a tuning that may write only few bytes to a file, or open only one."""
+    """Tries a tuning that may write only few bytes to a file, or open only one."""
     place.write("CERT", OLD)
     for most in [1, 10, len(CERT) - 1]:
         limit = lambda: resource.setrlimit(resource.RLIMIT_FSIZE, (most, most))
@@ -240,7 +240,7 @@ def limited(place):
 
 
 def links(place):
-    """Yields checks of a CERT that is a link, in its folder or in another one."""
+    """Tries a CERT that is a link, in its folder or in another one."""
     path = place.folder / "CERT"
     (place.folder / "link").symlink_to("second")
     (place.folder / "second").symlink_to(path)
@@ -262,7 +262,7 @@ def links(place):
 
 
 def chains(place):
-    """Yields checks of a CERT that as many links lead to as the system follows, and one more."""
+    """Tries a CERT that as many links lead to as the system follows, and one more."""
     names = ["CERT", *(f"link-{count}" for count in range(1, 42))]
     for name, to in zip(names[1:], names):
         (place.folder / name).symlink_to(to)
@@ -271,15 +271,19 @@ def chains(place):
 
 
 def certificates_in_place(place):
-    """Yields checks of a new CERT, of files that other runs have left beside it, and of a CERT that
-    may not be written, or not read."""
+    """Tries a new CERT, files that other runs have left beside it, and a CERT that may not be
+    written, or not read."""
     path = place.folder / "CERT"
     came = place.run(TUNE, keep=True, preexec_fn=lambda: os.umask(0o027))
     yield "a new file's permissions", (TUNED, 0o640), (came, path.stat().st_mode & 0o777)
     path.unlink()
-    for number in range(1, 4):
+    for number in range(1, 1000):
         place.write(f"CERT.unfinished-{number}", "")
-    yield "files that are left", TUNED, place.run(TUNE)
+    yield "999 files that are left", TUNED, place.run(TUNE)
+    place.write("CERT.unfinished-1000", "")
+    yield "1000 files that are left", NO_CREATE, place.run(TUNE)
+    for number in range(4, 1001):
+        (place.folder / f"CERT.unfinished-{number}").unlink()
     place.write("CERT", OLD)
     path.chmod(0o444)
     came = place.run(TUNE, **as_owner(path, place.program))
@@ -303,7 +307,7 @@ def as_owner(path, program):
     return {"user": NOBODY, "group": NOBODY, "extra_groups": [], "executable": "./program"}
 
 
-CHECKS = [
+TRIALS = [
     readers_that_go_away,
     certificates_for_pipes,
     standard_inputs,
@@ -318,15 +322,15 @@ CHECKS = [
 ]
 
 
-def checks(program):
-    """Yields the checks, each group in a folder of its own."""
-    for group in CHECKS:
+def trials(program):
+    """Yields the trials, each group in a folder of its own."""
+    for group in TRIALS:
         with tempfile.TemporaryDirectory() as folder:
             yield from group(Place(program, pathlib.Path(folder), FILES))
 
 
 def main():
-    return tally(compare(*result) for result in checks(program_of(sys.argv[1:])))
+    return tally(compare(*trial) for trial in trials(program_of(sys.argv[1:])))
 
 
 if __name__ == "__main__":

@@ -1,34 +1,7 @@
 """Plays cases of input and output: python3 -m gate.play_cases [PROGRAM [CASES..]]
 
-CASES are files such as `gate/cases/asm.toml`; without any, all files of `gate/cases/` are played. A
-file has `[[case]]` tables, and above them what its cases share: `files` and `folders`, which each
-case finds in its folder, and `[words]`, where `small = ".."` says what `$small` is in command
-lines. Files that the words name and nobody gave a text are those of `gate/inputs.toml`, which has
-shared words too, and the load files of `examples/warriors/`, as `dwarf.red`.
-
-A case is played in a fresh folder. It needs `name`, `words` (the command line, which may come from
-`runs` or `each`) and `status`; of `files` (name to text), `folders` (names), `stdin`, `out` and
-`err` it leaves out what is empty. In place of a whole output: `out_begins` and `err_begins`, with a
-line feed at the output's end; `out_contains` (a list); or `out_is`, the name of a file that has the
-expected text. `cert` is the text of the file CERT after
-the run; `accepted = true` says in its place that CERT is new, and that `check` accepts it with the
-best setting and the total of `out`. All other files have to be as before, and none may be new.
-`stdin_from` and `out_to` are paths in place of the standard streams. A run has to end within
-`seconds` (120), and with `megabytes` it gets no more memory than that.
-
-`each` is a list of tables such as `{ files."x.red" = "DAT 0", out = ".." }`: the case is played
-once for each of them, with the table merged over it: its keys replace those of the case, and its
-files are added to the files of the case. `runs` is such a list too: a case that has both is played
-once for each pair of a run and a table of `each`. With `fill.place = "Asm"`, in a
-case or in a table, `$place` stands for `Asm` in `words`, `files`, `stdin`, `out`, `err` and
-`err_begins`.
-`long` makes long files: `long."x.red" = { text = ";", times = 65537 }`, also with a `head` that
-comes once before the text, and a `tail` after it; `$n` in the text is the index of the copy.
-`each_beginning_of` is `stdin` or the name of a file of the case, which is then played once for each
-beginning of that text, except for the whole.
-With `terminal = true` a case is played up to four times. At a terminal, and in a pipe with
---explain, standard error is `err`, progress aside. In a pipe, also with --progress if the command
-has it, it is only the lines of `err` that begin with `refused`, `failed` or `found`.
+CASES are files such as `gate/cases/asm.toml`; without any, all files of `gate/cases/` are played.
+gate/cases/README.md says what a case has.
 
 Prints what failed, and as its last line `N passed, N failed`. The exit status is 1 if a case failed
 or there is none. A case that says anything else, or no `status`, is an error.

@@ -300,7 +300,7 @@ def tried(program, seed):
 
 
 def trials(program):
-    """Yields a result for each template, and whether they have shown all that there is."""
+    """Yields a trial for each template, and one for whether all that there is was seen."""
     with concurrent.futures.ThreadPoolExecutor(os.cpu_count()) as pool:
         ends = list(pool.map(lambda seed: tried(program, seed), range(TEMPLATES)))
     yield from ((f"template {seed}", wrong) for seed, (wrong, _) in enumerate(ends))

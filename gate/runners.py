@@ -1,12 +1,13 @@
-"""Asks the modules for help, runs them with a program that does not exist, and looks whether
-`classes.py` has something to write: python3 -m gate.runners
+"""Asks the modules for help, runs them with a program that does not exist or always fails, and
+looks whether `classes.py` has something to write: python3 -m gate.runners
 
 Prints what failed, and as its last line `N passed, N failed`. The exit status is 1 if something
 else than help, or than a line that says what is wrong, was printed.
 """
-import pathlib, subprocess, sys
+import pathlib, subprocess, sys, tempfile
 
-from author.lib.endings import run_tool
+from author.lib.endings import Fault, run_tool
+from pmars.compare import Programs
 
 from .tally import compare, tally
 
@@ -14,15 +15,17 @@ ROOT = pathlib.Path(__file__).resolve().parent.parent
 HELPED = ["gate.gate", "gate.edits", "pmars.compare", "release.dist", "release.manual",
           "release.try_release", "author.tests.run", "bench.measure", "bench.random_pairs",
           "bench.searches"]
-# The modules that take a program, by the command that builds it.
+# The modules that take a program as their last word, by the command that builds it.
 REFUSED = {
     "make build": ["author.tests.run", "gate.play_cases", "gate.cuts", "gate.pipes",
                    "gate.terminals", "gate.documents", "gate.loop_place", "gate.ranking_trials",
-                   "gate.refuse.memory", "gate.refuse.writes", "gate.refuse.two_devices",
-                   "release.try_release"],
-    "make pmars": ["pmars.compare"],
+                   "gate.scripts", "gate.shares", "gate.inputs_trials", "gate.refuse.memory",
+                   "gate.refuse.writes", "gate.refuse.two_devices", "release.try_release",
+                   "bench.measure --bin", "bench.searches none --program"],
+    "make pmars": ["pmars.compare", "bench.measure --pmars", "bench.random_pairs --pmars"],
     "rt test": ["gate.refuse.growth"],
 }
+FAILING = "/bin/false"
 
 
 def run(*words):
@@ -30,6 +33,25 @@ def run(*words):
     done = subprocess.run([sys.executable, "-m", *words], cwd=ROOT, stdin=subprocess.DEVNULL,
                           capture_output=True, text=True)
     return done.returncode, done.stdout, done.stderr
+
+
+def failing():
+    """Gives modules a program that always fails: they have to say so, in a line."""
+    status, _, err = run("gate.shares", FAILING)
+    yield compare(f"gate.shares {FAILING}", (1, ""), (status, err))
+    words = ["bench.searches", "--kinds=best", "--program", FAILING, "examples/tuning/stone.red"]
+    said = "failed: stone.red: a search ended with status 1\n"
+    yield compare(" ".join(words), (3, "", said), run(*words))
+    yield "a listing of pMARS that is refused", refused_listing()
+
+
+def refused_listing():
+    """Reads a listing that `cwtune asm` refuses. Returns what is wrong, in a list."""
+    with tempfile.TemporaryDirectory() as folder:
+        try:
+            return [f"came {Programs(FAILING, '/bin/echo', folder).listing('')!r}"]
+        except Fault:
+            return []
 
 
 def trials():
@@ -42,7 +64,8 @@ def trials():
     for command, modules in REFUSED.items():
         for module in modules:
             said = f"error: no program none (`{command}` builds one)\n"
-            yield compare(f"{module} none", (2, "", said), run(module, "none"))
+            yield compare(f"{module} none", (2, "", said), run(*module.split(), "none"))
+    yield from failing()
 
 
 if __name__ == "__main__":

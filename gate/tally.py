@@ -6,14 +6,14 @@ def compare(name, expected, came):
     return name, [] if came == expected else [f"expected {expected!r}, came {came!r}"[:2000]]
 
 
-def tally(results, before=""):
+def tally(trials, before=""):
     """Prints what failed, and as its last line `N passed, N failed`. Returns the exit status.
 
-    Each of the results is a name, and a list of what was wrong. Status 1: one failed, or there were
-    none.
+    Each of the trials, or cases, is a name, and a list of what was wrong. Status 1: one failed, or
+    there were none.
     """
     passed = failed = 0
-    for name, wrong in results:
+    for name, wrong in trials:
         passed += not wrong
         failed += bool(wrong)
         for line in wrong:

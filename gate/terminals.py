@@ -3,9 +3,9 @@
 
 At a terminal a progress line is rewritten, in a pipe --progress prints a line a minute, and if
 standard input is a terminal, the program says what it waits for. What a terminal shows at the end
-of a run is played by `gate/cases/explanations.toml`. Expected values follow from `docs/FORMATS.md`.
-Prints what failed, and as its last line `N passed, N failed`. The exit status is 1 if a check
-failed.
+of a run is played by `gate/cases/explanations.toml`. Expected values follow from
+`docs/COMMANDS.md`. Prints what failed, and as its last line `N passed, N failed`. The exit status
+is 1 if a trial failed.
 """
 import os, pty, re, select, sys, tempfile, time
 
@@ -60,7 +60,7 @@ def shown_whole(place, words):
 
 
 def progress(place):
-    """Yields checks of the progress of a tuning and a check that end at once."""
+    """Tries the progress of a tuning and of a check that end at once."""
     tuned, accepted = end(0, REPORT, CERT=CERT), end(0, "accepted best 0 total 4\n")
     for name, words, expected in [("a tuning", tune("two.red"), tuned),
                                   ("a check", CHECK, accepted)]:
@@ -109,7 +109,7 @@ def piece_of(terminal):
 
 
 def long_tunings(place):
-    """Yields checks of the progress of a tuning that takes long."""
+    """Tries the progress of a tuning that takes long."""
     lines, first = seen_within(place, ["tune", *SLOW], 3.2)
     yield "two lines a second at most", True, 4 <= len(lines) <= 8 or lines
     wrong = [line for line in lines[1:] if not re.fullmatch(LINE, line)]
@@ -127,7 +127,7 @@ def long_tunings(place):
 
 
 def long_settings(place):
-    """Yields checks of the progress while one setting plays many long fights."""
+    """Tries the progress while one setting plays many long fights."""
     # In a core of 8009 cells no state comes back where it is looked at: each fight is played out.
     rules = ["--core=8009", "--cycles=1000000"]
     lines, first = seen_within(place, ["tune", *rules, "imp.red", "long.csv", "CERT", "imp.red"],
@@ -161,7 +161,7 @@ def agrees(line):
 
 
 def invitations(place):
-    """Yields checks that a terminal is told what is read from it, if anything is."""
+    """Tries whether a terminal is told what is read from it, if anything is."""
     terminal, program_end = pty.openpty()
     other = place.run(["asm", "imp.red"], terminal=True, stdin=program_end)
     yield "a terminal that is not read", end(0, "ORG 0\nMOV.I $0, $1\n"), other
@@ -169,7 +169,7 @@ def invitations(place):
     came = place.run([], terminal=True, stdin=program_end)
     os.close(program_end)
     os.close(terminal)
-    said = "reading a fight text, which Ctrl-D ends; `cwtune --help` tells of the commands\n"
+    said = "reading a fight text, which Ctrl-D ends; `cwtune --help` lists the commands\n"
     yield "a fight text from a terminal", end(1, err=f"{said}refused: FightText line 1\n"), came
 
 
@@ -177,9 +177,9 @@ def main():
     program = program_of(sys.argv[1:])
     with tempfile.TemporaryDirectory() as folder:
         place = Place(program, folder, FILES)
-        return tally(compare(*result)
+        return tally(compare(*trial)
                      for group in [progress, long_tunings, long_settings, invitations]
-                     for result in group(place))
+                     for trial in group(place))
 
 
 if __name__ == "__main__":

@@ -41,22 +41,24 @@ class Programs:
 
     def assemble(self, text):
         """Returns the load file that `cwtune asm` makes of a text, or why it refuses the text."""
-        return self.load_of(text, "text.red")
-
-    def listing(self, text):
-        """Returns the load file of what pMARS lists for a text."""
-        path = self.folder / "text.red"
-        path.write_text(text, "latin-1")
-        words = [self.pmars, "-r", "0", str(path)]
-        return self.load_of(run(words).partition("\n")[2], "listing.red")
-
-    def load_of(self, text, name):
-        path = self.folder / name
-        path.write_text(text, "latin-1")
         try:
-            return run([self.cwtune, "asm", str(path)])
+            return self.load_of(text)
         except Fault as fault:
             return str(fault).partition(": ")[2]
+
+    def listing(self, text):
+        """Returns the load file of what pMARS lists for a text. A refusal of it is a fault."""
+        words = [self.pmars, "-r", "0", self.write("text.red", text)]
+        return self.load_of(run(words).partition("\n")[2])
+
+    def load_of(self, text):
+        return run([self.cwtune, "asm", self.write("load.red", text)])
+
+    def write(self, name, text):
+        """Writes a file of the folder. Returns its path."""
+        path = self.folder / name
+        path.write_text(text, "latin-1")
+        return str(path)
 
 
 class Progress:
@@ -85,34 +87,33 @@ def shorter(load):
             yield "\n".join([f"ORG {index - (k < index)}", *rest, ""])
 
 
-def cut(programs, rules, warriors, position, first):
+def shorter_pairs(warriors):
+    """Yields the pairs of which one warrior lacks one instruction."""
+    mine, theirs = warriors
+    yield from ((load, theirs) for load in shorter(mine))
+    yield from ((mine, load) for load in shorter(theirs))
+
+
+def cut(programs, rules, warriors, fight):
     """Takes instructions out of both warriors while the fight differs. Returns what is left."""
-    for side in (0, 1):
-        changed = True
-        while changed:
-            changed = False
-            for load in shorter(warriors[side]):
-                tried = [load if k == side else warriors[k] for k in (0, 1)]
-                if programs.differs(programs.game(rules, *tried), position, first):
-                    warriors, changed = tried, True
-                    break
+    while smaller := next((pair for pair in shorter_pairs(warriors)
+                           if programs.differs(programs.game(rules, *pair), *fight)), None):
+        warriors = smaller
     return warriors
 
 
-def tell_fight(programs, rules, warriors, fights):
+def print_fight(programs, rules, warriors, fights):
     """Prints the first of the fights that differs: two warriors and two commands."""
-    for position, first in fights:
-        if programs.differs(programs.game(rules, *warriors), position, first):
-            break
-    else:
+    game = programs.game(rules, *warriors)
+    fight = next((fight for fight in fights if programs.differs(game, *fight)), None)
+    if fight is None:
         print("a series differs, and none of its fights alone")
         return
-    warriors = cut(programs, rules, warriors, position, first)
-    game = programs.game(rules, *warriors)
-    for name, load in zip(["a.red", "b.red"], warriors):
-        print(f"{name}:\n{load}")
-    for words in [game.fight_words(programs.cwtune, position, first),
-                  game.round_words(programs.pmars, position, first)]:
+    mine, theirs = cut(programs, rules, warriors, fight)
+    print(f"a.red:\n{mine}\nb.red:\n{theirs}")
+    game = programs.game(rules, mine, theirs)
+    for words in [game.fight_words(programs.cwtune, *fight),
+                  game.round_words(programs.pmars, *fight)]:
         print(" ".join(words).replace(f"{programs.folder}/", ""))
 
 
@@ -125,8 +126,8 @@ def is_series_alike(programs, rules, warriors, seed):
     theirs = game.counts(programs.pmars, seed, ROUNDS)
     if counts == theirs:
         return True
-    print(f"seed {seed}: wins, ties, losses {counts} here and {theirs} there")
-    tell_fight(programs, rules, list(warriors), fights)
+    print(f"seed {seed}: wins, ties, losses {counts} by cwtune and {theirs} by pMARS")
+    print_fight(programs, rules, warriors, fights)
     return False
 
 
@@ -160,31 +161,41 @@ def compare_texts(programs, dice, count, progress):
              for path in sorted((ROOT / folder).glob("*.red"))]
     wrong = 0
     for text in [*texts, *(Text(dice).text() for _ in range(count))]:
-        here, there = programs.assemble(text), programs.listing(text)
-        if here != there:
+        mine, theirs = programs.assemble(text), programs.listing(text)
+        if mine != theirs:
             wrong += 1
-            print(f"{text}\nhere:\n{here}\nthere:\n{there}")
+            print(f"{text}\nby cwtune:\n{mine}\nby pMARS:\n{theirs}")
         progress.texts += 1
         progress.show()
     return wrong
 
 
-def show_known(programs):
-    """Shows the known differences. Returns how many of them came otherwise than is known."""
+def show_fights(programs):
+    """Plays the fights that are known to differ. Returns how many came otherwise than is known."""
     wrong = 0
-    for name, rules, warriors, position, here, there in FIGHTS:
+    for name, rules, warriors, position, *known in FIGHTS:
         game = programs.game(rules, *warriors)
         came = (game.points(programs.cwtune, [(position, "c")])[0],
                 game.round_points(programs.pmars, position, "c"))
-        wrong += came != (here, there)
-        if came != (here, there):
-            print(f"known: {name}: expected {here} here and {there} there, came {came}")
-    for name, text, here, there in TEXTS:
-        came = programs.assemble(text), programs.listing(text)
-        wrong += came != (here, there)
-        if came != (here, there):
-            print(f"known: {name}: expected {here!r} here and {there!r} there, came {came!r}")
+        wrong += is_other(name, known, came)
     return wrong
+
+
+def show_texts(programs):
+    """Assembles the texts that are known to differ. Returns how many came otherwise."""
+    wrong = 0
+    for name, text, *known in TEXTS:
+        wrong += is_other(name, known, (programs.assemble(text), programs.listing(text)))
+    return wrong
+
+
+def is_other(name, known, came):
+    """Returns whether the results of the two programs are other than known, and prints them if so."""
+    if came == tuple(known):
+        return False
+    mine, theirs = known
+    print(f"known: {name}: expected {mine!r} by cwtune and {theirs!r} by pMARS, came {came!r}")
+    return True
 
 
 def main():
@@ -198,7 +209,8 @@ def main():
     parser.add_argument("--texts", type=number_from(0), default=100, metavar="N",
                         help="random texts (default: 100)")
     add_program(parser)
-    parser.add_argument("pmars", metavar="PMARS")
+    parser.add_argument("pmars", metavar="PMARS", help="a server build of pMARS 0.9.2, whose path "
+                        "`make pmars` prints")
     asked = parser.parse_args()
     pmars = program_of([asked.pmars], "make pmars")
     dice, progress = random.Random(asked.seed), Progress(asked.fights)
@@ -209,7 +221,7 @@ def main():
             wrong += compare_texts(programs, dice, asked.texts, progress)
         finally:
             progress.clear()
-        wrong += show_known(programs)
+        wrong += show_fights(programs) + show_texts(programs)
     print(f"seed {asked.seed}: {progress.fights} fights, {progress.texts} texts, "
           f"{len(FIGHTS) + len(TEXTS)} known differences: {wrong} unexpected")
     return 1 if wrong else 0

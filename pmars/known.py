@@ -8,7 +8,7 @@ RULES = Rules(80, 100, 8, 12, 12)
 WAITS = "ORG 0\nJMP.B $0, $0\n"
 
 # The difference, the rules, the two warriors, the position of the second, and the points of the
-# first, which moves first: here, and there.
+# first, which moves first: by cwtune, and by pMARS.
 FIGHTS = [
     ("an immediate B-operand is read after the A-operand", RULES, (
         "ORG 0\nADD.A {0, #0\nJMZ.A $2, $-1\nJMP.B $0, $0\nDAT.F $0, $0\n", WAITS), 40, 1, 0),
@@ -32,7 +32,7 @@ def refused(words):
     return f"refused: Asm {words}\n"
 
 
-# The difference, the text, what comes of it here, and the load file of what pMARS lists.
+# The difference, the text, what cwtune makes of it, and the load file of what pMARS lists.
 TEXTS = [
     ("a - b*c + d", "DAT 0, 5 - 2*3 + 4\n", one("$0, $3"), one("$0, $-5")),
     ("levels of comparisons", "DAT 0, 2 == 1 < 3\n", one("$0, $0"), one("$0, $1")),

@@ -12,7 +12,6 @@ from author.lib.program import BUILT
 from . import manual
 
 ROOT = pathlib.Path(__file__).resolve().parent.parent
-KIT = pathlib.Path("/opt/rattle/rattle")
 DOC, SHARE = pathlib.Path("share/doc/cwtune"), pathlib.Path("share/cwtune")
 INSTALLED = SHARE / "installed.txt"
 # Where the files go that `manual.py` writes for a command. Debian's zsh reads site-functions below
@@ -22,9 +21,9 @@ MANUAL = {"{}.1": "share/man/man1/{}.1",
           "_{}": "share/zsh/{zsh}/_{}",
           "{}.fish": "share/fish/vendor_completions.d/{}.fish"}
 DEBIAN = {"zsh": "vendor-completions"}
-# The rooms that are shipped. Their tests need the sources.
+# The rooms that are shipped. Their tests and look.sh need the sources.
 ROOMS = ["author", "examples"]
-LEFT_OUT = shutil.ignore_patterns("tests", "__pycache__")
+LEFT_OUT = shutil.ignore_patterns("tests", "look.sh", "__pycache__")
 TOP = """cwtune tunes Core War warriors. Begin with share/doc/cwtune/README.md.
 
     sha256sum --check --quiet SHA256SUMS    checks the files
@@ -47,10 +46,18 @@ CACHE = SHARE / "author/lib/__pycache__"
 PRERM = f"#!/bin/sh\nrm -rf /usr/{CACHE}\n"
 
 
+def run(*words):
+    """Runs a command, which has to succeed. Returns what it prints."""
+    done = subprocess.run(words, stdin=subprocess.DEVNULL, capture_output=True, text=True)
+    if done.returncode != 0:
+        raise Fault(f"{' '.join(words)} ended with status {done.returncode}: "
+                    f"{done.stderr.strip()}", 3)
+    return done.stdout
+
+
 def proved():
     """Returns what was proved: the kit, and a line for each crate from its check."""
-    kit = subprocess.run(["rt", "version"], capture_output=True, text=True, check=True).stdout
-    lines = [f"Proved with {kit.strip()}", ""]
+    lines = [f"Proved with {run('rt', 'version').strip()}", ""]
     for line in (ROOT / "crates.txt").read_text().splitlines():
         crate = line.partition(":")[0]
         if line[0] == "#" or crate.endswith("_tests"):
@@ -64,11 +71,24 @@ def proved():
     return "\n".join(lines) + "\n"
 
 
-def licences():
-    """Returns the licences of the ported crates that are linked in."""
-    names = set(re.sub(r"#.*|:", " ", (ROOT / "crates.txt").read_text()).split())
-    texts = [f"{file.parent.name}: {file.name}\n\n{file.read_text('utf-8', 'replace')}"
-             for name in sorted(names) for file in sorted(KIT.glob(f"{name}/LICENSE*"))]
+def kit():
+    """Returns the folder of the kit whose `rt` is on the PATH."""
+    rt = shutil.which("rt")
+    if not rt:
+        raise Fault("no `rt` on the PATH", 2)
+    return pathlib.Path(rt).resolve().parents[1]
+
+
+def licences(ported):
+    """Returns the licences of the ported crates that are linked in, which are in `ported`."""
+    text = (ROOT / "crates.txt").read_text()
+    names = set(re.sub(r"#.*|:", " ", text).split()) - set(re.findall(r"(?m)^(\w+):", text))
+    files = {name: sorted(ported.glob(f"{name}/LICENSE*")) for name in sorted(names)}
+    without = [name for name in files if not files[name]]
+    if without:
+        raise Fault(f"no licence of {without[0]} below {ported}", 3)
+    texts = [f"{name}: {file.name}\n\n{file.read_text('utf-8', 'replace')}"
+             for name in files for file in files[name]]
     return f"\n{'-' * 80}\n".join(texts)
 
 
@@ -97,7 +117,7 @@ def stage(tree, **places):
     shutil.copytree(ROOT / "docs", tree / DOC / "docs")
     for name in ["README.md", "CHANGELOG.md", "LICENSE"]:
         shutil.copy(ROOT / name, tree / DOC / name)
-    (tree / DOC / "LICENSES-of-libraries").write_text(licences())
+    (tree / DOC / "LICENSES-of-libraries").write_text(licences(kit() / "rattle"))
     (tree / DOC / "PROVED").write_text(proved())
     return version
 
@@ -156,18 +176,21 @@ def debian(folder):
         (tree / "DEBIAN/prerm").write_text(PRERM)
         (tree / "DEBIAN/prerm").chmod(0o755)
         package = folder / f"cwtune_{version}_amd64.deb"
-        subprocess.run(["dpkg-deb", "--root-owner-group", "--build", str(tree), str(package)],
-                       check=True, stdout=subprocess.DEVNULL)
+        run("dpkg-deb", "--root-owner-group", "--build", str(tree), str(package))
     return [package]
 
 
 def install(prefix):
-    """Puts the release below a folder such as /usr/local, and lists there what it put."""
+    """Puts the release below a folder such as /usr/local, in place of an older one.
+
+    The list of its files comes first, so that `uninstall` can remove what a kill has left.
+    """
     with tempfile.TemporaryDirectory() as name:
         tree = pathlib.Path(name, "tree")
         stage(tree)
-        (tree / INSTALLED).write_text("")
-        placed = [path.relative_to(tree) for path in files_of(tree)]
+        if (prefix / INSTALLED).is_file():
+            uninstall(prefix)
+        placed = [INSTALLED, *(path.relative_to(tree) for path in files_of(tree))]
         (tree / INSTALLED).write_text("".join(f"{path}\n" for path in placed))
         for path in placed:
             (prefix / path).parent.mkdir(parents=True, exist_ok=True)
@@ -177,14 +200,14 @@ def install(prefix):
 
 
 def uninstall(prefix):
-    """Removes what `install` put below the folder, and folders of its own that are empty then."""
+    """Removes what `install` put below the folder, its list last, and then its empty folders."""
     try:
         placed = (prefix / INSTALLED).read_text().splitlines()
     except FileNotFoundError:
         raise Fault(f"cwtune is not installed below {prefix}") from None
-    for path in placed:
-        (prefix / path).unlink(missing_ok=True)
     shutil.rmtree(prefix / CACHE, ignore_errors=True)
+    for path in reversed(placed):
+        (prefix / path).unlink(missing_ok=True)
     folders = {folder for path in placed for folder in pathlib.Path(path).parents
                if folder.is_relative_to(DOC) or folder.is_relative_to(SHARE)}
     for folder in sorted(folders, key=lambda it: -len(it.parts)):

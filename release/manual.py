@@ -35,7 +35,7 @@ class Item(NamedTuple):
 
     def option(self):
         """Returns the long name of an option, or nothing."""
-        found = re.search(r"--([a-z]+)", self.term)
+        found = re.search(r"--([a-z][a-z-]*)", self.term)
         return found.group(1) if found else ""
 
     def takes_value(self):
@@ -55,16 +55,17 @@ FILES = [
          "counts 1 to 1000 times. At most 10000 fights; `cwtune-series` writes some"),
     Item("CERT", "The certificate, which `tune` replaces whole or not at all. A file that is "
          "another word's, or a text that is not a certificate, is not overwritten"),
-    Item("CERT.inputs", "Which inputs the certificate is for: rules, part, method, and the size and the "
-         "SHA-256 digest of each file. The commands for authors read it; no check needs it"),
+    Item("CERT.inputs", "Which inputs the certificate is for: rules, part, method, and the size "
+         "and the SHA-256 digest of each file. The commands for authors read it; no check needs "
+         "it"),
     Item(f"/usr/share/{NAME}/examples", "Warriors, templates and scripts"),
-    Item(f"/usr/share/doc/{NAME}", "The documents: FORMATS has every format and every fault, "
-         "REDCODE the language, USING how many fights a tuning needs"),
+    Item(f"/usr/share/doc/{NAME}", "The documents: COMMANDS has every option and fault "
+         "line, FORMATS every format, REDCODE the language, USING how many fights a tuning needs"),
 ]
 FAULTS = ("A refusal is a line `refused: ..` on standard error with the names of the fault, and "
-          "the line or the record at fault. At a terminal, or with --explain, more lines say what is "
-          "wrong and what to write. If a certificate was found and cannot be written, `found: ..` "
-          "names the best setting.")
+          "the line or the record at fault. At a terminal, or with --explain, more lines say what "
+          "is wrong and what to write. If a certificate was found and cannot be written, "
+          "`found: ..` names the best setting.")
 
 
 class Page:

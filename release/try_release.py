@@ -2,12 +2,13 @@
 
 Packs, unpacks, installs and removes it in a temporary folder, and runs the program and the commands
 of each without this checkout: nothing of it is on the PATH. What was proved is not asked for again.
-The manual pages and completions have to name each command and option. Prints what failed, and as
-its last line `N passed, N failed`; the exit status is 1 if a trial failed.
+The manual pages and completions have to name each command and option. Without `dpkg-deb` on the
+PATH the Debian package is not judged. Prints what failed, and as its last line `N passed, N
+failed`; the exit status is 1 if a trial failed.
 """
-import argparse, hashlib, pathlib, re, shutil, subprocess, tarfile, tempfile
+import argparse, contextlib, hashlib, importlib, pathlib, re, shutil, subprocess, tarfile, tempfile
 
-from author.lib.endings import run_tool
+from author.lib.endings import Fault, run_tool
 from author.lib.program import program_of
 from gate.tally import compare, tally
 
@@ -36,8 +37,8 @@ COMPLETIONS = [("cwtune che", "check"), ("cwtune tune --ca", "--cache"),
                ("cwtune asm --se", "--setting"), ("cwtune check --pa", "--part"),
                ("cwtune check --sh", "--share"),
                ("cwtune fight --fi", "--first"), ("cwtune-scores --te", "--template"),
-               ("cwtune-spread --me", "--merge"), ("cwtune-seek --st", "--starts"),
-               ("cwtune-study --fr", "--fresh")]
+               ("cwtune-spread --me", "--merge"), ("cwtune-spread --check-o", "--check-only"),
+               ("cwtune-seek --st", "--starts"), ("cwtune-study --fr", "--fresh")]
 
 
 def run(words, folder, path):
@@ -59,6 +60,7 @@ def used(prefix, **places):
         tuned = run(["cwtune", "tune", *words], folder, bin)
         if status or tuned[0] or not tuned[1].startswith("vectors 3\n"):
             yield f"tune: {status} {tuned}"
+            return
         best, total = (line.split()[1] for line in tuned[1].splitlines()[2:5:2])
         checked = run(["cwtune", "check", *words], folder, bin)
         if checked != (0, f"accepted best {best} total {total}\n"):
@@ -95,18 +97,49 @@ def trial_of_install(work):
     (prefix / "bin").mkdir(parents=True)
     (prefix / "bin/other").write_text("of somebody else\n")
     dist.install(prefix)
+    # as if an older release had one more file
+    older = dist.SHARE / "older"
+    (prefix / older).write_text("")
+    with (prefix / dist.INSTALLED).open("a") as file:
+        file.write(f"{older}\n")
+    dist.install(prefix)
+    if (prefix / older).exists():
+        yield "a file of an older release stays"
     yield from used(prefix)
     dist.uninstall(prefix)
-    left = [str(path.relative_to(prefix)) for path in dist.files_of(prefix)]
-    if left != ["bin/other"]:
-        yield f"left after uninstall: {left}"
+    yield from left(prefix, ["bin/other"])
+
+
+def left(prefix, expected):
+    """Yields what an uninstall has left, if these files are not what it should leave."""
+    files = [str(path.relative_to(prefix)) for path in dist.files_of(prefix)]
+    if files != expected:
+        yield f"left after uninstall: {files}"
+
+
+def trial_of_broken_install(work):
+    """Breaks an installation amid its files. What it has put has to be removable."""
+    (work / "share").mkdir()
+    (work / "share/bash-completion").write_text("a file in place of a folder\n")
+    with contextlib.suppress(OSError):
+        dist.install(work)
+        yield "a file in place of a folder is no fault"
+    (work / "share/bash-completion").unlink()
+    dist.uninstall(work)
+    yield from left(work, [])
+
+
+def trial_of_faults(work):
+    """Looks for licences where there are none, and runs a command that fails."""
+    for call, word in [(dist.licences, work), (dist.run, "false")]:
+        with contextlib.suppress(Fault):
+            call(word)
+            yield f"{call.__name__} {word}: no fault"
 
 
 def trial_of_package(work):
-    if not shutil.which("dpkg-deb"):
-        return
     [package] = dist.debian(work)
-    subprocess.run(["dpkg-deb", "--extract", package, work / "system"], check=True)
+    dist.run("dpkg-deb", "--extract", str(package), str(work / "system"))
     yield from used(work / "system/usr", **dist.DEBIAN)
 
 
@@ -116,13 +149,19 @@ def missing(program, folder):
                for name, page in manual.Program(program).commands.items()}
     wanted = {manual.NAME: [word for words in options.values() for word in words]}
     for name, module in manual.COMMANDS.items():
-        wanted[name] = [item.option() for item in manual.Command(name, module).options]
+        wanted[name] = options_of(module)
     wrong = []
     for name, words in wanted.items():
         for file in [f"{name}.1", f"{name}.bash", f"_{name}", f"{name}.fish"]:
             text = (folder / file).read_text("utf-8").replace("\\-", "-")
             wrong += [f"{file} lacks {word}" for word in words if word not in text]
     return wrong
+
+
+def options_of(module):
+    """Returns the long options of a command for authors, by its parser."""
+    actions = importlib.import_module(f"author.lib.{module}").make_parser()._actions
+    return [word[2:] for it in actions for word in it.option_strings if word.startswith("--")]
 
 
 def pages(program):
@@ -143,7 +182,12 @@ def pages(program):
 
 def trials():
     yield from pages(str(dist.BUILT))
-    for trial in [trial_of_tar, trial_of_install, trial_of_package]:
+    tried = [trial_of_tar, trial_of_install, trial_of_broken_install, trial_of_faults]
+    if shutil.which("dpkg-deb"):
+        tried.append(trial_of_package)
+    else:
+        print("not judged: the Debian package, for there is no dpkg-deb on the PATH")
+    for trial in tried:
         with tempfile.TemporaryDirectory() as folder:
             work = pathlib.Path(folder)
             (work / "again").mkdir()

@@ -17,6 +17,11 @@ import argparse, collections, csv, io, itertools, pathlib, re, subprocess, sys, 
 
 Fight = collections.namedtuple("Fight", "opponent position first weight")
 HEADER = ["opponent", "position", "first"]
+WORDS = {"program": "cwtune, or with --pmars a server build of pMARS",
+         "template": "a Redcode text with range lines", "schedule": "the fights of the tuning"}
+MEANING = {"core": "the core size", "cycles": "the most cycles of a fight",
+           "tasks": "the most tasks of a warrior", "length": "the most instructions of a warrior",
+           "distance": "the least distance of two warriors"}
 RULES = {"core": 8000, "cycles": 80000, "tasks": 8000, "length": 100, "distance": 100}
 MOST_FIGHTS, MOST_WEIGHT, MOST_NUMBER = 10000, 1000, 2**32 - 1
 
@@ -181,7 +186,11 @@ class Tuning:
         self.machine = (Pmars if asked.pmars else Cwtune)(asked.program, asked)
         self.rows, self.caps, self.points, self.loads = {}, {}, {}, {}
         self.best, self.total, self.played = None, None, 0
-        self.read_template(pathlib.Path(asked.template).read_bytes())
+        source = pathlib.Path(asked.template).read_bytes()
+        try:
+            self.read_template(source)
+        except ValueError:
+            sys.exit("refused: Template: a range line is malformed")
         texts = [pathlib.Path(opponent).read_bytes() for opponent in asked.opponents]
         self.opponents = [self.machine.assemble(text) for text in texts]
         if None in self.opponents:
@@ -337,16 +346,19 @@ class Tuning:
 
 def read_words():
     parser = argparse.ArgumentParser(description=__doc__.split("\n\n")[0])
-    for name in ["program", "template", "schedule"]:
-        parser.add_argument(name)
-    parser.add_argument("opponents", nargs="+", metavar="opponent")
+    for name, meaning in WORDS.items():
+        parser.add_argument(name, metavar=name.upper(), help=meaning)
+    parser.add_argument("opponents", nargs="+", metavar="OPPONENT",
+                        help="the opponents, in the tuning's order")
     parser.add_argument("--pmars", action="store_true", help="PROGRAM is a server build of pMARS")
     parser.add_argument("--like-tune", action="store_true", help="search as `cwtune tune` does")
-    parser.add_argument("--cache", type=int, default=4096, help="its cache, for --like-tune")
+    parser.add_argument("--cache", type=int, default=4096, metavar="N",
+                        help="the cache of that search [default: 4096]")
     parser.add_argument("--report", metavar="FILE", help="write the report to FILE too")
     parser.add_argument("--check", metavar="CERT", help="check CERT instead")
     for name, value in RULES.items():
-        parser.add_argument(f"--{name}", type=int, default=value)
+        parser.add_argument(f"--{name}", type=int, default=value, metavar="N",
+                            help=f"{MEANING[name]} [default: {value}]")
     return parser.parse_args()
 
 

@@ -78,8 +78,8 @@ def main():
         with concurrent.futures.ThreadPoolExecutor(os.cpu_count()) as pool:
             came = list(pool.map(lambda test: refuse_each(library, *test), tests))
     total = sum(requests for requests, _ in came)
-    results = [(test, wrong) for (_, test), (_, wrong) in zip(tests, came)]
-    return tally(results, f"{total} requests refused: ")
+    trials = [(test, wrong) for (_, test), (_, wrong) in zip(tests, came)]
+    return tally(trials, f"{total} requests refused: ")
 
 
 if __name__ == "__main__":

@@ -43,9 +43,9 @@ def main():
             came = list(pool.map(lambda one: refuse_each(program, library, *one[1:]), runs))
         again = list(once_each.trials(program, library))
     total = sum(requests for requests, _, _ in came)
-    results = [(name, wrong + ["no refused request was told"] * (refused == 0))
-               for (name, *_), (_, refused, wrong) in zip(runs, came)]
-    return tally([*results, *again], f"{total} requests refused: ")
+    trials = [(name, wrong + ["no refused request was told"] * (refused == 0))
+              for (name, *_), (_, refused, wrong) in zip(runs, came)]
+    return tally([*trials, *again], f"{total} requests refused: ")
 
 
 if __name__ == "__main__":

@@ -1,8 +1,8 @@
 /* Changes what a program writes to files, those on standard error aside: each write, each flush to
  * the disk and each new name is a step, counted from 1. The step whose number is in FAIL fails, and
- * the one in FULL fails for want of room; the write in NOTHING takes no byte; after the step in KILL
- * the program is killed. With SHORT set each write takes one byte. Loaded before the C library: see
- * writes.py. */
+ * the one in FULL fails as on a full disk; the write in NOTHING takes no byte; after the step in
+ * KILL the program is killed. With SHORT set each write takes one byte. Loaded before the C
+ * library: see writes.py. */
 #define _GNU_SOURCE
 #include <dlfcn.h>
 #include <errno.h>

@@ -113,9 +113,9 @@ def main():
             came = list(pool.map(lambda one: fail_each(program, library, *one[1:]), runs))
         explained = explain_flush(program, library)
     total = sum(steps for steps, _ in came)
-    results = [(name, wrong) for (name, *_), (_, wrong) in zip(runs, came)]
-    results.append(("a flush that fails, with --explain", explained))
-    return tally(results, f"{total} steps failed: ")
+    trials = [(name, wrong) for (name, *_), (_, wrong) in zip(runs, came)]
+    trials.append(("a flush that fails, with --explain", explained))
+    return tally(trials, f"{total} steps failed: ")
 
 
 if __name__ == "__main__":

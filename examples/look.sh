@@ -2,9 +2,9 @@
 # Tunes the template of tuning/ with an unproved build, which is ready within a minute, and prints
 # the report. Such a build checks each step while it runs and is slow, so the fights are cut short,
 # and the best setting is not the one of tune.sh. Ends with the program's status.
-# Use: gate/look.sh
+# Use: examples/look.sh
 
-here=$(cd "$(dirname "$0")/../examples" && pwd)
+here=$(cd "$(dirname "$0")" && pwd)
 cycles=100
 note="not proved: a quick build for a first look; \`make demo\` proves the program and builds it"
 
