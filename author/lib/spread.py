@@ -50,7 +50,7 @@ def add_jobs(parser):
                        help="jobs that run side by side, on each host "
                        "[default: the processors of this one]")
     group.add_argument("--parts", type=number_from(1), metavar="K",
-                       help="parts to split the settings into [default: 8 for each job]")
+                       help="parts to split the settings into [default: 16 for each job]")
     group.add_argument("--shares", type=number_from(1, MOST), metavar="K",
                        help="shares to split a check into [default: 8 for each job]")
     group.add_argument("--hosts", metavar="FILE", help="run on these hosts, a line each, over "

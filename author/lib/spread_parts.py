@@ -131,7 +131,7 @@ class Parts(Folder):
         self.totals = {}
         settled = {"rules": rules_of(args)._asdict(), "cache": "all" if args.all else args.cache,
                    "keep": args.keep}
-        pieces = min(count, args.parts or 8 * args.jobs)
+        pieces = min(count, args.parts or 16 * args.jobs)
         super().__init__(args, f"{args.cert}.parts", copies_of(args), settled, (pieces, count))
         if args.parts and min(args.parts, self.count) != self.pieces:
             raise Fault(f"{self.told} has {self.pieces} parts: leave out --parts, or give --anew "

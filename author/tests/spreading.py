@@ -266,7 +266,7 @@ def methods(place):
     status, _, err = place.spread("--all", "--jobs=2", "--progress", *DECOY)
     yield compare("--all makes the certificate of tune --all", (0, cert),
                   (status, place.read("CERT")))
-    yield compare("--progress begins with a line", "0 of 16 parts, 0 of 126 settings, 0 fights\n",
+    yield compare("--progress begins with a line", "0 of 32 parts, 0 of 126 settings, 0 fights\n",
                   err)
     place.clear()
     yield compare("--explain tells of START", 1, place.spread("--explain", *DECOY)[2].count(
