@@ -190,7 +190,7 @@ def show_texts(programs):
 
 
 def is_other(name, known, came):
-    """Returns whether the results of the two programs are other than known, and prints them if so."""
+    """Returns whether the results of the programs are other than known, and prints them if so."""
     if came == tuple(known):
         return False
     mine, theirs = known

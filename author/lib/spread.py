@@ -11,12 +11,12 @@ A job of a check holds the whole certificate in memory, 1 GiB of it at most.
 START is played first, for its total, and then its part begins before the others. Each part begins
 with its setting that is the fewest steps from START, from which the others learn the order of their
 fights. Its floor (`cwtune tune --floor`) is the best total that is known when it begins, or one
-more if that setting comes before the part, so it drops what cannot be the best of all. With --keep K the first K
-of the ranking are found, and printed after the report. START is then not played first, and the
-floor is the K-th best total, once K are known. Rows and fights depend on which part ends when; the
-best setting, the ranking and the totals do not. With --hosts all parts have the floor that is known
-when GNU parallel is started: START's total, or if the command is repeated the best total of the
-parts that are done. With --all there are no floors.
+more if that setting comes before the part, so it drops what cannot be the best of all. With --keep
+K the first K of the ranking are found, and printed after the report. START is then not played
+first, and the floor is the K-th best total, once K are known. Rows and fights depend on which part
+ends when; the best setting, the ranking and the totals do not. With --hosts all parts have the
+floor that is known when GNU parallel is started: START's total, or if the command is repeated the
+best total of the parts that are done. With --all there are no floors.
 
 What is done stays in the folders CERT.parts and CERT.shares until all is done. After Ctrl-C or a
 crash repeat the command to run the rest, with any --jobs. --anew throws it away. A folder made of
