@@ -3,7 +3,9 @@
 //! 4, and one that lists the win alone a cap of 6. In the certificate of three warriors the last
 //! has not played its first fight.
 
-use crate::fixtures::{FOUR_EQUAL, FOUR_EQUAL_CERT, THREE_UNEQUAL, THREE_UNEQUAL_CERT, imp, inputs_of};
+use crate::fixtures::{
+    FOUR_EQUAL, FOUR_EQUAL_CERT, THREE_UNEQUAL, THREE_UNEQUAL_CERT, imp, inputs_of,
+};
 use std::alloc::Global;
 use std::test::Fail;
 use tune_cert::{Demand, Judgement, Reason, Share, Silent, check_for};

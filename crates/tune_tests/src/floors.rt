@@ -15,7 +15,7 @@ const DROPPING: Method = Method::Dropping { capacity: 4096 };
 // What a search finds: the ranking, the number of candidates and of fights, the setting with a
 // copied row, and a certificate of the rows that says of each that setting 9 is better.
 #[derive(Drop)]
-struct Searched {
+struct Summary {
     ranking: Vec<Best>,
     candidates: u32,
     fights: u64,
@@ -23,7 +23,7 @@ struct Searched {
     rows: Vec<u8>,
 }
 
-fn searched(alloc: Global, text: &[u8], aim: Aim) -> Result<Searched, Fail>
+fn searched(alloc: Global, text: &[u8], aim: Aim) -> Result<Summary, Fail>
     requires aim { IsAim aim }
 {
     let inputs = inputs_of(alloc, text)?;
@@ -40,7 +40,7 @@ fn searched(alloc: Global, text: &[u8], aim: Aim) -> Result<Searched, Fail>
         copied,
     };
     let rows = cert_of(alloc, &found)?;
-    Ok(Searched {
+    Ok(Summary {
         ranking,
         candidates,
         fights,
@@ -113,7 +113,10 @@ fn the_first_two_are_kept(rt: HostRuntime) -> Result<(), Fail> {
 fn settings_that_share_are_ranked(rt: HostRuntime) -> Result<(), Fail> {
     let aim = Aim { keep: 10, floor: 0 };
     let found = searched(rt.alloc(), FOUR_EQUAL, aim)?;
-    assert_eq!(rt; found.ranking.as_slice(), [imp(0), imp(1), imp(2), imp(3)].as_slice());
+    assert_eq!(rt;
+        found.ranking.as_slice(),
+        [imp(0), imp(1), imp(2), imp(3)].as_slice()
+    );
     assert_eq!(rt; (found.fights, found.copied), (2, Some(0)));
     Ok(())
 }
