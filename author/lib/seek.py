@@ -13,7 +13,7 @@ Example: cwtune-seek my.red fights.csv dwarf.red scanner.red > better.red
 """
 import itertools, math, pathlib, random, signal, sys, tempfile
 
-from .endings import Fault, number_from
+from .endings import Fault, end_as, number_from
 from .grid import Grid
 from .program import add_program, add_rules, add_words, command_parser, rules_of, run_program
 from .tuning_files import MOST_SETTINGS
@@ -58,8 +58,7 @@ class Tunings:
         if done.returncode == 1 and done.stderr.endswith(NO_CANDIDATE):
             return None
         if done.returncode != 0:
-            sys.stderr.buffer.write(done.stderr)
-            sys.exit(done.returncode if done.returncode > 0 else 3)
+            end_as(done.returncode, done.stderr)
         report = dict(line.split(" ", 1) for line in done.stdout.decode().splitlines())
         total, _, self.greatest = report["total"].split()
         return (int(total), self.grid.setting_of(report["constants"]),

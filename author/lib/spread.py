@@ -30,7 +30,7 @@ Example: cwtune-spread --jobs 4 my.red fights.csv my.cert dwarf.red scanner.red
 import contextlib, os, shutil, signal, sys, time
 
 from . import cert_inputs, spread_parts, spread_shares, tuning_files
-from .endings import Fault, naming, number_from, whole_file
+from .endings import Fault, end_as, naming, number_from, whole_file
 from .program import (EXPLAIN, add_program, add_rules, add_words, command_parser, rules_of,
                       run_program)
 from .spread_folder import Folder
@@ -105,12 +105,6 @@ def make_parser():
     return parser
 
 
-def end_as(done):
-    """Ends as a run of `cwtune` did: with its line, and with its status."""
-    sys.stderr.buffer.write(done.stderr)
-    sys.exit(done.returncode if done.returncode > 0 else 3)
-
-
 def refuse_faults(args):
     """Ends as `tune` ends if it refuses the words or an input, at a terminal with the explanation.
 
@@ -119,7 +113,7 @@ def refuse_faults(args):
     """
     done = tune_part(args, f"1/{MOST}")
     if NO_SUCH_PART not in done.stderr:
-        end_as(done)
+        end_as(done.returncode, done.stderr)
 
 
 def explained(args):
@@ -147,7 +141,7 @@ def count_settings(args):
     """Returns the number of settings, which the program counts."""
     done = run_program(args.program, "settings", "--", args.template)
     if done.returncode != 0:
-        end_as(done)
+        end_as(done.returncode, done.stderr)
     return int(done.stdout.split()[1])
 
 
@@ -161,7 +155,7 @@ def rejected_for_all(args, cert):
                        *spread_shares.keep_words(args.keep), *rules_of(args).words(), "--",
                        args.template, args.schedule, cert, *args.opponent)
     if done.returncode != 0 and not done.stdout:
-        end_as(done)
+        end_as(done.returncode, done.stderr)
     sys.stderr.buffer.write(done.stderr)
     return done.stdout.decode() if done.returncode else ""
 
@@ -263,7 +257,8 @@ def finish(args, folder, progress):
     parts = progress.done()
     if not any(part.report for part in parts):
         folder.end()
-        end_as(tune_part(args, f"1/{folder.pieces}"))
+        done = tune_part(args, f"1/{folder.pieces}")
+        end_as(done.returncode, done.stderr)
     refuse_floors(parts)
     with naming(folder.told):
         write_whole(folder, progress.pieces)

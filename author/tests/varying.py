@@ -97,7 +97,7 @@ def refusals(place):
     ]:
         yield compare(f"cwtune-vary {' '.join(words)}", (status, "", f"{said}\n"),
                       varied(place, *words))
-    said = "refused: label.red does not assemble: refused: Asm line 3 Value DivisionByZero\n"
+    said = "refused: label.red does not assemble: Asm line 3 Value DivisionByZero\n"
     yield compare("a text that does not assemble", (1, "", said),
                   varied(place, "K=1:2", name="label.red"))
     yield compare("a template", (1, "", "refused: ranges.red: it has range lines, so it is a "

@@ -57,8 +57,9 @@ def warriors(program, folder):
         came[0] == 0 and came[2] == origins.note("step.cert.inputs is not there")
         and line in came[1]) else [repr(came)]
     for name, text, said in [
-        ("chain.red", CHAIN, "refused: with the values as EQU lines the text does not assemble: "),
-        ("refused.red", b"DAT 1/0\n", "refused: setting 0 does not assemble: "),
+        ("chain.red", CHAIN, "refused: with the values as EQU lines the text does not assemble: "
+         "Asm line "),
+        ("refused.red", b"DAT 1/0\n", "refused: setting 0 does not assemble: Asm line 1 "),
     ]:
         (folder / name).write_bytes(text)
         came = run("cwtune-warrior", "--program", program, name, "--setting", "0", folder=folder)
