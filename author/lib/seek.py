@@ -172,7 +172,7 @@ def print_end(args, grid, tunings, best, ended):
         print(f"note: none of all {grid.count()} settings has a greater total", file=sys.stderr)
     else:
         print(f"note: no setting of a {'plane' if free == 2 else 'line'} through it has a greater "
-              f"total; one of the other {grid.count()} settings may", file=sys.stderr)
+              f"total; one elsewhere, of all {grid.count()} settings, may", file=sys.stderr)
 
 
 def values_of(args, grid, setting):
@@ -216,6 +216,9 @@ def main():
     with tempfile.TemporaryDirectory(prefix="cwtune-seek-") as folder:
         tunings = Tunings(args, grid, folder)
         best, ended = seek(args, grid, tunings)
+    if best is None and ended:
+        print("stopped: before START or another setting was played", file=sys.stderr)
+        raise KeyboardInterrupt
     if best is None:
         raise Fault("no setting that was tried assembles; `cwtune asm --setting start` says why of "
                     "START")

@@ -2,13 +2,13 @@
 
 `run.py` counts what `trials` yields: names, and for each a list of what was wrong.
 """
-import pathlib, subprocess, tempfile
+import os, pathlib, signal, subprocess, tempfile, time
 
 from author.lib import grid
 from gate.play import Place
 from gate.tally import compare
 
-from .commands import EXAMPLES, TUNING, run
+from .commands import EXAMPLES, SECONDS, TUNING, command, run
 
 TEXT = """;redcode-94
 ;name Two Numbers
@@ -121,6 +121,8 @@ def climbs(place):
     whole = grid.Grid(TUNING / "stone.red")
     yield compare("the template has what was found as START", (0, whole.values, True),
                   (status, found.values, lines[-2].startswith("found: total ")))
+    yield compare("what is said of the others", "note: no setting of a line through it has a "
+                  "greater total; one elsewhere, of all 273 settings, may", lines[-1])
     total = int(lines[-2].split()[2].rstrip(","))
     yield compare("START of the template has that total", total, total_of(place, "found.red"))
     yield compare("no tuning of a line through it has a better one", [total] * 2, [
@@ -198,8 +200,27 @@ def refused_climbs(place):
     yield compare("a template that tune refuses", (1, ""), came[:2])
 
 
+def stopped_climbs(place):
+    """Stops `cwtune-seek` while a stand-in for `cwtune` plays START."""
+    place.write("slow", "#!/bin/sh\ntouch begun\nexec sleep 99\n")
+    os.chmod(place.folder / "slow", 0o755)
+    words = command("cwtune-seek", "--program=./slow", str(TUNING / "step.red"),
+                    str(TUNING / "schedule.csv"), *WARRIORS)
+    for number in [signal.SIGINT, signal.SIGTERM]:
+        job = subprocess.Popen(words, cwd=place.folder, stdout=subprocess.PIPE,
+                               stderr=subprocess.PIPE)
+        while not (place.folder / "begun").exists() and job.poll() is None:
+            time.sleep(0.01)
+        job.send_signal(number)
+        out, err = job.communicate(timeout=SECONDS)
+        (place.folder / "begun").unlink()
+        yield compare(f"signal {number} before START was played", (
+            -signal.SIGINT, b"", b"stopped: before START or another setting was played\n"),
+            (job.returncode, out, err))
+
+
 def trials(program):
-    for plays in [templates, refusals, climbs, kinds, refused_climbs]:
+    for plays in [templates, refusals, climbs, kinds, refused_climbs, stopped_climbs]:
         with tempfile.TemporaryDirectory() as folder:
             try:
                 for name, wrong in plays(Place(program, folder, {})):
