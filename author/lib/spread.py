@@ -199,6 +199,7 @@ def run_jobs(args, folder, progress):
                 progress.pieces[number] = folder.piece(number)
             progress.show()
             time.sleep(0.02)
+        faults |= dict.fromkeys(jobs.todo, jobs.fault)
     finally:
         if jobs:
             jobs.stop()

@@ -1,5 +1,5 @@
 """What `cwtune-study` is given: reads it, and refuses what no study can be made of."""
-import argparse, hashlib, json, os, pathlib, re, shutil, tempfile
+import argparse, hashlib, json, os, pathlib, re, tempfile
 from typing import NamedTuple
 
 from . import vary
@@ -88,7 +88,7 @@ def read(parser, args):
     """Reads the files of the words, and refuses those that no study can be made of."""
     sort_words(parser, args)
     settle_options(parser, args)
-    args.program = os.path.abspath(shutil.which(args.program) or args.program)
+    args.program = os.path.abspath(args.program)
     warrior = pathlib.Path(args.warrior).read_bytes()
     has_ranges = any(map(is_range_line, warrior.split(b"\n")))
     if args.ranges or not has_ranges:

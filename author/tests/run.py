@@ -12,7 +12,7 @@ from author.lib.endings import Fault, run_tool
 from author.lib.program import program_of
 from gate.tally import compare, tally
 
-from . import origins, reporting, sharing, spreading, studying, varying, warriors
+from . import merging, origins, reporting, sharing, spreading, studying, varying, warriors
 from .commands import AUTHOR, TUNING, command, run, said
 
 EXPECTED = pathlib.Path(__file__).resolve().parent / "expected"
@@ -319,7 +319,7 @@ def main():
                   *refusals(rows, python), *signals(),
                   *warriors.trials(program), *varying.trials(program), *origins.trials(program),
                   *studying.trials(program), *spreading.trials(program),
-                  *sharing.trials(program), *reporting.trials()])
+                  *merging.trials(program), *sharing.trials(program), *reporting.trials()])
 
 
 if __name__ == "__main__":

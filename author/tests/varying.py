@@ -2,13 +2,13 @@
 
 `run.py` counts what `trials` yields: names, and for each a list of what was wrong.
 """
-import os, pathlib, signal, subprocess, tempfile, time
+import os, pathlib, signal, subprocess, time
 
 from author.lib import grid
 from gate.play import Place
 from gate.tally import compare
 
-from .commands import EXAMPLES, SECONDS, TUNING, command, run
+from .commands import EXAMPLES, SECONDS, TUNING, command, played, run
 
 TEXT = """;redcode-94
 ;name Two Numbers
@@ -220,10 +220,5 @@ def stopped_climbs(place):
 
 
 def trials(program):
-    for plays in [templates, refusals, climbs, kinds, refused_climbs, stopped_climbs]:
-        with tempfile.TemporaryDirectory() as folder:
-            try:
-                for name, wrong in plays(Place(program, folder, {})):
-                    yield f"{plays.__name__}: {name}", wrong
-            except (OSError, ValueError, LookupError, subprocess.TimeoutExpired) as fault:
-                yield plays.__name__, [repr(fault)]
+    return played("cwtune-vary and cwtune-seek", lambda folder: Place(program, folder, {}), [
+        templates, refusals, climbs, kinds, refused_climbs, stopped_climbs])
