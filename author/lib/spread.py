@@ -321,7 +321,10 @@ def tune(args, count):
         cert_inputs.refuse_others(args, folder.cert(number), part, method_of(args))
     with stopping(folder, progress):
         say_missing(folder, progress, {} if args.merge else run_jobs(args, folder, progress))
-        return finish(args, folder, progress)
+        try:
+            return finish(args, folder, progress)
+        finally:
+            folder.whole().unlink(missing_ok=True)
 
 
 def refuse_idle(parser, args):

@@ -108,7 +108,6 @@ class Jobs:
 
     def end(self):
         """Leaves the files of the jobs where they are."""
-        self.whole().unlink(missing_ok=True)
 
 
 class Parts(Folder):

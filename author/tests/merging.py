@@ -40,8 +40,8 @@ def hosts(place):
     with mock.patch.dict(os.environ, path):
         yield compare("parts without a result", (
             3, "", "failed: no result of 3 of 3 parts: 1 2 3 (GNU parallel ended with status 9)\n"
-            "0 of 3 parts are done, and kept in CERT.parts: repeat the command to run the others\n"),
-            place.spread("--hosts=hosts", "--parts=3", *DECOY))
+            "0 of 3 parts are done, and kept in CERT.parts: repeat the command to run the "
+            "others\n"), place.spread("--hosts=hosts", "--parts=3", *DECOY))
         # More numbers than the pipe takes before the stand-in ends.
         args = argparse.Namespace(hosts=place.folder / "hosts", jobs=1)
         jobs = Hosts(args, Folder(place.folder), range(1, 20000))
@@ -93,6 +93,45 @@ def merged(place):
                   place.spread("--merge=4", *DECOY)[0])
 
 
+def damaged(place):
+    """Damages what a job of a cluster left, with and without its CERT.I.inputs."""
+    run_jobs(place, 3, *DECOY)
+    cert = place.read("CERT.2")
+    rows = cert.splitlines(keepends=True)
+    texts = {"changed": cert.replace(b":0", b":1", 1), "cut": cert[:-9], "empty": b"",
+             "missing": None}
+    foreign = (3, "", "failed: CERT.2 is not a certificate of part 2\n")
+    missing = (3, "", "failed: CERT.2: No such file or directory\n")
+    for name, text in texts.items():
+        write(place, "CERT.2", text)
+        yield compare(f"a certificate that is {name}", missing if text is None else (
+            2, "", "error: CERT.2.inputs is of another certificate\n"),
+            place.spread("--merge=3", *DECOY))
+    place.write("CERT.2", cert)
+    place.write("CERT.2.inputs", "a text\n")
+    yield compare("a CERT.2.inputs that is damaged", (
+        2, "", "error: CERT.2.inputs is malformed\n"), place.spread("--merge=3", *DECOY))
+    (place.folder / "CERT.2.inputs").unlink()
+    for name, text, end in [
+        ("cut", b"".join(rows[:-1]) + rows[-1][:4], foreign), ("empty", b"", foreign),
+        ("of one line", rows[0], foreign), ("without a count", b"x\n" + cert, foreign),
+        ("binary", b"\xff" + cert, foreign), ("missing", None, missing),
+        ("a row too short", b"".join(rows[:-1]),
+         (3, "", "failed: the certificate of part 2 has not 42 settings\n")),
+    ]:
+        write(place, "CERT.2", text)
+        yield compare(f"a certificate without CERT.2.inputs that is {name}", (end, None, None), (
+            place.spread("--merge=3", *DECOY), place.read("CERT"), place.read("CERT.whole")))
+
+
+def write(place, name, text):
+    """Gives a file a text, or removes it if that is None."""
+    if text is None:
+        (place.folder / name).unlink()
+    else:
+        place.write(name, text)
+
+
 def merged_rankings(place):
     """Puts parts together that have floors, and a ranking."""
     write_ranked(place)
@@ -125,4 +164,4 @@ def merged_rankings(place):
 
 def trials(program):
     return played("cwtune-spread", lambda folder: Place(program, folder), [
-        hosts, merged, merged_rankings])
+        hosts, merged, damaged, merged_rankings])

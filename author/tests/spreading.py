@@ -1,7 +1,7 @@
 """Plays `cwtune-spread`: kills it and starts it again, and gives it what it has to refuse.
 
-`run.py` counts what `trials` yields: names, as `cwtune-spread, folders: two at once`, and for each a
-list of what was wrong.
+`run.py` counts what `trials` yields: names, as `cwtune-spread, folders: two at once`, and for each
+a list of what was wrong.
 """
 import os, pathlib, pty, random, re, signal, subprocess, time
 from unittest import mock
