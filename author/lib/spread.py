@@ -92,7 +92,8 @@ def make_parser():
     parser.add_argument("--progress", action="store_true",
                         help="print a line a minute on standard error, if it is not a terminal")
     parser.add_argument("--explain", action="store_true",
-                        help="explain a refusal, and tell of START, as at a terminal")
+                        help="explain a refusal, say what is ignored in the template, and print "
+                        "the total of START, as at a terminal")
     add_program(parser)
     add_search(parser)
     add_check(parser)
@@ -138,11 +139,20 @@ def method_of(args):
 
 
 def count_settings(args):
-    """Returns the number of settings, which the program counts."""
-    done = run_program(args.program, "settings", "--", args.template)
+    """Returns the number of settings, which the program counts, and shows its notes of what is
+    ignored in the template."""
+    done = run_program(args.program, "settings", *explained(args), "--", args.template)
     if done.returncode != 0:
         end_as(done.returncode, done.stderr)
+    args.notes = done.stderr
+    sys.stderr.buffer.write(args.notes)
+    sys.stderr.flush()
     return int(done.stdout.split()[1])
+
+
+def said_of(args, done):
+    """Returns what a run of the program said, without the notes that were shown before."""
+    return done.stderr.removeprefix(args.notes)
 
 
 def rejected_for_all(args, cert):
@@ -155,8 +165,8 @@ def rejected_for_all(args, cert):
                        *spread_shares.keep_words(args.keep), *rules_of(args).words(), "--",
                        args.template, args.schedule, cert, *args.opponent)
     if done.returncode != 0 and not done.stdout:
-        end_as(done.returncode, done.stderr)
-    sys.stderr.buffer.write(done.stderr)
+        end_as(done.returncode, said_of(args, done))
+    sys.stderr.buffer.write(said_of(args, done))
     return done.stdout.decode() if done.returncode else ""
 
 
@@ -259,7 +269,7 @@ def finish(args, folder, progress):
     if not any(part.report for part in parts):
         folder.end()
         done = tune_part(args, f"1/{folder.pieces}")
-        end_as(done.returncode, done.stderr)
+        end_as(done.returncode, said_of(args, done))
     refuse_floors(parts)
     with naming(folder.told):
         write_whole(folder, progress.pieces)

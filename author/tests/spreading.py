@@ -402,6 +402,20 @@ def explained(place):
     yield compare("the explanation is that of tune", tuned, screen_of(place, words))
 
 
+def notes(place):
+    """Looks at what is said of what is ignored in a template."""
+    place.write("x.red", ";@tune K 0 3 1 2\n ;@tune X 1 2 1 1\nMOV 0, 1\n")
+    tuned = place.tune("--explain", *SMALL)[2]
+    for words in [[], ["--check"], ["--check-only"]]:
+        err = place.spread("--explain", *words, *SMALL)[2]
+        notes = [line for line in err.splitlines(True) if not line.startswith("  START, ")]
+        yield compare(f"the notes of the template with {words}", tuned, "".join(notes))
+    yield compare("elsewhere there are none", "", place.spread(*SMALL)[2])
+    place.write("x.red", place.read("x.red").replace(b"MOV 0, 1", b"DAT 1/0"))
+    yield compare("the notes and the fault", place.tune("--explain", *SMALL)[2],
+                  place.spread("--explain", *SMALL)[2])
+
+
 def total_of_start(place):
     """Returns the total of START by the certificate of the decoy."""
     found = tuning_files.Certificate(place.folder / "CERT")
@@ -423,4 +437,4 @@ def progress(place):
 def trials(program):
     return played("cwtune-spread", lambda folder: Place(program, folder), [
         after_kills, other_inputs, damaged_parts, folders, templates, faults, methods, liars,
-        floors, rankings, explained, progress])
+        floors, rankings, explained, notes, progress])
