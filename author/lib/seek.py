@@ -15,10 +15,9 @@ import itertools, math, pathlib, random, signal, sys, tempfile
 
 from .endings import Fault, end_as, number_from
 from .grid import Grid
-from .program import add_program, add_rules, add_words, command_parser, rules_of, run_program
+from .program import (NO_CANDIDATE, add_program, add_rules, add_words, command_parser, rules_of,
+                      run_program)
 from .tuning_files import MOST_SETTINGS
-
-NO_CANDIDATE = b"refused: NoCandidate\n"
 
 
 class Enough(Exception):
@@ -55,7 +54,7 @@ class Tunings:
         """Tunes a template. Returns total, setting and number of fights of its best setting."""
         (self.folder / "template.red").write_bytes(text)
         done = self.run()
-        if done.returncode == 1 and done.stderr.endswith(NO_CANDIDATE):
+        if done.returncode == 1 and done.stderr.endswith(NO_CANDIDATE.encode()):
             return None
         if done.returncode != 0:
             end_as(done.returncode, done.stderr)
