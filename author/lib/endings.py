@@ -85,12 +85,13 @@ def end_as(code, said=b""):
 
 
 def fault_of(done):
-    """Returns the fault of a run of the program without its first word, which the status says, and
-    then the notes that came before it."""
+    """Returns the fault of a run of `cwtune` without its first word, which the status says, and
+    then the notes that came before it. One that was killed says nothing."""
     status = status_of(done.returncode)
     said = "\n" + done.stderr.decode(errors="surrogateescape").strip("\n")
     notes, _, fault = said.partition(f"\n{WORDS[status]}: ")
-    return Fault(fault + notes, status)
+    ended = f"{done.args[0]} ended with status {done.returncode}"
+    return Fault((fault + notes).strip() or ended, status)
 
 
 def end_by(number):
