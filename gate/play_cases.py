@@ -19,8 +19,8 @@ FILLED = ["stdin", "out", "err", "err_begins"]
 NEEDED = {"name": str, "status": int}
 OPTIONAL = {
     "files": dict, "folders": list, "stdin": str, "stdin_from": str, "out_to": str, "cert": str,
-    "each": list, "each_beginning_of": str, "out": str, "out_begins": str, "out_contains": list,
-    "out_is": str, "err": str, "err_begins": str, "words": str, "runs": list, "fill": dict,
+    "each": list, "out": str, "out_begins": str, "out_contains": list, "out_is": str,
+    "err": str, "err_begins": str, "words": str, "runs": list, "fill": dict,
     "long": dict, "accepted": bool, "terminal": bool, "seconds": int, "megabytes": int,
 }
 # what the tables of `runs` and `each` may say
@@ -78,24 +78,10 @@ def filled(case):
         check_keys(long, LONG, ["text", "times"], case["name"])
         files[name] = long_text(long)
     words = shlex.split(words)
-    named = [*words, case.get("each_beginning_of", ""), case.get("stdin_from", "")]
+    named = [*words, case.get("stdin_from", "")]
     shared = inputs.files(*{os.path.normpath(word) for word in named} & inputs.FILES.keys())
     made = {key: fill(case[key], names) for key in FILLED if key in case}
     return case | made | {"files": shared | files, "words": words}
-
-
-def beginnings(case):
-    """Returns the case, or one for each beginning of the text that it names."""
-    key = case.get("each_beginning_of")
-    if key is None:
-        return [case]
-    text = (case if key == "stdin" else case["files"])[key]
-    cases = []
-    for length in range(len(text)):
-        cut = {key: text[:length]}
-        change = cut if key == "stdin" else {"files": case["files"] | cut}
-        cases.append(case | change | {"name": f"{case['name']} ({length} characters)"})
-    return cases or sys.exit(f"{case['name']}: no beginning to play")
 
 
 def ways(case):
@@ -131,7 +117,7 @@ def read_cases(path):
         case["folders"] = table.get("folders", []) + case.get("folders", [])
         case = {"fill": {}, "long": {}} | case
         tables = [one for run in variants(case, "runs") for one in variants(run, "each")]
-        cases += [way for one in tables for cut in beginnings(filled(one)) for way in ways(cut)]
+        cases += [way for one in tables for way in ways(filled(one))]
     if len({case["name"] for case in cases}) < len(cases):
         sys.exit(f"{path}: two cases have one name")
     return cases
