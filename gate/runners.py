@@ -26,6 +26,9 @@ REFUSED = {
     "rt test": ["gate.refuse.growth"],
 }
 FAILING = "/bin/false"
+# The words of a case that is refused, and what is said of it.
+CASES = {"asm $smal dat.red": "no words for `$smal`\n",
+         "asm 'dat.red": "`words`: No closing quotation\n"}
 
 
 def run(*words):
@@ -43,6 +46,18 @@ def failing():
     said = "failed: stone.red: a search ended with status 1\n"
     yield compare(" ".join(words), (3, "", said), run(*words))
     yield "a listing of pMARS that is refused", refused_listing()
+    for words, said in CASES.items():
+        yield compare(f"a case with the words {words}", (1, "", said), played(words))
+
+
+def played(words):
+    """Plays a case with these words. Returns how that ends; the name of the case's file is left
+    out of what is said."""
+    with tempfile.TemporaryDirectory() as folder:
+        path = pathlib.Path(folder, "a.toml")
+        path.write_text(f'[[case]]\nname = "it"\nwords = "{words}"\nstatus = 0\n')
+        status, out, err = run("gate.play_cases", FAILING, path)
+        return status, out, err.replace(f"refused: {path}: it: ", "")
 
 
 def refused_listing():
