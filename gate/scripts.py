@@ -35,6 +35,8 @@ CHECKED = {
     ("same,3,2", "same,3,1"): "rejected row 5 NotSame",
     ("same,3,2", "refused,3,-"): "rejected row 5 NotRefused",
     ("same,3,2", "same,3,02"): "rejected row 5 Malformed",
+    # longer than Python's `csv` takes by default
+    ("same,3,2", f"same,3,{'2' * 140000}"): "rejected row 5 Malformed",
 }
 # Range lines with too few words, a word that is not a number, the step 0, and a START between
 # two values.
