@@ -1,5 +1,5 @@
 """How the commands end after a fault or as a `cwtune` ended, write files and read numbers."""
-import argparse, contextlib, io, os, pathlib, shutil, signal, sys
+import argparse, contextlib, io, os, pathlib, shutil, signal, subprocess, sys
 
 WORDS = {1: "refused", 2: "error", 3: "failed"}
 
@@ -53,6 +53,9 @@ def run_tool(main):
         status = end_by(signal.SIGPIPE)
     except KeyboardInterrupt:
         status = end_by(signal.SIGINT)
+    except subprocess.TimeoutExpired as late:
+        words = " ".join(map(str, late.cmd))
+        status = say("failed", f"{words} took more than {late.timeout:.0f} seconds", 3)
     except OSError as error:
         # A copy names two files; the second is the one that is written.
         name = error.filename2 or error.filename or "standard output"
