@@ -3,7 +3,7 @@
 Warriors are random ones and those of the repository, in series of ten fights: the positions and
 first movers are those of `pmars -F`, and the wins, ties and losses have to be the same. Texts are
 random ones and those of the repository: the instructions and the start have to be those of
-`pmars -r 0`. Then the differences of known.py (docs/MACHINE.md, docs/REDCODE.md) are shown. A fight
+`pmars -r 0`. Then the differences of known.py (docs/PMARS.md) are shown. A fight
 that differs is printed as two warriors, cut as short as they still differ, and two commands. The
 exit status is 1 if something else differs, or if a known difference no longer shows.
 

@@ -1,8 +1,8 @@
 """What is known to differ from pMARS 0.9.2, each with a fight or a text that shows it.
 
-docs/MACHINE.md and docs/REDCODE.md explain these differences, and name others: no listing shows
-what pMARS refuses, or a text without instructions, and only a build with a display overlooks an
-assertion after an EQU line.
+docs/PMARS.md explains these differences, and names others: no listing shows what pMARS refuses, or
+a text without instructions, and only a build with a display overlooks an assertion after an EQU
+line.
 """
 from author.lib.program import Rules
 
