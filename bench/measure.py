@@ -7,9 +7,10 @@ build, plays the fights with it too, after the series of pairs.py. README.md say
 import argparse, math, os, pathlib, subprocess, tempfile, time
 
 from author.lib.endings import Fault, number_from, run_tool
-from author.lib.program import BUILT, program_of
+from author.lib.program import BUILT, Rules, program_of
+from pmars.games import Game
 
-from .pairs import print_pairs, processor_time
+from .pairs import means, print_pairs, processor_time
 
 HERE = pathlib.Path(__file__).resolve().parent
 # The result line that each fight must give.
@@ -19,6 +20,9 @@ EXPECTED = {
     "replicators": "tie 1 turns 2000000",
     "scanner": "tie 1 turns 2000000",
 }
+# What pMARS prints of a tie: for each warrior the rounds that it survived alone, and those that the
+# two survived.
+TIE = "0 1\n0 1\n"
 # A fight that takes less than this many seconds is repeated in a run until the run takes as long.
 SHORTEST = 0.05
 # The texts that are assembled; each must give the load file of the same name.
@@ -43,16 +47,14 @@ COUNTS = [("runs", 1, 10, "fight"), ("series", 0, 3, "series beside pMARS"),
 
 
 class Fight:
-    """A fight text, taken apart so that pMARS can play it too."""
+    """A fight text, taken apart so that pMARS can play it too. The candidate moves first."""
 
     def __init__(self, path):
         self.name = path.stem
         self.text = path.read_text(encoding="ascii")
         lines = self.text.splitlines(keepends=True)
-        rules = map(int, lines[0].split()[1:])
-        self.core, self.cycles, self.tasks, self.length, self.distance = rules
-        position, self.first = lines[1].split()[1:]
-        self.position = int(position)
+        self.rules = Rules(*map(int, lines[0].split()[1:]))
+        self.position = int(lines[1].split()[1])
         middle = lines.index("opponent\n")
         self.candidate = "".join(lines[3:middle])
         self.opponent = "".join(lines[middle + 1 :])
@@ -62,7 +64,7 @@ class Fight:
     def of_one_cycle(self):
         """Returns this fight text with one cycle: its time is the start of the process."""
         lines = self.text.splitlines(keepends=True)
-        lines[0] = f"rules {self.core} 1 {self.tasks} {self.length} {self.distance}\n"
+        lines[0] = f"rules {' '.join(map(str, self.rules._replace(cycles=1)))}\n"
         return "".join(lines)
 
 
@@ -84,7 +86,7 @@ class Cwtune:
         all its fights in one process and one arena.
         """
         template = f";@tune K 0 {SHORT_SETTINGS - 1} 1 0\n{fight.candidate}DAT.F $K, $0\n"
-        record = f"0,{fight.position},{fight.first}\n"
+        record = f"0,{fight.position},c\n"
         texts = {
             "template.red": template,
             "schedule.csv": "opponent,position,first\n" + record * SHORT_FIGHTS,
@@ -93,8 +95,7 @@ class Cwtune:
         }
         for name, text in texts.items():
             (folder / name).write_text(text, encoding="ascii")
-        rules = [f"--core={fight.core}", f"--cycles={SHORT_CYCLES}", f"--tasks={fight.tasks}"]
-        rules += [f"--length={fight.length}", f"--distance={fight.distance}"]
+        rules = fight.rules._replace(cycles=SHORT_CYCLES).words()
         command = [*self.program, "tune", *rules, *(str(folder / name) for name in texts)]
 
         def play():
@@ -112,49 +113,26 @@ class Cwtune:
 
 
 class Pmars:
-    """A pMARS server build, which reads load files as Redcode. The candidate is loaded at 0."""
+    """A pMARS server build, which reads load files as Redcode."""
 
     def __init__(self, program, folder):
-        self.program = program
-        self.folder = pathlib.Path(folder)
+        self.program, self.folder = program, folder
 
-    def command(self, fight):
-        """Returns the command that plays a fight, without rounds and cycles, and its two files."""
-        # The first warrior named moves first and is at 0, so the two change places if the opponent
-        # moves first.
-        position, texts = fight.position, [fight.candidate, fight.opponent]
-        if fight.first == "o":
-            position = fight.core - position
-            texts.reverse()
-        files = []
-        for number, text in enumerate(texts):
-            file = self.folder / f"{fight.name}-{number}.red"
-            # Without an assertion pMARS prints a warning for each warrior.
-            file.write_text(";assert 1\n" + text, encoding="ascii")
-            files.append(str(file))
-        command = [self.program, "-b", "-k", "-F", str(position)]
-        command += ["-s", str(fight.core), "-p", str(fight.tasks)]
-        command += ["-l", str(fight.length), "-d", str(fight.distance)]
-        return command, files
+    def command(self, fight, cycles, rounds=1):
+        """Returns the command that plays rounds of a fight."""
+        game = Game(fight.rules._replace(cycles=cycles), fight.candidate, fight.opponent,
+                    tempfile.mkdtemp(dir=self.folder))
+        return game.series_words(self.program, fight.position, rounds)
 
     def prepare(self, fight):
         """Returns two plays: of the fight, and of its start alone."""
-        command, files = self.command(fight)
-        long = command + ["-r", "1", "-c", str(fight.cycles)] + files
-        short = command + ["-r", "1", "-c", "1"] + files
-        # With -k pMARS prints a line per warrior: the rounds that it survived alone, and those that
-        # both survived.
-        scores = {"win": "1 0\n0 0\n", "tie": "0 1\n0 1\n", "loss": "0 0\n1 0\n"}
-        outcome = fight.expected.split()[0]
-        if fight.first == "o":
-            outcome = {"win": "loss", "tie": "tie", "loss": "win"}[outcome]
-        return lambda: self.play(long, scores[outcome]), lambda: self.play(short, None)
+        whole, start = self.command(fight, fight.rules.cycles), self.command(fight, 1)
+        return lambda: self.play(whole, TIE), lambda: self.play(start, None)
 
     def prepare_short(self, fight, _folder):
         """Returns a play of as many rounds of short fights, which gives its seconds and fights."""
-        command, files = self.command(fight)
         rounds = SHORT_SETTINGS * SHORT_FIGHTS
-        command += ["-r", str(rounds), "-c", str(SHORT_CYCLES), *files]
+        command = self.command(fight, SHORT_CYCLES, rounds)
         return lambda: (self.play(command, None), rounds)
 
     def play(self, command, expected):
@@ -171,10 +149,7 @@ def timed(command, text):
         source.write(text.encode("ascii"))
         source.seek(0)
         before = time.perf_counter()
-        try:
-            done = subprocess.run(command, stdin=source, capture_output=True, timeout=LONGEST)
-        except subprocess.TimeoutExpired:
-            raise Fault(f"{command[0]} took more than {LONGEST} seconds", 3) from None
+        done = subprocess.run(command, stdin=source, capture_output=True, timeout=LONGEST)
         seconds = time.perf_counter() - before
     if done.returncode != 0:
         words = done.stderr.decode(errors="replace").strip()
@@ -303,8 +278,7 @@ def print_fights(players, fights, runs):
             line += f"{rates[1] / 1e6:>10.1f}{ratios[-1]:>8.2f}"
         print(line, flush=True)
     if ratios:
-        mean = math.exp(sum(map(math.log, ratios)) / len(ratios))
-        print(f"geometric mean of the ratios {mean:.2f}, least {min(ratios):.2f}")
+        print(means(ratios))
 
 
 def make_parser():

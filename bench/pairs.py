@@ -2,7 +2,7 @@
 
 README.md says what is measured.
 """
-import itertools, math, os, pathlib, subprocess, tempfile
+import itertools, math, os, pathlib, statistics, subprocess, tempfile
 
 from author.lib.endings import Fault
 from author.lib.program import Rules
@@ -101,6 +101,12 @@ def measured(warriors, programs, runs):
     return pairs
 
 
+def means(ratios):
+    """Returns in words the geometric mean of some ratios, and the least."""
+    mean = statistics.geometric_mean(ratios)
+    return f"geometric mean of the ratios {mean:.2f}, least {min(ratios):.2f}"
+
+
 def print_folder(name, cwtune, pmars, runs):
     """Prints a line per pair of warriors of a folder, the geometric mean and the least ratio."""
     heads = f"{'fights':>8}{'points':>8}{'wide':>8}{'ms':>10}{'pMARS ms':>10}{'ratio':>8}"
@@ -112,9 +118,8 @@ def print_folder(name, cwtune, pmars, runs):
         line = f"{pair.name:<32}{pair.fights:>8}{pair.points:>8}{pair.outside:>8.0%}"
         line += f"{mine * 1e3:>10.1f}{theirs * 1e3:>10.1f}"
         print(f"{line}{ratios[-1]:>8.2f}", flush=True)
-    mean = math.exp(sum(map(math.log, ratios)) / len(ratios))
     print(f"the same points in {len(ratios)} series")
-    print(f"geometric mean of the ratios {mean:.2f}, least {min(ratios):.2f}")
+    print(means(ratios))
 
 
 def print_pairs(cwtune, pmars, runs):

@@ -4,19 +4,19 @@ chose a class for.
     python3 -m bench.random_pairs --pmars PATH [--bin PATH] [--pairs N] [--runs N] [--seed S]
 
 Takes pairs whose first fight lasts 2000 turns or more, and plays series of them as measure.py does.
-A line for each pair says its fights, how many of them are ties, the share of turns whose
-instruction has no class of its own, the milliseconds of the program and of pMARS, and their ratio.
-The last lines have the geometric mean of the ratios and the least, of all pairs and of those
-without a tie: the program cuts ties short, and pMARS does not.
+A line for each pair says its fights, how many of them are ties, the share of the turns of the first
+fight whose instruction has no class of its own (`wide`), the milliseconds of the program and of
+pMARS, and their ratio. The last lines have the geometric mean of the ratios and the least, of all
+pairs and of those without a tie: the program cuts ties short, and pMARS does not.
 """
-import argparse, math, random, tempfile
+import argparse, random, tempfile
 
 from author.lib.endings import number_from, run_tool
 from author.lib.program import BUILT, Rules, program_of
 from pmars.games import Game
 from pmars.random_warriors import random_load
 
-from .pairs import SEED, Pair, processor_time
+from .pairs import SEED, Pair, means, processor_time
 
 SHORTEST = 2000
 
@@ -53,8 +53,7 @@ def print_ratios(title, pairs):
     """Prints the geometric mean of the ratios of some pairs, and the least."""
     ratios = [theirs / mine for mine, theirs in (pair.best for pair in pairs)]
     if ratios:
-        mean = math.exp(sum(map(math.log, ratios)) / len(ratios))
-        print(f"{title}: {len(ratios)} pairs, mean {mean:.2f}, least {min(ratios):.2f}")
+        print(f"{title}: {len(ratios)} pairs, {means(ratios)}")
 
 
 def make_parser():
@@ -75,6 +74,7 @@ def main():
     asked = make_parser().parse_args()
     pmars = program_of([asked.pmars], "make pmars")
     pairs = measured(asked, (program_of([asked.bin]), pmars))
+    print(f"{'pair':<12}{'fights':>7}{'ties':>7}{'wide':>6}{'ms':>9}{'pMARS ms':>9}{'ratio':>7}")
     for pair in pairs:
         mine, theirs = pair.best
         print(f"{pair.name:<12}{pair.fights:>7}{pair.ties:>7}{pair.outside:>6.0%}"

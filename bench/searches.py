@@ -16,18 +16,22 @@ SEED = "4321"
 KINDS = ["best", "keep", "all", "spread"]
 
 
-def words_of(kind, asked):
-    """Returns the words that begin a search of a kind."""
+def search_of(kind, asked):
+    """Returns the name of a kind of search, and the words that begin it."""
+    tune = [asked.program, "tune"]
     spread = [sys.executable, AUTHOR / "cwtune-spread", "--program", asked.program]
-    return {"best": [asked.program, "tune"],
-            "keep": [asked.program, "tune", f"--keep={asked.keep}"],
-            "all": [asked.program, "tune", "--all"],
-            "spread": [*spread, f"--jobs={asked.jobs}"]}[kind]
+    return {"best": ("tune", tune),
+            "keep": (f"tune --keep {asked.keep}", [*tune, f"--keep={asked.keep}"]),
+            "all": ("tune --all", [*tune, "--all"]),
+            "spread": (f"cwtune-spread --jobs {asked.jobs}",
+                       [*spread, f"--jobs={asked.jobs}"])}[kind]
 
 
-def name_of(kind, asked):
-    return {"best": "tune", "keep": f"tune --keep {asked.keep}", "all": "tune --all",
-            "spread": f"cwtune-spread --jobs {asked.jobs}"}[kind]
+def kinds(word):
+    """Reads a list of kinds for argparse."""
+    if not set(word.split(",")) <= set(KINDS):
+        raise argparse.ArgumentTypeError(f"{word} is not some of {', '.join(KINDS)}")
+    return word.split(",")
 
 
 def run(name, words):
@@ -54,10 +58,11 @@ def compare(asked, template, folder):
     """Prints a line for each kind of search. All have to find the same setting."""
     first, found = None, set()
     for kind in asked.kinds:
-        fights, seconds, best = searched(words_of(kind, asked), template, folder)
+        name, words = search_of(kind, asked)
+        fights, seconds, best = searched(words, template, folder)
         first = first or (fights, seconds)
         found.add(best)
-        print(f"{template.name}: {name_of(kind, asked)}: {fights} fights, "
+        print(f"{template.name}: {name}: {fights} fights, "
               f"{fights / first[0]:.2f}; {seconds:.1f} s, {seconds / first[1]:.2f}", flush=True)
     if len(found) > 1:
         raise Fault(f"{template.name}: different settings were found: {sorted(found)}", 3)
@@ -72,8 +77,7 @@ def main():
                         help="the first K of the ranking [default: 10]")
     parser.add_argument("--jobs", type=number_from(1), default=4, metavar="N",
                         help="processors of cwtune-spread [default: 4]")
-    parser.add_argument("--kinds", type=lambda word: word.split(","), default=KINDS,
-                        metavar="KIND,..",
+    parser.add_argument("--kinds", type=kinds, default=KINDS, metavar="KIND,..",
                         help=f"some of {', '.join(KINDS)} [default: each of them]")
     parser.add_argument("templates", nargs="+", type=pathlib.Path, metavar="TEMPLATE")
     asked = parser.parse_args()

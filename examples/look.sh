@@ -11,15 +11,14 @@ note="not proved: a quick build for a first look; \`make demo\` proves the progr
 echo "$note"
 echo "building, and tuning examples/tuning/stone.red in fights of $cycles cycles .."
 cd "$here/../crates/cwtune" || exit 1
-files=
+set --
 for file in tuning/stone.red tuning/schedule.csv warriors/dwarf.red warriors/imp-ring.red \
     warriors/scanner.red warriors/replicator.red warriors/core-clear.red; do
-    files="$files --data $(basename "$file")=$here/$file"
+    set -- "$@" --data "$(basename "$file")=$here/$file"
 done
 log=$(mktemp) || exit 1
 trap 'rm -f "$log"' EXIT
-# shellcheck disable=SC2086
-rt try --seconds 100 $files -- tune --cycles "$cycles" stone.red schedule.csv stone.cert \
+rt try --seconds 100 "$@" -- tune --cycles "$cycles" stone.red schedule.csv stone.cert \
     dwarf.red imp-ring.red scanner.red replicator.red core-clear.red >"$log" 2>&1
 status=$?
 grep -E '^(vectors|candidates|best|constants|total|fights) ' "$log"

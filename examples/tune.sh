@@ -12,31 +12,33 @@ wrong=0
 work=$(mktemp -d) || exit 1
 trap 'rm -rf "$work"' EXIT
 
-# Tunes a template and compares the report: one TEMPLATE SCHEDULE REPORT.
+tuning=$here/tuning
+set -- "$here/warriors/dwarf.red" "$here/warriors/imp-ring.red" "$here/warriors/scanner.red" \
+    "$here/warriors/replicator.red" "$here/warriors/core-clear.red"
+
+# Tunes a template and compares the report: one TEMPLATE SCHEDULE REPORT OPPONENT..
 one() {
-    "$program" tune "$1" "$2" "$work/cert" \
-        "$here/warriors/dwarf.red" "$here/warriors/imp-ring.red" "$here/warriors/scanner.red" \
-        "$here/warriors/replicator.red" "$here/warriors/core-clear.red" >"$work/report"
+    template=$1 schedule=$2 expected=$3
+    shift 3
+    "$program" tune "$template" "$schedule" "$work/cert" "$@" >"$work/report"
     status=$?
     cat "$work/report"
-    if [ "$status" -ne 0 ] || ! cmp -s "$work/report" "$3"; then
+    if [ "$status" -ne 0 ] || ! cmp -s "$work/report" "$expected"; then
         echo "tune.sh: not as expected (status $status)" >&2
-        diff "$3" "$work/report"
+        diff "$expected" "$work/report"
         wrong=1
     fi
 }
 
-tuning=$here/tuning
-one "$tuning/stone.red" "$tuning/schedule.csv" "$tuning/report.txt"
+one "$tuning/stone.red" "$tuning/schedule.csv" "$tuning/report.txt" "$@"
 echo
-one "$tuning/decoy.red" "$tuning/schedule.csv" "$tuning/decoy-report.txt"
+one "$tuning/decoy.red" "$tuning/schedule.csv" "$tuning/decoy-report.txt" "$@"
 echo
-one "$tuning/stone.red" "$tuning/weighted.csv" "$tuning/weighted-report.txt"
+one "$tuning/stone.red" "$tuning/weighted.csv" "$tuning/weighted-report.txt" "$@"
 
 # The certificate of a tuning that plays all fights is the stored one, which is not of `cwtune`.
 if ! "$program" tune --all "$tuning/stone.red" "$tuning/schedule.csv" "$work/all.cert" \
-    "$here/warriors/dwarf.red" "$here/warriors/imp-ring.red" "$here/warriors/scanner.red" \
-    "$here/warriors/replicator.red" "$here/warriors/core-clear.red" >/dev/null ||
+    "$@" >/dev/null ||
     ! cmp -s "$work/all.cert" "$tuning/all-fights.cert"; then
     echo "tune.sh: tune --all has another certificate than $tuning/all-fights.cert" >&2
     wrong=1

@@ -33,6 +33,8 @@ start ADD #step, bomb
   JMP start
   END
 """
+# Without this line no cut has a start.
+FIRST = b"start ADD #step, bomb"
 DWARF_CODE = b"ORG 1\nDAT.F #0, #0\nADD.AB #4, $-1\nMOV.I $-2, @-2\nJMP.B $-2, $0\n"
 
 
@@ -86,9 +88,11 @@ def is_whole(row, record):
 
 
 def is_of_form(text, came):
-    """Returns whether an assembly ended with a load file, or with a fault at a line of the text."""
+    """Returns whether an assembly ended with a fault at a line of the text, or, once all of the
+    line with the label of its start is there, with a load file."""
     if came.status == 0:
-        return came.out.startswith(b"ORG ") and came.out.endswith(b"\n") and came.err == b""
+        return (FIRST in text and came.out.startswith(b"ORG ") and came.out.endswith(b"\n")
+                and came.err == b"")
     words = came.err.split()
     if came.status != 1 or came.out or words[:3] != [b"refused:", b"Asm", b"line"]:
         return False

@@ -61,10 +61,16 @@ def typed(program, document, folder):
     commands = commands_of(text)
     shell = "".join(f"{command}\necho '{END}'\n" for command, _ in commands)
     path = f"{pathlib.Path(program).parent}:{ROOT / 'author'}:{os.environ['PATH']}"
-    done = subprocess.run(["bash", "-e", "-c", shell], cwd=folder / FOLDERS.get(document.name, "."),
-                          env={**os.environ, "PATH": path}, stdin=subprocess.DEVNULL,
-                          stdout=subprocess.PIPE, stderr=subprocess.STDOUT, encoding="utf-8",
-                          timeout=SECONDS)
+    try:
+        done = subprocess.run(["bash", "-e", "-c", shell],
+                              cwd=folder / FOLDERS.get(document.name, "."),
+                              env={**os.environ, "PATH": path}, stdin=subprocess.DEVNULL,
+                              stdout=subprocess.PIPE, stderr=subprocess.STDOUT, encoding="utf-8",
+                              timeout=SECONDS)
+    except subprocess.TimeoutExpired as late:
+        ended = str(late.stdout).count(END)
+        yield f"{document.name}: its commands", [f"took more than {SECONDS} seconds, after {ended}"]
+        return
     outputs = done.stdout.split(f"{END}\n")
     for (command, expected), came in zip(commands, outputs):
         right = is_printed(expected, came)

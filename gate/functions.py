@@ -73,7 +73,7 @@ def body_of(lines, at, indent):
             return first, first
         if line.endswith("{"):
             return first, lines.index(indent + "}", first)
-        if first > at and line[0] != ")":
+        if first > at and line[0] not in ")>":
             return None
     return None
 

@@ -15,7 +15,8 @@ from .inputs import RULES
 from .play import Place, end
 from .tally import compare, tally
 
-FILES = inputs.files("dat.red", "imp.red", "both.csv", "imps.red", "step.red", "empty.red")
+FILES = inputs.files("dat.red", "imp.red", "both.csv", "imps.red", "step.red", "tail.red",
+                     "empty.red")
 TUNE = ["tune", *RULES, "imps.red", "both.csv", "CERT", "dat.red", "imp.red"]
 OTHERS = [
     ["tune", "--all", *TUNE[1:]],
@@ -27,6 +28,9 @@ OTHERS = [
 ]
 REPORT = "vectors 4\ncandidates 4\nbest 0\nconstants K=0\ntotal 4 of 6\nfights 2 of 8\n"
 OLD = "cwtune inputs 1\nof an older certificate\n"
+HOLDS = ("  a certificate holds only for its own template, schedule, opponents in order, rules and "
+         "part\n")
+SAME = "  all of these are the tuning's, so {}the certificate itself is wrong\n"
 KIND = "error: CERT.inputs is a text of another kind, and is not overwritten: CERT.inputs\n"
 NAMED = "error: CERT.inputs is also a file of this command, and is not overwritten: CERT.inputs\n"
 
@@ -59,6 +63,10 @@ def replaced(place):
         place.write("CERT.inputs", old)
         came, wanted = place.inputs(TUNE)
         yield compare(f"{name} is replaced", wanted, came)
+    (place.folder / "CERT.inputs").chmod(0o640)
+    place.inputs(TUNE)
+    mode = (place.folder / "CERT.inputs").stat().st_mode & 0o777
+    yield compare("permissions stay", 0o640, mode)
     place.write("elsewhere", OLD)
     (place.folder / "CERT.inputs").unlink()
     (place.folder / "CERT.inputs").symlink_to("elsewhere")
@@ -104,9 +112,6 @@ def checks(place):
     (place.folder / "CERT.inputs").unlink(missing_ok=True)
     place.run(TUNE, keep=True)
     other = ["check", *RULES, "imps.red", "both.csv", "CERT", "imp.red", "dat.red"]
-    said = ("  a certificate holds only for its own template, schedule, opponents in order, rules "
-            "and part\n")
-    one = "  {} cannot be read, so it is not known which of these differs\n"
     for name, words, lines in [
         ("swapped opponents", other, "  imp.red is not the tuning's opponent 0\n"
                                      "  dat.red is not the tuning's opponent 1\n"),
@@ -116,19 +121,36 @@ def checks(place):
          "  rules 16 21 4 4 4, and the tuning had rules 16 20 4 4 4\n"
          "  step.red is not the tuning's template\n"
          "  the tuning had 2 opponents, and this check has 3\n"),
+        ("another part", ["check", "--part=2/2", *TUNE[1:]],
+         "  part 2/2, and the tuning had part 1/1\n"),
     ]:
         came = place.run(words, terminal=True)
-        yield compare(f"{name} at a terminal", said + lines, shown(came.err))
+        yield compare(f"{name} at a terminal", HOLDS + lines, shown(came.err))
         yield compare(f"{name} in a pipe", b"", place.run(words).err)
-    text = place.read("CERT")
-    place.write("CERT", text.replace(b"0:3", b"0:1"))
+
+
+def rejections(place):
+    """Checks certificates that are not of the tuning, or show too little, at a terminal."""
+    unknown = HOLDS + "  CERT.inputs {}, so it is not known which of these differs\n"
+    place.run(TUNE, keep=True)
+    text, said = place.read("CERT"), place.read("CERT.inputs")
+    wrong = text.replace(b"0:3", b"0:1")
+    place.write("CERT", wrong)
     came = place.run(["check", *TUNE[1:]], terminal=True)
-    yield compare("a changed certificate",
-                  f"{said}  CERT.inputs is of another certificate, so it is not known which of "
-                  "these differs\n", shown(came.err))
+    yield compare("a changed certificate", unknown.format("is of another certificate"),
+                  shown(came.err))
+    digests = [inputs_file.digest_of(it).encode() for it in (text, wrong)]
+    place.write("CERT.inputs", said.replace(*digests))
+    came = place.run(["check", *TUNE[1:]], terminal=True)
+    yield compare("a wrong certificate with its digest", HOLDS + SAME.format(""), shown(came.err))
     (place.folder / "CERT.inputs").unlink()
     came = place.run(["check", *TUNE[1:]], terminal=True)
-    yield compare("without CERT.inputs", said + one.format("CERT.inputs"), shown(came.err))
+    yield compare("without CERT.inputs", unknown.format("cannot be read"), shown(came.err))
+    tail = [*RULES, "tail.red", *TUNE[-4:]]
+    place.run(["tune", *tail], keep=True)
+    came = place.run(["check", "--keep=3", *tail], terminal=True)
+    yield compare("a ranking that the tuning did not find",
+                  HOLDS + SAME.format("its --keep or --floor was another, or "), shown(came.err))
 
 
 def shown(err):
@@ -142,7 +164,7 @@ def main():
     with tempfile.TemporaryDirectory() as folder:
         place = Trial(program, pathlib.Path(folder), version)
         return tally([*texts(place), *replaced(place), *kept(place), *unwritable(place),
-                      *checks(place)])
+                      *checks(place), *rejections(place)])
 
 
 if __name__ == "__main__":

@@ -1,4 +1,4 @@
-"""Runs the program in a folder, and says how what came of it differs from what was expected."""
+"""Runs the program in a folder, and says how the run ended and which files it changed."""
 import contextlib, os, pathlib, pty, subprocess, tempfile
 from typing import NamedTuple
 
@@ -30,16 +30,6 @@ def end(status, out="", err="", files=None, **more):
 
 def as_bytes(text):
     return text.encode() if isinstance(text, str) else text
-
-
-def differences(expected, came):
-    """Returns how two ends differ, a line for each part."""
-    parts = [(name, getattr(expected, name), getattr(came, name)) for name in End._fields[:3]]
-    parts += [(f"file {name}", expected.files.get(name, "as it was"),
-               came.files.get(name, "as it was"))
-              for name in sorted({**expected.files, **came.files})]
-    return [f"{name}: expected {wanted!r}, came {given!r}"[:2000]
-            for name, wanted, given in parts if wanted != given]
 
 
 class Place:

@@ -4,11 +4,11 @@ CASES are files such as `gate/cases/asm.toml`; without any, all files of `gate/c
 gate/cases/README.md says what a case has.
 
 Prints what failed, and as its last line `N passed, N failed`. The exit status is 1 if a case failed
-or there is none. A case that says anything else, or no `status`, is an error.
+or there is none. A case that says anything else, or no `status`, is refused.
 """
 import concurrent.futures, os, pathlib, re, shlex, string, sys, tempfile, tomllib
 
-from author.lib.endings import run_tool
+from author.lib.endings import Fault, naming, run_tool
 from author.lib.program import program_of
 
 from . import inputs
@@ -19,8 +19,8 @@ FILLED = ["stdin", "out", "err", "err_begins"]
 NEEDED = {"name": str, "status": int}
 OPTIONAL = {
     "files": dict, "folders": list, "stdin": str, "stdin_from": str, "out_to": str, "cert": str,
-    "each": list, "each_beginning_of": str, "out": str, "out_begins": str, "out_contains": list,
-    "out_is": str, "err": str, "err_begins": str, "words": str, "runs": list, "fill": dict,
+    "each": list, "out": str, "out_begins": str, "out_contains": list, "out_is": str,
+    "err": str, "err_begins": str, "words": str, "runs": list, "fill": dict,
     "long": dict, "accepted": bool, "terminal": bool, "seconds": int, "megabytes": int,
 }
 # what the tables of `runs` and `each` may say
@@ -33,10 +33,10 @@ PROGRESS = rb"(?m)^\d+% .*\n"
 
 
 def check_keys(table, kinds, needed, where):
-    """Ends the program if a key of a table is not as it has to be."""
+    """Refuses a table of which a key is not as it has to be."""
     for key in sorted({*needed, *table}):
         if type(table.get(key)) is not kinds.get(key):
-            sys.exit(f"{where}: `{key}` is missing or unknown, or its value is of another type")
+            raise Fault(f"{where}: `{key}` is missing or unknown, or its value is of another type")
 
 
 def variants(case, key):
@@ -51,7 +51,9 @@ def variants(case, key):
         for part in ["files", "fill", "long"]:
             merged[part] = case[part] | table.get(part, {})
         cases.append(case | table | merged)
-    return cases or sys.exit(f"{case['name']}: `{key}` is empty")
+    if not cases:
+        raise Fault(f"{case['name']}: `{key}` is empty")
+    return cases
 
 
 def fill(text, names):
@@ -67,35 +69,32 @@ def long_text(long):
     return long.get("head", "") + middle + long.get("tail", "")
 
 
+def words_of(case):
+    """Returns the words of a case, parted."""
+    if "words" not in case:
+        raise Fault(f"{case['name']}: `words` is missing")
+    try:
+        text = string.Template(case["words"]).substitute(case["shared_words"] | case["fill"])
+        return shlex.split(text)
+    except KeyError as error:
+        raise Fault(f"{case['name']}: no words for `${error.args[0]}`") from None
+    except ValueError as error:
+        raise Fault(f"{case['name']}: `words`: {error}") from None
+
+
 def filled(case):
     """Returns the case with its words parted, its long files made, and names put in by `fill`."""
-    if "words" not in case:
-        sys.exit(f"{case['name']}: `words` is missing")
-    names = case["fill"]
-    words = string.Template(case["words"]).substitute(case["shared_words"] | names)
-    files = {name: fill(text, names) for name, text in case["files"].items()}
+    words, names = words_of(case), case["fill"]
+    named = {os.path.normpath(word) for word in [*words, case.get("stdin_from", "")]}
+    files = inputs.files(*named & inputs.FILES.keys())
+    files |= {name: fill(text, names) for name, text in case["files"].items()}
     for name, long in case["long"].items():
         check_keys(long, LONG, ["text", "times"], case["name"])
         files[name] = long_text(long)
-    words = shlex.split(words)
-    named = [*words, case.get("each_beginning_of", ""), case.get("stdin_from", "")]
-    shared = inputs.files(*{os.path.normpath(word) for word in named} & inputs.FILES.keys())
+    if "out_is" in case and case["out_is"] not in files:
+        raise Fault(f"{case['name']}: no file {case['out_is']}")
     made = {key: fill(case[key], names) for key in FILLED if key in case}
-    return case | made | {"files": shared | files, "words": words}
-
-
-def beginnings(case):
-    """Returns the case, or one for each beginning of the text that it names."""
-    key = case.get("each_beginning_of")
-    if key is None:
-        return [case]
-    text = (case if key == "stdin" else case["files"])[key]
-    cases = []
-    for length in range(len(text)):
-        cut = {key: text[:length]}
-        change = cut if key == "stdin" else {"files": case["files"] | cut}
-        cases.append(case | change | {"name": f"{case['name']} ({length} characters)"})
-    return cases or sys.exit(f"{case['name']}: no beginning to play")
+    return case | made | {"files": files, "words": words}
 
 
 def ways(case):
@@ -119,7 +118,7 @@ def read_cases(path):
     try:
         table = tomllib.loads(path.read_text("utf-8"))
     except ValueError as error:
-        sys.exit(f"{path}: {error}")
+        raise Fault(f"{path}: {error}") from None
     check_keys(table, SHARED, ["case"], path)
     cases = []
     for case in table["case"]:
@@ -131,19 +130,20 @@ def read_cases(path):
         case["folders"] = table.get("folders", []) + case.get("folders", [])
         case = {"fill": {}, "long": {}} | case
         tables = [one for run in variants(case, "runs") for one in variants(run, "each")]
-        cases += [way for one in tables for cut in beginnings(filled(one)) for way in ways(cut)]
+        cases += [way for one in tables for way in ways(filled(one))]
     if len({case["name"] for case in cases}) < len(cases):
-        sys.exit(f"{path}: two cases have one name")
+        raise Fault(f"{path}: two cases have one name")
     return cases
 
 
 def streams_of(case, place):
     """Returns the streams of a case that are no pipes, opened."""
     opened = {}
-    if "stdin_from" in case:
-        opened["stdin"] = os.open(place.folder / case["stdin_from"], os.O_RDONLY)
-    if "out_to" in case:
-        opened["stdout"] = os.open(place.folder / case["out_to"], os.O_WRONLY)
+    for stream, key, flag in [("stdin", "stdin_from", os.O_RDONLY),
+                              ("stdout", "out_to", os.O_WRONLY)]:
+        if key in case:
+            with naming(f"{case['name']}: {case[key]}"):
+                opened[stream] = os.open(place.folder / case[key], flag)
     return opened
 
 
@@ -184,9 +184,11 @@ def text_differences(case, key, came):
 
 def check_differences(place, case):
     """Checks CERT. Returns how that ends otherwise than the case says."""
-    lines = dict(line.split(" ", 1) for line in case["out"].splitlines())
+    best = re.search(r"^best (\d+)\n(?:.*\n)*total (\d+) ", case.get("out", ""), re.M)
+    if not best:
+        return ["`out` has no best setting"]
     words = ["check", *(word for word in case["words"][1:] if not word.startswith("--cache"))]
-    wanted = end(0, f"accepted best {lines['best']} total {lines['total'].split()[0]}\n")
+    wanted = end(0, f"accepted best {best[1]} total {best[2]}\n")
     came = place.run(words, seconds=SECONDS)
     return [] if came == wanted else [f"its check: expected {wanted}, came {came}"[:2000]]
 

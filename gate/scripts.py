@@ -4,7 +4,7 @@
 Prints what failed, and as its last line `N passed, N failed`. The exit status is 1 if a script
 ended otherwise.
 """
-import os, pathlib, subprocess, sys
+import itertools, os, pathlib, subprocess, sys
 
 from author.lib.endings import run_tool
 from author.lib.program import program_of
@@ -15,9 +15,29 @@ from .play import in_folder
 from .tally import compare, tally
 
 EXAMPLES = pathlib.Path(__file__).resolve().parent.parent / "examples"
+SCRIPTS = ["play.sh", "assemble.sh", "tune.sh", "check.sh"]
+CERTIFY = [sys.executable, EXAMPLES / "tuning/certify.py"]
 CERT = inputs.FILES["imps.cert"]
-WORDS = ["imps.red", "both.csv", "CERT", "dat.red", "imp.red"]
-FILES = inputs.files("imps.red", "both.csv", "dat.red", "imp.red")
+OPPONENTS = ["dat.red", "imp.red"]
+WORDS = ["imps.red", "both.csv", "CERT", *OPPONENTS]
+# Templates whose settings make one warrior, of which one does not assemble, and that make two
+# warriors in turn.
+TEMPLATES = ["imps.red", "step.red", "half.red"]
+FILES = inputs.files("both.csv", *OPPONENTS, *TEMPLATES)
+# What certify.py has to say of `CERT` with a text replaced by another one.
+CHECKED = {
+    ("", ""): "accepted best 0 total 4",
+    ("cwcert,1,4", "cwcert,1,5"): "rejected row 0 RowCount",
+    ("best,0,4", "best,0,6"): "rejected row 1 BestRow",
+    ("cap,2,0:3 1:1", "cap,2,0:3 0:3"): "rejected row 4 RepeatedFight",
+    ("cap,2,0:3 1:1", "cap,2,0:3 1:3"): "rejected row 4 WrongPoints",
+    ("cap,2,0:3 1:1", "cap,2,0:3"): "rejected row 4 CapTooHigh",
+    ("same,3,2", "same,3,1"): "rejected row 5 NotSame",
+    ("same,3,2", "refused,3,-"): "rejected row 5 NotRefused",
+    ("same,3,2", "same,3,02"): "rejected row 5 Malformed",
+    # longer than Python's `csv` takes by default
+    ("same,3,2", f"same,3,{'2' * 140000}"): "rejected row 5 Malformed",
+}
 # Range lines with too few words, a word that is not a number, the step 0, and a START between
 # two values.
 RANGES = ["K 0 5 1", "K 0 x 1 0", "K 0 5 0 0", "K 0 4 2 1"]
@@ -33,21 +53,45 @@ def run(words, folder=EXAMPLES, **variables):
 
 def programs(program):
     """Gives the scripts of `make demo` a program, and one that does not exist."""
-    for name in ["play.sh", "assemble.sh"]:
+    for name in SCRIPTS:
         status, out, err = run(["sh", name, program])
         yield f"{name} PROGRAM", [] if status == 0 else [f"came {out}{err}"]
-    for name in ["assemble.sh", "check.sh", "play.sh", "tune.sh"]:
         yield compare(f"{name} none", (1, "", f"{name}: no program none\n"),
                       run(["sh", name, "none"]))
 
 
 def ranges(program):
     """Gives certify.py templates with a malformed range line."""
-    words = [sys.executable, EXAMPLES / "tuning/certify.py", program, "range.red", "both.csv",
-             "dat.red", "imp.red"]
+    words = [*CERTIFY, program, "range.red", "both.csv", *OPPONENTS]
     for line in RANGES:
         with in_folder(program, {**FILES, "range.red": f";@tune {line}\nDAT K\n"}) as place:
             yield compare(f"certify.py: {line}", REFUSED, run(words, place.folder))
+
+
+def searches(program):
+    """Has certify.py search in the order of `tune`: certificate and report have to be the same."""
+    for template, cache in itertools.product(TEMPLATES, [1, 8]):
+        options = [*RULES, f"--cache={cache}"]
+        with in_folder(program, FILES) as place:
+            tuned = place.run(["tune", *options, template, "both.csv", "CERT", *OPPONENTS])
+            came = run([*CERTIFY, "--like-tune", "--report=REPORT", *options, program, template,
+                        "both.csv", *OPPONENTS], place.folder)
+            wanted = 0, tuned.files.get("CERT", b"").decode(), "", tuned.out
+            yield compare(f"certify.py --like-tune --cache={cache}: {template}", wanted,
+                          (*came, place.read("REPORT")))
+
+
+def checks(program):
+    """Has the program and certify.py check certificates."""
+    for (old, new), line in CHECKED.items():
+        with in_folder(program, {**FILES, "CERT": CERT.replace(old, new, 1)}) as place:
+            wanted = int(line.startswith("rejected")), f"{line}\n", ""
+            words = [*RULES, "imps.red", "both.csv"]
+            yield compare(f"check: {line}", wanted,
+                          run([program, "check", *words, "CERT", *OPPONENTS], place.folder))
+            yield compare(f"certify.py --check: {line}", wanted,
+                          run([*CERTIFY, "--check=CERT", program, *words, *OPPONENTS],
+                              place.folder))
 
 
 def shares(program):
@@ -61,9 +105,12 @@ def shares(program):
                           run(words, place.folder, **job))
 
 
+GROUPS = [programs, ranges, searches, checks, shares]
+
+
 def main():
     program = program_of(sys.argv[1:])
-    return tally(trial for group in [programs, ranges, shares] for trial in group(program))
+    return tally(trial for group in GROUPS for trial in group(program))
 
 
 if __name__ == "__main__":

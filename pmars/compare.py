@@ -3,18 +3,18 @@
 Warriors are random ones and those of the repository, in series of ten fights: the positions and
 first movers are those of `pmars -F`, and the wins, ties and losses have to be the same. Texts are
 random ones and those of the repository: the instructions and the start have to be those of
-`pmars -r 0`. Then each known difference (docs/MACHINE.md, docs/REDCODE.md) is shown to be one. A
-fight that differs is printed as two warriors, cut as short as they still differ, and two commands.
-The exit status is 1 if something else differs, or if a known difference no longer shows.
+`pmars -r 0`. Then the differences of known.py (docs/PMARS.md) are shown. A fight
+that differs is printed as two warriors, cut as short as they still differ, and two commands. The
+exit status is 1 if something else differs, or if a known difference no longer shows.
 
 PMARS is a server build of pMARS 0.9.2; `make pmars` builds one, and prints its path.
 """
 import argparse, itertools, pathlib, random, sys, tempfile, time
 
-from author.lib.endings import Fault, number_from, run_tool
-from author.lib.program import Rules, add_program, program_of
+from author.lib.endings import number_from, run_tool
+from author.lib.program import Rules, add_program, program_of, run_program
 
-from .games import Game, fights_of, run
+from .games import LONGEST, Game, fights_of, run
 from .known import FIGHTS, TEXTS
 from .random_warriors import Text, random_load
 
@@ -41,18 +41,14 @@ class Programs:
 
     def assemble(self, text):
         """Returns the load file that `cwtune asm` makes of a text, or why it refuses the text."""
-        try:
-            return self.load_of(text)
-        except Fault as fault:
-            return str(fault).partition(": ")[2]
+        done = run_program(self.cwtune, "asm", self.write("text.red", text), encoding="latin-1",
+                           timeout=LONGEST)
+        return done.stdout or done.stderr
 
     def listing(self, text):
         """Returns the load file of what pMARS lists for a text. A refusal of it is a fault."""
-        words = [self.pmars, "-r", "0", self.write("text.red", text)]
-        return self.load_of(run(words).partition("\n")[2])
-
-    def load_of(self, text):
-        return run([self.cwtune, "asm", self.write("load.red", text)])
+        listed = run([self.pmars, "-r", "0", self.write("text.red", text)]).partition("\n")[2]
+        return run([self.cwtune, "asm", self.write("load.red", listed)])
 
     def write(self, name, text):
         """Writes a file of the folder. Returns its path."""

@@ -1,6 +1,8 @@
-"""What is known to differ from pMARS 0.9.2, with a fight or a text that shows each difference.
+"""What is known to differ from pMARS 0.9.2, each with a fight or a text that shows it.
 
-docs/MACHINE.md and docs/REDCODE.md explain them.
+docs/PMARS.md explains these differences, and names others: no listing shows what pMARS refuses, or
+a text without instructions, and only a build with a display overlooks an assertion after an EQU
+line.
 """
 from author.lib.program import Rules
 
@@ -45,6 +47,14 @@ TEXTS = [
     ("a name of one letter", "DAT 0, a\n", refused("line 1 Value UnknownName"), one("$0, $0")),
     ("a second ;redcode", ";redcode\nDAT 0, 1\n;redcode\nDAT 0, 2\n",
      two(["$0, $1", "$0, $2"]), one("$0, $1")),
+    ("a ;redcode after blanks", "DAT 0, 1\n  ;redcode\nDAT 0, 2\n",
+     two(["$0, $1", "$0, $2"]), one("$0, $2")),
+    ("a line ;redcodes", "DAT 0, 1\n;redcodes\nDAT 0, 2\n", one("$0, $2"),
+     two(["$0, $1", "$0, $2"])),
+    ("an EQU name in an assertion above it", ";assert late == 0\nDAT 0, late\nlate EQU 5\n",
+     refused("line 1 AssertFailed"), one("$0, $5")),
+    ("a label in an assertion", "x DAT 0, 1\n;assert x == -1\nDAT 0, 2\n",
+     refused("line 2 AssertFailed"), two(["$0, $1", "$0, $2"])),
     ("an EQU name below its count", "i FOR n\nDAT 0, 1\nROF\nDAT 0, 2\nn EQU 1\n",
      two(["$0, $1", "$0, $2"]), one("$0, $2")),
     ("a label twice", "x DAT 0, 1\nx DAT 0, 2\n", refused("line 2 Expand DuplicateName"),
@@ -62,19 +72,31 @@ TEXTS = [
      refused("line 3 UnknownOpcode"), two(["$0, $1", "$0, $-1"])),
     ("CURLINE in a count", "DAT 0, 1\ni FOR CURLINE\nDAT 0, 2\nROF\n",
      refused("line 2 Expand CountRefused"), two(["$0, $1", "$0, $2"])),
+    ("a label in a count", "x DAT 0, 1\ni FOR x+2\nDAT 0, 2\nROF\n",
+     refused("line 2 Expand CountRefused"), two(["$0, $1", "$0, $2"])),
     ("a label before ROF", "i FOR 1\nDAT 0, 1\nlast ROF\nDAT 0, 2\n",
      refused("line 3 Expand BadDirective"), two(["$0, $1", "$0, $2"])),
     ("words after ROF", "i FOR 1\nDAT 0, 1\nROF the end\n", refused("line 3 Expand BadDirective"),
      one("$0, $1")),
     ("a missing ROF", "i FOR 1\nDAT 0, 1\n", refused("line 1 Expand ForWithoutRof"),
      one("$0, $1")),
+    ("END in a block", "i FOR 1\nDAT 0, 1\nEND\nROF\n", refused("line 1 Expand ForWithoutRof"),
+     one("$0, $1")),
+    ("9 nested blocks", 9 * "FOR 1\n" + "DAT 0, 1\n" + 9 * "ROF\n",
+     refused("line 9 Expand ForTooDeep"), one("$0, $1")),
+    ("prose in a dropped block", "FOR 0\nit's prose\nROF\nDAT 0, 1\n",
+     refused("line 2 Expand Text BadByte"), one("$0, $1")),
     ("a form feed", "DAT\f0, 1\n", refused("line 1 Expand Text BadByte"), one("$0, $1")),
     ("ORG without an operand", "ORG\nDAT 0, 1\n", refused("line 1 MissingOperand"),
      one("$0, $1")),
     ("a mode without a number", "DAT #, 1\n", refused("line 1 Value Syntax"), one("#0, $1")),
+    ("an assertion without a value", ";assert \nDAT 0, 1\n", refused("line 1 Value Syntax"),
+     one("$0, $1")),
     ("a number that overflows", "DAT 0, 99999999999\n",
      refused("line 1 Expand Text NumberTooLarge"), one("$0, $-1")),
     ("a start outside of the code", "ORG 7\nDAT 0, 1\n", refused("line 0 Warrior BadStart"),
      one("$0, $1")),
+    ("PIN", "PIN 5\nDAT 0, 1\n", refused("line 1 UnknownOpcode"), one("$0, $1")),
+    ("ROUNDS", "DAT 0, ROUNDS\n", refused("line 1 Value UnknownName"), one("$0, $0")),
     ("an assignment", "DAT 0, a=5\n", refused("line 1 Expand Text BadByte"), one("$0, $5")),
 ]

@@ -17,6 +17,7 @@ if [ ! -x "$program" ]; then
         }
     done
     cd "$folder"
+    rm -rf sources.d
     mkdir -p lists/partial sources.d
     for file in /etc/apt/sources.list /etc/apt/sources.list.d/*; do
         [ -f "$file" ] || continue

@@ -1,6 +1,6 @@
 """Makes random load files and Redcode texts that mean the same to `cwtune` and pMARS.
 
-So the differences that docs/MACHINE.md and docs/REDCODE.md name are left out.
+So the differences that docs/PMARS.md names are left out.
 """
 
 OPCODES = ("MOV MOV MOV MOV ADD ADD SUB MUL DIV MOD JMP JMP JMZ JMN DJN DJN "

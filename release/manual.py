@@ -54,7 +54,8 @@ FILES = [
          "moves first, `c` the candidate or `o` the opponent. With a fourth field `weight` a fight "
          "counts 1 to 1000 times. At most 10000 fights; `cwtune-series` writes some"),
     Item("CERT", "The certificate, which `tune` replaces whole or not at all. A file that is "
-         "another word's, or a text that is not a certificate, is not overwritten"),
+         "also TEMPLATE, SCHEDULE or an OPPONENT, or a text that is not a certificate, is not "
+         "overwritten"),
     Item("CERT.inputs", "Which inputs the certificate is for: rules, part, method, and the size "
          "and the SHA-256 digest of each file. The commands for authors read it; no check needs "
          "it"),

@@ -96,10 +96,13 @@ def why_of(note):
 
 
 def refuse_others(asked, cert, part, method):
-    """Refuses `cert` if its CERT.inputs says that it is of another part or of another tuning."""
+    """Refuses `cert` if its CERT.inputs says that it is of another part or of another tuning, or is
+    not that of `cert`. Without a CERT.inputs nothing is known."""
+    if not os.path.exists(name_of(cert)):
+        return
     found = read(cert)
     if isinstance(found, str):
-        return
+        raise Fault(found, 2)
     try:
         if found.part != part:
             raise Fault(f"it is of part {found.part}", 2)

@@ -1,5 +1,5 @@
-"""How the commands end after a fault, write files and read numbers."""
-import argparse, contextlib, io, os, pathlib, shutil, signal, sys
+"""How the commands end after a fault or as a `cwtune` ended, write files and read numbers."""
+import argparse, contextlib, io, os, pathlib, shutil, signal, subprocess, sys
 
 WORDS = {1: "refused", 2: "error", 3: "failed"}
 
@@ -53,6 +53,9 @@ def run_tool(main):
         status = end_by(signal.SIGPIPE)
     except KeyboardInterrupt:
         status = end_by(signal.SIGINT)
+    except subprocess.TimeoutExpired as late:
+        words = " ".join(map(str, late.cmd))
+        status = say("failed", f"{words} took more than {late.timeout:.0f} seconds", 3)
     except OSError as error:
         # A copy names two files; the second is the one that is written.
         name = error.filename2 or error.filename or "standard output"
@@ -71,6 +74,27 @@ def say(word, message, status):
     except OSError:
         sys.stderr = open(os.devnull, "w")
     return status
+
+
+def status_of(code):
+    """Returns the status of a command whose `cwtune` ended with this one: 3 after a signal."""
+    return code if code in (1, 2) else 3
+
+
+def end_as(code, said=b""):
+    """Ends as a run of `cwtune` did: with what it said, and with its status."""
+    sys.stderr.buffer.write(said)
+    sys.exit(status_of(code))
+
+
+def fault_of(done):
+    """Returns the fault of a run of `cwtune` without its first word, which the status says, and
+    then the notes that came before it. One that was killed says nothing."""
+    status = status_of(done.returncode)
+    said = "\n" + done.stderr.decode(errors="surrogateescape").strip("\n")
+    notes, _, fault = said.partition(f"\n{WORDS[status]}: ")
+    ended = f"{done.args[0]} ended with status {done.returncode}"
+    return Fault((fault + notes).strip() or ended, status)
 
 
 def end_by(number):

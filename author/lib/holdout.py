@@ -17,7 +17,7 @@ import math, pathlib, random, sys, tempfile
 from typing import NamedTuple
 
 from . import cert_inputs, tuning_files
-from .endings import Fault, number_from
+from .endings import Fault, fault_of, number_from
 from .program import (EXPLAIN, add_opponents_of_tuning, add_program, add_rules, add_words,
                       command_parser, rules_of, run_program)
 
@@ -80,8 +80,7 @@ def run(*words):
     """Runs the program, and returns what it prints. Its fault is this command's."""
     done = run_program(*words)
     if done.returncode != 0:
-        raise Fault(done.stderr.decode(errors="replace").strip().partition(": ")[2],
-                    min(abs(done.returncode), 3))
+        raise fault_of(done)
     return done.stdout
 
 

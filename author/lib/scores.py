@@ -5,10 +5,10 @@ give them.
 
 Example: cwtune-scores my.cert
 """
-import concurrent.futures, contextlib, os, sys
+import concurrent.futures, os, sys
 
 from . import cert_inputs, tuning_files
-from .endings import Fault, number_from
+from .endings import Fault, number_from, say
 from .program import (WORDS, add_program, add_rules, add_words, command_parser, load_of, rules_of)
 
 # With more settings than this none is assembled, to save time.
@@ -61,9 +61,11 @@ class Warriors:
             words = [*rules_of(asked).words(), "--setting"]
             alone = [v for v, row in enumerate(found.rows) if row[0] == "cap"]
             load = lambda v: load_of(asked.program, *words, str(v), asked.template)[0]
-            with (contextlib.suppress(Fault),
-                  concurrent.futures.ThreadPoolExecutor(os.cpu_count()) as pool):
-                self.loads = dict(zip(alone, pool.map(load, alone)))
+            try:
+                with concurrent.futures.ThreadPoolExecutor(os.cpu_count()) as pool:
+                    self.loads = dict(zip(alone, pool.map(load, alone)))
+            except Fault as fault:
+                say("note", str(fault), 0)
 
     def are_one(self, settings):
         """Returns whether these settings make one warrior, or None if that is not known."""

@@ -13,12 +13,11 @@ Example: cwtune-seek my.red fights.csv dwarf.red scanner.red > better.red
 """
 import itertools, math, pathlib, random, signal, sys, tempfile
 
-from .endings import Fault, number_from
+from .endings import Fault, end_as, number_from
 from .grid import Grid
-from .program import add_program, add_rules, add_words, command_parser, rules_of, run_program
+from .program import (NO_CANDIDATE, add_program, add_rules, add_words, command_parser, rules_of,
+                      run_program)
 from .tuning_files import MOST_SETTINGS
-
-NO_CANDIDATE = b"refused: NoCandidate\n"
 
 
 class Enough(Exception):
@@ -55,11 +54,10 @@ class Tunings:
         """Tunes a template. Returns total, setting and number of fights of its best setting."""
         (self.folder / "template.red").write_bytes(text)
         done = self.run()
-        if done.returncode == 1 and done.stderr.endswith(NO_CANDIDATE):
+        if done.returncode == 1 and done.stderr.endswith(NO_CANDIDATE.encode()):
             return None
         if done.returncode != 0:
-            sys.stderr.buffer.write(done.stderr)
-            sys.exit(done.returncode if done.returncode > 0 else 3)
+            end_as(done.returncode, done.stderr)
         report = dict(line.split(" ", 1) for line in done.stdout.decode().splitlines())
         total, _, self.greatest = report["total"].split()
         return (int(total), self.grid.setting_of(report["constants"]),
@@ -173,7 +171,7 @@ def print_end(args, grid, tunings, best, ended):
         print(f"note: none of all {grid.count()} settings has a greater total", file=sys.stderr)
     else:
         print(f"note: no setting of a {'plane' if free == 2 else 'line'} through it has a greater "
-              f"total; one of the other {grid.count()} settings may", file=sys.stderr)
+              f"total; one elsewhere, of all {grid.count()} settings, may", file=sys.stderr)
 
 
 def values_of(args, grid, setting):
@@ -217,6 +215,9 @@ def main():
     with tempfile.TemporaryDirectory(prefix="cwtune-seek-") as folder:
         tunings = Tunings(args, grid, folder)
         best, ended = seek(args, grid, tunings)
+    if best is None and ended:
+        print("stopped: before START or another setting was played", file=sys.stderr)
+        raise KeyboardInterrupt
     if best is None:
         raise Fault("no setting that was tried assembles; `cwtune asm --setting start` says why of "
                     "START")

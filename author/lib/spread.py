@@ -30,7 +30,7 @@ Example: cwtune-spread --jobs 4 my.red fights.csv my.cert dwarf.red scanner.red
 import contextlib, os, shutil, signal, sys, time
 
 from . import cert_inputs, spread_parts, spread_shares, tuning_files
-from .endings import Fault, naming, number_from, whole_file
+from .endings import Fault, end_as, naming, number_from, whole_file
 from .program import (EXPLAIN, add_program, add_rules, add_words, command_parser, rules_of,
                       run_program)
 from .spread_folder import Folder
@@ -92,7 +92,8 @@ def make_parser():
     parser.add_argument("--progress", action="store_true",
                         help="print a line a minute on standard error, if it is not a terminal")
     parser.add_argument("--explain", action="store_true",
-                        help="explain a refusal, and tell of START, as at a terminal")
+                        help="explain a refusal, say what is ignored in the template, and print "
+                        "the total of START, as at a terminal")
     add_program(parser)
     add_search(parser)
     add_check(parser)
@@ -105,12 +106,6 @@ def make_parser():
     return parser
 
 
-def end_as(done):
-    """Ends as a run of `cwtune` did: with its line, and with its status."""
-    sys.stderr.buffer.write(done.stderr)
-    sys.exit(done.returncode if done.returncode > 0 else 3)
-
-
 def refuse_faults(args):
     """Ends as `tune` ends if it refuses the words or an input, at a terminal with the explanation.
 
@@ -119,7 +114,7 @@ def refuse_faults(args):
     """
     done = tune_part(args, f"1/{MOST}")
     if NO_SUCH_PART not in done.stderr:
-        end_as(done)
+        end_as(done.returncode, done.stderr)
 
 
 def explained(args):
@@ -144,11 +139,20 @@ def method_of(args):
 
 
 def count_settings(args):
-    """Returns the number of settings, which the program counts."""
-    done = run_program(args.program, "settings", "--", args.template)
+    """Returns the number of settings, which the program counts, and shows its notes of what is
+    ignored in the template."""
+    done = run_program(args.program, "settings", *explained(args), "--", args.template)
     if done.returncode != 0:
-        end_as(done)
+        end_as(done.returncode, done.stderr)
+    args.notes = done.stderr
+    sys.stderr.buffer.write(args.notes)
+    sys.stderr.flush()
     return int(done.stdout.split()[1])
+
+
+def said_of(args, done):
+    """Returns what a run of the program said, without the notes that were shown before."""
+    return done.stderr.removeprefix(args.notes)
 
 
 def rejected_for_all(args, cert):
@@ -161,8 +165,8 @@ def rejected_for_all(args, cert):
                        *spread_shares.keep_words(args.keep), *rules_of(args).words(), "--",
                        args.template, args.schedule, cert, *args.opponent)
     if done.returncode != 0 and not done.stdout:
-        end_as(done)
-    sys.stderr.buffer.write(done.stderr)
+        end_as(done.returncode, said_of(args, done))
+    sys.stderr.buffer.write(said_of(args, done))
     return done.stdout.decode() if done.returncode else ""
 
 
@@ -205,6 +209,7 @@ def run_jobs(args, folder, progress):
                 progress.pieces[number] = folder.piece(number)
             progress.show()
             time.sleep(0.02)
+        faults |= dict.fromkeys(jobs.todo, jobs.fault)
     finally:
         if jobs:
             jobs.stop()
@@ -263,7 +268,8 @@ def finish(args, folder, progress):
     parts = progress.done()
     if not any(part.report for part in parts):
         folder.end()
-        end_as(tune_part(args, f"1/{folder.pieces}"))
+        done = tune_part(args, f"1/{folder.pieces}")
+        end_as(done.returncode, said_of(args, done))
     refuse_floors(parts)
     with naming(folder.told):
         write_whole(folder, progress.pieces)
@@ -325,7 +331,10 @@ def tune(args, count):
         cert_inputs.refuse_others(args, folder.cert(number), part, method_of(args))
     with stopping(folder, progress):
         say_missing(folder, progress, {} if args.merge else run_jobs(args, folder, progress))
-        return finish(args, folder, progress)
+        try:
+            return finish(args, folder, progress)
+        finally:
+            folder.whole().unlink(missing_ok=True)
 
 
 def refuse_idle(parser, args):

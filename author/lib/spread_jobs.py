@@ -1,5 +1,5 @@
 """Runs the pieces of `cwtune-spread`, here or on other hosts. Each writes files of its own."""
-import ctypes, pathlib, shutil, signal, subprocess
+import contextlib, ctypes, pathlib, shutil, signal, subprocess
 
 from .endings import Fault
 
@@ -13,7 +13,9 @@ def end_with_parent():
 
 
 class Here:
-    """Pieces that run on this host, at most `jobs` side by side."""
+    """Pieces that run on this host, at most `jobs` side by side. All of them end."""
+
+    fault = None
 
     def __init__(self, args, folder, todo):
         self.folder, self.jobs, self.todo, self.running = folder, args.jobs, list(todo), {}
@@ -46,7 +48,10 @@ class Here:
 
 
 class Hosts:
-    """Pieces that GNU parallel runs on other hosts, over ssh and rsync."""
+    """Pieces that GNU parallel runs on other hosts, over ssh and rsync. Those that have not ended
+    when it ends are still in `todo`, and `fault` is why."""
+
+    fault = None
 
     def __init__(self, args, folder, todo):
         if not shutil.which("parallel"):
@@ -66,8 +71,9 @@ class Hosts:
                   for word in ("--return", f"{piece}.{kind}")]
         self.parallel = subprocess.Popen([*words, job], cwd=folder.path, stdin=subprocess.PIPE,
                                          text=True, preexec_fn=end_with_parent)
-        self.parallel.stdin.write("".join(f"{number}\n" for number in todo))
-        self.parallel.stdin.close()
+        # If it ends at once, it reads nothing.
+        with contextlib.suppress(BrokenPipeError), self.parallel.stdin as numbers:
+            numbers.write("".join(f"{number}\n" for number in todo))
 
     def are_running(self):
         return not self.over
@@ -75,6 +81,8 @@ class Hosts:
     def ended(self):
         """Returns the pieces that have ended since the last call, with their statuses."""
         self.over = self.parallel.poll() is not None
+        if self.parallel.returncode:
+            self.fault = f"GNU parallel ended with status {self.parallel.returncode}"
         ended = [(n, int(s)) for n, s in zip(self.todo, map(self.status, self.todo)) if s]
         for number, _ in ended:
             self.todo.remove(number)

@@ -13,12 +13,11 @@ import pathlib, subprocess
 from typing import NamedTuple
 
 from .endings import Fault
-from .program import rules_of
+from .program import NO_CANDIDATE, rules_of
 from .spread_folder import Folder, copies_of, hash_of
 from .spread_jobs import end_with_parent
 from .tuning_files import MOST_BYTES, Template
 
-NO_CANDIDATE = "refused: NoCandidate\n"
 # The first words of the lines of a report, without those of the ranking.
 LINES = {"vectors", "candidates", "best", "constants", "total", "fights"}
 
@@ -51,10 +50,15 @@ class Part(NamedTuple):
         return {self.first + int(v): (int(total), constants) for v, total, constants in ranks}
 
 
+def settings_of(number, pieces, count):
+    """Returns the settings of piece `number` of `pieces`, a range of indices."""
+    return range((number - 1) * count // pieces, number * count // pieces)
+
+
 def part_of(number, parts, count, report):
     """Returns part `number` of `parts` of the settings, with its report."""
-    first, end = (number - 1) * count // parts, number * count // parts
-    return Part(first, end - first, report)
+    settings = settings_of(number, parts, count)
+    return Part(settings.start, len(settings), report)
 
 
 def report_in(path):
@@ -73,7 +77,8 @@ def rank_in(text):
 
 def part_with(start, parts, count):
     """Returns which of the parts has setting `start`."""
-    return next(number for number in range(1, parts + 1) if start < number * count // parts)
+    return next(number for number in range(1, parts + 1)
+                if start in settings_of(number, parts, count))
 
 
 class Jobs:
@@ -108,7 +113,6 @@ class Jobs:
 
     def end(self):
         """Leaves the files of the jobs where they are."""
-        self.whole().unlink(missing_ok=True)
 
 
 class Parts(Folder):
@@ -172,15 +176,14 @@ class Parts(Folder):
             return []
         total, v = -known[0][0], known[0][1]
         # GNU parallel puts in the number of the part later.
-        is_before = number != "{}" and v < (number - 1) * self.count // self.pieces
+        is_before = number != "{}" and v < settings_of(number, self.pieces, self.count).start
         return [f"--floor={total + is_before}"]
 
     def prepare(self, number):
         """Writes the template of a part: its START is the setting of the part that is the fewest
         steps from START. The others play first the fights in which it made the fewest points, and
         so are dropped sooner if it is like START. A text that would be too long stays as it is."""
-        own = part_of(number, self.pieces, self.count, {})
-        nearest = self.template.nearest_start(range(own.first, own.first + own.count))
+        nearest = self.template.nearest_start(settings_of(number, self.pieces, self.count))
         text = self.template.with_start(nearest)
         if len(text) > MOST_BYTES:
             text = (self.path / "t.red").read_bytes()

@@ -1,6 +1,7 @@
 """How far `cwtune-spread` is: the pieces that are done, and the line that says so."""
 import os, sys, time
 
+from .spread_parts import settings_of
 from .spread_report import best_of, index_of, summed
 
 # Seconds from a line in a log to the next.
@@ -67,7 +68,7 @@ class SharesProgress(Progress):
 
     def settings(self):
         count, shares = self.folder.count, self.folder.pieces
-        return sum(number * count // shares - (number - 1) * count // shares
+        return sum(len(settings_of(number, shares, count))
                    for number, line in self.pieces.items() if line)
 
     def line(self):

@@ -1,5 +1,7 @@
 """Puts the parts of a tuning together: the report and the certificate of the whole template."""
-from .endings import Fault
+import contextlib
+
+from .endings import Fault, naming
 from .spread_parts import Part
 
 
@@ -47,24 +49,37 @@ def moved(part, row):
     return f"{kind},{int(setting) + part.first},{twin}"
 
 
+@contextlib.contextmanager
+def reading(folder, number):
+    """Gives the path of the certificate of a part, and names it in what goes wrong."""
+    path = folder.cert(number)
+    try:
+        with naming(path):
+            yield path
+    except ValueError:
+        raise Fault(f"{path} is not a certificate of part {number}", 3) from None
+
+
 def rows_of(folder, number, part):
     """Yields the rows of a part. There has to be one for each of its settings."""
     if not part.report:
         yield from (f"refused,{v},-" for v in range(part.first, part.first + part.count))
         return
-    head, _, *rows = folder.cert(number).read_text().splitlines()
-    if {head.split(",")[2], part.report["vectors"], str(len(rows))} != {str(part.count)}:
-        raise Fault(f"the certificate of part {number} has not {part.count} settings", 3)
-    for row in rows:
-        yield moved(part, row)
+    with reading(folder, number) as path:
+        head, _, *rows = path.read_text().splitlines()
+        _, _, count = head.split(",")
+        if {count, part.report["vectors"], str(len(rows))} != {str(part.count)}:
+            raise Fault(f"the certificate of part {number} has not {part.count} settings", 3)
+        for row in rows:
+            yield moved(part, row)
 
 
 def write_whole(folder, parts):
     """Puts the certificate of the whole template together. `parts` are the parts by number."""
     best = best_of(parts.values())
     number = next(number for number, part in parts.items() if part is best)
-    with folder.cert(number).open() as file:
-        version = file.readline().split(",")[1]
+    with reading(folder, number) as path, path.open() as file:
+        _, version, _ = file.readline().split(",")
     with folder.whole().open("w") as file:
         file.write(f"cwcert,{version},{folder.count}\nbest,{index_of(best)},{best.total()}\n")
         for number, part in parts.items():

@@ -11,7 +11,7 @@ import contextlib, fcntl, json, os, pathlib, re, shlex, subprocess, sys, time
 
 from . import spread_parts, spread_shares
 from .cert_inputs import digest_of
-from .endings import Fault, naming, whole_file
+from .endings import Fault, end_as, naming, whole_file
 from .program import FOUND
 from .spread_jobs import end_with_parent
 
@@ -153,7 +153,7 @@ class Folder:
         with whole_file(self.path / to, "wb") as file:
             status, said = run_in(self.path, argv, file, hears)
             if status:
-                sys.exit(status if status > 0 else 3)
+                end_as(status)
         self.note(words, to, time.monotonic() - begun, said)
 
 

@@ -9,6 +9,7 @@ of round R), and the certificates (W-R.cert).
 import itertools, sys, time
 
 from . import holdout
+from .endings import end_as
 from .program import rules_of
 from .spread_jobs import Here
 from .study_inputs import MOST_FIGHTS
@@ -50,7 +51,7 @@ class Round:
         try:
             while jobs.are_running():
                 for player, status in jobs.ended():
-                    self.end_as(player, status)
+                    self.end(player, status)
                     seconds[player] = time.monotonic() - self.begun[player]
                 time.sleep(0.01)
         finally:
@@ -59,11 +60,10 @@ class Round:
             self.study.folder.note(self.words(player), "", seconds[player])
         return {player: self.points(player) for player in players}
 
-    def end_as(self, player, status):
-        """Ends as a run of `cwtune` did if it has no result."""
+    def end(self, player, status):
+        """Ends as the run of a player did if it has no result. Else removes what it printed."""
         if status:
-            sys.stderr.buffer.write(self.file(player, "fault").read_bytes())
-            sys.exit(status if status > 0 else 3)
+            end_as(status, self.file(player, "fault").read_bytes())
         for kind in ["report", "fault"]:
             self.file(player, kind).unlink()
 

@@ -1,9 +1,9 @@
 """What `cwtune-study` is given: reads it, and refuses what no study can be made of."""
-import argparse, hashlib, json, os, pathlib, re, shutil, tempfile
+import argparse, hashlib, json, os, pathlib, re, tempfile
 from typing import NamedTuple
 
 from . import vary
-from .endings import Fault
+from .endings import Fault, fault_of
 from .grid import Grid
 from .program import EXPLAIN, rules_of, run_program
 from .tuning_files import is_range_line
@@ -88,7 +88,7 @@ def read(parser, args):
     """Reads the files of the words, and refuses those that no study can be made of."""
     sort_words(parser, args)
     settle_options(parser, args)
-    args.program = os.path.abspath(shutil.which(args.program) or args.program)
+    args.program = os.path.abspath(args.program)
     warrior = pathlib.Path(args.warrior).read_bytes()
     has_ranges = any(map(is_range_line, warrior.split(b"\n")))
     if args.ranges or not has_ranges:
@@ -118,11 +118,9 @@ def refuse_start(args, grid):
 def refuse(args, name, *words, **more):
     """Refuses a text that `cwtune asm` refuses, with its status."""
     done = run_program(args.program, "asm", *EXPLAIN, *rules_of(args).words(), *words, **more)
-    said = done.stderr.decode(errors="surrogateescape").strip()
-    if done.returncode == 1:
-        raise Fault(f"{name} does not assemble: {said}")
     if done.returncode:
-        raise Fault(said.partition(": ")[2], min(abs(done.returncode), 3))
+        fault = fault_of(done)
+        raise Fault(f"{name} does not assemble: {fault}") if fault.status == 1 else fault
 
 
 def opponents_of(args):

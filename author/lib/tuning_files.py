@@ -36,7 +36,9 @@ class Template:
 
     def __init__(self, path):
         text = pathlib.Path(path).read_bytes()
-        if len(text) > MOST_BYTES or b"\0" in text or not text.strip():
+        if len(text) > MOST_BYTES:
+            raise Fault(f"{path}: {len(text)} bytes, more than the {MOST_BYTES} of a template")
+        if b"\0" in text or not text.strip():
             raise Fault(f"{path}: not a template, a schedule or a certificate")
         self.lines = text.split(b"\n")
         lines = enumerate(self.lines, 1)
@@ -49,7 +51,7 @@ class Template:
         self.start = self.settings.index(tuple(start for _, _, start in ranges))
 
     def steps(self, v):
-        """Returns the index of each value of setting v within its range, the last constant first."""
+        """Returns the index of each value of setting v in its range, the last constant first."""
         indices = []
         for values in reversed(self.values):
             v, index = divmod(v, len(values))

@@ -1,5 +1,5 @@
 """Runs the commands for authors, as the trials do."""
-import pathlib, re, subprocess, sys
+import pathlib, re, subprocess, sys, tempfile
 
 AUTHOR = pathlib.Path(__file__).resolve().parents[1]
 EXAMPLES = AUTHOR.parent / "examples"
@@ -24,3 +24,18 @@ def said(*words, **more):
     """Returns all that a command prints, and its status if that is not 0."""
     status, out, err = run(*words, **more)
     return out + err + (f"status {status}\n" if status else "")
+
+
+def played(title, place_in, trials):
+    """Plays each of the trials in a folder of its own, in which `place_in` makes a place.
+
+    Yields names, and what was wrong. After a trial that breaks off the next one is played.
+    """
+    for plays in trials:
+        name = f"{title}, {plays.__name__}"
+        with tempfile.TemporaryDirectory() as folder:
+            try:
+                for part, wrong in plays(place_in(folder)):
+                    yield f"{name}: {part}", wrong
+            except (OSError, ValueError, LookupError, subprocess.TimeoutExpired) as fault:
+                yield name, [repr(fault)]

@@ -12,7 +12,7 @@ from author.lib.endings import Fault, run_tool
 from author.lib.program import program_of
 from gate.tally import compare, tally
 
-from . import origins, reporting, sharing, spreading, studying, varying, warriors
+from . import merging, origins, reporting, sharing, spreading, studying, varying, warriors
 from .commands import AUTHOR, TUNING, command, run, said
 
 EXPECTED = pathlib.Path(__file__).resolve().parent / "expected"
@@ -109,7 +109,9 @@ REFUSALS = [
      "'nano', 'lp')", 2),
     ("cwtune-files none", f"failed: none: {NO_FILE}", 3),
     *((f"cwtune-files {name}", f"refused: {name}: not a template, a schedule or a certificate", 1)
-      for name in ["binary", "empty", "long"]),
+      for name in ["binary", "empty"]),
+    *((f"cwtune-{words} long", "refused: long: 65537 bytes, more than the 65536 of a template", 1)
+      for words in ["files", "scores step.cert schedule.csv --template"]),
     ("cwtune-landscape stone.red all-fights.cert x.png --axes STEP,STEP",
      "cwtune-landscape: error: --axes takes two of the constants STEP, FIRST, as in A,B", 2),
     ("cwtune-landscape stone.red all-fights.cert x.png --opponent 1",
@@ -138,6 +140,7 @@ NOT_DRAWN = [
 RUNNING = ["cwtune-warrior step.red --setting 3", "cwtune-vary ../warriors/dwarf.red step=4:5",
            "cwtune-seek --jobs=2 step.red schedule.csv ../warriors/dwarf.red",
            "cwtune-study step.red ../warriors/dwarf.red"]
+NO_PROGRAM = "no cwtune here or on the PATH: give --program FILE\n"
 COMMANDS = sorted(path.name for path in AUTHOR.glob("cwtune-*"))
 PICTURES = {
     "line.txt": "cwtune-landscape step.red step.cert",
@@ -202,9 +205,14 @@ def without_program():
         for words in RUNNING:
             done = subprocess.run([sys.executable, *f"{folder}/author/{words}".split()], cwd=TUNING,
                                   env={"PATH": folder}, capture_output=True, text=True)
-            yield compare(f"{words} without a program", (
-                2, "error: no cwtune here or on the PATH: give --program FILE\n"),
-                (done.returncode, done.stderr))
+            yield compare(f"{words} without a program", (2, f"error: {NO_PROGRAM}"),
+                          (done.returncode, done.stderr))
+        done = subprocess.run([sys.executable, f"{folder}/author/cwtune-scores", "step.cert",
+                               "schedule.csv", "--template=step.red"], cwd=TUNING,
+                              env={"PATH": folder}, capture_output=True, text=True)
+        yield compare("cwtune-scores without a program", (
+            0, "    STEP: 0 of 1, 1 not known", f"note: {NO_PROGRAM}"),
+            (done.returncode, done.stdout.splitlines()[-1], done.stderr.splitlines(True)[0]))
 
 
 def refusals(rows, python):
@@ -311,7 +319,7 @@ def main():
                   *refusals(rows, python), *signals(),
                   *warriors.trials(program), *varying.trials(program), *origins.trials(program),
                   *studying.trials(program), *spreading.trials(program),
-                  *sharing.trials(program), *reporting.trials()])
+                  *merging.trials(program), *sharing.trials(program), *reporting.trials()])
 
 
 if __name__ == "__main__":

@@ -3,13 +3,13 @@ they check, and gives them what they have to refuse.
 
 `run.py` counts what `trials` yields, as that of `spreading.py`.
 """
-import os, pathlib, random, re, signal, subprocess, tempfile
+import os, random, re, signal, subprocess
 
 from gate import inputs
 from gate.inputs import RULES
 from gate.tally import compare
 
-from .commands import EXAMPLES, SECONDS
+from .commands import EXAMPLES, SECONDS, played
 from .spreading import DECOY, Place
 
 ONLY = ["--check-only", *DECOY]
@@ -215,10 +215,5 @@ def merged(place):
 
 
 def trials(program):
-    for plays in [verdicts, after_kills, kept_shares, other_folders, with_a_tuning, liars, merged]:
-        with tempfile.TemporaryDirectory() as folder:
-            try:
-                for name, wrong in plays(Place(program, pathlib.Path(folder))):
-                    yield f"cwtune-spread, checks: {name}", wrong
-            except (OSError, ValueError, LookupError, subprocess.TimeoutExpired) as fault:
-                yield f"cwtune-spread, checks: {plays.__name__}", [repr(fault)]
+    return played("checks of cwtune-spread", lambda folder: Place(program, folder), [
+        verdicts, after_kills, kept_shares, other_folders, with_a_tuning, liars, merged])

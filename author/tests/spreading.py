@@ -1,9 +1,10 @@
 """Plays `cwtune-spread`: kills it and starts it again, and gives it what it has to refuse.
 
-`run.py` counts what `trials` yields: names, as `cwtune-spread: two at once`, and for each a list of
-what was wrong.
+`run.py` counts what `trials` yields: names, as `cwtune-spread, folders: two at once`, and for each
+a list of what was wrong.
 """
-import os, pathlib, pty, random, re, signal, subprocess, tempfile, time
+import os, pathlib, pty, random, re, signal, subprocess, time
+from unittest import mock
 
 from author.lib import tuning_files
 from gate import inputs, play
@@ -11,7 +12,7 @@ from gate.inputs import RULES
 from gate.play import shown
 from gate.tally import compare
 
-from .commands import EXAMPLES, SECONDS, command, run
+from .commands import EXAMPLES, SECONDS, command, played, run
 
 BENCHMARK = ["dwarf.red", "scanner.red", "core-clear.red"]
 DECOY = ["decoy.red", "schedule.csv", "CERT", *BENCHMARK]
@@ -269,6 +270,11 @@ def methods(place):
     yield compare("--progress begins with a line", "0 of 32 parts, 0 of 126 settings, 0 fights\n",
                   err)
     place.clear()
+    path, name = os.path.split(place.program)
+    with mock.patch.dict(os.environ, {"PATH": f"{path}:{os.environ['PATH']}"}):
+        came = run("cwtune-spread", "--program", name, "--all", *DECOY, folder=place.folder)
+    yield compare("a program on the PATH", (0, cert), (came[0], place.read("CERT")))
+    place.clear()
     yield compare("--explain tells of START", 1, place.spread("--explain", *DECOY)[2].count(
         "  START, setting 94, total "))
     place.clear()
@@ -307,49 +313,6 @@ for word in "$@"; do case $word in [0-9]*.cert) sed -i '$d' $word;; esac; done; 
     yield compare("another total of START", (2, "", said, None), (
         *place.spread("--program=./liar", *SMALL), place.read("CERT")))
     place.clear()
-
-
-def run_jobs(place, count, *words):
-    """Runs the parts as jobs of a cluster do."""
-    for job in range(1, count + 1):
-        env = {**os.environ, "CWTUNE": place.program, "SLURM_ARRAY_TASK_ID": str(job),
-               "SLURM_ARRAY_TASK_COUNT": str(count)}
-        subprocess.run(["sh", str(EXAMPLES / "slurm.sh"), *words], cwd=place.folder, env=env)
-
-
-def merged(place):
-    """Runs the parts as jobs of a cluster do, and puts them together."""
-    unbroken = place.found(DECOY, place.spread("--parts=3", *DECOY))
-    place.clear()
-    run_jobs(place, 3, *DECOY)
-    yield compare("--merge finds what an unbroken run finds", unbroken,
-                  place.found(DECOY, place.spread("--merge=3", *DECOY)))
-    place.clear()
-    yield compare("--merge --check", (0, "accepted"), (
-        (came := place.spread("--merge=3", "--check", *DECOY))[0], came[1].splitlines()[-1][:8]))
-    place.clear()
-    (place.folder / "CERT.2.report").write_bytes(b"")
-    yield compare("--merge without a part", (
-        3, "", "failed: no result of 1 of 3 parts: 2\n", None),
-        (*place.spread("--merge=3", *DECOY), place.read("CERT")))
-    refused = "error: CERT.1 is not of part {} of what is merged: {}\n"
-    yield compare("--merge of too many parts", (2, "", refused.format("1/4", "it is of part 1/3")),
-                  place.spread("--merge=4", *DECOY))
-    yield compare("--merge with other rules", (2, "", refused.format(
-        "1/3", "--cycles is 99, but the tuning had 80000")),
-                  place.spread("--merge=3", "--cycles=99", *DECOY))
-    yield compare("--merge with another method", (2, "", refused.format(
-        "1/3", "its method is `cache 4096`, not `all`")),
-                  place.spread("--merge=3", "--all", *DECOY))
-    place.write("other.csv", b"opponent,position,first\n0,4000,c\n")
-    other = [*DECOY[:DECOY.index("schedule.csv")], "other.csv",
-             *DECOY[DECOY.index("schedule.csv") + 1:]]
-    yield compare("--merge with another schedule", (2, "", refused.format(
-        "1/3", "other.csv is not the schedule of the tuning")), place.spread("--merge=3", *other))
-    for part in "123":
-        (place.folder / f"CERT.{part}.inputs").unlink()
-    yield compare("--merge of too many parts that do not say of what", 3,
-                  place.spread("--merge=4", *DECOY)[0])
 
 
 RANKED = [*RULES, "steps.red", "both.csv", "CERT", "dat.red", "imp.red"]
@@ -417,36 +380,6 @@ def rankings(place):
             place.spread(f"--keep={number}", *RANKED))
 
 
-def merged_rankings(place):
-    """Puts parts together that have floors, and a ranking."""
-    write_ranked(place)
-    tuned = place.found(RANKED, place.tune(*RANKED))
-    words = [*RANKED[len(RULES):], *RULES]
-    run_jobs(place, 4, *words)
-    below = [path.name for path in place.folder.glob("CERT.?")
-             if b"\nnone,-,4\n" in path.read_bytes()]
-    yield compare("some jobs end below START", True, 1 <= len(below) <= 3)
-    place.clear()
-    yield compare("--merge of parts below their floors", tuned,
-                  place.found(RANKED, place.spread("--merge=4", *RANKED)))
-    said = ("error: the parts show the first 3 of the ranking, and not 4: were they tuned with "
-            "--keep 4?\n")
-    place.clear()
-    yield compare("--merge --keep of parts without", (2, "", said, None), (
-        *place.spread("--merge=4", "--keep=4", *RANKED), place.read("CERT")))
-    run_jobs(place, 4, *words, "--keep=4")
-    ranked = place.tune("--keep=4", *RANKED)
-    place.clear()
-    yield compare("--merge --keep", ranked[1].splitlines()[6:],
-                  place.spread("--merge=4", "--keep=4", *RANKED)[1].splitlines()[6:])
-    place.clear()
-    run_jobs(place, 4, *words, "--floor=5")
-    said = ("error: the part from setting 0 on is below the floor 5, but the greatest total found "
-            "is 0: a greater one may be there\n")
-    yield compare("--merge of parts that are all below", (2, "", said, None), (
-        *place.spread("--merge=4", *RANKED), place.read("CERT")))
-
-
 def screen_of(place, words):
     """Returns what `cwtune-spread` shows on a terminal."""
     screen, terminal = pty.openpty()
@@ -469,6 +402,20 @@ def explained(place):
     yield compare("the explanation is that of tune", tuned, screen_of(place, words))
 
 
+def notes(place):
+    """Looks at what is said of what is ignored in a template."""
+    place.write("x.red", ";@tune K 0 3 1 2\n ;@tune X 1 2 1 1\nMOV 0, 1\n")
+    tuned = place.tune("--explain", *SMALL)[2]
+    for words in [[], ["--check"], ["--check-only"]]:
+        err = place.spread("--explain", *words, *SMALL)[2]
+        notes = [line for line in err.splitlines(True) if not line.startswith("  START, ")]
+        yield compare(f"the notes of the template with {words}", tuned, "".join(notes))
+    yield compare("elsewhere there are none", "", place.spread(*SMALL)[2])
+    place.write("x.red", place.read("x.red").replace(b"MOV 0, 1", b"DAT 1/0"))
+    yield compare("the notes and the fault", place.tune("--explain", *SMALL)[2],
+                  place.spread("--explain", *SMALL)[2])
+
+
 def total_of_start(place):
     """Returns the total of START by the certificate of the decoy."""
     found = tuning_files.Certificate(place.folder / "CERT")
@@ -488,11 +435,6 @@ def progress(place):
 
 
 def trials(program):
-    for plays in [after_kills, other_inputs, damaged_parts, folders, templates, faults, methods,
-                  liars, merged, floors, rankings, merged_rankings, explained, progress]:
-        with tempfile.TemporaryDirectory() as folder:
-            try:
-                for name, wrong in plays(Place(program, folder)):
-                    yield f"cwtune-spread: {name}", wrong
-            except (OSError, ValueError, LookupError, subprocess.TimeoutExpired) as fault:
-                yield f"cwtune-spread: {plays.__name__}", [repr(fault)]
+    return played("cwtune-spread", lambda folder: Place(program, folder), [
+        after_kills, other_inputs, damaged_parts, folders, templates, faults, methods, liars,
+        floors, rankings, explained, notes, progress])

@@ -20,9 +20,8 @@ REFUSALS = [
     ("t.red empty", 2, "error: empty: no file *.red in this folder"),
     ("t.red none.red", 3, "failed: none.red: No such file or directory"),
     ("none.red all", 3, "failed: none.red: No such file or directory"),
-    ("t.red long.red", 1, "refused: long.red does not assemble: refused: Asm line 0 Warrior "
-     "TooLong"),
-    ("bad.red all", 1, "refused: START of bad.red does not assemble: refused: Asm line 3 Value "
+    ("t.red long.red", 1, "refused: long.red does not assemble: Asm line 0 Warrior TooLong"),
+    ("bad.red all", 1, "refused: START of bad.red does not assemble: Asm line 3 Value "
      "DivisionByZero"),
     ("range.red all", 1, "refused: range.red: line 1 is not a range"),
     ("w.red all", 1, "refused: w.red: no range line: give words NAME=LOW:HIGH:STEP too "

@@ -3,13 +3,13 @@ and gives it what it has to refuse.
 
 `run.py` counts what `trials` yields: names, and for each a list of what was wrong.
 """
-import os, random, shutil, signal, subprocess, tempfile, time
+import os, random, shutil, signal, subprocess, time
 
 from author.lib import grid, tuning_files
 from gate.tally import compare
 
 from . import study_refused
-from .commands import AUTHOR, SECONDS, run
+from .commands import AUTHOR, SECONDS, played, run
 from .study_place import OPPONENTS, TEMPLATE, Place
 
 STAGES = ["inputs", "schedule", "box", "best", "fresh 1", "fresh 2", "fresh 3", "fresh 4",
@@ -180,10 +180,5 @@ def after_kills(place):
 
 
 def trials(program):
-    for plays in [finds, varies, seeks, study_refused.foreign, study_refused.refusals]:
-        with tempfile.TemporaryDirectory() as folder:
-            try:
-                for name, wrong in plays(Place(program, folder)):
-                    yield f"study {plays.__name__}: {name}", wrong
-            except (OSError, ValueError, LookupError, subprocess.TimeoutExpired) as fault:
-                yield f"study {plays.__name__}", [repr(fault)]
+    return played("cwtune-study", lambda folder: Place(program, folder), [
+        finds, varies, seeks, study_refused.foreign, study_refused.refusals])

@@ -2,13 +2,13 @@
 
 `run.py` counts what `trials` yields: names, and for each a list of what was wrong.
 """
-import pathlib, subprocess, tempfile
+import os, pathlib, signal, subprocess, time
 
 from author.lib import grid
 from gate.play import Place
 from gate.tally import compare
 
-from .commands import EXAMPLES, TUNING, run
+from .commands import EXAMPLES, SECONDS, TUNING, command, played, run
 
 TEXT = """;redcode-94
 ;name Two Numbers
@@ -97,7 +97,7 @@ def refusals(place):
     ]:
         yield compare(f"cwtune-vary {' '.join(words)}", (status, "", f"{said}\n"),
                       varied(place, *words))
-    said = "refused: label.red does not assemble: refused: Asm line 3 Value DivisionByZero\n"
+    said = "refused: label.red does not assemble: Asm line 3 Value DivisionByZero\n"
     yield compare("a text that does not assemble", (1, "", said),
                   varied(place, "K=1:2", name="label.red"))
     yield compare("a template", (1, "", "refused: ranges.red: it has range lines, so it is a "
@@ -121,6 +121,8 @@ def climbs(place):
     whole = grid.Grid(TUNING / "stone.red")
     yield compare("the template has what was found as START", (0, whole.values, True),
                   (status, found.values, lines[-2].startswith("found: total ")))
+    yield compare("what is said of the others", "note: no setting of a line through it has a "
+                  "greater total; one elsewhere, of all 273 settings, may", lines[-1])
     total = int(lines[-2].split()[2].rstrip(","))
     yield compare("START of the template has that total", total, total_of(place, "found.red"))
     yield compare("no tuning of a line through it has a better one", [total] * 2, [
@@ -198,11 +200,25 @@ def refused_climbs(place):
     yield compare("a template that tune refuses", (1, ""), came[:2])
 
 
+def stopped_climbs(place):
+    """Stops `cwtune-seek` while a stand-in for `cwtune` plays START."""
+    place.write("slow", "#!/bin/sh\ntouch begun\nexec sleep 99\n")
+    os.chmod(place.folder / "slow", 0o755)
+    words = command("cwtune-seek", "--program=./slow", str(TUNING / "step.red"),
+                    str(TUNING / "schedule.csv"), *WARRIORS)
+    for number in [signal.SIGINT, signal.SIGTERM]:
+        job = subprocess.Popen(words, cwd=place.folder, stdout=subprocess.PIPE,
+                               stderr=subprocess.PIPE)
+        while not (place.folder / "begun").exists() and job.poll() is None:
+            time.sleep(0.01)
+        job.send_signal(number)
+        out, err = job.communicate(timeout=SECONDS)
+        (place.folder / "begun").unlink()
+        yield compare(f"signal {number} before START was played", (
+            -signal.SIGINT, b"", b"stopped: before START or another setting was played\n"),
+            (job.returncode, out, err))
+
+
 def trials(program):
-    for plays in [templates, refusals, climbs, kinds, refused_climbs]:
-        with tempfile.TemporaryDirectory() as folder:
-            try:
-                for name, wrong in plays(Place(program, folder, {})):
-                    yield f"{plays.__name__}: {name}", wrong
-            except (OSError, ValueError, LookupError, subprocess.TimeoutExpired) as fault:
-                yield plays.__name__, [repr(fault)]
+    return played("cwtune-vary and cwtune-seek", lambda folder: Place(program, folder, {}), [
+        templates, refusals, climbs, kinds, refused_climbs, stopped_climbs])

@@ -57,8 +57,9 @@ def warriors(program, folder):
         came[0] == 0 and came[2] == origins.note("step.cert.inputs is not there")
         and line in came[1]) else [repr(came)]
     for name, text, said in [
-        ("chain.red", CHAIN, "refused: with the values as EQU lines the text does not assemble: "),
-        ("refused.red", b"DAT 1/0\n", "refused: setting 0 does not assemble: "),
+        ("chain.red", CHAIN, "refused: with the values as EQU lines the text does not assemble: "
+         "Asm line "),
+        ("refused.red", b"DAT 1/0\n", "refused: setting 0 does not assemble: Asm line 1 "),
     ]:
         (folder / name).write_bytes(text)
         came = run("cwtune-warrior", "--program", program, name, "--setting", "0", folder=folder)
@@ -117,6 +118,20 @@ def gains(program, folder):
         yield compare(f"a gain by {schedule}", (0, expected, ""), came)
 
 
+def faults(program, folder):
+    """Runs commands with stand-ins for `cwtune` that note something, and that are killed."""
+    words = ["cwtune-warrior", str(TUNING / "step.red"), "--setting=3"]
+    for name, text, end in [
+        ("notes", "echo '  a note' >&2; echo 'error: a fault' >&2; exit 2",
+         (2, "", "error: a fault\n  a note\n")),
+        ("dies", "kill -9 $$", (3, "", "failed: ./dies ended with status -9\n")),
+    ]:
+        (folder / name).write_text(f"#!/bin/sh\n{text}\n")
+        (folder / name).chmod(0o755)
+        yield compare(f"a program that {name}", end,
+                      run(*words, f"--program=./{name}", folder=folder))
+
+
 def holdouts(program, folder):
     """Plays fresh fights of two warriors that win them all, since the other one dies at once."""
     (folder / "t.red").write_text(";@tune K 1 2 1 1\nMOV 0, K\n")
@@ -169,6 +184,6 @@ def places(program, folder):
 
 
 def trials(program):
-    for plays in [warriors, foreign, holdouts, gains, places]:
+    for plays in [warriors, foreign, faults, holdouts, gains, places]:
         with tempfile.TemporaryDirectory() as folder:
             yield from plays(program, pathlib.Path(folder))

@@ -24,6 +24,8 @@ MEANING = {"core": "the core size", "cycles": "the most cycles of a fight",
            "distance": "the least distance of two warriors"}
 RULES = {"core": 8000, "cycles": 80000, "tasks": 8000, "length": 100, "distance": 100}
 MOST_FIGHTS, MOST_WEIGHT, MOST_NUMBER = 10000, 1000, 2**32 - 1
+# A field may have any length.
+csv.field_size_limit(sys.maxsize)
 
 
 class Fault(Exception):
@@ -106,19 +108,22 @@ def read_row(row, record):
     raise Fault(row, "Malformed")
 
 
+def read_pair(row, records, word):
+    """Returns the two numbers of a record that begins with a word."""
+    if len(records) <= row or len(records[row]) != 3 or records[row][0] != word:
+        raise Fault(row, "Malformed")
+    return [read_decimal(row, field) for field in records[row][1:]]
+
+
 def read_certificate(path):
     """Returns version, number of settings, best setting, total, and the rows of a certificate."""
     records = read_records(path)
-    for row, word in enumerate(["cwcert", "best"]):
-        if len(records) <= row or len(records[row]) != 3 or records[row][0] != word:
-            raise Fault(row, "Malformed")
-        numbers = [read_decimal(row, field) for field in records[row][1:]]
-        if row == 0:
-            version, count = numbers
-            if version not in (1, 2):
-                raise Fault(row, "Malformed")
+    version, count = read_pair(0, records, "cwcert")
+    if version not in (1, 2):
+        raise Fault(0, "Malformed")
+    best, total = read_pair(1, records, "best")
     rows = [read_row(row, record) for row, record in enumerate(records[2:], 2)]
-    return version, count, *numbers, rows
+    return version, count, best, total, rows
 
 
 class Cwtune:

@@ -1,11 +1,11 @@
 """Runs the tests of calls that allocate, with each of their requests for memory refused in turn.
 
-The tests are those of the modules `memory` in the test programs that the gate builds. With nothing
-refused each has to pass. With a request refused it has to pass too, or to end because a call
-returned `OutOfMemory` (at line or record 0, never another fault), or because a request of the test
-itself was refused. Use: python3 -m gate.refuse.growth [TEST PROGRAM..]. Needs `cc` and a system
-with LD_PRELOAD. Prints what failed, and as its last line how many requests were refused, and `N
-passed, N failed`. The exit status is 1 if a test failed.
+The tests are those of the modules `memory` in the test programs that the gate builds; each program
+has to have some. With nothing refused each has to pass. With a request refused it has to pass too,
+or to end because a call returned `OutOfMemory` (at line or record 0, never another fault), or
+because a request of the test itself was refused. Use: python3 -m gate.refuse.growth [TEST
+PROGRAM..]. Needs `cc` and a system with LD_PRELOAD. Prints what failed, and as its last line how
+many requests were refused, and `N passed, N failed`. The exit status is 1 if a test failed.
 """
 import concurrent.futures, os, pathlib, subprocess, sys, tempfile
 
@@ -39,7 +39,7 @@ def tests_of(program):
     """Returns the names of a program's tests of calls that allocate."""
     listed = subprocess.run([program, "--list"], capture_output=True, text=True, check=True).stdout
     names = [line.rpartition(": ")[0] for line in listed.splitlines() if line.endswith(": test")]
-    return [(program, name) for name in names if f"::{MODULE}" in f"::{name}"]
+    return [name for name in names if f"::{MODULE}" in f"::{name}"]
 
 
 def run(library, program, test, number, count=False):
@@ -72,13 +72,16 @@ def refuse_each(library, program, test):
 def main():
     given = sys.argv[1:] or [ROOT / program for program in PROGRAMS]
     programs = [program_of([program], "rt test") for program in given]
-    tests = [test for program in programs for test in tests_of(program)]
+    found = {program: tests_of(program) for program in programs}
+    tests = [(program, name) for program, names in found.items() for name in names]
     with tempfile.TemporaryDirectory() as work:
         library = library_of("memory.c", work)
         with concurrent.futures.ThreadPoolExecutor(os.cpu_count()) as pool:
             came = list(pool.map(lambda test: refuse_each(library, *test), tests))
     total = sum(requests for requests, _ in came)
-    trials = [(test, wrong) for (_, test), (_, wrong) in zip(tests, came)]
+    trials = [(f"tests of {pathlib.Path(program).name}", [] if names else [f"none in {MODULE}"])
+              for program, names in found.items()]
+    trials += [(test, wrong) for (_, test), (_, wrong) in zip(tests, came)]
     return tally(trials, f"{total} requests refused: ")
 
 

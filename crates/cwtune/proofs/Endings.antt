@@ -39,6 +39,12 @@ misused_at (Err Refused) status is e = absurd (omega (arith, is, e))
 misused_at (Err Misused) status is e = refl
 misused_at (Err Failed) status is e = absurd (omega (arith, is, e))
 
+pub failed_at : {X : Type 0} (ended : Result X Ending) (status : ℕ) → status ≡ status_of ended → status ≡ 3 → IsErrOf ended Failed
+failed_at (Ok x) status is e = absurd (omega (arith, is, e))
+failed_at (Err Refused) status is e = absurd (omega (arith, is, e))
+failed_at (Err Misused) status is e = absurd (omega (arith, is, e))
+failed_at (Err Failed) status is e = refl
+
 pub at_most : {X : Type 0} (ended : Result X Ending) (status : ℕ) → status ≡ status_of ended → status ≤ 3
 at_most (Ok x) status is = omega (arith, is)
 at_most (Err Refused) status is = omega (arith, is)
@@ -53,8 +59,9 @@ named_at P r x is h = subst (λ q. IfOk q P) is h
 other_run : {X : Type 0} (words : List (List ℕ)) (input : Option (List ℕ)) (old new : OutletView) (ended : Result X Ending) (status : ℕ)
     → status ≡ status_of ended → (AsksForFight words → ⊥) → (IsErrOf ended Misused → new ≡ old)
     → (IsErrOf ended Refused → (new ≡ old) ⊎ WritesSomeCheckLine false old.bytes new.bytes) → (IsTrue new.failed → IsErrOf ended Failed)
+    → (IsErrOf ended Failed → (new ≡ old) ⊎ IsTrue new.failed)
     → (status ≡ 0 → AsksForHelp words ⊎ IsSuccess words input old.bytes new.bytes) → IsProgramRun words input old new status
-other_run words input old new ended status is other misused unwritten failed success = record {
+other_run words input old new ended status is other misused unwritten failed lost success = record {
   done = λ asked e. absurd (other asked);
   refused = λ asked e. absurd (other asked);
   understood = λ asked e. other asked;
@@ -62,6 +69,7 @@ other_run words input old new ended status is other misused unwritten failed suc
   misused = λ e. misused (misused_at ended status is e);
   unwritten = λ e. unwritten (refused_at ended status is e);
   failed = λ f. is ∙ ap status_of (failed f);
+  lost = λ e. lost (failed_at ended status is e);
   status = at_most ended status is;
 }
 
@@ -70,7 +78,7 @@ quiet_run : {X Wrote : Type 0} (words : List (List ℕ)) (input : Option (List �
     → status ≡ status_of ended → (AsksForFight words → ⊥) → IsEnded Wrote old new ended
     → (status ≡ 0 → AsksForHelp words ⊎ IsSuccess words input old.bytes new.bytes) → IsProgramRun words input old new status
 quiet_run words input old new ended status is other ended_so success =
-    other_run words input old new ended status is other ended_so.misused (λ e. inl (ended_so.refused e)) ended_so.failed success
+    other_run words input old new ended status is other ended_so.misused (λ e. inl (ended_so.refused e)) ended_so.failed ended_so.lost success
 
 same_word : (word named other : List ℕ) → named ≡ word → IsTrue (bytes_eq other other) → named ≡ other → IsTrue (bytes_eq word other)
 same_word word named other is same e = subst (λ w. IsTrue (bytes_eq w other)) (sym e ∙ is) same
@@ -131,7 +139,7 @@ pub check_run : {X : Type 0} (words : List (List ℕ)) (input : Option (List ℕ
     → IsCheckEnded (WritesCheckLine rules part demand share) old new ended → command_of words ≡ codes "check" → IsProgramRun words input old new status
 check_run words input old new rules part demand share ended status is other ended_so named =
     other_run words input old new ended status is other ended_so.misused
-    (λ e. elim (ended_so.refused e) [ inl same ↦ inl same | inr line ↦ inr (rules, part, demand, share, line) ]) ended_so.failed
+    (λ e. elim (ended_so.refused e) [ inl same ↦ inl same | inr line ↦ inr (rules, part, demand, share, line) ]) ended_so.failed ended_so.lost
     (λ e. let line = done_at ended status is ended_so.done e in
     inr (success_of (codes "check") words input old.bytes new.bytes named refl no no no no (λ _. (rules, part, demand, share, line))))
 

@@ -102,27 +102,32 @@ status_of (Err Misused) = 2
 status_of (Err Failed) = 3
 
 -- How a command ends. `Wrote` says what it writes if it succeeds. A refusal or a usage error left
--- standard output as it was, and a failed write ended as `Failed`.
+-- standard output as it was, and so did a failure, unless a write failed. A failed write ended as
+-- `Failed`.
 pub record IsEnded {X : Type 0} (Wrote : Type 0) (old new : OutletView) (result : Result X Ending) : Type 0 where
   pub done : OnOk result Wrote
   pub refused : IsErrOf result Refused → new ≡ old
   pub misused : IsErrOf result Misused → new ≡ old
   pub failed : IsTrue new.failed → IsErrOf result Failed
+  pub lost : IsErrOf result Failed → (new ≡ old) ⊎ IsTrue new.failed
 
 -- How a command ends whose words are understood: never with a usage error.
 abbrev pub EndsUnderstood : {X : Type 0} → (Wrote : Type 0) → (old new : OutletView) → Result X Ending → Type 0
 EndsUnderstood Wrote old new result = IsEnded Wrote old new result × IfErr result (λ e. e ≢ Misused)
 
 -- How a check ends. `Wrote` says what it writes if it accepts, and if it does not. An input that is
--- refused, or a usage error, left standard output as it was, and a failed write ended as `Failed`.
+-- refused, or a usage error, left standard output as it was, and so did a failure, unless a write
+-- failed. A failed write ended as `Failed`.
 pub record IsCheckEnded {X : Type 0} (Wrote : Bool → Option (List ℕ) → Option (List ℕ) → Type 0) (old new : OutletView) (result : Result X Ending) : Type 0 where
   pub done : OnOk result (Wrote true old.bytes new.bytes)
   pub refused : IsErrOf result Refused → (new ≡ old) ⊎ Wrote false old.bytes new.bytes
   pub misused : IsErrOf result Misused → new ≡ old
   pub failed : IsTrue new.failed → IsErrOf result Failed
+  pub lost : IsErrOf result Failed → (new ≡ old) ⊎ IsTrue new.failed
 
--- An ending that a fault of a run may have: `Failed`, or `Refused` unless a write failed or memory
--- ran out.
+-- The ending of a fault of a run: `Failed` if a write failed or memory ran out, and otherwise
+-- `Refused`.
 pub record IsEndingOf (fault : RunFault) (ending : Ending) : Type 0 where
   pub refused : ending ≡ Refused → (fault ≢ Write) × (fault ≢ OutOfMemory)
+  pub failed : ending ≡ Failed → (fault ≡ Write) ⊎ (fault ≡ OutOfMemory)
   pub either : (ending ≡ Refused) ⊎ (ending ≡ Failed)

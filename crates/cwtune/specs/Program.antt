@@ -27,8 +27,10 @@ pub record IsProgramRun (words : List (List ℕ)) (input : Option (List ℕ)) (o
   -- whatever the words are, status 0 means that their command succeeded, or that help was asked for
   pub success : ended ≡ 0 → AsksForHelp words ⊎ IsSuccess words input old.bytes new.bytes
   -- nothing is written if the words or an input are refused, except the line of a rejected
-  -- certificate or share; and a failed write gives status 3
+  -- certificate or share. A failed write gives status 3, and status 3 without one means that
+  -- nothing was written.
   pub misused : ended ≡ 2 → new ≡ old
   pub unwritten : ended ≡ 1 → (new ≡ old) ⊎ WritesSomeCheckLine false old.bytes new.bytes
   pub failed : IsTrue new.failed → ended ≡ 3
+  pub lost : ended ≡ 3 → (new ≡ old) ⊎ IsTrue new.failed
   pub status : ended ≤ 3

@@ -1,5 +1,5 @@
 //! What the commands work with, and the lines on standard error with which they end.
-ghost use Rattle.std.specs.Prelude.{◌≡◌, ◌≢◌, IfOk, IfErr};
+ghost use Rattle.std.specs.Prelude.{◌≡◌, ◌≢◌, ◌↔◌, IfOk, IfErr};
 ghost use Rattle.tune_runs.specs.Given.{rules_given};
 ghost use Rattle.cwtune.specs.Commands.{IsEndingOf};
 
@@ -19,6 +19,7 @@ use std::alloc::Global;
 use std::io;
 use std::io::Write;
 use std::rt::Files;
+use tune_cert::Demand;
 use tune_runs::{DuelTexts, Method, RawRules, RunFault, TuneTexts, rules_of};
 
 // What a command uses: files, memory, the witness, and standard error for the lines of faults.
@@ -103,7 +104,8 @@ impl<F: Files, T: Witness, V: Write> Host<'_, F, T, V> {
         texts: &TuneTexts<'_>,
         fault: RunFault,
     ) -> Ending
-        ensures { result ≢ Ending.Failed → (fault ≢ RunFault.Write) × (fault ≢ RunFault.OutOfMemory) }
+        ensures part { (result ≡ Ending.Misused) ↔ (fault ≡ RunFault.Part) }
+        ensures other { result ≢ Ending.Misused → IsEndingOf fault result }
     {
         if let RunFault::Part = fault {
             tell(
@@ -257,11 +259,17 @@ impl<F: Files, T: Witness, V: Write> Host<'_, F, T, V> {
     }
 
     // Lets the witness say which inputs of a rejected certificate differ from its tuning's.
-    pub(crate) fn reject(&mut self, words: &TuneWords<'_>, texts: &TuneTexts<'_>, cert: &[u8]) {
+    pub(crate) fn reject(
+        &mut self,
+        words: &TuneWords<'_>,
+        texts: &TuneTexts<'_>,
+        demand: Demand,
+        cert: &[u8],
+    ) {
         if !self.witness.explains() {
             return;
         }
-        if let Ok(lines) = differences(self.rt, self.alloc, words, texts, cert) {
+        if let Ok(lines) = differences(self.rt, self.alloc, words, texts, demand, cert) {
             self.witness.reject(lines.as_slice());
         }
     }

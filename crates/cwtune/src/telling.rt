@@ -93,18 +93,9 @@ pub(crate) fn tell_source<V: Write>(err: &mut Outlet<V>, file: &str, text: &[u8]
     }
     let mut buffer = Buffer::new();
     let place = buffer.format(number);
-    let line = line_at(text, number - 1);
-    let front = shown(line);
     tell(err, &["  ", file, ", line ", place, ": "]);
-    tell_bytes(err, front);
-    tell(
-        err,
-        &[if front.len() == MOST_SHOWN {
-            "..\n"
-        } else {
-            "\n"
-        }],
-    );
+    tell_shown(err, line_at(text, number - 1));
+    tell(err, &["\n"]);
 }
 
 // Writes the line of a record of a table, counted from 0. An empty line is not a record.
@@ -150,22 +141,26 @@ pub(crate) fn line_at(text: &[u8], index: u64) -> &[u8] {
     }
 }
 
-// Returns the front of a line without the carriage return at its end, if it has no other bytes that
-// would steer a terminal.
-fn shown(line: &[u8]) -> &[u8] {
+// Writes the front of a line without the carriage return at its end, and `..` if it is longer. A
+// front that has other bytes that would steer a terminal is not shown.
+fn tell_shown<V: Write>(err: &mut Outlet<V>, line: &[u8]) {
     let line = match line.strip_suffix(b"\r") {
         Some(front) => front,
         None => line,
     };
-    let line = front_of(line);
-    if line
-        .iter()
-        .all(|byte| *byte == b'\t' || (*byte >= b' ' && *byte != 127))
-    {
-        line
-    } else {
-        b"(a terminal cannot show it)"
+    let front = front_of(line);
+    if !front.iter().all(|byte| can_be_shown(*byte)) {
+        tell(err, &["(a terminal cannot show it)"]);
+        return;
     }
+    tell_bytes(err, front);
+    if front.len() < line.len() {
+        tell(err, &[".."]);
+    }
+}
+
+fn can_be_shown(byte: u8) -> bool {
+    byte == b'\t' || (byte >= b' ' && byte != 127)
 }
 
 // Returns the first characters of a line, at most `MOST_SHOWN` bytes.

@@ -3,7 +3,9 @@
 //! 4, and one that lists the win alone a cap of 6. In the certificate of three warriors the last
 //! has not played its first fight.
 
-use crate::fixtures::{FOUR_EQUAL, FOUR_EQUAL_CERT, THREE_UNEQUAL, THREE_UNEQUAL_CERT, inputs_of};
+use crate::fixtures::{
+    FOUR_EQUAL, FOUR_EQUAL_CERT, THREE_UNEQUAL, THREE_UNEQUAL_CERT, imp, inputs_of,
+};
 use std::alloc::Global;
 use std::test::Fail;
 use tune_cert::{Demand, Judgement, Reason, Share, Silent, check_for};
@@ -44,11 +46,6 @@ fn judged(
             rejected: Some((row, reason)),
         }),
     }
-}
-
-// An imp, with its total.
-fn imp(vector: u32) -> Best {
-    Best { vector, total: 4 }
 }
 
 // Returns the ranking that a certificate shows if it is accepted with the first setting, and

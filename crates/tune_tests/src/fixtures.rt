@@ -9,7 +9,7 @@ use mars_fight::Schedule;
 use rc_instr::{Rules, RulesError, Warrior, read_loadfile};
 use std::alloc::{AllocError, Global};
 use std::test::Fail;
-use tune_problem::Inputs;
+use tune_problem::{Best, Inputs};
 use tune_template::Template;
 
 // A warrior that loses its only task in its first turn: its text, and its load file.
@@ -47,6 +47,11 @@ pub(crate) const FOUR_EQUAL_CERT: &[u8] =
 
 // Six settings whose warriors take turns: those of an even K are equal, and those of an odd K.
 pub(crate) const TWO_IN_TURN: &[u8] = b";@tune K 0 5 1 0\nMOV 0, 1\nDAT K % 2";
+
+// A setting whose warrior is an imp, with its total.
+pub(crate) fn imp(vector: u32) -> Best {
+    Best { vector, total: 4 }
+}
 
 // Makes rules of 16 cells, 20 cycles, 4 tasks, length 4 and distance 4.
 pub(crate) fn small_rules() -> Result<Rules, RulesError>

@@ -1,6 +1,6 @@
 //! Tests of what searches and checks tell their watchers.
 
-use crate::fixtures::{FIRST_REFUSED, FOUR_EQUAL, FOUR_EQUAL_CERT, THREE_UNEQUAL, inputs_of};
+use crate::fixtures::{FIRST_REFUSED, FOUR_EQUAL, FOUR_EQUAL_CERT, THREE_UNEQUAL, imp, inputs_of};
 use std::process::Abort;
 use std::test::Fail;
 use tune_cert::{Best, Demand, Share, Standing, Verdict, Watcher, check_for, check_share};
@@ -144,10 +144,7 @@ fn a_search_for_two_settings_tells_the_first(rt: HostRuntime) -> Result<(), Fail
         Method::Dropping { capacity: 1 },
         &mut notes,
     )?;
-    let first = Some(Best {
-        vector: 0,
-        total: 4,
-    });
+    let first = Some(imp(0));
     let want = [
         after(1, 3, 2, SECOND),
         after(2, 3, 4, first),
@@ -213,10 +210,7 @@ fn a_check_tells_how_far_it_is(rt: HostRuntime) -> Result<(), Fail> {
         &mut notes,
     )?;
     assert_eq!(rt; verdict, Verdict::Accepted { best: 0, total: 4 });
-    let best = Some(Best {
-        vector: 0,
-        total: 4,
-    });
+    let best = Some(imp(0));
     let want = [
         after(1, 4, 2, best),
         after(2, 4, 4, best),

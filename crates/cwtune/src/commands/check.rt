@@ -59,7 +59,7 @@ fn check_texts<F: Files, T: Witness, W: Write, V: Write>(
     match verdict_on(host.alloc, texts, share, demand, host.witness, cert, out) {
         Ok(true) => Ok(()),
         Ok(false) => {
-            host.reject(words, texts, cert);
+            host.reject(words, texts, demand, cert);
             Err(Ending::Refused)
         }
         Err(fault) => Err(host.refuse_tuning(words, texts, fault)),

@@ -7,6 +7,7 @@ use crate::words::command_line::TuneWords;
 use std::alloc::{AllocError, Global};
 use std::rt::Files;
 use std::str;
+use tune_cert::Demand;
 use tune_runs::TuneTexts;
 
 // Returns a line for each input that differs from the tuning's. If none differs, or that is not
@@ -16,6 +17,7 @@ pub(crate) fn differences<F: Files>(
     alloc: Global,
     words: &TuneWords<'_>,
     texts: &TuneTexts<'_>,
+    demand: Demand,
     cert: &[u8],
 ) -> Result<Vec<String>, AllocError> {
     let name = name_beside(alloc, words.cert)?;
@@ -23,6 +25,7 @@ pub(crate) fn differences<F: Files>(
         alloc,
         words,
         texts,
+        demand,
         lines: Vec::new(alloc),
         opponents: 0,
     };
@@ -39,6 +42,7 @@ struct Comparison<'a> {
     alloc: Global,
     words: &'a TuneWords<'a>,
     texts: &'a TuneTexts<'a>,
+    demand: Demand,
     lines: Vec<String>,
     // The opponents of the tuning that were compared so far.
     opponents: usize,
@@ -143,12 +147,20 @@ impl Comparison<'_> {
             self.add(line)?;
         }
         if self.lines.is_empty() {
-            let line = String::from_str(
-                self.alloc,
-                "all of these are the tuning's, so the certificate itself is wrong",
-            )?;
+            let line = String::from_str(self.alloc, all_the_same(self.demand))?;
             self.add(line)?;
         }
         Ok(())
+    }
+}
+
+// Returns what follows if no input differs. A certificate that is right may show less than is asked
+// for.
+fn all_the_same(demand: Demand) -> &'static str {
+    if demand.keep.is_some() || demand.floor.is_some() {
+        "all of these are the tuning's, so its --keep or --floor was another, or the certificate \
+            itself is wrong"
+    } else {
+        "all of these are the tuning's, so the certificate itself is wrong"
     }
 }

@@ -1,6 +1,9 @@
 //! What runs tell their watchers.
+ghost use Rattle.tune_search.specs.Method.{HasCapacity};
+
 use crate::fixtures::{BOTH, THREE_UNEQUAL, THREE_UNEQUAL_CERT, both_opponents, small_rules};
 use rc_instr::{Outlet, Rules};
+use std::alloc::Global;
 use std::test::Fail;
 use tune_cert::{Standing, Watcher};
 use tune_problem::{Inputs, Part};
@@ -83,6 +86,20 @@ fn three_unequal<'a>(opponents: &'a [Vec<u8>], rules: &'a Rules) -> TuneTexts<'a
     }
 }
 
+// Tunes `texts`, and tells `told` of it. Nobody reads the report and the certificate.
+fn tune(
+    alloc: Global,
+    texts: &TuneTexts<'_>,
+    method: Method,
+    told: &mut Told,
+) -> Result<(), RunFault>
+    requires capacity { HasCapacity method }
+{
+    let mut report = Outlet::new(Vec::new(alloc));
+    let mut cert = Outlet::new(Vec::new(alloc));
+    tune_by_run(alloc, texts, method, told, &mut report, &mut cert)
+}
+
 // A setting is dropped after one fight of two.
 #[test]
 fn a_tuning_tells_its_watcher_once(rt: HostRuntime) -> Result<(), Fail> {
@@ -90,16 +107,7 @@ fn a_tuning_tells_its_watcher_once(rt: HostRuntime) -> Result<(), Fail> {
     let opponents = both_opponents(rt.alloc())?;
     let texts = three_unequal(opponents.as_slice(), &rules);
     let mut told = Told::nothing();
-    let mut report = Outlet::new(Vec::new(rt.alloc()));
-    let mut cert = Outlet::new(Vec::new(rt.alloc()));
-    tune_by_run(
-        rt.alloc(),
-        &texts,
-        DROPPING,
-        &mut told,
-        &mut report,
-        &mut cert,
-    )?;
+    tune(rt.alloc(), &texts, DROPPING, &mut told)?;
     assert_eq!(rt; told.numbers(), (1, 3, 5, 1, 0));
     Ok(())
 }
@@ -110,16 +118,7 @@ fn a_tuning_that_plays_all_tells_its_watcher_once(rt: HostRuntime) -> Result<(),
     let opponents = both_opponents(rt.alloc())?;
     let texts = three_unequal(opponents.as_slice(), &rules);
     let mut told = Told::nothing();
-    let mut report = Outlet::new(Vec::new(rt.alloc()));
-    let mut cert = Outlet::new(Vec::new(rt.alloc()));
-    tune_by_run(
-        rt.alloc(),
-        &texts,
-        Method::PlayingAll,
-        &mut told,
-        &mut report,
-        &mut cert,
-    )?;
+    tune(rt.alloc(), &texts, Method::PlayingAll, &mut told)?;
     assert_eq!(rt; told.numbers(), (1, 3, 6, 1, 0));
     Ok(())
 }
@@ -172,16 +171,7 @@ fn a_refused_tuning_tells_its_watcher_once(rt: HostRuntime) -> Result<(), Fail> 
         ..three_unequal(opponents.as_slice(), &rules)
     };
     let mut told = Told::nothing();
-    let mut report = Outlet::new(Vec::new(rt.alloc()));
-    let mut cert = Outlet::new(Vec::new(rt.alloc()));
-    match tune_by_run(
-        rt.alloc(),
-        &texts,
-        DROPPING,
-        &mut told,
-        &mut report,
-        &mut cert,
-    ) {
+    match tune(rt.alloc(), &texts, DROPPING, &mut told) {
         Err(RunFault::NoCandidate) => {}
         Err(other) => return Err(Fail::from(other)),
         Ok(()) => return Err(Fail::from("not refused")),

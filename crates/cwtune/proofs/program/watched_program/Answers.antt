@@ -2,7 +2,7 @@ use Rattle.std.proofs.Common.{◌≡◌, ◌≢◌, ◌∙◌, IfErr, inl, inr, 
 use Rattle.cwtune.specs.declared.ending.Ending.TheVariants.{Misused}
 use Rattle.cwtune.specs.CommandLine.{AsksForFight, command_of, command_word}
 use Rattle.cwtune.specs.Commands.{status_of}
-use Rattle.cwtune.proofs.Endings.{done_at, refused_at, misused_at, at_most, named_at, fight_success, duel_run, asm_run, settings_run, tune_run, check_run, help_run}
+use Rattle.cwtune.proofs.Endings.{done_at, refused_at, misused_at, failed_at, at_most, named_at, fight_success, duel_run, asm_run, settings_run, tune_run, check_run, help_run}
 use Rattle.cwtune.proofs.program.watched_program.Goals as goal
 
 pub returns-in-Ok-Fight : goal.returns-in-Ok-Fight
@@ -18,6 +18,7 @@ returns-in-Ok-Fight g c =
       misused = λ e. c.fight.ensures.ended.0.misused (misused_at _ _ c.status_of.ensures e);
       unwritten = λ e. inl (c.fight.ensures.ended.0.refused (refused_at _ _ c.status_of.ensures e));
       failed = λ f. c.status_of.ensures ∙ ap status_of (c.fight.ensures.ended.0.failed f);
+      lost = λ e. c.fight.ensures.ended.0.lost (failed_at _ _ c.status_of.ensures e);
       status = at_most _ _ c.status_of.ensures;
     }
 
