@@ -62,8 +62,12 @@ def part_of(number, parts, count, report):
 
 
 def report_in(path):
-    """Returns the lines of a report by their first words, and of the lines `rank` a list."""
-    lines = [line.split(" ", 1) for line in path.read_text().splitlines()]
+    """Returns the lines of a report by their first words, and of the lines `rank` a list. A report
+    whose last line has no end is a ValueError."""
+    text = path.read_text()
+    if text and not text.endswith("\n"):
+        raise ValueError("the report was cut")
+    lines = [line.split(" ", 1) for line in text.splitlines()]
     ranks = [rank_in(rest) for word, rest in lines if word == "rank"]
     report = dict(line for line in lines if line[0] != "rank")
     return report | {"ranks": ranks} if ranks else report

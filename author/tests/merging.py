@@ -108,6 +108,11 @@ def damaged(place):
             2, "", "error: CERT.2.inputs is of another certificate\n"),
             place.spread("--merge=3", *DECOY))
     place.write("CERT.2", cert)
+    report = place.read("CERT.2.report")
+    place.write("CERT.2.report", report[:report.rindex(b" of ")])
+    yield compare("a report that is cut", (3, "", "failed: no result of 1 of 3 parts: 2\n"),
+                  place.spread("--merge=3", *DECOY))
+    place.write("CERT.2.report", report)
     place.write("CERT.2.inputs", "a text\n")
     yield compare("a CERT.2.inputs that is damaged", (
         2, "", "error: CERT.2.inputs is malformed\n"), place.spread("--merge=3", *DECOY))
