@@ -2,8 +2,8 @@
 python3 -m gate.documents [PROGRAM]
 
 An indented block that begins with `$ ` holds commands, each with its output; a line `..` of it
-matches any lines. Prints what failed, and as its last line `N passed, N failed`. The exit status is
-1 if a command printed something else.
+matches any lines. Also looks in each document for the lines of a merge that nobody has settled.
+Prints what failed, and as its last line `N passed, N failed`. The exit status is 1 if anything did.
 """
 import os, pathlib, re, shutil, subprocess, sys, tempfile
 
@@ -79,7 +79,14 @@ def typed(program, document, folder):
         yield f"{document.name}: its commands", [f"ended after {len(outputs) - 1}"]
 
 
+def left_by_merge(text):
+    """Returns the lines that a merge with conflicts leaves where nobody has settled it."""
+    return re.findall(r"(?m)^(?:<{7}|={7}|>{7})(?: .*)?$", text)
+
+
 def trials(program):
+    for document in DOCUMENTS:
+        yield f"{document.name}: no unsettled merge", left_by_merge(document.read_text("utf-8"))
     with tempfile.TemporaryDirectory() as name:
         folder = pathlib.Path(name)
         shutil.copytree(ROOT / "examples", folder / "examples")
