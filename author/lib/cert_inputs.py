@@ -25,7 +25,7 @@ class CertInputs:
     """Which inputs a certificate is for."""
 
     def __init__(self, text):
-        lines = [line.split(" ", 1) for line in text.splitlines()]
+        lines = [line.split(" ", 1) for line in lines_of(text)]
         said = dict(lines)
         self.rules = Rules(*map(int, said["rules"].split()))
         self.part, self.method = said["part"], said["method"]
@@ -38,6 +38,12 @@ class CertInputs:
     def path(self, file):
         """Returns where a file was at the tuning."""
         return os.path.join(self.folder, file.name)
+
+
+def lines_of(text):
+    """Returns the lines of the file. A name goes to the line feed, so it may have a CR or any other
+    byte at which `splitlines` would split."""
+    return os.fsdecode(text).removesuffix("\n").split("\n")
 
 
 def listed(text):
@@ -60,7 +66,7 @@ def read(cert):
     """Returns which inputs a certificate is for, or a text that says why that is not known."""
     name = name_of(cert)
     try:
-        found = CertInputs(pathlib.Path(name).read_text(errors="surrogateescape"))
+        found = CertInputs(pathlib.Path(name).read_bytes())
     except FileNotFoundError:
         return f"{name} is not there"
     except (KeyError, ValueError, TypeError):
