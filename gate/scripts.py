@@ -4,7 +4,7 @@
 Prints what failed, and as its last line `N passed, N failed`. The exit status is 1 if a script
 ended otherwise.
 """
-import itertools, os, pathlib, subprocess, sys
+import itertools, os, pathlib, signal, subprocess, sys, time
 
 from author.lib.endings import run_tool
 from author.lib.program import program_of
@@ -68,6 +68,19 @@ def ranges(program):
             yield compare(f"certify.py: {line}", REFUSED, run(words, place.folder))
 
 
+def interrupted(program):
+    """Interrupts certify.py while a stand-in for the program assembles."""
+    with in_folder(program, FILES | {"slow": "#!/bin/sh\ntouch begun\nexec sleep 99\n"}) as place:
+        (place.folder / "slow").chmod(0o755)
+        job = subprocess.Popen([*CERTIFY, "./slow", "imps.red", "both.csv", *OPPONENTS],
+                               cwd=place.folder, stdout=subprocess.PIPE, stderr=subprocess.PIPE)
+        while not (place.folder / "begun").exists() and job.poll() is None:
+            time.sleep(0.01)
+        job.send_signal(signal.SIGINT)
+        out, err = job.communicate()
+        yield compare("Ctrl-C in certify.py", (130, b"", b""), (job.returncode, out, err))
+
+
 def searches(program):
     """Has certify.py search in the order of `tune`: certificate and report have to be the same."""
     for template, cache in itertools.product(TEMPLATES, [1, 8]):
@@ -105,7 +118,7 @@ def shares(program):
                           run(words, place.folder, **job))
 
 
-GROUPS = [programs, ranges, searches, checks, shares]
+GROUPS = [programs, ranges, interrupted, searches, checks, shares]
 
 
 def main():

@@ -9,7 +9,7 @@ The floor of a part is the best of the totals that are known when it begins, wit
 best of them, or one more if the setting with this total comes before the part. If none of its
 settings reaches its floor, its report and its certificate say so.
 """
-import pathlib, subprocess
+import contextlib, pathlib, re, subprocess
 from typing import NamedTuple
 
 from .endings import Fault
@@ -18,8 +18,11 @@ from .spread_folder import Folder, copies_of, hash_of
 from .spread_jobs import end_with_parent
 from .tuning_files import MOST_BYTES, Template
 
-# The first words of the lines of a report, without those of the ranking.
-LINES = {"vectors", "candidates", "best", "constants", "total", "fights"}
+RANK = r"rank \d+ setting (\d+) total (\d+)(?: (.+))?\n"
+REPORT = re.compile(
+    r"vectors \d+\ncandidates \d+\n"
+    r"(?:best \d+\nconstants .+\ntotal \d+|best -\nconstants -\ntotal below \d+) of \d+\n"
+    rf"fights \d+ of \d+\n(?:{RANK})*")
 
 
 class Part(NamedTuple):
@@ -62,21 +65,14 @@ def part_of(number, parts, count, report):
 
 
 def report_in(path):
-    """Returns the lines of a report by their first words, and of the lines `rank` a list. A report
-    whose last line has no end is a ValueError."""
+    """Returns the lines of a report by their first words, and of the lines `rank` a list. Raises a
+    ValueError if it is not a report, or was cut."""
     text = path.read_text()
-    if text and not text.endswith("\n"):
-        raise ValueError("the report was cut")
-    lines = [line.split(" ", 1) for line in text.splitlines()]
-    ranks = [rank_in(rest) for word, rest in lines if word == "rank"]
-    report = dict(line for line in lines if line[0] != "rank")
+    if not REPORT.fullmatch(text):
+        raise ValueError
+    report = dict(line.split(" ", 1) for line in text.splitlines() if not line.startswith("rank "))
+    ranks = [(v, total, constants or "-") for v, total, constants in re.findall(RANK, text)]
     return report | {"ranks": ranks} if ranks else report
-
-
-def rank_in(text):
-    """Returns setting, total and constants of a line `rank`, without its first word."""
-    _, _, setting, _, total, *constants = text.split(" ")
-    return setting, total, " ".join(constants) or "-"
 
 
 def part_with(start, parts, count):
@@ -104,12 +100,11 @@ class Jobs:
         """Returns what came of a part, or None if it has no result."""
         try:
             fault = pathlib.Path(f"{self.told}.{number}.fault").read_text(errors="replace")
-            report = report_in(pathlib.Path(f"{self.told}.{number}.report"))
+            path = pathlib.Path(f"{self.told}.{number}.report")
+            report = report_in(path) if path.stat().st_size else {}
         except (FileNotFoundError, ValueError):
             return None
-        if report and not LINES <= report.keys():
-            return None
-        is_done = fault == "" if report else fault == NO_CANDIDATE
+        is_done = fault == ("" if report else NO_CANDIDATE)
         return part_of(number, self.pieces, self.count, report) if is_done else None
 
     def whole(self):
@@ -161,7 +156,9 @@ class Parts(Folder):
         asm = ["asm", *rules, "--setting", "start", "t.red"]
         tune = ["tune", *rules, f"{name}.red", "s.csv", f"{name}.cert", *self.opponents]
         if self.run(asm, f"{name}.red") == 0 and self.run(tune, f"{name}.report") == 0:
-            self.totals[start] = part_of(1, 1, 1, report_in(self.path / f"{name}.report")).total()
+            with contextlib.suppress(ValueError):
+                report = report_in(self.path / f"{name}.report")
+                self.totals[start] = part_of(1, 1, 1, report).total()
         self.remove(self.UNFINISHED)
 
     def run(self, words, to):
@@ -204,7 +201,10 @@ class Parts(Folder):
         fault = self.file(number, "fault").read_text(errors="surrogateescape")
         report, cert = {}, None
         if status == 0:
-            report = report_in(self.file(number, "report"))
+            try:
+                report = report_in(self.file(number, "report"))
+            except ValueError:
+                return "failed: its report is cut, or not a report\n"
             cert = hash_of(self.file(number, "cert"))
             self.file(number, "cert.inputs").unlink(missing_ok=True)
             self.file(number, "cert").replace(self.cert(number))

@@ -162,7 +162,8 @@ def make_parser():
                         help="the first position, as of cwtune-series [default: 4321, in a small "
                         "core less]")
     parser.add_argument("--exact", type=number_from(1, MOST_SETTINGS), default=1000, metavar="N",
-                        help="the most settings of which all are tuned [default: 1000]")
+                        help="tune all settings of a template with at most N; of a larger one climb "
+                        "first, and tune a box [default: 1000]")
     parser.add_argument("--box", type=number_from(1), default=2, metavar="N",
                         help="values on both sides of what the climb finds; 1 if the box would "
                         "have more than --exact settings [default: 2]")
