@@ -11,6 +11,7 @@ from author.lib.program import program_of
 
 from . import inputs
 from .inputs import RULES
+from .pipes import take_interrupts
 from .play import in_folder
 from .tally import compare, tally
 
@@ -73,7 +74,8 @@ def interrupted(program):
     with in_folder(program, FILES | {"slow": "#!/bin/sh\ntouch begun\nexec sleep 99\n"}) as place:
         (place.folder / "slow").chmod(0o755)
         job = subprocess.Popen([*CERTIFY, "./slow", "imps.red", "both.csv", *OPPONENTS],
-                               cwd=place.folder, stdout=subprocess.PIPE, stderr=subprocess.PIPE)
+                               cwd=place.folder, stdout=subprocess.PIPE, stderr=subprocess.PIPE,
+                               preexec_fn=take_interrupts)
         while not (place.folder / "begun").exists() and job.poll() is None:
             time.sleep(0.01)
         job.send_signal(signal.SIGINT)

@@ -7,11 +7,10 @@ A reader believes it only if the certificate has the digest that it names.
 import hashlib, os, pathlib
 from typing import NamedTuple
 
-from .endings import Fault
+from .endings import Fault, say
 from .program import HILLS, Rules, fill_rules
 
 KINDS = ["template", "schedule", "opponent"]
-SO = ", so files and rules cannot be compared with the tuning's\n"
 
 
 class Listed(NamedTuple):
@@ -76,7 +75,7 @@ def read(cert):
 
 def settle(asked):
     """Fills in the rules and the files that the words of a command leave out, and refuses those
-    that are not of the tuning. Returns a note for standard error, or an empty text.
+    that are not of the tuning. Returns why what is of the tuning is not known, or an empty text.
 
     Words that a command does not have, or that no file is found for, are left alone.
     """
@@ -85,7 +84,7 @@ def settle(asked):
         fill_rules(asked, HILLS[asked.hill])
     if isinstance(found, str):
         fill_rules(asked, Rules())
-        return f"note: {found}{SO}"
+        return found
     fill_rules(asked, found.rules)
     refuse_rules(asked, found.rules)
     for kind in KINDS[:2]:
@@ -96,9 +95,10 @@ def settle(asked):
     return ""
 
 
-def why_of(note):
-    """Returns why the files of the tuning are not known, taken from the note of `settle`."""
-    return note.removeprefix("note: ").removesuffix(SO)
+def print_note(unknown):
+    """Says on standard error what follows from what `settle` returned, if that is not empty."""
+    if unknown:
+        say("note", f"{unknown}, so files and rules cannot be compared with the tuning's", 0)
 
 
 def refuse_others(asked, cert, part, method):

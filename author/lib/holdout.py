@@ -13,7 +13,7 @@ give them.
 
 Example: cwtune-holdout my.red my.cert
 """
-import math, pathlib, random, sys, tempfile
+import math, pathlib, random, tempfile
 from typing import NamedTuple
 
 from . import cert_inputs, tuning_files
@@ -136,22 +136,22 @@ def make_parser():
 
 
 def read_words():
+    """Returns the words of the command, and why what is of the tuning is not known."""
     parser = make_parser()
     asked = parser.parse_intermixed_args()
-    asked.note = cert_inputs.settle(asked)
+    unknown = cert_inputs.settle(asked)
     if not asked.opponents:
-        why = cert_inputs.why_of(asked.note) or "the opponents of the tuning are not there"
-        parser.error(f"give OPPONENT..: {why}")
+        parser.error(f"give OPPONENT..: {unknown or 'the opponents of the tuning are not there'}")
     if asked.rounds * len(asked.opponents) > MOST_FIGHTS:
         parser.error(f"the opponents times --rounds are more than {MOST_FIGHTS} fights")
     rules = rules_of(asked)
     if rules.distance > rules.core - rules.distance:
         parser.error("--distance is more than half of --core")
-    return asked
+    return asked, unknown
 
 
 def main():
-    asked = read_words()
+    asked, unknown = read_words()
     found = tuning_files.Certificate(asked.cert)
     template = tuning_files.Template(asked.template).of(found)
     fights = found.fights(asked.schedule)
@@ -181,4 +181,4 @@ def main():
     if dropped:
         said = tuning_files.said_of_places(exact, asked.top)
         print(f"{dropped} settings were dropped: of the ranking {said}")
-    sys.stderr.write(asked.note)
+    cert_inputs.print_note(unknown)

@@ -5,7 +5,7 @@ give them.
 
 Example: cwtune-scores my.cert
 """
-import concurrent.futures, os, sys
+import concurrent.futures, os
 
 from . import cert_inputs, tuning_files
 from .endings import Fault, number_from, say
@@ -114,10 +114,9 @@ def make_parser():
 def main():
     parser = make_parser()
     asked = parser.parse_intermixed_args()
-    note = cert_inputs.settle(asked)
+    unknown = cert_inputs.settle(asked)
     if asked.schedule is None:
-        why = cert_inputs.why_of(note) or "the schedule of the tuning is not there"
-        parser.error(f"give SCHEDULE: {why}")
+        parser.error(f"give SCHEDULE: {unknown or 'the schedule of the tuning is not there'}")
     found = tuning_files.Certificate(asked.cert)
     fights = found.fights(asked.schedule)
     template = tuning_files.Template(asked.template).of(found) if asked.template else None
@@ -129,4 +128,4 @@ def main():
     print_best(found, fights, template, asked.top)
     if template:
         print_idle(template, Warriors(found, asked))
-    sys.stderr.write(note)
+    cert_inputs.print_note(unknown)

@@ -120,12 +120,12 @@ def main():
     if asked.cert is not None and asked.setting is not None:
         parser.error("give CERT or --setting, and not both")
     template, totals = tuning_files.Template(asked.template), (None, None)
-    asked.schedule, note = None, ""
+    asked.schedule, unknown = None, ""
     if asked.cert is None:
         setting = setting_of(template, asked.setting)
     else:
         found = tuning_files.Certificate(asked.cert)
-        note = cert_inputs.settle(asked)
+        unknown = cert_inputs.settle(asked)
         template.of(found)
         setting = found.best
         totals = found.total, total_of_start(found, template, asked.schedule)
@@ -134,4 +134,4 @@ def main():
     refuse_another(asked.program, rules_of(asked).words(), asked.template, setting, text)
     print_foreign(text)
     sys.stdout.buffer.write(text)
-    sys.stderr.write(note)
+    cert_inputs.print_note(unknown)
