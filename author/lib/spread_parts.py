@@ -91,16 +91,16 @@ class Jobs:
     PIECE = "part"
 
     def __init__(self, args, count):
-        self.told, self.count, self.pieces = args.cert, count, args.merge
+        self.given, self.count, self.pieces = args.cert, count, args.merge
 
     def cert(self, number):
-        return pathlib.Path(f"{self.told}.{number}")
+        return pathlib.Path(f"{self.given}.{number}")
 
     def piece(self, number):
         """Returns what came of a part, or None if it has no result."""
         try:
-            fault = pathlib.Path(f"{self.told}.{number}.fault").read_text(errors="replace")
-            path = pathlib.Path(f"{self.told}.{number}.report")
+            fault = pathlib.Path(f"{self.given}.{number}.fault").read_text(errors="replace")
+            path = pathlib.Path(f"{self.given}.{number}.report")
             report = report_in(path) if path.stat().st_size else {}
         except (FileNotFoundError, ValueError):
             return None
@@ -108,7 +108,7 @@ class Jobs:
         return part_of(number, self.pieces, self.count, report) if is_done else None
 
     def whole(self):
-        return pathlib.Path(f"{self.told}.whole")
+        return pathlib.Path(f"{self.given}.whole")
 
     def end(self):
         """Leaves the files of the jobs where they are."""
@@ -117,7 +117,7 @@ class Jobs:
 class Parts(Folder):
     """The folder CERT.parts."""
 
-    PIECE, INSTEAD = "part", "CERT"
+    PIECE, THROWN, INSTEAD = "part", "the parts", "CERT"
     # What a run that was killed may leave: `tune` writes a certificate to a file beside it, and
     # then CERT.inputs.
     UNFINISHED = r"(\d+|start)\.\d+\.\w+(\.inputs)?(\.unfinished-\d+)?|.*\.\d+\.new"
@@ -137,7 +137,7 @@ class Parts(Folder):
         pieces = min(count, args.parts or 16 * args.jobs)
         super().__init__(args, f"{args.cert}.parts", copies_of(args), settled, (pieces, count))
         if args.parts and min(args.parts, self.count) != self.pieces:
-            raise Fault(f"{self.told} has {self.pieces} parts: leave out --parts, or give --anew "
+            raise Fault(f"{self.given} has {self.pieces} parts: leave out --parts, or give --anew "
                         "to throw them away and begin again", 2)
 
     def in_order(self, todo):
@@ -152,7 +152,7 @@ class Parts(Folder):
 
     def play_start(self, start):
         """Plays the fights of START alone, so that its total is known, if it assembles."""
-        rules, name = rules_of(self.args).words(), f"start.{self.name}"
+        rules, name = rules_of(self.args).words(), f"start.{self.pid}"
         asm = ["asm", *rules, "--setting", "start", "t.red"]
         tune = ["tune", *rules, f"{name}.red", "s.csv", f"{name}.cert", *self.opponents]
         if self.run(asm, f"{name}.red") == 0 and self.run(tune, f"{name}.report") == 0:
@@ -192,7 +192,7 @@ class Parts(Folder):
 
     def words(self, number):
         """Returns the words that tune a part in the folder."""
-        own = f"{number}.{self.name}"
+        own = f"{number}.{self.pid}"
         return ["./cwtune", "tune", f"--part={number}/{self.pieces}", *self.options,
                 *self.floor(number), f"{own}.red", "s.csv", f"{own}.cert", *self.opponents]
 

@@ -149,7 +149,7 @@ def print_end(folder, report):
     else:
         print(f"over START: {gain['percent']:+.1f}% +- {gain['error']:.1f}, {gain['words']}")
     for name in ["winner.red", "report.html"]:
-        print(os.path.join(folder.told, name))
+        print(os.path.join(folder.given, name))
 
 
 def make_parser():
@@ -162,8 +162,8 @@ def make_parser():
                         help="the first position, as of cwtune-series [default: 4321, in a small "
                         "core less]")
     parser.add_argument("--exact", type=number_from(1, MOST_SETTINGS), default=1000, metavar="N",
-                        help="tune all settings of a template with at most N; of a larger one climb "
-                        "first, and tune a box [default: 1000]")
+                        help="tune all settings of a template with at most N; of a larger one "
+                        "climb first, and tune a box [default: 1000]")
     parser.add_argument("--box", type=number_from(1), default=2, metavar="N",
                         help="values on both sides of what the climb finds; 1 if the box would "
                         "have more than --exact settings [default: 2]")
@@ -193,6 +193,6 @@ def main():
     try:
         print_end(study.folder, study.go())
     except KeyboardInterrupt:
-        print(f"stopped: what is done is kept in {study.folder.told}: repeat the command to go on",
+        print(f"stopped: what is done is kept in {study.folder.given}: repeat the command to go on",
               file=sys.stderr)
         raise

@@ -300,7 +300,7 @@ for word in "$@"; do case $word in [0-9]*.cert) sed -i '$d' $word;; esac; done; 
 case $1 in tune) {place.program} "$@" | head -c -5;; *) {place.program} "$@";; esac\n"""
     for name, text, words, end in [
         ("reports that are cut", cut, ["--parts=2"], (
-            3, "", "failed: no result of 2 of 2 parts: 1 2 (failed: its report is cut, or not a "
+            3, "", "failed: no result for parts 1, 2 of 2 (failed: its report is cut, or not a "
             "report)\n0 of 2 parts are done, and kept in CERT.parts: repeat the command to run the "
             "others\n")),
         ("a row too few", short, ["--parts=1"],
