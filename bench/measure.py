@@ -7,6 +7,7 @@ build, plays the fights with it too, after the series of pairs.py. README.md say
 import argparse, math, os, pathlib, subprocess, tempfile, time
 
 from author.lib.endings import Fault, number_from, run_tool
+from author.lib import tuning_files
 from author.lib.program import BUILT, Rules, program_of
 from pmars.games import Game
 
@@ -86,10 +87,10 @@ class Cwtune:
         all its fights in one process and one arena.
         """
         template = f";@tune K 0 {SHORT_SETTINGS - 1} 1 0\n{fight.candidate}DAT.F $K, $0\n"
-        record = f"0,{fight.position},c\n"
         texts = {
             "template.red": template,
-            "schedule.csv": "opponent,position,first\n" + record * SHORT_FIGHTS,
+            "schedule.csv": tuning_files.schedule_text(
+                [tuning_files.Fight(0, fight.position, "c")] * SHORT_FIGHTS),
             "cert.csv": "",
             "opponent.red": fight.opponent,
         }

@@ -27,10 +27,11 @@ a folder is of other inputs; 3 a job has no result, or a file cannot be read or 
 
 Example: cwtune-spread --jobs 4 my.red fights.csv my.cert dwarf.red scanner.red
 """
-import contextlib, os, shutil, signal, sys, time
+import contextlib, os, shutil, sys, time
 
 from . import cert_inputs, spread_parts, spread_shares, tuning_files
-from .endings import Fault, end_as, naming, number_from, whole_file
+from .endings import (Fault, end_as, end_by_kill_as_by_interrupt, naming, number_from,
+                      whole_file)
 from .program import (EXPLAIN, add_program, add_rules, add_words, command_parser, rules_of,
                       run_program)
 from .spread_folder import Folder
@@ -40,7 +41,7 @@ from .spread_progress import PartsProgress, SharesProgress
 from .spread_report import best_of, index_of, ranks_of, report_of, write_whole
 
 NO_SUCH_PART = b"error: --part I/K: the template has fewer than K settings\n"
-MOST, MOST_KEPT = 2 ** 32 - 1, 1000
+MOST = 2 ** 32 - 1
 
 
 def add_jobs(parser):
@@ -65,9 +66,9 @@ def add_jobs(parser):
 def add_search(parser):
     """Adds the options of how a part is tuned."""
     group = parser.add_argument_group("search")
-    group.add_argument("--keep", type=number_from(1, MOST_KEPT), default=1, metavar="K",
-                       help="take the first K of the ranking in place of the best setting, as "
-                       "`--keep` of `cwtune tune` and `cwtune check` [default: 1]")
+    group.add_argument("--keep", type=number_from(1, tuning_files.MOST_KEPT), default=1,
+                       metavar="K", help="take the first K of the ranking in place of the best "
+                       "setting, as `--keep` of `cwtune tune` and `cwtune check` [default: 1]")
     methods = group.add_mutually_exclusive_group()
     methods.add_argument("--all", action="store_true",
                          help="play every fight of every setting, as `cwtune tune --all`")
@@ -344,8 +345,7 @@ def refuse_idle(parser, args):
 
 
 def main():
-    # What `kill` sends ends it as Ctrl-C does.
-    signal.signal(signal.SIGTERM, signal.default_int_handler)
+    end_by_kill_as_by_interrupt()
     parser = make_parser()
     args = parser.parse_args()
     refuse_idle(parser, args)

@@ -13,17 +13,17 @@ Ctrl-C or a crash repeat the command, and it goes on. A folder made of other inp
 
 Example: cwtune-study my.red opponents/ STEP=5:7995:10 GATE=-3500:-500:500
 """
-import json, math, os, pathlib, re, signal, sys
+import json, math, os, pathlib, sys
 
-from . import study_fresh, study_inputs, study_report
-from .endings import number_from
+from . import seek, study_fresh, study_inputs, study_report
+from .endings import Fault, end_by_kill_as_by_interrupt, number_from
 from .grid import Grid
 from .program import Rules, add_program, add_rules, command_parser, rules_of
 from .study_folder import Folder
 from .study_result import report_of
-from .tuning_files import Certificate, MOST_SETTINGS, read_schedule
+from .tuning_files import MOST_FIGHTS, MOST_SETTINGS, Certificate, read_schedule
 
-NUMBER = number_from(1, study_inputs.MOST_FIGHTS)
+NUMBER = number_from(1, MOST_FIGHTS)
 
 
 class Study:
@@ -63,7 +63,7 @@ class Study:
         else:
             folder.write("template.red", inputs.template)
         grid = Grid(folder.path / "template.red")
-        folder.write("start.red", grid.line_through(grid.start, ()))
+        folder.write("start.red", grid.line_through(grid.start_values, ()))
 
     def box(self):
         """Makes box.red. Returns what was sought for it, and the total of START, if that is
@@ -77,9 +77,10 @@ class Study:
         self.folder.run(self.own("cwtune-seek", f"--box={reach}", f"--jobs={self.args.jobs}")
                         + ["template.red", "schedule.csv", *self.opponents], "box.red")
         said = "\n".join(self.folder.log[-1]["said"])
-        start = re.search(r"^start: total (\d+) of", said, re.M)
-        fights = re.search(r"^found: total .*, (\d+) fights in", said, re.M)
-        return {"sought": True, "fights": int(fights[1]), "start": start and int(start[1])}
+        start, found = (line.search(said) for line in (seek.START_LINE, seek.FOUND_LINE))
+        if not found:
+            raise Fault("cwtune-seek did not say what it found", 3)
+        return {"sought": True, "fights": int(found[1]), "start": start and int(start[1])}
 
     def spread(self):
         """Plays every fight of the box, and has the certificate checked."""
@@ -185,8 +186,7 @@ def make_parser():
 
 
 def main():
-    # What `kill` sends ends it as Ctrl-C does.
-    signal.signal(signal.SIGTERM, signal.default_int_handler)
+    end_by_kill_as_by_interrupt()
     parser = make_parser()
     args = parser.parse_intermixed_args()
     study = Study(args, study_inputs.read(parser, args))

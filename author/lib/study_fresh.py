@@ -12,8 +12,7 @@ from . import holdout
 from .endings import end_as
 from .program import rules_of
 from .spread_jobs import Here
-from .study_inputs import MOST_FIGHTS
-from .tuning_files import Certificate
+from .tuning_files import MOST_FIGHTS, Certificate
 
 FIRST = 10
 START = "start"

@@ -122,7 +122,7 @@ def damaged(place):
         ("of one line", rows[0], foreign), ("without a count", b"x\n" + cert, foreign),
         ("binary", b"\xff" + cert, foreign), ("missing", None, missing),
         ("a row too short", b"".join(rows[:-1]),
-         (3, "", "failed: the certificate of part 2 has not 42 settings\n")),
+         (3, "", "failed: the certificate of part 2 has 41 rows, and the part has 42 settings\n")),
     ]:
         write(place, "CERT.2", text)
         yield compare(f"a certificate without CERT.2.inputs that is {name}", (end, None, None), (

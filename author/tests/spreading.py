@@ -304,7 +304,7 @@ case $1 in tune) {place.program} "$@" | head -c -5;; *) {place.program} "$@";; e
             "report)\n0 of 2 parts are done, and kept in CERT.parts: repeat the command to run the "
             "others\n")),
         ("a row too few", short, ["--parts=1"],
-         (3, "", "failed: the certificate of part 1 has not 4 settings\n")),
+         (3, "", "failed: the certificate of part 1 has 3 rows, and the part has 4 settings\n")),
         ("another total", total, ["--check", "--parts=1"], (1, "rejected row 1 BestRow\n",
          "CERT is not written, and the parts stay\n")),
     ]:
