@@ -1,15 +1,15 @@
 """Makes a better warrior of a warrior: schedule, tuning, fresh fights and report, in one folder.
 
 WARRIOR is a template, or an ordinary text with words NAME=LOW:HIGH:STEP, as cwtune-vary takes them.
-An opponent is a file, or a folder whose files *.red are taken by their names. A template of more
-than --exact settings is first climbed in by cwtune-seek, which leaves a box around what it finds:
-outside of the box settings were only sought. All fights of the box are played and the certificate
-is checked, so its ranking is exact. The first ten then play fresh fights, the better half more, and
-so on; the winner is the one with the most points. It and START play other fights for the gain.
+An opponent is a file, or a folder whose files *.red are taken by their names. If the template has
+more than --exact settings, cwtune-seek climbs in it and leaves a box around what it finds; of
+settings outside the box nothing is exact. All fights of the box are played and the certificate is
+checked, so its ranking is exact. The first ten then play fresh fights, the better half more, and so
+on; the winner is the one with the most points. It and START play other fights for the gain.
 
-FOLDER gets each file by its usual name: winner.red, report.html, report.json, the template, the
-schedule, the certificate, and log.txt with the commands, each of which can be typed there. After
-Ctrl-C or a crash repeat the command, and it goes on. A folder made of other inputs is refused.
+FOLDER gets winner.red, report.html, report.json, the template, the schedule, the certificate, and
+log.txt with the commands, each of which can be typed there. After Ctrl-C or a crash repeat the
+command, and it goes on. A folder made of other inputs is refused.
 
 Example: cwtune-study my.red opponents/ STEP=5:7995:10 GATE=-3500:-500:500
 """
@@ -160,8 +160,8 @@ def make_parser():
     parser.add_argument("--rounds", type=NUMBER, default=20, metavar="R",
                         help="fights of the tuning against each opponent [default: 20]")
     parser.add_argument("--seed", type=number_from(1, 65535), metavar="S",
-                        help="the first position, as of cwtune-series [default: 4321, in a small "
-                        "core less]")
+                        help="the first position, as SEED of cwtune-series [default: 4321, or less "
+                        "in a small core]")
     parser.add_argument("--exact", type=number_from(1, MOST_SETTINGS), default=1000, metavar="N",
                         help="tune all settings of a template with at most N; of a larger one "
                         "climb first, and tune a box [default: 1000]")
@@ -169,7 +169,7 @@ def make_parser():
                         help="values on both sides of what the climb finds; 1 if the box would "
                         "have more than --exact settings [default: 2]")
     parser.add_argument("--fresh", type=NUMBER, default=100, metavar="F",
-                        help="fresh fights of a round against each opponent [default: 100]")
+                        help="fresh fights of a heat against each opponent [default: 100]")
     parser.add_argument("--jobs", type=number_from(1), default=os.cpu_count(), metavar="N",
                         help="jobs that run side by side [default: the processors]")
     parser.add_argument("--anew", action="store_true",
