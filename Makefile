@@ -43,7 +43,7 @@ demo: build
 # Measures turns, assemblies and settings per second. PMARS=PATH measures a pMARS server build too,
 # RUNS=N plays each fight N times.
 bench: build
-	@$(PYTHON) bench.measure --bin $(PROGRAM) $(PMARS:%=--pmars %) $(RUNS:%=--runs %)
+	@$(PYTHON) bench.measure --program $(PROGRAM) $(PMARS:%=--pmars %) $(RUNS:%=--runs %)
 
 # Refuses each request for memory of some runs in turn. Fails if a run ends neither with its own
 # result nor with `failed: OutOfMemory`.

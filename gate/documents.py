@@ -1,14 +1,12 @@
-"""Types the commands of README.md and docs/ that are shown with their output, and compares it:
-python3 -m gate.documents [PROGRAM]
+"""Types the commands of README.md and docs/ that are shown with their output, and compares it.
 
 An indented block that begins with `$ ` holds commands, each with its output; a line `..` of it
 matches any lines. Also looks in each document for the lines of a merge that nobody has settled.
-Prints what failed, and as its last line `N passed, N failed`. The exit status is 1 if anything did.
 """
-import os, pathlib, re, shutil, subprocess, sys, tempfile
+import os, pathlib, re, shutil, subprocess, tempfile
 
 from author.lib.endings import run_tool
-from author.lib.program import program_of
+from author.lib.program import program_word
 
 from .tally import tally
 
@@ -99,7 +97,7 @@ def trials(program):
 
 
 def main():
-    return tally(trials(program_of(sys.argv[1:])))
+    return tally(trials(program_word("gate.documents", __doc__)))
 
 
 if __name__ == "__main__":

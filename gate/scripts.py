@@ -1,13 +1,8 @@
-"""Runs the scripts of `examples/`, also with what they have to refuse: python3 -m gate.scripts
-[PROGRAM]
-
-Prints what failed, and as its last line `N passed, N failed`. The exit status is 1 if a script
-ended otherwise.
-"""
+"""Runs the scripts of `examples/`, also with what they have to refuse."""
 import itertools, os, pathlib, signal, subprocess, sys, time
 
 from author.lib.endings import run_tool
-from author.lib.program import program_of
+from author.lib.program import program_word
 
 from . import inputs
 from .inputs import RULES
@@ -124,7 +119,7 @@ GROUPS = [programs, ranges, interrupted, searches, checks, shares]
 
 
 def main():
-    program = program_of(sys.argv[1:])
+    program = program_word("gate.scripts", __doc__)
     return tally(trial for group in GROUPS for trial in group(program))
 
 

@@ -5,7 +5,7 @@
 import os, pathlib, tempfile
 
 from author.lib.program import run_program
-from gate import inputs_file
+from gate import cert_inputs
 from gate.play import Place
 from gate.tally import compare
 
@@ -117,7 +117,7 @@ def writers(program, folder):
     version = run_program(program, "--version").stdout.decode().removeprefix("cwtune ").strip()
     for words in [["--all", *TUNE], TUNE]:
         status = run("cwtune-spread", "--program", program, "--jobs=2", *words, folder=folder)[0]
-        wanted = inputs_file.text_of(["tune", *words], folder, version)
+        wanted = cert_inputs.text_of(["tune", *words], folder, version)
         yield compare(f"cwtune-spread {words[0]}", (0, wanted),
                       (status, place.read("cert.inputs")))
     yield compare("cwtune-spread leaves nothing else", sorted([*FILES, "cert", "cert.inputs"]),

@@ -6,10 +6,10 @@ look at the difference before you keep them. A picture is compared by its words 
 how many grey marks it has. Prints what failed, and as its last line `N passed, N failed`; the exit
 status is 1 if a run failed.
 """
-import argparse, contextlib, os, pathlib, re, shutil, signal, subprocess, sys, tempfile, time
+import contextlib, os, pathlib, re, shutil, signal, subprocess, sys, tempfile, time
 
 from author.lib.endings import Fault, run_tool
-from author.lib.program import program_of
+from author.lib.program import add_built, module_parser, program_of
 from gate.tally import compare, tally
 
 from . import merging, origins, reporting, sharing, spreading, studying, varying, warriors
@@ -304,10 +304,10 @@ def stored(results):
 
 
 def main():
-    parser = argparse.ArgumentParser(description=__doc__.split("\n\n")[0])
+    parser = module_parser("author.tests.run", __doc__)
     parser.add_argument("--plain", action="store_true", help="leave out the pictures")
     parser.add_argument("--store", action="store_true", help="replace the stored results")
-    parser.add_argument("program", nargs="*", metavar="PROGRAM", help="the program cwtune")
+    add_built(parser)
     asked = parser.parse_args()
     program = program_of(asked.program)
     # The commands find it there, if none is built here.
