@@ -115,6 +115,9 @@ def trials():
     done = subprocess.run([sys.executable, ROOT / "crates/mars_core/classes.py", "--check"],
                           capture_output=True, text=True)
     yield compare("the tables of classes", (0, ""), (done.returncode, done.stdout + done.stderr))
+    done = subprocess.run(["sh", ROOT / "pmars/pmars.sh", "--help"], capture_output=True, text=True)
+    yield compare("pmars.sh takes no options", (2, "use: pmars/pmars.sh [FOLDER]\n"), (
+        done.returncode, done.stderr))
     for command, modules in REFUSED.items():
         for module in modules:
             said = f"error: no program none (`{command}` builds one)\n"

@@ -15,7 +15,7 @@ from author.lib.endings import number_from, run_tool
 from author.lib.program import Rules, add_program, module_parser, program_of, run_program
 
 from .games import LONGEST, Game, fights_of, run
-from .known import FIGHTS, TEXTS
+from .known import FIGHTS, RULES, TEXTS, WAITS
 from .random_warriors import Text, random_load
 
 ROOT = pathlib.Path(__file__).resolve().parent.parent
@@ -169,28 +169,28 @@ def compare_texts(programs, dice, count, progress):
 def show_fights(programs):
     """Plays the fights that are known to differ. Returns how many came otherwise than is known."""
     wrong = 0
-    for name, rules, warriors, position, *known in FIGHTS:
-        game = programs.game(rules, *warriors)
-        came = (game.points(programs.cwtune, [(position, "c")])[0],
-                game.round_points(programs.pmars, position, "c"))
-        wrong += is_other(name, known, came)
+    for known in FIGHTS:
+        game = programs.game(RULES, known.warrior, WAITS)
+        came = (game.points(programs.cwtune, [(known.position, "c")])[0],
+                game.round_points(programs.pmars, known.position, "c"))
+        wrong += is_other(known, came)
     return wrong
 
 
 def show_texts(programs):
     """Assembles the texts that are known to differ. Returns how many came otherwise."""
     wrong = 0
-    for name, text, *known in TEXTS:
-        wrong += is_other(name, known, (programs.assemble(text), programs.listing(text)))
+    for known in TEXTS:
+        wrong += is_other(known, (programs.assemble(known.text), programs.listing(known.text)))
     return wrong
 
 
-def is_other(name, known, came):
+def is_other(known, came):
     """Returns whether the results of the programs are other than known, and prints them if so."""
-    if came == tuple(known):
+    if came == (known.cwtune, known.pmars):
         return False
-    mine, theirs = known
-    print(f"known: {name}: expected {mine!r} by cwtune and {theirs!r} by pMARS, came {came!r}")
+    print(f"known: {known.name}: expected {known.cwtune!r} by cwtune and {known.pmars!r} by pMARS, "
+          f"came {came!r}")
     return True
 
 
