@@ -245,7 +245,7 @@ def shown(folder):
     names, and what was wrong."""
     yield compare("cwtune-files below.cert", "below.cert: certificate, version 1, of 2 settings: "
                   "none reaches the floor 4\n", said("cwtune-files", "below.cert", folder=folder))
-    yield compare("cwtune-files of one setting", "plain.cert: certificate, version 1, of 1 setting: "
+    yield compare("cwtune-files plain.cert", "plain.cert: certificate, version 1, of 1 setting: "
                   "best 0 total 3\n", said("cwtune-files", "plain.cert", folder=folder))
     for name, words, said_of in [
         ("one.cert", [], ["only the first of the ranking is exact; cwtune tune --keep 10 makes the "
