@@ -5,11 +5,10 @@ PROGRAM = crates/cwtune/out/cwtune
 PREFIX = /usr/local
 PYTHON = python3 -m
 
-# Lists the targets.
+# Lists the targets, each with the first sentence of the comment above it.
 help:
-	@echo 'to use it:     look demo dist deb install uninstall'
-	@echo 'to change it:  test cases prove build tools memory bench compare pmars'
-	@echo 'The comment above each target in Makefile says what it does.'
+	@awk '/^# /{s = s substr($$0, 2)} /^[a-z]+:/{sub(/:.*/, ""); sub(/\. .*/, ".", s); \
+	    printf "%-10s%s\n", $$0, s} !/^#/{s = ""}' Makefile
 
 # Tunes the example template with a quick build that is not proved: a first look, within two
 # minutes.
@@ -43,7 +42,7 @@ demo: build
 # Measures turns, assemblies and settings per second. PMARS=PATH measures a pMARS server build too,
 # RUNS=N plays each fight N times.
 bench: build
-	@$(PYTHON) bench.measure --bin $(PROGRAM) $(PMARS:%=--pmars %) $(RUNS:%=--runs %)
+	@$(PYTHON) bench.measure --program $(PROGRAM) $(PMARS:%=--pmars %) $(RUNS:%=--runs %)
 
 # Refuses each request for memory of some runs in turn. Fails if a run ends neither with its own
 # result nor with `failed: OutOfMemory`.

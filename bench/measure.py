@@ -4,10 +4,11 @@ Plays each fight of fights/, the same fights cut short, assembles each text of w
 the templates of examples/tuning/, several times; the least time counts. Given a pMARS server
 build, plays the fights with it too, after the series of pairs.py. README.md says what is measured.
 """
-import argparse, math, os, pathlib, subprocess, tempfile, time
+import math, os, pathlib, subprocess, tempfile, time
 
+from author.lib import tuning_files
 from author.lib.endings import Fault, number_from, run_tool
-from author.lib.program import BUILT, Rules, program_of
+from author.lib.program import Rules, add_program, module_parser, program_of
 from pmars.games import Game
 
 from .pairs import means, print_pairs, processor_time
@@ -86,10 +87,10 @@ class Cwtune:
         all its fights in one process and one arena.
         """
         template = f";@tune K 0 {SHORT_SETTINGS - 1} 1 0\n{fight.candidate}DAT.F $K, $0\n"
-        record = f"0,{fight.position},c\n"
         texts = {
             "template.red": template,
-            "schedule.csv": "opponent,position,first\n" + record * SHORT_FIGHTS,
+            "schedule.csv": tuning_files.schedule_text(
+                [tuning_files.Fight(0, fight.position, "c")] * SHORT_FIGHTS),
             "cert.csv": "",
             "opponent.red": fight.opponent,
         }
@@ -282,9 +283,8 @@ def print_fights(players, fights, runs):
 
 
 def make_parser():
-    parser = argparse.ArgumentParser(description=__doc__.splitlines()[0])
-    parser.add_argument("--bin", default=str(BUILT), metavar="PATH",
-                        help="the program [default: the one built here]")
+    parser = module_parser("bench.measure", __doc__)
+    add_program(parser)
     parser.add_argument("--pmars", metavar="PATH", help="a pMARS server build to compare with")
     for name, least, number, what in COUNTS:
         parser.add_argument(f"--{name}", type=number_from(least), default=number, metavar="N",
@@ -294,8 +294,8 @@ def make_parser():
 
 def main():
     asked = make_parser().parse_args()
-    pmars = asked.pmars and program_of([asked.pmars], "make pmars")
-    program = program_of([asked.bin])
+    pmars = asked.pmars and program_of(asked.pmars, "make pmars")
+    program = program_of(asked.program)
     # The processors of a shared machine differ by a third and more, and the two programs would not
     # be given the same ones.
     os.sched_setaffinity(0, {min(os.sched_getaffinity(0))})

@@ -8,7 +8,7 @@ from author.lib.endings import Fault
 from author.lib.program import Rules
 from pmars.games import Game, fights_of
 
-from . import wide
+from . import plain_machine
 
 HERE = pathlib.Path(__file__).resolve().parent
 # In each folder, each warrior fights each other one.
@@ -24,7 +24,7 @@ class Pair:
     """Two warriors, each a name and a load file, and the commands that play their series.
 
     `best` has the least seconds of each program, `points` the candidate's points, `ties` how many
-    fights are ties, and `outside` the share of the turns of the first fight whose instruction has
+    fights are ties, and `unclassed` the share of the turns of the first fight whose instruction has
     no class of its own.
     """
 
@@ -38,12 +38,13 @@ class Pair:
         self.fights = min(MOST, max(FEWEST, int(FEWEST * FULL / max(seconds, 1e-3))))
         self.tune = game.tune_words(cwtune, fights_of(game.rules, SEED, self.fights))
         self.pmars = game.series_words(pmars, SEED, self.fights)
-        fight = wide.Fight(game.rules, (my_load, their_load), SEED)
+        fight = plain_machine.Fight(game.rules, (my_load, their_load), SEED)
         fight.play()
-        self.outside = fight.outside()
+        self.unclassed = fight.unclassed()
         _, came = processor_time(game.fight_words(cwtune, SEED, "c"))
         if came != fight.result():
-            raise Fault(f"{self.name}: cwtune has {came!r}, wide.py {fight.result()!r}", 3)
+            raise Fault(f"{self.name}: cwtune has {came!r}, plain_machine.py {fight.result()!r}",
+                        3)
 
     def play_tune(self):
         """Returns the seconds of the series by `cwtune tune`, and the candidate's points."""
@@ -91,13 +92,13 @@ def loads_of(cwtune, folder):
     return [(path.stem, processor_time([str(cwtune), "asm", str(path)])[1]) for path in paths]
 
 
-def measured(warriors, programs, runs):
-    """Plays all pairs in turn, `runs` times, so that a slow minute spoils one run of each."""
-    with tempfile.TemporaryDirectory() as folder:
-        pairs = [Pair(*both, programs, folder) for both in itertools.combinations(warriors, 2)]
-        for _ in range(runs):
-            for pair in pairs:
-                pair.play()
+def play_in_turn(pairs, runs):
+    """Plays all pairs in turn, `runs` times, so that a slow minute spoils one run of each. Returns
+    them in a list."""
+    pairs = list(pairs)
+    for _ in range(runs):
+        for pair in pairs:
+            pair.play()
     return pairs
 
 
@@ -109,13 +110,16 @@ def means(ratios):
 
 def print_folder(name, cwtune, pmars, runs):
     """Prints a line per pair of warriors of a folder, the geometric mean and the least ratio."""
-    heads = f"{'fights':>8}{'points':>8}{'wide':>8}{'ms':>10}{'pMARS ms':>10}{'ratio':>8}"
+    heads = f"{'fights':>8}{'points':>8}{'unclassed':>10}{'ms':>10}{'pMARS ms':>10}{'ratio':>8}"
     print(f"{name:<32}{heads}", flush=True)
-    ratios = []
-    for pair in measured(loads_of(cwtune, FOLDERS[name]), (cwtune, pmars), runs):
+    ratios, both = [], itertools.combinations(loads_of(cwtune, FOLDERS[name]), 2)
+    with tempfile.TemporaryDirectory() as folder:
+        made = (Pair(*warriors, (cwtune, pmars), folder) for warriors in both)
+        pairs = play_in_turn(made, runs)
+    for pair in pairs:
         mine, theirs = pair.best
         ratios.append(theirs / mine)
-        line = f"{pair.name:<32}{pair.fights:>8}{pair.points:>8}{pair.outside:>8.0%}"
+        line = f"{pair.name:<32}{pair.fights:>8}{pair.points:>8}{pair.unclassed:>10.0%}"
         line += f"{mine * 1e3:>10.1f}{theirs * 1e3:>10.1f}"
         print(f"{line}{ratios[-1]:>8.2f}", flush=True)
     print(f"the same points in {len(ratios)} series")

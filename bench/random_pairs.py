@@ -1,22 +1,19 @@
-"""Measures pairs of random warriors beside pMARS: how fast fights are whose instructions nobody
-chose a class for.
-
-    python3 -m bench.random_pairs --pmars PATH [--bin PATH] [--pairs N] [--runs N] [--seed S]
+"""Measures pairs of random warriors, which were not used to choose a class, beside pMARS.
 
 Takes pairs whose first fight lasts 2000 turns or more, and plays series of them as measure.py does.
 A line for each pair says its fights, how many of them are ties, the share of the turns of the first
-fight whose instruction has no class of its own (`wide`), the milliseconds of the program and of
-pMARS, and their ratio. The last lines have the geometric mean of the ratios and the least, of all
-pairs and of those without a tie: the program cuts ties short, and pMARS does not.
+fight whose instruction has no class of its own (`unclassed`), the milliseconds of the program and
+of pMARS, and their ratio. The last lines have the geometric mean of the ratios and the least, of
+all pairs and of those without a tie: the program cuts ties short, and pMARS does not.
 """
-import argparse, random, tempfile
+import random, tempfile
 
 from author.lib.endings import number_from, run_tool
-from author.lib.program import BUILT, Rules, program_of
+from author.lib.program import Rules, add_program, module_parser, program_of
 from pmars.games import Game
 from pmars.random_warriors import random_load
 
-from .pairs import SEED, Pair, means, processor_time
+from .pairs import SEED, Pair, means, play_in_turn, processor_time
 
 SHORTEST = 2000
 
@@ -39,16 +36,6 @@ def pairs_of(asked, programs, folder):
             yield Pair(*zip(names, loads), programs, folder)
 
 
-def measured(asked, programs):
-    """Plays the series of all pairs in turn, so that a slow minute spoils one run of each."""
-    with tempfile.TemporaryDirectory() as folder:
-        pairs = list(pairs_of(asked, programs, folder))
-        for _ in range(asked.runs):
-            for pair in pairs:
-                pair.play()
-    return pairs
-
-
 def print_ratios(title, pairs):
     """Prints the geometric mean of the ratios of some pairs, and the least."""
     ratios = [theirs / mine for mine, theirs in (pair.best for pair in pairs)]
@@ -57,9 +44,8 @@ def print_ratios(title, pairs):
 
 
 def make_parser():
-    parser = argparse.ArgumentParser(description=__doc__,
-                                     formatter_class=argparse.RawDescriptionHelpFormatter)
-    parser.add_argument("--bin", default=str(BUILT), metavar="PATH", help="the program")
+    parser = module_parser("bench.random_pairs", __doc__)
+    add_program(parser)
     parser.add_argument("--pmars", required=True, metavar="PATH", help="a pMARS server build")
     parser.add_argument("--pairs", type=number_from(1), default=100, metavar="N",
                         help="pairs [default: 100]")
@@ -72,12 +58,15 @@ def make_parser():
 
 def main():
     asked = make_parser().parse_args()
-    pmars = program_of([asked.pmars], "make pmars")
-    pairs = measured(asked, (program_of([asked.bin]), pmars))
-    print(f"{'pair':<12}{'fights':>7}{'ties':>7}{'wide':>6}{'ms':>9}{'pMARS ms':>9}{'ratio':>7}")
+    pmars = program_of(asked.pmars, "make pmars")
+    programs = program_of(asked.program), pmars
+    with tempfile.TemporaryDirectory() as folder:
+        pairs = play_in_turn(pairs_of(asked, programs, folder), asked.runs)
+    print(f"{'pair':<12}{'fights':>7}{'ties':>7}{'unclassed':>10}{'ms':>9}{'pMARS ms':>9}"
+          f"{'ratio':>7}")
     for pair in pairs:
         mine, theirs = pair.best
-        print(f"{pair.name:<12}{pair.fights:>7}{pair.ties:>7}{pair.outside:>6.0%}"
+        print(f"{pair.name:<12}{pair.fights:>7}{pair.ties:>7}{pair.unclassed:>10.0%}"
               f"{mine * 1e3:>9.1f}{theirs * 1e3:>9.1f}{theirs / mine:>7.2f}")
     print_ratios("all", pairs)
     print_ratios("without a tie", [pair for pair in pairs if pair.ties == 0])

@@ -1,4 +1,4 @@
-"""Counts fights and seconds of searches of a template: python3 -m bench.searches TEMPLATE..
+"""Counts fights and seconds of searches of a template.
 
 Each template is tuned against the eight warriors of `examples/warriors/`, with a schedule of
 `cwtune-series`: by `cwtune tune` for the best setting, for the first of the ranking and with every
@@ -8,7 +8,7 @@ The exit status is 3 if a search fails, or if two find different settings.
 import argparse, pathlib, subprocess, sys, tempfile, time
 
 from author.lib.endings import Fault, number_from, run_tool
-from author.lib.program import BUILT, program_of
+from author.lib.program import add_program, module_parser, program_of
 
 ROOT = pathlib.Path(__file__).resolve().parent.parent
 AUTHOR, WARRIORS = ROOT / "author", sorted((ROOT / "examples/warriors").glob("*.red"))
@@ -69,8 +69,8 @@ def compare(asked, template, folder):
 
 
 def main():
-    parser = argparse.ArgumentParser(description=__doc__.partition("\n")[0])
-    parser.add_argument("--program", default=BUILT, help="the program cwtune")
+    parser = module_parser("bench.searches", __doc__)
+    add_program(parser)
     parser.add_argument("--rounds", type=number_from(1), default=20, metavar="R",
                         help="fights against each warrior [default: 20]")
     parser.add_argument("--keep", type=number_from(2, 1000), default=10, metavar="K",
@@ -81,7 +81,7 @@ def main():
                         help=f"some of {', '.join(KINDS)} [default: each of them]")
     parser.add_argument("templates", nargs="+", type=pathlib.Path, metavar="TEMPLATE")
     asked = parser.parse_args()
-    asked.program = program_of([asked.program])
+    asked.program = program_of(asked.program)
     with tempfile.TemporaryDirectory() as name:
         folder = pathlib.Path(name)
         series = [sys.executable, AUTHOR / "cwtune-series", SEED, str(asked.rounds),

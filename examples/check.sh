@@ -9,6 +9,8 @@
 here=$(dirname "$0")
 # shellcheck source=examples/program.sh
 . "$here/program.sh"
+# shellcheck source=examples/opponents.sh
+. "$here/opponents.sh"
 wrong=0
 
 work=$(mktemp -d) || exit 1
@@ -16,8 +18,10 @@ trap 'rm -rf "$work"' EXIT
 
 template=$here/tuning/stone.red
 schedule=$here/tuning/schedule.csv
-set -- "$here/warriors/dwarf.red" "$here/warriors/imp-ring.red" "$here/warriors/scanner.red" \
-    "$here/warriors/replicator.red" "$here/warriors/core-clear.red"
+set --
+for name in $opponents; do
+    set -- "$@" "$here/warriors/$name"
+done
 
 # Checks a certificate and compares the line and the status: one NAME CERT LINE STATUS OPPONENT..
 one() {

@@ -5,21 +5,23 @@
 # Use: examples/look.sh
 
 here=$(cd "$(dirname "$0")" && pwd)
+# shellcheck source=examples/opponents.sh
+. "$here/opponents.sh"
 cycles=100
 note="not proved: a quick build for a first look; \`make demo\` proves the program and builds it"
 
 echo "$note"
 echo "building, and tuning examples/tuning/stone.red in fights of $cycles cycles .."
 cd "$here/../crates/cwtune" || exit 1
-set --
-for file in tuning/stone.red tuning/schedule.csv warriors/dwarf.red warriors/imp-ring.red \
-    warriors/scanner.red warriors/replicator.red warriors/core-clear.red; do
-    set -- "$@" --data "$(basename "$file")=$here/$file"
+set -- --data "stone.red=$here/tuning/stone.red" --data "schedule.csv=$here/tuning/schedule.csv"
+for name in $opponents; do
+    set -- "$@" --data "$name=$here/warriors/$name"
 done
 log=$(mktemp) || exit 1
 trap 'rm -f "$log"' EXIT
-rt try --seconds 100 "$@" -- tune --cycles "$cycles" stone.red schedule.csv stone.cert \
-    dwarf.red imp-ring.red scanner.red replicator.red core-clear.red >"$log" 2>&1
+# shellcheck disable=SC2086
+rt try --seconds 100 "$@" -- tune --cycles "$cycles" stone.red schedule.csv stone.cert $opponents \
+    >"$log" 2>&1
 status=$?
 grep -E '^(vectors|candidates|best|constants|total|fights) ' "$log"
 if [ "$status" -ne 0 ]; then

@@ -7,14 +7,18 @@
 here=$(dirname "$0")
 # shellcheck source=examples/program.sh
 . "$here/program.sh"
+# shellcheck source=examples/opponents.sh
+. "$here/opponents.sh"
 wrong=0
 
 work=$(mktemp -d) || exit 1
 trap 'rm -rf "$work"' EXIT
 
 tuning=$here/tuning
-set -- "$here/warriors/dwarf.red" "$here/warriors/imp-ring.red" "$here/warriors/scanner.red" \
-    "$here/warriors/replicator.red" "$here/warriors/core-clear.red"
+set --
+for name in $opponents; do
+    set -- "$@" "$here/warriors/$name"
+done
 
 # Tunes a template and compares the report: one TEMPLATE SCHEDULE REPORT OPPONENT..
 one() {

@@ -1,4 +1,7 @@
-"""What `make test` runs beside `rt ci`. At the top: `python3 -m gate.NAME`.
+"""What `make test` runs beside `rt ci`. At the top: `python3 -m gate.NAME`, with `--help` for more.
+
+Each module prints what failed, and as its last line `N passed, N failed`. Its exit status is 1 if
+something failed, or if nothing was tried.
 
 gate             runs all of it, on a copy of the tree
 edits            wrong bodies (crates/*/must-fail/) that the prover has to refuse, and for each
@@ -9,7 +12,8 @@ pipes            pipes, closed streams, links, kills
 terminals        progress, and what a terminal is told
 cuts             texts that end after each of their bytes
 shares           damaged certificates, checked at once and in shares
-inputs_trials    the file CERT.inputs
+cert_inputs_trials
+                 the file CERT.inputs
 ranking_trials   searches for the first of the ranking and with a floor
 scripts          the scripts of examples/
 runners          the modules of all rooms: their help, and programs that do not exist or fail
@@ -22,7 +26,7 @@ refuse.two_devices
 
 `author.tests.run` and `release.try_release` try the commands for authors and the release.
 Their libraries: `play` starts the program in a folder, `inputs` has the files that runs share
-(inputs.toml), `tally` counts, `functions` is of `edits`, `inputs_file` of `inputs_trials` and
+(inputs.toml), `tally` counts, `functions` is of `edits`, `cert_inputs` of `cert_inputs_trials` and
 `play`, `ranking_model` of `ranking_trials`, and `refuse.runs` and `refuse.once_each` are of
 `refuse`. `prove.sh` is `make prove`.
 """

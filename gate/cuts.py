@@ -1,15 +1,13 @@
-"""Cuts texts after each of their bytes and runs the program on each cut: python3 -m gate.cuts
-[PROGRAM]
+"""Cuts texts after each of their bytes and runs the program on each cut.
 
 Each beginning of a Redcode text, of a fight text with its two load files, and of a certificate has
 to be answered as a rule of this file says, which follows from `docs/FORMATS.md` and
-`docs/REDCODE.md`: with its result, or with a fault and its line. Prints what failed, and as its
-last line `N passed, N failed`. The exit status is 1 if a cut was answered otherwise.
+`docs/REDCODE.md`: with its result, or with a fault and its line.
 """
-import concurrent.futures, os, sys
+import concurrent.futures, os
 
 from author.lib.endings import run_tool
-from author.lib.program import program_of
+from author.lib.program import program_word
 
 from . import inputs
 from .inputs import FILES, RULES
@@ -141,7 +139,7 @@ def try_cert(program, text):
 
 
 def main():
-    program = program_of(sys.argv[1:])
+    program = program_word("gate.cuts", __doc__)
     cuts = [(f"{trial.__name__} of {length} bytes", trial, text[:length])
             for trial, text in [(try_dwarf, DWARF), (try_fight, FIGHT), (try_cert, CERT)]
             for length in range(len(text) + 1)]

@@ -1,16 +1,16 @@
-"""Types the commands of README.md and docs/ that are shown with their output, and compares it:
-python3 -m gate.documents [PROGRAM]
+"""Types the commands of README.md and docs/ that are shown with their output, and compares it.
 
 An indented block that begins with `$ ` holds commands, each with its output; a line `..` of it
-matches any lines. Also looks in each document for the lines of a merge that nobody has settled.
-Prints what failed, and as its last line `N passed, N failed`. The exit status is 1 if anything did.
+matches any lines. Also assembles the texts that REDCODE.md shows in tables, and looks in each
+document for the lines of a merge that nobody has settled.
 """
-import os, pathlib, re, shutil, subprocess, sys, tempfile
+import os, pathlib, re, shutil, subprocess, tempfile
 
 from author.lib.endings import run_tool
-from author.lib.program import program_of
+from author.lib.program import program_word
 
-from .tally import tally
+from .play import end, play
+from .tally import compare, tally
 
 ROOT = pathlib.Path(__file__).resolve().parent.parent
 # All documents share a folder: USING.md goes on with the files of README.md, which comes first.
@@ -79,6 +79,35 @@ def typed(program, document, folder):
         yield f"{document.name}: its commands", [f"ended after {len(outputs) - 1}"]
 
 
+def cells_of(text, head):
+    """Yields the cells of each row of a table."""
+    for row in text.partition(f"\n{head}\n")[2].split("\n")[1:]:
+        if not row.startswith("| "):
+            return
+        yield row[2:-2].replace("\\|", "|").split(" | ")
+
+
+def lines_in(cell):
+    """Returns the text whose lines a cell shows."""
+    return "".join(f"{line}\n" for line in re.findall("`([^`]*)`", cell))
+
+
+def assembled(program):
+    """Assembles the texts that REDCODE.md shows with a load file or a fault. Yields each with what
+    was wrong."""
+    text = (ROOT / "docs/REDCODE.md").read_text("utf-8")
+    good = [(source, end(0, lines_in(load)))
+            for source, load, _ in cells_of(text, "| Text | Load file | Why |")]
+    bad = []
+    for source, said in cells_of(text, "| Text | Fault |"):
+        fault, line = re.match(r"`(.*?)`(?: at line (\d+))?", said).groups("1")
+        bad.append((source, end(1, err=f"refused: Asm line {line} {fault}\n")))
+    yield "texts in REDCODE.md", [] if good and bad else ["none was found"]
+    for source, wanted in good + bad:
+        yield compare(f"REDCODE.md: {source}", wanted,
+                      play(program, ["asm", "x.red"], {"x.red": lines_in(source)}))
+
+
 def left_by_merge(text):
     """Returns the lines that a merge with conflicts leaves where nobody has settled it."""
     return re.findall(r"(?m)^(?:<{7}|={7}|>{7})(?: .*)?$", text)
@@ -87,6 +116,7 @@ def left_by_merge(text):
 def trials(program):
     for document in DOCUMENTS:
         yield f"{document.name}: no unsettled merge", left_by_merge(document.read_text("utf-8"))
+    yield from assembled(program)
     with tempfile.TemporaryDirectory() as name:
         folder = pathlib.Path(name)
         shutil.copytree(ROOT / "examples", folder / "examples")
@@ -99,7 +129,7 @@ def trials(program):
 
 
 def main():
-    return tally(trials(program_of(sys.argv[1:])))
+    return tally(trials(program_word("gate.documents", __doc__)))
 
 
 if __name__ == "__main__":

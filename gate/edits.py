@@ -19,12 +19,12 @@ function. Each round has the crate's edit in gate/harmless/, too, which must not
 
 The libraries under the crates must be built. A round that was judged as it should be is kept in
 ~/.cache by a checksum of all that the verdict depends on, and not tried again without --anew.
-Prints what is wrong, and as its last line `N passed, N failed`.
 """
-import argparse, concurrent.futures, hashlib, importlib.util, os, pathlib, re, shutil, subprocess
+import concurrent.futures, hashlib, importlib.util, os, pathlib, re, shutil, subprocess
 import sys, tempfile
 
 from author.lib.endings import Fault, number_from, run_tool
+from author.lib.program import module_parser
 
 from .functions import functions_of
 
@@ -318,13 +318,14 @@ def lanes():
 
 
 def words():
-    parser = argparse.ArgumentParser(description=__doc__.partition("\n")[0])
-    parser.add_argument("crates", nargs="*", metavar="CRATE", help="default: every crate")
+    parser = module_parser("gate.edits", __doc__)
+    parser.add_argument("crates", nargs="*", metavar="CRATE",
+                        help="whose edits are tried [default: every crate]")
     parser.add_argument("--anew", action="store_true", help="try what was judged before, too")
     parser.add_argument("--control", action="store_true",
                         help="check each round without its edits, too")
     parser.add_argument("--jobs", type=number_from(1), default=lanes(), metavar="N",
-                        help="checks side by side (default: by processors and memory)")
+                        help="checks side by side [default: by processors and memory]")
     parser.add_argument("--logs", metavar="FOLDER", help="write what each check says there")
     parser.add_argument("--names", action="store_true",
                         help="name the edits that only a proof file refused")

@@ -2,21 +2,21 @@
 
 First `rt ci` proves and tests every crate, without the edits in must-fail/, which it would try one
 by one. Then edits.py judges the edits over the libraries that `rt ci` built, and the other modules
-try the program. Each step ends with a line `N passed, N failed`, and the last line sums them up.
-The exit status is 1 if anything failed; if `rt ci` failed, nothing else is run.
+try the program. The last line sums the steps up. If `rt ci` fails, nothing else is run.
 """
-import argparse, os, pathlib, re, resource, shutil, subprocess, sys, tempfile, time
+import os, pathlib, re, resource, shutil, subprocess, sys, tempfile, time
 
 from author.lib.endings import run_tool
+from author.lib.program import module_parser
 
 ROOT = pathlib.Path(__file__).resolve().parent.parent
 EDITS = "gate.edits"
 STEPS = [EDITS, "gate.loop_place", "author.tests.run --plain", "gate.documents",
-         "gate.play_cases", "gate.pipes", "gate.terminals", "gate.inputs_trials", "gate.cuts",
-         "gate.shares", "gate.ranking_trials", "gate.scripts", "gate.runners",
+         "gate.play_cases", "gate.pipes", "gate.terminals", "gate.cert_inputs_trials",
+         "gate.cuts", "gate.shares", "gate.ranking_trials", "gate.scripts", "gate.runners",
          "release.try_release", "gate.refuse.two_devices", "gate.refuse.memory",
          "gate.refuse.writes", "gate.refuse.growth"]
-# Ends a step, and all that it has started, after an hour; it says where it was. The edits of cwtune
+# Ends a step and its children after an hour, with a traceback of where it was. The edits of cwtune
 # are the longest: a round of twenty, in one check on one processor.
 WATCHED = ["timeout", "--signal=ABRT", "--kill-after=5", "3600", sys.executable, "-X",
            "faulthandler"]
@@ -53,7 +53,7 @@ def minutes(seconds):
 
 
 def main():
-    parser = argparse.ArgumentParser(description=__doc__.partition("\n")[0])
+    parser = module_parser("gate.gate", __doc__)
     parser.add_argument("--anew", action="store_true", help="prove and try again what earlier "
                         "runs on this machine passed (only with a kit whose `rt ci` has --anew)")
     anew = ["--anew"] if parser.parse_args().anew else []

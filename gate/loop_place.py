@@ -1,15 +1,14 @@
-"""Looks where the hot loop lies in the program: python3 -m gate.loop_place [PROGRAM]
+"""Looks where the hot loop lies in the program.
 
 Each copy of it has to begin at a multiple of 32 bytes, in a program of the kit that was used when
 the place was set; other kits have other code before it. docs/HOT_LOOP.md says why, and how it is
-moved. Prints which copies begin elsewhere, and as its last line `N passed, N failed`. The exit
-status is 1 if a copy does, or if there is no copy. Without that kit on the PATH no place is judged,
-and none is counted.
+moved. Fails if a copy begins elsewhere, or if there is no copy. Without that kit on the PATH no
+place is judged, and none is counted.
 """
-import pathlib, struct, subprocess, sys
+import pathlib, struct, subprocess
 
 from author.lib.endings import run_tool
-from author.lib.program import program_of
+from author.lib.program import program_word
 
 from .tally import tally
 
@@ -47,7 +46,7 @@ def trials(places):
 
 
 def main():
-    program = program_of(sys.argv[1:])
+    program = program_word("gate.loop_place", __doc__)
     places = [address for name, address in symbols(program) if LOOP in name]
     if not places or KIT in version_text().split():
         return tally(trials(places))

@@ -1,18 +1,16 @@
-"""Runs the program on pipes, closed streams and links, and kills it: python3 -m gate.pipes
-[PROGRAM]
+"""Runs the program on pipes, closed streams and links, and kills it.
 
 A reader that goes away ends a run with status 3 and the line `failed: Write`. A standard input that
 cannot be read, is a terminal or never ends leads to a fault or a result, in bounded time; a file
 above 1 GiB is refused. A word that is not UTF-8 is a usage error. A run that is killed, or that
 exceeds the size that it may write, leaves an older certificate as it was. CERT may be a link, and
 keeps its permissions; a new one has those that the umask leaves. Expected values follow from
-`docs/COMMANDS.md`. Prints what failed, and as its last line `N passed, N failed`. The exit status
-is 1 if a trial failed.
+`docs/COMMANDS.md`.
 """
-import os, pathlib, pty, resource, shutil, signal, subprocess, sys, tempfile, threading, time
+import os, pathlib, pty, resource, shutil, signal, subprocess, tempfile, threading, time
 
 from author.lib.endings import run_tool
-from author.lib.program import program_of
+from author.lib.program import program_word
 
 from . import inputs
 from .inputs import RULES
@@ -330,7 +328,7 @@ def trials(program):
 
 
 def main():
-    return tally(compare(*trial) for trial in trials(program_of(sys.argv[1:])))
+    return tally(compare(*trial) for trial in trials(program_word("gate.pipes", __doc__)))
 
 
 if __name__ == "__main__":

@@ -2,7 +2,7 @@
 import contextlib, os, pathlib, pty, subprocess, tempfile
 from typing import NamedTuple
 
-from . import inputs_file
+from . import cert_inputs
 
 SECONDS = 60
 # Of a longer file the size is compared, and not the text.
@@ -81,9 +81,9 @@ class Place:
 
     def is_right_inputs(self, name, text):
         """Returns whether a file is a right CERT.inputs, beside a certificate."""
-        cert = self.folder / name.removesuffix(inputs_file.SUFFIX)
-        return (name.endswith(inputs_file.SUFFIX) and text is not None and cert.is_file()
-                and inputs_file.is_right(text, cert.read_bytes(), self.folder))
+        cert = self.folder / name.removesuffix(cert_inputs.SUFFIX)
+        return (name.endswith(cert_inputs.SUFFIX) and text is not None and cert.is_file()
+                and cert_inputs.is_right(text, cert.read_bytes(), self.folder))
 
     def texts(self):
         """Returns the texts of the regular files in the folder by their names."""

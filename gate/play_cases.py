@@ -1,15 +1,11 @@
-"""Plays cases of input and output: python3 -m gate.play_cases [PROGRAM [CASES..]]
+"""Plays cases of input and output.
 
-CASES are files such as `gate/cases/asm.toml`; without any, all files of `gate/cases/` are played.
-gate/cases/README.md says what a case has.
-
-Prints what failed, and as its last line `N passed, N failed`. The exit status is 1 if a case failed
-or there is none. A case that says anything else, or no `status`, is refused.
+gate/cases/README.md says what a case has. One that says anything else, or no `status`, is refused.
 """
-import concurrent.futures, os, pathlib, re, shlex, string, sys, tempfile, tomllib
+import concurrent.futures, os, pathlib, re, shlex, string, tempfile, tomllib
 
 from author.lib.endings import Fault, naming, run_tool
-from author.lib.program import program_of
+from author.lib.program import add_built, module_parser, program_of
 
 from . import inputs
 from .play import Place, end
@@ -35,8 +31,13 @@ PROGRESS = rb"(?m)^\d+% .*\n"
 def check_keys(table, kinds, needed, where):
     """Refuses a table of which a key is not as it has to be."""
     for key in sorted({*needed, *table}):
-        if type(table.get(key)) is not kinds.get(key):
-            raise Fault(f"{where}: `{key}` is missing or unknown, or its value is of another type")
+        if key not in table:
+            raise Fault(f"{where}: no key `{key}`")
+        if kinds.get(key) is None:
+            raise Fault(f"{where}: unknown key `{key}`")
+        if type(table[key]) is not kinds[key]:
+            raise Fault(f"{where}: `{key}` is of type {type(table[key]).__name__}, not "
+                        f"{kinds[key].__name__}")
 
 
 def variants(case, key):
@@ -217,9 +218,13 @@ def differences(program, case):
 
 
 def main():
-    program = program_of(sys.argv[1:])
-    folder = pathlib.Path(__file__).resolve().parent / "cases"
-    paths = [pathlib.Path(name) for name in sys.argv[2:]] or sorted(folder.glob("*.toml"))
+    parser = module_parser("gate.play_cases", __doc__)
+    add_built(parser)
+    parser.add_argument("cases", nargs="*", type=pathlib.Path, metavar="CASES",
+                        help="files such as gate/cases/asm.toml [default: all of gate/cases/]")
+    asked = parser.parse_args()
+    program, folder = program_of(asked.program), pathlib.Path(__file__).resolve().parent / "cases"
+    paths = asked.cases or sorted(folder.glob("*.toml"))
     cases = [case for path in paths for case in read_cases(path)]
     with concurrent.futures.ThreadPoolExecutor(os.cpu_count()) as pool:
         played = pool.map(lambda case: differences(program, case), cases)

@@ -1,15 +1,14 @@
 """Tunes random small templates for the first of the ranking and with floors, and compares with a
-model what the program writes: python3 -m gate.ranking_trials [PROGRAM]
+model what the program writes.
 
 Reports and certificates have to be the bytes that `ranking_model.py` makes of the points of all
 fights. Checks have to accept the certificates, in shares too, and to reject one in which a row of
-the ranking has lost its last fight. Prints what failed, and as its last line `N passed, N failed`.
-The exit status is 1 if a template failed.
+the ranking has lost its last fight.
 """
-import concurrent.futures, itertools, os, random, sys
+import concurrent.futures, itertools, os, random
 
 from author.lib.endings import run_tool
-from author.lib.program import program_of
+from author.lib.program import program_word
 from author.lib.tuning_files import Certificate, Template, read_schedule
 
 from .play import in_folder
@@ -308,7 +307,7 @@ def trials(program):
 
 
 def main():
-    return tally(trials(program_of(sys.argv[1:])))
+    return tally(trials(program_word("gate.ranking_trials", __doc__)))
 
 
 if __name__ == "__main__":

@@ -1,16 +1,14 @@
 """Asks the modules for help, runs them with a program that does not exist or always fails, and
-looks whether `classes.py` has something to write: python3 -m gate.runners
+looks whether `classes.py` has something to write.
 
 Each module that can be run has to be in a list here, and each of `gate` in those of gate.gate and
 of gate/__init__.py.
-
-Prints what failed, and as its last line `N passed, N failed`. The exit status is 1 if something
-else than help, or than a line that says what is wrong, was printed, or if a list lacks a module.
 """
 import itertools, pathlib, re, subprocess, sys, tempfile
 
 import gate
 from author.lib.endings import Fault, run_tool
+from author.lib.program import module_parser
 from pmars.compare import Programs
 
 from .gate import STEPS
@@ -20,23 +18,26 @@ ROOT = pathlib.Path(__file__).resolve().parent.parent
 ROOMS = ["author", "bench", "gate", "pmars", "release"]
 # The end of a module that can be run.
 MAIN = '\nif __name__ == "__main__":\n'
-HELPED = ["gate.gate", "gate.edits", "pmars.compare", "release.dist", "release.manual",
-          "release.try_release", "author.tests.run", "bench.measure", "bench.random_pairs",
-          "bench.searches"]
-# The modules that take a program as their last word, by the command that builds it.
+# The modules that are only asked for help.
+HELPED = ["gate.gate", "gate.edits", "gate.runners", "release.dist", "release.manual"]
+# The others, which take a program as their last word, by the command that builds it.
 REFUSED = {
     "make build": ["author.tests.run", "gate.play_cases", "gate.cuts", "gate.pipes",
                    "gate.terminals", "gate.documents", "gate.loop_place", "gate.ranking_trials",
-                   "gate.scripts", "gate.shares", "gate.inputs_trials", "gate.refuse.memory",
-                   "gate.refuse.writes", "gate.refuse.two_devices", "release.try_release",
-                   "bench.measure --bin", "bench.searches none --program"],
+                   "gate.scripts", "gate.shares", "gate.cert_inputs_trials",
+                   "gate.refuse.memory", "gate.refuse.writes", "gate.refuse.two_devices",
+                   "release.try_release", "bench.measure --program",
+                   "bench.searches none --program"],
     "make pmars": ["pmars.compare", "bench.measure --pmars", "bench.random_pairs --pmars"],
     "rt test": ["gate.refuse.growth"],
 }
 FAILING = "/bin/false"
-# The words of a case that is refused, and what is said of it.
-CASES = {"asm $smal dat.red": "no words for `$smal`\n",
-         "asm 'dat.red": "`words`: No closing quotation\n"}
+# What a case says that is refused, and what is said of it.
+CASES = {'words = "asm $smal dat.red"\nstatus = 0': "no words for `$smal`\n",
+         'words = "asm \'dat.red"\nstatus = 0': "`words`: No closing quotation\n",
+         'words = "asm dat.red"': "no key `status`\n",
+         'words = "asm dat.red"\nstatus = 0\nstate = 1': "unknown key `state`\n",
+         'words = "asm dat.red"\nstatus = "0"': "`status` is of type str, not int\n"}
 
 
 def run(*words):
@@ -54,16 +55,16 @@ def failing():
     said = "failed: stone.red: a search ended with status 1\n"
     yield compare(" ".join(words), (3, "", said), run(*words))
     yield "a listing of pMARS that is refused", refused_listing()
-    for words, said in CASES.items():
-        yield compare(f"a case with the words {words}", (1, "", said), played(words))
+    for text, said in CASES.items():
+        yield compare(f"a case with {text!r}", (1, "", said), played(text))
 
 
-def played(words):
-    """Plays a case with these words. Returns how that ends; the name of the case's file is left
-    out of what is said."""
+def played(text):
+    """Plays a case of which a text says all but the name. Returns how that ends; the name of the
+    case's file is left out of what is said."""
     with tempfile.TemporaryDirectory() as folder:
         path = pathlib.Path(folder, "a.toml")
-        path.write_text(f'[[case]]\nname = "it"\nwords = "{words}"\nstatus = 0\n')
+        path.write_text(f'[[case]]\nname = "it"\n{text}\n')
         status, out, err = run("gate.play_cases", FAILING, path)
         return status, out, err.replace(f"refused: {path}: it: ", "")
 
@@ -86,9 +87,9 @@ def modules_of(rooms, text=""):
 
 def listed():
     """Compares the lists of modules with the files that are there."""
-    run_anywhere, run_in_gate = modules_of(ROOMS, MAIN), modules_of(["gate"], MAIN)
+    run_in_gate = modules_of(["gate"], MAIN)
     here = {words.split()[0] for words in itertools.chain(HELPED, *REFUSED.values())}
-    yield same("gate.runners", run_anywhere - {"gate.runners"}, here)
+    yield same("gate.runners", modules_of(ROOMS, MAIN), here)
     steps = {words.split()[0] for words in STEPS if words.startswith("gate.")}
     yield same("gate.gate", run_in_gate - {"gate.gate"}, steps)
     first = {f"gate.{name}" for name in re.findall("(?m)^([a-z_.]+)(?:  .*)?$", gate.__doc__)}
@@ -105,12 +106,18 @@ def same(name, modules, listed):
 
 def trials():
     yield from listed()
-    for module in HELPED:
+    for module in sorted(modules_of(ROOMS, MAIN)):
         status, out, _ = run(module, "--help")
-        yield f"{module} --help", [] if status == 0 and len(out) > 100 else ["no help"]
+        yield compare(f"{module} --help", (0, f"usage: python3 -m {module}"), (
+            status, out.partition(" [")[0]))
+    yield compare("a word too many", (2, "gate.cuts: error: unrecognized arguments: x\n"), (
+        (came := run("gate.cuts", "none", "x"))[0], came[2].rpartition("python3 -m ")[2]))
     done = subprocess.run([sys.executable, ROOT / "crates/mars_core/classes.py", "--check"],
                           capture_output=True, text=True)
     yield compare("the tables of classes", (0, ""), (done.returncode, done.stdout + done.stderr))
+    done = subprocess.run(["sh", ROOT / "pmars/pmars.sh", "--help"], capture_output=True, text=True)
+    yield compare("pmars.sh takes no options", (2, "use: pmars/pmars.sh [FOLDER]\n"), (
+        done.returncode, done.stderr))
     for command, modules in REFUSED.items():
         for module in modules:
             said = f"error: no program none (`{command}` builds one)\n"
@@ -118,5 +125,10 @@ def trials():
     yield from failing()
 
 
+def main():
+    module_parser("gate.runners", __doc__).parse_args()
+    return tally(trials())
+
+
 if __name__ == "__main__":
-    run_tool(lambda: tally(trials()))
+    run_tool(main)

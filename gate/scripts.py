@@ -1,16 +1,12 @@
-"""Runs the scripts of `examples/`, also with what they have to refuse: python3 -m gate.scripts
-[PROGRAM]
-
-Prints what failed, and as its last line `N passed, N failed`. The exit status is 1 if a script
-ended otherwise.
-"""
-import itertools, os, pathlib, subprocess, sys
+"""Runs the scripts of `examples/`, also with what they have to refuse."""
+import itertools, os, pathlib, signal, subprocess, sys, time
 
 from author.lib.endings import run_tool
-from author.lib.program import program_of
+from author.lib.program import program_word
 
 from . import inputs
 from .inputs import RULES
+from .pipes import take_interrupts
 from .play import in_folder
 from .tally import compare, tally
 
@@ -68,6 +64,20 @@ def ranges(program):
             yield compare(f"certify.py: {line}", REFUSED, run(words, place.folder))
 
 
+def interrupted(program):
+    """Interrupts certify.py while a stand-in for the program assembles."""
+    with in_folder(program, FILES | {"slow": "#!/bin/sh\ntouch begun\nexec sleep 99\n"}) as place:
+        (place.folder / "slow").chmod(0o755)
+        job = subprocess.Popen([*CERTIFY, "./slow", "imps.red", "both.csv", *OPPONENTS],
+                               cwd=place.folder, stdout=subprocess.PIPE, stderr=subprocess.PIPE,
+                               preexec_fn=take_interrupts)
+        while not (place.folder / "begun").exists() and job.poll() is None:
+            time.sleep(0.01)
+        job.send_signal(signal.SIGINT)
+        out, err = job.communicate()
+        yield compare("Ctrl-C in certify.py", (130, b"", b""), (job.returncode, out, err))
+
+
 def searches(program):
     """Has certify.py search in the order of `tune`: certificate and report have to be the same."""
     for template, cache in itertools.product(TEMPLATES, [1, 8]):
@@ -105,11 +115,11 @@ def shares(program):
                           run(words, place.folder, **job))
 
 
-GROUPS = [programs, ranges, searches, checks, shares]
+GROUPS = [programs, ranges, interrupted, searches, checks, shares]
 
 
 def main():
-    program = program_of(sys.argv[1:])
+    program = program_word("gate.scripts", __doc__)
     return tally(trial for group in GROUPS for trial in group(program))
 
 

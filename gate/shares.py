@@ -1,15 +1,13 @@
-"""Checks certificates, whole ones and damaged ones, at once and in shares: python3 -m gate.shares
-[PROGRAM]
+"""Checks certificates, whole ones and damaged ones, at once and in shares.
 
 All shares of one K have to accept a certificate exactly if the whole check does, with its best
 setting and total, and their rejections, put together, have to give its line. Each kind of damage is
-done to each row of the certificates of templates of at most six settings. Prints what failed, and
-as its last line `N passed, N failed`. The exit status is 1 if a trial failed.
+done to each row of the certificates of templates of at most six settings.
 """
-import concurrent.futures, os, sys
+import concurrent.futures, os
 
 from author.lib.endings import run_tool
-from author.lib.program import program_of
+from author.lib.program import program_word
 from author.lib.spread_shares import is_verdict, verdict_of
 
 from . import inputs
@@ -142,7 +140,7 @@ def trials(program):
 
 
 def main():
-    return tally(trials(program_of(sys.argv[1:])))
+    return tally(trials(program_word("gate.shares", __doc__)))
 
 
 if __name__ == "__main__":

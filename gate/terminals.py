@@ -1,16 +1,14 @@
-"""Runs the program at a terminal, for what changes while it runs: python3 -m gate.terminals
-[PROGRAM]
+"""Runs the program at a terminal, for what changes while it runs.
 
 At a terminal a progress line is rewritten, in a pipe --progress prints a line a minute, and if
 standard input is a terminal, the program says what it waits for. What a terminal shows at the end
 of a run is played by `gate/cases/explanations.toml`. Expected values follow from
-`docs/COMMANDS.md`. Prints what failed, and as its last line `N passed, N failed`. The exit status
-is 1 if a trial failed.
+`docs/COMMANDS.md`.
 """
-import os, pty, re, select, sys, tempfile, time
+import os, pty, re, select, tempfile, time
 
 from author.lib.endings import run_tool
-from author.lib.program import program_of
+from author.lib.program import program_word
 
 from . import inputs, pipes
 from .inputs import RULES
@@ -174,7 +172,7 @@ def invitations(place):
 
 
 def main():
-    program = program_of(sys.argv[1:])
+    program = program_word("gate.terminals", __doc__)
     with tempfile.TemporaryDirectory() as folder:
         place = Place(program, folder, FILES)
         return tally(compare(*trial)

@@ -3,19 +3,19 @@
 Warriors are random ones and those of the repository, in series of ten fights: the positions and
 first movers are those of `pmars -F`, and the wins, ties and losses have to be the same. Texts are
 random ones and those of the repository: the instructions and the start have to be those of
-`pmars -r 0`. Then the differences of known.py (docs/PMARS.md) are shown. A fight
-that differs is printed as two warriors, cut as short as they still differ, and two commands. The
-exit status is 1 if something else differs, or if a known difference no longer shows.
+`pmars -r 0`. Then the differences of known.py (docs/PMARS.md) are shown. A fight that differs is
+printed as two warriors, cut as short as they still differ, and two commands. The exit status is 1
+if something else differs, or if a known difference no longer shows.
 
 PMARS is a server build of pMARS 0.9.2; `make pmars` builds one, and prints its path.
 """
-import argparse, itertools, pathlib, random, sys, tempfile, time
+import itertools, pathlib, random, sys, tempfile, time
 
 from author.lib.endings import number_from, run_tool
-from author.lib.program import Rules, add_program, program_of, run_program
+from author.lib.program import Rules, add_program, module_parser, program_of, run_program
 
 from .games import LONGEST, Game, fights_of, run
-from .known import FIGHTS, TEXTS
+from .known import FIGHTS, RULES, TEXTS, WAITS
 from .random_warriors import Text, random_load
 
 ROOT = pathlib.Path(__file__).resolve().parent.parent
@@ -169,49 +169,47 @@ def compare_texts(programs, dice, count, progress):
 def show_fights(programs):
     """Plays the fights that are known to differ. Returns how many came otherwise than is known."""
     wrong = 0
-    for name, rules, warriors, position, *known in FIGHTS:
-        game = programs.game(rules, *warriors)
-        came = (game.points(programs.cwtune, [(position, "c")])[0],
-                game.round_points(programs.pmars, position, "c"))
-        wrong += is_other(name, known, came)
+    for known in FIGHTS:
+        game = programs.game(RULES, known.warrior, WAITS)
+        came = (game.points(programs.cwtune, [(known.position, "c")])[0],
+                game.round_points(programs.pmars, known.position, "c"))
+        wrong += is_other(known, came)
     return wrong
 
 
 def show_texts(programs):
     """Assembles the texts that are known to differ. Returns how many came otherwise."""
     wrong = 0
-    for name, text, *known in TEXTS:
-        wrong += is_other(name, known, (programs.assemble(text), programs.listing(text)))
+    for known in TEXTS:
+        wrong += is_other(known, (programs.assemble(known.text), programs.listing(known.text)))
     return wrong
 
 
-def is_other(name, known, came):
+def is_other(known, came):
     """Returns whether the results of the programs are other than known, and prints them if so."""
-    if came == tuple(known):
+    if came == (known.cwtune, known.pmars):
         return False
-    mine, theirs = known
-    print(f"known: {name}: expected {mine!r} by cwtune and {theirs!r} by pMARS, came {came!r}")
+    print(f"known: {known.name}: expected {known.cwtune!r} by cwtune and {known.pmars!r} by pMARS, "
+          f"came {came!r}")
     return True
 
 
 def main():
-    parser = argparse.ArgumentParser(description=__doc__.partition("\n\n")[0],
-                                     epilog=__doc__.partition("\n\n")[2],
-                                     formatter_class=argparse.RawDescriptionHelpFormatter)
+    parser = module_parser("pmars.compare", __doc__)
     parser.add_argument("--seed", type=number_from(0), default=int(time.time()), metavar="S",
-                        help="the beginning of the random numbers (default: the time)")
+                        help="the beginning of the random numbers [default: the time]")
     parser.add_argument("--fights", type=number_from(1), default=1000, metavar="N",
-                        help="how many fights at least (default: 1000)")
+                        help="how many fights at least [default: 1000]")
     parser.add_argument("--texts", type=number_from(0), default=100, metavar="N",
-                        help="random texts (default: 100)")
+                        help="random texts [default: 100]")
     add_program(parser)
     parser.add_argument("pmars", metavar="PMARS", help="a server build of pMARS 0.9.2, whose path "
                         "`make pmars` prints")
     asked = parser.parse_args()
-    pmars = program_of([asked.pmars], "make pmars")
+    pmars = program_of(asked.pmars, "make pmars")
     dice, progress = random.Random(asked.seed), Progress(asked.fights)
     with tempfile.TemporaryDirectory() as folder:
-        programs = Programs(program_of([asked.program]), pmars, folder)
+        programs = Programs(program_of(asked.program), pmars, folder)
         try:
             wrong = compare_fights(programs, dice, asked.fights, progress)
             wrong += compare_texts(programs, dice, asked.texts, progress)

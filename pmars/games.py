@@ -3,6 +3,7 @@ import pathlib, subprocess
 
 from author.lib.endings import Fault
 from author.lib.series import series
+from author.lib.tuning_files import Fight, schedule_text
 
 LONGEST = 120  # seconds
 
@@ -30,8 +31,7 @@ class Game:
 
     def tune_words(self, program, fights):
         """Returns the command that plays the fights, each a position and a first mover."""
-        records = "".join(f"0,{position},{first}\n" for position, first in fights)
-        schedule = self.write("s.csv", f"opponent,position,first\n{records}")
+        schedule = self.write("s.csv", schedule_text(Fight(0, *fight) for fight in fights))
         cert = self.write("cert", "")
         return [program, "tune", *self.rules.words(), self.template, schedule, cert,
                 self.warriors[1]]

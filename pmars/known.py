@@ -4,19 +4,39 @@ docs/PMARS.md explains these differences, and names others: no listing shows wha
 a text without instructions, and only a build with a display overlooks an assertion after an EQU
 line.
 """
+from typing import NamedTuple
+
 from author.lib.program import Rules
 
 RULES = Rules(80, 100, 8, 12, 12)
 WAITS = "ORG 0\nJMP.B $0, $0\n"
 
-# The difference, the rules, the two warriors, the position of the second, and the points of the
-# first, which moves first: by cwtune, and by pMARS.
+
+class KnownFight(NamedTuple):
+    """A fight of a warrior against `WAITS` at a position, in which the warrior moves first: the
+    points that it makes by each program."""
+
+    name: str
+    warrior: str
+    position: int
+    cwtune: int
+    pmars: int
+
+
+class KnownText(NamedTuple):
+    """A text: what cwtune makes of it, and the load file of what pMARS lists."""
+
+    name: str
+    text: str
+    cwtune: str
+    pmars: str
+
+
 FIGHTS = [
-    ("an immediate B-operand is read after the A-operand", RULES, (
-        "ORG 0\nADD.A {0, #0\nJMZ.A $2, $-1\nJMP.B $0, $0\nDAT.F $0, $0\n", WAITS), 40, 1, 0),
-    ("CMP and SEQ are one opcode", RULES, (
-        "ORG 0\nSEQ.I $3, $4\nJMP.B $0, $0\nDAT.F $0, $0\nCMP.I $1, $1\nSEQ.I $1, $1\n", WAITS),
-     40, 0, 1),
+    KnownFight("an immediate B-operand is read after the A-operand",
+               "ORG 0\nADD.A {0, #0\nJMZ.A $2, $-1\nJMP.B $0, $0\nDAT.F $0, $0\n", 40, 1, 0),
+    KnownFight("CMP and SEQ are one opcode", "ORG 0\nSEQ.I $3, $4\nJMP.B $0, $0\nDAT.F $0, $0\n"
+               "CMP.I $1, $1\nSEQ.I $1, $1\n", 40, 0, 1),
 ]
 
 
@@ -34,8 +54,7 @@ def refused(words):
     return f"refused: Asm {words}\n"
 
 
-# The difference, the text, what cwtune makes of it, and the load file of what pMARS lists.
-TEXTS = [
+TEXTS = [KnownText(*row) for row in [
     ("a - b*c + d", "DAT 0, 5 - 2*3 + 4\n", one("$0, $3"), one("$0, $-5")),
     ("levels of comparisons", "DAT 0, 2 == 1 < 3\n", one("$0, $0"), one("$0, $1")),
     ("DAT with one operand", "DAT 5\n", one("$0, $5"), one("#0, $5")),
@@ -99,4 +118,4 @@ TEXTS = [
     ("PIN", "PIN 5\nDAT 0, 1\n", refused("line 1 UnknownOpcode"), one("$0, $1")),
     ("ROUNDS", "DAT 0, ROUNDS\n", refused("line 1 Value UnknownName"), one("$0, $0")),
     ("an assignment", "DAT 0, a=5\n", refused("line 1 Expand Text BadByte"), one("$0, $5")),
-]
+]]

@@ -5,9 +5,15 @@
 # Use: pmars/pmars.sh [FOLDER]   (default: ~/.cache/cwtune-pmars)
 set -eu
 
+case ${1-} in
+    -*)
+        echo "use: pmars/pmars.sh [FOLDER]" >&2
+        exit 2
+        ;;
+esac
 folder=${1:-${XDG_CACHE_HOME:-$HOME/.cache}/cwtune-pmars}
-mkdir -p "$folder"
-folder=$(cd "$folder" && pwd)
+mkdir -p -- "$folder"
+folder=$(cd -- "$folder" && pwd)
 program=$folder/pmars-server
 if [ ! -x "$program" ]; then
     for needed in gcc dpkg-source; do

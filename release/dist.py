@@ -1,13 +1,12 @@
-"""Packs a proved build of `cwtune` for machines without the kit, installs it, or removes it:
-python3 -m release.dist tar|deb|install|uninstall FOLDER
+"""Packs a proved build of `cwtune` for machines without the kit, installs it, or removes it.
 
 A release has the program and the commands for authors, their manual pages and completions for bash,
 zsh and fish, examples and documents, the licences, what was proved with which kit, and checksums.
 """
-import argparse, gzip, hashlib, io, pathlib, re, shutil, subprocess, tarfile, tempfile
+import gzip, hashlib, io, pathlib, re, shutil, subprocess, tarfile, tempfile
 
 from author.lib.endings import Fault, run_tool, whole_file
-from author.lib.program import BUILT
+from author.lib.program import BUILT, module_parser
 
 from . import manual
 
@@ -216,18 +215,20 @@ def uninstall(prefix):
     return []
 
 
+WORK = {"tar": pack, "deb": debian, "install": install, "uninstall": uninstall}
+
+
 def main():
-    parser = argparse.ArgumentParser(description=__doc__)
-    parser.add_argument("what", choices=["tar", "deb", "install", "uninstall"])
-    parser.add_argument("folder", type=pathlib.Path,
+    parser = module_parser("release.dist", __doc__)
+    parser.add_argument("what", choices=WORK, metavar="|".join(WORK), help="what to do")
+    parser.add_argument("folder", type=pathlib.Path, metavar="FOLDER",
                         help="where the packed files go, or below which cwtune is installed")
     asked = parser.parse_args()
-    work = {"tar": pack, "deb": debian, "install": install, "uninstall": uninstall}[asked.what]
     if asked.what != "uninstall":
         if not BUILT.is_file():
             raise Fault("the program is not built (`make build` builds it)", 2)
         asked.folder.mkdir(parents=True, exist_ok=True)
-    for path in work(asked.folder):
+    for path in WORK[asked.what](asked.folder):
         print(path)
 
 

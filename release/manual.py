@@ -1,15 +1,14 @@
-"""Writes manual pages and completions for bash, zsh and fish into a folder: python3 -m
-release.manual FOLDER [PROGRAM]
+"""Writes manual pages and completions for bash, zsh and fish into a folder.
 
 Those of `cwtune` are made from what `cwtune --help` and `cwtune COMMAND --help` print, and those of
 the commands for authors from their parsers, so they have the commands and options that there are:
 for each name NAME.1, NAME.bash, _NAME (zsh) and NAME.fish.
 """
-import argparse, importlib, pathlib, re
+import importlib, pathlib, re
 from typing import NamedTuple
 
 from author.lib.endings import Fault, run_tool
-from author.lib.program import program_of, run_program
+from author.lib.program import add_built, module_parser, program_of, run_program
 
 NAME = "cwtune"
 AUTHOR = pathlib.Path(__file__).resolve().parents[1] / "author"
@@ -295,14 +294,13 @@ def write(path, folder):
 
 
 def main():
-    parser = argparse.ArgumentParser(description=__doc__.partition("\n\n")[0],
-                                     epilog=__doc__.partition("\n\n")[2])
-    parser.add_argument("folder", metavar="FOLDER")
-    parser.add_argument("program", nargs="?", metavar="PROGRAM", help="the program cwtune")
+    parser = module_parser("release.manual", __doc__)
+    parser.add_argument("folder", type=pathlib.Path, metavar="FOLDER", help="where they go")
+    add_built(parser)
     asked = parser.parse_args()
-    path, folder = program_of([asked.program] if asked.program else []), pathlib.Path(asked.folder)
-    folder.mkdir(parents=True, exist_ok=True)
-    write(path, folder)
+    path = program_of(asked.program)
+    asked.folder.mkdir(parents=True, exist_ok=True)
+    write(path, asked.folder)
 
 
 if __name__ == "__main__":

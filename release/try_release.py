@@ -1,4 +1,4 @@
-"""Tries the release that `dist.py` makes: python3 -m release.try_release [PROGRAM]
+"""Tries the release that `dist.py` makes.
 
 Packs, unpacks, installs and removes it in a temporary folder, and runs the program and the commands
 of each without this checkout: nothing of it is on the PATH. What was proved is not asked for again.
@@ -6,10 +6,10 @@ The manual pages and completions have to name each command and option. Without `
 PATH the Debian package is not judged. Prints what failed, and as its last line `N passed, N
 failed`; the exit status is 1 if a trial failed.
 """
-import argparse, contextlib, hashlib, importlib, pathlib, re, shutil, subprocess, tarfile, tempfile
+import contextlib, hashlib, importlib, pathlib, re, shutil, subprocess, tarfile, tempfile
 
 from author.lib.endings import Fault, run_tool
-from author.lib.program import program_of
+from author.lib.program import program_word
 from gate.tally import compare, tally
 
 from . import dist, manual
@@ -195,9 +195,7 @@ def trials():
 
 
 def main():
-    parser = argparse.ArgumentParser(description=__doc__.partition("\n")[0])
-    parser.add_argument("program", nargs="*", metavar="PROGRAM", help="the program cwtune")
-    dist.BUILT = pathlib.Path(program_of(parser.parse_args().program))
+    dist.BUILT = pathlib.Path(program_word("release.try_release", __doc__))
     dist.proved = lambda: "not asked for in a trial\n"
     return tally(trials())
 

@@ -7,11 +7,10 @@ A reader believes it only if the certificate has the digest that it names.
 import hashlib, os, pathlib
 from typing import NamedTuple
 
-from .endings import Fault
+from .endings import Fault, say
 from .program import HILLS, Rules, fill_rules
 
 KINDS = ["template", "schedule", "opponent"]
-SO = ", so files and rules cannot be compared with the tuning's\n"
 
 
 class Listed(NamedTuple):
@@ -25,7 +24,7 @@ class CertInputs:
     """Which inputs a certificate is for."""
 
     def __init__(self, text):
-        lines = [line.split(" ", 1) for line in text.splitlines()]
+        lines = [line.split(" ", 1) for line in lines_of(text)]
         said = dict(lines)
         self.rules = Rules(*map(int, said["rules"].split()))
         self.part, self.method = said["part"], said["method"]
@@ -38,6 +37,12 @@ class CertInputs:
     def path(self, file):
         """Returns where a file was at the tuning."""
         return os.path.join(self.folder, file.name)
+
+
+def lines_of(text):
+    """Returns the lines of the file. A name goes to the line feed, so it may have a CR or any other
+    byte at which `splitlines` would split."""
+    return os.fsdecode(text).removesuffix("\n").split("\n")
 
 
 def listed(text):
@@ -60,7 +65,7 @@ def read(cert):
     """Returns which inputs a certificate is for, or a text that says why that is not known."""
     name = name_of(cert)
     try:
-        found = CertInputs(pathlib.Path(name).read_text(errors="surrogateescape"))
+        found = CertInputs(pathlib.Path(name).read_bytes())
     except FileNotFoundError:
         return f"{name} is not there"
     except (KeyError, ValueError, TypeError):
@@ -70,7 +75,7 @@ def read(cert):
 
 def settle(asked):
     """Fills in the rules and the files that the words of a command leave out, and refuses those
-    that are not of the tuning. Returns a note for standard error, or an empty text.
+    that are not of the tuning. Returns why what is of the tuning is not known, or an empty text.
 
     Words that a command does not have, or that no file is found for, are left alone.
     """
@@ -79,7 +84,7 @@ def settle(asked):
         fill_rules(asked, HILLS[asked.hill])
     if isinstance(found, str):
         fill_rules(asked, Rules())
-        return f"note: {found}{SO}"
+        return found
     fill_rules(asked, found.rules)
     refuse_rules(asked, found.rules)
     for kind in KINDS[:2]:
@@ -90,9 +95,10 @@ def settle(asked):
     return ""
 
 
-def why_of(note):
-    """Returns why the files of the tuning are not known, taken from the note of `settle`."""
-    return note.removeprefix("note: ").removesuffix(SO)
+def print_note(unknown):
+    """Says on standard error what follows from what `settle` returned, if that is not empty."""
+    if unknown:
+        say("note", f"{unknown}, so files and rules cannot be compared with the tuning's", 0)
 
 
 def refuse_others(asked, cert, part, method):

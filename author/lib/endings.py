@@ -103,6 +103,16 @@ def end_by(number):
     os.kill(os.getpid(), number)
 
 
+def counted(number, noun):
+    """Returns a number with its noun, as `1 setting` and `2 settings`."""
+    return f"{number} {noun}{'s' * (number != 1)}"
+
+
+def end_by_kill_as_by_interrupt():
+    """Lets what `kill` sends end the command as Ctrl-C does."""
+    signal.signal(signal.SIGTERM, signal.default_int_handler)
+
+
 def number_from(low, high=None):
     """Returns a reader of the numbers from `low` to `high` for argparse."""
     limits = f"{low} or more" if high is None else f"{low} to {high}"

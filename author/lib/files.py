@@ -4,6 +4,7 @@ Example: cwtune-files my.red fights.csv my.cert
 """
 import pathlib
 
+from .endings import counted
 from .program import command_parser
 from .tuning_files import Rows, Template, read_schedule
 
@@ -13,16 +14,18 @@ def describe(path):
     first = pathlib.Path(path).read_text("latin-1").split(",", 1)[0].lstrip("\xef\xbb\xbf\"\r\n")
     if first == "opponent":
         fights = read_schedule(path)
-        return f"schedule of {len(fights)} fights, greatest total {fights.greatest}"
+        return f"schedule of {counted(len(fights), 'fight')}, greatest total {fights.greatest}"
     if first == "cwcert":
         found = Rows(path)
         said = (f"none reaches the floor {found.total}" if found.best is None
                 else f"best {found.best} total {found.total}")
-        return f"certificate, version {found.version}, of {len(found.rows)} settings: {said}"
+        settings = counted(len(found.rows), "setting")
+        return f"certificate, version {found.version}, of {settings}: {said}"
     template = Template(path)
     if not template.names:
         return "text without a range line: a template of one setting"
-    return f"template of {len(template.settings)} settings, constants {' '.join(template.names)}"
+    settings = counted(len(template.settings), "setting")
+    return f"template of {settings}, constants {' '.join(template.names)}"
 
 
 def make_parser():

@@ -1,32 +1,36 @@
 """The range lines of a template, which may have more settings than `cwtune` takes."""
-import math, pathlib
+import math, pathlib, re
 
 from .endings import Fault
-from .tuning_files import is_range_line, read_range
+
+BLANKS = b" \t\r"
 
 
 class Grid:
     """The constants of a template, in order, with their values and those of START."""
 
     def __init__(self, path):
-        self.path, self.lines = path, pathlib.Path(path).read_bytes().split(b"\n")
+        self.lines = self.read(path).split(b"\n")
         ranges = [(k, *read_range(path, k + 1, line)) for k, line in enumerate(self.lines)
                   if is_range_line(line)]
-        if not ranges:
-            raise Fault(f"{path}: no range line, which begins `;@tune` at the left margin "
-                        "(cwtune-vary makes a template of a text with EQU lines)")
-        self.places, self.names, self.values, start = zip(*ranges)
-        self.start = tuple(start)
+        self.places, self.names, self.values, start = (
+            [it[field] for it in ranges] for field in range(4))
+        self.start_values = tuple(start)
         if len(set(self.names)) < len(self.names):
             raise Fault(f"{path}: two range lines of one constant")
+
+    def read(self, path):
+        """Returns the text of the template."""
+        return pathlib.Path(path).read_bytes()
 
     def count(self):
         """Returns the number of settings."""
         return math.prod(map(len, self.values))
 
-    def constants(self, setting):
+    def constants_of(self, setting):
         """Returns the values of a setting as the report of `cwtune tune` says them."""
-        return " ".join(f"{name}={value}" for name, value in zip(self.names, setting))
+        pairs = zip(self.names, setting)
+        return " ".join(f"{name}={value}" for name, value in pairs) or "-"
 
     def setting_of(self, constants):
         """Returns the setting of a report's line `constants`."""
@@ -56,3 +60,20 @@ class Grid:
             k = some.index(at)
             boxes.append(some[max(k - reach, 0):k + reach + 1])
         return boxes
+
+
+def is_range_line(line):
+    """Returns whether a line is `;@tune`, then a blank or the end of the line."""
+    return line[:6] == b";@tune" and line[6:7] in (b"", b" ", b"\t", b"\r")
+
+
+def read_range(path, number, line):
+    """Returns the name of a constant, its values, and the one of the start setting."""
+    words = re.split(rb"[ \t\r]+", line[6:].strip(BLANKS))
+    if len(words) == 5 and all(re.fullmatch(rb"-?[0-9]{1,5}", word) for word in words[1:]):
+        low, high, step, start = map(int, words[1:])
+        values = range(low, high + 1, step) if step > 0 else ()
+        if start in values:
+            return words[0].decode("latin-1"), values, start
+    raise Fault(f"{path}: line {number} is not a range line: ;@tune NAME LOW HIGH STEP START, with "
+                "START one of the values")

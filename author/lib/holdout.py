@@ -13,15 +13,14 @@ give them.
 
 Example: cwtune-holdout my.red my.cert
 """
-import math, pathlib, random, sys, tempfile
+import math, pathlib, random, tempfile
 from typing import NamedTuple
 
 from . import cert_inputs, tuning_files
-from .endings import Fault, fault_of, number_from
+from .endings import Fault, counted, fault_of, number_from
 from .program import (EXPLAIN, add_opponents_of_tuning, add_program, add_rules, add_words,
                       command_parser, rules_of, run_program)
-
-MOST_FIGHTS = 10000
+from .series import refuse_distance, refuse_fights
 
 
 class Fresh(NamedTuple):
@@ -61,9 +60,9 @@ def variance(points):
 def schedule_of(asked):
     """Returns the text of a schedule of fresh fights."""
     dice, low = random.Random(asked.seed), asked.distance
-    records = [f"{k},{dice.randint(low, asked.core - low)},{'co'[i % 2]}\n"
-               for k in range(len(asked.opponents)) for i in range(asked.rounds)]
-    return "opponent,position,first\n" + "".join(records)
+    return tuning_files.schedule_text(
+        tuning_files.Fight(k, dice.randint(low, asked.core - low), "co"[i % 2])
+        for k in range(len(asked.opponents)) for i in range(asked.rounds))
 
 
 def shares_of(asked, fights):
@@ -136,22 +135,19 @@ def make_parser():
 
 
 def read_words():
+    """Returns the words of the command, and why what is of the tuning is not known."""
     parser = make_parser()
     asked = parser.parse_intermixed_args()
-    asked.note = cert_inputs.settle(asked)
+    unknown = cert_inputs.settle(asked)
     if not asked.opponents:
-        why = cert_inputs.why_of(asked.note) or "the opponents of the tuning are not there"
-        parser.error(f"give OPPONENT..: {why}")
-    if asked.rounds * len(asked.opponents) > MOST_FIGHTS:
-        parser.error(f"the opponents times --rounds are more than {MOST_FIGHTS} fights")
-    rules = rules_of(asked)
-    if rules.distance > rules.core - rules.distance:
-        parser.error("--distance is more than half of --core")
-    return asked
+        parser.error(f"give OPPONENT..: {unknown or 'the opponents of the tuning are not there'}")
+    refuse_fights(parser, "--rounds", asked.rounds, len(asked.opponents))
+    refuse_distance(parser, rules_of(asked))
+    return asked, unknown
 
 
 def main():
-    asked = read_words()
+    asked, unknown = read_words()
     found = tuning_files.Certificate(asked.cert)
     template = tuning_files.Template(asked.template).of(found)
     fights = found.fights(asked.schedule)
@@ -179,6 +175,8 @@ def main():
                        other, template.constants(start))
             print_gain("START", found.best, best.minus(other))
     if dropped:
-        said = tuning_files.said_of_places(exact, asked.top)
-        print(f"{dropped} settings were dropped: of the ranking {said}")
-    sys.stderr.write(asked.note)
+        verb = "was" if dropped == 1 else "were"
+        so = ", so" if exact < asked.top else ";"
+        print(f"{counted(dropped, 'setting')} {verb} dropped{so} "
+              f"{tuning_files.said_of_places(exact, asked.top)}")
+    cert_inputs.print_note(unknown)

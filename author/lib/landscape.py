@@ -234,7 +234,7 @@ def main():
             parser.error(f"the picture's name has to end with .png or .svg: {picture}")
     template = tuning_files.Template(asked.template)
     found = tuning_files.Certificate(asked.cert)
-    note = cert_inputs.settle(asked)
+    unknown = cert_inputs.settle(asked)
     if not template.of(found).names:
         parser.error("the template has no constants to draw")
     fights = found.fights(asked.schedule)
@@ -249,4 +249,4 @@ def main():
     save(draw_line(plot, table) if alone else draw_maps(plot, table, *places), title, asked.picture)
     if asked.effects:
         save(draw_effects(plot, table), title, asked.effects)
-    sys.stderr.write(note)
+    cert_inputs.print_note(unknown)

@@ -5,10 +5,10 @@ give them.
 
 Example: cwtune-scores my.cert
 """
-import concurrent.futures, os, sys
+import concurrent.futures, os
 
 from . import cert_inputs, tuning_files
-from .endings import Fault, number_from, say
+from .endings import Fault, counted, number_from, say
 from .program import (WORDS, add_program, add_rules, add_words, command_parser, load_of, rules_of)
 
 # With more settings than this none is assembled, to save time.
@@ -43,8 +43,9 @@ def print_start(found, fights, template):
 def print_best(found, fights, template, most):
     """Prints the first settings of the ranking, as far as the certificate shows it."""
     full, dropped, exact = found.ranked(fights)
-    print(f"{len(full)} settings played all fights, {dropped} were dropped" if dropped
-          else f"best of {len(full)} settings")
+    print(f"{counted(len(full), 'setting')} played all fights, {dropped} "
+          f"{'was' if dropped == 1 else 'were'} dropped" if dropped
+          else f"best of {counted(len(full), 'setting')}")
     if dropped:
         print(f"    {tuning_files.said_of_places(exact, most)}")
     for total, v in full[:min(most, exact)]:
@@ -81,7 +82,7 @@ class Warriors:
 def print_idle(template, warriors):
     """Prints for each constant in how many choices of the others all its values make one
     warrior."""
-    print("choices of the other constants in which all values make one warrior")
+    print("for how many choices of the other constants all values of one make the same warrior")
     for place, name in enumerate(template.names):
         groups = {}
         for v, values in enumerate(template.settings):
@@ -114,10 +115,9 @@ def make_parser():
 def main():
     parser = make_parser()
     asked = parser.parse_intermixed_args()
-    note = cert_inputs.settle(asked)
+    unknown = cert_inputs.settle(asked)
     if asked.schedule is None:
-        why = cert_inputs.why_of(note) or "the schedule of the tuning is not there"
-        parser.error(f"give SCHEDULE: {why}")
+        parser.error(f"give SCHEDULE: {unknown or 'the schedule of the tuning is not there'}")
     found = tuning_files.Certificate(asked.cert)
     fights = found.fights(asked.schedule)
     template = tuning_files.Template(asked.template).of(found) if asked.template else None
@@ -129,4 +129,4 @@ def main():
     print_best(found, fights, template, asked.top)
     if template:
         print_idle(template, Warriors(found, asked))
-    sys.stderr.write(note)
+    cert_inputs.print_note(unknown)

@@ -11,17 +11,32 @@ exact `cwtune tune`. Ctrl-C ends it with the best so far.
 
 Example: cwtune-seek my.red fights.csv dwarf.red scanner.red > better.red
 """
-import itertools, math, pathlib, random, signal, sys, tempfile
+import itertools, math, pathlib, random, re, sys, tempfile
+from typing import NamedTuple
 
-from .endings import Fault, end_as, number_from
+from .endings import Fault, counted, end_as, end_by_kill_as_by_interrupt, number_from
 from .grid import Grid
 from .program import (NO_CANDIDATE, add_program, add_rules, add_words, command_parser, rules_of,
                       run_program)
 from .tuning_files import MOST_SETTINGS
 
 
+# What the lines of START and of what was found begin with, as `cwtune-study` reads them: the total
+# of START, if it assembles, and the number of fights.
+START_LINE = re.compile(r"^start: total (\d+) of", re.M)
+FOUND_LINE = re.compile(r"^found: total .*, (\d+) fights in", re.M)
+
+
 class Enough(Exception):
     """The fights of --fights were played."""
+
+
+class Found(NamedTuple):
+    """The best setting of a line, and the fights of its tuning."""
+
+    total: int
+    setting: tuple
+    fights: int
 
 
 class Tunings:
@@ -40,18 +55,18 @@ class Tunings:
         return self.key(setting, free) in self.made
 
     def best(self, setting, free):
-        """Returns total, setting and number of fights of the best one of a line through a setting,
-        or None if none of the line assembles."""
+        """Returns the best setting of a line through a setting, or None if none of the line
+        assembles."""
         key = self.key(setting, free)
         if key not in self.made:
             if self.args.fights and self.fights >= self.args.fights:
                 raise Enough
             self.made[key] = self.tune(self.grid.line_through(setting, free))
-            self.fights += self.made[key][2] if self.made[key] else 0
+            self.fights += self.made[key].fights if self.made[key] else 0
         return self.made[key]
 
     def tune(self, text):
-        """Tunes a template. Returns total, setting and number of fights of its best setting."""
+        """Tunes a template. Returns its best setting, or None if none assembles."""
         (self.folder / "template.red").write_bytes(text)
         done = self.run()
         if done.returncode == 1 and done.stderr.endswith(NO_CANDIDATE.encode()):
@@ -60,8 +75,8 @@ class Tunings:
             end_as(done.returncode, done.stderr)
         report = dict(line.split(" ", 1) for line in done.stdout.decode().splitlines())
         total, _, self.greatest = report["total"].split()
-        return (int(total), self.grid.setting_of(report["constants"]),
-                int(report["fights"].split()[0]))
+        return Found(int(total), self.grid.setting_of(report["constants"]),
+                     int(report["fights"].split()[0]))
 
     def run(self):
         """Runs `cwtune tune`, or `cwtune-spread` if there are several jobs."""
@@ -85,10 +100,10 @@ class Climb:
         """Plays the fights of the first setting, and then tunes one choice of constants after the
         other until none of them gains."""
         alone = self.tunings.best(self.setting, ())
-        self.total = alone and alone[0]
+        self.total = alone and alone.total
         self.first = self.total
         said = f"total {self.total} of {self.tunings.greatest}" if alone else "does not assemble:"
-        print(f"start: {said} {self.grid.constants(self.setting)}", file=sys.stderr, flush=True)
+        print(f"start: {said} {self.grid.constants_of(self.setting)}", file=sys.stderr, flush=True)
         idle = 0
         for free in itertools.cycle(choices):
             if idle == len(choices):
@@ -101,15 +116,14 @@ class Climb:
         best = self.tunings.best(self.setting, free)
         if best is None:
             return False
-        total, setting, fights = best
-        gains = self.total is None or total > self.total
-        gain = f" (+{total - (self.total or 0)})" if gains else ""
+        gains = self.total is None or best.total > self.total
+        gain = f" (+{best.total - (self.total or 0)})" if gains else ""
         if gains:
-            self.setting, self.total = setting, total
+            self.setting, self.total = best.setting, best.total
         names = ",".join(self.grid.names[k] for k in free)
         if gains or not known:
-            print(f"{names}: total {self.total}{gain} {self.grid.constants(self.setting)}, "
-                  f"{0 if known else fights} fights", file=sys.stderr, flush=True)
+            print(f"{names}: total {self.total}{gain} {self.grid.constants_of(self.setting)}, "
+                  f"{0 if known else best.fights} fights", file=sys.stderr, flush=True)
         return gains
 
 
@@ -129,7 +143,7 @@ def choices_of(grid, pairs):
 
 def starts_of(grid, count, seed):
     """Yields START, and then settings drawn from all."""
-    yield grid.start
+    yield grid.start_values
     draw = random.Random(seed)
     for _ in range(count):
         yield tuple(draw.choice(values) for values in grid.values)
@@ -161,9 +175,10 @@ def higher(best, climb):
 def print_end(args, grid, tunings, best, ended):
     """Says what was found, and what is certain of it."""
     free = min(len(grid.names), 2 if args.pairs else 1)
-    print(f"found: total {best.total} of {tunings.greatest} {grid.constants(best.setting)}, "
-          f"{tunings.fights} fights in {len(tunings.made)} tunings{ended}", file=sys.stderr)
-    if best.setting == grid.start:
+    made = counted(len(tunings.made), "tuning")
+    print(f"found: total {best.total} of {tunings.greatest} {grid.constants_of(best.setting)}, "
+          f"{tunings.fights} fights in {made}{ended}", file=sys.stderr)
+    if best.setting == grid.start_values:
         print("note: it is START, so nothing was gained", file=sys.stderr)
     if ended:
         print("note: it is the best setting that was seen, and more may be gained", file=sys.stderr)
@@ -197,7 +212,7 @@ def make_parser():
     parser.add_argument("--seed", type=number_from(0), default=1, metavar="N",
                         help="the seed of the random settings [default: 1]")
     parser.add_argument("--fights", type=number_from(1), metavar="N",
-                        help="stop after the tuning with which N fights are played")
+                        help="end the climb once N fights were played, after the tuning under way")
     parser.add_argument("--box", type=number_from(0), metavar="N",
                         help="cut each range to N values on both sides of what is found")
     parser.add_argument("--jobs", type=number_from(1), default=1, metavar="N",
@@ -209,9 +224,12 @@ def make_parser():
 
 
 def main():
-    signal.signal(signal.SIGTERM, signal.default_int_handler)
+    end_by_kill_as_by_interrupt()
     args = make_parser().parse_args()
     grid = Grid(args.template)
+    if not grid.names:
+        raise Fault(f"{args.template}: no range line, which begins `;@tune` at the left margin "
+                    "(cwtune-vary makes a template of a text with EQU lines)")
     with tempfile.TemporaryDirectory(prefix="cwtune-seek-") as folder:
         tunings = Tunings(args, grid, folder)
         best, ended = seek(args, grid, tunings)

@@ -2,8 +2,9 @@
 
 Example: cwtune-series 4321 20 3 > fights.csv
 """
-from .endings import number_from
+from .endings import counted, number_from
 from .program import MEANING, Rules, add_hill, command_parser, rules_of
+from .tuning_files import MOST_FIGHTS, MOST_OPPONENTS, Fight, schedule_text
 
 
 def series(seed, rounds, core, distance):
@@ -14,13 +15,34 @@ def series(seed, rounds, core, distance):
         number = number * 16807 % 2147483647
 
 
+def refuse_fights(parser, name, each, opponents):
+    """Refuses `each` fights against each of the opponents, the number of the option `name`, if a
+    schedule cannot have so many."""
+    if each * opponents > MOST_FIGHTS:
+        parser.error(f"{name} {each} against {counted(opponents, 'opponent')}: more than "
+                     f"{MOST_FIGHTS} fights")
+
+
+def refuse_distance(parser, rules):
+    """Refuses rules by which no position is left."""
+    if rules.distance > rules.core - rules.distance:
+        parser.error("--distance is more than half of --core")
+
+
+def refuse_seed(parser, name, seed, rules):
+    """Refuses a first position, that of the option `name`, at which pMARS begins no series."""
+    low, high = rules.distance, rules.core - rules.distance
+    if not low <= seed <= high:
+        parser.error(f"{name} {seed} is not {low} to {high}, the positions that pMARS takes")
+
+
 def make_parser():
     parser = command_parser(__doc__)
     parser.add_argument("seed", metavar="SEED", type=number_from(1, 65535),
                         help="the number after -F, the first position")
-    parser.add_argument("rounds", metavar="ROUNDS", type=number_from(1, 10000),
+    parser.add_argument("rounds", metavar="ROUNDS", type=number_from(1, MOST_FIGHTS),
                         help="the number after -r")
-    parser.add_argument("opponents", metavar="OPPONENTS", type=number_from(1, 64),
+    parser.add_argument("opponents", metavar="OPPONENTS", type=number_from(1, MOST_OPPONENTS),
                         help="how many opponents: the series for each")
     add_hill(parser)
     for name, low, high in [("core", 8, 65535), ("distance", 1, 32767)]:
@@ -34,12 +56,9 @@ def main():
     parser = make_parser()
     asked = parser.parse_args()
     rules = rules_of(asked)
-    if not rules.distance <= asked.seed <= rules.core - rules.distance:
-        parser.error(f"SEED {asked.seed} is not {rules.distance} to {rules.core - rules.distance}, "
-                     "the positions that pMARS takes")
-    if asked.rounds * asked.opponents > 10000:
-        parser.error("a schedule has 1 to 10000 fights")
-    print("opponent,position,first")
-    for opponent in range(asked.opponents):
-        for place, first in series(asked.seed, asked.rounds, rules.core, rules.distance):
-            print(f"{opponent},{place},{first}")
+    refuse_distance(parser, rules)
+    refuse_seed(parser, "SEED", asked.seed, rules)
+    refuse_fights(parser, "ROUNDS", asked.rounds, asked.opponents)
+    fights = list(series(asked.seed, asked.rounds, rules.core, rules.distance))
+    print(schedule_text(Fight(k, *fight) for k in range(asked.opponents) for fight in fights),
+          end="")

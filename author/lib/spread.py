@@ -27,10 +27,11 @@ a folder is of other inputs; 3 a job has no result, or a file cannot be read or 
 
 Example: cwtune-spread --jobs 4 my.red fights.csv my.cert dwarf.red scanner.red
 """
-import contextlib, os, shutil, signal, sys, time
+import contextlib, os, shutil, sys, time
 
 from . import cert_inputs, spread_parts, spread_shares, tuning_files
-from .endings import Fault, end_as, naming, number_from, whole_file
+from .endings import (Fault, end_as, end_by_kill_as_by_interrupt, naming, number_from,
+                      whole_file)
 from .program import (EXPLAIN, add_program, add_rules, add_words, command_parser, rules_of,
                       run_program)
 from .spread_folder import Folder
@@ -40,7 +41,7 @@ from .spread_progress import PartsProgress, SharesProgress
 from .spread_report import best_of, index_of, ranks_of, report_of, write_whole
 
 NO_SUCH_PART = b"error: --part I/K: the template has fewer than K settings\n"
-MOST, MOST_KEPT = 2 ** 32 - 1, 1000
+MOST = 2 ** 32 - 1
 
 
 def add_jobs(parser):
@@ -65,9 +66,9 @@ def add_jobs(parser):
 def add_search(parser):
     """Adds the options of how a part is tuned."""
     group = parser.add_argument_group("search")
-    group.add_argument("--keep", type=number_from(1, MOST_KEPT), default=1, metavar="K",
-                       help="take the first K of the ranking in place of the best setting, as "
-                       "`--keep` of `cwtune tune` and `cwtune check` [default: 1]")
+    group.add_argument("--keep", type=number_from(1, tuning_files.MOST_KEPT), default=1,
+                       metavar="K", help="take the first K of the ranking in place of the best "
+                       "setting, as `--keep` of `cwtune tune` and `cwtune check` [default: 1]")
     methods = group.add_mutually_exclusive_group()
     methods.add_argument("--all", action="store_true",
                          help="play every fight of every setting, as `cwtune tune --all`")
@@ -140,39 +141,34 @@ def method_of(args):
 
 def count_settings(args):
     """Returns the number of settings, which the program counts, and shows its notes of what is
-    ignored in the template."""
+    ignored in the template. Returns the notes too."""
     done = run_program(args.program, "settings", *explained(args), "--", args.template)
     if done.returncode != 0:
         end_as(done.returncode, done.stderr)
-    args.notes = done.stderr
-    sys.stderr.buffer.write(args.notes)
+    sys.stderr.buffer.write(done.stderr)
     sys.stderr.flush()
-    return int(done.stdout.split()[1])
+    return int(done.stdout.split()[1]), done.stderr
 
 
-def said_of(args, done):
-    """Returns what a run of the program said, without the notes that were shown before."""
-    return done.stderr.removeprefix(args.notes)
-
-
-def rejected_for_all(args, cert):
+def rejected_for_all(args, cert, notes):
     """Returns the line of a certificate that is rejected for its form or for its best row, else
-    nothing. Ends as `check` ends if it refuses an input.
+    nothing. Ends as `check` ends if it refuses an input. The notes were shown before.
 
     The first of 4294967295 shares has no setting, so nothing else is looked at.
     """
     done = run_program(args.program, "check", f"--share=1/{MOST}", *explained(args),
                        *spread_shares.keep_words(args.keep), *rules_of(args).words(), "--",
                        args.template, args.schedule, cert, *args.opponent)
+    said = done.stderr.removeprefix(notes)
     if done.returncode != 0 and not done.stdout:
-        end_as(done.returncode, said_of(args, done))
-    sys.stderr.buffer.write(said_of(args, done))
+        end_as(done.returncode, said)
+    sys.stderr.buffer.write(said)
     return done.stdout.decode() if done.returncode else ""
 
 
-def check(args, count, cert):
+def check(args, count, notes, cert):
     """Checks a certificate in shares. Returns what the whole check prints, and its status."""
-    if line := rejected_for_all(args, cert):
+    if line := rejected_for_all(args, cert, notes):
         return line, 1
     merges = args.check_only and args.merge
     shares = (spread_shares.Jobs(args, count) if merges
@@ -220,7 +216,7 @@ def run_jobs(args, folder, progress):
 def go_on(folder, progress):
     """Returns the text that says what is done, and what to repeat."""
     return (f"{len(progress.done())} of {folder.pieces} {folder.PIECE}s are done, and kept in "
-            f"{folder.told}: repeat the command to run the others")
+            f"{folder.given}: repeat the command to run the others")
 
 
 def say_missing(folder, progress, faults):
@@ -233,11 +229,10 @@ def say_missing(folder, progress, faults):
     for line in said:
         if line.startswith(("refused: ", "error: ")):
             raise Fault(line.split(": ", 1)[1].strip(), 1 if line[0] == "r" else 2)
-    told = " ".join(map(str, missing))
+    numbers = f"{'s' * (len(missing) > 1)} {', '.join(map(str, missing))} of {folder.pieces}"
     cause = f" ({said[0].strip()})" if said else ""
     hint = f"\n{go_on(folder, progress)}" if isinstance(folder, Folder) else ""
-    raise Fault(f"no result of {len(missing)} of {folder.pieces} {folder.PIECE}s: {told}{cause}"
-                f"{hint}", 3)
+    raise Fault(f"no result for {folder.PIECE}{numbers}{cause}{hint}", 3)
 
 
 def refuse_floors(parts):
@@ -263,19 +258,19 @@ def refuse_ranking(args, cert):
                         f"were they tuned with --keep {args.keep}?", 2)
 
 
-def finish(args, folder, progress):
+def finish(args, folder, progress, notes):
     """Puts the parts together, writes CERT and prints the report."""
     parts = progress.done()
     if not any(part.report for part in parts):
         folder.end()
         done = tune_part(args, f"1/{folder.pieces}")
-        end_as(done.returncode, said_of(args, done))
+        end_as(done.returncode, done.stderr.removeprefix(notes))
     refuse_floors(parts)
-    with naming(folder.told):
+    with naming(folder.given):
         write_whole(folder, progress.pieces)
     refuse_ranking(args, folder.whole())
     ranks = ranks_of(parts, args.keep)
-    said, status = check(args, folder.count, folder.whole()) if args.check else ("", 0)
+    said, status = check(args, folder.count, notes, folder.whole()) if args.check else ("", 0)
     if status:
         print(said, end="", flush=True)
         print(f"{args.cert} is not written, and the parts stay", file=sys.stderr)
@@ -321,7 +316,7 @@ def print_start(args, whole):
               f"{template.constants(template.start)}", file=sys.stderr)
 
 
-def tune(args, count):
+def tune(args, count, notes):
     """Tunes the template in parts, or puts together what the jobs of a cluster wrote."""
     folder = (spread_parts.Jobs(args, count) if args.merge
               else spread_parts.Parts(args, count, options_of(args)))
@@ -332,7 +327,7 @@ def tune(args, count):
     with stopping(folder, progress):
         say_missing(folder, progress, {} if args.merge else run_jobs(args, folder, progress))
         try:
-            return finish(args, folder, progress)
+            return finish(args, folder, progress, notes)
         finally:
             folder.whole().unlink(missing_ok=True)
 
@@ -350,14 +345,13 @@ def refuse_idle(parser, args):
 
 
 def main():
-    # What `kill` sends ends it as Ctrl-C does.
-    signal.signal(signal.SIGTERM, signal.default_int_handler)
+    end_by_kill_as_by_interrupt()
     parser = make_parser()
     args = parser.parse_args()
     refuse_idle(parser, args)
     if not args.check_only:
         refuse_faults(args)
-        return tune(args, count_settings(args))
-    line, status = check(args, count_settings(args), args.cert)
+        return tune(args, *count_settings(args))
+    line, status = check(args, *count_settings(args), args.cert)
     print(line, end="", flush=True)
     return status

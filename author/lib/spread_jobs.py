@@ -59,7 +59,7 @@ class Hosts:
         self.folder, self.todo, self.over = folder, list(todo), False
         for number in todo:
             folder.prepare(number)
-        piece = f"{{}}.{folder.name}"
+        piece = f"{{}}.{folder.pid}"
         job = JOB.format(words=" ".join(folder.words("{}")), piece=piece,
                          after=folder.AFTER.format(piece=piece))
         hosts = str(pathlib.Path(args.hosts).resolve(strict=True))

@@ -9,7 +9,7 @@ The floor of a part is the best of the totals that are known when it begins, wit
 best of them, or one more if the setting with this total comes before the part. If none of its
 settings reaches its floor, its report and its certificate say so.
 """
-import pathlib, subprocess
+import contextlib, pathlib, re, subprocess
 from typing import NamedTuple
 
 from .endings import Fault
@@ -18,8 +18,11 @@ from .spread_folder import Folder, copies_of, hash_of
 from .spread_jobs import end_with_parent
 from .tuning_files import MOST_BYTES, Template
 
-# The first words of the lines of a report, without those of the ranking.
-LINES = {"vectors", "candidates", "best", "constants", "total", "fights"}
+RANK = r"rank \d+ setting (\d+) total (\d+)(?: (.+))?\n"
+REPORT = re.compile(
+    r"vectors \d+\ncandidates \d+\n"
+    r"(?:best \d+\nconstants .+\ntotal \d+|best -\nconstants -\ntotal below \d+) of \d+\n"
+    rf"fights \d+ of \d+\n(?:{RANK})*")
 
 
 class Part(NamedTuple):
@@ -62,21 +65,14 @@ def part_of(number, parts, count, report):
 
 
 def report_in(path):
-    """Returns the lines of a report by their first words, and of the lines `rank` a list. A report
-    whose last line has no end is a ValueError."""
+    """Returns the lines of a report by their first words, and of the lines `rank` a list. Raises a
+    ValueError if it is not a report, or was cut."""
     text = path.read_text()
-    if text and not text.endswith("\n"):
-        raise ValueError("the report was cut")
-    lines = [line.split(" ", 1) for line in text.splitlines()]
-    ranks = [rank_in(rest) for word, rest in lines if word == "rank"]
-    report = dict(line for line in lines if line[0] != "rank")
+    if not REPORT.fullmatch(text):
+        raise ValueError
+    report = dict(line.split(" ", 1) for line in text.splitlines() if not line.startswith("rank "))
+    ranks = [(v, total, constants or "-") for v, total, constants in re.findall(RANK, text)]
     return report | {"ranks": ranks} if ranks else report
-
-
-def rank_in(text):
-    """Returns setting, total and constants of a line `rank`, without its first word."""
-    _, _, setting, _, total, *constants = text.split(" ")
-    return setting, total, " ".join(constants) or "-"
 
 
 def part_with(start, parts, count):
@@ -95,25 +91,24 @@ class Jobs:
     PIECE = "part"
 
     def __init__(self, args, count):
-        self.told, self.count, self.pieces = args.cert, count, args.merge
+        self.given, self.count, self.pieces = args.cert, count, args.merge
 
     def cert(self, number):
-        return pathlib.Path(f"{self.told}.{number}")
+        return pathlib.Path(f"{self.given}.{number}")
 
     def piece(self, number):
         """Returns what came of a part, or None if it has no result."""
         try:
-            fault = pathlib.Path(f"{self.told}.{number}.fault").read_text(errors="replace")
-            report = report_in(pathlib.Path(f"{self.told}.{number}.report"))
+            fault = pathlib.Path(f"{self.given}.{number}.fault").read_text(errors="replace")
+            path = pathlib.Path(f"{self.given}.{number}.report")
+            report = report_in(path) if path.stat().st_size else {}
         except (FileNotFoundError, ValueError):
             return None
-        if report and not LINES <= report.keys():
-            return None
-        is_done = fault == "" if report else fault == NO_CANDIDATE
+        is_done = fault == ("" if report else NO_CANDIDATE)
         return part_of(number, self.pieces, self.count, report) if is_done else None
 
     def whole(self):
-        return pathlib.Path(f"{self.told}.whole")
+        return pathlib.Path(f"{self.given}.whole")
 
     def end(self):
         """Leaves the files of the jobs where they are."""
@@ -122,7 +117,7 @@ class Jobs:
 class Parts(Folder):
     """The folder CERT.parts."""
 
-    PIECE, INSTEAD = "part", "CERT"
+    PIECE, THROWN, INSTEAD = "part", "the parts", "CERT"
     # What a run that was killed may leave: `tune` writes a certificate to a file beside it, and
     # then CERT.inputs.
     UNFINISHED = r"(\d+|start)\.\d+\.\w+(\.inputs)?(\.unfinished-\d+)?|.*\.\d+\.new"
@@ -142,7 +137,7 @@ class Parts(Folder):
         pieces = min(count, args.parts or 16 * args.jobs)
         super().__init__(args, f"{args.cert}.parts", copies_of(args), settled, (pieces, count))
         if args.parts and min(args.parts, self.count) != self.pieces:
-            raise Fault(f"{self.told} has {self.pieces} parts: leave out --parts, or give --anew "
+            raise Fault(f"{self.given} has {self.pieces} parts: leave out --parts, or give --anew "
                         "to throw them away and begin again", 2)
 
     def in_order(self, todo):
@@ -157,11 +152,13 @@ class Parts(Folder):
 
     def play_start(self, start):
         """Plays the fights of START alone, so that its total is known, if it assembles."""
-        rules, name = rules_of(self.args).words(), f"start.{self.name}"
+        rules, name = rules_of(self.args).words(), f"start.{self.pid}"
         asm = ["asm", *rules, "--setting", "start", "t.red"]
         tune = ["tune", *rules, f"{name}.red", "s.csv", f"{name}.cert", *self.opponents]
         if self.run(asm, f"{name}.red") == 0 and self.run(tune, f"{name}.report") == 0:
-            self.totals[start] = part_of(1, 1, 1, report_in(self.path / f"{name}.report")).total()
+            with contextlib.suppress(ValueError):
+                report = report_in(self.path / f"{name}.report")
+                self.totals[start] = part_of(1, 1, 1, report).total()
         self.remove(self.UNFINISHED)
 
     def run(self, words, to):
@@ -195,7 +192,7 @@ class Parts(Folder):
 
     def words(self, number):
         """Returns the words that tune a part in the folder."""
-        own = f"{number}.{self.name}"
+        own = f"{number}.{self.pid}"
         return ["./cwtune", "tune", f"--part={number}/{self.pieces}", *self.options,
                 *self.floor(number), f"{own}.red", "s.csv", f"{own}.cert", *self.opponents]
 
@@ -204,7 +201,10 @@ class Parts(Folder):
         fault = self.file(number, "fault").read_text(errors="surrogateescape")
         report, cert = {}, None
         if status == 0:
-            report = report_in(self.file(number, "report"))
+            try:
+                report = report_in(self.file(number, "report"))
+            except ValueError:
+                return "failed: its report is cut, or not a report\n"
             cert = hash_of(self.file(number, "cert"))
             self.file(number, "cert.inputs").unlink(missing_ok=True)
             self.file(number, "cert").replace(self.cert(number))

@@ -13,7 +13,7 @@ class Progress:
     terminal, and with `in_log` once a minute elsewhere."""
 
     def __init__(self, folder, in_log):
-        self.folder, self.in_log, self.shown, self.told = folder, in_log, "", -PAUSE
+        self.folder, self.in_log, self.shown, self.last_line_at = folder, in_log, "", -PAUSE
         self.pieces = {n: folder.piece(n) for n in range(1, folder.pieces + 1)}
         self.todo = [n for n, piece in self.pieces.items() if piece is None]
         self.begun, self.before = time.monotonic(), self.settings()
@@ -24,9 +24,9 @@ class Progress:
     def show(self):
         """Rewrites the line if it says something new, cut to the width of the terminal."""
         if not sys.stderr.isatty():
-            if self.in_log and time.monotonic() - self.told >= PAUSE:
+            if self.in_log and time.monotonic() - self.last_line_at >= PAUSE:
                 print(self.line(), file=sys.stderr, flush=True)
-                self.told = time.monotonic()
+                self.last_line_at = time.monotonic()
             return
         width = os.get_terminal_size(sys.stderr.fileno()).columns or 80
         line = self.line()[:width - 1]

@@ -1,7 +1,7 @@
 """Puts the parts of a tuning together: the report and the certificate of the whole template."""
 import contextlib
 
-from .endings import Fault, naming
+from .endings import Fault, counted, naming
 from .spread_parts import Part
 
 
@@ -69,7 +69,8 @@ def rows_of(folder, number, part):
         head, _, *rows = path.read_text().splitlines()
         _, _, count = head.split(",")
         if {count, part.report["vectors"], str(len(rows))} != {str(part.count)}:
-            raise Fault(f"the certificate of part {number} has not {part.count} settings", 3)
+            raise Fault(f"the certificate of part {number} has {counted(len(rows), 'row')}, and "
+                        f"the part has {counted(part.count, 'setting')}", 3)
         for row in rows:
             yield moved(part, row)
 

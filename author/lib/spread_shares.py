@@ -67,7 +67,7 @@ class Jobs:
     PIECE = "share"
 
     def __init__(self, args, count):
-        self.told, self.count, self.pieces = args.cert, count, args.merge
+        self.given, self.count, self.pieces = args.cert, count, args.merge
         self.wanted = args.keep
         with open(args.cert, "rb") as file:
             self.digest = hashlib.file_digest(file, "sha256").hexdigest()
@@ -75,7 +75,7 @@ class Jobs:
     def piece(self, number):
         """Returns what a share printed, or None if its job left nothing for this certificate."""
         try:
-            text = pathlib.Path(f"{self.told}.{number}.check").read_text()
+            text = pathlib.Path(f"{self.given}.{number}.check").read_text()
         except (FileNotFoundError, ValueError):
             return None
         lines = text.splitlines(keepends=True)
@@ -95,7 +95,7 @@ class Jobs:
 class Shares(Folder):
     """The folder CERT.shares, or another one."""
 
-    PIECE, INSTEAD = "share", "folder by --work"
+    PIECE, THROWN, INSTEAD = "share", "the shares", "folder by --work"
     UNFINISHED = r"\d+\.\d+\.\w+|.*\.\d+\.new"
     OWN = rf"cwtune|[ts]\.(red|csv)|o\d+\.red|c\.cert|\d+\.done|{UNFINISHED}"
     KINDS = ["report", "fault"]
@@ -108,8 +108,8 @@ class Shares(Folder):
         super().__init__(args, args.work or f"{args.cert}.shares", copies,
                          {"rules": self.rules._asdict(), "keep": args.keep}, (pieces, count))
         if args.shares and args.shares != self.pieces:
-            raise Fault(f"{self.told} has {self.pieces} shares: leave out --shares, or give --anew "
-                        "to throw them away and begin again", 2)
+            raise Fault(f"{self.given} has {self.pieces} shares: leave out --shares, or give "
+                        "--anew to throw them away and begin again", 2)
 
     def words(self, number):
         """Returns the words that check a share in the folder."""

@@ -1,29 +1,29 @@
 """Makes a better warrior of a warrior: schedule, tuning, fresh fights and report, in one folder.
 
 WARRIOR is a template, or an ordinary text with words NAME=LOW:HIGH:STEP, as cwtune-vary takes them.
-An opponent is a file, or a folder whose files *.red are taken by their names. A template of more
-than --exact settings is first climbed in by cwtune-seek, which leaves a box around what it finds:
-outside of the box settings were only sought. All fights of the box are played and the certificate
-is checked, so its ranking is exact. The first ten then play fresh fights, the better half more, and
-so on; the winner is the one with the most points. It and START play other fights for the gain.
+An opponent is a file, or a folder whose files *.red are taken by their names. If the template has
+more than --exact settings, cwtune-seek climbs in it and leaves a box around what it finds; of
+settings outside the box nothing is exact. All fights of the box are played and the certificate is
+checked, so its ranking is exact. The first ten then play fresh fights, the better half more, and so
+on; the winner is the one with the most points. It and START play other fights for the gain.
 
-FOLDER gets each file by its usual name: winner.red, report.html, report.json, the template, the
-schedule, the certificate, and log.txt with the commands, each of which can be typed there. After
-Ctrl-C or a crash repeat the command, and it goes on. A folder made of other inputs is refused.
+FOLDER gets winner.red, report.html, report.json, the template, the schedule, the certificate, and
+log.txt with the commands, each of which can be typed there. After Ctrl-C or a crash repeat the
+command, and it goes on. A folder made of other inputs is refused.
 
 Example: cwtune-study my.red opponents/ STEP=5:7995:10 GATE=-3500:-500:500
 """
-import json, math, os, pathlib, re, signal, sys
+import json, math, os, pathlib, sys
 
-from . import study_fresh, study_inputs, study_report
-from .endings import number_from
+from . import seek, study_fresh, study_inputs, study_report
+from .endings import Fault, end_by_kill_as_by_interrupt, number_from
 from .grid import Grid
 from .program import Rules, add_program, add_rules, command_parser, rules_of
 from .study_folder import Folder
 from .study_result import report_of
-from .tuning_files import Certificate, MOST_SETTINGS, read_schedule
+from .tuning_files import MOST_FIGHTS, MOST_SETTINGS, Certificate, read_schedule
 
-NUMBER = number_from(1, study_inputs.MOST_FIGHTS)
+NUMBER = number_from(1, MOST_FIGHTS)
 
 
 class Study:
@@ -63,7 +63,7 @@ class Study:
         else:
             folder.write("template.red", inputs.template)
         grid = Grid(folder.path / "template.red")
-        folder.write("start.red", grid.line_through(grid.start, ()))
+        folder.write("start.red", grid.line_through(grid.start_values, ()))
 
     def box(self):
         """Makes box.red. Returns what was sought for it, and the total of START, if that is
@@ -77,9 +77,10 @@ class Study:
         self.folder.run(self.own("cwtune-seek", f"--box={reach}", f"--jobs={self.args.jobs}")
                         + ["template.red", "schedule.csv", *self.opponents], "box.red")
         said = "\n".join(self.folder.log[-1]["said"])
-        start = re.search(r"^start: total (\d+) of", said, re.M)
-        fights = re.search(r"^found: total .*, (\d+) fights in", said, re.M)
-        return {"sought": True, "fights": int(fights[1]), "start": start and int(start[1])}
+        start, found = (line.search(said) for line in (seek.START_LINE, seek.FOUND_LINE))
+        if not found:
+            raise Fault("cwtune-seek did not say what it found", 3)
+        return {"sought": True, "fights": int(found[1]), "start": start and int(start[1])}
 
     def spread(self):
         """Plays every fight of the box, and has the certificate checked."""
@@ -149,7 +150,7 @@ def print_end(folder, report):
     else:
         print(f"over START: {gain['percent']:+.1f}% +- {gain['error']:.1f}, {gain['words']}")
     for name in ["winner.red", "report.html"]:
-        print(os.path.join(folder.told, name))
+        print(os.path.join(folder.given, name))
 
 
 def make_parser():
@@ -159,15 +160,16 @@ def make_parser():
     parser.add_argument("--rounds", type=NUMBER, default=20, metavar="R",
                         help="fights of the tuning against each opponent [default: 20]")
     parser.add_argument("--seed", type=number_from(1, 65535), metavar="S",
-                        help="the first position, as of cwtune-series [default: 4321, in a small "
-                        "core less]")
+                        help="the first position, as SEED of cwtune-series [default: 4321, or less "
+                        "in a small core]")
     parser.add_argument("--exact", type=number_from(1, MOST_SETTINGS), default=1000, metavar="N",
-                        help="the most settings of which all are tuned [default: 1000]")
+                        help="tune all settings of a template with at most N; of a larger one "
+                        "climb first, and tune a box [default: 1000]")
     parser.add_argument("--box", type=number_from(1), default=2, metavar="N",
                         help="values on both sides of what the climb finds; 1 if the box would "
                         "have more than --exact settings [default: 2]")
     parser.add_argument("--fresh", type=NUMBER, default=100, metavar="F",
-                        help="fresh fights of a round against each opponent [default: 100]")
+                        help="fresh fights of a heat against each opponent [default: 100]")
     parser.add_argument("--jobs", type=number_from(1), default=os.cpu_count(), metavar="N",
                         help="jobs that run side by side [default: the processors]")
     parser.add_argument("--anew", action="store_true",
@@ -184,14 +186,13 @@ def make_parser():
 
 
 def main():
-    # What `kill` sends ends it as Ctrl-C does.
-    signal.signal(signal.SIGTERM, signal.default_int_handler)
+    end_by_kill_as_by_interrupt()
     parser = make_parser()
     args = parser.parse_intermixed_args()
     study = Study(args, study_inputs.read(parser, args))
     try:
         print_end(study.folder, study.go())
     except KeyboardInterrupt:
-        print(f"stopped: what is done is kept in {study.folder.told}: repeat the command to go on",
+        print(f"stopped: what is done is kept in {study.folder.given}: repeat the command to go on",
               file=sys.stderr)
         raise

@@ -7,15 +7,15 @@
 A stage is done once `study.json` says so, so neither a kill nor a crash leaves half of one. A file
 of a stage that is done has to stay as it was.
 """
-import contextlib, fcntl, json, os, pathlib, re, shlex, subprocess, sys, time
+import contextlib, json, os, pathlib, re, shlex, subprocess, sys, time
 
 from . import spread_parts, spread_shares
 from .cert_inputs import digest_of
-from .endings import Fault, end_as, naming, whole_file
+from .endings import Fault, end_as, whole_file
+from .own_folder import OwnFolder
 from .program import FOUND
 from .spread_jobs import end_with_parent
 
-MARK, MADE_BY = "study.json", "cwtune-study 1"
 AUTHOR = pathlib.Path(__file__).resolve().parents[1]
 FILES = ("template.red warrior.red start.red schedule.csv box.red best.cert best.cert.inputs "
          "best.txt winner.red report.json report.html log.txt").split()
@@ -27,51 +27,25 @@ ROOMS = {
 }
 
 
-class Folder:
-    """A folder that `cwtune-study` made, locked until `cwtune-study` ends."""
+class Folder(OwnFolder):
+    """A folder that `cwtune-study` made. `made` is what its mark says."""
 
-    def __init__(self, told, program, of, anew):
-        self.told, self.path, self.program = told, pathlib.Path(told).resolve(), program
-        self.log = []
-        if os.fsencode(self.path).decode(errors="replace") != str(self.path):
+    COMMAND, MARK, THROWN, INSTEAD = "cwtune-study", "study.json", "it", "--out"
+
+    def __init__(self, given, program, of, anew):
+        if os.fsencode(path := os.path.realpath(given)).decode(errors="replace") != path:
             raise Fault("the name of the folder is not UTF-8, which cwtune wants", 2)
-        with naming(told):
-            self.path.mkdir(exist_ok=True)
-        self.lock = os.open(self.path, os.O_RDONLY)
-        try:
-            fcntl.flock(self.lock, fcntl.LOCK_EX | fcntl.LOCK_NB)
-        except BlockingIOError:
-            raise Fault(f"another cwtune-study is at work in {told}", 2) from None
-        self.made = self.read_mark()
+        super().__init__(given)
+        self.program, self.log = program, []
+        self.made = self.read_mark(lambda made: made["of"]["opponents"] and "stages" in made)
         if self.made and not anew:
-            self.compare(self.made["of"], of)
+            self.refuse_others(self.made["of"], of, f"{given} is of other inputs")
         self.remove_unfinished()
         if self.made and anew:
             self.remove(self.made["of"])
         if anew or not self.made:
-            self.made = {"by": MADE_BY, "of": of, "stages": {}}
-        self.write_mark()
-
-    def read_mark(self):
-        """Returns what the folder says of itself: nothing if it is new. Refuses a folder that this
-        command did not make."""
-        files = os.listdir(self.path)
-        if all(re.fullmatch(rf"{MARK}\.\d+\.new", name) for name in files):
-            return {}
-        try:
-            made = json.loads((self.path / MARK).read_text())
-            if made["by"] == MADE_BY and made["of"]["opponents"] and "stages" in made:
-                return made
-        except (OSError, ValueError, KeyError, TypeError, AttributeError):
-            pass
-        raise Fault(f"{self.told} is not a folder of this cwtune-study, and is not touched", 2)
-
-    def compare(self, made, wanted):
-        """Refuses other inputs than those that the folder is made of."""
-        other = [kind for kind, value in wanted.items() if made.get(kind) != value]
-        if other:
-            raise Fault(f"{self.told} is of other inputs ({', '.join(other)}): give --anew to "
-                        "throw it away and begin again, or another --out", 2)
+            self.made = {"of": of, "stages": {}}
+        self.write_mark(self.made)
 
     def remove(self, of):
         """Removes all files of the study, but no file that somebody else put there."""
@@ -87,17 +61,13 @@ class Folder:
 
     def remove_unfinished(self):
         """Removes what a run that was killed may leave."""
-        names = "|".join(map(re.escape, [MARK, *FILES]))
+        names = "|".join(map(re.escape, [self.MARK, *FILES]))
         for path in self.path.glob("**/*.new"):
             if re.fullmatch(rf"({names}|(opponents|fresh)/.*)\.\d+\.new",
                             str(path.relative_to(self.path))):
                 path.unlink()
         for path in self.path.glob("fresh/*.unfinished-*"):
             path.unlink()
-
-    def write_mark(self):
-        with whole_file(self.path / MARK) as file:
-            json.dump(self.made, file)
 
     def write(self, name, text):
         """Writes a file of the folder, whole."""
@@ -114,11 +84,11 @@ class Folder:
             result = make()
             digests = {file: digest_of(self.path / file) for file in files}
             self.made["stages"][name] = {"result": result, "commands": self.log, "files": digests}
-            self.write_mark()
+            self.write_mark(self.made)
             self.write_log()
         for file, digest in self.made["stages"][name]["files"].items():
             if not (self.path / file).is_file() or digest_of(self.path / file) != digest:
-                raise Fault(f"{self.told}/{file} is not as it was written: give --anew to begin "
+                raise Fault(f"{self.given}/{file} is not as it was written: give --anew to begin "
                             "again", 2)
         # As it is read from the mark, so that a kill changes nothing.
         return json.loads(json.dumps(self.made["stages"][name]["result"]))
@@ -128,7 +98,7 @@ class Folder:
         return [command for stage in self.made["stages"].values() for command in stage["commands"]]
 
     def write_log(self):
-        lines = [f"# {self.made['by']}: commands to type in this folder"]
+        lines = [f"# {self.maker()}: commands to type in this folder"]
         for it in self.commands():
             lines += [f"{it['command']}  # {it['seconds']:.1f} seconds",
                       *(f"# {line}" for line in it["said"])]

@@ -1,10 +1,10 @@
 """The fresh fights of `cwtune-study`: the first of a ranking by successive halving, and then START.
 
-All play in the same positions. The better half goes on and plays as many fights more, until two are
-left; the winner is the one with the most points. Luck in these fights helped to pick it, so in the
-last round it plays as many more, which nobody was picked by, and so does START. In the folder
-`fresh/` are the load files of those that play (W.red of setting W, start.red), the schedules (R.csv
-of round R), and the certificates (W-R.cert).
+In a heat all play in the same positions. The better half goes on and plays as many fights more,
+until two are left; the winner is the one with the most points. Luck in these fights helped to pick
+it, so in the last heat it plays as many more, which nobody was picked by, and so does START. In the
+folder `fresh/` are the load files of those that play (W.red of setting W, start.red), the schedules
+(H.csv of heat H), and the certificates (W-H.cert).
 """
 import itertools, sys, time
 
@@ -12,15 +12,14 @@ from . import holdout
 from .endings import end_as
 from .program import rules_of
 from .spread_jobs import Here
-from .study_inputs import MOST_FIGHTS
-from .tuning_files import Certificate
+from .tuning_files import MOST_FIGHTS, Certificate
 
 FIRST = 10
 START = "start"
 
 
-class Round:
-    """A round as `Here` runs it: all players play `fights` fights against each opponent."""
+class Heat:
+    """A heat as `Here` runs it: all players play `fights` fights against each opponent."""
 
     def __init__(self, study, number, fights):
         self.study, self.number, self.fights = study, number, fights
@@ -45,7 +44,7 @@ class Round:
         """Plays all fights. Returns for each player the points of its fights, a text for each
         opponent."""
         who = "the winner and START" if START in players else f"{len(players)} settings"
-        print(f"fresh fights, round {self.number}: {who}, "
+        print(f"fresh fights, heat {self.number}: {who}, "
               f"{self.fights * len(self.study.opponents)} each", file=sys.stderr, flush=True)
         jobs, seconds = Here(self.study.args, self, players), {}
         try:
@@ -74,8 +73,8 @@ class Round:
 
 
 def seed_of(args, number):
-    """Returns the first position of a round: another one than that of the schedule and of the other
-    rounds, if there are enough positions. A series that begins at the least position never leaves
+    """Returns the first position of a heat: another one than that of the schedule and of the other
+    heats, if there are enough positions. A series that begins at the least position never leaves
     it."""
     rules = rules_of(args)
     low, high = rules.distance + 1, rules.core - rules.distance
@@ -83,7 +82,7 @@ def seed_of(args, number):
 
 
 def played(study, number, players, fights):
-    """Returns what a round made, a stage of the study."""
+    """Returns what a heat made, a stage of the study."""
     folder, schedule = study.folder, f"fresh/{number}.csv"
     new = players if number == 1 else [player for player in players if player == START]
 
@@ -94,7 +93,7 @@ def played(study, number, players, fights):
             text = "start.red" if player == START else "box.red"
             folder.run([study.args.program, "asm", *study.rules, "--setting", player, text],
                        f"fresh/{player}.red")
-        return Round(study, number, fights).play(players)
+        return Heat(study, number, fights).play(players)
 
     return folder.stage(f"fresh {number}", make, schedule,
                         *(f"fresh/{player}.red" for player in new))
@@ -112,7 +111,7 @@ def summed(points):
 
 
 def halve(study, settings):
-    """Plays rounds until two settings are left. Returns how many rounds, and for each setting the
+    """Plays heats until two settings are left. Returns how many heats, and for each setting the
     points of all its fights, a text for each opponent."""
     players, points = [str(v) for v in settings], {}
     for number in itertools.count(1):
@@ -126,7 +125,7 @@ def halve(study, settings):
 
 def find(study, settings):
     """Returns the winner, the points of the fights that picked it by setting, and those of the last
-    round by player."""
+    heat by player."""
     number, points = halve(study, settings)
     most = max(map(len, (own[0] for own in points.values())))
     left = [player for player, own in points.items() if len(own[0]) == most]

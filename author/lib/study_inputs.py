@@ -4,11 +4,10 @@ from typing import NamedTuple
 
 from . import vary
 from .endings import Fault, fault_of
-from .grid import Grid
+from .grid import Grid, is_range_line
 from .program import EXPLAIN, rules_of, run_program
-from .tuning_files import is_range_line
-
-MOST_OPPONENTS, MOST_FIGHTS = 64, 10000
+from .series import refuse_distance, refuse_fights, refuse_seed
+from .tuning_files import MOST_OPPONENTS
 
 
 class Inputs(NamedTuple):
@@ -70,18 +69,14 @@ def paths_of(word):
 
 def settle_options(parser, args):
     """Sets the seed that was not given, and refuses options that do not fit together."""
-    rules, count = rules_of(args), len(args.opponents)
-    low, high = rules.distance, rules.core - rules.distance
-    if low > high:
-        parser.error("--distance is more than half of --core")
+    rules = rules_of(args)
+    refuse_distance(parser, rules)
     if args.seed is None:
-        args.seed = low + (4321 - low) % (high - low + 1)
-    if not low <= args.seed <= high:
-        parser.error(f"--seed {args.seed} is not {low} to {high}, the positions that pMARS takes")
-    for name in ["rounds", "fresh"]:
-        if getattr(args, name) * count > MOST_FIGHTS:
-            parser.error(f"--{name} {getattr(args, name)} against {count} opponents: more than "
-                         f"{MOST_FIGHTS} fights")
+        low = rules.distance
+        args.seed = low + (4321 - low) % (rules.core - 2 * low + 1)
+    refuse_seed(parser, "--seed", args.seed, rules)
+    refuse_fights(parser, "--rounds", args.rounds, len(args.opponents))
+    refuse_fights(parser, "--fresh", args.fresh, len(args.opponents))
 
 
 def read(parser, args):
@@ -111,7 +106,7 @@ def refuse_start(args, grid):
     """
     with tempfile.TemporaryDirectory() as folder:
         path = pathlib.Path(folder, os.path.basename(args.warrior))
-        path.write_bytes(grid.line_through(grid.start, ()))
+        path.write_bytes(grid.line_through(grid.start_values, ()))
         refuse(args, f"START of {args.warrior}", "--setting=start", "--", path.name, cwd=folder)
 
 

@@ -74,7 +74,7 @@ def constants_of(grid, box, best):
     """Returns the constants: the values of the template, and those of the box."""
     return [{"name": name, "low": some[0], "high": some[-1], "step": some.step, "start": start,
              "best": best[name], "box": list(own)}
-            for name, some, start, own in zip(grid.names, grid.values, grid.start,
+            for name, some, start, own in zip(grid.names, grid.values, grid.start_values,
                                               box.template.values)]
 
 
@@ -106,7 +106,8 @@ def report_of(study, sought, spread, winner, points, last):
                       for name in names],
         "schedule": {"fights": len(box.fights), "rounds": args.rounds, "seed": args.seed,
                      "greatest": box.fights.greatest},
-        "start": {"values": dict(zip(grid.names, grid.start)), "tuned": tuned_of(grid, box, sought),
+        "start": {"values": dict(zip(grid.names, grid.start_values)),
+                  "tuned": tuned_of(grid, box, sought),
                   "fresh": fresh_fights(last[START], names)},
         "winner": {**best, "fresh": fresh_fights(last[winner], names)}, "ranking": ranking,
         "gain": gain_of(last[winner], last[START]),
@@ -117,6 +118,6 @@ def report_of(study, sought, spread, winner, points, last):
 
 def tuned_of(grid, box, sought):
     """Returns the total of START in the tuning: that of the climb, or of the box."""
-    if grid.start in box.template.settings:
-        return box.found.total_of(box.template.settings.index(grid.start), box.fights)
+    if grid.start_values in box.template.settings:
+        return box.found.total_of(box.template.settings.index(grid.start_values), box.fights)
     return sought["start"]

@@ -3,23 +3,24 @@
 A file that is none of these is refused in a few words; what exactly is wrong with it, `cwtune`
 says.
 """
-import csv, functools, itertools, math, pathlib, re
+import csv, functools, itertools, math
 from typing import NamedTuple
 
 from .endings import Fault
+from .grid import Grid
 
 HEADER = ["opponent", "position", "first"]
-BLANKS = b" \t\r"
-MOST_SETTINGS = 1000000
-MOST_BYTES = 65536
-LAST_WORD = re.compile(rb"[^ \t\r]+(?=[ \t\r]*$)")
+# What `cwtune` takes at most: of a template its bytes, constants and settings, of a schedule its
+# fights, of a tuning its opponents and how many of the ranking it keeps.
+MOST_BYTES, MOST_CONSTANTS, MOST_SETTINGS = 65536, 8, 1000000
+MOST_FIGHTS, MOST_OPPONENTS, MOST_KEPT = 10000, 64, 1000
 
 
 class Fight(NamedTuple):
     opponent: int
     position: int
     first: str
-    weight: int
+    weight: int = 1
 
 
 class Fights(list):
@@ -31,24 +32,24 @@ class Fights(list):
         return 3 * sum(fight.weight for fight in self)
 
 
-class Template:
-    """The constants of a template and its settings; the first constant changes slowest."""
+class Template(Grid):
+    """A template as `cwtune` takes it, and its settings; the first constant changes slowest."""
 
     def __init__(self, path):
-        text = pathlib.Path(path).read_bytes()
+        super().__init__(path)
+        if self.count() > MOST_SETTINGS:
+            raise Fault(f"{path}: more than {MOST_SETTINGS} settings")
+        self.settings = list(itertools.product(*self.values))
+        self.start = self.settings.index(self.start_values)
+
+    def read(self, path):
+        """Returns the text. Refuses one that cannot be that of a template."""
+        text = super().read(path)
         if len(text) > MOST_BYTES:
             raise Fault(f"{path}: {len(text)} bytes, more than the {MOST_BYTES} of a template")
         if b"\0" in text or not text.strip():
             raise Fault(f"{path}: not a template, a schedule or a certificate")
-        self.lines = text.split(b"\n")
-        lines = enumerate(self.lines, 1)
-        ranges = [read_range(path, *line) for line in lines if is_range_line(line[1])]
-        self.names = [name for name, _, _ in ranges]
-        self.values = [values for _, values, _ in ranges]
-        if math.prod(map(len, self.values)) > MOST_SETTINGS:
-            raise Fault(f"{path}: more than {MOST_SETTINGS} settings")
-        self.settings = list(itertools.product(*self.values))
-        self.start = self.settings.index(tuple(start for _, _, start in ranges))
+        return text
 
     def steps(self, v):
         """Returns the index of each value of setting v in its range, the last constant first."""
@@ -67,14 +68,11 @@ class Template:
 
     def with_start(self, v):
         """Returns the text of this template with setting v as START."""
-        values = iter(self.settings[v])
-        return b"\n".join(LAST_WORD.sub(b"%d" % next(values), line) if is_range_line(line) else line
-                          for line in self.lines)
+        return self.text(self.values, self.settings[v])
 
     def constants(self, v):
         """Returns the values of setting v as the report says them."""
-        pairs = zip(self.names, self.settings[v])
-        return " ".join(f"{name}={value}" for name, value in pairs) or "-"
+        return self.constants_of(self.settings[v])
 
     def of(self, found):
         """Returns this template, which has to have as many settings as a certificate has rows."""
@@ -175,22 +173,6 @@ class Certificate(Rows):
         return full, len(dropped), sum(rank(pair) < most for pair in full)
 
 
-def is_range_line(line):
-    """Returns whether a line is `;@tune`, then a blank or the end of the line."""
-    return line[:6] == b";@tune" and line[6:7] in (b"", b" ", b"\t", b"\r")
-
-
-def read_range(path, number, line):
-    """Returns the name of a constant, its values, and the one of the start setting."""
-    words = re.split(rb"[ \t\r]+", line[6:].strip(BLANKS))
-    if len(words) == 5 and all(re.fullmatch(rb"-?[0-9]{1,5}", word) for word in words[1:]):
-        low, high, step, start = map(int, words[1:])
-        values = range(low, high + 1, step) if step > 0 else ()
-        if start in values:
-            return words[0].decode("latin-1"), values, start
-    raise Fault(f"{path}: line {number} is not a range")
-
-
 def read_records(path):
     """Yields the records of a comma-separated text; empty lines are not records."""
     with open(path, newline="", encoding="utf-8-sig") as file:
@@ -208,6 +190,12 @@ def read_schedule(path):
     if not fights or not (weights or header == HEADER):
         raise Fault(f"{path}: not a schedule")
     return fights
+
+
+def schedule_text(fights):
+    """Returns the text of a plain schedule."""
+    records = (f"{it.opponent},{it.position},{it.first}\n" for it in fights)
+    return ",".join(HEADER) + "\n" + "".join(records)
 
 
 def read_fight(record):
@@ -241,5 +229,7 @@ def cap(points, fights):
 
 def said_of_places(exact, wanted):
     """Says how many of the first of a ranking are exact, though settings were dropped."""
-    said = "the first is exact" if exact == 1 else f"the first {exact} are exact"
-    return said if exact >= wanted else f"only {said} (tune --keep {wanted})"
+    said = "the first of the ranking is exact" if exact == 1 else (
+        f"the first {exact} of the ranking are exact")
+    return said if exact >= wanted else (
+        f"only {said}; cwtune tune --keep {wanted} makes the first {wanted} exact")

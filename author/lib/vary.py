@@ -7,17 +7,18 @@ numbers of the text that can have one are listed.
 
 Example: cwtune-vary my.red STEP=5:4000:10 FIRST=0:20:1 > my-template.red
 """
-import argparse, difflib, math, re, sys, tempfile
+import argparse, difflib, math, re, sys
 from typing import NamedTuple
 
-from .endings import Fault
-from .program import add_program, add_rules, command_parser, load_of, rules_of
-from .tuning_files import MOST_SETTINGS, is_range_line
+from .endings import Fault, counted
+from .grid import is_range_line
+from .program import (add_program, add_rules, assembled, command_parser, refuse_another,
+                      rules_of)
+from .tuning_files import MOST_CONSTANTS, MOST_SETTINGS
 
 NAME = r"[A-Za-z_][A-Za-z0-9_]*"
 EQU_LINE = re.compile(rf"\s*({NAME}):?\s+equ\b(.*)", re.IGNORECASE | re.DOTALL)
 NUMBER = re.compile(r"([+-]?[0-9]{1,5})|\(\s*([+-]?[0-9]{1,5})\s*\)")
-MOST_CONSTANTS = 8
 
 
 class Equ(NamedTuple):
@@ -93,9 +94,8 @@ def listed(text):
     """Yields a line for each number that can have a range."""
     for equ in equs_of(text):
         if equ.value is not None:
-            uses = uses_of(text, equ)
-            yield (f"{equ.name}={equ.value}: line {equ.line}, "
-                   f"{uses} {'use' if uses == 1 else 'uses'}")
+            uses = counted(uses_of(text, equ), "use")
+            yield f"{equ.name}={equ.value}: line {equ.line}, {uses}"
 
 
 def near_name(name, names):
@@ -143,7 +143,7 @@ def template_of(path, text, ranges):
     return "\n".join(line for pieces in lines for line in pieces)
 
 
-def refuse_another(asked, text):
+def refuse_ranges(asked, text):
     """Refuses ranges whose start setting is another warrior than the text.
 
     For this each constant has its START alone, as `cwtune` takes at most a million settings.
@@ -152,23 +152,14 @@ def refuse_another(asked, text):
               if equ.name in {wanted.name for wanted in asked.ranges}]
     template = template_of(asked.warrior, text, starts).encode("latin-1")
     rules = rules_of(asked).words()
-    wanted, fault = load_of(asked.program, *rules, "--", asked.warrior)
-    if fault:
-        raise Fault(f"{asked.warrior} does not assemble: {fault}")
-    with tempfile.NamedTemporaryFile(suffix=".red") as file:
-        file.write(template)
-        file.flush()
-        came, fault = load_of(asked.program, *rules, "--setting", "start", file.name)
-    if fault:
-        raise Fault(f"with range lines the text does not assemble: {fault}")
-    if came != wanted:
-        raise Fault("with range lines the text is another warrior")
+    wanted = assembled(asked.program, asked.warrior, *rules, "--", asked.warrior)
+    refuse_another("with range lines", template, wanted, asked.program, *rules, "--setting=start")
 
 
 def print_size(settings):
     """Says on standard error how many settings there are, and if that is too many for `tune`."""
     more = f", more than the {MOST_SETTINGS} that `cwtune tune` takes" * (settings > MOST_SETTINGS)
-    print(f"note: {settings} settings{more}", file=sys.stderr)
+    print(f"note: {counted(settings, 'setting')}{more}", file=sys.stderr)
 
 
 def make_parser():
@@ -199,7 +190,7 @@ def warrior_text(parser, asked):
 def made_of(asked, text):
     """Returns the template of a text, whose start setting is the warrior of the text."""
     template = template_of(asked.warrior, text, asked.ranges)
-    refuse_another(asked, text)
+    refuse_ranges(asked, text)
     return template.encode("latin-1")
 
 

@@ -8,11 +8,13 @@ same load file of it as of the setting.
 
 Example: cwtune-warrior my.red my.cert > winner.red
 """
-import argparse, re, sys, tempfile
+import argparse, re, sys
 
 from . import cert_inputs, tuning_files
 from .endings import Fault
-from .program import WORDS, add_program, add_rules, add_words, command_parser, load_of, rules_of
+from .grid import is_range_line
+from .program import (WORDS, add_program, add_rules, add_words, assembled, command_parser,
+                      refuse_another, rules_of)
 
 HEAD = b";redcode"
 # pMARS 0.9.2 reads no longer lines.
@@ -40,7 +42,7 @@ def inserted(template, setting, totals):
 
 def text_of(text, template, setting, totals=(None, None)):
     """Returns the text of a setting: bytes of a template in, bytes out."""
-    lines = [b"; " + line[1:] if tuning_files.is_range_line(line) else line
+    lines = [b"; " + line[1:] if is_range_line(line) else line
              for line in text.split(b"\n")]
     head = next((k for k, line in enumerate(lines) if line[:len(HEAD)].lower() == HEAD), -1)
     end = b"\r" if lines[0].endswith(b"\r") else b""
@@ -48,21 +50,6 @@ def text_of(text, template, setting, totals=(None, None)):
     if head + 1 == len(lines):  # the text ends with the head
         lines.append(b"")
     return b"\n".join([*lines[:head + 1], *new, *lines[head + 1:]])
-
-
-def refuse_another(program, rules, path, setting, text):
-    """Refuses a text that does not assemble as the setting does."""
-    wanted, fault = load_of(program, *rules, "--setting", str(setting), path)
-    if fault:
-        raise Fault(f"setting {setting} does not assemble: {fault}")
-    with tempfile.NamedTemporaryFile(suffix=".red") as file:
-        file.write(text)
-        file.flush()
-        came, fault = load_of(program, *rules, file.name)
-    if fault:
-        raise Fault(f"with the values as EQU lines the text does not assemble: {fault}")
-    if came != wanted:
-        raise Fault("with the values as EQU lines the text is another warrior")
 
 
 def setting_word(word):
@@ -120,18 +107,21 @@ def main():
     if asked.cert is not None and asked.setting is not None:
         parser.error("give CERT or --setting, and not both")
     template, totals = tuning_files.Template(asked.template), (None, None)
-    asked.schedule, note = None, ""
+    asked.schedule, unknown = None, ""
     if asked.cert is None:
         setting = setting_of(template, asked.setting)
     else:
         found = tuning_files.Certificate(asked.cert)
-        note = cert_inputs.settle(asked)
+        unknown = cert_inputs.settle(asked)
         template.of(found)
         setting = found.best
         totals = found.total, total_of_start(found, template, asked.schedule)
     with open(asked.template, "rb") as file:
         text = text_of(file.read(), template, setting, totals)
-    refuse_another(asked.program, rules_of(asked).words(), asked.template, setting, text)
+    rules = rules_of(asked).words()
+    wanted = assembled(asked.program, f"setting {setting}", *rules, f"--setting={setting}", "--",
+                       asked.template)
+    refuse_another("with the values as EQU lines", text, wanted, asked.program, *rules)
     print_foreign(text)
     sys.stdout.buffer.write(text)
-    sys.stderr.write(note)
+    cert_inputs.print_note(unknown)

@@ -16,7 +16,7 @@ from .spreading import DECOY, RANKED, Place, write_ranked
 class Folder:
     """What `Hosts` needs to know of a folder."""
 
-    name, copies, AFTER, SENT, KINDS = "x", [], "", [], []
+    pid, copies, AFTER, SENT, KINDS = 1, [], "", [], []
 
     def __init__(self, path):
         self.path = path
@@ -39,7 +39,7 @@ def hosts(place):
     path = {"PATH": f"{place.folder}:{os.environ['PATH']}"}
     with mock.patch.dict(os.environ, path):
         yield compare("parts without a result", (
-            3, "", "failed: no result of 3 of 3 parts: 1 2 3 (GNU parallel ended with status 9)\n"
+            3, "", "failed: no result for parts 1, 2, 3 of 3 (GNU parallel ended with status 9)\n"
             "0 of 3 parts are done, and kept in CERT.parts: repeat the command to run the "
             "others\n"), place.spread("--hosts=hosts", "--parts=3", *DECOY))
         # More numbers than the pipe takes before the stand-in ends.
@@ -71,7 +71,7 @@ def merged(place):
     place.clear()
     (place.folder / "CERT.2.report").write_bytes(b"")
     yield compare("--merge without a part", (
-        3, "", "failed: no result of 1 of 3 parts: 2\n", None),
+        3, "", "failed: no result for part 2 of 3\n", None),
         (*place.spread("--merge=3", *DECOY), place.read("CERT")))
     refused = "error: CERT.1 is not of part {} of what is merged: {}\n"
     yield compare("--merge of too many parts", (2, "", refused.format("1/4", "it is of part 1/3")),
@@ -110,7 +110,7 @@ def damaged(place):
     place.write("CERT.2", cert)
     report = place.read("CERT.2.report")
     place.write("CERT.2.report", report[:report.rindex(b" of ")])
-    yield compare("a report that is cut", (3, "", "failed: no result of 1 of 3 parts: 2\n"),
+    yield compare("a report that is cut", (3, "", "failed: no result for part 2 of 3\n"),
                   place.spread("--merge=3", *DECOY))
     place.write("CERT.2.report", report)
     place.write("CERT.2.inputs", "a text\n")
@@ -122,7 +122,7 @@ def damaged(place):
         ("of one line", rows[0], foreign), ("without a count", b"x\n" + cert, foreign),
         ("binary", b"\xff" + cert, foreign), ("missing", None, missing),
         ("a row too short", b"".join(rows[:-1]),
-         (3, "", "failed: the certificate of part 2 has not 42 settings\n")),
+         (3, "", "failed: the certificate of part 2 has 41 rows, and the part has 42 settings\n")),
     ]:
         write(place, "CERT.2", text)
         yield compare(f"a certificate without CERT.2.inputs that is {name}", (end, None, None), (

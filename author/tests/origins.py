@@ -5,7 +5,7 @@
 import os, pathlib, tempfile
 
 from author.lib.program import run_program
-from gate import inputs_file
+from gate import cert_inputs
 from gate.play import Place
 from gate.tally import compare
 
@@ -78,6 +78,16 @@ def readers(program, folder):
                   "tuning\n"), command(program, HOLDOUT, folder))
 
 
+def names(program, folder):
+    """Tunes against a warrior whose name has what other readers take for a line end."""
+    odd = "a\rb\x0cc\x85d\u2028.red"
+    place = Place(program, folder, FILES | {odd: FILES["imp.red"]})
+    end = place.run(["tune", "--all", *TUNE[:-1], odd], keep=True)
+    yield compare("the gate knows its CERT.inputs", ["cert"], sorted(end.files))
+    yield compare("a name with line ends of others", (0, GAIN, ""),
+                  command(program, HOLDOUT, folder))
+
+
 def unknown(program, folder):
     """Runs commands without a CERT.inputs that can be believed."""
     place = Place(program, folder, FILES)
@@ -107,7 +117,7 @@ def writers(program, folder):
     version = run_program(program, "--version").stdout.decode().removeprefix("cwtune ").strip()
     for words in [["--all", *TUNE], TUNE]:
         status = run("cwtune-spread", "--program", program, "--jobs=2", *words, folder=folder)[0]
-        wanted = inputs_file.text_of(["tune", *words], folder, version)
+        wanted = cert_inputs.text_of(["tune", *words], folder, version)
         yield compare(f"cwtune-spread {words[0]}", (0, wanted),
                       (status, place.read("cert.inputs")))
     yield compare("cwtune-spread leaves nothing else", sorted([*FILES, "cert", "cert.inputs"]),
@@ -120,6 +130,6 @@ def writers(program, folder):
 
 
 def trials(program):
-    for plays in [readers, unknown, writers]:
+    for plays in [readers, names, unknown, writers]:
         with tempfile.TemporaryDirectory() as folder:
             yield from plays(program, pathlib.Path(folder))

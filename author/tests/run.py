@@ -6,10 +6,10 @@ look at the difference before you keep them. A picture is compared by its words 
 how many grey marks it has. Prints what failed, and as its last line `N passed, N failed`; the exit
 status is 1 if a run failed.
 """
-import argparse, contextlib, os, pathlib, re, shutil, signal, subprocess, sys, tempfile, time
+import contextlib, os, pathlib, re, shutil, signal, subprocess, sys, tempfile, time
 
 from author.lib.endings import Fault, run_tool
-from author.lib.program import program_of
+from author.lib.program import add_built, module_parser, program_of
 from gate.tally import compare, tally
 
 from . import merging, origins, reporting, sharing, spreading, studying, varying, warriors
@@ -63,9 +63,11 @@ BAD = {
         b"same,%d,0\n" % v for v in range(1, 37)),
     "maps.red": b";@tune A 0 36 1 0\n;@tune B 0 0 1 0\n;@tune C 0 0 1 0\nMOV 0, 1\n",
     "range.red": b"NOP\n;@tune K 0 5 1\n",
+    "twice.red": b";@tune K 0 5 1 1\n;@tune K 0 5 1 1\nMOV 0, K\n",
     "ranges.red": b"".join(b";@tune %c 0 9999 1 0\n" % name for name in b"ABC"),
 }
 NO_FILE = "No such file or directory"
+NO_RANGE = "is not a range line: ;@tune NAME LOW HIGH STEP START, with START one of the values"
 BELOW = "it names no best setting, since none reaches the floor 4"
 WRONG_ROWS = "its rows are not those of its best setting and total"
 # What the commands have to refuse: the words, the line on standard error, and the status.
@@ -89,7 +91,9 @@ REFUSALS = [
     ("cwtune-holdout --top 1 two.red lead.cert x.red", f"error: lead.cert: {WRONG_ROWS}", 2),
     ("cwtune-landscape two.red minus.cert x.png", f"error: minus.cert: {WRONG_ROWS}", 2),
     ("cwtune-scores step.cert schedule.csv --template range.red",
-     "refused: range.red: line 2 is not a range", 1),
+     f"refused: range.red: line 2 {NO_RANGE}", 1),
+    ("cwtune-scores step.cert schedule.csv --template twice.red",
+     "refused: twice.red: two range lines of one constant", 1),
     ("cwtune-scores step.cert schedule.csv --template ranges.red",
      "refused: ranges.red: more than 1000000 settings", 1),
     ("cwtune-scores step.cert schedule.csv --top -3",
@@ -102,6 +106,12 @@ REFUSALS = [
      "cwtune-series: error: argument --core: 70000 is not 8 to 65535", 2),
     ("cwtune-series 1234 5 2 --distance 0",
      "cwtune-series: error: argument --distance: 0 is not 1 to 32767", 2),
+    ("cwtune-series 40 5 2 --core 79 --distance 40",
+     "cwtune-series: error: --distance is more than half of --core", 2),
+    ("cwtune-holdout --rounds 10001 two.red lead.cert x.red",
+     "cwtune-holdout: error: --rounds 10001 against 1 opponent: more than 10000 fights", 2),
+    ("cwtune-holdout --distance 4001 two.red lead.cert x.red",
+     "cwtune-holdout: error: --distance is more than half of --core", 2),
     ("cwtune-series 100 5 2 --hill lp",
      "cwtune-series: error: SEED 100 is not 200 to 7800, the positions that pMARS takes", 2),
     ("cwtune-series 1234 5 2 --hill x",
@@ -235,14 +245,17 @@ def shown(folder):
     names, and what was wrong."""
     yield compare("cwtune-files below.cert", "below.cert: certificate, version 1, of 2 settings: "
                   "none reaches the floor 4\n", said("cwtune-files", "below.cert", folder=folder))
+    yield compare("cwtune-files plain.cert", "plain.cert: certificate, version 1, of 1 setting: "
+                  "best 0 total 3\n", said("cwtune-files", "plain.cert", folder=folder))
     for name, words, said_of in [
-        ("one.cert", [], ["only the first is exact (tune --keep 10)", "setting 1: total 4"]),
-        ("two.cert", ["--top=2"], ["the first 2 are exact", "setting 1: total 4",
+        ("one.cert", [], ["only the first of the ranking is exact; cwtune tune --keep 10 makes the "
+                          "first 10 exact", "setting 1: total 4"]),
+        ("two.cert", ["--top=2"], ["the first 2 of the ranking are exact", "setting 1: total 4",
                                    "setting 0: total 3"]),
     ]:
         out = said("cwtune-scores", name, "two.csv", *words, folder=folder)
         yield compare(f"the ranking of {name}", [
-            "3 settings played all fights, 1 were dropped", *said_of],
+            "3 settings played all fights, 1 was dropped", *said_of],
             [line.strip() for line in out.splitlines()[2:-1]])
 
 
@@ -293,10 +306,10 @@ def stored(results):
 
 
 def main():
-    parser = argparse.ArgumentParser(description=__doc__.split("\n\n")[0])
+    parser = module_parser("author.tests.run", __doc__)
     parser.add_argument("--plain", action="store_true", help="leave out the pictures")
     parser.add_argument("--store", action="store_true", help="replace the stored results")
-    parser.add_argument("program", nargs="*", metavar="PROGRAM", help="the program cwtune")
+    add_built(parser)
     asked = parser.parse_args()
     program = program_of(asked.program)
     # The commands find it there, if none is built here.

@@ -169,9 +169,9 @@ def liars(place):
     twin = f"""{place.program} "$@" | sed 's/share 2/share 1/'\n"""
     for name, text, said in [
         ("another total", other, "failed: the shares name different best settings\n"),
-        ("no memory", fails, "failed: no result of 1 of 3 shares: 2 (failed: OutOfMemory)\n"
+        ("no memory", fails, "failed: no result for share 2 of 3 (failed: OutOfMemory)\n"
          "2 of 3 shares are done, and kept in CERT.shares: repeat the command to run the others\n"),
-        ("the line of another share", twin, "failed: no result of 1 of 3 shares: 2 (failed: it "
+        ("the line of another share", twin, "failed: no result for share 2 of 3 (failed: it "
          "ended with status 0)\n2 of 3 shares are done, and kept in CERT.shares: repeat the "
          "command to run the others\n"),
     ]:
@@ -196,12 +196,12 @@ def merged(place):
     run_jobs(place, *DECOY)
     yield compare("--check-only --merge", (0, line, ""), place.spread("--merge=3", *ONLY))
     yield compare("of another number of shares", (
-        3, "", "failed: no result of 4 of 4 shares: 1 2 3 4\n"), place.spread("--merge=4", *ONLY))
+        3, "", "failed: no result for shares 1, 2, 3, 4 of 4\n"), place.spread("--merge=4", *ONLY))
     (place.folder / "CERT.2.check").write_text(place.read("CERT.2.check").decode().split("\n")[0])
-    yield compare("of a job that was cut", (3, "", "failed: no result of 1 of 3 shares: 2\n"),
+    yield compare("of a job that was cut", (3, "", "failed: no result for share 2 of 3\n"),
                   place.spread("--merge=3", *ONLY))
     place.write("CERT", cert + b"\n")
-    none = (3, "", "failed: no result of 3 of 3 shares: 1 2 3\n")
+    none = (3, "", "failed: no result for shares 1, 2, 3 of 3\n")
     yield compare("of another certificate", none, place.spread("--merge=3", *ONLY))
     place.tune("--keep=2", *DECOY)
     run_jobs(place, *DECOY, "--keep=2")

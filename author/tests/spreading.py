@@ -286,7 +286,7 @@ def methods(place):
 
 
 def liars(place):
-    """Runs stand-ins for `cwtune` that cut a row or change a total."""
+    """Runs stand-ins for `cwtune` that cut a report or a row, or change a total."""
     place.write("x.red", inputs.FILES["imps.red"])
     came = place.spread("--check", *SMALL)
     yield compare("--check", (0, "accepted best 0 total 4", ""),
@@ -296,9 +296,15 @@ def liars(place):
 for word in "$@"; do case $word in [0-9]*.cert) sed -i '$d' $word;; esac; done; exit $status
 """
     total = f"""set -o pipefail; {place.program} "$@" | sed 's/^total 4/total 5/'\n"""
+    cut = f"""set -o pipefail
+case $1 in tune) {place.program} "$@" | head -c -5;; *) {place.program} "$@";; esac\n"""
     for name, text, words, end in [
+        ("reports that are cut", cut, ["--parts=2"], (
+            3, "", "failed: no result for parts 1, 2 of 2 (failed: its report is cut, or not a "
+            "report)\n0 of 2 parts are done, and kept in CERT.parts: repeat the command to run the "
+            "others\n")),
         ("a row too few", short, ["--parts=1"],
-         (3, "", "failed: the certificate of part 1 has not 4 settings\n")),
+         (3, "", "failed: the certificate of part 1 has 3 rows, and the part has 4 settings\n")),
         ("another total", total, ["--check", "--parts=1"], (1, "rejected row 1 BestRow\n",
          "CERT is not written, and the parts stay\n")),
     ]:

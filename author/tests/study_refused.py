@@ -23,7 +23,8 @@ REFUSALS = [
     ("t.red long.red", 1, "refused: long.red does not assemble: Asm line 0 Warrior TooLong"),
     ("bad.red all", 1, "refused: START of bad.red does not assemble: Asm line 3 Value "
      "DivisionByZero"),
-    ("range.red all", 1, "refused: range.red: line 1 is not a range"),
+    ("range.red all", 1, "refused: range.red: line 1 is not a range line: ;@tune NAME LOW HIGH "
+     "STEP START, with START one of the values"),
     ("w.red all", 1, "refused: w.red: no range line: give words NAME=LOW:HIGH:STEP too "
      "(`cwtune-vary w.red` lists the names)"),
     ("t.red all STEP=1:9:2", 1, "refused: t.red: it has range lines, so it is a template "

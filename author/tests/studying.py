@@ -129,7 +129,7 @@ def seeks(place):
         status, {name: report["settings"][name] for name in ["template", "box", "sought"]}))
     found = [line for line in err.splitlines() if line.startswith("found: total ")]
     yield compare("it is around what the climb found", [True], [
-        f" of 27 {box.constants(box.start)}, " in line for line in found])
+        f" of 27 {box.constants_of(box.start_values)}, " in line for line in found])
     log = place.read("p.study/log.txt").decode()
     yield compare("the log has the climb", (True, True), (
         "\ncwtune-seek --box=1 --jobs=1 " in log, "\n# found: total " in log))

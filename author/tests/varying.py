@@ -126,7 +126,8 @@ def climbs(place):
     total = int(lines[-2].split()[2].rstrip(","))
     yield compare("START of the template has that total", total, total_of(place, "found.red"))
     yield compare("no tuning of a line through it has a better one", [total] * 2, [
-        total_of(place, "line.red", found.line_through(found.start, (k,))) for k in range(2)])
+        total_of(place, "line.red", found.line_through(found.start_values, (k,)))
+        for k in range(2)])
     yield compare("with two jobs the same is found", out, sought(place, "--jobs=2")[1])
     again = sought(place, "--starts=2", "--seed=3")
     yield compare("more starts find no less", (0, True), (
@@ -134,8 +135,8 @@ def climbs(place):
     boxed = sought(place, "--box=2")
     place.write("box.red", boxed[1])
     box = grid.Grid(place.folder / "box.red")
-    yield compare("a box is around it", (0, found.start, True), (
-        boxed[0], box.start, all(len(values) <= 5 for values in box.values)))
+    yield compare("a box is around it", (0, found.start_values, True), (
+        boxed[0], box.start_values, all(len(values) <= 5 for values in box.values)))
     place.write("large.red", LARGE)
     large = sought(place, "--fights=1", "--box=9999", template=place.folder / "large.red")
     yield compare("a box of too many settings is not cut", (
@@ -143,7 +144,7 @@ def climbs(place):
         "`cwtune tune` takes, so the ranges are not cut"), (*large[:2], large[2][-1]))
     few = sought(place, "--fights=1")
     yield compare("--fights ends it after a tuning", (
-        0, "found: total 12 of 30 STEP=3045 FIRST=3000, 10 fights in 1 tunings, ended after 10 "
+        0, "found: total 12 of 30 STEP=3045 FIRST=3000, 10 fights in 1 tuning, ended after 10 "
         "fights (--fights)", "note: it is START, so nothing was gained",
         "note: it is the best setting that was seen, and more may be gained"),
         (few[0], *few[2][-3:]))
@@ -170,7 +171,7 @@ def total_of(place, name, text=None):
     if text is not None:
         place.write(name, text)
     start = grid.Grid(place.folder / name)
-    place.write(name, start.line_through(start.start, ()) if text is None else text)
+    place.write(name, start.line_through(start.start_values, ()) if text is None else text)
     came = place.run(["tune", name, str(TUNING / "schedule.csv"), "CERT", *WARRIORS])
     return int(came.out.decode().split("total ")[1].split()[0])
 

@@ -5,6 +5,7 @@
 import pathlib, tempfile
 
 from author.lib import tuning_files, warrior
+from author.lib.program import load_of
 from gate.play import Place
 from gate.tally import compare
 
@@ -34,8 +35,8 @@ def other_settings(program, text, count, folder):
     template, wrong = tuning_files.Template(path), []
     for setting in range(len(template.settings)):
         made.write_bytes(warrior.text_of(text, template, setting))
-        wanted = warrior.load_of(program, "--setting", str(setting), str(path))
-        came = warrior.load_of(program, str(made))
+        wanted = load_of(program, "--setting", str(setting), str(path))
+        came = load_of(program, str(made))
         if came != wanted or not wanted[0]:
             wrong.append(f"setting {setting}: expected {wanted}, came {came}")
     return wrong + [f"{len(template.settings)} settings"] * (len(template.settings) != count)
@@ -165,7 +166,8 @@ def places(program, folder):
              "imp.red"]
     for options, ranks, said in [
         ([], ["setting 1, rank 1", "setting 0"],
-         "1 settings were dropped: of the ranking only the first is exact (tune --keep 5)"),
+         "1 setting was dropped, so only the first of the ranking is exact; cwtune tune --keep 5 "
+         "makes the first 5 exact"),
         (["--keep=3"], ["setting 1, rank 1", "setting 0, rank 2", "setting 2, rank 3"],
          "setting 1 is START: the tuning found nothing better"),
     ]:

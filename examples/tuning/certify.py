@@ -400,6 +400,8 @@ def main():
 if __name__ == "__main__":
     try:
         main()
+    except KeyboardInterrupt:
+        sys.exit(130)
     except OSError as error:
         print(f"failed: {error.filename or 'standard output'}: {error.strerror}", file=sys.stderr)
         sys.exit(3)

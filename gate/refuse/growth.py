@@ -3,14 +3,13 @@
 The tests are those of the modules `memory` in the test programs that the gate builds; each program
 has to have some. With nothing refused each has to pass. With a request refused it has to pass too,
 or to end because a call returned `OutOfMemory` (at line or record 0, never another fault), or
-because a request of the test itself was refused. Use: python3 -m gate.refuse.growth [TEST
-PROGRAM..]. Needs `cc` and a system with LD_PRELOAD. Prints what failed, and as its last line how
-many requests were refused, and `N passed, N failed`. The exit status is 1 if a test failed.
+because a request of the test itself was refused. The last line says how many requests were refused,
+too. Needs `cc` and a system with LD_PRELOAD.
 """
-import concurrent.futures, os, pathlib, subprocess, sys, tempfile
+import concurrent.futures, os, pathlib, subprocess, tempfile
 
 from author.lib.endings import run_tool
-from author.lib.program import program_of
+from author.lib.program import module_parser, program_of
 
 from ..tally import tally
 from .runs import library_of
@@ -70,8 +69,11 @@ def refuse_each(library, program, test):
 
 
 def main():
-    given = sys.argv[1:] or [ROOT / program for program in PROGRAMS]
-    programs = [program_of([program], "rt test") for program in given]
+    parser = module_parser("gate.refuse.growth", __doc__)
+    parser.add_argument("programs", nargs="*", metavar="TEST_PROGRAM",
+                        default=[ROOT / program for program in PROGRAMS],
+                        help="test programs [default: those that the gate builds]")
+    programs = [program_of(program, "rt test") for program in parser.parse_args().programs]
     found = {program: tests_of(program) for program in programs}
     tests = [(program, name) for program, names in found.items() for name in names]
     with tempfile.TemporaryDirectory() as work:

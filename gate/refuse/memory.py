@@ -2,15 +2,13 @@
 
 Each run has to end with its own result, which `runs.py` says, or with status 3, the line
 `failed: OutOfMemory`, nothing on standard output and CERT as it was. The number of requests also
-shows that no assembly is repeated (`once_each.py`).
-Use: python3 -m gate.refuse.memory [PROGRAM]. Needs `cc` and a system with LD_PRELOAD. Prints what
-failed, and as its last line how many requests were refused, and `N passed, N failed`. The exit
-status is 1 if a run failed.
+shows that no assembly is repeated (`once_each.py`). The last line says how many requests were
+refused, too. Needs `cc` and a system with LD_PRELOAD.
 """
-import concurrent.futures, os, sys, tempfile
+import concurrent.futures, os, tempfile
 
 from author.lib.endings import run_tool
-from author.lib.program import program_of
+from author.lib.program import program_word
 
 from . import once_each
 from ..play import end
@@ -36,7 +34,7 @@ def refuse_each(program, library, words, text, expected):
 
 
 def main():
-    program, runs = program_of(sys.argv[1:]), all_runs()
+    program, runs = program_word("gate.refuse.memory", __doc__), all_runs()
     with tempfile.TemporaryDirectory() as work:
         library = library_of("memory.c", work)
         with concurrent.futures.ThreadPoolExecutor(os.cpu_count()) as pool:

@@ -1,14 +1,12 @@
-"""Tunes where the certificate and the template have one inode: python3 -m gate.refuse.two_devices
-[PROGRAM]
+"""Tunes where the certificate and the template have one inode.
 
 On two devices they are two files, and the older certificate is replaced; on one device they are one
-file, which is not overwritten. Needs `cc` and a system with LD_PRELOAD. Prints what failed, and as
-its last line `N passed, N failed`. The exit status is 1 if a run failed.
+file, which is not overwritten. Needs `cc` and a system with LD_PRELOAD.
 """
-import os, sys, tempfile
+import os, tempfile
 
 from author.lib.endings import run_tool
-from author.lib.program import program_of
+from author.lib.program import program_word
 
 from ..play import end, play
 from ..tally import compare, tally
@@ -30,7 +28,7 @@ def trials(program):
 
 
 def main():
-    return tally(trials(program_of(sys.argv[1:])))
+    return tally(trials(program_word("gate.refuse.two_devices", __doc__)))
 
 
 if __name__ == "__main__":

@@ -1,18 +1,17 @@
-"""Runs the program where its writes fail: python3 -m gate.refuse.writes [PROGRAM]
+"""Runs the program where its writes fail.
 
 The runs are those of `runs.py`, each with an older certificate in CERT, and with none. A step is a
 write of one byte, the flush of a file to the disk, or its new name. In each run one step, the
 first, the second and so on, goes wrong: it fails, the disk is full, it takes no byte, or the
 program is killed after it. Until a certificate has its name CERT is as it was, and nothing is on
 standard output. CERT.inputs is written after the report; a step of it that fails does not change
-how the run ends. Only a kill leaves an unfinished file. Needs `cc` and a system with LD_PRELOAD.
-Prints what failed, and as its last line how many steps failed, and `N passed, N failed`. The exit
-status is 1 if a run failed.
+how the run ends. Only a kill leaves an unfinished file. The last line says how many steps failed,
+too. Needs `cc` and a system with LD_PRELOAD.
 """
-import concurrent.futures, os, signal, sys, tempfile
+import concurrent.futures, os, signal, tempfile
 
 from author.lib.endings import run_tool
-from author.lib.program import program_of
+from author.lib.program import program_word
 
 from ..play import Place, end, play
 from ..tally import tally
@@ -106,7 +105,7 @@ def explain_flush(program, library):
 
 
 def main():
-    program, runs = program_of(sys.argv[1:]), all_runs()
+    program, runs = program_word("gate.refuse.writes", __doc__), all_runs()
     with tempfile.TemporaryDirectory() as work:
         library = library_of("writes.c", work)
         with concurrent.futures.ThreadPoolExecutor(os.cpu_count()) as pool:

@@ -1,16 +1,14 @@
-"""Tries the file CERT.inputs, which a tuning writes beside its certificate: python3 -m
-gate.inputs_trials [PROGRAM]
+"""Tries the file CERT.inputs, which a tuning writes beside its certificate.
 
 Its text is compared with one that is made from the words and the files; nothing else of a run may
-depend on it. Prints what failed, and as its last line `N passed, N failed`. The exit status is 1 if
-a run failed.
+depend on it.
 """
-import os, pathlib, sys, tempfile
+import os, pathlib, tempfile
 
 from author.lib.endings import run_tool
-from author.lib.program import program_of, run_program
+from author.lib.program import program_word, run_program
 
-from . import inputs, inputs_file
+from . import cert_inputs, inputs
 from .inputs import RULES
 from .play import Place, end
 from .tally import compare, tally
@@ -47,7 +45,7 @@ class Trial(Place):
         """Runs a tuning. Returns CERT.inputs, and what it has to be."""
         self.run(words, keep=True)
         came = self.read("CERT.inputs")
-        wanted = inputs_file.text_of(words, self.folder, self.version)
+        wanted = cert_inputs.text_of(words, self.folder, self.version)
         return came, wanted
 
 
@@ -139,7 +137,7 @@ def rejections(place):
     came = place.run(["check", *TUNE[1:]], terminal=True)
     yield compare("a changed certificate", unknown.format("is of another certificate"),
                   shown(came.err))
-    digests = [inputs_file.digest_of(it).encode() for it in (text, wrong)]
+    digests = [cert_inputs.digest_of(it).encode() for it in (text, wrong)]
     place.write("CERT.inputs", said.replace(*digests))
     came = place.run(["check", *TUNE[1:]], terminal=True)
     yield compare("a wrong certificate with its digest", HOLDS + SAME.format(""), shown(came.err))
@@ -159,7 +157,7 @@ def shown(err):
 
 
 def main():
-    program = program_of(sys.argv[1:])
+    program = program_word("gate.cert_inputs_trials", __doc__)
     version = run_program(program, "--version").stdout.decode().removeprefix("cwtune ").strip()
     with tempfile.TemporaryDirectory() as folder:
         place = Trial(program, pathlib.Path(folder), version)

@@ -46,7 +46,7 @@ def text_of(words, folder, version):
 def is_right(text, cert, folder):
     """Returns whether a text is the CERT.inputs of `cert` and of files in `folder` as they are."""
     try:
-        lines = [line.split(" ", 1) for line in text.decode().splitlines()]
+        lines = [line.split(" ", 1) for line in os.fsdecode(text).removesuffix("\n").split("\n")]
         said = dict(lines)
         files = [rest.split(" ", 2) for word, rest in lines
                  if word in ("template", "schedule", "opponent")]

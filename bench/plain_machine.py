@@ -123,8 +123,7 @@ class Fight:
         outcome = "tie 1" if mine and theirs else "win 3" if mine else "loss 0"
         return f"{outcome} turns {self.turns}\n"
 
-    def outside(self):
+    def unclassed(self):
         """Returns the share of the turns whose instruction has no class of its own."""
         known = classes()
-        wide = sum(count for key, count in self.executed.items() if key not in known)
-        return wide / self.turns
+        return sum(count for key, count in self.executed.items() if key not in known) / self.turns
