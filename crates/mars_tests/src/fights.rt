@@ -8,18 +8,21 @@ use rc_instr::{Rules, read_loadfile};
 use std::alloc::{AllocError, Global};
 use std::test::Fail;
 
+const AT_EIGHT: Fight = Fight {
+    opponent: 0,
+    position: 8,
+    first: Side::Candidate,
+    weight: 1,
+};
+
+const TWO_FIGHTS: &[u8] = b"opponent,position,first\n0,8,c\n1,11,o\n";
+
 #[test]
-fn a_schedule_is_read_and_fits(rt: HostRuntime) -> Result<(), Fail> {
+fn a_schedule_is_read(rt: HostRuntime) -> Result<(), Fail> {
     let rules = Rules::try_new(16, 20, 4, 4, 4)?;
-    let text = "opponent,position,first\n0,8,c\n1,11,o\n";
-    let schedule = Schedule::read(rt.alloc(), text.as_bytes(), 2, &rules)?;
+    let schedule = Schedule::read(rt.alloc(), TWO_FIGHTS, 2, &rules)?;
     let fights = [
-        Fight {
-            opponent: 0,
-            position: 8,
-            first: Side::Candidate,
-            weight: 1,
-        },
+        AT_EIGHT,
         Fight {
             opponent: 1,
             position: 11,
@@ -29,23 +32,102 @@ fn a_schedule_is_read_and_fits(rt: HostRuntime) -> Result<(), Fail> {
     ];
     assert_eq!(rt; schedule.fights(), fights.as_slice());
     assert_eq!(rt; (schedule.plain(), schedule.greatest()), (true, 6));
-    for &(core, distance, opponents, want) in &[
-        (16, 4, 2, true),
-        (16, 4, 64, true),
-        (16, 4, 1, false),
-        (16, 4, 0, false),
-        (16, 5, 2, true),
-        (16, 6, 2, false),
-        (15, 4, 2, true),
-        (14, 4, 2, false),
-        (8000, 8, 2, true),
-        (8000, 9, 2, false),
-    ] {
-        let rules = Rules::try_new(core, 20, 4, 4, distance)?;
+    Ok(())
+}
+
+// Whether `TWO_FIGHTS` fits a number of opponents, and rules of `core` and `distance`.
+struct Fit {
+    name: &'static str,
+    core: u32,
+    distance: u32,
+    opponents: u32,
+    want: bool,
+}
+
+const FITS: [Fit; 10] = [
+    Fit {
+        name: "its own rules and opponents",
+        core: 16,
+        distance: 4,
+        opponents: 2,
+        want: true,
+    },
+    Fit {
+        name: "the most opponents",
+        core: 16,
+        distance: 4,
+        opponents: 64,
+        want: true,
+    },
+    Fit {
+        name: "one opponent too few",
+        core: 16,
+        distance: 4,
+        opponents: 1,
+        want: false,
+    },
+    Fit {
+        name: "no opponents",
+        core: 16,
+        distance: 4,
+        opponents: 0,
+        want: false,
+    },
+    Fit {
+        name: "a distance that position 11 has",
+        core: 16,
+        distance: 5,
+        opponents: 2,
+        want: true,
+    },
+    Fit {
+        name: "a distance above that of position 11",
+        core: 16,
+        distance: 6,
+        opponents: 2,
+        want: false,
+    },
+    Fit {
+        name: "a core in which position 11 has the distance",
+        core: 15,
+        distance: 4,
+        opponents: 2,
+        want: true,
+    },
+    Fit {
+        name: "a core in which position 11 is too near",
+        core: 14,
+        distance: 4,
+        opponents: 2,
+        want: false,
+    },
+    Fit {
+        name: "a distance that position 8 has",
+        core: 8000,
+        distance: 8,
+        opponents: 2,
+        want: true,
+    },
+    Fit {
+        name: "a distance above that of position 8",
+        core: 8000,
+        distance: 9,
+        opponents: 2,
+        want: false,
+    },
+];
+
+#[test]
+fn a_schedule_fits_rules_and_opponents(rt: HostRuntime) -> Result<(), Fail> {
+    let rules = Rules::try_new(16, 20, 4, 4, 4)?;
+    let schedule = Schedule::read(rt.alloc(), TWO_FIGHTS, 2, &rules)?;
+    for case in &FITS {
+        let rules = Rules::try_new(case.core, 20, 4, 4, case.distance)?;
         assert_eq!(rt;
-            schedule.fits(&rules, opponents),
-            want,
-            "{core} {distance} {opponents}"
+            schedule.fits(&rules, case.opponents),
+            case.want,
+            "{}",
+            case.name
         );
     }
     Ok(())
@@ -71,28 +153,66 @@ fn long_text(alloc: Global, fights: u32, last: &str) -> Result<String, AllocErro
     Ok(text)
 }
 
-// The number of records `0,8,c`, the text after them, and, if the schedule is refused, the record
-// and the kind of the fault.
+// A schedule of `fights` records `0,8,c` and the text `last`, and its fault if it is refused.
+struct Long {
+    name: &'static str,
+    fights: u32,
+    last: &'static str,
+    want: Option<ScheduleFault>,
+}
+
+const LONG: [Long; 5] = [
+    Long {
+        name: "the last of the most fights is another one",
+        fights: 9999,
+        last: "1,8,o",
+        want: None,
+    },
+    Long {
+        name: "the most fights",
+        fights: 10_000,
+        last: "",
+        want: None,
+    },
+    Long {
+        name: "one fight too many",
+        fights: 10_000,
+        last: "1,8,o",
+        want: Some(ScheduleFault {
+            row: 10_001,
+            kind: Kind::TooMany,
+        }),
+    },
+    Long {
+        name: "one record too many that is malformed",
+        fights: 10_000,
+        last: "x",
+        want: Some(ScheduleFault {
+            row: 10_001,
+            kind: Kind::TooMany,
+        }),
+    },
+    Long {
+        name: "a bad position before a fight too many",
+        fights: 9999,
+        last: "0,3,c\n0,8,c\n0,8,c\n",
+        want: Some(ScheduleFault {
+            row: 10_000,
+            kind: Kind::BadPosition,
+        }),
+    },
+];
+
 #[test]
 fn a_schedule_has_at_most_ten_thousand_fights(rt: HostRuntime) -> Result<(), Fail> {
     let rules = Rules::try_new(16, 20, 4, 4, 4)?;
-    for &(fights, last, want) in &[
-        (9999, "1,8,o", None),
-        (10_000, "", None),
-        (10_000, "1,8,o", Some((10_001, Kind::TooMany))),
-        (10_000, "x", Some((10_001, Kind::TooMany))),
-        (
-            9999,
-            "0,3,c\n0,8,c\n0,8,c\n",
-            Some((10_000, Kind::BadPosition)),
-        ),
-    ] {
-        let text = long_text(rt.alloc(), fights, last)?;
+    for case in &LONG {
+        let text = long_text(rt.alloc(), case.fights, case.last)?;
         let found = match Schedule::read(rt.alloc(), text.as_bytes(), 2, &rules) {
             Ok(_) => None,
-            Err(fault) => Some((fault.row, fault.kind)),
+            Err(fault) => Some(fault),
         };
-        assert_eq!(rt; found, want, "{fights} {last:?}");
+        assert_eq!(rt; found, case.want, "{}", case.name);
     }
     Ok(())
 }
@@ -105,13 +225,6 @@ fn a_schedule_may_have_weights(rt: HostRuntime) -> Result<(), Fail> {
     assert_eq!(rt; (schedule.plain(), schedule.greatest()), (false, 3006));
     Ok(())
 }
-
-const AT_EIGHT: Fight = Fight {
-    opponent: 0,
-    position: 8,
-    first: Side::Candidate,
-    weight: 1,
-};
 
 #[test]
 fn one_arena_for_many_fights(rt: HostRuntime) -> Result<(), Fail> {

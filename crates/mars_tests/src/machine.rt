@@ -27,11 +27,21 @@ fn instruction(rt: &HostRuntime, core: u32, text: &[u8]) -> Result<Instruction, 
 }
 
 // What a step leaves: a cell, the candidate's first task, and how many cells a reset sets.
-type Step = (Instruction, Option<u32>, u32);
+#[derive(Clone, Copy)]
+struct Step {
+    cell: Instruction,
+    task: Option<u32>,
+    reset: u32,
+}
 
 // Loads two warriors, makes one step of the candidate, and resets the arena. Returns what the step
 // left, with the cell at `at`.
-fn step<C: Cells>(arena: &mut Arena<C>, candidate: &Warrior, opponent: &Warrior, at: u32) -> Step
+fn one_step<C: Cells>(
+    arena: &mut Arena<C>,
+    candidate: &Warrior,
+    opponent: &Warrior,
+    at: u32,
+) -> Step
     requires blank { IsBlank arena.old.rules arena.old }
     requires cycles { 0 < arena.old.rules.cycles }
     requires candidate { Fits arena.old.rules candidate.now }
@@ -46,11 +56,15 @@ fn step<C: Cells>(arena: &mut Arena<C>, candidate: &Warrior, opponent: &Warrior,
     } else {
         None
     };
-    let cell = arena.cell(at);
-    (cell, task, arena.reset())
+    Step {
+        cell: arena.cell(at),
+        task,
+        reset: arena.reset(),
+    }
 }
 
-// Makes one step of the candidate on plain and on packed cells. The opponent is an empty cell at 8.
+// Makes one step of the candidate, on plain and then on packed cells. The opponent is an empty cell
+// at 8.
 fn steps(rt: &HostRuntime, core: u32, code: &[u8], at: u32) -> Result<(Step, Step), Fail>
     requires core { 16 ≤ core }
     requires at { at < core }
@@ -61,8 +75,8 @@ fn steps(rt: &HostRuntime, core: u32, code: &[u8], at: u32) -> Result<(Step, Ste
     let mut plain = Arena::<PlainCells>::try_new(rt.alloc(), &rules)?;
     let mut packed = Arena::<PackedCells>::try_new(rt.alloc(), &rules)?;
     Ok((
-        step(&mut plain, &candidate, &opponent, at),
-        step(&mut packed, &candidate, &opponent, at),
+        one_step(&mut plain, &candidate, &opponent, at),
+        one_step(&mut packed, &candidate, &opponent, at),
     ))
 }
 
@@ -184,14 +198,16 @@ fn one_step_changes_a_cell(rt: HostRuntime) -> Result<(), Fail> {
         }
         let (plain, packed) = steps(&rt, 16, case.code, case.at)?;
         let cell = instruction(&rt, 16, case.cell)?;
-        assert_eq!(rt; plain, (cell, case.task, 16), "{}", case.name);
-        assert_eq!(rt; (packed.0, packed.1), (cell, case.task), "{}", case.name);
+        let want = (cell, case.task);
+        assert_eq!(rt; (plain.cell, plain.task), want, "{}", case.name);
+        assert_eq!(rt; (packed.cell, packed.task), want, "{}", case.name);
+        assert_eq!(rt; plain.reset, 16, "{}", case.name);
     }
     // the greatest product: 65534 * 65534 is 1 modulo 65535
     let code = b"ORG 0\nMUL.AB #-1, $1\nDAT.F $0, $-1\n";
     let (plain, packed) = steps(&rt, 65535, code, 1)?;
     let one = instruction(&rt, 65535, b"ORG 0\nDAT.F $0, $1\n")?;
-    assert_eq!(rt; (plain.0, packed.0), (one, one));
+    assert_eq!(rt; (plain.cell, packed.cell), (one, one));
     Ok(())
 }
 
@@ -265,7 +281,7 @@ fn one_step_queues_an_address(rt: HostRuntime) -> Result<(), Fail> {
     for case in &QUEUED {
         let (plain, packed) = steps(&rt, 16, case.code, 0)?;
         assert_eq!(rt;
-            [plain.1, packed.1],
+            [plain.task, packed.task],
             [Some(case.task), Some(case.task)],
             "{}",
             case.name
@@ -274,8 +290,13 @@ fn one_step_queues_an_address(rt: HostRuntime) -> Result<(), Fail> {
     Ok(())
 }
 
-// Points, turns, and the number of cells that a reset sets.
-pub(crate) type Played = (u8, u32, u32);
+// The points and turns of a fight, and how many cells a reset sets after it.
+#[derive(Clone, Copy, Debug, PartialEq, Eq)]
+pub(crate) struct Played {
+    pub(crate) points: u8,
+    pub(crate) turns: u32,
+    pub(crate) reset: u32,
+}
 
 // Loads two warriors, plays, and resets the arena.
 fn play<C: Cells>(
@@ -292,10 +313,14 @@ fn play<C: Cells>(
 {
     arena.load(candidate, opponent, 8);
     let outcome = arena.run(first);
-    (outcome.points, outcome.turns, arena.reset())
+    Played {
+        points: outcome.points,
+        turns: outcome.turns,
+        reset: arena.reset(),
+    }
 }
 
-// Plays a fight on plain and on packed cells, in a core of 16 cells.
+// Plays a fight on plain and then on packed cells, in a core of 16 cells.
 pub(crate) fn plays(
     rt: &HostRuntime,
     candidate: &[u8],
@@ -321,8 +346,8 @@ const SPLITS: &[u8] = b"ORG 0\nSPL.B $0, $0\n";
 
 const WAITS: &[u8] = b"ORG 0\nJMP.B $0, $0\n";
 
-// A fight in a core of 16 cells; `memory` plays them. `played` has points, turns, and the number of
-// cells that were written.
+// A fight in a core of 16 cells; `memory` plays them. `played` is what it leaves on packed cells,
+// where a reset sets the cells that were written.
 pub(crate) struct Duel {
     pub(crate) name: &'static str,
     pub(crate) candidate: &'static [u8],
@@ -341,7 +366,11 @@ pub(crate) const DUELS: [Duel; 7] = [
         cycles: 20,
         tasks: 4,
         first: Side::Candidate,
-        played: (1, 40, 16),
+        played: Played {
+            points: 1,
+            turns: 40,
+            reset: 16,
+        },
     },
     Duel {
         name: "a candidate that dies loses in the first turn",
@@ -350,7 +379,11 @@ pub(crate) const DUELS: [Duel; 7] = [
         cycles: 20,
         tasks: 4,
         first: Side::Candidate,
-        played: (0, 1, 2),
+        played: Played {
+            points: 0,
+            turns: 1,
+            reset: 2,
+        },
     },
     Duel {
         name: "an opponent that moves second dies in the second turn",
@@ -359,7 +392,11 @@ pub(crate) const DUELS: [Duel; 7] = [
         cycles: 1,
         tasks: 4,
         first: Side::Candidate,
-        played: (3, 2, 3),
+        played: Played {
+            points: 3,
+            turns: 2,
+            reset: 3,
+        },
     },
     Duel {
         name: "an opponent that moves first dies in the first turn",
@@ -368,7 +405,11 @@ pub(crate) const DUELS: [Duel; 7] = [
         cycles: 1,
         tasks: 4,
         first: Side::Opponent,
-        played: (3, 1, 2),
+        played: Played {
+            points: 3,
+            turns: 1,
+            reset: 2,
+        },
     },
     Duel {
         name: "an imp and a jump to itself tie",
@@ -377,7 +418,11 @@ pub(crate) const DUELS: [Duel; 7] = [
         cycles: 20,
         tasks: 4,
         first: Side::Candidate,
-        played: (1, 40, 16),
+        played: Played {
+            points: 1,
+            turns: 40,
+            reset: 16,
+        },
     },
     Duel {
         name: "a division by 0 ends the task",
@@ -386,7 +431,11 @@ pub(crate) const DUELS: [Duel; 7] = [
         cycles: 20,
         tasks: 4,
         first: Side::Candidate,
-        played: (0, 1, 4),
+        played: Played {
+            points: 0,
+            turns: 1,
+            reset: 4,
+        },
     },
     Duel {
         name: "with one task allowed SPL adds none",
@@ -395,24 +444,38 @@ pub(crate) const DUELS: [Duel; 7] = [
         cycles: 20,
         tasks: 1,
         first: Side::Candidate,
-        played: (0, 3, 3),
+        played: Played {
+            points: 0,
+            turns: 3,
+            reset: 3,
+        },
     },
 ];
 
-// Plays a fight and resets, makes a step and resets. Returns how many turns the step made, and how
-// many cells each reset set.
-fn resets<C: Cells>(arena: &mut Arena<C>, imp: &Warrior, copier: &Warrior) -> (u32, u32, u32)
+// How many turns a step made, and how many cells a reset set after a fight and after that step.
+#[derive(Clone, Copy, Debug, PartialEq, Eq)]
+struct Resets {
+    turns: u32,
+    after_fight: u32,
+    after_step: u32,
+}
+
+// Plays a fight and resets, makes a step and resets.
+fn reset_twice<C: Cells>(arena: &mut Arena<C>, imp: &Warrior, copier: &Warrior) -> Resets
     requires blank { IsBlank arena.old.rules arena.old }
     requires cycles { 0 < arena.old.rules.cycles }
     requires imp { Fits arena.old.rules imp.now }
     requires copier { Fits arena.old.rules copier.now }
     requires eight { (arena.old.rules.distance ≤ 8) × (8 + arena.old.rules.distance ≤ arena.old.rules.core) }
 {
-    let (_, _, after_run) = play(arena, imp, imp, Side::Candidate);
+    let played = play(arena, imp, imp, Side::Candidate);
     arena.load(copier, imp, 8);
     arena.step(Side::Candidate);
-    let turns = arena.turns();
-    (turns, after_run, arena.reset())
+    Resets {
+        turns: arena.turns(),
+        after_fight: played.reset,
+        after_step: arena.reset(),
+    }
 }
 
 #[test]
@@ -428,8 +491,17 @@ fn a_reset_of_packed_cells_sets_few(rt: HostRuntime) -> Result<(), Fail> {
     };
     let few = a_reset_sets_few_cells(&mut packed, &imp, &imp, 8, Side::Candidate);
     assert_eq!(rt; few, (tie, 16));
-    assert_eq!(rt; resets(&mut plain, &imp, &copier), (1, 16, 16));
-    assert_eq!(rt; resets(&mut packed, &imp, &copier), (1, 16, 4));
+    let on_plain = Resets {
+        turns: 1,
+        after_fight: 16,
+        after_step: 16,
+    };
+    let on_packed = Resets {
+        after_step: 4,
+        ..on_plain
+    };
+    assert_eq!(rt; reset_twice(&mut plain, &imp, &copier), on_plain);
+    assert_eq!(rt; reset_twice(&mut packed, &imp, &copier), on_packed);
     Ok(())
 }
 

@@ -4,7 +4,7 @@
 //! `make test` also runs each of these tests with its first, second and so on request for memory
 //! refused (gate/refuse/growth.py). It then ends with the same results, or with the error
 //! `OutOfMemory` of the call itself, in no other variant.
-use crate::machine::{DUELS, plays};
+use crate::machine::{DUELS, Played, plays};
 use mars_fight::{Schedule, ScheduleFaultKind};
 use rc_instr::Rules;
 use std::alloc::Global;
@@ -22,45 +22,74 @@ fn fights_end_as_worked_out(rt: HostRuntime) -> Result<(), Fail> {
             duel.tasks,
             duel.first,
         )?;
-        assert_eq!(rt; plain, (duel.played.0, duel.played.1, 16), "{}", duel.name);
+        let on_plain = Played {
+            reset: 16,
+            ..duel.played
+        };
+        assert_eq!(rt; plain, on_plain, "{}", duel.name);
         assert_eq!(rt; packed, duel.played, "{}", duel.name);
     }
     Ok(())
 }
 
-// Schedules, and the number of their fights or the text of their fault.
-const SCHEDULES: [(&[u8], &str); 10] = [
-    (b"opponent,position,first\n0,8,c\n0,8,c\n", "2"),
-    (b"opponent,position,first\n0,4,c\n0,12,c\n", "2"),
-    (
-        b"opponent,position,first\n0,3,c\n",
-        "record 1: position closer than the distance",
-    ),
-    (
-        b"opponent,position,first\n0,13,c\n",
-        "record 1: position closer than the distance",
-    ),
-    (b"opponent,position,first\n", "record 0: no fights"),
-    (
-        b"opponent,position,first\n0,8\n",
-        "record 1: expected as many fields as in the first record",
-    ),
-    (
-        b"opponent,position,first\n5,8,c\n",
-        "record 1: no such opponent",
-    ),
-    (
-        b"opponent,position,first\nx,8,c\n",
-        "record 1: expected 1 to 9 digits and nothing else",
-    ),
-    (
-        b"opponent,position,first\n0,8,z\n",
-        "record 1: first mover must be c or o",
-    ),
-    (
-        b"",
-        "record 0: first record must be opponent,position,first or opponent,position,first,weight",
-    ),
+// A schedule, and the number of its fights or the text of its fault.
+struct ScheduleCase {
+    name: &'static str,
+    text: &'static [u8],
+    want: &'static str,
+}
+
+const SCHEDULES: [ScheduleCase; 10] = [
+    ScheduleCase {
+        name: "two fights",
+        text: b"opponent,position,first\n0,8,c\n0,8,c\n",
+        want: "2",
+    },
+    ScheduleCase {
+        name: "the nearest positions, both ways round",
+        text: b"opponent,position,first\n0,4,c\n0,12,c\n",
+        want: "2",
+    },
+    ScheduleCase {
+        name: "too near",
+        text: b"opponent,position,first\n0,3,c\n",
+        want: "record 1: position closer than the distance",
+    },
+    ScheduleCase {
+        name: "too near, the other way round",
+        text: b"opponent,position,first\n0,13,c\n",
+        want: "record 1: position closer than the distance",
+    },
+    ScheduleCase {
+        name: "no fights",
+        text: b"opponent,position,first\n",
+        want: "record 0: no fights",
+    },
+    ScheduleCase {
+        name: "a field too few",
+        text: b"opponent,position,first\n0,8\n",
+        want: "record 1: expected as many fields as in the first record",
+    },
+    ScheduleCase {
+        name: "an opponent that does not exist",
+        text: b"opponent,position,first\n5,8,c\n",
+        want: "record 1: no such opponent",
+    },
+    ScheduleCase {
+        name: "an opponent that is not a number",
+        text: b"opponent,position,first\nx,8,c\n",
+        want: "record 1: expected 1 to 9 digits and nothing else",
+    },
+    ScheduleCase {
+        name: "a first mover that is not a side",
+        text: b"opponent,position,first\n0,8,z\n",
+        want: "record 1: first mover must be c or o",
+    },
+    ScheduleCase {
+        name: "no first record",
+        text: b"",
+        want: "record 0: first record must be opponent,position,first or opponent,position,first,weight",
+    },
 ];
 
 // Reads a schedule against two opponents. Returns the number of its fights, or the text of its
@@ -80,8 +109,13 @@ fn schedule_read(alloc: Global, text: &[u8]) -> Result<String, Fail> {
 
 #[test]
 fn a_schedule_is_read(rt: HostRuntime) -> Result<(), Fail> {
-    for &(text, want) in &SCHEDULES {
-        assert_eq!(rt; schedule_read(rt.alloc(), text)?.as_str(), want);
+    for case in &SCHEDULES {
+        assert_eq!(rt;
+            schedule_read(rt.alloc(), case.text)?.as_str(),
+            case.want,
+            "{}",
+            case.name
+        );
     }
     Ok(())
 }

@@ -12,6 +12,13 @@ use rc_instr::{Rules, Warrior, write_loadfile};
 use std::alloc::Global;
 use std::test::Fail;
 
+// A text, and what it gives: lines, a load file or the text of a fault.
+pub(crate) struct Case {
+    pub(crate) name: &'static str,
+    pub(crate) text: &'static [u8],
+    pub(crate) want: &'static [u8],
+}
+
 pub(crate) fn load_of(alloc: Global, warrior: &Warrior, rules: &Rules) -> Result<Vec<u8>, Fail>
     requires { Fits rules.now warrior.now }
 {

@@ -4,22 +4,44 @@
 //! `make test` also runs each of these tests with its first, second and so on request for memory
 //! refused (gate/refuse/growth.py). It then ends with the same results, or with the error
 //! `OutOfMemory` of the call itself, in no other variant.
-use crate::assembly::assembled;
 use crate::assembly::expansion::lines_of;
+use crate::assembly::{Case, assembled};
 use rc_instr::{LoadFault, Rules, WarriorError, read_loadfile, write_loadfile};
 use std::alloc::Global;
 use std::test::Fail;
 
+// Texts that are expanded and assembled, and the load files of their warriors.
+const SUM: &[u8] = b"s EQU 2+3\nDAT #0, #s*2\n";
+
+const SUM_LOAD: &[u8] = b"ORG 0\nDAT.F #0, #8\n";
+
+const QUOTIENT: &[u8] = b"DAT #-7/2\n";
+
+const QUOTIENT_LOAD: &[u8] = b"ORG 0\nDAT.F $0, #-3\n";
+
+const COPIES: &[u8] = b"i FOR 2\nx&i DAT #i\nROF\nJMP x01\n";
+
+const COPIES_LOAD: &[u8] = b"ORG 0\nDAT.F $0, #1\nDAT.F $0, #2\nJMP.B $-2, $0\n";
+
 const POSTED: &[u8] =
     b"From: a mail header\n;redcode-94\n;name Dwarf\n;author A. K. Dewdney\n;assert CORESIZE % 4 == 0\nstep EQU 4\n  ORG start\nbomb DAT #0, #0\nstart ADD #step, bomb\n  MOV bomb, @bomb\n  JMP start\n  END\n";
 
-// Load files of warriors.
-const LOADS: [&[u8]; 4] = [
-    b"ORG 0\nDAT.F #0, #8\n",
-    b"ORG 0\nDAT.F $0, #-3\n",
-    b"ORG 0\nDAT.F $0, #1\nDAT.F $0, #2\nJMP.B $-2, $0\n",
-    b"ORG 1\nDAT.F #0, #0\nADD.AB #4, $-1\nMOV.I $-2, @-2\nJMP.B $-2, $0\n",
-];
+const POSTED_LOAD: &[u8] = b"ORG 1\nDAT.F #0, #0\nADD.AB #4, $-1\nMOV.I $-2, @-2\nJMP.B $-2, $0\n";
+
+// Texts that are neither expanded nor assembled.
+const NO_ROF: Case = Case {
+    name: "a FOR without a ROF",
+    text: b"FOR 3\n",
+    want: b"line 1: FOR without ROF",
+};
+
+const LARGE_DECIMAL: Case = Case {
+    name: "a decimal of more than 32 bits",
+    text: b"DAT 4294967296\n",
+    want: b"line 1: number above 4294967295",
+};
+
+const LOADS: [&[u8]; 4] = [SUM_LOAD, QUOTIENT_LOAD, COPIES_LOAD, POSTED_LOAD];
 
 // Reads a load file and appends it to `before`. Out of memory, which leaves that alone, is an
 // error.
@@ -45,88 +67,163 @@ fn write_loadfile_appends(rt: HostRuntime) -> Result<(), Fail> {
     Ok(())
 }
 
-// Texts, and why they are not load files.
-const UNREAD: [(&[u8], LoadFault); 5] = [
-    (b"ORG 0\nMOV.I $0, $9\n", LoadFault::Malformed { line: 2 }),
-    (
-        b"ORG 1\nDAT.F $0, $0\n",
-        LoadFault::Warrior(WarriorError::BadStart),
-    ),
-    (b"ORG 0\n", LoadFault::Warrior(WarriorError::Empty)),
-    (b"ORG 0\nDAT.F $0, $0", LoadFault::Malformed { line: 2 }),
-    (
-        b"ORG 0\nDAT.F $0, $0\nDAT.F $0, $0\nDAT.F $0, $0\nDAT.F $0, $0\nDAT.F $0, $0\n",
-        LoadFault::Warrior(WarriorError::TooLong),
-    ),
+// A text, and why it is not a load file.
+struct Unread {
+    name: &'static str,
+    text: &'static [u8],
+    want: LoadFault,
+}
+
+const UNREAD: [Unread; 5] = [
+    Unread {
+        name: "a number above half of the core without its minus",
+        text: b"ORG 0\nMOV.I $0, $9\n",
+        want: LoadFault::Malformed { line: 2 },
+    },
+    Unread {
+        name: "a start after the code",
+        text: b"ORG 1\nDAT.F $0, $0\n",
+        want: LoadFault::Warrior(WarriorError::BadStart),
+    },
+    Unread {
+        name: "no instructions",
+        text: b"ORG 0\n",
+        want: LoadFault::Warrior(WarriorError::Empty),
+    },
+    Unread {
+        name: "no line end",
+        text: b"ORG 0\nDAT.F $0, $0",
+        want: LoadFault::Malformed { line: 2 },
+    },
+    Unread {
+        name: "more instructions than the length",
+        text: b"ORG 0\nDAT.F $0, $0\nDAT.F $0, $0\nDAT.F $0, $0\nDAT.F $0, $0\nDAT.F $0, $0\n",
+        want: LoadFault::Warrior(WarriorError::TooLong),
+    },
 ];
 
 #[test]
 fn read_loadfile_names_the_fault(rt: HostRuntime) -> Result<(), Fail> {
     let rules = Rules::try_new(16, 20, 4, 4, 4)?;
-    for &(text, want) in &UNREAD {
-        match read_loadfile(rt.alloc(), text, &rules) {
-            Ok(_) => assert!(rt; false, "{text:?} is read"),
+    for case in &UNREAD {
+        match read_loadfile(rt.alloc(), case.text, &rules) {
+            Ok(_) => assert!(rt; false, "{}: it is read", case.name),
             Err(LoadFault::OutOfMemory) => return Err(Fail::from(LoadFault::OutOfMemory)),
-            Err(fault) => assert_eq!(rt; fault, want, "{text:?}"),
+            Err(fault) => assert_eq!(rt; fault, case.want, "{}", case.name),
         }
     }
     Ok(())
 }
 
 // Texts, and their lines or their faults.
-const EXPANSIONS: [(&[u8], &[u8]); 6] = [
-    (
-        b"s EQU 2+3\nDAT #0, #s*2\n",
-        b"2: - DAT # 0 , # 2 + 3 * 2\n",
-    ),
-    (b"DAT #-7/2\n", b"1: - DAT # - 7 / 2\n"),
-    (
-        b"i FOR 2\nx&i DAT #i\nROF\nJMP x01\n",
-        b"2 x01: - DAT # 1\n2 x02: - DAT # 2\n4: - JMP x01\n",
-    ),
-    (
-        POSTED,
-        b"5: ;assert CORESIZE % 4 == 0\n7: ORG start\n8 bomb: - DAT # 0 , # 0\n9 start: - ADD # 4 , bomb\n10: - MOV bomb , @ bomb\n11: - JMP start\n12: END\n",
-    ),
-    (b"FOR 3\n", b"line 1: FOR without ROF"),
-    (b"DAT 4294967296\n", b"line 1: number above 4294967295"),
+const EXPANSIONS: [Case; 6] = [
+    Case {
+        name: "a sum",
+        text: SUM,
+        want: b"2: - DAT # 0 , # 2 + 3 * 2\n",
+    },
+    Case {
+        name: "a quotient",
+        text: QUOTIENT,
+        want: b"1: - DAT # - 7 / 2\n",
+    },
+    Case {
+        name: "copies of a block",
+        text: COPIES,
+        want: b"2 x01: - DAT # 1\n2 x02: - DAT # 2\n4: - JMP x01\n",
+    },
+    Case {
+        name: "a text as it was posted",
+        text: POSTED,
+        want: b"5: ;assert CORESIZE % 4 == 0\n7: ORG start\n8 bomb: - DAT # 0 , # 0\n9 start: - ADD # 4 , bomb\n10: - MOV bomb , @ bomb\n11: - JMP start\n12: END\n",
+    },
+    NO_ROF,
+    LARGE_DECIMAL,
 ];
 
 #[test]
 fn expand_gives_the_lines(rt: HostRuntime) -> Result<(), Fail> {
-    for &(text, want) in &EXPANSIONS {
-        assert_eq!(rt; lines_of(rt.alloc(), text)?.as_slice(), want);
+    for case in &EXPANSIONS {
+        assert_eq!(rt;
+            lines_of(rt.alloc(), case.text)?.as_slice(),
+            case.want,
+            "{}",
+            case.name
+        );
     }
     Ok(())
 }
 
 // Texts, and their load files or their faults. K is a constant with the value 7.
-const ASSEMBLIES: [(&[u8], &[u8]); 13] = [
-    (b"s EQU 2+3\nDAT #0, #s*2\n", b"ORG 0\nDAT.F #0, #8\n"),
-    (b"DAT #-7/2\n", b"ORG 0\nDAT.F $0, #-3\n"),
-    (
-        b"i FOR 2\nx&i DAT #i\nROF\nJMP x01\n",
-        b"ORG 0\nDAT.F $0, #1\nDAT.F $0, #2\nJMP.B $-2, $0\n",
-    ),
-    (b"DAT K, x*2\nx EQU K", b"ORG 0\nDAT.F $7, $14\n"),
-    (
-        POSTED,
-        b"ORG 1\nDAT.F #0, #0\nADD.AB #4, $-1\nMOV.I $-2, @-2\nJMP.B $-2, $0\n",
-    ),
-    (b"MOV 1\n", b"line 1: missing operand"),
-    (b"DAT 1/0\n", b"line 1: division by zero"),
-    (b"FOR 3\n", b"line 1: FOR without ROF"),
-    (b"DAT 4294967296\n", b"line 1: number above 4294967295"),
-    (b"MOV 1, 2, 3\n", b"line 1: too many operands"),
-    (b"DAT x\n", b"line 1: unknown name"),
-    (b"DAT 1 +\n", b"line 1: invalid expression"),
-    (b"PIN 5\n", b"line 1: unknown opcode or modifier"),
+const ASSEMBLIES: [Case; 13] = [
+    Case {
+        name: "a sum",
+        text: SUM,
+        want: SUM_LOAD,
+    },
+    Case {
+        name: "a quotient is cut towards 0",
+        text: QUOTIENT,
+        want: QUOTIENT_LOAD,
+    },
+    Case {
+        name: "copies of a block",
+        text: COPIES,
+        want: COPIES_LOAD,
+    },
+    Case {
+        name: "a constant",
+        text: b"DAT K, x*2\nx EQU K",
+        want: b"ORG 0\nDAT.F $7, $14\n",
+    },
+    Case {
+        name: "a text as it was posted",
+        text: POSTED,
+        want: POSTED_LOAD,
+    },
+    Case {
+        name: "a MOV with one operand",
+        text: b"MOV 1\n",
+        want: b"line 1: missing operand",
+    },
+    Case {
+        name: "a division by 0",
+        text: b"DAT 1/0\n",
+        want: b"line 1: division by zero",
+    },
+    NO_ROF,
+    LARGE_DECIMAL,
+    Case {
+        name: "a third operand",
+        text: b"MOV 1, 2, 3\n",
+        want: b"line 1: too many operands",
+    },
+    Case {
+        name: "a name that nothing defines",
+        text: b"DAT x\n",
+        want: b"line 1: unknown name",
+    },
+    Case {
+        name: "a sum of one number",
+        text: b"DAT 1 +\n",
+        want: b"line 1: invalid expression",
+    },
+    Case {
+        name: "a word that is not an opcode",
+        text: b"PIN 5\n",
+        want: b"line 1: unknown opcode or modifier",
+    },
 ];
 
 #[test]
 fn assemble_gives_the_warrior(rt: HostRuntime) -> Result<(), Fail> {
-    for &(text, want) in &ASSEMBLIES {
-        assert_eq!(rt; assembled(rt.alloc(), text)?.as_slice(), want);
+    for case in &ASSEMBLIES {
+        assert_eq!(rt;
+            assembled(rt.alloc(), case.text)?.as_slice(),
+            case.want,
+            "{}",
+            case.name
+        );
     }
     Ok(())
 }

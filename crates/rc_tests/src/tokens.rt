@@ -39,36 +39,90 @@ fn value_of(
     Ok(eval(text, &tokens, &OneValue { number }))
 }
 
-// Kind, span, line and count of counters of a token.
-type Seen = (Kind, usize, usize, u64, usize);
+// A token with the number of its counters in place of the counters.
+#[derive(Clone, Copy, Debug, PartialEq, Eq)]
+struct Seen {
+    kind: Kind,
+    lo: usize,
+    hi: usize,
+    line: u64,
+    counters: usize,
+}
 
 fn next_of(lexer: &mut Lexer) -> Result<Option<Seen>, LexFault> {
     match lexer.next_token()? {
-        Some(token) => Ok(Some((
-            token.kind,
-            token.lo,
-            token.hi,
-            token.line,
-            token.joined.len(),
-        ))),
+        Some(token) => Ok(Some(Seen {
+            kind: token.kind,
+            lo: token.lo,
+            hi: token.hi,
+            line: token.line,
+            counters: token.joined.len(),
+        })),
         None => Ok(None),
     }
 }
 
-// Also shows that a fault is returned again, at its line, by each later call.
+// What a call of `next_token` returns, and the lexer's line after it.
+struct Next {
+    name: &'static str,
+    want: Result<Option<Seen>, LexFault>,
+    line: u64,
+}
+
+// The calls on `ignored ?`, `;redcode`, ` DAT` and `12=`, each on a line of its own.
+const CALLS: [Next; 5] = [
+    Next {
+        name: "a name",
+        want: Ok(Some(Seen {
+            kind: Kind::Name,
+            lo: 20,
+            hi: 23,
+            line: 3,
+            counters: 0,
+        })),
+        line: 3,
+    },
+    Next {
+        name: "a line end",
+        want: Ok(Some(Seen {
+            kind: Kind::LineEnd,
+            lo: 23,
+            hi: 24,
+            line: 3,
+            counters: 0,
+        })),
+        line: 4,
+    },
+    Next {
+        name: "a decimal",
+        want: Ok(Some(Seen {
+            kind: Kind::Number(12),
+            lo: 24,
+            hi: 26,
+            line: 4,
+            counters: 0,
+        })),
+        line: 4,
+    },
+    Next {
+        name: "a fault",
+        want: Err(LexFault::BadByte),
+        line: 4,
+    },
+    Next {
+        name: "the same fault again, at its line",
+        want: Err(LexFault::BadByte),
+        line: 4,
+    },
+];
+
 #[test]
 fn tokens_have_spans_and_lines(rt: HostRuntime) {
     let mut lexer = Lexer::new(b"ignored ?\n;redcode\n DAT\n12=");
     assert_eq!(rt; lexer.line(), 3);
-    for &(want, line) in &[
-        (Ok(Some((Kind::Name, 20, 23, 3, 0))), 3),
-        (Ok(Some((Kind::LineEnd, 23, 24, 3, 0))), 4),
-        (Ok(Some((Kind::Number(12), 24, 26, 4, 0))), 4),
-        (Err(LexFault::BadByte), 4),
-        (Err(LexFault::BadByte), 4),
-    ] {
-        assert_eq!(rt; next_of(&mut lexer), want);
-        assert_eq!(rt; lexer.line(), line);
+    for call in &CALLS {
+        assert_eq!(rt; next_of(&mut lexer), call.want, "{}", call.name);
+        assert_eq!(rt; lexer.line(), call.line, "{}", call.name);
     }
 }
 
@@ -84,60 +138,193 @@ fn tokens_have_texts(rt: HostRuntime) -> Result<(), Fail> {
     Ok(())
 }
 
+// The text of a token of `mov` with the span from `lo` to `hi`.
+struct Clipped {
+    name: &'static str,
+    lo: usize,
+    hi: usize,
+    want: &'static [u8],
+}
+
+const CLIPPED: [Clipped; 5] = [
+    Clipped {
+        name: "a span within the text",
+        lo: 1,
+        hi: 3,
+        want: b"ov",
+    },
+    Clipped {
+        name: "a span beyond the end",
+        lo: 1,
+        hi: 9,
+        want: b"ov",
+    },
+    Clipped {
+        name: "a span from the end on",
+        lo: 3,
+        hi: 9,
+        want: b"",
+    },
+    Clipped {
+        name: "a span after the end",
+        lo: 7,
+        hi: 9,
+        want: b"",
+    },
+    Clipped {
+        name: "a span that ends before it begins",
+        lo: 2,
+        hi: 1,
+        want: b"",
+    },
+];
+
 #[test]
 fn a_span_is_clipped_to_the_text(rt: HostRuntime) {
-    for &(lo, hi, want) in &[
-        (1, 3, b"ov".as_slice()),
-        (1, 9, b"ov"),
-        (3, 9, b""),
-        (7, 9, b""),
-        (2, 1, b""),
-    ] {
+    for case in &CLIPPED {
         let token = Token {
             kind: Kind::Name,
-            lo,
-            hi,
+            lo: case.lo,
+            hi: case.hi,
             line: 1,
             joined: Joined::new(),
         };
-        assert_eq!(rt; text_of(b"mov", &token), want);
+        assert_eq!(rt; text_of(b"mov", &token), case.want, "{}", case.name);
     }
 }
 
 // The value of an expression in which each name has the value `number`, or none has a value.
+struct Expression {
+    name: &'static str,
+    text: &'static [u8],
+    number: Option<i64>,
+    want: Result<i64, EvalFault>,
+}
+
+const EXPRESSIONS: [Expression; 5] = [
+    Expression {
+        name: "a product before a sum",
+        text: b"2+3*2",
+        number: None,
+        want: Ok(8),
+    },
+    Expression {
+        name: "a name with a value",
+        text: b"x*2",
+        number: Some(5),
+        want: Ok(10),
+    },
+    Expression {
+        name: "a name without a value",
+        text: b"x",
+        number: None,
+        want: Err(EvalFault::UnknownName),
+    },
+    Expression {
+        name: "no token",
+        text: b"",
+        number: None,
+        want: Err(EvalFault::Syntax),
+    },
+    Expression {
+        name: "a line end after the expression",
+        text: b"1\n",
+        number: None,
+        want: Err(EvalFault::Syntax),
+    },
+];
+
 #[test]
 fn expressions_have_values(rt: HostRuntime) -> Result<(), Fail> {
-    for &(text, number, value) in &[
-        (b"2+3*2".as_slice(), None, Ok(8)),
-        (b"x*2", Some(5), Ok(10)),
-        (b"x", None, Err(EvalFault::UnknownName)),
-        (b"", None, Err(EvalFault::Syntax)),
-        (b"1\n", None, Err(EvalFault::Syntax)),
-    ] {
-        assert_eq!(rt; value_of(rt.alloc(), text, number)?, value);
+    for case in &EXPRESSIONS {
+        assert_eq!(rt;
+            value_of(rt.alloc(), case.text, case.number)?,
+            case.want,
+            "{}",
+            case.name
+        );
     }
     Ok(())
 }
 
+// The class of a name, and whether it is an opcode.
+struct Classified {
+    name: &'static str,
+    class: NameClass,
+    is_opcode: bool,
+}
+
+const CLASSIFIED: [Classified; 12] = [
+    Classified {
+        name: "",
+        class: NameClass::NoName,
+        is_opcode: false,
+    },
+    Classified {
+        name: "1x",
+        class: NameClass::NoName,
+        is_opcode: false,
+    },
+    Classified {
+        name: "a-b",
+        class: NameClass::NoName,
+        is_opcode: false,
+    },
+    Classified {
+        name: "dat",
+        class: NameClass::Reserved,
+        is_opcode: true,
+    },
+    Classified {
+        name: "Cmp",
+        class: NameClass::Reserved,
+        is_opcode: true,
+    },
+    Classified {
+        name: "NOP",
+        class: NameClass::Reserved,
+        is_opcode: true,
+    },
+    Classified {
+        name: "rof",
+        class: NameClass::Reserved,
+        is_opcode: false,
+    },
+    Classified {
+        name: "CURLINE",
+        class: NameClass::Predefined,
+        is_opcode: false,
+    },
+    Classified {
+        name: "coresize",
+        class: NameClass::Free,
+        is_opcode: false,
+    },
+    Classified {
+        name: "movs",
+        class: NameClass::Free,
+        is_opcode: false,
+    },
+    Classified {
+        name: "PIN",
+        class: NameClass::Free,
+        is_opcode: false,
+    },
+    Classified {
+        name: "_x01",
+        class: NameClass::Free,
+        is_opcode: false,
+    },
+];
+
 #[test]
 fn names_have_classes(rt: HostRuntime) {
-    for &(name, class, is_opcode) in &[
-        (b"".as_slice(), NameClass::NoName, false),
-        (b"1x", NameClass::NoName, false),
-        (b"a-b", NameClass::NoName, false),
-        (b"dat", NameClass::Reserved, true),
-        (b"Cmp", NameClass::Reserved, true),
-        (b"NOP", NameClass::Reserved, true),
-        (b"rof", NameClass::Reserved, false),
-        (b"CURLINE", NameClass::Predefined, false),
-        (b"coresize", NameClass::Free, false),
-        (b"movs", NameClass::Free, false),
-        (b"PIN", NameClass::Free, false),
-        (b"_x01", NameClass::Free, false),
-    ] {
-        assert_eq!(rt; name_class(name), class);
-        assert_eq!(rt; is_opcode_word(name), is_opcode);
-        assert_eq!(rt; is_reserved_name(name), class == NameClass::Reserved);
+    for case in &CLASSIFIED {
+        let name = case.name.as_bytes();
+        let is_reserved = case.class == NameClass::Reserved;
+        assert_eq!(rt; name_class(name), case.class, "{}", case.name);
+        assert_eq!(rt; is_opcode_word(name), case.is_opcode, "{}", case.name);
+        assert_eq!(rt; is_reserved_name(name), is_reserved, "{}", case.name);
     }
 }
 

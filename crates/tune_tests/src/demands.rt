@@ -4,7 +4,8 @@
 //! has not played its first fight.
 
 use crate::fixtures::{
-    FOUR_EQUAL, FOUR_EQUAL_CERT, THREE_UNEQUAL, THREE_UNEQUAL_CERT, imp, inputs_of,
+    FOUR_EQUAL, FOUR_EQUAL_CERT, THREE_UNEQUAL, THREE_UNEQUAL_CERT, THREE_UNEQUAL_NONE_FROM_5, imp,
+    inputs_of,
 };
 use std::alloc::Global;
 use std::test::Fail;
@@ -19,21 +20,15 @@ struct Said {
     rejected: Option<(u64, Reason)>,
 }
 
-// A demand for the first `keep`, if that is not 0, with this floor.
-fn demand_of(keep: u32, floor: Option<u32>) -> Demand {
-    let keep = if keep > 0 { Some(keep) } else { None };
-    Demand { keep, floor }
-}
-
 fn judged(
     alloc: Global,
     inputs: &Inputs,
-    keep: u32,
+    keep: Option<u32>,
     floor: Option<u32>,
     share: Share,
     cert: &[u8],
 ) -> Result<Said, Fail> {
-    let demand = demand_of(keep, floor);
+    let demand = Demand { keep, floor };
     match check_for(alloc, inputs, demand, share, cert, &mut Silent)? {
         Judgement::Accepted { answer, ranking } => Ok(Said {
             answer: Some(answer),
@@ -48,23 +43,26 @@ fn judged(
     }
 }
 
-// Returns the ranking that a certificate shows if it is accepted with the first setting, and
-// otherwise a ranking of setting 9.
-fn shown(alloc: Global, inputs: &Inputs, keep: u32, cert: &[u8]) -> Result<Vec<Best>, Fail> {
+// Returns the ranking that a certificate shows. A certificate that is not accepted with the first
+// setting is an error.
+fn shown(
+    alloc: Global,
+    inputs: &Inputs,
+    keep: Option<u32>,
+    cert: &[u8],
+) -> Result<Vec<Best>, Fail> {
     let said = judged(alloc, inputs, keep, None, Share::whole(), cert)?;
     if said.answer == Some(Answer::Best(imp(0))) {
         return Ok(said.ranking);
     }
-    let mut ranking = Vec::new(alloc);
-    ranking.push(imp(9))?;
-    Ok(ranking)
+    Err(Fail::from("the first setting is not shown as the best"))
 }
 
 // Returns at which record a check of all rows rejects a certificate, and why.
 fn rejected(
     alloc: Global,
     inputs: &Inputs,
-    keep: u32,
+    keep: Option<u32>,
     floor: Option<u32>,
     cert: &[u8],
 ) -> Result<Option<(u64, Reason)>, Fail> {
@@ -77,16 +75,16 @@ fn rejected(
 fn the_first_settings_are_shown(rt: HostRuntime) -> Result<(), Fail> {
     let inputs = inputs_of(rt.alloc(), THREE_UNEQUAL)?;
     assert!(rt;
-        shown(rt.alloc(), &inputs, 0, THREE_UNEQUAL_CERT)?
+        shown(rt.alloc(), &inputs, None, THREE_UNEQUAL_CERT)?
             .as_slice()
             .is_empty()
     );
     assert_eq!(rt;
-        shown(rt.alloc(), &inputs, 1, THREE_UNEQUAL_CERT)?.as_slice(),
+        shown(rt.alloc(), &inputs, Some(1), THREE_UNEQUAL_CERT)?.as_slice(),
         [imp(0)].as_slice()
     );
     assert_eq!(rt;
-        shown(rt.alloc(), &inputs, 2, THREE_UNEQUAL_CERT)?.as_slice(),
+        shown(rt.alloc(), &inputs, Some(2), THREE_UNEQUAL_CERT)?.as_slice(),
         [imp(0), imp(1)].as_slice()
     );
     Ok(())
@@ -97,7 +95,7 @@ fn the_first_settings_are_shown(rt: HostRuntime) -> Result<(), Fail> {
 fn fewer_settings_than_are_kept_leave_room(rt: HostRuntime) -> Result<(), Fail> {
     let inputs = inputs_of(rt.alloc(), THREE_UNEQUAL)?;
     assert_eq!(rt;
-        rejected(rt.alloc(), &inputs, 3, None, THREE_UNEQUAL_CERT)?,
+        rejected(rt.alloc(), &inputs, Some(3), None, THREE_UNEQUAL_CERT)?,
         Some((4, Reason::CapTooHigh))
     );
     Ok(())
@@ -109,11 +107,11 @@ fn a_cap_that_contends_is_too_high(rt: HostRuntime) -> Result<(), Fail> {
     let inputs = inputs_of(rt.alloc(), THREE_UNEQUAL)?;
     let cert: &[u8] = b"cwcert,1,3\nbest,0,4\ncap,0,0:3 1:1\ncap,1,1:1\ncap,2,0:3 1:1\n";
     assert_eq!(rt;
-        shown(rt.alloc(), &inputs, 1, cert)?.as_slice(),
+        shown(rt.alloc(), &inputs, Some(1), cert)?.as_slice(),
         [imp(0)].as_slice()
     );
     assert_eq!(rt;
-        rejected(rt.alloc(), &inputs, 2, None, cert)?,
+        rejected(rt.alloc(), &inputs, Some(2), None, cert)?,
         Some((3, Reason::CapTooHigh))
     );
     Ok(())
@@ -124,11 +122,11 @@ fn a_cap_that_contends_is_too_high(rt: HostRuntime) -> Result<(), Fail> {
 fn equal_warriors_are_ranked(rt: HostRuntime) -> Result<(), Fail> {
     let inputs = inputs_of(rt.alloc(), FOUR_EQUAL)?;
     assert_eq!(rt;
-        shown(rt.alloc(), &inputs, 10, FOUR_EQUAL_CERT)?.as_slice(),
+        shown(rt.alloc(), &inputs, Some(10), FOUR_EQUAL_CERT)?.as_slice(),
         [imp(0), imp(1), imp(2), imp(3)].as_slice()
     );
     assert_eq!(rt;
-        shown(rt.alloc(), &inputs, 3, FOUR_EQUAL_CERT)?.as_slice(),
+        shown(rt.alloc(), &inputs, Some(3), FOUR_EQUAL_CERT)?.as_slice(),
         [imp(0), imp(1), imp(2)].as_slice()
     );
     Ok(())
@@ -141,11 +139,11 @@ fn a_same_row_contends_as_its_own_setting(rt: HostRuntime) -> Result<(), Fail> {
     let inputs = inputs_of(rt.alloc(), FOUR_EQUAL)?;
     let cert: &[u8] = b"cwcert,1,4\nbest,0,4\ncap,0,0:3 1:1\nsame,1,3\ncap,2,0:3 1:1\ncap,3,1:1\n";
     assert_eq!(rt;
-        shown(rt.alloc(), &inputs, 1, cert)?.as_slice(),
+        shown(rt.alloc(), &inputs, Some(1), cert)?.as_slice(),
         [imp(0)].as_slice()
     );
     assert_eq!(rt;
-        rejected(rt.alloc(), &inputs, 2, None, cert)?,
+        rejected(rt.alloc(), &inputs, Some(2), None, cert)?,
         Some((3, Reason::CapTooHigh))
     );
     Ok(())
@@ -158,7 +156,7 @@ fn a_floor_leaves_less_to_show(rt: HostRuntime) -> Result<(), Fail> {
     let reached = judged(
         rt.alloc(),
         &inputs,
-        2,
+        Some(2),
         Some(4),
         Share::whole(),
         THREE_UNEQUAL_CERT,
@@ -167,7 +165,7 @@ fn a_floor_leaves_less_to_show(rt: HostRuntime) -> Result<(), Fail> {
     let missed = judged(
         rt.alloc(),
         &inputs,
-        3,
+        Some(3),
         Some(5),
         Share::whole(),
         THREE_UNEQUAL_CERT,
@@ -180,22 +178,22 @@ fn a_floor_leaves_less_to_show(rt: HostRuntime) -> Result<(), Fail> {
 #[test]
 fn no_setting_reaches_the_floor(rt: HostRuntime) -> Result<(), Fail> {
     let inputs = inputs_of(rt.alloc(), THREE_UNEQUAL)?;
-    let cert: &[u8] = b"cwcert,1,3\nnone,-,5\ncap,0,1:1\ncap,1,0:3 1:1\ncap,2,1:1\n";
-    for keep in 0..4 {
+    let cert = THREE_UNEQUAL_NONE_FROM_5;
+    for &keep in &[None, Some(1), Some(2), Some(3)] {
         let said = judged(rt.alloc(), &inputs, keep, Some(5), Share::whole(), cert)?;
-        assert_eq!(rt; said.answer, Some(Answer::NoneFrom(5)));
-        assert!(rt; said.ranking.as_slice().is_empty());
+        assert_eq!(rt; said.answer, Some(Answer::NoneFrom(5)), "{keep:?}");
+        assert!(rt; said.ranking.as_slice().is_empty(), "{keep:?}");
     }
     assert_eq!(rt;
-        rejected(rt.alloc(), &inputs, 0, Some(4), cert)?,
+        rejected(rt.alloc(), &inputs, None, Some(4), cert)?,
         Some((1, Reason::BestRow))
     );
     assert_eq!(rt;
-        rejected(rt.alloc(), &inputs, 0, Some(6), cert)?,
+        rejected(rt.alloc(), &inputs, None, Some(6), cert)?,
         Some((1, Reason::BestRow))
     );
     assert_eq!(rt;
-        rejected(rt.alloc(), &inputs, 2, None, cert)?,
+        rejected(rt.alloc(), &inputs, Some(2), None, cert)?,
         Some((1, Reason::Malformed))
     );
     Ok(())
@@ -207,7 +205,7 @@ fn a_cap_of_the_floor_is_too_high(rt: HostRuntime) -> Result<(), Fail> {
     let inputs = inputs_of(rt.alloc(), THREE_UNEQUAL)?;
     let cert: &[u8] = b"cwcert,1,3\nnone,-,4\ncap,0,1:1\ncap,1,1:1\ncap,2,1:1\n";
     assert_eq!(rt;
-        rejected(rt.alloc(), &inputs, 0, Some(4), cert)?,
+        rejected(rt.alloc(), &inputs, None, Some(4), cert)?,
         Some((2, Reason::CapTooHigh))
     );
     Ok(())
@@ -219,9 +217,20 @@ fn each_share_says_what_the_whole_does(rt: HostRuntime) -> Result<(), Fail> {
     let inputs = inputs_of(rt.alloc(), THREE_UNEQUAL)?;
     for number in 1..6 {
         let share = Share { number, shares: 5 };
-        let said = judged(rt.alloc(), &inputs, 2, None, share, THREE_UNEQUAL_CERT)?;
-        assert_eq!(rt; said.answer, Some(Answer::Best(imp(0))));
-        assert_eq!(rt; said.ranking.as_slice(), [imp(0), imp(1)].as_slice());
+        let said = judged(
+            rt.alloc(),
+            &inputs,
+            Some(2),
+            None,
+            share,
+            THREE_UNEQUAL_CERT,
+        )?;
+        assert_eq!(rt; said.answer, Some(Answer::Best(imp(0))), "{number}/5");
+        assert_eq!(rt;
+            said.ranking.as_slice(),
+            [imp(0), imp(1)].as_slice(),
+            "{number}/5"
+        );
     }
     Ok(())
 }

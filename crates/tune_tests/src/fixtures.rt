@@ -9,7 +9,9 @@ use mars_fight::Schedule;
 use rc_instr::{Rules, RulesError, Warrior, read_loadfile};
 use std::alloc::{AllocError, Global};
 use std::test::Fail;
-use tune_problem::{Best, Inputs};
+use tune_cert::{Reason, Verdict};
+use tune_problem::{Best, Inputs, Part};
+use tune_runs::TuneTexts;
 use tune_template::Template;
 
 // A warrior that loses its only task in its first turn: its text, and its load file.
@@ -25,6 +27,11 @@ pub(crate) const IMP_FILE: &[u8] = b"ORG 0\nMOV.I $0, $1\n";
 // One fight against each of two opponents, at address 8.
 pub(crate) const BOTH: &[u8] = b"opponent,position,first\n0,8,c\n1,8,c\n";
 
+// The only setting of a template without constants, an imp; and its certificate.
+pub(crate) const ONE_IMP: &[u8] = b"MOV 0, 1";
+
+pub(crate) const ONE_IMP_CERT: &[u8] = b"cwcert,1,1\nbest,0,4\ncap,0,0:3 1:1\n";
+
 // Three imps with different warriors, of which the second is the start setting and the first the
 // optimum; their report, and their certificate.
 pub(crate) const THREE_UNEQUAL: &[u8] = b";@tune K 0 2 1 1\nMOV 0, 1\nDAT K";
@@ -35,9 +42,16 @@ pub(crate) const THREE_UNEQUAL_REPORT: &[u8] =
 pub(crate) const THREE_UNEQUAL_CERT: &[u8] =
     b"cwcert,1,3\nbest,0,4\ncap,0,0:3 1:1\ncap,1,0:3 1:1\ncap,2,1:1\n";
 
+// A certificate that none of the three imps totals 5 or more.
+pub(crate) const THREE_UNEQUAL_NONE_FROM_5: &[u8] =
+    b"cwcert,1,3\nnone,-,5\ncap,0,1:1\ncap,1,0:3 1:1\ncap,2,1:1\n";
+
 // Three settings: the first does not assemble, the others are imps. The second is the start
-// setting.
+// setting. And their certificate.
 pub(crate) const FIRST_REFUSED: &[u8] = b";@tune K 0 2 1 1\nMOV 0, 1\nDAT 1/K";
+
+pub(crate) const FIRST_REFUSED_CERT: &[u8] =
+    b"cwcert,1,3\nbest,1,4\nrefused,0,-\ncap,1,0:3 1:1\ncap,2,1:1\n";
 
 // Four settings with one warrior, of which the third is the start setting; and their certificate.
 pub(crate) const FOUR_EQUAL: &[u8] = b";@tune K 0 3 1 2\nMOV 0, 1";
@@ -45,8 +59,109 @@ pub(crate) const FOUR_EQUAL: &[u8] = b";@tune K 0 3 1 2\nMOV 0, 1";
 pub(crate) const FOUR_EQUAL_CERT: &[u8] =
     b"cwcert,1,4\nbest,0,4\ncap,0,0:3 1:1\nsame,1,2\ncap,2,0:3 1:1\nsame,3,2\n";
 
-// Six settings whose warriors take turns: those of an even K are equal, and those of an odd K.
+// The verdict on `FOUR_EQUAL_CERT`, and on each share of it.
+pub(crate) const ACCEPTED: Verdict = Verdict::Accepted { best: 0, total: 4 };
+
+// A certificate of `FOUR_EQUAL` with a total that no setting has.
+pub(crate) const FOUR_EQUAL_TOTAL_5: &[u8] =
+    b"cwcert,1,4\nbest,0,5\ncap,0,0:3 1:1\nsame,1,2\ncap,2,0:3 1:1\nsame,3,2\n";
+
+// A certificate of `FOUR_EQUAL`: how many rows it has, the verdict of a check, and the line that a
+// run writes.
+pub(crate) struct CertCase {
+    pub(crate) name: &'static str,
+    pub(crate) text: &'static [u8],
+    pub(crate) rows: usize,
+    pub(crate) verdict: Verdict,
+    pub(crate) line: &'static [u8],
+}
+
+pub(crate) const FOUR_EQUAL_CASES: [CertCase; 8] = [
+    CertCase {
+        name: "a valid certificate",
+        text: FOUR_EQUAL_CERT,
+        rows: 4,
+        verdict: ACCEPTED,
+        line: b"accepted best 0 total 4\n",
+    },
+    CertCase {
+        name: "a tie listed as a win",
+        text: b"cwcert,1,4\nbest,0,4\ncap,0,0:3 1:1\nsame,1,2\ncap,2,0:3 1:3\nsame,3,2\n",
+        rows: 4,
+        verdict: Verdict::Rejected {
+            row: 4,
+            reason: Reason::WrongPoints,
+        },
+        line: b"rejected row 4 WrongPoints\n",
+    },
+    CertCase {
+        name: "a best setting that is not the first of its equals",
+        text: b"cwcert,1,4\nbest,2,4\nsame,0,2\nsame,1,2\ncap,2,0:3 1:1\nsame,3,2\n",
+        rows: 4,
+        verdict: Verdict::Rejected {
+            row: 2,
+            reason: Reason::CapTooHigh,
+        },
+        line: b"rejected row 2 CapTooHigh\n",
+    },
+    CertCase {
+        name: "a row too few",
+        text: b"cwcert,1,4\nbest,0,4\ncap,0,0:3 1:1\nsame,1,2\ncap,2,0:3 1:1\n",
+        rows: 3,
+        verdict: Verdict::Rejected {
+            row: 0,
+            reason: Reason::RowCount,
+        },
+        line: b"rejected row 0 RowCount\n",
+    },
+    CertCase {
+        name: "a fight listed twice",
+        text: b"cwcert,1,4\nbest,0,4\ncap,0,0:3 1:1\nsame,1,2\ncap,2,0:3 0:3\nsame,3,2\n",
+        rows: 4,
+        verdict: Verdict::Rejected {
+            row: 4,
+            reason: Reason::RepeatedFight,
+        },
+        line: b"rejected row 4 RepeatedFight\n",
+    },
+    CertCase {
+        name: "a total above that of the best setting",
+        text: FOUR_EQUAL_TOTAL_5,
+        rows: 4,
+        verdict: Verdict::Rejected {
+            row: 1,
+            reason: Reason::BestRow,
+        },
+        line: b"rejected row 1 BestRow\n",
+    },
+    CertCase {
+        name: "a candidate whose row says that it does not assemble",
+        text: b"cwcert,1,4\nbest,0,4\ncap,0,0:3 1:1\nsame,1,2\ncap,2,0:3 1:1\nrefused,3,-\n",
+        rows: 4,
+        verdict: Verdict::Rejected {
+            row: 5,
+            reason: Reason::NotRefused,
+        },
+        line: b"rejected row 5 NotRefused\n",
+    },
+    CertCase {
+        name: "a row that refers to one without fights",
+        text: b"cwcert,1,4\nbest,0,4\ncap,0,0:3 1:1\nsame,1,2\ncap,2,0:3 1:1\nsame,3,1\n",
+        rows: 4,
+        verdict: Verdict::Rejected {
+            row: 5,
+            reason: Reason::NotSame,
+        },
+        line: b"rejected row 5 NotSame\n",
+    },
+];
+
+// Six settings whose warriors take turns: those of an even K are equal, and those of an odd K. And
+// their certificate by a search that remembers both warriors.
 pub(crate) const TWO_IN_TURN: &[u8] = b";@tune K 0 5 1 0\nMOV 0, 1\nDAT K % 2";
+
+pub(crate) const TWO_IN_TURN_CERT: &[u8] =
+    b"cwcert,1,6\nbest,0,4\ncap,0,0:3 1:1\ncap,1,1:1\nsame,2,0\nsame,3,1\nsame,4,0\nsame,5,1\n";
 
 // A setting whose warrior is an imp, with its total.
 pub(crate) fn imp(vector: u32) -> Best {
@@ -79,6 +194,22 @@ pub(crate) fn both_opponents(alloc: Global) -> Result<Vec<Vec<u8>>, AllocError> 
     texts.push(DAT_TEXT.to_vec(alloc)?)?;
     texts.push(IMP_TEXT.to_vec(alloc)?)?;
     Ok(texts)
+}
+
+// Returns the texts of a tuning of `template` against the opponents of `both_opponents`.
+pub(crate) fn texts_of<'a>(
+    template: &'a [u8],
+    opponents: &'a [Vec<u8>],
+    rules: &'a Rules,
+    part: Part,
+) -> TuneTexts<'a> {
+    TuneTexts {
+        template,
+        opponents,
+        schedule: BOTH,
+        rules,
+        part,
+    }
 }
 
 // Reads the inputs of a tuning of `text`.

@@ -3,17 +3,18 @@
 //! the second, so its total is 4.
 ghost use Rattle.tune_problem.specs.Ranking.{IsAim};
 
-use crate::certificates::cert_of;
 use crate::fixtures::{FOUR_EQUAL, THREE_UNEQUAL, imp, inputs_of};
+use rc_instr::Outlet;
 use std::alloc::Global;
 use std::test::Fail;
-use tune_problem::{Best, Found, Silent};
+use tune_cert::write_answer;
+use tune_problem::{Answer, Best, Silent};
 use tune_search::{Aim, Method, SearchFault, search_from};
 
 const DROPPING: Method = Method::Dropping { capacity: 4096 };
 
 // What a search finds: the ranking, the number of candidates and of fights, the setting with a
-// copied row, and a certificate of the rows that says of each that setting 9 is better.
+// copied row, and its rows, in a certificate with the floor 0.
 #[derive(Drop)]
 struct Summary {
     ranking: Vec<Best>,
@@ -30,16 +31,10 @@ fn searched(alloc: Global, text: &[u8], aim: Aim) -> Result<Summary, Fail>
     let findings = search_from(alloc, &inputs, aim, DROPPING, &mut Silent)?;
     let ranking = findings.ranking.as_slice().to_vec(alloc)?;
     let (candidates, fights, copied) = (findings.candidates, findings.fights, findings.copied);
-    let found = Found {
-        version: findings.version,
-        best: 9,
-        total: 30,
-        rows: findings.rows,
-        fights,
-        candidates,
-        copied,
-    };
-    let rows = cert_of(alloc, &found)?;
+    let mut out = Outlet::new(Vec::with_capacity(alloc, 256)?);
+    let answer = Answer::NoneFrom(0);
+    write_answer(alloc, findings.version, answer, &findings.rows, &mut out)?;
+    let rows = out.into_inner();
     Ok(Summary {
         ranking,
         candidates,
@@ -55,7 +50,7 @@ fn a_total_of_the_floor_leads(rt: HostRuntime) -> Result<(), Fail> {
     let found = searched(rt.alloc(), THREE_UNEQUAL, aim)?;
     assert_eq!(rt; found.ranking.as_slice(), [imp(0)].as_slice());
     assert_eq!(rt; found.fights, 5);
-    let want = b"cwcert,1,3\nbest,9,30\ncap,0,0:3 1:1\ncap,1,0:3 1:1\ncap,2,1:1\n".as_slice();
+    let want = b"cwcert,1,3\nnone,-,0\ncap,0,0:3 1:1\ncap,1,0:3 1:1\ncap,2,1:1\n".as_slice();
     assert_eq!(rt; found.rows.as_slice(), want);
     Ok(())
 }
@@ -68,7 +63,7 @@ fn no_setting_reaches_a_floor_of_5(rt: HostRuntime) -> Result<(), Fail> {
     let found = searched(rt.alloc(), THREE_UNEQUAL, aim)?;
     assert!(rt; found.ranking.as_slice().is_empty());
     assert_eq!(rt; (found.candidates, found.fights), (3, 4));
-    let want = b"cwcert,1,3\nbest,9,30\ncap,0,1:1\ncap,1,0:3 1:1\ncap,2,1:1\n".as_slice();
+    let want = b"cwcert,1,3\nnone,-,0\ncap,0,1:1\ncap,1,0:3 1:1\ncap,2,1:1\n".as_slice();
     assert_eq!(rt; found.rows.as_slice(), want);
     Ok(())
 }
@@ -81,7 +76,7 @@ fn no_row_is_copied_below_a_floor(rt: HostRuntime) -> Result<(), Fail> {
     let found = searched(rt.alloc(), FOUR_EQUAL, aim)?;
     assert!(rt; found.ranking.as_slice().is_empty());
     assert!(rt; found.copied.is_none());
-    let want = b"cwcert,1,4\nbest,9,30\nsame,0,2\nsame,1,2\ncap,2,0:3 1:1\nsame,3,2\n".as_slice();
+    let want = b"cwcert,1,4\nnone,-,0\nsame,0,2\nsame,1,2\ncap,2,0:3 1:1\nsame,3,2\n".as_slice();
     assert_eq!(rt; found.rows.as_slice(), want);
     Ok(())
 }

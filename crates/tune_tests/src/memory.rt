@@ -10,8 +10,9 @@ ghost use Rattle.tune_search.specs.Limits.{MOST_CAPACITY};
 
 use crate::certificates::{FIVE, cert_of, five_rows};
 use crate::fixtures::{
-    FIRST_REFUSED, FOUR_EQUAL, FOUR_EQUAL_CERT, THREE_UNEQUAL, THREE_UNEQUAL_CERT, TWO_IN_TURN,
-    inputs_of, small_rules,
+    FIRST_REFUSED, FIRST_REFUSED_CERT, FOUR_EQUAL, FOUR_EQUAL_CASES, FOUR_EQUAL_CERT, ONE_IMP,
+    ONE_IMP_CERT, THREE_UNEQUAL, THREE_UNEQUAL_CERT, TWO_IN_TURN, TWO_IN_TURN_CERT, inputs_of,
+    small_rules,
 };
 use rc_asm::AsmKind;
 use rc_instr::{Outlet, write_loadfile};
@@ -21,23 +22,44 @@ use tune_cert::{Reason, Verdict, check, read_cert, write_cert};
 use tune_search::search;
 use tune_template::{Template, TemplateKind};
 
-// Templates, and the number of their settings or the text of their fault.
-const TEMPLATES: [(&[u8], &str); 6] = [
-    (b";@tune A 0 999 1 0\n;@tune B 0 999 1 0\n", "1000000"),
-    (
-        b";@tune A 0 999 1 0\n;@tune B 0 1000 1 0\n",
-        "line 2: more than 1000000 settings",
-    ),
-    (b";@tune K 3 2 1 3\n", "line 1: LOW is above HIGH"),
-    (
-        b";@tune K 0 5 2 3\n",
-        "line 1: START is not one of the values",
-    ),
-    (
-        b";@tune mov 0 1 1 0\n",
-        "line 1: reserved or predefined name",
-    ),
-    (b";@tune K 0 1\n", "line 1: malformed range line"),
+// A template, and the number of its settings or the text of its fault.
+struct TemplateCase {
+    name: &'static str,
+    text: &'static [u8],
+    want: &'static str,
+}
+
+const TEMPLATES: [TemplateCase; 6] = [
+    TemplateCase {
+        name: "the most settings",
+        text: b";@tune A 0 999 1 0\n;@tune B 0 999 1 0\n",
+        want: "1000000",
+    },
+    TemplateCase {
+        name: "too many settings",
+        text: b";@tune A 0 999 1 0\n;@tune B 0 1000 1 0\n",
+        want: "line 2: more than 1000000 settings",
+    },
+    TemplateCase {
+        name: "no value",
+        text: b";@tune K 3 2 1 3\n",
+        want: "line 1: LOW is above HIGH",
+    },
+    TemplateCase {
+        name: "a START between two values",
+        text: b";@tune K 0 5 2 3\n",
+        want: "line 1: START is not one of the values",
+    },
+    TemplateCase {
+        name: "an opcode as a constant",
+        text: b";@tune mov 0 1 1 0\n",
+        want: "line 1: reserved or predefined name",
+    },
+    TemplateCase {
+        name: "a range line that is cut",
+        text: b";@tune K 0 1\n",
+        want: "line 1: malformed range line",
+    },
 ];
 
 // Reads a template. Returns the number of its settings, or the text of its fault.
@@ -55,50 +77,101 @@ fn template_read(alloc: Global, text: &[u8]) -> Result<String, Fail> {
 
 #[test]
 fn a_template_is_read(rt: HostRuntime) -> Result<(), Fail> {
-    for &(text, want) in &TEMPLATES {
-        assert_eq!(rt; template_read(rt.alloc(), text)?.as_str(), want);
+    for case in &TEMPLATES {
+        assert_eq!(rt;
+            template_read(rt.alloc(), case.text)?.as_str(),
+            case.want,
+            "{}",
+            case.name
+        );
     }
     Ok(())
 }
 
-// Templates, the index of a setting, and its load file or its fault.
-const INSTANCES: [(&[u8], u32, &[u8]); 12] = [
-    (b"MOV 0, 1", 0, b"ORG 0\nMOV.I $0, $1\n"),
-    (FOUR_EQUAL, 3, b"ORG 0\nMOV.I $0, $1\n"),
-    (FIRST_REFUSED, 0, b"line 3: division by zero"),
-    (FIRST_REFUSED, 1, b"ORG 0\nMOV.I $0, $1\nDAT.F $0, $1\n"),
-    (THREE_UNEQUAL, 2, b"ORG 0\nMOV.I $0, $1\nDAT.F $0, $2\n"),
-    (
-        b";@tune A 0 1 1 1\n;@tune B 5 9 2 9\nDAT A, B",
-        4,
-        b"ORG 0\nDAT.F $1, $7\n",
-    ),
-    (
-        b";@tune K -9 -3 3 -3\ni FOR 2\nDAT K, i\nROF",
-        1,
-        b"ORG 0\nDAT.F $-6, $1\nDAT.F $-6, $2\n",
-    ),
-    (
-        b";@tune N 0 3 1 0\nFOR N\nNOP\nROF\nJMP 0",
-        2,
-        b"ORG 0\nNOP.F $0, $0\nNOP.F $0, $0\nJMP.B $0, $0\n",
-    ),
-    (
-        b";@tune K 2 4 1 2\n;assert K > 3\nDAT K",
-        2,
-        b"ORG 0\nDAT.F $0, $4\n",
-    ),
-    (
-        b";@tune K 2 4 1 2\n;assert K > 3\nDAT K",
-        1,
-        b"line 2: assertion failed",
-    ),
-    (
-        b";@tune K 0 1 1 0\nK DAT 0",
-        1,
-        b"line 2: name already defined",
-    ),
-    (b";@tune K 0 1 1 0\nDAT k", 0, b"line 2: unknown name"),
+// A setting of a template, and its load file or the text of its fault.
+struct InstanceCase {
+    name: &'static str,
+    text: &'static [u8],
+    index: u32,
+    want: &'static [u8],
+}
+
+// A template of which only the last setting assembles.
+const ASSERTS: &[u8] = b";@tune K 2 4 1 2\n;assert K > 3\nDAT K";
+
+const INSTANCES: [InstanceCase; 12] = [
+    InstanceCase {
+        name: "the setting of a template without constants",
+        text: ONE_IMP,
+        index: 0,
+        want: b"ORG 0\nMOV.I $0, $1\n",
+    },
+    InstanceCase {
+        name: "a constant that the code does not name",
+        text: FOUR_EQUAL,
+        index: 3,
+        want: b"ORG 0\nMOV.I $0, $1\n",
+    },
+    InstanceCase {
+        name: "a divisor that is 0",
+        text: FIRST_REFUSED,
+        index: 0,
+        want: b"line 3: division by zero",
+    },
+    InstanceCase {
+        name: "a divisor that is not 0",
+        text: FIRST_REFUSED,
+        index: 1,
+        want: b"ORG 0\nMOV.I $0, $1\nDAT.F $0, $1\n",
+    },
+    InstanceCase {
+        name: "the last of three values",
+        text: THREE_UNEQUAL,
+        index: 2,
+        want: b"ORG 0\nMOV.I $0, $1\nDAT.F $0, $2\n",
+    },
+    InstanceCase {
+        name: "two constants, of which the second changes first",
+        text: b";@tune A 0 1 1 1\n;@tune B 5 9 2 9\nDAT A, B",
+        index: 4,
+        want: b"ORG 0\nDAT.F $1, $7\n",
+    },
+    InstanceCase {
+        name: "a negative value in each copy of a block",
+        text: b";@tune K -9 -3 3 -3\ni FOR 2\nDAT K, i\nROF",
+        index: 1,
+        want: b"ORG 0\nDAT.F $-6, $1\nDAT.F $-6, $2\n",
+    },
+    InstanceCase {
+        name: "a value that is the count of a block",
+        text: b";@tune N 0 3 1 0\nFOR N\nNOP\nROF\nJMP 0",
+        index: 2,
+        want: b"ORG 0\nNOP.F $0, $0\nNOP.F $0, $0\nJMP.B $0, $0\n",
+    },
+    InstanceCase {
+        name: "an assertion that holds",
+        text: ASSERTS,
+        index: 2,
+        want: b"ORG 0\nDAT.F $0, $4\n",
+    },
+    InstanceCase {
+        name: "an assertion that does not hold",
+        text: ASSERTS,
+        index: 1,
+        want: b"line 2: assertion failed",
+    },
+    InstanceCase {
+        name: "a label with the name of the constant",
+        text: b";@tune K 0 1 1 0\nK DAT 0",
+        index: 1,
+        want: b"line 2: name already defined",
+    },
+    InstanceCase {
+        name: "the name of the constant in lower case",
+        text: b";@tune K 0 1 1 0\nDAT k",
+        index: 0,
+        want: b"line 2: unknown name",
+    },
 ];
 
 // Assembles the setting at `index` under `small_rules`. Returns its load file, or the text of its
@@ -122,39 +195,77 @@ fn instance_text(alloc: Global, text: &[u8], index: u32) -> Result<Vec<u8>, Fail
 
 #[test]
 fn instance_assembles_a_setting(rt: HostRuntime) -> Result<(), Fail> {
-    for &(text, index, want) in &INSTANCES {
-        assert_eq!(rt; instance_text(rt.alloc(), text, index)?.as_slice(), want);
+    for case in &INSTANCES {
+        assert_eq!(rt;
+            instance_text(rt.alloc(), case.text, case.index)?.as_slice(),
+            case.want,
+            "{}",
+            case.name
+        );
     }
     Ok(())
 }
 
-// Searches with this capacity. Returns the number of fights, and the certificate.
-fn found_by(alloc: Global, text: &[u8], capacity: u32) -> Result<(u64, Vec<u8>), Fail>
+// How many fights a search plays, and the certificate of what it finds.
+#[derive(Drop)]
+struct Searched {
+    fights: u64,
+    cert: Vec<u8>,
+}
+
+// Searches with a cache of `capacity` settings.
+fn search_with(alloc: Global, text: &[u8], capacity: u32) -> Result<Searched, Fail>
     requires { (1 ≤ capacity) × (capacity ≤ MOST_CAPACITY) }
 {
     let inputs = inputs_of(alloc, text)?;
     let found = search(alloc, &inputs, capacity)?;
-    Ok((u64::from(found.fights), cert_of(alloc, &found)?))
+    Ok(Searched {
+        fights: u64::from(found.fights),
+        cert: cert_of(alloc, &found)?,
+    })
 }
 
-// Templates, with the fights of a search that remembers 4096 settings, and the certificate.
-const SEARCHES: [(&[u8], u64, &[u8]); 4] = [
-    (b"MOV 0, 1", 2, b"cwcert,1,1\nbest,0,4\ncap,0,0:3 1:1\n"),
-    (FOUR_EQUAL, 2, FOUR_EQUAL_CERT),
-    (
-        FIRST_REFUSED,
-        3,
-        b"cwcert,1,3\nbest,1,4\nrefused,0,-\ncap,1,0:3 1:1\ncap,2,1:1\n",
-    ),
-    (THREE_UNEQUAL, 5, THREE_UNEQUAL_CERT),
+// A template, and what a search finds that remembers 4096 settings.
+struct SearchCase {
+    name: &'static str,
+    text: &'static [u8],
+    fights: u64,
+    cert: &'static [u8],
+}
+
+const SEARCHES: [SearchCase; 4] = [
+    SearchCase {
+        name: "one setting",
+        text: ONE_IMP,
+        fights: 2,
+        cert: ONE_IMP_CERT,
+    },
+    SearchCase {
+        name: "four settings with one warrior",
+        text: FOUR_EQUAL,
+        fights: 2,
+        cert: FOUR_EQUAL_CERT,
+    },
+    SearchCase {
+        name: "a first setting that does not assemble",
+        text: FIRST_REFUSED,
+        fights: 3,
+        cert: FIRST_REFUSED_CERT,
+    },
+    SearchCase {
+        name: "three settings with different warriors",
+        text: THREE_UNEQUAL,
+        fights: 5,
+        cert: THREE_UNEQUAL_CERT,
+    },
 ];
 
 #[test]
 fn search_finds_the_optimum(rt: HostRuntime) -> Result<(), Fail> {
-    for &(text, fights, cert) in &SEARCHES {
-        let (played, bytes) = found_by(rt.alloc(), text, 4096)?;
-        assert_eq!(rt; played, fights);
-        assert_eq!(rt; bytes.as_slice(), cert);
+    for case in &SEARCHES {
+        let found = search_with(rt.alloc(), case.text, 4096)?;
+        assert_eq!(rt; found.fights, case.fights, "{}", case.name);
+        assert_eq!(rt; found.cert.as_slice(), case.cert, "{}", case.name);
     }
     Ok(())
 }
@@ -162,11 +273,9 @@ fn search_finds_the_optimum(rt: HostRuntime) -> Result<(), Fail> {
 // The cache has room for both warriors.
 #[test]
 fn search_with_a_cache_of_two(rt: HostRuntime) -> Result<(), Fail> {
-    let (played, bytes) = found_by(rt.alloc(), TWO_IN_TURN, 2)?;
-    let cert =
-        b"cwcert,1,6\nbest,0,4\ncap,0,0:3 1:1\ncap,1,1:1\nsame,2,0\nsame,3,1\nsame,4,0\nsame,5,1\n";
-    assert_eq!(rt; played, 3);
-    assert_eq!(rt; bytes.as_slice(), cert.as_slice());
+    let found = search_with(rt.alloc(), TWO_IN_TURN, 2)?;
+    assert_eq!(rt; found.fights, 3);
+    assert_eq!(rt; found.cert.as_slice(), TWO_IN_TURN_CERT);
     Ok(())
 }
 
@@ -186,78 +295,13 @@ fn write_cert_writes_every_row(rt: HostRuntime) -> Result<(), Fail> {
 
 #[test]
 fn read_cert_reads_every_row(rt: HostRuntime) -> Result<(), Fail> {
-    for &text in &CERTS {
-        let cert = read_cert(rt.alloc(), text.0)?;
-        assert_eq!(rt; cert.count, 4);
-        assert_eq!(rt; cert.rows.as_slice().len(), text.1);
+    for case in &FOUR_EQUAL_CASES {
+        let cert = read_cert(rt.alloc(), case.text)?;
+        assert_eq!(rt; cert.count, 4, "{}", case.name);
+        assert_eq!(rt; cert.rows.as_slice().len(), case.rows, "{}", case.name);
     }
     Ok(())
 }
-
-// Certificates of `FOUR_EQUAL`, with the number of their rows, and their verdicts.
-const CERTS: [(&[u8], usize, Verdict); 8] = [
-    (
-        b"cwcert,1,4\nbest,0,4\ncap,0,0:3 1:1\nsame,1,2\ncap,2,0:3 1:1\nsame,3,2\n",
-        4,
-        Verdict::Accepted { best: 0, total: 4 },
-    ),
-    (
-        b"cwcert,1,4\nbest,0,4\ncap,0,0:3 1:1\nsame,1,2\ncap,2,0:3 1:3\nsame,3,2\n",
-        4,
-        Verdict::Rejected {
-            row: 4,
-            reason: Reason::WrongPoints,
-        },
-    ),
-    (
-        b"cwcert,1,4\nbest,2,4\nsame,0,2\nsame,1,2\ncap,2,0:3 1:1\nsame,3,2\n",
-        4,
-        Verdict::Rejected {
-            row: 2,
-            reason: Reason::CapTooHigh,
-        },
-    ),
-    (
-        b"cwcert,1,4\nbest,0,4\ncap,0,0:3 1:1\nsame,1,2\ncap,2,0:3 1:1\n",
-        3,
-        Verdict::Rejected {
-            row: 0,
-            reason: Reason::RowCount,
-        },
-    ),
-    (
-        b"cwcert,1,4\nbest,0,4\ncap,0,0:3 1:1\nsame,1,2\ncap,2,0:3 0:3\nsame,3,2\n",
-        4,
-        Verdict::Rejected {
-            row: 4,
-            reason: Reason::RepeatedFight,
-        },
-    ),
-    (
-        b"cwcert,1,4\nbest,0,5\ncap,0,0:3 1:1\nsame,1,2\ncap,2,0:3 1:1\nsame,3,2\n",
-        4,
-        Verdict::Rejected {
-            row: 1,
-            reason: Reason::BestRow,
-        },
-    ),
-    (
-        b"cwcert,1,4\nbest,0,4\ncap,0,0:3 1:1\nsame,1,2\ncap,2,0:3 1:1\nrefused,3,-\n",
-        4,
-        Verdict::Rejected {
-            row: 5,
-            reason: Reason::NotRefused,
-        },
-    ),
-    (
-        b"cwcert,1,4\nbest,0,4\ncap,0,0:3 1:1\nsame,1,2\ncap,2,0:3 1:1\nsame,3,1\n",
-        4,
-        Verdict::Rejected {
-            row: 5,
-            reason: Reason::NotSame,
-        },
-    ),
-];
 
 // Checks a certificate of `FOUR_EQUAL`.
 fn verdict_of(alloc: Global, cert: &[u8]) -> Result<Verdict, Fail> {
@@ -267,8 +311,13 @@ fn verdict_of(alloc: Global, cert: &[u8]) -> Result<Verdict, Fail> {
 
 #[test]
 fn check_gives_the_verdict(rt: HostRuntime) -> Result<(), Fail> {
-    for &(cert, _, want) in &CERTS {
-        assert_eq!(rt; verdict_of(rt.alloc(), cert)?, want);
+    for case in &FOUR_EQUAL_CASES {
+        assert_eq!(rt;
+            verdict_of(rt.alloc(), case.text)?,
+            case.verdict,
+            "{}",
+            case.name
+        );
     }
     assert_eq!(rt;
         verdict_of(rt.alloc(), b"cwcert,7,4\n")?,

@@ -7,15 +7,77 @@ use std::alloc::Global;
 use std::test::Fail;
 use tune_problem::{Inputs, Part, part_size, setting_warrior, start_setting};
 
-// Parts of six settings, of which the search begins with the fifth: number and parts; the count of
-// settings, the index of the start setting, and the first setting.
-const PARTS: [(u32, u32, u32, u32, [i64; 2]); 6] = [
-    (1, 1, 6, 4, [0, 5]),
-    (1, 2, 3, 0, [0, 5]),
-    (2, 2, 3, 1, [1, 6]),
-    (2, 4, 2, 0, [0, 6]),
-    (4, 4, 2, 0, [2, 5]),
-    (6, 6, 1, 0, [2, 6]),
+// A part of six settings, of which the search begins with the fifth: the count of its settings, the
+// index of its start setting, and its first setting.
+struct PartCase {
+    name: &'static str,
+    part: Part,
+    count: u32,
+    start: u32,
+    first: [i64; 2],
+}
+
+const PARTS: [PartCase; 6] = [
+    PartCase {
+        name: "all settings",
+        part: Part {
+            number: 1,
+            parts: 1,
+        },
+        count: 6,
+        start: 4,
+        first: [0, 5],
+    },
+    PartCase {
+        name: "the first half",
+        part: Part {
+            number: 1,
+            parts: 2,
+        },
+        count: 3,
+        start: 0,
+        first: [0, 5],
+    },
+    PartCase {
+        name: "the second half",
+        part: Part {
+            number: 2,
+            parts: 2,
+        },
+        count: 3,
+        start: 1,
+        first: [1, 6],
+    },
+    PartCase {
+        name: "the second quarter",
+        part: Part {
+            number: 2,
+            parts: 4,
+        },
+        count: 2,
+        start: 0,
+        first: [0, 6],
+    },
+    PartCase {
+        name: "the last quarter",
+        part: Part {
+            number: 4,
+            parts: 4,
+        },
+        count: 2,
+        start: 0,
+        first: [2, 5],
+    },
+    PartCase {
+        name: "the last setting",
+        part: Part {
+            number: 6,
+            parts: 6,
+        },
+        count: 1,
+        start: 0,
+        first: [2, 6],
+    },
 ];
 
 fn six_settings(alloc: Global) -> Result<Inputs, Fail> {
@@ -32,20 +94,28 @@ fn has_settings(part: &Inputs, count: u32, start: u32, first: [i64; 2]) -> bool 
 
 #[test]
 fn parts_have_their_settings(rt: HostRuntime) -> Result<(), Fail> {
-    for &(number, parts, count, start, first) in &PARTS {
-        match six_settings(rt.alloc())?.part(Part { number, parts }) {
+    for case in &PARTS {
+        match six_settings(rt.alloc())?.part(case.part) {
             Some(part) => assert!(rt;
-                has_settings(&part, count, start, first),
-                "{number}/{parts}"
+                has_settings(&part, case.count, case.start, case.first),
+                "{}",
+                case.name
             ),
-            None => assert!(rt; false, "{number}/{parts}"),
+            None => assert!(rt; false, "{}: no such part", case.name),
         }
     }
+    Ok(())
+}
+
+// Part 0 or 3 of 2, part 1 of 7 of six settings, and part 0 of 0.
+#[test]
+fn other_parts_do_not_exist(rt: HostRuntime) -> Result<(), Fail> {
     for &(number, parts) in &[(0, 2), (3, 2), (1, 7), (0, 0)] {
         assert!(rt;
             six_settings(rt.alloc())?
                 .part(Part { number, parts })
-                .is_none()
+                .is_none(),
+            "{number}/{parts}"
         );
     }
     Ok(())

@@ -1,75 +1,86 @@
 //! Tests of `check_share`, on certificates of four settings with one warrior. In the valid one
 //! settings 1 and 3 refer to setting 2.
 
-use crate::fixtures::{FOUR_EQUAL, FOUR_EQUAL_CERT, inputs_of};
+use crate::fixtures::{ACCEPTED, FOUR_EQUAL, FOUR_EQUAL_CERT, FOUR_EQUAL_TOTAL_5, inputs_of};
 use std::alloc::Global;
 use std::test::Fail;
 use tune_cert::{Reason, Share, Silent, Verdict, check_share};
 use tune_problem::Inputs;
 
-// Damaged certificates, and what the two shares of two say. The first takes the fights of setting 2
+// A damaged certificate, and what the two shares of two say. The first takes the fights of setting 2
 // as listed when it checks the row of setting 1.
-const DAMAGED: [(&[u8], Verdict, Verdict); 6] = [
-    (
-        b"cwcert,1,4\nbest,0,4\ncap,0,0:3 1:1\nsame,1,2\ncap,2,0:1 1:1\nsame,3,2\n",
-        ACCEPTED,
-        Verdict::Rejected {
+struct DamagedCase {
+    name: &'static str,
+    cert: &'static [u8],
+    first: Verdict,
+    second: Verdict,
+}
+
+const DAMAGED: [DamagedCase; 6] = [
+    DamagedCase {
+        name: "wrong points in a row that others refer to",
+        cert: b"cwcert,1,4\nbest,0,4\ncap,0,0:3 1:1\nsame,1,2\ncap,2,0:1 1:1\nsame,3,2\n",
+        first: ACCEPTED,
+        second: Verdict::Rejected {
             row: 4,
             reason: Reason::WrongPoints,
         },
-    ),
-    (
-        b"cwcert,1,4\nbest,0,4\ncap,0,0:3 1:1\nsame,1,2\ncap,2,1:1 0:3\nsame,3,2\n",
-        Verdict::Rejected {
+    },
+    DamagedCase {
+        name: "fights out of order",
+        cert: b"cwcert,1,4\nbest,0,4\ncap,0,0:3 1:1\nsame,1,2\ncap,2,1:1 0:3\nsame,3,2\n",
+        first: Verdict::Rejected {
             row: 3,
             reason: Reason::NotSame,
         },
-        Verdict::Rejected {
+        second: Verdict::Rejected {
             row: 4,
             reason: Reason::RepeatedFight,
         },
-    ),
-    (
-        b"cwcert,1,4\nbest,0,4\ncap,0,0:3 1:1\nsame,1,2\ncap,2,2:1\nsame,3,2\n",
-        Verdict::Rejected {
+    },
+    DamagedCase {
+        name: "a fight that does not exist",
+        cert: b"cwcert,1,4\nbest,0,4\ncap,0,0:3 1:1\nsame,1,2\ncap,2,2:1\nsame,3,2\n",
+        first: Verdict::Rejected {
             row: 3,
             reason: Reason::NotSame,
         },
-        Verdict::Rejected {
+        second: Verdict::Rejected {
             row: 4,
             reason: Reason::WrongPoints,
         },
-    ),
-    (
-        b"cwcert,1,4\nbest,0,4\ncap,0,0:3 1:1\nsame,1,2\ncap,2,0:3\nsame,3,2\n",
-        Verdict::Rejected {
+    },
+    DamagedCase {
+        name: "a fight too few",
+        cert: b"cwcert,1,4\nbest,0,4\ncap,0,0:3 1:1\nsame,1,2\ncap,2,0:3\nsame,3,2\n",
+        first: Verdict::Rejected {
             row: 3,
             reason: Reason::CapTooHigh,
         },
-        Verdict::Rejected {
+        second: Verdict::Rejected {
             row: 4,
             reason: Reason::CapTooHigh,
         },
-    ),
-    (
-        b"cwcert,1,4\nbest,0,4\ncap,0,0:3 1:1\nsame,1,2\ncap,2,0:3 1:1\nsame,3,3\n",
-        ACCEPTED,
-        Verdict::Rejected {
+    },
+    DamagedCase {
+        name: "a row that refers to itself",
+        cert: b"cwcert,1,4\nbest,0,4\ncap,0,0:3 1:1\nsame,1,2\ncap,2,0:3 1:1\nsame,3,3\n",
+        first: ACCEPTED,
+        second: Verdict::Rejected {
             row: 5,
             reason: Reason::NotSame,
         },
-    ),
-    (
-        b"cwcert,1,4\nbest,0,4\ncap,0,0:1 1:3\nsame,1,2\ncap,2,0:3 1:1\nsame,3,2\n",
-        Verdict::Rejected {
+    },
+    DamagedCase {
+        name: "wrong points of the best setting",
+        cert: b"cwcert,1,4\nbest,0,4\ncap,0,0:1 1:3\nsame,1,2\ncap,2,0:3 1:1\nsame,3,2\n",
+        first: Verdict::Rejected {
             row: 2,
             reason: Reason::WrongPoints,
         },
-        ACCEPTED,
-    ),
+        second: ACCEPTED,
+    },
 ];
-
-const ACCEPTED: Verdict = Verdict::Accepted { best: 0, total: 4 };
 
 // Returns share `number` of `shares`, or the whole if there is none.
 fn share_of(number: u32, shares: u32) -> Share {
@@ -99,11 +110,13 @@ fn a_valid_certificate_is_accepted_in_each_share(rt: HostRuntime) -> Result<(), 
     for &shares in &[1, 2, 3, 4, 7, 4_294_967_295] {
         assert_eq!(rt;
             verdict_of(rt.alloc(), &inputs, 1, shares, FOUR_EQUAL_CERT)?,
-            ACCEPTED
+            ACCEPTED,
+            "1/{shares}"
         );
         assert_eq!(rt;
             verdict_of(rt.alloc(), &inputs, shares, shares, FOUR_EQUAL_CERT)?,
-            ACCEPTED
+            ACCEPTED,
+            "{shares}/{shares}"
         );
     }
     Ok(())
@@ -112,9 +125,11 @@ fn a_valid_certificate_is_accepted_in_each_share(rt: HostRuntime) -> Result<(), 
 #[test]
 fn a_share_sees_its_own_rows(rt: HostRuntime) -> Result<(), Fail> {
     let inputs = inputs_of(rt.alloc(), FOUR_EQUAL)?;
-    for &(cert, first, second) in &DAMAGED {
-        assert_eq!(rt; verdict_of(rt.alloc(), &inputs, 1, 2, cert)?, first);
-        assert_eq!(rt; verdict_of(rt.alloc(), &inputs, 2, 2, cert)?, second);
+    for case in &DAMAGED {
+        let first = verdict_of(rt.alloc(), &inputs, 1, 2, case.cert)?;
+        assert_eq!(rt; first, case.first, "{}", case.name);
+        let second = verdict_of(rt.alloc(), &inputs, 2, 2, case.cert)?;
+        assert_eq!(rt; second, case.second, "{}", case.name);
     }
     Ok(())
 }
@@ -123,11 +138,13 @@ fn a_share_sees_its_own_rows(rt: HostRuntime) -> Result<(), Fail> {
 #[test]
 fn an_empty_share_sees_the_best_row(rt: HostRuntime) -> Result<(), Fail> {
     let inputs = inputs_of(rt.alloc(), FOUR_EQUAL)?;
-    let cert: &[u8] = b"cwcert,1,4\nbest,0,5\ncap,0,0:3 1:1\nsame,1,2\ncap,2,0:3 1:1\nsame,3,2\n";
     let want = Verdict::Rejected {
         row: 1,
         reason: Reason::BestRow,
     };
-    assert_eq!(rt; verdict_of(rt.alloc(), &inputs, 1, 5, cert)?, want);
+    assert_eq!(rt;
+        verdict_of(rt.alloc(), &inputs, 1, 5, FOUR_EQUAL_TOTAL_5)?,
+        want
+    );
     Ok(())
 }

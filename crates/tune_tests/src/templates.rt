@@ -6,33 +6,61 @@ use crate::fixtures::inputs_of;
 use std::test::Fail;
 use tune_template::Template;
 
-// Templates, with the count of their settings, the index of the start setting, and the count of
-// their constants.
-const TEMPLATES: [(&[u8], u32, u32, usize); 5] = [
-    (b";@tune A 0 999 1 0\n;@tune B 0 999 1 0", 1_000_000, 0, 2),
-    (b";@tune K -3 3 2 1\r\nDAT K", 4, 2, 1),
-    (b";@tune K -65535 65535 1 65535", 131_071, 131_070, 1),
-    (
-        b";redcode\n;@tune A 0 1 1 1\nEND\n;@tune B 0 2 1 1",
-        6,
-        4,
-        2,
-    ),
-    (
-        b";@tune A 0 1 1 1\n;@tune B 0 1 1 0\n;@tune C 0 1 1 1\n;@tune D 0 1 1 0\n;@tune E 0 1 1 1\n;@tune F 0 1 1 0\n;@tune G 0 1 1 1\n;@tune H 0 1 1 0",
-        256,
-        170,
-        8,
-    ),
+// A template, with the count of its settings, the index of the start setting, and the count of its
+// constants.
+struct TemplateCase {
+    name: &'static str,
+    text: &'static [u8],
+    count: u32,
+    start: u32,
+    constants: usize,
+}
+
+const TEMPLATES: [TemplateCase; 5] = [
+    TemplateCase {
+        name: "the most settings",
+        text: b";@tune A 0 999 1 0\n;@tune B 0 999 1 0",
+        count: 1_000_000,
+        start: 0,
+        constants: 2,
+    },
+    TemplateCase {
+        name: "every second value, and a carriage return",
+        text: b";@tune K -3 3 2 1\r\nDAT K",
+        count: 4,
+        start: 2,
+        constants: 1,
+    },
+    TemplateCase {
+        name: "the widest range",
+        text: b";@tune K -65535 65535 1 65535",
+        count: 131_071,
+        start: 131_070,
+        constants: 1,
+    },
+    TemplateCase {
+        name: "range lines before and after END",
+        text: b";redcode\n;@tune A 0 1 1 1\nEND\n;@tune B 0 2 1 1",
+        count: 6,
+        start: 4,
+        constants: 2,
+    },
+    TemplateCase {
+        name: "the most constants",
+        text: b";@tune A 0 1 1 1\n;@tune B 0 1 1 0\n;@tune C 0 1 1 1\n;@tune D 0 1 1 0\n;@tune E 0 1 1 1\n;@tune F 0 1 1 0\n;@tune G 0 1 1 1\n;@tune H 0 1 1 0",
+        count: 256,
+        start: 170,
+        constants: 8,
+    },
 ];
 
 #[test]
 fn templates_are_read(rt: HostRuntime) -> Result<(), Fail> {
-    for &(text, count, start, constants) in &TEMPLATES {
-        let template = Template::read(rt.alloc(), text)?;
-        assert_eq!(rt; template.count(), count, "{text:?}");
-        assert_eq!(rt; template.start_number(), start, "{text:?}");
-        assert_eq!(rt; template.names().len(), constants, "{text:?}");
+    for case in &TEMPLATES {
+        let template = Template::read(rt.alloc(), case.text)?;
+        assert_eq!(rt; template.count(), case.count, "{}", case.name);
+        assert_eq!(rt; template.start_number(), case.start, "{}", case.name);
+        assert_eq!(rt; template.names().len(), case.constants, "{}", case.name);
     }
     Ok(())
 }

@@ -1,6 +1,9 @@
 //! Tests of what searches and checks tell their watchers.
 
-use crate::fixtures::{FIRST_REFUSED, FOUR_EQUAL, FOUR_EQUAL_CERT, THREE_UNEQUAL, imp, inputs_of};
+use crate::fixtures::{
+    ACCEPTED, FIRST_REFUSED, FIRST_REFUSED_CERT, FOUR_EQUAL, FOUR_EQUAL_CERT, THREE_UNEQUAL,
+    THREE_UNEQUAL_NONE_FROM_5, imp, inputs_of,
+};
 use std::process::Abort;
 use std::test::Fail;
 use tune_cert::{Best, Demand, Share, Standing, Verdict, Watcher, check_for, check_share};
@@ -70,22 +73,38 @@ fn after(settings: u32, count: u32, fights: u64, best: Option<Best>) -> Option<S
     })
 }
 
-// Wrong certificates of two settings, and how many fights a check plays until it rejects them: none
-// after one with other points, none of a row that lists a fight twice, and none at all if the best
-// row lacks a fight.
-const WRONG: [(&[u8], u64); 3] = [
-    (b"cwcert,1,2\nbest,0,2\ncap,0,0:1 1:1\nrefused,1,-\n", 1),
-    (b"cwcert,1,2\nbest,0,4\ncap,0,0:3 1:1\ncap,1,0:3 0:3\n", 2),
-    (b"cwcert,1,2\nbest,0,4\ncap,0,0:3\ncap,1,0:3 1:1\n", 0),
+// A wrong certificate of two settings, and how many fights a check plays until it rejects it.
+struct WrongCase {
+    name: &'static str,
+    cert: &'static [u8],
+    fights: u64,
+}
+
+const WRONG: [WrongCase; 3] = [
+    WrongCase {
+        name: "no fight is played after one with other points",
+        cert: b"cwcert,1,2\nbest,0,2\ncap,0,0:1 1:1\nrefused,1,-\n",
+        fights: 1,
+    },
+    WrongCase {
+        name: "no fight is played of a row that lists one twice",
+        cert: b"cwcert,1,2\nbest,0,4\ncap,0,0:3 1:1\ncap,1,0:3 0:3\n",
+        fights: 2,
+    },
+    WrongCase {
+        name: "no fight is played if the best row lacks one",
+        cert: b"cwcert,1,2\nbest,0,4\ncap,0,0:3\ncap,1,0:3 1:1\n",
+        fights: 0,
+    },
 ];
 
 #[test]
 fn a_check_stops_at_what_is_wrong(rt: HostRuntime) -> Result<(), Fail> {
     let inputs = inputs_of(rt.alloc(), b";@tune K 0 1 1 0\nMOV 0, 1\nDAT K")?;
-    for &(cert, fights) in &WRONG {
+    for case in &WRONG {
         let mut notes = Notes::new();
-        check_share(rt.alloc(), &inputs, Share::whole(), cert, &mut notes)?;
-        assert_eq!(rt; notes.fights, fights);
+        check_share(rt.alloc(), &inputs, Share::whole(), case.cert, &mut notes)?;
+        assert_eq!(rt; notes.fights, case.fights, "{}", case.name);
     }
     Ok(())
 }
@@ -158,13 +177,12 @@ fn a_search_for_two_settings_tells_the_first(rt: HostRuntime) -> Result<(), Fail
 #[test]
 fn a_check_of_a_share_tells_how_far_it_is(rt: HostRuntime) -> Result<(), Fail> {
     let inputs = inputs_of(rt.alloc(), FIRST_REFUSED)?;
-    let cert: &[u8] = b"cwcert,1,3\nbest,1,4\nrefused,0,-\ncap,1,0:3 1:1\ncap,2,1:1\n";
     let share = Share {
         number: 2,
         shares: 2,
     };
     let mut notes = Notes::new();
-    let verdict = check_share(rt.alloc(), &inputs, share, cert, &mut notes)?;
+    let verdict = check_share(rt.alloc(), &inputs, share, FIRST_REFUSED_CERT, &mut notes)?;
     assert_eq!(rt; verdict, Verdict::Accepted { best: 1, total: 4 });
     let want = [after(1, 2, 2, SECOND), after(2, 2, 3, SECOND), None, None];
     notes.expect(&rt, want, 2)
@@ -174,7 +192,6 @@ fn a_check_of_a_share_tells_how_far_it_is(rt: HostRuntime) -> Result<(), Fail> {
 #[test]
 fn a_check_without_a_best_setting_tells_none(rt: HostRuntime) -> Result<(), Fail> {
     let inputs = inputs_of(rt.alloc(), THREE_UNEQUAL)?;
-    let cert: &[u8] = b"cwcert,1,3\nnone,-,5\ncap,0,1:1\ncap,1,0:3 1:1\ncap,2,1:1\n";
     let demand = Demand {
         keep: None,
         floor: Some(5),
@@ -185,7 +202,7 @@ fn a_check_without_a_best_setting_tells_none(rt: HostRuntime) -> Result<(), Fail
         &inputs,
         demand,
         Share::whole(),
-        cert,
+        THREE_UNEQUAL_NONE_FROM_5,
         &mut notes,
     )?;
     let want = [
@@ -209,7 +226,7 @@ fn a_check_tells_how_far_it_is(rt: HostRuntime) -> Result<(), Fail> {
         FOUR_EQUAL_CERT,
         &mut notes,
     )?;
-    assert_eq!(rt; verdict, Verdict::Accepted { best: 0, total: 4 });
+    assert_eq!(rt; verdict, ACCEPTED);
     let best = Some(imp(0));
     let want = [
         after(1, 4, 2, best),

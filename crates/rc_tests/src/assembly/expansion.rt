@@ -1,6 +1,6 @@
 //! Texts, and the lines that they expand to or their faults.
 
-use crate::assembly::{one_name, push_times};
+use crate::assembly::{Case, one_name, push_times};
 use rc_expand::{Constants, ExpandFault, ExpandKind, Line, LineWord, expand, name_of};
 use rc_instr::Rules;
 use rc_text::{Kind, LexFault, Token};
@@ -77,132 +77,273 @@ pub(crate) fn lines_of(alloc: Global, source: &[u8]) -> Result<Vec<u8>, Fail> {
 
 // Texts, and their lines: EQU names and blocks first, then labels, joined names, dropped lines, and
 // names that EQU does not replace.
-const LINES: [(&str, &str); 28] = [
-    ("", ""),
-    ("a: b DAT a, b\nc", "1 a b: - DAT a , b\n2 c:\n"),
-    ("s EQU 2+3\nDAT #0, #s*2", "2: - DAT # 0 , # 2 + 3 * 2\n"),
-    (
-        "i FOR 2\nx&i DAT #i\nROF\nJMP x01",
-        "2 x01: - DAT # 1\n2 x02: - DAT # 2\n4: - JMP x01\n",
-    ),
-    (
-        "i FOR 2\nj FOR 2\nDAT i, j\nROF\nROF",
-        "3: - DAT 1 , 1\n3: - DAT 1 , 2\n3: - DAT 2 , 1\n3: - DAT 2 , 2\n",
-    ),
-    (
-        "i FOR 2\nFOR i\nDAT i\nROF\nROF",
-        "3: - DAT 1\n3: - DAT 2\n3: - DAT 2\n",
-    ),
-    ("FOR 0\none two 9\nROF\nDAT 1", "4: - DAT 1\n"),
-    (
-        "NOP\nDAT CURLINE, CORESIZE-1",
-        "1: - NOP\n2: - DAT CURLINE , CORESIZE - 1\n",
-    ),
-    ("DAT x\nx EQU y\ny EQU 3", "1: - DAT 3\n"),
-    (
-        "From: x\n;redcode-94\n;name Dwarf\n;assert CORESIZE % 4 == 0\nstep EQU 4\n  ORG start\nbomb DAT #0, #0\nstart ADD #step, bomb\n  JMP start\n  END\n?",
-        "4: ;assert CORESIZE % 4 == 0\n6: ORG start\n7 bomb: - DAT # 0 , # 0\n8 start: - ADD # 4 , bomb\n9: - JMP start\n10: END\n",
-    ),
-    ("x&NOP 1", "1 x: - & NOP 1\n"),
-    ("i FOR 1\nmov&i 0\nROF", "2: - mov01 0\n"),
-    ("i FOR 1\ni&i NOP\nROF", "2 i01: - NOP\n"),
-    ("i: FOR 1\nDAT i\nROF", "2: - DAT 1\n"),
-    (
-        "i FOR 1\nx01 FOR 3\nDAT x&i\nROF\nROF",
-        "3: - DAT 1\n3: - DAT 2\n3: - DAT 3\n",
-    ),
-    (
-        "i FOR 1\nj FOR 1\nx&i&j y&j&i NOP\nROF\nROF",
-        "3 x0101: - y & j01 NOP\n",
-    ),
-    ("i FOR 1\na i b NOP\nROF", "2 a: - 1 b NOP\n"),
-    (
-        "i FOR 12\nx&i\nROF\nEND",
-        "2 x01:\n2 x02:\n2 x03:\n2 x04:\n2 x05:\n2 x06:\n2 x07:\n2 x08:\n2 x09:\n2 x10:\n2 x11:\n2 x12:\n4: END\n",
-    ),
-    ("m EQU .A\nMOV m 0, 1", "2: - MOV . A 0 , 1\n"),
-    ("A EQU 1\nm EQU A\nMOV.A A, m", "3: - MOV . A 1 , 1\n"),
-    ("s EQU\nEND s", "2: END\n"),
-    ("a b FOR 0\nROF\nDAT 1", "1 a:\n3: - DAT 1\n"),
-    ("FOR 0\ns EQU 1\nROF\nDAT s", "4: - DAT s\n"),
-    ("FOR 0\nFOR x\na ROF 1\nROF\nNOP", "5: - NOP\n"),
-    (
-        "i FOR 1\nDAT i\nROF\ni FOR 1\nNOP\nROF",
-        "2: - DAT 1\n5: - NOP\n",
-    ),
-    ("n EQU K-5\nFOR n\nNOP\nROF", "3: - NOP\n3: - NOP\n"),
-    ("FOR -1\nNOP\nROF", ""),
-    ("i FOR 1\nFOR 0\nx&i&i&i&i&i&i&i&i&i NOP\nROF\nROF", ""),
+const LINES: [Case; 28] = [
+    Case {
+        name: "an empty text has no lines",
+        text: b"",
+        want: b"",
+    },
+    Case {
+        name: "labels before code, and on a line of their own",
+        text: b"a: b DAT a, b\nc",
+        want: b"1 a b: - DAT a , b\n2 c:\n",
+    },
+    Case {
+        name: "an EQU name gives its tokens",
+        text: b"s EQU 2+3\nDAT #0, #s*2",
+        want: b"2: - DAT # 0 , # 2 + 3 * 2\n",
+    },
+    Case {
+        name: "a counter joined to a name has two digits",
+        text: b"i FOR 2\nx&i DAT #i\nROF\nJMP x01",
+        want: b"2 x01: - DAT # 1\n2 x02: - DAT # 2\n4: - JMP x01\n",
+    },
+    Case {
+        name: "each copy of a block has copies of the block in it",
+        text: b"i FOR 2\nj FOR 2\nDAT i, j\nROF\nROF",
+        want: b"3: - DAT 1 , 1\n3: - DAT 1 , 2\n3: - DAT 2 , 1\n3: - DAT 2 , 2\n",
+    },
+    Case {
+        name: "a counter is the count of the block in it",
+        text: b"i FOR 2\nFOR i\nDAT i\nROF\nROF",
+        want: b"3: - DAT 1\n3: - DAT 2\n3: - DAT 2\n",
+    },
+    Case {
+        name: "a block with no copies may have any text",
+        text: b"FOR 0\none two 9\nROF\nDAT 1",
+        want: b"4: - DAT 1\n",
+    },
+    Case {
+        name: "predefined names stay",
+        text: b"NOP\nDAT CURLINE, CORESIZE-1",
+        want: b"1: - NOP\n2: - DAT CURLINE , CORESIZE - 1\n",
+    },
+    Case {
+        name: "the tokens of an EQU name have EQU names in them, defined later",
+        text: b"DAT x\nx EQU y\ny EQU 3",
+        want: b"1: - DAT 3\n",
+    },
+    Case {
+        name: "a text as it was posted",
+        text: b"From: x\n;redcode-94\n;name Dwarf\n;assert CORESIZE % 4 == 0\nstep EQU 4\n  ORG start\nbomb DAT #0, #0\nstart ADD #step, bomb\n  JMP start\n  END\n?",
+        want: b"4: ;assert CORESIZE % 4 == 0\n6: ORG start\n7 bomb: - DAT # 0 , # 0\n8 start: - ADD # 4 , bomb\n9: - JMP start\n10: END\n",
+    },
+    Case {
+        name: "an ampersand before what is not a counter stays",
+        text: b"x&NOP 1",
+        want: b"1 x: - & NOP 1\n",
+    },
+    Case {
+        name: "an opcode that a counter is joined to is another name",
+        text: b"i FOR 1\nmov&i 0\nROF",
+        want: b"2: - mov01 0\n",
+    },
+    Case {
+        name: "a counter joined to its own name",
+        text: b"i FOR 1\ni&i NOP\nROF",
+        want: b"2 i01: - NOP\n",
+    },
+    Case {
+        name: "a counter may have a colon",
+        text: b"i: FOR 1\nDAT i\nROF",
+        want: b"2: - DAT 1\n",
+    },
+    Case {
+        name: "a name with a counter joined to it is a counter itself",
+        text: b"i FOR 1\nx01 FOR 3\nDAT x&i\nROF\nROF",
+        want: b"3: - DAT 1\n3: - DAT 2\n3: - DAT 3\n",
+    },
+    Case {
+        name: "counters are joined from the outer block inwards",
+        text: b"i FOR 1\nj FOR 1\nx&i&j y&j&i NOP\nROF\nROF",
+        want: b"3 x0101: - y & j01 NOP\n",
+    },
+    Case {
+        name: "a counter among labels is replaced",
+        text: b"i FOR 1\na i b NOP\nROF",
+        want: b"2 a: - 1 b NOP\n",
+    },
+    Case {
+        name: "a counter from 1 to 12",
+        text: b"i FOR 12\nx&i\nROF\nEND",
+        want: b"2 x01:\n2 x02:\n2 x03:\n2 x04:\n2 x05:\n2 x06:\n2 x07:\n2 x08:\n2 x09:\n2 x10:\n2 x11:\n2 x12:\n4: END\n",
+    },
+    Case {
+        name: "an EQU name may stand for a modifier with its dot",
+        text: b"m EQU .A\nMOV m 0, 1",
+        want: b"2: - MOV . A 0 , 1\n",
+    },
+    Case {
+        name: "a modifier is not replaced, though an EQU name is spelled so",
+        text: b"A EQU 1\nm EQU A\nMOV.A A, m",
+        want: b"3: - MOV . A 1 , 1\n",
+    },
+    Case {
+        name: "an EQU name may have no tokens",
+        text: b"s EQU\nEND s",
+        want: b"2: END\n",
+    },
+    Case {
+        name: "a label before a block with no copies stays",
+        text: b"a b FOR 0\nROF\nDAT 1",
+        want: b"1 a:\n3: - DAT 1\n",
+    },
+    Case {
+        name: "an EQU line in a block with no copies defines nothing",
+        text: b"FOR 0\ns EQU 1\nROF\nDAT s",
+        want: b"4: - DAT s\n",
+    },
+    Case {
+        name: "a block in a block with no copies may have a count without a value",
+        text: b"FOR 0\nFOR x\na ROF 1\nROF\nNOP",
+        want: b"5: - NOP\n",
+    },
+    Case {
+        name: "two blocks, one after the other, may have one counter",
+        text: b"i FOR 1\nDAT i\nROF\ni FOR 1\nNOP\nROF",
+        want: b"2: - DAT 1\n5: - NOP\n",
+    },
+    Case {
+        name: "a count of a constant and an EQU name",
+        text: b"n EQU K-5\nFOR n\nNOP\nROF",
+        want: b"3: - NOP\n3: - NOP\n",
+    },
+    Case {
+        name: "a count below 0 gives no copies",
+        text: b"FOR -1\nNOP\nROF",
+        want: b"",
+    },
+    Case {
+        name: "a name that is dropped may have more than eight counters",
+        text: b"i FOR 1\nFOR 0\nx&i&i&i&i&i&i&i&i&i NOP\nROF\nROF",
+        want: b"",
+    },
 ];
 
 #[test]
 fn texts_have_lines(rt: HostRuntime) -> Result<(), Fail> {
-    for &(text, lines) in &LINES {
+    for case in &LINES {
         assert_eq!(rt;
-            lines_of(rt.alloc(), text.as_bytes())?.as_slice(),
-            lines.as_bytes(),
-            "{text:?}"
+            lines_of(rt.alloc(), case.text)?.as_slice(),
+            case.want,
+            "{}",
+            case.name
         );
     }
     Ok(())
 }
 
-// Texts that define the name of the constant, and the line of the fault.
-const TAKEN: [(&str, u64); 4] = [
-    ("NOP\nK NOP", 2),
-    ("a b\nK EQU 1", 2),
-    ("a b\nK FOR 2\nROF", 2),
-    ("K FOR 1\nROF", 1),
+// A text that defines the name of the constant, and the line of the fault.
+struct Redefined {
+    name: &'static str,
+    text: &'static [u8],
+    line: u64,
+}
+
+const REDEFINED: [Redefined; 4] = [
+    Redefined {
+        name: "as a label",
+        text: b"NOP\nK NOP",
+        line: 2,
+    },
+    Redefined {
+        name: "as an EQU name",
+        text: b"a b\nK EQU 1",
+        line: 2,
+    },
+    Redefined {
+        name: "as a counter after labels",
+        text: b"a b\nK FOR 2\nROF",
+        line: 2,
+    },
+    Redefined {
+        name: "as a counter",
+        text: b"K FOR 1\nROF",
+        line: 1,
+    },
 ];
 
 #[test]
 fn a_constant_is_not_defined_again(rt: HostRuntime) -> Result<(), Fail> {
-    for &(text, line) in &TAKEN {
-        let want = format!(in rt.alloc(); "line {line}: name already defined")?;
+    for case in &REDEFINED {
+        let want = format!(in rt.alloc(); "line {}: name already defined", case.line)?;
         assert_eq!(rt;
-            lines_of(rt.alloc(), text.as_bytes())?.as_slice(),
+            lines_of(rt.alloc(), case.text)?.as_slice(),
             want.as_bytes(),
-            "{text:?}"
+            "{}",
+            case.name
         );
     }
     Ok(())
 }
 
-// Texts at the limits: a piece, how often it is repeated, and what follows; then how the lines
-// begin, or the fault.
-const LIMITS: [(&str, usize, &str, &str); 6] = [
-    ("NOP\n", 4096, "", "1: - NOP\n2: - NOP\n"),
-    (
-        "NOP\n",
-        4096,
-        "NOP",
-        "line 4097: more than 4096 lines and copies in the expansion",
-    ),
-    ("1 ", 4096, "", "1: - 1 1 1"),
-    (
-        "1 ",
-        4097,
-        "",
-        "line 1: more than 4096 tokens or EQU replacements in a line",
-    ),
-    ("1 e ", 2048, "\ne EQU", "1: - 1 1 1"),
-    (
-        "1 e e e ",
-        1367,
-        "\ne EQU",
-        "line 1: more than 4096 tokens or EQU replacements in a line",
-    ),
+// A text at a limit: `piece`, `count` times, then `back`. Its lines, or its fault, begin with
+// `begins`.
+struct Limit {
+    name: &'static str,
+    piece: &'static [u8],
+    count: usize,
+    back: &'static [u8],
+    begins: &'static [u8],
+}
+
+const LIMITS: [Limit; 6] = [
+    Limit {
+        name: "4096 lines",
+        piece: b"NOP\n",
+        count: 4096,
+        back: b"",
+        begins: b"1: - NOP\n2: - NOP\n",
+    },
+    Limit {
+        name: "4097 lines",
+        piece: b"NOP\n",
+        count: 4096,
+        back: b"NOP",
+        begins: b"line 4097: more than 4096 lines and copies in the expansion",
+    },
+    Limit {
+        name: "4096 tokens in a line",
+        piece: b"1 ",
+        count: 4096,
+        back: b"",
+        begins: b"1: - 1 1 1",
+    },
+    Limit {
+        name: "4097 tokens in a line",
+        piece: b"1 ",
+        count: 4097,
+        back: b"",
+        begins: TOO_MANY_TOKENS,
+    },
+    Limit {
+        name: "2048 replacements in a line",
+        piece: b"1 e ",
+        count: 2048,
+        back: b"\ne EQU",
+        begins: b"1: - 1 1 1",
+    },
+    Limit {
+        name: "4101 replacements in a line",
+        piece: b"1 e e e ",
+        count: 1367,
+        back: b"\ne EQU",
+        begins: TOO_MANY_TOKENS,
+    },
 ];
+
+const TOO_MANY_TOKENS: &[u8] = b"line 1: more than 4096 tokens or EQU replacements in a line";
 
 #[test]
 fn limits_hold(rt: HostRuntime) -> Result<(), Fail> {
-    for &(piece, count, back, want) in &LIMITS {
+    for limit in &LIMITS {
         let mut text = Vec::new(rt.alloc());
-        push_times(&mut text, piece.as_bytes(), count)?;
-        text.extend_from_slice(back.as_bytes())?;
+        push_times(&mut text, limit.piece, limit.count)?;
+        text.extend_from_slice(limit.back)?;
         assert!(rt;
-            lines_of(rt.alloc(), &text)?.starts_with(want.as_bytes()),
-            "{count} times {piece:?}, then {back:?}"
+            lines_of(rt.alloc(), &text)?.starts_with(limit.begins),
+            "{}",
+            limit.name
         );
     }
     Ok(())

@@ -3,6 +3,7 @@
 use rc_expand::NameTable;
 use rc_text::{Joined, Kind, Token};
 use std::alloc::Global;
+use std::process::Abort;
 use std::test::Fail;
 
 // Returns the token of the first `hi` bytes of a text, with no counter.
@@ -79,14 +80,25 @@ fn a_name_keeps_its_first_value(rt: HostRuntime) -> Result<(), Fail> {
     Ok(())
 }
 
+// Adds `source` with each of 1000 counters. Each such name is new.
+fn add_thousand<'a, A: Abort>(
+    rt: &A,
+    alloc: Global,
+    table: &mut NameTable<'a, u64>,
+    source: &'a [u8],
+) -> Result<(), Fail> {
+    for i in 0..1000_u16 {
+        let token = joined(name_token(1), i);
+        assert!(rt; table.add(alloc, source, &token, u64::from(i))?);
+    }
+    Ok(())
+}
+
 #[test]
 fn many_names_are_found(rt: HostRuntime) -> Result<(), Fail> {
     let mut table = NameTable::new(rt.alloc());
     let source = b"x".as_slice();
-    for i in 0..1000_u16 {
-        let token = joined(name_token(1), i);
-        assert!(rt; table.add(rt.alloc(), source, &token, u64::from(i))?);
-    }
+    add_thousand(&rt, rt.alloc(), &mut table, source)?;
     for i in 0..1000_u16 {
         let token = joined(name_token(1), i);
         assert_eq!(rt; value_of(&table, source, &token), Some(u64::from(i)));

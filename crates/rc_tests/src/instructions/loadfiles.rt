@@ -93,29 +93,99 @@ fn a_text_reads_as_the_warrior_that_wrote_it(rt: HostRuntime) -> Result<(), Fail
     Ok(())
 }
 
+// How a number is spelled in a load file for a core of `core` cells.
+struct Spelling {
+    name: &'static str,
+    core: u32,
+    number: u16,
+    text: &'static str,
+}
+
+const SPELLINGS: [Spelling; 12] = [
+    Spelling {
+        name: "half of 8",
+        core: 8,
+        number: 4,
+        text: "4",
+    },
+    Spelling {
+        name: "above half of 8",
+        core: 8,
+        number: 5,
+        text: "-3",
+    },
+    Spelling {
+        name: "half of 16",
+        core: 16,
+        number: 8,
+        text: "8",
+    },
+    Spelling {
+        name: "above half of 16",
+        core: 16,
+        number: 9,
+        text: "-7",
+    },
+    Spelling {
+        name: "the greatest below 16",
+        core: 16,
+        number: 15,
+        text: "-1",
+    },
+    Spelling {
+        name: "below half of 17",
+        core: 17,
+        number: 8,
+        text: "8",
+    },
+    Spelling {
+        name: "above half of 17",
+        core: 17,
+        number: 9,
+        text: "-8",
+    },
+    Spelling {
+        name: "half of 8000",
+        core: 8000,
+        number: 4000,
+        text: "4000",
+    },
+    Spelling {
+        name: "above half of 8000",
+        core: 8000,
+        number: 4001,
+        text: "-3999",
+    },
+    Spelling {
+        name: "below half of 65535",
+        core: 65535,
+        number: 32767,
+        text: "32767",
+    },
+    Spelling {
+        name: "above half of 65535",
+        core: 65535,
+        number: 32768,
+        text: "-32767",
+    },
+    Spelling {
+        name: "the greatest below 65535",
+        core: 65535,
+        number: 65534,
+        text: "-1",
+    },
+];
+
 #[test]
 fn a_number_above_half_of_the_core_has_a_minus(rt: HostRuntime) -> Result<(), Fail> {
-    for &(core, number, spelling) in &[
-        (8, 4, "4"),
-        (8, 5, "-3"),
-        (16, 8, "8"),
-        (16, 9, "-7"),
-        (16, 15, "-1"),
-        (17, 8, "8"),
-        (17, 9, "-8"),
-        (8000, 4000, "4000"),
-        (8000, 4001, "-3999"),
-        (65535, 32767, "32767"),
-        (65535, 32768, "-32767"),
-        (65535, 65534, "-1"),
-    ] {
-        let rules = Rules::try_new(core, 1, 1, 1, 1)?;
-        let text = format!(in rt.alloc(); "ORG 0\nDAT.F ${spelling}, #{spelling}\n")?;
+    for case in &SPELLINGS {
+        let rules = Rules::try_new(case.core, 1, 1, 1, 1)?;
+        let text = format!(in rt.alloc(); "ORG 0\nDAT.F ${}, #{}\n", case.text, case.text)?;
         let warrior = read_loadfile(rt.alloc(), text.as_bytes(), &rules)?;
-        let want = cell(Dat, F, Direct, number, Immediate, number);
-        assert_eq!(rt; warrior.code(), [want].as_slice());
+        let want = cell(Dat, F, Direct, case.number, Immediate, case.number);
+        assert_eq!(rt; warrior.code(), [want].as_slice(), "{}", case.name);
         let written = load_of(rt.alloc(), &warrior, &rules)?;
-        assert_eq!(rt; written.as_slice(), text.as_bytes());
+        assert_eq!(rt; written.as_slice(), text.as_bytes(), "{}", case.name);
     }
     Ok(())
 }

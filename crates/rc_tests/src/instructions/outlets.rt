@@ -9,12 +9,12 @@ use std::io::Write;
 use std::test::Fail;
 
 // A writer that takes at most `most` bytes at a call, and counts its calls, those of `flush` too.
-// Call `bad_call` (counted from 1) fails with `kind`; if there is none, it takes no byte.
+// Call `bad_call`, counted from 1, fails with `kind`. Without a `kind` it takes no byte.
 #[derive(Drop)]
 pub(crate) struct Fake {
     pub(crate) taken: Vec<u8>,
     most: usize,
-    bad_call: u32,
+    bad_call: Option<u32>,
     kind: Option<io::ErrorKind>,
     calls: u32,
 }
@@ -22,7 +22,7 @@ pub(crate) struct Fake {
 impl Write for Fake {
     fn write(&mut self, buf: &[u8]) -> io::Result<usize> {
         self.calls = self.calls.saturating_add(1);
-        if self.calls == self.bad_call {
+        if self.bad_call == Some(self.calls) {
             return match self.kind {
                 Some(kind) => Err(io::Error::from(kind)),
                 None => Ok(0),
@@ -36,7 +36,7 @@ impl Write for Fake {
     fn flush(&mut self) -> io::Result<()> {
         self.calls = self.calls.saturating_add(1);
         match self.kind {
-            Some(kind) if self.calls == self.bad_call => Err(io::Error::from(kind)),
+            Some(kind) if self.bad_call == Some(self.calls) => Err(io::Error::from(kind)),
             _ => Ok(()),
         }
     }
@@ -46,7 +46,7 @@ impl Write for Fake {
 pub(crate) fn outlet(
     alloc: Global,
     most: usize,
-    bad_call: u32,
+    bad_call: Option<u32>,
     kind: Option<io::ErrorKind>,
 ) -> Outlet<Fake>
     ensures { result.failed ≡ false }
@@ -67,7 +67,7 @@ fn a_writer_is_not_called_again_after_a_failure(rt: HostRuntime) {
         io::ErrorKind::OutOfMemory,
         io::ErrorKind::Interrupted,
     ] {
-        let mut outlet = outlet(rt.alloc(), 3, 3, Some(kind));
+        let mut outlet = outlet(rt.alloc(), 3, Some(3), Some(kind));
         assert_eq!(rt; outlet.write(b"abcde"), Ok(3));
         assert_eq!(rt; outlet.write(b""), Ok(0));
         assert!(rt; !outlet.failed());
@@ -83,50 +83,91 @@ fn a_writer_is_not_called_again_after_a_failure(rt: HostRuntime) {
 
 #[test]
 fn a_writer_that_takes_no_byte_has_failed(rt: HostRuntime) {
-    let mut outlet = outlet(rt.alloc(), 5, 1, None);
+    let mut outlet = outlet(rt.alloc(), 5, Some(1), None);
     assert_eq!(rt; outlet.write(b"abcde"), Err(WriteFailed));
     assert!(rt; outlet.failed());
     assert_eq!(rt; outlet.into_inner().calls, 1);
 }
 
-// Writes `abcde` as a whole. Returns the result, and the writer.
-fn whole_write(alloc: Global, most: usize, bad_call: u32) -> (Result<(), WriteFailed>, Fake) {
-    let mut outlet = outlet(alloc, most, bad_call, Some(io::ErrorKind::BrokenPipe));
-    let result = outlet.write_all(b"abcde");
-    (result, outlet.into_inner())
+// A write of `abcde` as a whole, to a writer that takes at most `most` bytes at a call: its result,
+// what the writer took, and how many calls it got.
+struct WholeWrite {
+    name: &'static str,
+    most: usize,
+    bad_call: Option<u32>,
+    want: Result<(), WriteFailed>,
+    taken: &'static [u8],
+    calls: u32,
 }
+
+const WHOLE_WRITES: [WholeWrite; 6] = [
+    WholeWrite {
+        name: "one piece",
+        most: 5,
+        bad_call: None,
+        want: Ok(()),
+        taken: b"abcde",
+        calls: 1,
+    },
+    WholeWrite {
+        name: "pieces of two bytes",
+        most: 2,
+        bad_call: None,
+        want: Ok(()),
+        taken: b"abcde",
+        calls: 3,
+    },
+    WholeWrite {
+        name: "pieces of one byte",
+        most: 1,
+        bad_call: None,
+        want: Ok(()),
+        taken: b"abcde",
+        calls: 5,
+    },
+    WholeWrite {
+        name: "the last piece fails",
+        most: 2,
+        bad_call: Some(3),
+        want: Err(WriteFailed),
+        taken: b"abcd",
+        calls: 3,
+    },
+    WholeWrite {
+        name: "the first call fails",
+        most: 5,
+        bad_call: Some(1),
+        want: Err(WriteFailed),
+        taken: b"",
+        calls: 1,
+    },
+    WholeWrite {
+        name: "no byte is taken",
+        most: 0,
+        bad_call: None,
+        want: Err(WriteFailed),
+        taken: b"",
+        calls: 1,
+    },
+];
 
 #[test]
 fn a_whole_text_is_written_piece_by_piece(rt: HostRuntime) {
-    for &(most, bad_call, want, taken, calls) in &[
-        (5, 9, Ok(()), b"abcde".as_slice(), 1),
-        (2, 9, Ok(()), b"abcde", 3),
-        (1, 9, Ok(()), b"abcde", 5),
-        (2, 3, Err(WriteFailed), b"abcd", 3),
-        (5, 1, Err(WriteFailed), b"", 1),
-        (0, 9, Err(WriteFailed), b"", 1),
-    ] {
-        let (found, fake) = whole_write(rt.alloc(), most, bad_call);
-        assert_eq!(rt; found, want, "{most} {bad_call}");
-        assert_eq!(rt; fake.taken.as_slice(), taken, "{most} {bad_call}");
-        assert_eq!(rt; fake.calls, calls, "{most} {bad_call}");
+    for case in &WHOLE_WRITES {
+        let kind = Some(io::ErrorKind::BrokenPipe);
+        let mut outlet = outlet(rt.alloc(), case.most, case.bad_call, kind);
+        assert_eq!(rt; outlet.write_all(b"abcde"), case.want, "{}", case.name);
+        let fake = outlet.into_inner();
+        assert_eq!(rt; fake.taken.as_slice(), case.taken, "{}", case.name);
+        assert_eq!(rt; fake.calls, case.calls, "{}", case.name);
     }
-}
-
-// Writes `abc` and flushes the writer. Returns the outlet, and the result of the flush.
-fn finished_outlet(alloc: Global, bad_call: u32) -> (Outlet<Fake>, Result<(), WriteFailed>) {
-    let mut outlet = outlet(alloc, 5, bad_call, Some(io::ErrorKind::StorageFull));
-    let result = match outlet.write_all(b"abc") {
-        Ok(()) => outlet.finish(),
-        Err(failed) => Err(failed),
-    };
-    (outlet, result)
 }
 
 #[test]
 fn a_finished_outlet_has_flushed_its_writer(rt: HostRuntime) {
-    let (mut outlet, result) = finished_outlet(rt.alloc(), 9);
-    assert_eq!(rt; result, Ok(()));
+    let mut outlet = outlet(rt.alloc(), 5, None, Some(io::ErrorKind::StorageFull));
+    assert_eq!(rt; outlet.write_all(b"abc"), Ok(()));
+    assert_eq!(rt; outlet.finish(), Ok(()));
     assert!(rt; !outlet.failed());
     assert_eq!(rt; outlet.write(b"de"), Ok(2));
     let fake = outlet.into_inner();
@@ -136,8 +177,9 @@ fn a_finished_outlet_has_flushed_its_writer(rt: HostRuntime) {
 
 #[test]
 fn a_flush_that_fails_ends_the_outlet(rt: HostRuntime) {
-    let (mut outlet, result) = finished_outlet(rt.alloc(), 2);
-    assert_eq!(rt; result, Err(WriteFailed));
+    let mut outlet = outlet(rt.alloc(), 5, Some(2), Some(io::ErrorKind::StorageFull));
+    assert_eq!(rt; outlet.write_all(b"abc"), Ok(()));
+    assert_eq!(rt; outlet.finish(), Err(WriteFailed));
     assert!(rt; outlet.failed());
     assert_eq!(rt; outlet.write(b"de"), Err(WriteFailed));
     let fake = outlet.into_inner();

@@ -18,22 +18,43 @@ fn against_dat<'a>(candidate: &'a [u8], rules: &'a Rules, first: Side) -> DuelTe
 }
 
 // A candidate's text, the first mover, and the result line against `DAT_TEXT`.
-const DUELS: [(&[u8], Side, &[u8]); 3] = [
-    // the opponent dies in the second turn
-    (IMP_TEXT, Side::Candidate, b"win 3 turns 2\n"),
-    (IMP_TEXT, Side::Opponent, b"win 3 turns 1\n"),
-    // the candidate dies first
-    (DAT_TEXT, Side::Candidate, b"loss 0 turns 1\n"),
+struct DuelCase {
+    name: &'static str,
+    candidate: &'static [u8],
+    first: Side,
+    line: &'static [u8],
+}
+
+const DUELS: [DuelCase; 3] = [
+    DuelCase {
+        name: "an opponent that moves second dies in the second turn",
+        candidate: IMP_TEXT,
+        first: Side::Candidate,
+        line: b"win 3 turns 2\n",
+    },
+    DuelCase {
+        name: "an opponent that moves first dies in the first turn",
+        candidate: IMP_TEXT,
+        first: Side::Opponent,
+        line: b"win 3 turns 1\n",
+    },
+    DuelCase {
+        name: "a candidate that moves first dies first",
+        candidate: DAT_TEXT,
+        first: Side::Candidate,
+        line: b"loss 0 turns 1\n",
+    },
 ];
 
 #[test]
 fn a_duel_is_played(rt: HostRuntime) -> Result<(), Fail> {
     let rules = small_rules()?;
-    for &(candidate, first, line) in &DUELS {
+    for case in &DUELS {
         let mut out = Outlet::new(Vec::new(rt.alloc()));
-        let played = duel_run(rt.alloc(), &against_dat(candidate, &rules, first), &mut out);
-        assert_eq!(rt; played, Ok(()));
-        assert_eq!(rt; out.into_inner().as_slice(), line);
+        let texts = against_dat(case.candidate, &rules, case.first);
+        let played = duel_run(rt.alloc(), &texts, &mut out);
+        assert_eq!(rt; played, Ok(()), "{}", case.name);
+        assert_eq!(rt; out.into_inner().as_slice(), case.line, "{}", case.name);
     }
     Ok(())
 }

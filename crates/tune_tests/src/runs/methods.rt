@@ -1,22 +1,14 @@
 //! `tune_by_run` by either method.
-use crate::fixtures::{BOTH, both_opponents, small_rules};
+use crate::fixtures::{both_opponents, small_rules, texts_of};
 use crate::writers::Broken;
-use rc_instr::{Outlet, Rules};
+use rc_instr::Outlet;
 use std::test::Fail;
 use tune_cert::Silent;
 use tune_problem::Part;
-use tune_runs::{Method, RunFault, TuneTexts, tune_by_run};
+use tune_runs::{Method, RunFault, tune_by_run};
 
-// Returns the texts of a tuning of two imps with one warrior.
-fn two_equal<'a>(opponents: &'a [Vec<u8>], rules: &'a Rules) -> TuneTexts<'a> {
-    TuneTexts {
-        template: b";@tune K 0 1 1 1\nMOV 0, 1",
-        opponents,
-        schedule: BOTH,
-        rules,
-        part: Part::whole(),
-    }
-}
+// Two settings with one warrior, an imp, of which the second is the start setting.
+const TWO_EQUAL: &[u8] = b";@tune K 0 1 1 1\nMOV 0, 1";
 
 // The report of a tuning that plays all fights, and the certificate by either method.
 const REPORT: &[u8] =
@@ -37,7 +29,7 @@ const METHODS: [(Method, &[u8]); 2] = [
 fn both_methods_find_the_optimum(rt: HostRuntime) -> Result<(), Fail> {
     let rules = small_rules()?;
     let opponents = both_opponents(rt.alloc())?;
-    let texts = two_equal(opponents.as_slice(), &rules);
+    let texts = texts_of(TWO_EQUAL, opponents.as_slice(), &rules, Part::whole());
     for &(method, told) in &METHODS {
         let mut report = Outlet::new(Vec::new(rt.alloc()));
         let mut cert = Outlet::new(Vec::new(rt.alloc()));
@@ -49,9 +41,9 @@ fn both_methods_find_the_optimum(rt: HostRuntime) -> Result<(), Fail> {
             &mut report,
             &mut cert,
         );
-        assert_eq!(rt; tuned, Ok(()));
-        assert_eq!(rt; report.into_inner().as_slice(), told);
-        assert_eq!(rt; cert.into_inner().as_slice(), CERT);
+        assert_eq!(rt; tuned, Ok(()), "{method:?}");
+        assert_eq!(rt; report.into_inner().as_slice(), told, "{method:?}");
+        assert_eq!(rt; cert.into_inner().as_slice(), CERT, "{method:?}");
     }
     Ok(())
 }
@@ -62,7 +54,7 @@ fn a_write_failure_is_reported_before_the_report(rt: HostRuntime) -> Result<(), 
     let opponents = both_opponents(rt.alloc())?;
     let mut report = Outlet::new(Vec::new(rt.alloc()));
     let mut cert = Outlet::new(Broken);
-    let texts = two_equal(opponents.as_slice(), &rules);
+    let texts = texts_of(TWO_EQUAL, opponents.as_slice(), &rules, Part::whole());
     let tuned = tune_by_run(
         rt.alloc(),
         &texts,

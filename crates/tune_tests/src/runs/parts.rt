@@ -1,37 +1,29 @@
 //! `tune_by_run` and `check_part_run` of a part.
-use crate::fixtures::{BOTH, TWO_IN_TURN, both_opponents, small_rules};
-use rc_instr::{Outlet, Rules};
+use crate::fixtures::{TWO_IN_TURN, both_opponents, small_rules, texts_of};
+use rc_instr::Outlet;
 use std::test::Fail;
 use tune_cert::Silent;
 use tune_problem::Part;
-use tune_runs::{Method, TuneTexts, check_part_run, tune_by_run};
+use tune_runs::{Method, check_part_run, tune_by_run};
 
 // The certificate of the second half of the settings.
 const HALF_CERT: &[u8] = b"cwcert,1,3\nbest,0,4\ncap,0,0:3 1:1\ncap,1,1:1\nsame,2,0\n";
 
-// Returns the texts of a tuning of the second half of the settings.
-fn second_half<'a>(opponents: &'a [Vec<u8>], rules: &'a Rules) -> TuneTexts<'a> {
-    TuneTexts {
-        template: TWO_IN_TURN,
-        opponents,
-        schedule: BOTH,
-        rules,
-        part: Part {
-            number: 2,
-            parts: 2,
-        },
-    }
-}
+const SECOND_HALF: Part = Part {
+    number: 2,
+    parts: 2,
+};
 
 #[test]
 fn a_part_is_tuned(rt: HostRuntime) -> Result<(), Fail> {
     let rules = small_rules()?;
     let opponents = both_opponents(rt.alloc())?;
+    let texts = texts_of(TWO_IN_TURN, opponents.as_slice(), &rules, SECOND_HALF);
     let mut report = Outlet::new(Vec::new(rt.alloc()));
     let mut cert = Outlet::new(Vec::new(rt.alloc()));
     let tuned = tune_by_run(
         rt.alloc(),
-        &second_half(opponents.as_slice(), &rules),
+        &texts,
         Method::Dropping { capacity: 4096 },
         &mut Silent,
         &mut report,
@@ -50,14 +42,9 @@ fn a_part_is_tuned(rt: HostRuntime) -> Result<(), Fail> {
 fn a_part_is_checked(rt: HostRuntime) -> Result<(), Fail> {
     let rules = small_rules()?;
     let opponents = both_opponents(rt.alloc())?;
+    let texts = texts_of(TWO_IN_TURN, opponents.as_slice(), &rules, SECOND_HALF);
     let mut line = Outlet::new(Vec::new(rt.alloc()));
-    let checked = check_part_run(
-        rt.alloc(),
-        &second_half(opponents.as_slice(), &rules),
-        &mut Silent,
-        HALF_CERT,
-        &mut line,
-    );
+    let checked = check_part_run(rt.alloc(), &texts, &mut Silent, HALF_CERT, &mut line);
     assert_eq!(rt; checked, Ok(true));
     Ok(())
 }

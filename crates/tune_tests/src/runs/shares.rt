@@ -1,22 +1,16 @@
 //! `check_share_run`.
-use crate::fixtures::{BOTH, FOUR_EQUAL, FOUR_EQUAL_CERT, both_opponents, small_rules};
+use crate::fixtures::{FOUR_EQUAL, FOUR_EQUAL_CERT, both_opponents, small_rules, texts_of};
 use rc_instr::Outlet;
 use std::test::Fail;
 use tune_cert::Silent;
 use tune_problem::Part;
-use tune_runs::{Share, TuneTexts, check_share_run};
+use tune_runs::{Share, check_share_run};
 
 #[test]
 fn a_share_has_a_line_of_its_own(rt: HostRuntime) -> Result<(), Fail> {
     let rules = small_rules()?;
     let opponents = both_opponents(rt.alloc())?;
-    let given = TuneTexts {
-        template: FOUR_EQUAL,
-        opponents: opponents.as_slice(),
-        schedule: BOTH,
-        rules: &rules,
-        part: Part::whole(),
-    };
+    let texts = texts_of(FOUR_EQUAL, opponents.as_slice(), &rules, Part::whole());
     let share = Share {
         number: 2,
         shares: 3,
@@ -24,7 +18,7 @@ fn a_share_has_a_line_of_its_own(rt: HostRuntime) -> Result<(), Fail> {
     let mut line = Outlet::new(Vec::new(rt.alloc()));
     let checked = check_share_run(
         rt.alloc(),
-        &given,
+        &texts,
         share,
         &mut Silent,
         FOUR_EQUAL_CERT,

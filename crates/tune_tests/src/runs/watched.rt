@@ -1,8 +1,8 @@
 //! What runs tell their watchers.
 ghost use Rattle.tune_search.specs.Method.{HasCapacity};
 
-use crate::fixtures::{BOTH, THREE_UNEQUAL, THREE_UNEQUAL_CERT, both_opponents, small_rules};
-use rc_instr::{Outlet, Rules};
+use crate::fixtures::{THREE_UNEQUAL, THREE_UNEQUAL_CERT, both_opponents, small_rules, texts_of};
+use rc_instr::Outlet;
 use std::alloc::Global;
 use std::test::Fail;
 use tune_cert::{Standing, Watcher};
@@ -75,17 +75,6 @@ impl Watcher for Told {
 // How a tuning searches unless it is told otherwise.
 const DROPPING: Method = Method::Dropping { capacity: 4096 };
 
-// Returns the texts of a tuning of all settings of `THREE_UNEQUAL`.
-fn three_unequal<'a>(opponents: &'a [Vec<u8>], rules: &'a Rules) -> TuneTexts<'a> {
-    TuneTexts {
-        template: THREE_UNEQUAL,
-        opponents,
-        schedule: BOTH,
-        rules,
-        part: Part::whole(),
-    }
-}
-
 // Tunes `texts`, and tells `told` of it. Nobody reads the report and the certificate.
 fn tune(
     alloc: Global,
@@ -105,7 +94,7 @@ fn tune(
 fn a_tuning_tells_its_watcher_once(rt: HostRuntime) -> Result<(), Fail> {
     let rules = small_rules()?;
     let opponents = both_opponents(rt.alloc())?;
-    let texts = three_unequal(opponents.as_slice(), &rules);
+    let texts = texts_of(THREE_UNEQUAL, opponents.as_slice(), &rules, Part::whole());
     let mut told = Told::nothing();
     tune(rt.alloc(), &texts, DROPPING, &mut told)?;
     assert_eq!(rt; told.numbers(), (1, 3, 5, 1, 0));
@@ -116,7 +105,7 @@ fn a_tuning_tells_its_watcher_once(rt: HostRuntime) -> Result<(), Fail> {
 fn a_tuning_that_plays_all_tells_its_watcher_once(rt: HostRuntime) -> Result<(), Fail> {
     let rules = small_rules()?;
     let opponents = both_opponents(rt.alloc())?;
-    let texts = three_unequal(opponents.as_slice(), &rules);
+    let texts = texts_of(THREE_UNEQUAL, opponents.as_slice(), &rules, Part::whole());
     let mut told = Told::nothing();
     tune(rt.alloc(), &texts, Method::PlayingAll, &mut told)?;
     assert_eq!(rt; told.numbers(), (1, 3, 6, 1, 0));
@@ -127,7 +116,7 @@ fn a_tuning_that_plays_all_tells_its_watcher_once(rt: HostRuntime) -> Result<(),
 fn a_check_tells_its_watcher_once(rt: HostRuntime) -> Result<(), Fail> {
     let rules = small_rules()?;
     let opponents = both_opponents(rt.alloc())?;
-    let texts = three_unequal(opponents.as_slice(), &rules);
+    let texts = texts_of(THREE_UNEQUAL, opponents.as_slice(), &rules, Part::whole());
     let mut told = Told::nothing();
     let mut line = Outlet::new(Vec::new(rt.alloc()));
     let accepted = check_part_run(rt.alloc(), &texts, &mut told, THREE_UNEQUAL_CERT, &mut line)?;
@@ -140,7 +129,7 @@ fn a_check_tells_its_watcher_once(rt: HostRuntime) -> Result<(), Fail> {
 fn a_check_with_a_demand_tells_its_watcher_once(rt: HostRuntime) -> Result<(), Fail> {
     let rules = small_rules()?;
     let opponents = both_opponents(rt.alloc())?;
-    let texts = three_unequal(opponents.as_slice(), &rules);
+    let texts = texts_of(THREE_UNEQUAL, opponents.as_slice(), &rules, Part::whole());
     let demand = Demand {
         keep: Some(2),
         floor: None,
@@ -166,10 +155,8 @@ fn a_check_with_a_demand_tells_its_watcher_once(rt: HostRuntime) -> Result<(), F
 fn a_refused_tuning_tells_its_watcher_once(rt: HostRuntime) -> Result<(), Fail> {
     let rules = small_rules()?;
     let opponents = both_opponents(rt.alloc())?;
-    let texts = TuneTexts {
-        template: b";@tune K 0 1 1 0\nMOV 0, K\nDAT 1/0\n",
-        ..three_unequal(opponents.as_slice(), &rules)
-    };
+    let template = b";@tune K 0 1 1 0\nMOV 0, K\nDAT 1/0\n";
+    let texts = texts_of(template, opponents.as_slice(), &rules, Part::whole());
     let mut told = Told::nothing();
     match tune(rt.alloc(), &texts, DROPPING, &mut told) {
         Err(RunFault::NoCandidate) => {}
