@@ -16,8 +16,8 @@ STEPS = [EDITS, "gate.loop_place", "author.tests.run --plain", "gate.documents",
          "gate.cuts", "gate.shares", "gate.ranking_trials", "gate.scripts", "gate.runners",
          "release.try_release", "gate.refuse.two_devices", "gate.refuse.memory",
          "gate.refuse.writes", "gate.refuse.growth"]
-# Ends a step and its children after an hour, with a traceback of where it was. The edits of cwtune
-# are the longest: a round of twenty, in one check on one processor.
+# Ends a step and its children after an hour, with a traceback of where it was. The edits are not
+# ended: a round of those of cwtune is one long check on one processor.
 WATCHED = ["timeout", "--signal=ABRT", "--kill-after=5", "3600", sys.executable, "-X",
            "faulthandler"]
 # With RT_JOBS set, `rt ci` gives each check one job, though processors are idle.
