@@ -7,8 +7,8 @@ use std::test::Fail;
 use tune_cert::{Reason, Share, Silent, Verdict, check_share};
 use tune_problem::Inputs;
 
-// A damaged certificate, and what the two shares of two say. The first takes the fights of setting 2
-// as listed when it checks the row of setting 1.
+// A damaged certificate, and what the two shares of two say. The first takes the fights of setting
+// 2 as listed when it checks the row of setting 1.
 struct DamagedCase {
     name: &'static str,
     cert: &'static [u8],
