@@ -1,6 +1,7 @@
 -- The outcome of a fight: its points (pMARS, for two warriors) and its turns.
 use Rattle.std.specs.Prelude.{◌≡◌, ℕ, zero, suc, ◌*◌, ◌<◌, ◌≤◌, List, Bool, true, false, ◌||◌, nat_lt, ◌==◌, if◌then◌else◌, length, ◌⊎◌}
 use Rattle.rc_instr.specs.declared.instruction.Instruction.{Instruction}
+use Rattle.mars_core.specs.Core.{IsCore, AreTasks}
 use Rattle.mars_core.specs.Queue.{Queue}
 use Rattle.mars_core.specs.State.{State, seen_from, play_of}
 use Rattle.mars_core.specs.declared.side.Side.{Side}
@@ -33,6 +34,27 @@ AreTurns core mine theirs cycles turns = (first : Side) → turns ≡ turns_of m
 abbrev pub TurnsLeave : List Instruction → (mine theirs : Queue) → (turns : ℕ) → List Instruction → (my_new their_new : Queue) → Type 0
 TurnsLeave core mine theirs turns core_new my_new their_new =
     (first : Side) → seen_from first core_new my_new.items their_new.items ≡ play_of mine.capacity (seen_from first core mine.items theirs.items) first turns
+
+-- What turns that alternate need: a core of m cells, the tasks of both sides in it, the same room
+-- for both, and at most a million cycles.
+pub record CanPlay (m : ℕ) (core : List Instruction) (mine theirs : Queue) (cycles : ℕ) : Type 0 where
+  pub core_holds : IsCore m core
+  pub mine_below : AreTasks m mine.items
+  pub theirs_below : AreTasks m theirs.items
+  pub same_room : theirs.capacity ≡ mine.capacity
+  pub few : cycles ≤ 1000000
+
+-- What they leave, after the number of turns that the fight takes within the cycles: the state of
+-- the fight, in a core of m cells again, and queues with the room that they had.
+pub record IsPlayed (m : ℕ) (core : List Instruction) (mine theirs : Queue) (cycles turns : ℕ) (core_new : List Instruction) (my_new their_new : Queue) : Type 0 where
+  pub turns_are : AreTurns core mine theirs cycles turns
+  pub state_is : TurnsLeave core mine theirs turns core_new my_new their_new
+  pub within : turns ≤ 2 * cycles
+  pub core_holds : IsCore m core_new
+  pub mine_below : AreTasks m my_new.items
+  pub theirs_below : AreTasks m their_new.items
+  pub my_room : my_new.capacity ≡ mine.capacity
+  pub their_room : their_new.capacity ≡ theirs.capacity
 
 -- The points are read off the state after these turns.
 unfoldable pub outcome_of : ℕ → State → Side → ℕ → Outcome

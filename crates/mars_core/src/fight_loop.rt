@@ -1,7 +1,6 @@
 //! The loop of a fight: the sides take turns until one of them has no task.
 ghost use Rattle.std.specs.Prelude.{◌≡◌, ◌+◌, ◌*◌, ◌≤◌, length};
-ghost use Rattle.mars_core.specs.Core.{IsCore, AreTasks};
-ghost use Rattle.mars_core.specs.Fight.{AreTurns, TurnsLeave};
+ghost use Rattle.mars_core.specs.Fight.{CanPlay, IsPlayed};
 
 use crate::cells::Cells;
 use crate::snapshot::Snapshot;
@@ -25,17 +24,8 @@ fn alternate<C: Cells>(
     size: u32,
     cycles: u32,
 ) -> u32
-    requires core { IsCore size (C.items cells.old) }
-    requires mine { AreTasks size (C.Queue.held mine.old).items }
-    requires theirs { AreTasks size (C.Queue.held theirs.old).items }
-    requires room { (C.Queue.held theirs.old).capacity ≡ (C.Queue.held mine.old).capacity }
-    requires cycles { cycles ≤ 1000000 }
-    ensures turns { AreTurns (C.items cells.old) (C.Queue.held mine.old) (C.Queue.held theirs.old) cycles result }
-    ensures state { TurnsLeave (C.items cells.old) (C.Queue.held mine.old) (C.Queue.held theirs.old) result (C.items cells.new) (C.Queue.held mine.new) (C.Queue.held theirs.new) }
-    ensures core { IsCore size (C.items cells.new) }
-    ensures mine { AreTasks size (C.Queue.held mine.new).items × ((C.Queue.held mine.new).capacity ≡ (C.Queue.held mine.old).capacity) }
-    ensures theirs { AreTasks size (C.Queue.held theirs.new).items × ((C.Queue.held theirs.new).capacity ≡ (C.Queue.held theirs.old).capacity) }
-    ensures within { result ≤ 2 * cycles }
+    requires { CanPlay size (C.items cells.old) (C.Queue.held mine.old) (C.Queue.held theirs.old) cycles }
+    ensures played { IsPlayed size (C.items cells.old) (C.Queue.held mine.old) (C.Queue.held theirs.old) cycles result (C.items cells.new) (C.Queue.held mine.new) (C.Queue.held theirs.new) }
     ensures marks { C.marks cells.new ≤ C.marks cells.old + 3 * result }
 {
     let (store, turns) = take_turns(cells.take(), mine, theirs, size, cycles);
@@ -52,17 +42,8 @@ fn take_turns<C: Cells>(
     size: u32,
     cycles: u32,
 ) -> (C, u32)
-    requires core { IsCore size (C.items cells) }
-    requires mine { AreTasks size (C.Queue.held mine.old).items }
-    requires theirs { AreTasks size (C.Queue.held theirs.old).items }
-    requires room { (C.Queue.held theirs.old).capacity ≡ (C.Queue.held mine.old).capacity }
-    requires cycles { cycles ≤ 1000000 }
-    ensures turns { AreTurns (C.items cells) (C.Queue.held mine.old) (C.Queue.held theirs.old) cycles result.1 }
-    ensures state { TurnsLeave (C.items cells) (C.Queue.held mine.old) (C.Queue.held theirs.old) result.1 (C.items result.0) (C.Queue.held mine.new) (C.Queue.held theirs.new) }
-    ensures core { IsCore size (C.items result.0) }
-    ensures mine { AreTasks size (C.Queue.held mine.new).items × ((C.Queue.held mine.new).capacity ≡ (C.Queue.held mine.old).capacity) }
-    ensures theirs { AreTasks size (C.Queue.held theirs.new).items × ((C.Queue.held theirs.new).capacity ≡ (C.Queue.held theirs.old).capacity) }
-    ensures within { result.1 ≤ 2 * cycles }
+    requires { CanPlay size (C.items cells) (C.Queue.held mine.old) (C.Queue.held theirs.old) cycles }
+    ensures played { IsPlayed size (C.items cells) (C.Queue.held mine.old) (C.Queue.held theirs.old) cycles result.1 (C.items result.0) (C.Queue.held mine.new) (C.Queue.held theirs.new) }
     ensures marks { C.marks result.0 ≤ C.marks cells + 3 * result.1 }
 {
     if mine.is_empty() || theirs.is_empty() {
@@ -93,19 +74,10 @@ pub(crate) fn decide<C: Cells>(
     size: u32,
     cycles: u32,
 ) -> u32
-    requires core { IsCore size (C.items cells.old) }
-    requires mine { AreTasks size (C.Queue.held mine.old).items }
-    requires theirs { AreTasks size (C.Queue.held theirs.old).items }
-    requires room { (C.Queue.held theirs.old).capacity ≡ (C.Queue.held mine.old).capacity }
+    requires can_play { CanPlay size (C.items cells.old) (C.Queue.held mine.old) (C.Queue.held theirs.old) cycles }
     requires snapshot { length snapshot.old.core ≡ size }
-    requires cycles { cycles ≤ 1000000 }
-    ensures turns { AreTurns (C.items cells.old) (C.Queue.held mine.old) (C.Queue.held theirs.old) cycles result }
-    ensures state { TurnsLeave (C.items cells.old) (C.Queue.held mine.old) (C.Queue.held theirs.old) result (C.items cells.new) (C.Queue.held mine.new) (C.Queue.held theirs.new) }
-    ensures core { IsCore size (C.items cells.new) }
-    ensures mine { AreTasks size (C.Queue.held mine.new).items × ((C.Queue.held mine.new).capacity ≡ (C.Queue.held mine.old).capacity) }
-    ensures theirs { AreTasks size (C.Queue.held theirs.new).items × ((C.Queue.held theirs.new).capacity ≡ (C.Queue.held theirs.old).capacity) }
+    ensures played { IsPlayed size (C.items cells.old) (C.Queue.held mine.old) (C.Queue.held theirs.old) cycles result (C.items cells.new) (C.Queue.held mine.new) (C.Queue.held theirs.new) }
     ensures snapshot { length snapshot.new.core ≡ size }
-    ensures within { result ≤ 2 * cycles }
     ensures marks { C.marks cells.new ≤ C.marks cells.old + 3 * result }
 {
     snapshot.forget();

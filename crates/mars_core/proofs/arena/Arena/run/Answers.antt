@@ -10,8 +10,8 @@ returns-in-Candidate-clause-outcome g c =
     (ap (λ a. a.state) c.self.view_is)
     c.in-Candidate.is
     (c.cycles-cycles.ensures.cycles ∙ ap (λ a. a.rules.cycles) c.self.view_is)
-    (c.decide-turns.ensures.turns Candidate)
-    (c.decide-turns.ensures.state Candidate)
+    (c.decide-turns.ensures.played.turns_are Candidate)
+    (c.decide-turns.ensures.played.state_is Candidate)
     c.finish.ensures.points
     c.finish.ensures.result
 
@@ -23,7 +23,7 @@ returns-in-Candidate-clause-state g c =
     c.in-Candidate.is
     c.finish.ensures.result
     (ap (λ a. a.state) c.finish.ensures.arena)
-    (c.decide-turns.ensures.state Candidate)
+    (c.decide-turns.ensures.played.state_is Candidate)
 
 pub returns-in-Opponent-clause-outcome : goal.returns-in-Opponent-clause-outcome
 returns-in-Opponent-clause-outcome g c =
@@ -32,8 +32,8 @@ returns-in-Opponent-clause-outcome g c =
     (ap (λ a. a.state) c.self.view_is)
     c.in-Opponent.is
     (c.cycles-cycles.ensures.cycles ∙ ap (λ a. a.rules.cycles) c.self.view_is)
-    (c.decide-turns-in-Opponent.ensures.turns Opponent)
-    (c.decide-turns-in-Opponent.ensures.state Opponent)
+    (c.decide-turns-in-Opponent.ensures.played.turns_are Opponent)
+    (c.decide-turns-in-Opponent.ensures.played.state_is Opponent)
     c.finish-in-Opponent.ensures.points
     c.finish-in-Opponent.ensures.result
 
@@ -45,4 +45,4 @@ returns-in-Opponent-clause-state g c =
     c.in-Opponent.is
     c.finish-in-Opponent.ensures.result
     (ap (λ a. a.state) c.finish-in-Opponent.ensures.arena)
-    (c.decide-turns-in-Opponent.ensures.state Opponent)
+    (c.decide-turns-in-Opponent.ensures.played.state_is Opponent)
