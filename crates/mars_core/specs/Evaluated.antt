@@ -1,8 +1,11 @@
 -- The values of the code, seen as those of the definitions.
-use Rattle.std.specs.Prelude.{ℕ, List, [], ◌∷◌}
+use Rattle.std.specs.Prelude.{◌≡◌, ℕ, ◌<◌, List, [], ◌∷◌}
+use Rattle.rc_instr.specs.Warrior.{IsBelow}
 use Rattle.rc_instr.specs.declared.instruction.Instruction.{Instruction}
+use Rattle.mars_core.specs.Core.{IsCore, cell_at}
 use Rattle.mars_core.specs.Numbers.{sum_of}
 use Rattle.mars_core.specs.Operand.{Operand, operand_of}
+use Rattle.mars_core.specs.Step.{leaves, step_of}
 use Rattle.mars_core.specs.declared.effect.Queued.{Queued}
 use Rattle.mars_core.specs.declared.effect.Queued.TheVariants.{Nothing, Next, Skip, Jump, Split}
 
@@ -33,3 +36,17 @@ addresses m pc jump Next = sum_of m pc 1 ∷ []
 addresses m pc jump Skip = sum_of m pc 2 ∷ []
 addresses m pc jump Jump = jump ∷ []
 addresses m pc jump Split = sum_of m pc 1 ∷ jump ∷ []
+
+-- What a step begins with, in a core of m cells: i is the instruction at pc.
+pub record IsFetched (m : ℕ) (core : List Instruction) (pc : ℕ) (i : Instruction) : Type 0 where
+  pub core_holds : IsCore m core
+  pub inside : pc < m
+  pub cell : i ≡ cell_at core pc
+  pub below : IsBelow m i
+
+-- What it ends with: the core that the step leaves, what the task queues, and where its A-operand
+-- points.
+pub record IsExecuted (m : ℕ) (core : List Instruction) (pc : ℕ) (core_new : List Instruction) (jump : ℕ) (queued : Queued) : Type 0 where
+  pub step : leaves core_new (addresses m pc jump queued) ≡ step_of core pc
+  pub core_holds : IsCore m core_new
+  pub jump_inside : jump < m

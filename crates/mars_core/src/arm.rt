@@ -3,11 +3,11 @@ ghost use Rattle.std.specs.Prelude.{◌≡◌, ◌<◌, ◌≤◌, ◌+◌};
 ghost use Rattle.rc_instr.specs.Warrior.{IsBelow};
 ghost use Rattle.mars_core.specs.Classes.{IsCoded};
 ghost use Rattle.mars_core.specs.Codes.{opcode_of, modifier_of, mode_of};
-ghost use Rattle.mars_core.specs.Core.{cell_at, IsCore};
+ghost use Rattle.mars_core.specs.Core.{IsCore};
 ghost use Rattle.mars_core.specs.Numbers.{sum_of};
 ghost use Rattle.mars_core.specs.Operand.{operand_of};
-ghost use Rattle.mars_core.specs.Step.{step_of, effect_of, leaves};
-ghost use Rattle.mars_core.specs.Evaluated.{addresses, located, located_from};
+ghost use Rattle.mars_core.specs.Step.{effect_of, leaves};
+ghost use Rattle.mars_core.specs.Evaluated.{IsFetched, IsExecuted, addresses, located, located_from};
 
 use crate::cell::Cell;
 use crate::cells::Cells;
@@ -29,14 +29,9 @@ pub(crate) fn arm<
 >(cells: &mut C, size: u32, pc: u32, cell: C::Kept) -> Executed
     requires codes { (OPCODE < 16) × (MODIFIER < 8) }
     requires modes { (A_MODE < 8) × (B_MODE < 8) }
-    requires core { IsCore size (C.items cells.old) }
-    requires pc { pc < size }
-    requires cell { C.Kept.held cell ≡ cell_at (C.items cells.old) pc }
-    requires below { IsBelow size (C.Kept.held cell) }
+    requires fetched { IsFetched size (C.items cells.old) pc (C.Kept.held cell) }
     requires coded { IsCoded OPCODE MODIFIER A_MODE B_MODE (C.Kept.held cell) }
-    ensures value { leaves (C.items cells.new) (addresses size pc result.jump result.queued) ≡ step_of (C.items cells.old) pc }
-    ensures core { IsCore size (C.items cells.new) }
-    ensures jump { result.jump < size }
+    ensures executed { IsExecuted size (C.items cells.old) pc (C.items cells.new) result.jump result.queued }
     ensures marks { C.marks cells.new ≤ C.marks cells.old + 3 }
 {
     let a = evaluate_in::<C, A_MODE>(cells, size, pc, cell.a_number());

@@ -3,10 +3,10 @@ ghost use Rattle.std.specs.Prelude.{◌≡◌, ◌<◌, ◌≤◌, ◌+◌, ◌/
 ghost use Rattle.rc_instr.specs.Warrior.{IsBelow};
 ghost use Rattle.mars_core.specs.Classes.{IsClassOf, IsModed};
 ghost use Rattle.mars_core.specs.Codes.{opcode_of, modifier_of};
-ghost use Rattle.mars_core.specs.Core.{cell_at, IsCore};
+ghost use Rattle.mars_core.specs.Core.{IsCore};
 ghost use Rattle.mars_core.specs.Numbers.{sum_of};
-ghost use Rattle.mars_core.specs.Step.{step_of, effect_of, leaves};
-ghost use Rattle.mars_core.specs.Evaluated.{addresses, located, located_from, a_operand, b_operand};
+ghost use Rattle.mars_core.specs.Step.{effect_of, leaves};
+ghost use Rattle.mars_core.specs.Evaluated.{IsFetched, IsExecuted, addresses, located, located_from, a_operand, b_operand};
 
 use crate::arm::evaluate_in;
 use crate::cell::Cell;
@@ -26,15 +26,10 @@ pub(crate) fn execute_by_modes<C: Cells, const PLACE: u64>(
     cell: C::Kept,
     class: u64,
 ) -> Executed
-    requires core { IsCore size (C.items cells.old) }
-    requires pc { pc < size }
-    requires cell { C.Kept.held cell ≡ cell_at (C.items cells.old) pc }
-    requires below { IsBelow size (C.Kept.held cell) }
+    requires fetched { IsFetched size (C.items cells.old) pc (C.Kept.held cell) }
     requires class { IsClassOf (C.Kept.held cell) class }
     requires modes { 64 ≤ class }
-    ensures value { leaves (C.items cells.new) (addresses size pc result.jump result.queued) ≡ step_of (C.items cells.old) pc }
-    ensures core { IsCore size (C.items cells.new) }
-    ensures jump { result.jump < size }
+    ensures executed { IsExecuted size (C.items cells.old) pc (C.items cells.new) result.jump result.queued }
     ensures marks { C.marks cells.new ≤ C.marks cells.old + 3 }
 {
     let (a, b) = operands::<C, PLACE>(cells, size, pc, cell, class);

@@ -1,12 +1,10 @@
 //! One turn of a side: its first task executes an instruction, and queues what follows.
 ghost use Rattle.std.specs.Prelude.{◌≡◌, ◌<◌, ◌≤◌, ◌+◌, Some, length, drop, slice_get};
 ghost use Rattle.mars_core.specs.Queue.{queue};
-ghost use Rattle.rc_instr.specs.Warrior.{IsBelow};
 ghost use Rattle.mars_core.specs.Classes.{IsClassOf};
-ghost use Rattle.mars_core.specs.Core.{cell_at, IsCore, AreTasks};
-ghost use Rattle.mars_core.specs.Step.{step_of, leaves};
+ghost use Rattle.mars_core.specs.Core.{IsCore, AreTasks};
 ghost use Rattle.mars_core.specs.State.{appended, core_after, tasks_after};
-ghost use Rattle.mars_core.specs.Evaluated.{addresses};
+ghost use Rattle.mars_core.specs.Evaluated.{IsFetched, IsExecuted, addresses};
 
 use crate::arm::arm;
 use crate::cell::Cell;
@@ -82,14 +80,9 @@ fn execute<C: Cells, const PLACE: u64>(
     cell: C::Kept,
     class: u64,
 ) -> Executed
-    requires core { IsCore size (C.items cells.old) }
-    requires pc { pc < size }
-    requires cell { C.Kept.held cell ≡ cell_at (C.items cells.old) pc }
-    requires below { IsBelow size (C.Kept.held cell) }
+    requires fetched { IsFetched size (C.items cells.old) pc (C.Kept.held cell) }
     requires class { IsClassOf (C.Kept.held cell) class }
-    ensures value { leaves (C.items cells.new) (addresses size pc result.jump result.queued) ≡ step_of (C.items cells.old) pc }
-    ensures core { IsCore size (C.items cells.new) }
-    ensures jump { result.jump < size }
+    ensures executed { IsExecuted size (C.items cells.old) pc (C.items cells.new) result.jump result.queued }
     ensures marks { C.marks cells.new ≤ C.marks cells.old + 3 }
 {
     if class >= 64 {
@@ -108,15 +101,10 @@ fn execute_by_class<C: Cells>(
     cell: C::Kept,
     class: u64,
 ) -> Executed
-    requires core { IsCore size (C.items cells.old) }
-    requires pc { pc < size }
-    requires cell { C.Kept.held cell ≡ cell_at (C.items cells.old) pc }
-    requires below { IsBelow size (C.Kept.held cell) }
+    requires fetched { IsFetched size (C.items cells.old) pc (C.Kept.held cell) }
     requires class { IsClassOf (C.Kept.held cell) class }
     requires frequent { class < 64 }
-    ensures value { leaves (C.items cells.new) (addresses size pc result.jump result.queued) ≡ step_of (C.items cells.old) pc }
-    ensures core { IsCore size (C.items cells.new) }
-    ensures jump { result.jump < size }
+    ensures executed { IsExecuted size (C.items cells.old) pc (C.items cells.new) result.jump result.queued }
     ensures marks { C.marks cells.new ≤ C.marks cells.old + 3 }
 {
     match class {
