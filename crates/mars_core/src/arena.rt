@@ -2,7 +2,7 @@
 ghost use Rattle.std.specs.Prelude.{◌≡◌, ◌+◌, ◌*◌, ◌<◌, ◌≤◌, length, slice_index, IfOk};
 ghost use Rattle.rc_instr.specs.Warrior.{Fits, IsBelow};
 ghost use Rattle.mars_core.specs.Core.{cell_at, filled_in};
-ghost use Rattle.mars_core.specs.State.{blank_of, start_of, turn_of, play_of, tasks_of};
+ghost use Rattle.mars_core.specs.State.{start_of, turn_of, play_of, tasks_of};
 
 use crate::cell::Cell;
 use crate::cells::{Cells, PlainCells, load_code, read};

@@ -1,13 +1,10 @@
 //! Instructions whose opcode, modifier and modes are known at compile time.
-ghost use Rattle.std.specs.Prelude.{◌≡◌, ◌<◌, ◌≤◌, ◌+◌};
+ghost use Rattle.std.specs.Prelude.{◌<◌, ◌≤◌, ◌+◌};
 ghost use Rattle.rc_instr.specs.Warrior.{IsBelow};
 ghost use Rattle.mars_core.specs.Classes.{IsCoded};
 ghost use Rattle.mars_core.specs.Codes.{opcode_of, modifier_of, mode_of};
 ghost use Rattle.mars_core.specs.Core.{IsCore};
-ghost use Rattle.mars_core.specs.Numbers.{sum_of};
-ghost use Rattle.mars_core.specs.Operand.{operand_of};
-ghost use Rattle.mars_core.specs.Step.{effect_of, leaves};
-ghost use Rattle.mars_core.specs.Evaluated.{IsFetched, IsExecuted, addresses, located, located_from};
+ghost use Rattle.mars_core.specs.Evaluated.{IsFetched, IsExecuted, IsEvaluated, IsActed};
 
 use crate::cell::Cell;
 use crate::cells::Cells;
@@ -55,10 +52,7 @@ pub(crate) fn evaluate_in<C: Cells, const MODE: u64>(
     requires core { IsCore size (C.items cells.old) }
     requires pc { pc < size }
     requires n { n < size }
-    ensures value { located result.address (C.Kept.held result.copy) (C.items cells.new) ≡ located_from size pc (operand_of size (C.items cells.old) pc (mode_of MODE) n) }
-    ensures address { result.address < size }
-    ensures copy { IsBelow size (C.Kept.held result.copy) }
-    ensures core { IsCore size (C.items cells.new) }
+    ensures evaluated { IsEvaluated size (C.items cells.old) pc (mode_of MODE) n result.address (C.Kept.held result.copy) (C.items cells.new) }
     ensures marks { C.marks cells.new ≤ C.marks cells.old + 1 }
 {
     evaluate(cells, size, pc, mode_from(MODE), n)
@@ -77,9 +71,7 @@ fn act_as<C: Cells, const OPCODE: u64, const MODIFIER: u64>(
     requires core { IsCore size (C.items cells.old) }
     requires a { IsBelow size (C.Kept.held a.copy) × (a.address < size) }
     requires b { IsBelow size (C.Kept.held b.copy) × (b.address < size) }
-    ensures value { leaves (C.items cells.new) (addresses size pc a.address result)
-        ≡ effect_of (opcode_of OPCODE) (modifier_of MODIFIER) size (C.items cells.old) pc a.address (C.Kept.held a.copy) (C.Kept.held b.copy) b.address }
-    ensures core { IsCore size (C.items cells.new) }
+    ensures acted { IsActed (opcode_of OPCODE) (modifier_of MODIFIER) size (C.items cells.old) pc a.address (C.Kept.held a.copy) (C.Kept.held b.copy) b.address (C.items cells.new) result }
     ensures marks { C.marks cells.new ≤ C.marks cells.old + 1 }
 {
     act(

@@ -4,8 +4,7 @@ ghost use Rattle.rc_instr.specs.Warrior.{IsBelow};
 ghost use Rattle.rc_instr.specs.declared.instruction.Opcode.{Opcode};
 ghost use Rattle.mars_core.specs.Core.{cell_at, IsCore};
 ghost use Rattle.mars_core.specs.Pairs.{computed, counted_down, has_zero_divisor, pairs_of, written, written_value};
-ghost use Rattle.mars_core.specs.Step.{leaves, effect_of};
-ghost use Rattle.mars_core.specs.Evaluated.{addresses};
+ghost use Rattle.mars_core.specs.Evaluated.{IsActed};
 ghost use Rattle.mars_core.specs.declared.effect.Queued.{Queued};
 
 use crate::cell::Cell;
@@ -48,9 +47,7 @@ pub(crate) fn act<C: Cells>(
     requires core { IsCore size (C.items cells.old) }
     requires a { IsBelow size (C.Kept.held a.copy) × (a.address < size) }
     requires b { IsBelow size (C.Kept.held b.copy) × (b.address < size) }
-    ensures value { leaves (C.items cells.new) (addresses size pc a.address result)
-        ≡ effect_of opcode modifier size (C.items cells.old) pc a.address (C.Kept.held a.copy) (C.Kept.held b.copy) b.address }
-    ensures core { IsCore size (C.items cells.new) }
+    ensures acted { IsActed opcode modifier size (C.items cells.old) pc a.address (C.Kept.held a.copy) (C.Kept.held b.copy) b.address (C.items cells.new) result }
     ensures marks { C.marks cells.new ≤ C.marks cells.old + 1 }
 {
     let (x, y) = (a.copy, b.copy);

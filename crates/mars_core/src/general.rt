@@ -1,12 +1,10 @@
 //! Instructions of which only the modes are known at compile time, by the second 64 classes.
-ghost use Rattle.std.specs.Prelude.{◌≡◌, ◌<◌, ◌≤◌, ◌+◌, ◌/◌, ◌%◌};
+ghost use Rattle.std.specs.Prelude.{◌<◌, ◌≤◌, ◌+◌, ◌/◌, ◌%◌};
 ghost use Rattle.rc_instr.specs.Warrior.{IsBelow};
 ghost use Rattle.mars_core.specs.Classes.{IsClassOf, IsModed};
 ghost use Rattle.mars_core.specs.Codes.{opcode_of, modifier_of};
 ghost use Rattle.mars_core.specs.Core.{IsCore};
-ghost use Rattle.mars_core.specs.Numbers.{sum_of};
-ghost use Rattle.mars_core.specs.Step.{effect_of, leaves};
-ghost use Rattle.mars_core.specs.Evaluated.{IsFetched, IsExecuted, addresses, located, located_from, a_operand, b_operand};
+ghost use Rattle.mars_core.specs.Evaluated.{IsFetched, IsExecuted, AreEvaluated, IsActed};
 
 use crate::arm::evaluate_in;
 use crate::cell::Cell;
@@ -55,12 +53,7 @@ fn operands<C: Cells, const PLACE: u64>(
     requires below { IsBelow size (C.Kept.held cell) }
     requires class { IsClassOf (C.Kept.held cell) class }
     requires modes { 64 ≤ class }
-    ensures a { (result.0.address ≡ sum_of size pc (a_operand size (C.items cells.old) pc (C.Kept.held cell)).pointer)
-        × (C.Kept.held result.0.copy ≡ (a_operand size (C.items cells.old) pc (C.Kept.held cell)).copy) }
-    ensures b { located result.1.address (C.Kept.held result.1.copy) (C.items cells.new) ≡ located_from size pc (b_operand size (C.items cells.old) pc (C.Kept.held cell)) }
-    ensures a_below { (result.0.address < size) × IsBelow size (C.Kept.held result.0.copy) }
-    ensures b_below { (result.1.address < size) × IsBelow size (C.Kept.held result.1.copy) }
-    ensures core { IsCore size (C.items cells.new) }
+    ensures evaluated { AreEvaluated size (C.items cells.old) pc (C.Kept.held cell) result.0.address (C.Kept.held result.0.copy) result.1.address (C.Kept.held result.1.copy) (C.items cells.new) }
     ensures marks { C.marks cells.new ≤ C.marks cells.old + 2 }
 {
     match class {
@@ -146,12 +139,7 @@ fn pair_in<C: Cells, const A_MODE: u64, const B_MODE: u64>(
     requires pc { pc < size }
     requires below { IsBelow size (C.Kept.held cell) }
     requires moded { IsModed A_MODE B_MODE (C.Kept.held cell) }
-    ensures a { (result.0.address ≡ sum_of size pc (a_operand size (C.items cells.old) pc (C.Kept.held cell)).pointer)
-        × (C.Kept.held result.0.copy ≡ (a_operand size (C.items cells.old) pc (C.Kept.held cell)).copy) }
-    ensures b { located result.1.address (C.Kept.held result.1.copy) (C.items cells.new) ≡ located_from size pc (b_operand size (C.items cells.old) pc (C.Kept.held cell)) }
-    ensures a_below { (result.0.address < size) × IsBelow size (C.Kept.held result.0.copy) }
-    ensures b_below { (result.1.address < size) × IsBelow size (C.Kept.held result.1.copy) }
-    ensures core { IsCore size (C.items cells.new) }
+    ensures evaluated { AreEvaluated size (C.items cells.old) pc (C.Kept.held cell) result.0.address (C.Kept.held result.0.copy) result.1.address (C.Kept.held result.1.copy) (C.items cells.new) }
     ensures marks { C.marks cells.new ≤ C.marks cells.old + 2 }
 {
     let a = evaluate_in::<C, A_MODE>(cells, size, pc, cell.a_number());
@@ -173,9 +161,7 @@ fn act_by_code<C: Cells, const PLACE: u64>(
     requires core { IsCore size (C.items cells.old) }
     requires a { IsBelow size (C.Kept.held a.copy) × (a.address < size) }
     requires b { IsBelow size (C.Kept.held b.copy) × (b.address < size) }
-    ensures value { leaves (C.items cells.new) (addresses size pc a.address result)
-        ≡ effect_of (opcode_of (code / 8)) (modifier_of (code % 8)) size (C.items cells.old) pc a.address (C.Kept.held a.copy) (C.Kept.held b.copy) b.address }
-    ensures core { IsCore size (C.items cells.new) }
+    ensures acted { IsActed (opcode_of (code / 8)) (modifier_of (code % 8)) size (C.items cells.old) pc a.address (C.Kept.held a.copy) (C.Kept.held b.copy) b.address (C.items cells.new) result }
     ensures marks { C.marks cells.new ≤ C.marks cells.old + 1 }
 {
     match code {
@@ -326,9 +312,7 @@ fn act_once<C: Cells, const PLACE: u64, const OPCODE: u64, const MODIFIER: u64>(
     requires core { IsCore size (C.items cells.old) }
     requires a { IsBelow size (C.Kept.held a.copy) × (a.address < size) }
     requires b { IsBelow size (C.Kept.held b.copy) × (b.address < size) }
-    ensures value { leaves (C.items cells.new) (addresses size pc a.address result)
-        ≡ effect_of (opcode_of OPCODE) (modifier_of MODIFIER) size (C.items cells.old) pc a.address (C.Kept.held a.copy) (C.Kept.held b.copy) b.address }
-    ensures core { IsCore size (C.items cells.new) }
+    ensures acted { IsActed (opcode_of OPCODE) (modifier_of MODIFIER) size (C.items cells.old) pc a.address (C.Kept.held a.copy) (C.Kept.held b.copy) b.address (C.items cells.new) result }
     ensures marks { C.marks cells.new ≤ C.marks cells.old + 1 }
 {
     act(

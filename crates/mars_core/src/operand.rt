@@ -3,8 +3,7 @@ ghost use Rattle.std.specs.Prelude.{◌≡◌, ◌<◌, ◌≤◌, ◌+◌};
 ghost use Rattle.rc_instr.specs.Warrior.{IsBelow};
 ghost use Rattle.mars_core.specs.Core.{cell_at, changed_at, IsCore};
 ghost use Rattle.mars_core.specs.Numbers.{sum_of, difference_of, field_of};
-ghost use Rattle.mars_core.specs.Operand.{operand_of};
-ghost use Rattle.mars_core.specs.Evaluated.{located, located_from};
+ghost use Rattle.mars_core.specs.Evaluated.{IsEvaluated};
 
 use crate::cell::Cell;
 use crate::cells::{Cells, read, write};
@@ -35,10 +34,7 @@ pub(crate) fn evaluate<C: Cells>(
     requires core { IsCore size (C.items cells.old) }
     requires pc { pc < size }
     requires n { n < size }
-    ensures value { located result.address (C.Kept.held result.copy) (C.items cells.new) ≡ located_from size pc (operand_of size (C.items cells.old) pc mode n) }
-    ensures address { result.address < size }
-    ensures copy { IsBelow size (C.Kept.held result.copy) }
-    ensures core { IsCore size (C.items cells.new) }
+    ensures evaluated { IsEvaluated size (C.items cells.old) pc mode n result.address (C.Kept.held result.copy) (C.items cells.new) }
     ensures marks { C.marks cells.new ≤ C.marks cells.old + 1 }
 {
     match mode {
