@@ -11,7 +11,8 @@ pub record RulesView : Type 0 where
   pub tasks : ℕ
   -- The most instructions of a warrior.
   pub length : ℕ
-  -- The fewest cells between the addresses where two warriors are loaded.
+  -- How far apart two warriors are loaded at least, from first cell to first cell and either way
+  -- round the core.
   pub distance : ℕ
 
 abbrev pub rules_view : ℕ → ℕ → ℕ → ℕ → ℕ → RulesView

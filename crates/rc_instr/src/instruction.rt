@@ -2,38 +2,39 @@
 ghost use Rattle.std.specs.Prelude.{◌≡◌, ◌↔◌, IsTrue};
 
 /// What an instruction does: the opcodes of the 1994 draft, with CMP under its later name SEQ, and
-/// SNE and NOP (pMARS).
+/// SNE and NOP (pMARS). A and B stand for the numbers that the modifier picks, of the A-instruction
+/// and of the B-instruction.
 #[derive(Clone, Copy, Debug, PartialEq, Eq)]
 pub enum Opcode {
     /// Ends the task that runs it.
     Dat,
-    /// Copies.
+    /// Copies A to B.
     Mov,
-    /// Adds.
+    /// Adds A to B.
     Add,
-    /// Subtracts.
+    /// Subtracts A from B.
     Sub,
-    /// Multiplies.
+    /// Multiplies B by A.
     Mul,
-    /// Divides. A zero divisor ends the task.
+    /// Divides B by A. A zero in A ends the task.
     Div,
-    /// Takes the remainder of a division. A zero divisor ends the task.
+    /// Puts the remainder of B divided by A into B. A zero in A ends the task.
     Mod,
-    /// Jumps.
+    /// Jumps to the A-operand.
     Jmp,
-    /// Jumps if zero.
+    /// Jumps to the A-operand if B is zero.
     Jmz,
-    /// Jumps if not zero.
+    /// Jumps to the A-operand if B is not zero.
     Jmn,
-    /// Subtracts 1, then jumps if the result is not zero.
+    /// Subtracts 1 from B, then jumps to the A-operand if the result is not zero.
     Djn,
-    /// Skips the next instruction if equal. The 1994 draft calls it CMP.
+    /// Skips the next instruction if A equals B. The 1994 draft calls it CMP.
     Seq,
-    /// Skips the next instruction if not equal.
+    /// Skips the next instruction if A differs from B.
     Sne,
-    /// Skips the next instruction if less.
+    /// Skips the next instruction if A is less than B.
     Slt,
-    /// Starts one more task.
+    /// Starts one more task, at the A-operand.
     Spl,
     /// Does nothing.
     Nop,
@@ -63,7 +64,7 @@ pub enum Modifier {
 pub enum Mode {
     /// `#`: the instruction's own cell.
     Immediate,
-    /// `$`: the cell that is the number's distance away.
+    /// `$`: the cell that many cells after the instruction's own.
     Direct,
     /// `*`: through the A-number of that cell.
     AIndirect,
@@ -84,7 +85,7 @@ pub enum Mode {
 pub struct Instruction {
     /// What it does.
     pub opcode: Opcode,
-    /// Which numbers it takes.
+    /// Which numbers it reads and writes.
     pub modifier: Modifier,
     /// How the A-operand is found.
     pub a_mode: Mode,
