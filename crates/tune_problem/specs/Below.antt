@@ -23,7 +23,8 @@ IsRowBelow p floor rows v (Same u) =
     (w : WarriorView) × (row : List (ℕ × ℕ)) × (u ≢ v) × (u < p.count) × (p.warrior v ≡ Some w) × (p.warrior u ≡ Some w)
     × (slice_get rows u ≡ Some (Cap row)) × (cap_of p w (listed_indices row) < floor)
 
--- A certificate that no candidate reaches the floor has such a row for each setting.
+-- Rows are a valid certificate that no candidate reaches the floor if there is one for each
+-- setting, which shows it of that.
 pub record IsValidBelow (p : Problem) (floor version : ℕ) (rows : List Row) : Type 0 where
   pub version_is : IsVersionOf p version
   pub rows_are : length rows ≡ p.count

@@ -6,7 +6,7 @@ use Rattle.rc_asm.specs.Assembly.{text_warrior}
 use Rattle.mars_fight.specs.declared.fight.Fight.{Fight}
 use Rattle.mars_fight.specs.Listed.{IsFight}
 use Rattle.tune_template.specs.Vectors.{vectors_of, start_index}
-use Rattle.tune_template.specs.Instances.{TemplateView, constants_of}
+use Rattle.tune_template.specs.Instances.{TemplateView, constants_of, setting_count}
 use Rattle.tune_problem.specs.Limits.{MOST_OPPONENTS}
 use Rattle.tune_problem.specs.Parts.{IsPart, part_first, part_of}
 use Rattle.tune_problem.specs.declared.part.Part.{Part}
@@ -30,20 +30,20 @@ pub record AreInputs (i : InputsView) : Type 0 where
   pub few : length i.opponents ≤ MOST_OPPONENTS
   pub fit : All (Fits i.rules) i.opponents
   pub fights : All (IsFight i.rules (length i.opponents)) i.schedule
-  pub part : IsPart i.part (length (vectors_of i.template.ranges.spans))
+  pub part : IsPart i.part (setting_count i.template)
 
 -- The settings that are searched: the part's, in order. A setting's index is its place among these.
 unfoldable pub settings_of : InputsView → List (List ℤ)
 settings_of i = part_of i.part (vectors_of i.template.ranges.spans)
 
--- Where v is among the `count` indices from `first` on, or 0 if it is none of them.
+-- The index of v among the `count` numbers from `first` on, or 0 if it is none of them.
 abbrev pub index_among : (first count v : ℕ) → ℕ
 index_among first count v = if nat_le first v && nat_lt v (first + count) then v - first else 0
 
 -- The index of the start setting, if it is one of the part's; else the first.
 unfoldable pub part_start : InputsView → ℕ
 part_start i =
-    index_among (part_first i.part (length (vectors_of i.template.ranges.spans))) (length (settings_of i)) (start_index i.template.ranges.spans)
+    index_among (part_first i.part (setting_count i.template)) (length (settings_of i)) (start_index i.template.ranges.spans)
 
 -- The warrior of the setting at index v of the part, if the text assembles with its values.
 unfoldable pub warrior_of : InputsView → ℕ → Option WarriorView

@@ -20,10 +20,10 @@ pub record IsPart (p : Part) (count : ℕ) : Type 0 where
 abbrev pub part_first : Part → ℕ → ℕ
 part_first p count = (p.number - 1) * count / p.parts
 
--- It ends before setting I * N / K, with which the next part begins.
+-- It ends just before setting I * N / K, with which the next part begins.
 abbrev pub part_end : Part → ℕ → ℕ
 part_end p count = p.number * count / p.parts
 
--- The part of a list that has these indices.
+-- The items of a list that a part has: those from index `part_first` to just before `part_end`.
 unfoldable pub part_of : {A : Type 0} → Part → List A → List A
 part_of p xs = take (part_end p (length xs) - part_first p (length xs)) (drop (part_first p (length xs)) xs)

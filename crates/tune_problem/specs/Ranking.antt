@@ -1,4 +1,5 @@
--- The ranking of candidates: the greatest total first, then the smaller index.
+-- The ranking of candidates: a list of `Best`, each a setting with its total, the greatest total
+-- first, then the smaller index.
 use Rattle.std.specs.Prelude.{◌≡◌, ℕ, ◌-◌, ◌<◌, ◌≤◌, ◌⊎◌, Bool, true, false, ◌&&◌, nat_le, if◌then◌else◌, List, [], ◌∷◌, length, take, slice_get, Option, Some, None}
 use Rattle.std.specs.List.{AllByRecursion}
 use Rattle.rc_instr.specs.Warrior.{WarriorView}
@@ -23,7 +24,7 @@ abbrev pub beats_lead : ℕ → ℕ → Option Best → Bool
 beats_lead c v None = true
 beats_lead c v (Some lead) = beats c v lead.total lead.vector
 
--- A setting in its place in a ranking: before the first that it beats.
+-- A ranking with one more setting, which comes before the first that it beats.
 unfoldable pub ranked : Best → List Best → List Best
 ranked best [] = best ∷ []
 ranked best (x ∷ xs) = if beats best.total best.vector x.total x.vector then best ∷ x ∷ xs else x ∷ ranked best xs
@@ -36,15 +37,17 @@ last_kept aim ranking = slice_get ranking (aim.keep - 1)
 abbrev pub contends : Aim → ℕ → ℕ → List Best → Bool
 contends aim c v ranking = nat_le aim.floor c && beats_lead c v (last_kept aim ranking)
 
--- The first of the ranking, with setting v and its cap c, given whether c contends.
+-- What is kept of a ranking with setting v and its total c, given whether c contends. If it does
+-- not, v is not ranked.
 abbrev pub ranking_by : Aim → ℕ → ℕ → List Best → Bool → List Best
 ranking_by aim c v ranking true = take aim.keep (ranked (record { total = c; vector = v }) ranking)
 ranking_by aim c v ranking false = ranking
 
+-- The same, where v is ranked exactly if c contends.
 abbrev pub next_ranking : Aim → ℕ → ℕ → List Best → List Best
 next_ranking aim c v ranking = ranking_by aim c v ranking (contends aim c v ranking)
 
--- The same with setting v, if it has a warrior, by its total.
+-- The same with the total of setting v, if v has a warrior.
 abbrev pub ranking_with : Problem → Aim → ℕ → Option WarriorView → List Best → List Best
 ranking_with p aim v None ranking = ranking
 ranking_with p aim v (Some w) ranking = next_ranking aim (total_of p w) v ranking
@@ -68,10 +71,12 @@ pub record IsRanked (p : Problem) (aim : Aim) (among : ℕ → Type 0) (best : B
 abbrev pub Ahead : Best → Best → Type 0
 Ahead x y = beats x.total x.vector y.total y.vector ≡ true
 
+-- Each setting comes before all that follow it.
 abbrev pub InOrder : List Best → Type 0
 InOrder [] = Unit {0}
 InOrder (x ∷ xs) = AllByRecursion (Ahead x) xs × InOrder xs
 
+-- The setting is in the list, with this total.
 abbrev pub In : Best → List Best → Type 0
 In best [] = ⊥
 In best (x ∷ xs) = (best ≡ x) ⊎ In best xs

@@ -3,7 +3,7 @@ ghost use Rattle.std.specs.Prelude.{◌≡◌, ◌≤◌, ◌<◌, ◌+◌, leng
 ghost use Rattle.rc_instr.specs.Warrior.{Fits};
 ghost use Rattle.mars_fight.specs.Listed.{IsFight};
 ghost use Rattle.tune_template.specs.Limits.{MOST_SETTINGS};
-ghost use Rattle.tune_template.specs.Vectors.{vectors_of};
+ghost use Rattle.tune_template.specs.Instances.{setting_count};
 ghost use Rattle.tune_problem.specs.Limits.{MOST_OPPONENTS};
 ghost use Rattle.tune_problem.specs.Parts.{whole, IsPart, part_first};
 ghost use Rattle.tune_problem.specs.Inputs.{AreInputs, with_part, settings_of, index_among, part_start};
@@ -66,7 +66,7 @@ impl Inputs {
     /// Returns `None` unless `part.number` is 1 to `part.parts`, and `part.parts` is at most the
     /// number of the template's settings.
     pub fn part(self, part: Part) -> Option<Inputs>
-        ensures { MatchOption result (IsPart part (length (vectors_of self.template.ranges.spans)) → ⊥)
+        ensures { MatchOption result (IsPart part (setting_count self.template) → ⊥)
             (λ i. i ≡ with_part self part) }
     {
         if !part.is_part_of(self.template.count()) {
@@ -145,8 +145,8 @@ impl Inputs {
     #[tactic(auto, using(crate::proofs::PartSteps::setting_inside))]
     pub fn index_in_template(&self, index: u32) -> u32
         requires { index < length (settings_of self.now) }
-        ensures index { result ≡ part_first self.now.part (length (vectors_of self.now.template.ranges.spans)) + index }
-        ensures inside { result < length (vectors_of self.now.template.ranges.spans) }
+        ensures index { result ≡ part_first self.now.part (setting_count self.now.template) + index }
+        ensures inside { result < setting_count self.now.template }
         ensures inputs { AreInputs self.now }
     {
         prove!(0 < self.template.count());
@@ -155,14 +155,15 @@ impl Inputs {
 
     // Returns the index in the template of the part's first setting.
     fn first(&self) -> u32
-        ensures first { result ≡ part_first self.now.part (length (vectors_of self.now.template.ranges.spans)) }
+        ensures first { result ≡ part_first self.now.part (setting_count self.now.template) }
         ensures inputs { AreInputs self.now }
     {
         self.part.first(self.template.count())
     }
 }
 
-// Returns where `index` is among the `count` indices from `first` on, or 0 if it is none of them.
+// Returns the index of `index` among the `count` numbers from `first` on, or 0 if it is none of
+// them.
 fn index_among(first: u32, count: u32, index: u32) -> u32
     requires { 0 < count }
     ensures index { result ≡ index_among first count index }

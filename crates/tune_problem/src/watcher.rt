@@ -15,7 +15,8 @@ pub struct Standing {
     pub best: Option<Best>,
 }
 
-/// A setting and its total.
+/// A setting and its total. A ranking is a list of these: the greatest total first, then the
+/// smaller index.
 #[derive(Clone, Copy, Debug, PartialEq, Eq)]
 pub struct Best {
     /// The index of the setting, from 0.

@@ -5,6 +5,7 @@ use Rattle.tune_template.specs.declared.fault.TemplateFault.{TemplateFault}
 use Rattle.tune_template.specs.declared.fault.TemplateKind.{TemplateKind}
 use Rattle.tune_template.specs.declared.fault.TemplateKind.TheVariants.{OutOfMemory}
 
+-- A fault with its line.
 abbrev pub at_line : ℕ → TemplateKind → TemplateFault
 at_line line kind = record { line = line; kind = kind }
 

@@ -26,7 +26,7 @@ template_of text = do
   ranges ← ranges_of text
   Ok (record { text = text; ranges = ranges })
 
--- Pairs names and values, one by one.
+-- The constants of an instance: each name with the value at its index.
 abbrev pub constants_of : List (List ℕ) → List ℤ → Table
 constants_of (n ∷ names) (v ∷ values) = (n, v) ∷ constants_of names values
 constants_of _ _ = []

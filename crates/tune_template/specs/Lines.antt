@@ -31,6 +31,10 @@ abbrev pub begins_blank : List ℕ → Bool
 begins_blank [] = true
 begins_blank (b ∷ rest) = is_blank b
 
--- `;@tune`, then a blank or the end of the line.
+-- A range line begins with `;@tune`, and then has a blank or ends.
 abbrev pub is_range_line : List ℕ → Bool
 is_range_line line = bytes_eq (take 6 line) (codes ";@tune") && begins_blank (drop 6 line)
+
+-- The words of a range line, without the 6 bytes of `;@tune`.
+abbrev pub words_after_tune : List ℕ → List (List ℕ)
+words_after_tune line = words_of (drop 6 line)

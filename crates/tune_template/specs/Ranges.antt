@@ -1,5 +1,5 @@
 -- The ranges of a template, line by line, or the first fault.
-use Rattle.std.specs.Prelude.{◌≡◌, ℕ, ◌+◌, ◌*◌, nat_le, nat_lt, ◌==◌, ℤ, pos, neg_ℤ, List, [], ◌∷◌, ◌++◌, length, drop, Option, Some, None, option_map, Result, Ok, Err, if◌then◌else◌}
+use Rattle.std.specs.Prelude.{◌≡◌, ℕ, ◌+◌, ◌*◌, nat_le, nat_lt, ◌==◌, ℤ, pos, neg_ℤ, List, [], ◌∷◌, ◌++◌, length, Option, Some, None, option_map, Result, Ok, Err, if◌then◌else◌}
 use Rattle.std.specs.Option.{ok_or}
 use Rattle.std.specs.Str.{byte}
 use Rattle.rc_text.specs.NameClasses.{class_of}
@@ -15,7 +15,7 @@ use Rattle.tune_template.specs.declared.fault.TemplateFault.{TemplateFault}
 use Rattle.rc_instr.specs.Results.{mapped, with_fault, ◌>>=◌, check}
 use Rattle.tune_template.specs.Faults.{at_line}
 use Rattle.tune_template.specs.Limits.{MOST_CONSTANTS, MOST_SETTINGS}
-use Rattle.tune_template.specs.Lines.{lines_of, words_of, is_range_line}
+use Rattle.tune_template.specs.Lines.{lines_of, words_after_tune, is_range_line}
 use Rattle.tune_template.specs.Spans.{span_of}
 
 -- The constants and the spans of their values, in the order of the lines.
@@ -26,7 +26,7 @@ pub record Ranges : Type 0 where
 abbrev pub ranges : List (List ℕ) → List Span → Ranges
 ranges names spans = record { names = names; spans = spans }
 
--- 1 to 5 digits, at most 65535.
+-- The number of a word of 1 to 5 digits, at most 65535.
 abbrev pub small_number : List ℕ → Option ℕ
 small_number word = if nat_le (length word) 5 then at_most (padded_decimal word) else None
   where
@@ -34,12 +34,12 @@ small_number word = if nat_le (length word) 5 then at_most (padded_decimal word)
     at_most None = None
     at_most (Some n) = if nat_le n 65535 then Some n else None
 
--- An optional minus and such a number.
+-- The number of such a word, which may have a minus before it.
 abbrev pub signed_number : List ℕ → Option ℤ
 signed_number [] = None
 signed_number (b ∷ word) = if b == byte "-" then option_map (λ n. neg_ℤ (pos n)) (small_number word) else option_map pos (small_number (b ∷ word))
 
--- A step is 1 to 65535.
+-- The number of such a word that is a step, 1 to 65535.
 abbrev pub step_number : List ℕ → Option ℕ
 step_number word = above_zero (small_number word)
   where
@@ -52,7 +52,8 @@ abbrev pub vector_count : List Span → ℕ
 vector_count [] = 1
 vector_count (s ∷ ss) = s.count * vector_count ss
 
--- The next constant is not reserved, not predefined, and not an earlier one.
+-- Checks a name of this class as the next constant, after these: it must be a name that is not
+-- reserved, not predefined, and not an earlier one.
 abbrev pub name_checked : List (List ℕ) → NameClass → List ℕ → Result (Unit {0}) TemplateKind
 name_checked names NoName name = Err BadLine
 name_checked names Reserved name = Err ReservedName
@@ -81,7 +82,7 @@ range_of_words r _ = Err BadLine
 abbrev pub next_range : Ranges → List ℕ → Result (List ℕ × Span) TemplateKind
 next_range r line = do
   _ ← check (nat_lt (length r.names) MOST_CONSTANTS) TooManyConstants
-  next ← range_of_words r (words_of (drop 6 line))
+  next ← range_of_words r (words_after_tune line)
   _ ← check (nat_le (vector_count r.spans * next.1.count) MOST_SETTINGS) TooManyVectors
   Ok next
 
@@ -93,7 +94,7 @@ with_range r next = ranges (r.names ++ (next.0 ∷ [])) (r.spans ++ (next.1 ∷ 
 abbrev pub line_added : ℕ → Ranges → List ℕ → Result Ranges TemplateFault
 line_added n r line = if is_range_line line then mapped (with_range r) (with_fault (at_line n) (next_range r line)) else Ok r
 
--- The ranges so far, and those of these lines, which begin with line n.
+-- The ranges so far, and those of these lines, of which the first is line n.
 abbrev pub ranges_from : ℕ → Ranges → List (List ℕ) → Result Ranges TemplateFault
 ranges_from n r [] = Ok r
 ranges_from n r (line ∷ lines) = do

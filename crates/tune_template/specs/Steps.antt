@@ -5,6 +5,7 @@ use Rattle.tune_template.specs.declared.span.Span.{Span}
 use Rattle.tune_template.specs.Limits.{MOST_CONSTANTS, MOST_SETTINGS}
 use Rattle.tune_template.specs.Ranges.{Ranges, ranges, vector_count}
 
+-- The ranges that were read so far.
 abbrev pub seen_ranges : Reading → Ranges
 seen_ranges r = ranges (map (λ n. n.items) r.names.items) r.spans.items
 

@@ -7,7 +7,7 @@ ghost use Rattle.tune_template.specs.Lines.{lines_of};
 ghost use Rattle.tune_template.specs.Ranges.{Ranges, ranges, vector_count, line_added, ranges_from};
 ghost use Rattle.tune_template.specs.Vectors.{vectors_of, start_vector, start_index};
 ghost use Rattle.rc_asm.specs.Faults.{Returns as Assembled};
-ghost use Rattle.tune_template.specs.Instances.{instance_of, template_of};
+ghost use Rattle.tune_template.specs.Instances.{instance_of, setting_count, template_of};
 ghost use Rattle.tune_template.specs.Steps.{seen_ranges, AreCounted, HasValues};
 
 use crate::fault::{TemplateFault, TemplateKind, at_line};
@@ -100,7 +100,7 @@ impl Template {
     /// Returns the number of settings, 1 to 1000000.
     #[tactic(auto, using(crate::proofs::VectorSteps::vectors_len, crate::proofs::VectorSteps::some_vector))]
     pub fn count(&self) -> u32
-        ensures count { result ≡ length (vectors_of self.now.ranges.spans) }
+        ensures count { result ≡ setting_count self.now }
         ensures some { 0 < result }
         ensures few { result ≤ MOST_SETTINGS }
     {
@@ -111,7 +111,7 @@ impl Template {
     /// constant. Settings are in lexicographic order, with the first constant slowest and rising
     /// values.
     pub fn vector(&self, index: u32) -> Vector
-        requires { index < length (vectors_of self.now.ranges.spans) }
+        requires { index < setting_count self.now }
         ensures { slice_get (vectors_of self.now.ranges.spans) index ≡ Some result }
     {
         vector_at(&self.spans, self.count, index)
@@ -121,7 +121,7 @@ impl Template {
     pub fn start_number(&self) -> u32
         ensures index { result ≡ start_index self.now.ranges.spans }
         ensures start { slice_get (vectors_of self.now.ranges.spans) result ≡ Some (start_vector self.now.ranges.spans) }
-        ensures inside { result < length (vectors_of self.now.ranges.spans) }
+        ensures inside { result < setting_count self.now }
     {
         start_of(&self.spans, self.count)
     }
@@ -144,7 +144,7 @@ impl Template {
     ///
     /// Fails as `rc_asm::assemble` does for the text with these values.
     pub fn instance(&self, alloc: Global, index: u32, rules: &Rules) -> Result<Warrior, AsmFault>
-        requires { index < length (vectors_of self.now.ranges.spans) }
+        requires { index < setting_count self.now }
         ensures meaning { Assembled (λ w. w) result (instance_of self.now rules.now index) }
         ensures fits { IfOk result (Fits rules.now) }
     {
