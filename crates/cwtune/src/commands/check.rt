@@ -2,7 +2,7 @@
 ghost use Rattle.std.specs.Prelude.{◌≡◌, false};
 ghost use Rattle.tune_runs.specs.Given.{rules_given, texts_given};
 ghost use Rattle.tune_runs.specs.Runs.{IsRun};
-ghost use Rattle.cwtune.specs.Commands.{answer_for, WritesCheckLine, WritesVerdictOf, IsCheckEnded};
+ghost use Rattle.cwtune.specs.Commands.{verdict_output, WritesCheckLine, WritesVerdictOf, IsCheckEnded};
 
 use crate::ending::Ending;
 use crate::files::reading::TuneFiles;
@@ -78,7 +78,7 @@ fn verdict_on<T: Watcher, W: Write>(
     out: &mut Outlet<W>,
 ) -> Result<bool, RunFault>
     requires out { out.old.failed ≡ false }
-    ensures { IsRun (answer_for demand share (texts_given texts.now) cert.now) result out.old out.new }
+    ensures { IsRun (verdict_output demand share (texts_given texts.now) cert.now) result out.old out.new }
 {
     if demand.keep.is_some() || demand.floor.is_some() {
         return check_for_run(alloc, texts, demand, share, watcher, cert, out);
