@@ -29,7 +29,7 @@ pub(crate) fn asm<F: Files, T: Witness, W: Write, V: Write>(
     let source = host.read(words.file)?;
     let text = source.as_slice();
     if words.setting.is_some() {
-        host.witness.note(host.alloc, words.file, text);
+        host.witness.before_template(host.alloc, words.file, text);
     }
     match assemble(host.alloc, text, words.setting, &rules, out) {
         Ok(()) => Ok(()),

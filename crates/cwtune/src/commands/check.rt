@@ -55,7 +55,7 @@ fn check_texts<F: Files, T: Witness, W: Write, V: Write>(
     requires out { out.old.failed ≡ false }
     ensures { IsCheckEnded (WritesVerdictOf demand share (texts_given texts.now) cert.now) out.old out.new result }
 {
-    host.witness.name(host.alloc, words, texts);
+    host.witness.before_run(host.alloc, words, texts);
     match verdict_on(host.alloc, texts, share, demand, host.witness, cert, out) {
         Ok(true) => Ok(()),
         Ok(false) => {
