@@ -69,7 +69,8 @@ WritesCheckLine rules part demand share accepted old new =
     (template : List ℕ) × (opponents : List (List ℕ)) × (schedule : List ℕ) × (cert : List ℕ)
     × WritesVerdictOf demand share (part_texts template opponents schedule rules part) cert accepted old new
 
--- What a command wrote, for some files and some values of its options.
+-- ---- what a command wrote, for some files and some values of its options
+
 abbrev pub WritesSomeDuel : Option (List ℕ) → Option (List ℕ) → Type 0
 WritesSomeDuel old new =
     (candidate : List ℕ) × (opponent : List ℕ) × (rules : RulesView) × (position : ℕ) × (first : Side)
