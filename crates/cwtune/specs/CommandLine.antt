@@ -2,7 +2,7 @@
 use Rattle.std.specs.Prelude.{if◌then◌else◌, ◌≡◌, ℕ, ◌≤◌, ◌<◌, ◌^◌, ◌||◌, ◌&&◌, nat_le, Bool, Option, Some, None, List, [], ◌∷◌, ◌++◌, codes, IsTrue}
 use Rattle.std.specs.List.{list_any}
 use Rattle.std.specs.Option.{unwrap_or}
-use Rattle.std.specs.Str.{bytes_eq}
+use Rattle.std.specs.Str.{byte, bytes_eq}
 use Rattle.std.specs.Fmt.{decimal}
 use Rattle.tune_problem.specs.declared.aim.Aim.{Aim}
 use Rattle.tune_problem.specs.declared.part.Part.{Part}
@@ -70,7 +70,7 @@ method_meant words = if words.all then PlayingAll else Dropping (capacity_meant 
 
 -- The word for part I of K is `I/K`.
 abbrev pub part_word : Part → List ℕ
-part_word p = decimal p.number ++ 47 ∷ decimal p.parts
+part_word p = decimal p.number ++ byte "/" ∷ decimal p.parts
 
 -- Parts are counted from 1, with numbers of 32 bits.
 pub record IsCounted (p : Part) : Type 0 where

@@ -1,5 +1,5 @@
 -- What the commands write of the files that they read, and how they end.
-use Rattle.std.specs.Prelude.{◌≡◌, ◌≢◌, ◌⊎◌, ◌||◌, ℕ, Bool, true, false, List, Option, Some, None, Result, Ok, Err, IfErr, OnOk, IsErrOf, IsTrue}
+use Rattle.std.specs.Prelude.{◌≡◌, ◌≢◌, ◌⊎◌, ◌||◌, if◌then◌else◌, ℕ, Bool, true, false, List, Option, Some, None, Result, Ok, Err, IfErr, OnOk, IsErrOf, IsTrue}
 use Rattle.std.specs.Option.{is_some, option_map}
 use Rattle.rc_instr.specs.Outlet.{OutletView}
 use Rattle.rc_instr.specs.Rules.{RulesView}
@@ -9,13 +9,13 @@ use Rattle.tune_cert.specs.declared.demand.Demand.{Demand}
 use Rattle.tune_cert.specs.declared.share.Share.{Share}
 use Rattle.mars_core.specs.declared.side.Side.{Side}
 use Rattle.tune_runs.specs.Runs.{Writes}
-use Rattle.tune_runs.specs.AsmRun.{asm_answer}
+use Rattle.tune_runs.specs.AsmRun.{asm_output}
 use Rattle.tune_runs.specs.DuelRun.{duel, position_meant, WritesDuel}
 use Rattle.tune_runs.specs.FightRun.{WritesFight}
-use Rattle.tune_runs.specs.SettingRun.{setting_answer}
+use Rattle.tune_runs.specs.SettingRun.{setting_output}
 use Rattle.tune_runs.specs.SettingsRun.{WritesSettings}
 use Rattle.tune_runs.specs.TuneRun.{Texts, part_texts, WritesTuningFrom}
-use Rattle.tune_runs.specs.CheckRun.{check_answer, share_answer, verdict_answer}
+use Rattle.tune_runs.specs.CheckRun.{check_for_output, check_output}
 use Rattle.tune_runs.specs.Given.{part_given}
 use Rattle.tune_search.specs.declared.method.Method.{Method}
 use Rattle.tune_runs.specs.declared.given.WhichSetting.{WhichSetting}
@@ -29,14 +29,14 @@ use Rattle.cwtune.specs.declared.ending.Ending.TheVariants.{Refused, Misused, Fa
 abbrev pub WritesFightIn : Option (List ℕ) → Option (List ℕ) → Option (List ℕ) → Type 0
 WritesFightIn input old new = (text : List ℕ) × IsInput input text × WritesFight text old new
 
--- The load file of a text, or of a setting of a template; or the first fault.
-abbrev pub load_file_answer : List ℕ → Option WhichSetting → RulesView → Result (Unit {0} × List ℕ) RunFault
-load_file_answer source None rules = asm_answer source rules
-load_file_answer source (Some which) rules = setting_answer source which rules
+-- The output of `asm`: the load file of a text, or of a setting of a template; or the first fault.
+abbrev pub load_file_output : List ℕ → Option WhichSetting → RulesView → Result (Unit {0} × List ℕ) RunFault
+load_file_output source None rules = asm_output source rules
+load_file_output source (Some which) rules = setting_output source which rules
 
 -- The load file was written.
 abbrev pub WritesLoadFile : List ℕ → Option WhichSetting → RulesView → Option (List ℕ) → Option (List ℕ) → Type 0
-WritesLoadFile source setting rules old new = Writes (load_file_answer source setting rules) tt old new
+WritesLoadFile source setting rules old new = Writes (load_file_output source setting rules) tt old new
 
 -- The result line of a fight of two texts was written. Without a position it is half of the core.
 abbrev pub WritesDuelOf : RulesView → (position : Option ℕ) → (first : Side) → Option (List ℕ) → Option (List ℕ) → Type 0
@@ -53,20 +53,15 @@ WritesReport aim method rules part old new =
 abbrev pub is_asked : Demand → Bool
 is_asked demand = is_some demand.keep || is_some demand.floor
 
--- Whether a certificate is accepted, and the line of the verdict, or of a share's verdict; or the
--- lines of the judgement, if a ranking or a floor is asked for; or the first fault of the texts.
-abbrev pub answer_by : Bool → Demand → Option Share → Texts → List ℕ → Result (Bool × List ℕ) RunFault
-answer_by true demand share t cert = check_answer t demand (option_map part_given share) cert
-answer_by false demand None t cert = verdict_answer t cert
-answer_by false demand (Some share) t cert = share_answer t (part_given share) cert
-
--- The same, by whether a ranking or a floor is asked for.
-abbrev pub answer_for : Demand → Option Share → Texts → List ℕ → Result (Bool × List ℕ) RunFault
-answer_for demand share t cert = answer_by (is_asked demand) demand share t cert
+-- The output of `check`: whether the certificate is accepted, and the line of the verdict, or the
+-- lines of the judgement if a ranking or a floor is asked for; or the first fault of the texts.
+abbrev pub verdict_output : Demand → Option Share → Texts → List ℕ → Result (Bool × List ℕ) RunFault
+verdict_output demand share t cert =
+    if is_asked demand then check_for_output t demand (option_map part_given share) cert else check_output t (option_map part_given share) cert
 
 -- The lines were written, and `accepted` says whether the certificate is accepted.
 abbrev pub WritesVerdictOf : Demand → Option Share → Texts → List ℕ → Bool → Option (List ℕ) → Option (List ℕ) → Type 0
-WritesVerdictOf demand share t cert accepted old new = Writes (answer_for demand share t cert) accepted old new
+WritesVerdictOf demand share t cert accepted old new = Writes (verdict_output demand share t cert) accepted old new
 
 -- The lines of a check of some texts and a certificate were written.
 abbrev pub WritesCheckLine : RulesView → Part → Demand → Option Share → Bool → Option (List ℕ) → Option (List ℕ) → Type 0
@@ -74,7 +69,8 @@ WritesCheckLine rules part demand share accepted old new =
     (template : List ℕ) × (opponents : List (List ℕ)) × (schedule : List ℕ) × (cert : List ℕ)
     × WritesVerdictOf demand share (part_texts template opponents schedule rules part) cert accepted old new
 
--- What a command wrote, for some files and some values of its options.
+-- ---- what a command wrote, for some files and some values of its options
+
 abbrev pub WritesSomeDuel : Option (List ℕ) → Option (List ℕ) → Type 0
 WritesSomeDuel old new =
     (candidate : List ℕ) × (opponent : List ℕ) × (rules : RulesView) × (position : ℕ) × (first : Side)

@@ -1,7 +1,7 @@
 -- What a run of the program writes on standard output, by its exit status.
 use Rattle.std.specs.Prelude.{◌≡◌, ◌≢◌, ◌⊎◌, ◌≤◌, ℕ, List, Option, Err, true, false, codes, IsTrue}
 use Rattle.rc_instr.specs.Outlet.{OutletView}
-use Rattle.tune_runs.specs.FightRun.{fight_answer}
+use Rattle.tune_runs.specs.FightRun.{fight_output}
 use Rattle.tune_runs.specs.declared.fault.RunFault.{RunFault}
 use Rattle.cwtune.specs.CommandLine.{AsksForFight, AsksForHelp, command_of, is_command}
 use Rattle.cwtune.specs.Commands.{WritesFightIn, WritesSomeDuel, WritesSomeLoadFile, WritesSomeSettings, WritesSomeReport, WritesSomeCheckLine}
@@ -22,7 +22,7 @@ pub record IsProgramRun (words : List (List ℕ)) (input : Option (List ℕ)) (o
   -- if the words ask for a fight, status 0 means that the result line of the fight in the input was
   -- written, and status 1 that the input is refused and nothing was written
   pub done : AsksForFight words → ended ≡ 0 → WritesFightIn input old.bytes new.bytes
-  pub refused : AsksForFight words → ended ≡ 1 → (text : List ℕ) × (fault : RunFault) × IsInput input text × (fight_answer text ≡ Err fault) × (new ≡ old)
+  pub refused : AsksForFight words → ended ≡ 1 → (text : List ℕ) × (fault : RunFault) × IsInput input text × (fight_output text ≡ Err fault) × (new ≡ old)
   pub understood : AsksForFight words → ended ≢ 2
   -- whatever the words are, status 0 means that their command succeeded, or that help was asked for
   pub success : ended ≡ 0 → AsksForHelp words ⊎ IsSuccess words input old.bytes new.bytes

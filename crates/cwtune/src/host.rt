@@ -93,7 +93,7 @@ impl<F: Files, T: Witness, V: Write> Host<'_, F, T, V> {
         ensures { IsEndingOf fault result }
     {
         let ending = self.end(fault);
-        self.witness.refuse(self.alloc, refused, fault);
+        self.witness.after_fault(self.alloc, refused, fault);
         ending
     }
 
@@ -134,7 +134,7 @@ impl<F: Files, T: Witness, V: Write> Host<'_, F, T, V> {
             }
             _ => return self.refuse(&refused, fault),
         }
-        self.witness.refuse(self.alloc, &refused, fault);
+        self.witness.after_fault(self.alloc, &refused, fault);
         Ending::Refused
     }
 
@@ -155,7 +155,7 @@ impl<F: Files, T: Witness, V: Write> Host<'_, F, T, V> {
             return self.end_without_memory();
         }
         say_file(self.err, action, name);
-        self.witness.fail(self.alloc, name, error);
+        self.witness.after_file_error(self.alloc, name, error);
         Ending::Failed
     }
 
@@ -233,7 +233,8 @@ impl<F: Files, T: Witness, V: Write> Host<'_, F, T, V> {
         let file = cert.into_inner();
         if is_lost {
             self.witness.finding().tell_found(self.err);
-            self.witness.lose(self.alloc, words.cert, file.failure());
+            self.witness
+                .after_lost_cert(self.alloc, words.cert, file.failure());
             return None;
         }
         file.digested()
@@ -254,7 +255,7 @@ impl<F: Files, T: Witness, V: Write> Host<'_, F, T, V> {
             method,
         };
         if let Err(error) = write_inputs(self.rt, self.alloc, &tuning, cert, name) {
-            self.witness.fail(self.alloc, name, &error);
+            self.witness.after_file_error(self.alloc, name, &error);
         }
     }
 
@@ -270,7 +271,7 @@ impl<F: Files, T: Witness, V: Write> Host<'_, F, T, V> {
             return;
         }
         if let Ok(lines) = differences(self.rt, self.alloc, words, texts, demand, cert) {
-            self.witness.reject(lines.as_slice());
+            self.witness.after_rejection(lines.as_slice());
         }
     }
 }

@@ -41,8 +41,7 @@ fn style_of(words: &[String], at_terminal: bool) -> Style
     }
 }
 
-// Runs the program, with the progress and the explanations that a terminal gets and that options
-// ask for.
+// Runs the program. Shows progress and explanations at a terminal, or if options ask for them.
 fn run<R: Read, W: Write, V: Write>(
     rt: &HostRuntime,
     words: &[String],

@@ -43,8 +43,8 @@ use tune_runs::RunFault;
 /// - `--help`, `help`: writes the help text. `--version`: writes the version.
 ///
 /// A text may have at most 1073741824 bytes. On standard error goes a line `refused: ..` for an
-/// input that is refused, the usage error, or a line `failed: ..` with status 3; that such a
-/// write fails changes nothing. The outlet `out` must not have failed.
+/// input that is refused, the usage error, or a line `failed: ..` with status 3. If such a write
+/// fails, nothing else changes. The outlet `out` must not have failed.
 pub fn program<F: Files, R: Read, W: Write, V: Write>(
     rt: &F,
     alloc: Global,

@@ -5,6 +5,7 @@ pub(crate) mod command_line;
 pub(crate) mod command_word;
 pub(crate) mod help;
 pub(crate) mod method_options;
+pub(crate) mod number_option;
 pub(crate) mod options;
 pub(crate) mod part_word;
 pub(crate) mod setting_word;

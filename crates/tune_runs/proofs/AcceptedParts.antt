@@ -28,9 +28,9 @@ use Rattle.tune_cert.specs.declared.verdict.Judgement.TheVariants.{Accepted, Rej
 use Rattle.tune_cert.specs.declared.verdict.Verdict.{Verdict}
 use Rattle.tune_cert.specs.declared.verdict.Verdict.TheVariants.{Accepted as AcceptedCert, Rejected as RejectedCert}
 use Rattle.tune_cert.proofs.Demands.{met_if_accepted}
-use Rattle.tune_runs.specs.Report.{rank_lines, told_if}
+use Rattle.tune_runs.specs.Report.{rank_lines, named_ranking}
 use Rattle.tune_runs.specs.TuneRun.{Texts, of_part, meaning_of, Means, HasNoCandidate}
-use Rattle.tune_runs.specs.CheckRun.{accepts, check_line, answer_text, judgement_lines, accepts_for, check_answer, HasRightVerdict, Accepts, IsAccepted, IsShown}
+use Rattle.tune_runs.specs.CheckRun.{accepts, verdict_line, answer_text, judgement_lines, accepts_for, check_for_output, HasRightVerdict, Accepts, IsAccepted, IsShown}
 use Rattle.tune_runs.specs.Agreement.{Writer, Gets, Checks, ChecksFor, NamesAnswer, AreShown, IsBestShown, IsBestOfAll, AreShownBelow, AreAllBelow}
 use Rattle.tune_runs.specs.declared.fault.RunFault.{RunFault}
 use Rattle.tune_runs.proofs.Meaning.{one_meaning, made_of, means}
@@ -140,22 +140,22 @@ whole_without t parts some none =
     (below.0, below.1, none_below (problem_of below.0) below.2)
 
 -- the line of a verdict that accepts
-pub accepted_line : (t : Texts) (bytes : List ℕ) (out : Writer) → Checks t bytes true out → (best total : ℕ) × Accepts t bytes best total × Gets out (check_line (AcceptedCert best total))
+pub accepted_line : (t : Texts) (bytes : List ℕ) (out : Writer) → Checks t bytes true out → (best total : ℕ) × Accepts t bytes best total × Gets out (verdict_line None (AcceptedCert best total))
 accepted_line t bytes out check = let r = right_line t bytes true out check in by_verdict r.verdict r.right r.says r.line where
-  by_verdict : (v : Verdict) → HasRightVerdict t bytes v → true ≡ accepts v → Gets out (check_line v) → (best total : ℕ) × Accepts t bytes best total × Gets out (check_line (AcceptedCert best total))
+  by_verdict : (v : Verdict) → HasRightVerdict t bytes v → true ≡ accepts v → Gets out (verdict_line None v) → (best total : ℕ) × Accepts t bytes best total × Gets out (verdict_line None (AcceptedCert best total))
   by_verdict (AcceptedCert best total) right says line = (best, total, right, line)
   by_verdict (RejectedCert row reason) right says line = absurd (true≢false says)
 
 -- the line of a judgement that accepts
 pub accepted_text : (t : Texts) (demand : Demand) (bytes : List ℕ) (out : Writer) → ChecksFor t demand bytes true out → NamesAnswer t demand bytes out
-unfolding check_answer judgement_lines
+unfolding check_for_output judgement_lines
 accepted_text t demand bytes out (text, e, wrote) = by_meaning (meaning_of t) refl e
   where
     by_judgement : (i : InputsView) → meaning_of t ≡ Ok i → (j : Judgement) → judgement_of (problem_of i) demand whole (records_of bytes) ≡ j
         → ◌≡◌ {A = Bool × List ℕ} (accepts_for j, judgement_lines i demand None j) (true, text) → NamesAnswer t demand bytes out
     by_judgement i m (Rejected number reason) is q = absurd (true≢false (sym (ap (λ (x : Bool × List ℕ). x.0) q)))
     by_judgement i m (Accepted answer ranking) is q =
-        let rest = rank_lines 1 (told_if i demand.keep ranking) in
+        let rest = rank_lines 1 (named_ranking i demand.keep ranking) in
         let line : codes "accepted" ++ answer_text answer ++ rest ≡ text = ap (λ (x : Bool × List ℕ). x.1) q in
         record { answer = answer; accepts = (i, ranking, m, is); rest = rest; lines = subst (λ line. Gets out line) (sym line) wrote }
 

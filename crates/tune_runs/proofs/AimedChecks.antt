@@ -40,9 +40,9 @@ use Rattle.tune_search.specs.declared.findings.Findings.{Findings}
 use Rattle.tune_search.specs.declared.method.Method.{Method}
 use Rattle.tune_search.proofs.ExactRows.{is_exact, lists_ranking}
 use Rattle.tune_search.proofs.Finish.{none_best}
-use Rattle.tune_runs.specs.Report.{rank_lines, told}
+use Rattle.tune_runs.specs.Report.{named_setting, rank_lines}
 use Rattle.tune_runs.specs.TuneRun.{Texts, Means, answer_of}
-use Rattle.tune_runs.specs.CheckRun.{accepted_words, accepts_for, answer_text, check_answer, judgement_lines, share_meant}
+use Rattle.tune_runs.specs.CheckRun.{accepted_words, accepts_for, answer_text, check_for_output, judgement_lines, share_meant}
 use Rattle.tune_runs.specs.Agreement.{Writer, Gets, filled}
 use Rattle.tune_runs.specs.AimedRuns.{AgreeAsked, Asked, ChecksAsked, IsAsked, TunesAsked, accepted_lines, aim_of}
 use Rattle.tune_runs.specs.declared.fault.RunFault.{RunFault}
@@ -144,7 +144,7 @@ module _ (p : Problem) (laws : IsProblem p) (start : p.start < p.count) (demand 
     judged_with o = judgement_lines i (record { keep = o; floor = demand.floor }) share (Accepted answer ranking)
 
     abbrev lines_with : Option ℕ → List Best → List ℕ
-    lines_with o xs = accepted_words share ++ answer_text answer ++ rank_lines 1 (if nat_lt 1 (unwrap_or o 1) then map (told i) xs else [])
+    lines_with o xs = accepted_words share ++ answer_text answer ++ rank_lines 1 (if nat_lt 1 (unwrap_or o 1) then map (named_setting i) xs else [])
 
     lines_by : (o : Option ℕ) → demand.keep ≡ o → judged_with o ≡ lines_with o f.ranking
     unfolding judged_with judgement_lines
@@ -157,15 +157,15 @@ module _ (p : Problem) (laws : IsProblem p) (start : p.start < p.count) (demand 
 
 -- ---- both runs
 
--- the answer of a check
+-- the output of a check
 answered : (t : Texts) (demand : Demand) (share : Option Part) (bytes : List ℕ) (i : InputsView) (j : Judgement) → Means t i → judgement_of (problem_of i) demand (share_meant share) (records_of bytes) ≡ j
-    → check_answer t demand share bytes ≡ Ok (accepts_for j, judgement_lines i demand share j)
-unfolding check_answer
+    → check_for_output t demand share bytes ≡ Ok (accepts_for j, judgement_lines i demand share j)
+unfolding check_for_output
 answered t demand share bytes i j m e = rw (m, e) refl
 
--- there is one answer
-one_answer : (r : Result (Bool × List ℕ) RunFault) (a b : Bool) (x y : List ℕ) → r ≡ Ok (a, x) → r ≡ Ok (b, y) → (a ≡ b) × (x ≡ y)
-one_answer r a b x y e f =
+-- there is one output
+one_output : (r : Result (Bool × List ℕ) RunFault) (a b : Bool) (x y : List ℕ) → r ≡ Ok (a, x) → r ≡ Ok (b, y) → (a ≡ b) × (x ≡ y)
+one_output r a b x y e f =
     let pair : (a, x) ≡ (b, y) = cc in
     (ap (λ (q : Bool × List ℕ). q.0) pair, ap (λ (q : Bool × List ℕ). q.1) pair)
 
@@ -181,7 +181,7 @@ agree a bytes accepted report out asked tunes checks =
     let most : greatest_of p ≤ MOST_TOTAL = subst (λ (n : ℕ). n ≤ MOST_TOTAL) (greatest_is i) (most_points _ _ _ i.schedule (made_of a.texts i m).schedule) in
     let fits = writable_from p laws of_schedule.1 most (aim_of a.demand) asked.floor a.method f s in
     let accepts = judged p laws start a.demand asked.aim a.method f s some fits (share_meant a.share) asked.some asked.within bytes wrote_cert in
-    let same = one_answer _ accepted true text _ is (answered a.texts a.demand a.share bytes i _ m accepts) in
+    let same = one_output _ accepted true text _ is (answered a.texts a.demand a.share bytes i _ m accepts) in
     let lines = same_lines p laws start a.demand asked.aim a.method f s some i a.share in (
       same.0,
       record {

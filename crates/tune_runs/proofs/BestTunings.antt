@@ -5,7 +5,6 @@ use Rattle.std.proofs.lemmas.List.Sums.{sum_by-cons}
 use Rattle.std.specs.Option.{is_some, option_map}
 use Rattle.std.specs.Io.KnownBytes.{Appends}
 use Rattle.rc_instr.specs.Outlet.{OutletView}
-use Rattle.tune_template.specs.Instances.{constants_of}
 use Rattle.tune_problem.specs.Inputs.{InputsView, settings_of}
 use Rattle.tune_problem.specs.Problem.{Problem, problem_of}
 use Rattle.tune_problem.specs.Optimum.{candidates_of}
@@ -19,7 +18,7 @@ use Rattle.tune_search.specs.Found.{IsSearch, NoneAssembles}
 use Rattle.tune_search.specs.declared.findings.Findings.{Findings}
 use Rattle.tune_search.specs.declared.method.Method.{Method}
 use Rattle.tune_search.proofs.Finish.{as_found, none_best}
-use Rattle.tune_runs.specs.Report.{Report, constants_with, report_for, report_from, report_text, told}
+use Rattle.tune_runs.specs.Report.{Report, constants_with, report_for, report_from, report_text, NamedSetting, named_setting}
 use Rattle.tune_runs.specs.TuneRun.{Texts, IsTuneRun, WritesTuning, WritesTuningFrom, answer_of}
 use Rattle.tune_runs.specs.declared.fault.RunFault.{RunFault}
 
@@ -40,6 +39,10 @@ pub no_candidates : (p : Problem) → NoneAssembles p → candidates_of p ≡ 0
 unfolding candidates_of
 no_candidates p none = none_count (λ v. is_some (p.warrior v)) 0 p.count (λ k l. let at : 0 + k ≡ k = omega arith in ap (λ v. is_some (p.warrior v)) at ∙ ap is_some (none k l))
 
+-- a setting with these values of the constants
+abbrev with_values : InputsView → Best → Option (List ℤ) → NamedSetting
+with_values i best values = record { best = best; constants = constants_with i values }
+
 module _ (t : Texts) (method : Method) (i : InputsView) (f : Findings) (s : IsSearchFrom (problem_of i) best_alone method f) (some : 0 < f.candidates) where
   -- some setting is ranked
   pub ranks_one : (best : Best) × (first_of f.ranking ≡ Some best)
@@ -55,8 +58,8 @@ module _ (t : Texts) (method : Method) (i : InputsView) (f : Findings) (s : IsSe
   pub same_report : (best : Best) (values : List ℤ) → first_of f.ranking ≡ Some best → slice_get (settings_of i) best.vector ≡ Some values
       → report_from i best_alone f ≡ report_for i (found_of f best) values
   same_report best values is at =
-      let named : option_map (told i) (first_of f.ranking) ≡ Some (best, constants_of i.template.ranges.names values) =
-      ap (option_map (told i)) is ∙ ap (λ (o : Option (List ℤ)). Some (best, constants_with i o)) at in
+      let named : option_map (named_setting i) (first_of f.ranking) ≡ Some (with_values i best (Some values)) =
+      ap (option_map (named_setting i)) is ∙ ap (λ (o : Option (List ℤ)). Some (with_values i best o)) at in
       λ j. record {
         vectors = (problem_of i).count;
         candidates = candidates_of (problem_of i);

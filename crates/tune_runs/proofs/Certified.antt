@@ -1,5 +1,5 @@
 -- What a tuning wrote is accepted, and what is accepted names what the tuning found.
-use Rattle.std.proofs.Common.{◌≡◌, ◌≤◌, ℕ, List, true, sym, ◌∙◌, ap, subst}
+use Rattle.std.proofs.Common.{◌≡◌, ◌≤◌, ℕ, List, None, true, sym, ◌∙◌, ap, subst}
 use Rattle.mars_fight.specs.Limits.{MOST_TOTAL}
 use Rattle.tables.specs.Records.{Fields, records_of}
 use Rattle.tune_problem.specs.Inputs.{InputsView}
@@ -18,7 +18,7 @@ use Rattle.tune_search.specs.Found.{IsSearch}
 use Rattle.tune_search.specs.declared.method.Method.{Method}
 use Rattle.tune_runs.specs.TuneRun.{Texts}
 use Rattle.tune_cert.specs.Verdict.{IsVerdict, IsRightVerdict}
-use Rattle.tune_runs.specs.CheckRun.{accepts, check_line}
+use Rattle.tune_runs.specs.CheckRun.{accepts, verdict_line}
 use Rattle.tune_runs.specs.Agreement.{Writer, Gets, Tunes, MayFind, written, Checks, Agree}
 use Rattle.tune_runs.proofs.Meaning.{one_meaning, made_of}
 use Rattle.tune_runs.proofs.Verdicts.{right_line}
@@ -43,14 +43,14 @@ named p laws method f records (Accepted best total) s e (c, spells, valid, best_
     ap (λ b. Accepted b total) (best_is ∙ same) ∙ ap (λ n. Accepted f.best n) (total_is ∙ even)
 named p laws method f records (Rejected row reason) s e h = absurd (cc)
 
-line_names : (t : Texts) (method : Method) (bytes : List ℕ) (i : InputsView) (f : Found) (out : Writer) → MayFind t method i f → Checks t bytes true out → Gets out (check_line (Accepted f.best f.total))
+line_names : (t : Texts) (method : Method) (bytes : List ℕ) (i : InputsView) (f : Found) (out : Writer) → MayFind t method i f → Checks t bytes true out → Gets out (verdict_line None (Accepted f.best f.total))
 line_names t method bytes i f out h check =
     let r = right_line t bytes true out check in
     let (j, means, right) = r.right in
     let same : j ≡ i = one_meaning t j i means h.means in
     let here : IsVerdict (problem_of i) (records_of bytes) r.verdict = subst (λ (x : InputsView). IsVerdict (problem_of x) (records_of bytes) r.verdict) same right.holds in
     let name : r.verdict ≡ Accepted f.best f.total = named (problem_of i) (inputs_problem i) method f (records_of bytes) r.verdict h.search (sym r.says) here in
-    subst (λ (x : Verdict). Gets out (check_line x)) name r.line
+    subst (λ (x : Verdict). Gets out (verdict_line None x)) name r.line
 
 pub certified : (t : Texts) (method : Method) (bytes : List ℕ) (report cert out : Writer) → Tunes t method report cert → Checks t bytes true out → Agree t method report cert out
 certified t method bytes report cert out (i, f, values, tuning, wrote_cert, wrote_report) check = record {

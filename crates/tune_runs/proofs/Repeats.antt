@@ -1,5 +1,5 @@
 -- Two tunings of the same texts, and the check of what a tuning wrote.
-use Rattle.std.proofs.Common.{◌≡◌, ℕ, Bool, List, true, sym, ◌∙◌, ap, subst}
+use Rattle.std.proofs.Common.{◌≡◌, ℕ, Bool, List, None, true, sym, ◌∙◌, ap, subst}
 use Rattle.tables.specs.Records.{records_of}
 use Rattle.tune_problem.specs.Inputs.{InputsView}
 use Rattle.tune_problem.specs.Problem.{problem_of}
@@ -12,7 +12,7 @@ use Rattle.tune_search.specs.Found.{IsSearch}
 use Rattle.tune_search.specs.declared.method.Method.{Method}
 use Rattle.tune_search.proofs.OneAnswer.{answer_one}
 use Rattle.tune_runs.specs.TuneRun.{Texts}
-use Rattle.tune_runs.specs.CheckRun.{accepts, check_line}
+use Rattle.tune_runs.specs.CheckRun.{accepts, verdict_line}
 use Rattle.tune_runs.specs.Agreement.{Writer, Output, Gets, Tunes, IsOutput, written, ChecksCert, Agree}
 use Rattle.tune_runs.proofs.Meaning.{one_meaning}
 use Rattle.tune_runs.proofs.Certified.{accepted}
@@ -40,7 +40,7 @@ checked t method says report cert out (i, f, values, tuning, wrote_cert, wrote_r
     let here : IsRightVerdict (problem_of i) (records_of check.bytes) r.verdict = subst (λ (x : InputsView). IsRightVerdict (problem_of x) (records_of check.bytes) r.verdict) same right in
     let spelled : IsRightVerdict (problem_of i) (written f) r.verdict = subst (λ (x : List ℕ). IsRightVerdict (problem_of i) (records_of x) r.verdict) own here in
     let name : r.verdict ≡ Accepted f.best f.total = accepted t method i f r.verdict (record { means = tuning.0; search = tuning.1 }) spelled in
-    let line : Gets out (check_line (Accepted f.best f.total)) = subst (λ (x : Verdict). Gets out (check_line x)) name r.line in (
+    let line : Gets out (verdict_line None (Accepted f.best f.total)) = subst (λ (x : Verdict). Gets out (verdict_line None x)) name r.line in (
       r.says ∙ ap accepts name,
       record { inputs = i; found = f; values = values; tuning = tuning; certified = wrote_cert; reported = wrote_report; accepted = line },
     )

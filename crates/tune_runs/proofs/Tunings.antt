@@ -1,5 +1,5 @@
 -- Every template has a part 1 of 1.
-use Rattle.std.proofs.Common.{◌≡◌, ◌≢◌, ◌⊎◌, ◌<◌, ℕ, true, false, List, inl, inr, refl, sym, Result, Ok, Err, IfErr, ◌∙◌, ap, subst, arith}
+use Rattle.std.proofs.Common.{◌≡◌, ◌≢◌, ◌⊎◌, ◌<◌, ℕ, true, false, List, None, inl, inr, refl, sym, Result, Ok, Err, IfErr, ◌∙◌, ap, subst, arith}
 use Rattle.rc_instr.specs.Results.{and_then}
 use Rattle.rc_instr.specs.Outlet.{OutletView}
 use Rattle.tune_template.specs.declared.fault.TemplateFault.{TemplateFault}
@@ -10,7 +10,7 @@ use Rattle.tune_problem.specs.Parts.{whole, IsPart}
 use Rattle.tune_problem.specs.declared.part.Part.{Part}
 use Rattle.tune_runs.specs.Runs.{IsMemory}
 use Rattle.tune_runs.specs.TuneRun.{Texts, is_part, meaning_of, HasNoCandidate}
-use Rattle.tune_runs.specs.CheckRun.{verdict_answer}
+use Rattle.tune_runs.specs.CheckRun.{check_output}
 use Rattle.tune_runs.specs.declared.fault.RunFault.{RunFault}
 use Rattle.tune_runs.specs.declared.fault.RunFault.TheVariants.{NoCandidate, Write, OutOfMemory, Part as BadPart}
 use Rattle.tune_runs.proofs.Meaning.{part_passes}
@@ -53,6 +53,6 @@ tuning_parted (Ok x) t is h = tt
 tuning_parted (Err e) t is h = not_part e t is h
 
 pub check_parted : {X : Type 0} (r : Result X RunFault) (t : Texts) (cert : List ℕ) (old new : OutletView) → t.part ≡ whole
-    → IfErr r (λ e. e ≢ Write → (new ≡ old) × ((¬ IsMemory e) → verdict_answer t cert ≡ Err e)) → IfErr r (λ e. e ≢ BadPart)
+    → IfErr r (λ e. e ≢ Write → (new ≡ old) × ((¬ IsMemory e) → check_output t None cert ≡ Err e)) → IfErr r (λ e. e ≢ BadPart)
 check_parted (Ok x) t cert old new is h = tt
 check_parted (Err e) t cert old new is h = not_part e t is (λ other known. inl (of_texts t cert e ((h other).1 known)))

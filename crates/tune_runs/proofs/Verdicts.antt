@@ -1,10 +1,9 @@
 -- The verdict that a check writes, and that it is the right one.
-use Rattle.std.proofs.Common.{◌≡◌, ℕ, Bool, List, Ok, sym, ap, subst}
+use Rattle.std.proofs.Common.{◌≡◌, ℕ, Bool, List, Option, None, Ok, sym, ap, subst}
 use Rattle.std.specs.Io.KnownBytes.{Appends}
 use Rattle.rc_instr.proofs.Chains.{went_on}
 use Rattle.tables.specs.Records.{records_of}
 use Rattle.tune_problem.specs.Inputs.{InputsView}
-use Rattle.tune_problem.specs.Parts.{whole}
 use Rattle.tune_problem.specs.Problem.{problem_of}
 use Rattle.tune_problem.specs.declared.part.Part.{Part}
 use Rattle.tune_problem.proofs.Scores.{inputs_problem}
@@ -12,8 +11,8 @@ use Rattle.tune_cert.specs.Verdict.{verdict_of, IsVerdictOf}
 use Rattle.tune_cert.specs.declared.verdict.Verdict.{Verdict}
 use Rattle.tune_cert.proofs.RightVerdicts.{right_verdict}
 use Rattle.tune_runs.specs.TuneRun.{Texts, meaning_of, Means}
-use Rattle.tune_runs.specs.CheckRun.{accepts, check_line, share_line, verdict_given, verdict_answer, share_answer}
-use Rattle.tune_runs.specs.Agreement.{Writer, Gets, Checks, ChecksShare, IsRightLine}
+use Rattle.tune_runs.specs.CheckRun.{WritesCheck, accepts, check_output, share_meant, verdict_given, verdict_line}
+use Rattle.tune_runs.specs.Agreement.{Writer, Gets, Checks, IsRightLine}
 
 -- what is given for bytes is a verdict for the inputs in the texts
 pub verdict_for : (t : Texts) (share : Part) (bytes : List ℕ) (v : Verdict) → verdict_given t share bytes ≡ Ok v
@@ -24,21 +23,21 @@ verdict_for t share bytes v e =
     let is : v ≡ verdict_of (problem_of m.0) share (records_of bytes) = let q = m.2 in cc in
     (m.0, m.1, is)
 
--- the line of a share, taken apart
-pub record IsShareLine (t : Texts) (share : Part) (bytes : List ℕ) (accepted : Bool) (out : Writer) : Type 0 where
+-- the line of a check, of all rows or of a share, taken apart
+pub record IsVerdictLine (t : Texts) (share : Option Part) (bytes : List ℕ) (accepted : Bool) (out : Writer) : Type 0 where
   pub verdict : Verdict
   pub inputs : InputsView
   pub means : Means t inputs
-  pub is : IsVerdictOf (problem_of inputs) share (records_of bytes) verdict
+  pub is : IsVerdictOf (problem_of inputs) (share_meant share) (records_of bytes) verdict
   pub says : accepted ≡ accepts verdict
-  pub line : Gets out (share_line share verdict)
+  pub line : Gets out (verdict_line share verdict)
 
-pub share_said : (t : Texts) (share : Part) (bytes : List ℕ) (accepted : Bool) (out : Writer) → ChecksShare t share bytes accepted out → IsShareLine t share bytes accepted out
-unfolding share_answer
-share_said t share bytes accepted out (text, answer, wrote) =
-    let v = went_on (verdict_given t share bytes) (λ x. Ok (accepts x, share_line share x)) (accepted, text) answer in
-    let both : (accepts v.0, share_line share v.0) ≡ (accepted, text) = let q = v.2 in cc in
-    let i = verdict_for t share bytes v.0 v.1 in
+pub line_said : (t : Texts) (share : Option Part) (bytes : List ℕ) (accepted : Bool) (out : Writer) → WritesCheck t share bytes accepted out.old out.new → IsVerdictLine t share bytes accepted out
+unfolding check_output
+line_said t share bytes accepted out (text, output, wrote) =
+    let v = went_on (verdict_given t (share_meant share) bytes) (λ x. Ok (accepts x, verdict_line share x)) (accepted, text) output in
+    let both : (accepts v.0, verdict_line share v.0) ≡ (accepted, text) = let q = v.2 in cc in
+    let i = verdict_for t (share_meant share) bytes v.0 v.1 in
     record {
       verdict = v.0;
       inputs = i.0;
@@ -50,14 +49,11 @@ share_said t share bytes accepted out (text, answer, wrote) =
 
 -- a check writes the line of the right verdict
 pub right_line : (t : Texts) (bytes : List ℕ) (accepted : Bool) (out : Writer) → Checks t bytes accepted out → IsRightLine t bytes accepted out
-unfolding verdict_answer
-right_line t bytes accepted out (text, answer, wrote) =
-    let v = went_on (verdict_given t whole bytes) (λ x. Ok (accepts x, check_line x)) (accepted, text) answer in
-    let both : (accepts v.0, check_line v.0) ≡ (accepted, text) = let q = v.2 in cc in
-    let i = verdict_for t whole bytes v.0 v.1 in
+right_line t bytes accepted out check =
+    let l = line_said t None bytes accepted out check in
     record {
-      verdict = v.0;
-      right = (i.0, i.1, right_verdict (problem_of i.0) (records_of bytes) v.0 (inputs_problem i.0) i.2);
-      says = sym (ap (λ (p : Bool × List ℕ). p.0) both);
-      line = subst (λ (x : List ℕ). Appends out.old out.new x) (sym (ap (λ (p : Bool × List ℕ). p.1) both)) wrote;
+      verdict = l.verdict;
+      right = (l.inputs, l.means, right_verdict (problem_of l.inputs) (records_of bytes) l.verdict (inputs_problem l.inputs) l.is);
+      says = l.says;
+      line = l.line;
     }

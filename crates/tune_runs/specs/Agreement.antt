@@ -21,7 +21,7 @@ use Rattle.tune_search.specs.Found.{IsSearch}
 use Rattle.tune_search.specs.declared.method.Method.{Method}
 use Rattle.tune_runs.specs.Report.{report_text, report_for}
 use Rattle.tune_runs.specs.TuneRun.{Texts, of_part, Means, IsTuning, WritesTuning, WritesTuningFrom}
-use Rattle.tune_runs.specs.CheckRun.{WritesVerdict, WritesShare, WritesJudgement, HasRightVerdict, Accepts, AcceptsFor, IsShown, accepts, answer_text, check_line, share_line}
+use Rattle.tune_runs.specs.CheckRun.{WritesCheck, WritesCheckFor, HasRightVerdict, Accepts, AcceptsFor, IsShown, accepts, answer_text, verdict_line}
 
 -- ---- writers
 
@@ -70,7 +70,7 @@ written f = records_of (cert_text (cert_of f))
 
 -- A check of all rows of these bytes wrote its line; `accepted` says whether it accepts.
 abbrev pub Checks : Texts → List ℕ → (accepted : Bool) → Writer → Type 0
-Checks t bytes accepted out = WritesVerdict t bytes accepted out.old out.new
+Checks t bytes accepted out = WritesCheck t None bytes accepted out.old out.new
 
 -- An empty writer got a certificate, and a check of its bytes wrote its line.
 pub record ChecksCert (t : Texts) (cert : Writer) (accepted : Bool) (out : Writer) : Type 0 where
@@ -83,7 +83,7 @@ pub record IsRightLine (t : Texts) (bytes : List ℕ) (accepted : Bool) (out : W
   pub verdict : Verdict
   pub right : HasRightVerdict t bytes verdict
   pub says : accepted ≡ accepts verdict
-  pub line : Gets out (check_line verdict)
+  pub line : Gets out (verdict_line None verdict)
 
 -- The certificate, the report and the line of a check name the setting that the tuning found, with
 -- its total: the optimum.
@@ -94,12 +94,12 @@ pub record Agree (t : Texts) (method : Method) (report cert line : Writer) : Typ
   pub tuning : IsTuning t method inputs found values
   pub certified : Gets cert (cert_text (cert_of found))
   pub reported : Gets report (report_text (report_for inputs found values))
-  pub accepted : Gets line (check_line (Accepted found.best found.total))
+  pub accepted : Gets line (verdict_line None (Accepted found.best found.total))
 
 -- A check of all rows of these bytes with a demand wrote its lines; `accepted` says whether it
 -- accepts.
 abbrev pub ChecksFor : Texts → Demand → List ℕ → (accepted : Bool) → Writer → Type 0
-ChecksFor t demand bytes accepted out = WritesJudgement t demand None bytes accepted out.old out.new
+ChecksFor t demand bytes accepted out = WritesCheckFor t demand None bytes accepted out.old out.new
 
 -- The first line says `accepted` and an answer, with which the bytes are accepted.
 pub record NamesAnswer (t : Texts) (demand : Demand) (bytes : List ℕ) (out : Writer) : Type 0 where
@@ -110,9 +110,13 @@ pub record NamesAnswer (t : Texts) (demand : Demand) (bytes : List ℕ) (out : W
 
 -- ---- parts
 
+-- This holds of each number from 1 to `count`.
+abbrev pub ForEach : (count : ℕ) → (ℕ → Type 0) → Type 0
+ForEach count P = (n : ℕ) → 1 ≤ n → n ≤ count → P n
+
 -- For each part, a check accepts these bytes with its outcome, or the part has no candidate.
 abbrev pub AreShown : Texts → (parts : ℕ) → (cert : ℕ → List ℕ) → (outcome : ℕ → Answer) → Type 0
-AreShown t parts cert outcome = (n : ℕ) → 1 ≤ n → n ≤ parts → IsShown (of_part t n parts) (cert n) (outcome n)
+AreShown t parts cert outcome = ForEach parts (λ n. IsShown (of_part t n parts) (cert n) (outcome n))
 
 -- The outcome of each part is shown, and `number` is the first part with the greatest total.
 pub record IsBestShown (t : Texts) (parts number : ℕ) (best : Best) : Type 0 where
@@ -142,20 +146,20 @@ AreAllBelow t floor = (i : InputsView) × Means (of_part t 1 1) i × AllBelow (p
 
 -- A check of a share of the rows of these bytes wrote its line; `accepted` says whether it accepts.
 abbrev pub ChecksShare : Texts → (share : Part) → List ℕ → (accepted : Bool) → Writer → Type 0
-ChecksShare t share bytes accepted out = WritesShare t share bytes accepted out.old out.new
+ChecksShare t share bytes accepted out = WritesCheck t (Some share) bytes accepted out.old out.new
 
 -- Each share of these bytes was checked, and accepts them.
 pub record AllAccept (t : Texts) (shares : ℕ) (bytes : List ℕ) (out : ℕ → Writer) : Type 0 where
   pub some : 1 ≤ shares
-  pub each : (n : ℕ) → 1 ≤ n → n ≤ shares → ChecksShare t (part n shares) bytes true (out n)
+  pub each : ForEach shares (λ n. ChecksShare t (part n shares) bytes true (out n))
 
 -- The line of a share names this best setting and total.
 abbrev pub NamesIn : (share : Part) → (best total : ℕ) → Writer → Type 0
-NamesIn share best total out = Gets out (share_line share (Accepted best total))
+NamesIn share best total out = Gets out (verdict_line (Some share) (Accepted best total))
 
 -- The line of each share names this best setting and total.
 abbrev pub AllName : (shares best total : ℕ) → (out : ℕ → Writer) → Type 0
-AllName shares best total out = (n : ℕ) → 1 ≤ n → n ≤ shares → NamesIn (part n shares) best total (out n)
+AllName shares best total out = ForEach shares (λ n. NamesIn (part n shares) best total (out n))
 
 -- If a check of all rows accepts these bytes, the share accepts them, too, and names the same best
 -- setting and total.

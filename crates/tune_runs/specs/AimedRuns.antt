@@ -1,4 +1,4 @@
--- A tuning with an aim and a check of what it wrote, both asked for the same.
+-- A tuning, and a check of what it wrote that is asked for the same ranking and floor.
 use Rattle.std.specs.Prelude.{ℕ, ◌≤◌, Bool, List, ◌++◌, Option}
 use Rattle.std.specs.Option.{unwrap_or}
 use Rattle.tune_problem.specs.Inputs.{InputsView}
@@ -11,11 +11,11 @@ use Rattle.tune_search.specs.declared.findings.Findings.{Findings}
 use Rattle.tune_search.specs.declared.method.Method.{Method}
 use Rattle.tune_runs.specs.Report.{rank_lines, report_from, report_text}
 use Rattle.tune_runs.specs.TuneRun.{Texts, IsTuningFrom, answer_of}
-use Rattle.tune_runs.specs.CheckRun.{WritesJudgement, accepted_words, answer_text, share_meant}
+use Rattle.tune_runs.specs.CheckRun.{WritesCheckFor, accepted_words, answer_text, share_meant}
 use Rattle.tune_runs.specs.Agreement.{Writer, Gets, TunesFrom}
 
--- The aim of a tuning with the demand of a check: one setting if `keep` is None, and the floor 0 if
--- `floor` is.
+-- The aim of a tuning that is asked for what a check demands: it keeps one setting if `keep` is
+-- None, and has the floor 0 if `floor` is None.
 abbrev pub aim_of : Demand → Aim
 aim_of demand = record { keep = unwrap_or demand.keep 1; floor = unwrap_or demand.floor 0 }
 
@@ -41,15 +41,15 @@ TunesAsked a report cert = TunesFrom a.texts (aim_of a.demand) a.method report c
 
 -- The check of these bytes wrote its lines; `accepted` says whether it accepts.
 abbrev pub ChecksAsked : Asked → List ℕ → (accepted : Bool) → Writer → Type 0
-ChecksAsked a bytes accepted out = WritesJudgement a.texts a.demand a.share bytes accepted out.old out.new
+ChecksAsked a bytes accepted out = WritesCheckFor a.texts a.demand a.share bytes accepted out.old out.new
 
 -- The lines of a check that accepts the answer of these findings, and the ranking of their report.
 abbrev pub accepted_lines : InputsView → Aim → Option Part → Findings → List ℕ
 accepted_lines i aim share f =
     accepted_words share ++ answer_text (answer_of aim.floor (first_of f.ranking)) ++ rank_lines 1 (report_from i aim f).ranking
 
--- The lines of the check say what the tuning found: its answer, and the ranking of the report, if
--- that has one.
+-- The lines of the check say what the tuning found: its answer, and the ranking of its report, if
+-- the report has one.
 pub record AgreeAsked (a : Asked) (report out : Writer) : Type 0 where
   pub inputs : InputsView
   pub found : Findings

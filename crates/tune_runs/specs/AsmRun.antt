@@ -12,12 +12,12 @@ use Rattle.tune_runs.specs.declared.fault.RunFault.{RunFault}
 abbrev pub warrior_of : List ℕ → RulesView → Result WarriorView RunFault
 warrior_of source rules = with_fault asm_fault (outcome_of source [] rules)
 
--- Its load file.
-unfoldable pub asm_answer : List ℕ → RulesView → Result (Unit {0} × List ℕ) RunFault
-asm_answer source rules = do
+-- The output of `asm_run`: its load file.
+unfoldable pub asm_output : List ℕ → RulesView → Result (Unit {0} × List ℕ) RunFault
+asm_output source rules = do
   w ← warrior_of source rules
   Ok (tt, load_text rules.core w)
 
 -- The load file was written.
-abbrev pub WritesWarrior : List ℕ → RulesView → Option (List ℕ) → Option (List ℕ) → Type 0
-WritesWarrior source rules old new = Writes (asm_answer source rules) tt old new
+abbrev pub WritesAsm : List ℕ → RulesView → Option (List ℕ) → Option (List ℕ) → Type 0
+WritesAsm source rules old new = Writes (asm_output source rules) tt old new

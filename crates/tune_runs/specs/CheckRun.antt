@@ -1,5 +1,5 @@
--- What the run of a check writes.
-use Rattle.std.specs.Prelude.{◌≡◌, ◌⊎◌, ℕ, Bool, true, false, List, ◌∷◌, [], ◌++◌, codes, Option, Some, None, Result, Ok}
+-- What the runs of checks write, or why they refuse.
+use Rattle.std.specs.Prelude.{◌≡◌, ◌⊎◌, ℕ, Bool, true, false, List, ◌++◌, codes, Option, Some, None, Result, Ok}
 use Rattle.std.specs.Fmt.{decimal}
 use Rattle.tables.specs.Records.{records_of}
 use Rattle.tune_problem.specs.Inputs.{InputsView}
@@ -14,7 +14,7 @@ use Rattle.tune_cert.specs.Judgement.{judgement_of}
 use Rattle.tune_cert.specs.declared.demand.Demand.{Demand}
 use Rattle.tune_cert.specs.declared.verdict.Judgement.{Judgement}
 use Rattle.tune_cert.specs.declared.verdict.Judgement.TheVariants.{Accepted as AcceptedFor, Rejected as RejectedFor}
-use Rattle.tune_runs.specs.Report.{rank_lines, told_if}
+use Rattle.tune_runs.specs.Report.{rank_lines, named_ranking}
 use Rattle.tune_cert.specs.Verdict.{verdict_of, IsRightVerdict}
 use Rattle.tune_cert.specs.declared.verdict.Reason.{Reason}
 use Rattle.tune_cert.specs.declared.verdict.Reason.TheVariants.{Malformed, RowCount, BestRow, WrongPoints, RepeatedFight, CapTooHigh, NotSame, NotRefused, Version}
@@ -35,70 +35,72 @@ reason_text NotSame = codes "NotSame"
 reason_text NotRefused = codes "NotRefused"
 reason_text Version = codes "Version"
 
--- ` best W total T`, to the end of the line.
-unfoldable pub best_text : ℕ → ℕ → List ℕ
-best_text best total = codes " best " ++ decimal best ++ codes " total " ++ decimal total ++ 10 ∷ []
-
--- `accepted best W total T`, or `rejected row R REASON`.
-abbrev pub check_line : Verdict → List ℕ
-check_line (Accepted best total) = codes "accepted" ++ best_text best total
-check_line (Rejected row reason) = codes "rejected row " ++ decimal row ++ 32 ∷ reason_text reason ++ 10 ∷ []
-
 -- `accepted share I/K`.
 unfoldable pub share_words : (number shares : ℕ) → List ℕ
 share_words number shares = codes "accepted share " ++ decimal number ++ codes "/" ++ decimal shares
 
--- The line of a share: `accepted share I/K best W total T`, or the line of a rejection.
-abbrev pub share_line : Part → Verdict → List ℕ
-share_line share (Accepted best total) = share_words share.number share.parts ++ best_text best total
-share_line share (Rejected row reason) = check_line (Rejected row reason)
-
-abbrev pub accepts : Verdict → Bool
-accepts (Accepted best total) = true
-accepts (Rejected row reason) = false
-
--- ---- checks with a demand
-
--- `accepted`, or `accepted share I/K`.
+-- `accepted`, or `accepted share I/K` if a share is checked.
 abbrev pub accepted_words : Option Part → List ℕ
 accepted_words None = codes "accepted"
 accepted_words (Some share) = share_words share.number share.parts
 
-unfoldable pub none_text : ℕ → List ℕ
-none_text floor = codes " none below " ++ decimal floor ++ 10 ∷ []
+-- ` best W total T`, to the end of the line.
+unfoldable pub best_text : ℕ → ℕ → List ℕ
+best_text best total = codes " best " ++ decimal best ++ codes " total " ++ decimal total ++ codes "\n"
 
--- ` best W total T`, or ` none below F`, to the end of the line.
-abbrev pub answer_text : Answer → List ℕ
-answer_text (TheBest best) = best_text best.vector best.total
-answer_text (NoneFrom floor) = none_text floor
-
--- The lines of a judgement of all rows or of a share: `accepted ..` and those of the ranking, or
 -- `rejected row R REASON`.
-unfoldable pub judgement_lines : InputsView → Demand → Option Part → Judgement → List ℕ
-judgement_lines i demand share (AcceptedFor answer ranking) = accepted_words share ++ answer_text answer ++ rank_lines 1 (told_if i demand.keep ranking)
-judgement_lines i demand share (RejectedFor row reason) = check_line (Rejected row reason)
+abbrev pub rejected_line : (row : ℕ) → Reason → List ℕ
+rejected_line row reason = codes "rejected row " ++ decimal row ++ codes " " ++ reason_text reason ++ codes "\n"
 
-abbrev pub accepts_for : Judgement → Bool
-accepts_for (AcceptedFor answer ranking) = true
-accepts_for (RejectedFor row reason) = false
+-- The line of a verdict on all rows, or on a share: `accepted best W total T`, `accepted share I/K
+-- best W total T`, or `rejected row R REASON`.
+abbrev pub verdict_line : Option Part → Verdict → List ℕ
+verdict_line share (Accepted best total) = accepted_words share ++ best_text best total
+verdict_line share (Rejected row reason) = rejected_line row reason
+
+abbrev pub accepts : Verdict → Bool
+accepts (Accepted best total) = true
+accepts (Rejected row reason) = false
 
 -- The share that is meant: all rows, if none is given.
 abbrev pub share_meant : Option Part → Part
 share_meant None = whole
 share_meant (Some share) = share
 
--- Whether a check with a demand accepts the bytes, and its lines; or the first fault of the texts.
-unfoldable pub check_answer : Texts → Demand → Option Part → List ℕ → Result (Bool × List ℕ) RunFault
-check_answer t demand share cert = do
+-- ---- checks with a demand
+
+-- ` none below F`, to the end of the line.
+unfoldable pub none_text : ℕ → List ℕ
+none_text floor = codes " none below " ++ decimal floor ++ codes "\n"
+
+-- ` best W total T`, or ` none below F`, to the end of the line.
+abbrev pub answer_text : Answer → List ℕ
+answer_text (TheBest best) = best_text best.vector best.total
+answer_text (NoneFrom floor) = none_text floor
+
+-- The lines of a judgement on all rows, or on a share: `accepted ..` and a line for each setting of
+-- the ranking, or `rejected row R REASON`.
+unfoldable pub judgement_lines : InputsView → Demand → Option Part → Judgement → List ℕ
+judgement_lines i demand share (AcceptedFor answer ranking) = accepted_words share ++ answer_text answer ++ rank_lines 1 (named_ranking i demand.keep ranking)
+judgement_lines i demand share (RejectedFor row reason) = rejected_line row reason
+
+abbrev pub accepts_for : Judgement → Bool
+accepts_for (AcceptedFor answer ranking) = true
+accepts_for (RejectedFor row reason) = false
+
+-- The output of `check_for_run`: whether the bytes are accepted, and the lines of the judgement; or
+-- the first fault of the texts.
+unfoldable pub check_for_output : Texts → Demand → Option Part → List ℕ → Result (Bool × List ℕ) RunFault
+check_for_output t demand share cert = do
   i ← meaning_of t
   Ok (said i (judgement_of (problem_of i) demand (share_meant share) (records_of cert)))
   where
     said : InputsView → Judgement → Bool × List ℕ
     said i judgement = (accepts_for judgement, judgement_lines i demand share judgement)
 
--- The lines of a check with a demand were written, and `accepted` says whether it accepts.
-abbrev pub WritesJudgement : Texts → Demand → Option Part → List ℕ → Bool → Option (List ℕ) → Option (List ℕ) → Type 0
-WritesJudgement t demand share cert accepted old new = Writes (check_answer t demand share cert) accepted old new
+-- The lines were written, and `accepted` says whether the bytes are accepted.
+abbrev pub WritesCheckFor : Texts → Demand → Option Part → List ℕ → Bool → Option (List ℕ) → Option (List ℕ) → Type 0
+WritesCheckFor t demand share cert accepted old new = Writes (check_for_output t demand share cert) accepted old new
 
 -- ---- checks for the optimum
 
@@ -108,25 +110,16 @@ verdict_given t share cert = do
   i ← meaning_of t
   Ok (verdict_of (problem_of i) share (records_of cert))
 
--- Whether a check of all rows accepts the bytes, and its line; or the first fault of the texts.
-unfoldable pub verdict_answer : Texts → List ℕ → Result (Bool × List ℕ) RunFault
-verdict_answer t cert = do
-  verdict ← verdict_given t whole cert
-  Ok (accepts verdict, check_line verdict)
+-- The output of `check_run`, or of `check_share_run` for a share: whether the bytes are accepted,
+-- and the line of the verdict; or the first fault of the texts.
+unfoldable pub check_output : Texts → Option Part → List ℕ → Result (Bool × List ℕ) RunFault
+check_output t share cert = do
+  verdict ← verdict_given t (share_meant share) cert
+  Ok (accepts verdict, verdict_line share verdict)
 
--- The line was written, and `accepted` says whether the check accepts.
-abbrev pub WritesVerdict : Texts → List ℕ → Bool → Option (List ℕ) → Option (List ℕ) → Type 0
-WritesVerdict t cert accepted old new = Writes (verdict_answer t cert) accepted old new
-
--- Whether a share accepts the bytes, and its line; or the first fault of the texts.
-unfoldable pub share_answer : Texts → Part → List ℕ → Result (Bool × List ℕ) RunFault
-share_answer t share cert = do
-  verdict ← verdict_given t share cert
-  Ok (accepts verdict, share_line share verdict)
-
--- The line was written, and `accepted` says whether the share accepts.
-abbrev pub WritesShare : Texts → Part → List ℕ → Bool → Option (List ℕ) → Option (List ℕ) → Type 0
-WritesShare t share cert accepted old new = Writes (share_answer t share cert) accepted old new
+-- The line was written, and `accepted` says whether the bytes are accepted.
+abbrev pub WritesCheck : Texts → Option Part → List ℕ → Bool → Option (List ℕ) → Option (List ℕ) → Type 0
+WritesCheck t share cert accepted old new = Writes (check_output t share cert) accepted old new
 
 -- The right verdict on the bytes, for the inputs in the texts.
 abbrev pub HasRightVerdict : Texts → List ℕ → Verdict → Type 0

@@ -36,10 +36,10 @@ duel_named d = do
   _ ← check (keeps_distance d.rules d.position) Position
   Ok (record { rules = d.rules; candidate = c; opponent = o; position = d.position; first = d.first })
 
--- The result line of a duel.
-abbrev pub duel_answer : Duel → Result (Unit {0} × List ℕ) RunFault
-duel_answer d = line_of (duel_named d)
+-- The output of `duel_run`: the result line of the duel, or its first fault.
+abbrev pub duel_output : Duel → Result (Unit {0} × List ℕ) RunFault
+duel_output d = line_of (duel_named d)
 
--- It was written.
+-- The line was written.
 abbrev pub WritesDuel : Duel → Option (List ℕ) → Option (List ℕ) → Type 0
-WritesDuel d old new = Writes (duel_answer d) tt old new
+WritesDuel d old new = Writes (duel_output d) tt old new

@@ -9,15 +9,15 @@ use Rattle.mars_core.specs.declared.side.Side.{Side}
 use Rattle.mars_core.specs.declared.side.Side.TheVariants.{Candidate, Opponent}
 use Rattle.rc_instr.specs.Decimal.{padded_decimal}
 
--- What comes before and after the first such byte.
+-- What comes before and after the first byte that is `b`.
 unfoldable pub cut_at : ℕ → Reader (List ℕ)
 cut_at b bytes = option_map (λ at. (take at bytes, drop (at + 1) bytes)) (position (λ x. x == b) bytes)
 
--- The decimal of 1 to 9 digits before the first such byte, and the bytes after that byte.
+-- The number of 1 to 9 digits before the first byte that is `b`, and the bytes after that byte.
 unfoldable pub number_before : ℕ → Reader ℕ
 number_before b bytes = option_and_then (λ p. option_map (λ n. (n, p.1)) (padded_decimal p.0)) (cut_at b bytes)
 
--- What comes after a word, if the bytes begin with it.
+-- The bytes after a word, if they begin with it.
 unfoldable pub after_word : List ℕ → List ℕ → Option (List ℕ)
 after_word word bytes = if bytes_eq (take (length word) bytes) word then Some (drop (length word) bytes) else None
 
@@ -31,10 +31,12 @@ raw_rules = do
   distance ← number_before (byte "\n")
   gives (rules_view core cycles tasks most distance)
 
--- The line of the rules.
+-- The line `rules M C P L D`.
 unfoldable pub rules_line : Reader RulesView
 rules_line bytes = option_and_then raw_rules (after_word (codes "rules ") bytes)
 
+-- The side that moves first: the candidate if there are bytes after its letter, or the opponent if
+-- there are bytes after its own.
 abbrev pub mover_or : Option (List ℕ) → Option (List ℕ) → Option (Side × List ℕ)
 mover_or (Some rest) other = Some (Candidate, rest)
 mover_or None (Some rest) = Some (Opponent, rest)
@@ -44,22 +46,24 @@ mover_or None None = None
 unfoldable pub mover_line : Reader Side
 mover_line bytes = mover_or (after_word (codes "c\n") bytes) (after_word (codes "o\n") bytes)
 
--- A position, a space, and the first mover.
+-- A position, a space, and who moves first.
 abbrev pub position_and_mover : Reader (ℕ × Side)
 position_and_mover = do
   position ← number_before (byte " ")
   mover ← mover_line
   gives (position, mover)
 
--- The line of the fight.
+-- The line `fight POSITION FIRST`.
 unfoldable pub fight_line : Reader (ℕ × Side)
 fight_line bytes = option_and_then position_and_mover (after_word (codes "fight ") bytes)
 
+-- The cut is here if there are bytes after a line `opponent`, or else it is a later one.
 abbrev pub parted_or : Option (List ℕ) → Option (List ℕ × List ℕ) → Option (List ℕ × List ℕ)
 parted_or (Some rest) later = Some ([], rest)
 parted_or None later = later
 
--- What comes before and after the first line `opponent`. The flag says whether a line begins here.
+-- What comes before and after the first line `opponent`. `begins` says whether a line begins at the
+-- first byte.
 abbrev pub parted : Bool → List ℕ → Option (List ℕ × List ℕ)
 parted begins [] = None
 parted begins (c ∷ cs) =

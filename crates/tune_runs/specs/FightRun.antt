@@ -39,16 +39,16 @@ KeepsRules f = Fits f.rules f.candidate × Fits f.rules f.opponent × IsPosition
 abbrev pub outcome_for : NamedFight → Outcome
 outcome_for f = outcome_of f.rules.tasks (start_of f.rules.core f.candidate f.opponent f.position) f.first f.rules.cycles
 
--- The result line of a fight that was named.
+-- The result line of a fight that was named, or the fault of its text.
 abbrev pub line_of : Result NamedFight RunFault → Result (Unit {0} × List ℕ) RunFault
 line_of fight = do
   f ← fight
   Ok (tt, result_line (outcome_for f))
 
--- The result line of the fight in a text.
-abbrev pub fight_answer : List ℕ → Result (Unit {0} × List ℕ) RunFault
-fight_answer text = line_of (fight_named text)
+-- The output of `fight_run`: the result line of the fight in a text, or its first fault.
+abbrev pub fight_output : List ℕ → Result (Unit {0} × List ℕ) RunFault
+fight_output text = line_of (fight_named text)
 
--- It was written.
+-- The line was written.
 abbrev pub WritesFight : List ℕ → Option (List ℕ) → Option (List ℕ) → Type 0
-WritesFight text old new = Writes (fight_answer text) tt old new
+WritesFight text old new = Writes (fight_output text) tt old new

@@ -17,12 +17,15 @@ pub record FightWords : Type 0 where
   pub candidate : List ℕ
   pub opponent : List ℕ
 
--- What a fight text says, or its first malformed line. Without a line `opponent` that is the line
--- after the last line feed.
+abbrev pub line_feeds : List ℕ → ℕ
+line_feeds text = count_by (λ b. b == byte "\n") text
+
+-- What a fight text says, or the number of its first malformed line, from 1. If there is no line
+-- `opponent`, that is the line after the last line feed.
 unfoldable pub fight_words : List ℕ → Result FightWords ℕ
 fight_words text = do
   rules ← ok_or (rules_line text) 1
   fight ← ok_or (fight_line rules.1) 2
   files ← ok_or (after_word (codes "candidate\n") fight.1) 3
-  parts ← ok_or (parted true files) (count_by (λ b. b == byte "\n") text + 1)
+  parts ← ok_or (parted true files) (line_feeds text + 1)
   Ok (record { rules = rules.0; position = fight.0.0; first = fight.0.1; candidate = parts.0; opponent = parts.1 })

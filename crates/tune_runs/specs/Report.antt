@@ -13,16 +13,17 @@ use Rattle.tune_problem.specs.declared.cert.Found.{Found}
 use Rattle.tune_problem.specs.declared.watcher.Best.{Best}
 use Rattle.tune_search.specs.declared.findings.Findings.{Findings}
 
--- A setting with its total, and the values that it gives the constants.
-abbrev pub Told : Type 0
-Told = Best × Table
+-- A setting with its total, and each constant with its value.
+pub record NamedSetting : Type 0 where
+  pub best : Best
+  pub constants : Table
 
 -- What a report says.
 pub record Report : Type 0 where
   pub vectors : ℕ
   pub candidates : ℕ
   -- the best setting, or None if no candidate reaches the floor
-  pub best : Option Told
+  pub best : Option NamedSetting
   pub floor : ℕ
   -- the most that a total can be
   pub most : ℕ
@@ -30,18 +31,19 @@ pub record Report : Type 0 where
   pub fights : ℕ
   pub all_fights : ℕ
   -- the settings of the ranking that have a line
-  pub ranking : List Told
+  pub ranking : List NamedSetting
 
+-- `WORD N`, and a line feed. The word ends with a space.
 unfoldable pub number_line : List ℕ → ℕ → List ℕ
-number_line word n = word ++ decimal n ++ 10 ∷ []
+number_line word n = word ++ decimal n ++ codes "\n"
 
--- `WORD PART of WHOLE`.
+-- `WORD PART of WHOLE`, and a line feed. The word ends with a space.
 unfoldable pub of_line : List ℕ → ℕ → ℕ → List ℕ
-of_line word part whole = word ++ decimal part ++ codes " of " ++ decimal whole ++ 10 ∷ []
+of_line word part whole = word ++ decimal part ++ codes " of " ++ decimal whole ++ codes "\n"
 
 -- For example ` STEP=-3`, with the space before it.
 unfoldable pub constant_text : List ℕ → ℤ → List ℕ
-constant_text name value = 32 ∷ name ++ 61 ∷ signed_decimal value
+constant_text name value = codes " " ++ name ++ codes "=" ++ signed_decimal value
 
 abbrev pub constants_text : Table → List ℕ
 constants_text [] = []
@@ -54,30 +56,30 @@ constants_or_none (c ∷ cs) = constants_text (c ∷ cs)
 
 -- For example `constants STEP=-3 GAP=4`, or `constants -`.
 unfoldable pub constants_line : Table → List ℕ
-constants_line cs = codes "constants" ++ constants_or_none cs ++ 10 ∷ []
+constants_line cs = codes "constants" ++ constants_or_none cs ++ codes "\n"
 
 -- The lines of a report without a best setting, since no candidate reaches the floor.
 unfoldable pub none_lines : (floor most : ℕ) → List ℕ
 none_lines floor most = codes "best -\n" ++ codes "constants -\n" ++ of_line (codes "total below ") floor most
 
 -- The lines of the best setting, or of none.
-unfoldable pub best_lines : (floor most : ℕ) → Option Told → List ℕ
+unfoldable pub best_lines : (floor most : ℕ) → Option NamedSetting → List ℕ
 best_lines floor most None = none_lines floor most
-best_lines floor most (Some told) =
-    number_line (codes "best ") told.0.vector
-    ++ constants_line told.1
-    ++ of_line (codes "total ") told.0.total most
+best_lines floor most (Some s) =
+    number_line (codes "best ") s.best.vector
+    ++ constants_line s.constants
+    ++ of_line (codes "total ") s.best.total most
 
 -- `rank I setting W total T NAME=value ..`, with nothing after T if there are no constants.
-unfoldable pub rank_line : (rank : ℕ) → Told → List ℕ
-rank_line rank told =
-    codes "rank " ++ decimal rank ++ codes " setting " ++ decimal told.0.vector ++ codes " total " ++ decimal told.0.total
-    ++ constants_text told.1 ++ 10 ∷ []
+unfoldable pub rank_line : (rank : ℕ) → NamedSetting → List ℕ
+rank_line rank s =
+    codes "rank " ++ decimal rank ++ codes " setting " ++ decimal s.best.vector ++ codes " total " ++ decimal s.best.total
+    ++ constants_text s.constants ++ codes "\n"
 
 -- The lines of a ranking, whose first setting has this rank.
-abbrev pub rank_lines : (rank : ℕ) → List Told → List ℕ
+abbrev pub rank_lines : (rank : ℕ) → List NamedSetting → List ℕ
 rank_lines rank [] = []
-rank_lines rank (told ∷ more) = rank_line rank told ++ rank_lines (rank + 1) more
+rank_lines rank (s ∷ more) = rank_line rank s ++ rank_lines (rank + 1) more
 
 -- The six lines of a report, and those of the ranking.
 unfoldable pub report_text : Report → List ℕ
@@ -93,7 +95,7 @@ abbrev pub report_for : InputsView → Found → List ℤ → Report
 report_for i f values = record {
   vectors = (problem_of i).count;
   candidates = candidates_of (problem_of i);
-  best = Some (record { vector = f.best; total = f.total }, constants_of i.template.ranges.names values);
+  best = Some (record { best = record { vector = f.best; total = f.total }; constants = constants_of i.template.ranges.names values });
   floor = 0;
   most = greatest_of (problem_of i);
   fights = f.fights;
@@ -101,32 +103,33 @@ report_for i f values = record {
   ranking = [];
 }
 
+-- The constants with these values, or none if there are no values.
 abbrev pub constants_with : InputsView → Option (List ℤ) → Table
 constants_with i None = []
 constants_with i (Some values) = constants_of i.template.ranges.names values
 
--- A setting, and the values that it gives the constants.
-abbrev pub told : InputsView → Best → Told
-told i best = (best, constants_with i (slice_get (settings_of i) best.vector))
+-- The setting with the values that it gives the constants.
+abbrev pub named_setting : InputsView → Best → NamedSetting
+named_setting i best = record { best = best; constants = constants_with i (slice_get (settings_of i) best.vector) }
 
--- One of the part's settings.
+-- The setting is one of the part's.
 abbrev pub IsSettingOf : InputsView → Best → Type 0
 IsSettingOf i best = best.vector < length (settings_of i)
 
 -- The settings that have a line: those of the ranking, if more than one is asked for.
-abbrev pub told_if : InputsView → Option ℕ → List Best → List Told
-told_if i None ranking = []
-told_if i (Some keep) ranking = if nat_lt 1 keep then map (told i) ranking else []
+abbrev pub named_ranking : InputsView → Option ℕ → List Best → List NamedSetting
+named_ranking i None ranking = []
+named_ranking i (Some keep) ranking = if nat_lt 1 keep then map (named_setting i) ranking else []
 
 -- The report of what a search with an aim found.
 abbrev pub report_from : InputsView → Aim → Findings → Report
 report_from i aim f = record {
   vectors = (problem_of i).count;
   candidates = candidates_of (problem_of i);
-  best = option_map (told i) (first_of f.ranking);
+  best = option_map (named_setting i) (first_of f.ranking);
   floor = aim.floor;
   most = greatest_of (problem_of i);
   fights = f.fights;
   all_fights = candidates_of (problem_of i) * length i.schedule;
-  ranking = told_if i (Some aim.keep) f.ranking;
+  ranking = named_ranking i (Some aim.keep) f.ranking;
 }

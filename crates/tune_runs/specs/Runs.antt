@@ -17,7 +17,7 @@ use Rattle.tune_template.specs.declared.fault.TemplateKind.TheVariants.{OutOfMem
 use Rattle.tune_runs.specs.declared.fault.RunFault.{RunFault}
 use Rattle.tune_runs.specs.declared.fault.RunFault.TheVariants.{Load, Asm, Template, Opponent, Schedule, Write, OutOfMemory}
 
--- ---- faults within faults of runs; out of memory is never inside another fault
+-- ---- the fault of a run that has another fault inside; that one is never out of memory
 
 abbrev pub asm_fault : AsmFault → RunFault
 asm_fault fault = by_kind fault.kind
@@ -62,16 +62,16 @@ abbrev pub Returns : {A B : Type 0} → (view : A → B) → (result : Result A 
 Returns view (Ok x) definition = definition ≡ Ok (view x)
 Returns view (Err e) definition = (e ≢ Write) × ((¬ IsMemory e) → definition ≡ Err e)
 
--- The answer has this value, and all bytes of its text were appended.
+-- The output of a run has this value, and all bytes of its text were appended.
 abbrev pub Writes : {X : Type 0} → Result (X × List ℕ) RunFault → X → Option (List ℕ) → Option (List ℕ) → Type 0
-Writes answer x old new = (text : List ℕ) × (answer ≡ Ok (x, text)) × Appends old new text
+Writes output x old new = (text : List ℕ) × (output ≡ Ok (x, text)) × Appends old new text
 
--- How a run ends. Its answer is a value and the text to be written, or a fault.
-pub record IsRun {X : Type 0} (answer : Result (X × List ℕ) RunFault) (result : Result X RunFault) (old new : OutletView) : Type 0 where
+-- How a run ends. Its output is a value and the text to be written, or a fault.
+pub record IsRun {X : Type 0} (output : Result (X × List ℕ) RunFault) (result : Result X RunFault) (old new : OutletView) : Type 0 where
   -- it returns the value, and the whole text was written
-  pub done : IfOk result (λ x. Writes answer x old.bytes new.bytes)
-  -- `Write`: the writer failed. There was an answer, and what is out is not said.
-  pub stopped : IsErrOf result Write → IsOk answer
+  pub done : IfOk result (λ x. Writes output x old.bytes new.bytes)
+  -- `Write`: the writer failed. The output is no fault, and what is out is not said.
+  pub stopped : IsErrOf result Write → IsOk output
   pub write : IsErrOf result Write ↔ IsTrue new.failed
-  -- any other fault is the answer's, unless memory ran out, and nothing was written
-  pub refused : IfErr result (λ e. e ≢ Write → (new ≡ old) × ((¬ IsMemory e) → answer ≡ Err e))
+  -- after any other fault nothing was written; unless memory ran out the output is this fault
+  pub refused : IfErr result (λ e. e ≢ Write → (new ≡ old) × ((¬ IsMemory e) → output ≡ Err e))

@@ -18,7 +18,7 @@ abbrev pub index_meant : WhichSetting → List Span → ℕ
 index_meant Start spans = start_index spans
 index_meant (Index index) spans = index
 
--- The index if it is below the count, or else `NoSuchSetting`.
+-- The index if it is below `count`, or else `NoSuchSetting`.
 abbrev pub index_within : (count index : ℕ) → Result ℕ RunFault
 index_within count index = if nat_lt index count then Ok index else Err (NoSuchSetting index)
 
@@ -30,12 +30,12 @@ setting_warrior source which rules = do
   index ← index_within (setting_count t) (index_meant which t.ranges.spans)
   with_fault asm_fault (instance_of t rules index)
 
--- Its load file.
-abbrev pub setting_answer : List ℕ → WhichSetting → RulesView → Result (Unit {0} × List ℕ) RunFault
-setting_answer source which rules = do
+-- The output of `setting_run`: its load file.
+abbrev pub setting_output : List ℕ → WhichSetting → RulesView → Result (Unit {0} × List ℕ) RunFault
+setting_output source which rules = do
   w ← setting_warrior source which rules
   Ok (tt, load_text rules.core w)
 
 -- The load file was written.
 abbrev pub WritesSetting : List ℕ → WhichSetting → RulesView → Option (List ℕ) → Option (List ℕ) → Type 0
-WritesSetting source which rules old new = Writes (setting_answer source which rules) tt old new
+WritesSetting source which rules old new = Writes (setting_output source which rules) tt old new

@@ -1,4 +1,4 @@
--- What `settings_run` writes of a template.
+-- What the run of the settings of a template writes, or why it refuses.
 use Rattle.std.specs.Prelude.{ℕ, List, [], ◌∷◌, ◌++◌, Option, Result, Ok, codes}
 use Rattle.std.specs.Fmt.{decimal, signed_decimal}
 use Rattle.rc_instr.specs.Results.{with_fault, ◌>>=◌}
@@ -11,26 +11,27 @@ use Rattle.tune_runs.specs.declared.fault.RunFault.{RunFault}
 
 -- ` VALUES START` and a line feed: the number of a constant's values, and the one to begin with.
 unfoldable pub span_text : Span → List ℕ
-span_text s = 32 ∷ decimal s.count ++ 32 ∷ signed_decimal (span_value s s.start) ++ 10 ∷ []
+span_text s = codes " " ++ decimal s.count ++ codes " " ++ signed_decimal (span_value s s.start) ++ codes "\n"
 
 -- For example `constant STEP 19 3045`, and a line feed.
 unfoldable pub constant_line : List ℕ → Span → List ℕ
 constant_line name s = codes "constant " ++ name ++ span_text s
 
+-- A line for each constant.
 abbrev pub constant_lines : List (List ℕ) → List Span → List ℕ
 constant_lines (n ∷ names) (s ∷ spans) = constant_line n s ++ constant_lines names spans
 constant_lines _ _ = []
 
--- The number of settings, and a line for each constant.
+-- The line `vectors COUNT`, and the lines of the constants.
 unfoldable pub settings_text : TemplateView → List ℕ
 settings_text t = number_line (codes "vectors ") (setting_count t) ++ constant_lines t.ranges.names t.ranges.spans
 
--- The text of the settings of a template, or its fault.
-abbrev pub settings_answer : List ℕ → Result (Unit {0} × List ℕ) RunFault
-settings_answer source = do
+-- The output of `settings_run`: the text of the settings of a template, or its fault.
+abbrev pub settings_output : List ℕ → Result (Unit {0} × List ℕ) RunFault
+settings_output source = do
   t ← with_fault template_fault (template_of source)
   Ok (tt, settings_text t)
 
 -- The text was written.
 abbrev pub WritesSettings : List ℕ → Option (List ℕ) → Option (List ℕ) → Type 0
-WritesSettings source old new = Writes (settings_answer source) tt old new
+WritesSettings source old new = Writes (settings_output source) tt old new

@@ -44,7 +44,7 @@ abbrev pub part_texts : List ℕ → List (List ℕ) → List ℕ → RulesView 
 part_texts template opponents schedule rules part =
     record { template = template; opponents = opponents; schedule = schedule; rules = rules; part = part }
 
--- A tuning searches all settings, unless it is said to be of a part.
+-- The texts of a tuning of all settings, which are part 1 of 1.
 abbrev pub texts : List ℕ → List (List ℕ) → List ℕ → RulesView → Texts
 texts template opponents schedule rules = part_texts template opponents schedule rules whole
 
@@ -74,8 +74,8 @@ meaning_of t = do
   _ ← check (is_part t.part (setting_count template)) BadPart
   Ok (record { template = template; opponents = opponents; schedule = schedule; rules = t.rules; part = t.part })
 
--- The faults that the texts may have, apart from a part that does not exist. Memory is among them,
--- since `template_fault` and the like can give it; no text has that fault.
+-- The faults that texts may have, besides a part that does not exist. `OutOfMemory` is here only
+-- because `template_fault` and the like may give it: no text has that fault.
 abbrev pub is_text_fault : RunFault → Bool
 is_text_fault TooManyOpponents = true
 is_text_fault (Template fault) = true
@@ -108,7 +108,7 @@ WritesTuning t method report_old report_new cert_old cert_new =
     (i : InputsView) × (f : Found) × (values : List ℤ) × IsTuning t method i f values
     × Appends cert_old cert_new (cert_text (cert_of f)) × Appends report_old report_new (report_text (report_for i f values))
 
--- The report of what the tuning finds was written, and a certificate to some writer.
+-- The report of what the tuning finds was written, and its certificate to some writer.
 abbrev pub WritesOptimum : Texts → Method → (report_old report_new : Option (List ℕ)) → Type 0
 WritesOptimum t method report_old report_new =
     (cert_old : Option (List ℕ)) × (cert_new : Option (List ℕ)) × WritesTuning t method report_old report_new cert_old cert_new

@@ -4,7 +4,7 @@ ghost use Rattle.rc_instr.specs.Warrior.{Fits};
 ghost use Rattle.rc_instr.specs.LoadText.{load_text};
 ghost use Rattle.rc_asm.specs.Faults.{Returns as Assembled};
 ghost use Rattle.rc_asm.specs.Assembly.{outcome_of};
-ghost use Rattle.tune_runs.specs.AsmRun.{warrior_of, asm_answer};
+ghost use Rattle.tune_runs.specs.AsmRun.{warrior_of, asm_output};
 ghost use Rattle.tune_runs.specs.Runs.{Returns, IsRun};
 
 use crate::fault::RunFault;
@@ -31,16 +31,16 @@ pub fn asm_run<W: Write>(
 ) -> Result<(), RunFault>
     requires { out.old.failed ≡ false }
 
-    ensures run { IsRun (asm_answer source.now rules.now) result out.old out.new }
+    ensures run { IsRun (asm_output source.now rules.now) result out.old out.new }
 {
     let text = asm_text(alloc, source, rules)?;
     out.write_all(text.as_slice())?;
     Ok(())
 }
 
-#[tactic(auto, unfolding(crate::specs::AsmRun::asm_answer))]
+#[tactic(auto, unfolding(crate::specs::AsmRun::asm_output))]
 fn asm_text(alloc: Global, source: &[u8], rules: &Rules) -> Result<Vec<u8>, RunFault>
-    ensures { Returns (λ file. (tt, file.items)) result (asm_answer source.now rules.now) }
+    ensures { Returns (λ file. (tt, file.items)) result (asm_output source.now rules.now) }
 {
     let warrior = warrior_of(alloc, source, rules)?;
     Ok(loadfile_of(alloc, &warrior, rules)?)

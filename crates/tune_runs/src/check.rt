@@ -1,15 +1,15 @@
 //! A check: from texts and a certificate to the line of the verdict.
-ghost use Rattle.std.specs.Prelude.{◌≡◌, ◌≢◌, true, false, IfErr};
+ghost use Rattle.std.specs.Prelude.{◌≡◌, ◌≢◌, None, Some, true, false, IfErr};
 ghost use Rattle.std.specs.Option.{option_map};
 ghost use Rattle.tune_runs.specs.Runs.{IsRun, Returns};
 ghost use Rattle.tune_runs.specs.Given.{all_given, texts_given, part_given};
 ghost use Rattle.tune_problem.specs.Parts.{part};
-ghost use Rattle.tune_runs.specs.CheckRun.{accepts, accepts_for, check_answer, share_answer, share_meant, verdict_answer, verdict_given};
+ghost use Rattle.tune_runs.specs.CheckRun.{accepts, accepts_for, check_for_output, check_output, share_meant, verdict_given};
 
 use crate::fault::RunFault;
 use crate::given::TuneTexts;
 use crate::inputs::inputs_of;
-use crate::lines::{judgement_lines, share_line, verdict_line};
+use crate::lines::{judgement_lines, verdict_line};
 use rc_instr::{Outlet, Rules};
 use std::alloc::Global;
 use std::io::Write;
@@ -44,7 +44,7 @@ pub fn check_run<W: Write>(
 
     // The line is that of the verdict on the certificate, for the inputs in the texts: the right
     // one, by `laws::a_check_writes_the_right_verdict`.
-    ensures run { IsRun (verdict_answer (all_given template.now opponents.now schedule.now rules.now) cert.now) result out.old out.new }
+    ensures run { IsRun (check_output (all_given template.now opponents.now schedule.now rules.now) None cert.now) result out.old out.new }
 
     // Every template has a part 1 of 1.
     ensures whole { IfErr result (λ e. e ≢ RunFault.Part) }
@@ -75,7 +75,7 @@ pub fn check_run<W: Write>(
 ///
 /// Those of `check_run`; and `Part`, after `Schedule`, if there is no such part: nothing is written
 /// then.
-#[tactic(auto, unfolding(crate::specs::CheckRun::verdict_answer))]
+#[tactic(auto, unfolding(crate::specs::CheckRun::check_output))]
 pub fn check_part_run<T: Watcher, W: Write>(
     alloc: Global,
     given: &TuneTexts<'_>,
@@ -84,10 +84,10 @@ pub fn check_part_run<T: Watcher, W: Write>(
     out: &mut Outlet<W>,
 ) -> Result<bool, RunFault>
     requires { out.old.failed ≡ false }
-    ensures run { IsRun (verdict_answer (texts_given given.now) cert.now) result out.old out.new }
+    ensures run { IsRun (check_output (texts_given given.now) None cert.now) result out.old out.new }
 {
     let verdict = verdict_given(alloc, given, Share::whole(), cert, watcher)?;
-    let line = verdict_line(alloc, verdict)?;
+    let line = verdict_line(alloc, None, verdict)?;
     out.write_all(line.as_slice())?;
     Ok(is_accepted(&verdict))
 }
@@ -103,7 +103,7 @@ pub fn check_part_run<T: Watcher, W: Write>(
 /// # Errors
 ///
 /// Those of `check_part_run`.
-#[tactic(auto, unfolding(crate::specs::CheckRun::share_answer))]
+#[tactic(auto, unfolding(crate::specs::CheckRun::check_output))]
 pub fn check_share_run<T: Watcher, W: Write>(
     alloc: Global,
     given: &TuneTexts<'_>,
@@ -115,10 +115,10 @@ pub fn check_share_run<T: Watcher, W: Write>(
     requires { out.old.failed ≡ false }
 
     // The line is that of the share's verdict on the certificate, for the inputs in the texts.
-    ensures run { IsRun (share_answer (texts_given given.now) (part_given share) cert.now) result out.old out.new }
+    ensures run { IsRun (check_output (texts_given given.now) (Some (part_given share)) cert.now) result out.old out.new }
 {
     let verdict = verdict_given(alloc, given, share, cert, watcher)?;
-    let line = share_line(alloc, share, verdict)?;
+    let line = verdict_line(alloc, Some(share), verdict)?;
     out.write_all(line.as_slice())?;
     Ok(is_accepted(&verdict))
 }
@@ -147,7 +147,7 @@ pub fn check_for_run<T: Watcher, W: Write>(
     requires out { out.old.failed ≡ false }
 
     // The lines are those of the share's judgement on the certificate, for the inputs in the texts.
-    ensures run { IsRun (check_answer (texts_given given.now) demand (option_map part_given share) cert.now) result out.old out.new }
+    ensures run { IsRun (check_for_output (texts_given given.now) demand (option_map part_given share) cert.now) result out.old out.new }
 {
     let judged = judged_lines(alloc, given, demand, share, watcher, cert)?;
     out.write_all(judged.lines.as_slice())?;
@@ -162,7 +162,7 @@ struct Judged {
 }
 
 // Makes the lines of a judgement. Tells `watcher` when the check begins and when it has ended.
-#[tactic(auto, unfolding(crate::specs::CheckRun::check_answer))]
+#[tactic(auto, unfolding(crate::specs::CheckRun::check_for_output))]
 fn judged_lines<T: Watcher>(
     alloc: Global,
     given: &TuneTexts<'_>,
@@ -171,7 +171,7 @@ fn judged_lines<T: Watcher>(
     watcher: &mut T,
     cert: &[u8],
 ) -> Result<Judged, RunFault>
-    ensures { Returns (λ j. (j.is_accepted, j.lines.items)) result (check_answer (texts_given given.now) demand (option_map part_given share) cert.now) }
+    ensures { Returns (λ j. (j.is_accepted, j.lines.items)) result (check_for_output (texts_given given.now) demand (option_map part_given share) cert.now) }
 {
     let inputs = inputs_of(alloc, given)?;
     watcher.begin(&inputs);

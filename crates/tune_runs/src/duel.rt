@@ -2,7 +2,7 @@
 ghost use Rattle.std.specs.Prelude.{◌≡◌, false, IfOk};
 ghost use Rattle.tune_runs.specs.Runs.{Returns, IsRun};
 ghost use Rattle.tune_runs.specs.FightRun.{KeepsRules};
-ghost use Rattle.tune_runs.specs.DuelRun.{duel_named, duel_answer};
+ghost use Rattle.tune_runs.specs.DuelRun.{duel_named, duel_output};
 ghost use Rattle.tune_runs.specs.Given.{duel_given};
 
 use crate::asm::warrior_of;
@@ -34,7 +34,7 @@ pub fn duel_run<W: Write>(
 ) -> Result<(), RunFault>
     requires { out.old.failed ≡ false }
 
-    ensures run { IsRun (duel_answer (duel_given given.now)) result out.old out.new }
+    ensures run { IsRun (duel_output (duel_given given.now)) result out.old out.new }
 {
     let line = duel_line(alloc, given)?;
     out.write_all(line.as_slice())?;
@@ -42,7 +42,7 @@ pub fn duel_run<W: Write>(
 }
 
 fn duel_line(alloc: Global, given: &DuelTexts<'_>) -> Result<Vec<u8>, RunFault>
-    ensures { Returns (λ line. (tt, line.items)) result (duel_answer (duel_given given.now)) }
+    ensures { Returns (λ line. (tt, line.items)) result (duel_output (duel_given given.now)) }
 {
     let fight = fight_of(alloc, given)?;
     line_of(alloc, &fight)

@@ -1,4 +1,4 @@
-//! Why a run ends without its answer.
+//! Why a run fails.
 ghost use Rattle.std.specs.Prelude.{◌≡◌};
 ghost use Rattle.tune_runs.specs.declared.fault.RunFault.TheVariants.{Write as WriteFault, OutOfMemory as MemoryFault};
 ghost use Rattle.tune_runs.specs.TuneRun.{fault_of};
@@ -14,8 +14,8 @@ use tune_cert::CheckFault;
 use tune_search::SearchFault;
 use tune_template::{TemplateFault, TemplateKind};
 
-/// Why a run ends without its answer. If several faults apply, the first is returned, in the order
-/// in which `# Errors` of the run has them.
+/// Why a run fails. If several faults apply, the first is returned, in the order that `# Errors` of
+/// the run has.
 ///
 /// `FightText`, `Rules`, `Load` and `Position` are of fights; `Asm` is of an assembly, and of the
 /// candidate's text in a fight of two texts, whose other text is `Opponent` with index 0;

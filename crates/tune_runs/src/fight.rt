@@ -5,7 +5,7 @@ ghost use Rattle.rc_instr.specs.Warrior.{Fits};
 ghost use Rattle.rc_instr.specs.Loaded.{load_meaning};
 ghost use Rattle.tune_runs.specs.ResultLine.{result_line};
 ghost use Rattle.tune_runs.specs.Runs.{load_fault, IsMemory, Returns, IsRun};
-ghost use Rattle.tune_runs.specs.FightRun.{fight_named, outcome_for, fight_answer, KeepsRules};
+ghost use Rattle.tune_runs.specs.FightRun.{fight_named, outcome_for, fight_output, KeepsRules};
 
 use crate::fault::{RunFault, load_fault};
 use crate::fight_text::read_fight_text;
@@ -42,7 +42,7 @@ pub(crate) struct NamedFight {
 pub fn fight_run<W: Write>(alloc: Global, text: &[u8], out: &mut Outlet<W>) -> Result<(), RunFault>
     requires { out.old.failed ≡ false }
 
-    ensures run { IsRun (fight_answer text.now) result out.old out.new }
+    ensures run { IsRun (fight_output text.now) result out.old out.new }
 {
     let line = fight_line(alloc, text)?;
     out.write_all(line.as_slice())?;
@@ -50,7 +50,7 @@ pub fn fight_run<W: Write>(alloc: Global, text: &[u8], out: &mut Outlet<W>) -> R
 }
 
 fn fight_line(alloc: Global, text: &[u8]) -> Result<Vec<u8>, RunFault>
-    ensures { Returns (λ line. (tt, line.items)) result (fight_answer text.now) }
+    ensures { Returns (λ line. (tt, line.items)) result (fight_output text.now) }
 {
     let fight = read_fight(alloc, text)?;
     line_of(alloc, &fight)

@@ -1,9 +1,9 @@
 //! Parses fight texts.
-ghost use Rattle.std.specs.Prelude.{◌≡◌, ◌+◌, ◌==◌, length, position, MatchOption, MatchResult, Some, None, Ok, Err, count_by, true};
+ghost use Rattle.std.specs.Prelude.{◌≡◌, ◌+◌, ◌==◌, length, position, MatchOption, MatchResult, Some, None, Ok, Err, true};
 ghost use Rattle.mars_core.specs.declared.side.Side.{Side};
 ghost use Rattle.rc_instr.specs.Rules.{rules_view};
 ghost use Rattle.tune_runs.specs.FightLines.{cut_at, number_before, after_word, raw_rules, rules_line, mover_line, fight_line, parted};
-ghost use Rattle.tune_runs.specs.FightText.{fight_words};
+ghost use Rattle.tune_runs.specs.FightText.{fight_words, line_feeds};
 ghost use Rattle.tune_runs.specs.Given.{words_said};
 
 use crate::given::RawRules;
@@ -148,7 +148,7 @@ fn parted(bytes: &[u8]) -> Option<(&[u8], &[u8])>
 }
 
 fn line_feeds(text: &[u8]) -> usize
-    ensures { result ≡ count_by (λ b. b == 10) text.now }
+    ensures { result ≡ line_feeds text.now }
 {
     text.iter().filter(|b| **b == b'\n').count()
 }

@@ -1,6 +1,6 @@
 //! Laws of tunings and their certificates. A law is a function with an empty body: its contract is
 //! what is proved.
-ghost use Rattle.std.specs.Prelude.{◌≡◌, ◌≤◌, ◌⊎◌, ℕ, Bool, List, true, Err, IsTrue};
+ghost use Rattle.std.specs.Prelude.{◌≡◌, ◌≤◌, ◌⊎◌, ℕ, Bool, List, None, true, Err, IsTrue};
 ghost use Rattle.tune_problem.specs.Inputs.{InputsView};
 ghost use Rattle.tune_problem.specs.Problem.{problem_of};
 ghost use Rattle.tune_problem.specs.Ranking.{best_alone};
@@ -10,8 +10,8 @@ ghost use Rattle.tune_problem.specs.declared.watcher.Best.{Best};
 ghost use Rattle.tune_cert.specs.Spelling.{Spells};
 ghost use Rattle.tune_cert.specs.Verdict.{IsRightVerdict};
 ghost use Rattle.tune_runs.specs.TuneRun.{Texts, of_part, meaning_of, is_text_fault, Means, HasNoCandidate};
-ghost use Rattle.tune_runs.specs.CheckRun.{Accepts, check_line};
-ghost use Rattle.tune_runs.specs.Agreement.{Writer, filled, Output, Gets, Tunes, TunesFrom, IsOutput, MayFind, written, Checks, ChecksCert, IsRightLine, Agree, ChecksFor, NamesAnswer, IsBestShown, IsBestOfAll, AreShownBelow, AreAllBelow, ChecksShare, AllAccept, AllName, AcceptsAsWhole};
+ghost use Rattle.tune_runs.specs.CheckRun.{Accepts, verdict_line};
+ghost use Rattle.tune_runs.specs.Agreement.{Writer, filled, Output, Gets, Tunes, TunesFrom, IsOutput, MayFind, written, Checks, ChecksCert, IsRightLine, Agree, ChecksFor, NamesAnswer, ForEach, IsBestShown, IsBestOfAll, AreShownBelow, AreAllBelow, ChecksShare, AllAccept, AllName, AcceptsAsWhole};
 ghost use Rattle.tune_runs.specs.AimedRuns.{Asked, IsAsked, TunesAsked, ChecksAsked, AgreeAsked};
 
 use crate::fault::RunFault;
@@ -88,14 +88,12 @@ pub fn an_accepted_certificate_names_the_optimum()
 pub fn accepted_parts_name_the_optimum()
     // A line of acceptance names what its certificate is accepted with.
     ensures line { (t : Texts) (bytes : List ℕ) (out : Writer) → Checks t bytes true out
-        → (best total : ℕ) × Accepts t bytes best total × Gets out (check_line (Verdict.Accepted best total)) }
+        → (best total : ℕ) × Accepts t bytes best total × Gets out (verdict_line None (Verdict.Accepted best total)) }
     // So does the first line of a check with a demand.
     ensures answer { (t : Texts) (demand : Demand) (bytes : List ℕ) (out : Writer) → ChecksFor t demand bytes true out → NamesAnswer t demand bytes out }
     ensures optimum { (t : Texts) (parts number : ℕ) (best : Best) → IsBestShown t parts number best → IsBestOfAll t parts number best }
     ensures below { (t : Texts) (parts floor : ℕ) → AreShownBelow t parts floor → AreAllBelow t floor }
-    ensures none { (t : Texts) (parts : ℕ) → 1 ≤ parts
-        → ((n : ℕ) → 1 ≤ n → n ≤ parts → HasNoCandidate (of_part t n parts))
-        → HasNoCandidate (of_part t 1 1) }
+    ensures none { (t : Texts) (parts : ℕ) → 1 ≤ parts → ForEach parts (λ n. HasNoCandidate (of_part t n parts)) → HasNoCandidate (of_part t 1 1) }
 {}
 
 /// States that a check can be shared: if each of `shares` shares of the same bytes, checked for the

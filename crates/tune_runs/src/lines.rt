@@ -1,4 +1,4 @@
-//! The lines of a fight and of a check.
+//! The lines that a fight and a check write.
 ghost use Rattle.std.specs.Prelude.{◌≡◌, ◌++◌, IfOk, OnOk};
 ghost use Rattle.std.specs.Option.{option_map};
 ghost use Rattle.tune_problem.specs.Problem.{problem_of};
@@ -7,10 +7,9 @@ ghost use Rattle.tune_runs.specs.Given.{part_given};
 ghost use Rattle.tune_runs.specs.ResultLine.{points_text, result_line};
 ghost use Rattle.mars_core.specs.declared.arena.Outcome.{Outcome};
 ghost use Rattle.tune_cert.specs.declared.verdict.Reason.{Reason};
-ghost use Rattle.tune_problem.specs.Parts.{part};
-ghost use Rattle.tune_runs.specs.CheckRun.{reason_text, best_text, check_line, share_line, share_words, accepted_words, none_text, answer_text, judgement_lines};
+ghost use Rattle.tune_runs.specs.CheckRun.{reason_text, best_text, rejected_line, verdict_line, share_words, accepted_words, none_text, answer_text, judgement_lines};
 
-use crate::report::add_told;
+use crate::report::add_ranking;
 use itoa::Buffer;
 use mars_core::Outcome;
 use rc_instr::OutOfMemory;
@@ -31,31 +30,21 @@ pub(crate) fn result_line(alloc: Global, outcome: Outcome) -> Result<Vec<u8>, Ou
     Ok(line)
 }
 
-// Makes the line of a verdict.
-pub(crate) fn verdict_line(alloc: Global, verdict: Verdict) -> Result<Vec<u8>, OutOfMemory>
-    ensures { IfOk result (λ line. line.items ≡ check_line verdict) }
-{
-    match verdict {
-        Verdict::Accepted { best, total } => accepted_line(alloc, best, total),
-        Verdict::Rejected { row, reason } => rejected_line(alloc, row, reason),
-    }
-}
-
-// Makes the line of a verdict of a share.
-pub(crate) fn share_line(
+// Makes the line of a verdict on all rows, or on a share.
+pub(crate) fn verdict_line(
     alloc: Global,
-    share: Share,
+    share: Option<Share>,
     verdict: Verdict,
 ) -> Result<Vec<u8>, OutOfMemory>
-    ensures { IfOk result (λ line. line.items ≡ share_line (part share.number share.shares) verdict) }
+    ensures { IfOk result (λ line. line.items ≡ verdict_line (option_map part_given share) verdict) }
 {
     match verdict {
-        Verdict::Accepted { best, total } => accepted_share_line(alloc, share, best, total),
+        Verdict::Accepted { best, total } => accepted_line(alloc, share, best, total),
         Verdict::Rejected { row, reason } => rejected_line(alloc, row, reason),
     }
 }
 
-// Makes the lines of a judgement with a demand, of all rows or of a share.
+// Makes the lines of a judgement on all rows, or on a share.
 #[tactic(auto, unfolding(crate::specs::CheckRun::judgement_lines))]
 pub(crate) fn judgement_lines(
     alloc: Global,
@@ -72,7 +61,7 @@ pub(crate) fn judgement_lines(
             let mut lines = Vec::new(alloc);
             add_accepted(&mut lines, share)?;
             add_answer(&mut lines, *answer)?;
-            add_told(&mut lines, inputs, demand.keep, ranking.as_slice())?;
+            add_ranking(&mut lines, inputs, demand.keep, ranking.as_slice())?;
             Ok(lines)
         }
         Judgement::Rejected { row, reason } => rejected_line(alloc, *row, *reason),
@@ -159,34 +148,24 @@ fn add_best(line: &mut Vec<u8>, best: u32, total: u32) -> Result<(), OutOfMemory
     Ok(())
 }
 
-// Makes the line `accepted best W total T`.
-fn accepted_line(alloc: Global, best: u32, total: u32) -> Result<Vec<u8>, OutOfMemory>
-    ensures { IfOk result (λ line. line.items ≡ check_line (Verdict.Accepted best total)) }
-{
-    let mut line = Vec::new(alloc);
-    line.extend_from_slice(b"accepted")?;
-    add_best(&mut line, best, total)?;
-    Ok(line)
-}
-
-// Makes the line `accepted share I/K best W total T`.
-fn accepted_share_line(
+// Makes the line `accepted best W total T`, or `accepted share I/K best W total T`.
+fn accepted_line(
     alloc: Global,
-    share: Share,
+    share: Option<Share>,
     best: u32,
     total: u32,
 ) -> Result<Vec<u8>, OutOfMemory>
-    ensures { IfOk result (λ line. line.items ≡ share_line (part share.number share.shares) (Verdict.Accepted best total)) }
+    ensures { IfOk result (λ line. line.items ≡ accepted_words (option_map part_given share) ++ best_text best total) }
 {
     let mut line = Vec::new(alloc);
-    add_share(&mut line, share)?;
+    add_accepted(&mut line, share)?;
     add_best(&mut line, best, total)?;
     Ok(line)
 }
 
 // Makes the line `rejected row R REASON`.
 fn rejected_line(alloc: Global, row: u64, reason: Reason) -> Result<Vec<u8>, OutOfMemory>
-    ensures { IfOk result (λ line. line.items ≡ check_line (Verdict.Rejected row reason)) }
+    ensures { IfOk result (λ line. line.items ≡ rejected_line row reason) }
 {
     let mut line = Vec::new(alloc);
     line.extend_from_slice(b"rejected row ")?;

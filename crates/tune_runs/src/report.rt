@@ -6,7 +6,7 @@ ghost use Rattle.tune_template.specs.Instances.{constants_of};
 ghost use Rattle.tune_problem.specs.Problem.{problem_of};
 ghost use Rattle.tune_problem.specs.Optimum.{candidates_of, greatest_of};
 ghost use Rattle.tune_cert.specs.Judgement.{AreSettings};
-ghost use Rattle.tune_runs.specs.Report.{number_line, of_line, constant_text, constants_text, constants_or_none, constants_line, best_lines, none_lines, rank_line, rank_lines, told, told_if, report_text, report_from, IsSettingOf};
+ghost use Rattle.tune_runs.specs.Report.{number_line, of_line, constant_text, constants_text, constants_or_none, constants_line, best_lines, none_lines, rank_line, rank_lines, named_setting, named_ranking, report_text, report_from, IsSettingOf};
 
 use itoa::Buffer;
 use rc_instr::OutOfMemory;
@@ -38,7 +38,7 @@ pub(crate) fn report_of(
         found.fights,
         found.candidates as u64 * fights,
     )?;
-    add_told(&mut text, inputs, Some(aim.keep), found.ranking.as_slice())?;
+    add_ranking(&mut text, inputs, Some(aim.keep), found.ranking.as_slice())?;
     Ok(text)
 }
 
@@ -51,7 +51,7 @@ fn add_best_lines(
     best: Option<Best>,
 ) -> Result<(), OutOfMemory>
     requires inside { IfSome best (IsSettingOf inputs.now) }
-    ensures { OnOk result (text.new.items ≡ text.old.items ++ best_lines floor (greatest_of (problem_of inputs.now)) (option_map (told inputs.now) best)) }
+    ensures { OnOk result (text.new.items ≡ text.old.items ++ best_lines floor (greatest_of (problem_of inputs.now)) (option_map (named_setting inputs.now) best)) }
 {
     let most = greatest_total(inputs) as u64;
     match best {
@@ -65,7 +65,7 @@ fn add_best_lines(
     }
 }
 
-// Appends the lines that no total reaches the floor.
+// Appends the lines that say that no total reaches the floor.
 #[tactic(auto, unfolding(crate::specs::Report::none_lines))]
 fn add_none_lines(text: &mut Vec<u8>, floor: u32, most: u64) -> Result<(), OutOfMemory>
     ensures { OnOk result (text.new.items ≡ text.old.items ++ none_lines floor most) }
@@ -75,15 +75,15 @@ fn add_none_lines(text: &mut Vec<u8>, floor: u32, most: u64) -> Result<(), OutOf
     add_of_line(text, b"total below ", floor as u64, most)
 }
 
-// Appends a line for each setting of a ranking, if more than one is asked for.
-pub(crate) fn add_told(
+// Appends the lines of a ranking, if more than one setting is asked for.
+pub(crate) fn add_ranking(
     text: &mut Vec<u8>,
     inputs: &Inputs,
     keep: Option<u32>,
     ranking: &[Best],
 ) -> Result<(), OutOfMemory>
     requires { AreSettings (problem_of inputs.now).count ranking.now }
-    ensures { OnOk result (text.new.items ≡ text.old.items ++ rank_lines 1 (told_if inputs.now keep ranking.now)) }
+    ensures { OnOk result (text.new.items ≡ text.old.items ++ rank_lines 1 (named_ranking inputs.now keep ranking.now)) }
 {
     match keep {
         Some(keep) if keep > 1 => add_ranks(text, inputs, ranking),
@@ -94,7 +94,7 @@ pub(crate) fn add_told(
 // Appends a line for each setting of a ranking.
 fn add_ranks(text: &mut Vec<u8>, inputs: &Inputs, ranking: &[Best]) -> Result<(), OutOfMemory>
     requires { AreSettings (problem_of inputs.now).count ranking.now }
-    ensures { OnOk result (text.new.items ≡ text.old.items ++ rank_lines 1 (map (told inputs.now) ranking.now)) }
+    ensures { OnOk result (text.new.items ≡ text.old.items ++ rank_lines 1 (map (named_setting inputs.now) ranking.now)) }
 {
     let mut rest = ranking;
     let mut rank: u32 = 0;
@@ -110,7 +110,7 @@ fn add_ranks(text: &mut Vec<u8>, inputs: &Inputs, ranking: &[Best]) -> Result<()
 #[tactic(auto, unfolding(crate::specs::Report::rank_line))]
 fn add_rank(text: &mut Vec<u8>, inputs: &Inputs, rank: u32, best: Best) -> Result<(), OutOfMemory>
     requires inside { IsSettingOf inputs.now best }
-    ensures { OnOk result (text.new.items ≡ text.old.items ++ rank_line rank (told inputs.now best)) }
+    ensures { OnOk result (text.new.items ≡ text.old.items ++ rank_line rank (named_setting inputs.now best)) }
 {
     let values = inputs.vector(best.vector);
     add_number_in(text, b"rank ", rank)?;

@@ -1,9 +1,9 @@
 //! A setting: from a template to the load file of one of its settings.
-ghost use Rattle.std.specs.Prelude.{◌≡◌, ◌≤◌, ◌<◌, length, false, IfOk, IfErr};
+ghost use Rattle.std.specs.Prelude.{◌≡◌, ◌<◌, false, IfOk};
 ghost use Rattle.rc_instr.specs.Warrior.{Fits};
-ghost use Rattle.tune_template.specs.Vectors.{vectors_of};
+ghost use Rattle.tune_template.specs.Instances.{setting_count};
 ghost use Rattle.tune_runs.specs.Runs.{Returns, IsRun};
-ghost use Rattle.tune_runs.specs.SettingRun.{index_meant, setting_warrior, setting_answer};
+ghost use Rattle.tune_runs.specs.SettingRun.{index_meant, index_within, setting_warrior, setting_output};
 
 use crate::asm::loadfile_of;
 use crate::fault::RunFault;
@@ -35,7 +35,7 @@ pub fn setting_run<W: Write>(
 ) -> Result<(), RunFault>
     requires { out.old.failed ≡ false }
 
-    ensures run { IsRun (setting_answer source.now which rules.now) result out.old out.new }
+    ensures run { IsRun (setting_output source.now which rules.now) result out.old out.new }
 {
     let text = setting_text(alloc, source, which, rules)?;
     out.write_all(text.as_slice())?;
@@ -48,13 +48,12 @@ fn setting_text(
     which: WhichSetting,
     rules: &Rules,
 ) -> Result<Vec<u8>, RunFault>
-    ensures { Returns (λ file. (tt, file.items)) result (setting_answer source.now which rules.now) }
+    ensures { Returns (λ file. (tt, file.items)) result (setting_output source.now which rules.now) }
 {
     let warrior = warrior_at(alloc, source, which, rules)?;
     Ok(loadfile_of(alloc, &warrior, rules)?)
 }
 
-// Makes the warrior of a setting.
 #[tactic(auto, unfolding(crate::specs::SettingRun::setting_warrior))]
 fn warrior_at(
     alloc: Global,
@@ -66,27 +65,29 @@ fn warrior_at(
     ensures fits { IfOk result (Fits rules.now) }
 {
     let template = template_of(alloc, source)?;
-    let index = match index_of(&template, which) {
-        Ok(index) => index,
-        Err(index) => return Err(RunFault::NoSuchSetting { index }),
-    };
+    let index = index_of(&template, which)?;
     Ok(template.instance(alloc, index, rules)?)
 }
 
-// Returns the index of the setting that is meant, or an index that no setting has.
-fn index_of(template: &Template, which: WhichSetting) -> Result<u32, u32>
-    ensures index { IfOk result (λ index. index ≡ index_meant which template.now.ranges.spans) }
-    ensures inside { IfOk result (λ index. index < length (vectors_of template.now.ranges.spans)) }
-    ensures past { IfErr result (λ index. (which ≡ WhichSetting.Index index) × (length (vectors_of template.now.ranges.spans) ≤ index)) }
+// Returns the index of the setting that is meant, or `NoSuchSetting` if the template has no such
+// setting.
+fn index_of(template: &Template, which: WhichSetting) -> Result<u32, RunFault>
+    ensures index { Returns (λ i. i) result (index_within (setting_count template.now) (index_meant which template.now.ranges.spans)) }
+    ensures inside { IfOk result (λ i. i < setting_count template.now) }
+{
+    let index = index_meant(template, which);
+    if index < template.count() {
+        Ok(index)
+    } else {
+        Err(RunFault::NoSuchSetting { index })
+    }
+}
+
+fn index_meant(template: &Template, which: WhichSetting) -> u32
+    ensures { result ≡ index_meant which template.now.ranges.spans }
 {
     match which {
-        WhichSetting::Start => Ok(template.start_number()),
-        WhichSetting::Index(index) => {
-            if index < template.count() {
-                Ok(index)
-            } else {
-                Err(index)
-            }
-        }
+        WhichSetting::Start => template.start_number(),
+        WhichSetting::Index(index) => index,
     }
 }

@@ -1,7 +1,7 @@
 //! The settings of a template: from a template to the number of its settings, and its constants.
 ghost use Rattle.std.specs.Prelude.{◌≡◌, false};
 ghost use Rattle.tune_runs.specs.Runs.{Returns, IsRun};
-ghost use Rattle.tune_runs.specs.SettingsRun.{settings_answer};
+ghost use Rattle.tune_runs.specs.SettingsRun.{settings_output};
 
 use crate::fault::RunFault;
 use crate::inputs::template_of;
@@ -27,7 +27,7 @@ pub fn settings_run<W: Write>(
 ) -> Result<(), RunFault>
     requires { out.old.failed ≡ false }
 
-    ensures run { IsRun (settings_answer source.now) result out.old out.new }
+    ensures run { IsRun (settings_output source.now) result out.old out.new }
 {
     let text = text_of(alloc, source)?;
     out.write_all(text.as_slice())?;
@@ -35,7 +35,7 @@ pub fn settings_run<W: Write>(
 }
 
 fn text_of(alloc: Global, source: &[u8]) -> Result<Vec<u8>, RunFault>
-    ensures { Returns (λ text. (tt, text.items)) result (settings_answer source.now) }
+    ensures { Returns (λ text. (tt, text.items)) result (settings_output source.now) }
 {
     let template = template_of(alloc, source)?;
     Ok(settings_text_of(alloc, &template)?)

@@ -2,7 +2,7 @@
 ghost use Rattle.std.specs.Prelude.{◌≡◌, ℕ, List, false};
 ghost use Rattle.tune_runs.specs.Given.{rules_given};
 ghost use Rattle.tune_runs.specs.Runs.{IsRun};
-ghost use Rattle.cwtune.specs.Commands.{load_file_answer, WritesLoadFile, EndsUnderstood};
+ghost use Rattle.cwtune.specs.Commands.{load_file_output, WritesLoadFile, EndsUnderstood};
 
 use crate::ending::Ending;
 use crate::host::Host;
@@ -29,7 +29,7 @@ pub(crate) fn asm<F: Files, T: Witness, W: Write, V: Write>(
     let source = host.read(words.file)?;
     let text = source.as_slice();
     if words.setting.is_some() {
-        host.witness.note(host.alloc, words.file, text);
+        host.witness.before_template(host.alloc, words.file, text);
     }
     match assemble(host.alloc, text, words.setting, &rules, out) {
         Ok(()) => Ok(()),
@@ -53,7 +53,7 @@ fn assemble<W: Write>(
     out: &mut Outlet<W>,
 ) -> Result<(), RunFault>
     requires { out.old.failed ≡ false }
-    ensures { IsRun (load_file_answer source.now setting rules.now) result out.old out.new }
+    ensures { IsRun (load_file_output source.now setting rules.now) result out.old out.new }
 {
     match setting {
         Some(which) => setting_run(alloc, source, which, rules, out),

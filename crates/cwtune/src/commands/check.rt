@@ -2,7 +2,7 @@
 ghost use Rattle.std.specs.Prelude.{◌≡◌, false};
 ghost use Rattle.tune_runs.specs.Given.{rules_given, texts_given};
 ghost use Rattle.tune_runs.specs.Runs.{IsRun};
-ghost use Rattle.cwtune.specs.Commands.{answer_for, WritesCheckLine, WritesVerdictOf, IsCheckEnded};
+ghost use Rattle.cwtune.specs.Commands.{verdict_output, WritesCheckLine, WritesVerdictOf, IsCheckEnded};
 
 use crate::ending::Ending;
 use crate::files::reading::TuneFiles;
@@ -55,7 +55,7 @@ fn check_texts<F: Files, T: Witness, W: Write, V: Write>(
     requires out { out.old.failed ≡ false }
     ensures { IsCheckEnded (WritesVerdictOf demand share (texts_given texts.now) cert.now) out.old out.new result }
 {
-    host.witness.name(host.alloc, words, texts);
+    host.witness.before_run(host.alloc, words, texts);
     match verdict_on(host.alloc, texts, share, demand, host.witness, cert, out) {
         Ok(true) => Ok(()),
         Ok(false) => {
@@ -78,7 +78,7 @@ fn verdict_on<T: Watcher, W: Write>(
     out: &mut Outlet<W>,
 ) -> Result<bool, RunFault>
     requires out { out.old.failed ≡ false }
-    ensures { IsRun (answer_for demand share (texts_given texts.now) cert.now) result out.old out.new }
+    ensures { IsRun (verdict_output demand share (texts_given texts.now) cert.now) result out.old out.new }
 {
     if demand.keep.is_some() || demand.floor.is_some() {
         return check_for_run(alloc, texts, demand, share, watcher, cert, out);

@@ -23,7 +23,7 @@ pub(crate) fn settings<F: Files, T: Witness, W: Write, V: Write>(
 {
     let source = host.read(file)?;
     let text = source.as_slice();
-    host.witness.note(host.alloc, file, text);
+    host.witness.before_template(host.alloc, file, text);
     match settings_run(host.alloc, text, out) {
         Ok(()) => Ok(()),
         Err(fault) => Err(host.refuse(&Refused::Template { file, text }, fault)),

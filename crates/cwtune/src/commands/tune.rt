@@ -81,7 +81,7 @@ fn tune_into<F: Files, T: Witness, W: Write, V: Write, X: Write>(
     ensures flushed { OnOk result (cert.new.flushed ≡ true) }
     ensures before { (out.new ≡ out.old) ⊎ (cert.new.flushed ≡ true) }
 {
-    host.witness.name(host.alloc, words, texts);
+    host.witness.before_run(host.alloc, words, texts);
     match tune_from_run(host.alloc, texts, aim, method, host.witness, out, cert) {
         Ok(()) => Ok(()),
         Err(fault) => Err(host.refuse_tuning(words, texts, fault)),

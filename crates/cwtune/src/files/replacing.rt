@@ -113,7 +113,7 @@ fn follow<F: Files>(rt: &F, alloc: Global, path: &mut PathBuf) -> io::Result<boo
     Ok(true)
 }
 
-// Returns whether the reading of a link failed since there is another file, or none.
+// Returns whether reading a link failed because the name is of another kind of file, or of none.
 fn is_no_link(kind: io::ErrorKind) -> bool {
     kind == io::ErrorKind::InvalidInput || kind == io::ErrorKind::NotFound
 }

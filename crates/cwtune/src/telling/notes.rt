@@ -12,7 +12,7 @@ use tune_template::{Template, is_range_line};
 // Some editors begin a file with it.
 const BYTE_ORDER_MARK: &[u8] = b"\xef\xbb\xbf";
 
-// Writes the lines of a template that are like range lines and are none, and the constants that no
+// Writes the lines of a template that look like range lines and are not, and the constants that no
 // line uses.
 pub(crate) fn tell_template_notes<V: Write>(
     err: &mut Outlet<V>,
@@ -52,7 +52,7 @@ fn has_fight(fights: &[Fight], opponent: u32) -> bool {
     fights.iter().any(|fight| fight.opponent == opponent)
 }
 
-// Writes the lines of a template that are like range lines and are none.
+// Writes the lines of a template that look like range lines and are not.
 pub(crate) fn tell_lost_ranges<V: Write>(err: &mut Outlet<V>, file: &str, text: &[u8]) {
     let mut number: u64 = 0;
     for line in text.split(|byte| *byte == b'\n') {

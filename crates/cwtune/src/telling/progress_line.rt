@@ -195,26 +195,26 @@ impl<C: Clock, V: Write> Witness for Progress<C, V> {
     }
 
     // Says which lines of the template have no effect, and keeps the names of the files.
-    fn name(&mut self, alloc: Global, words: &TuneWords<'_>, texts: &TuneTexts<'_>) {
+    fn before_run(&mut self, alloc: Global, words: &TuneWords<'_>, texts: &TuneTexts<'_>) {
         if self.explains {
             tell_lost_ranges(&mut self.err, words.template, texts.template);
             self.files = names_of(alloc, words).ok();
         }
     }
 
-    fn note(&mut self, alloc: Global, file: &str, text: &[u8]) {
+    fn before_template(&mut self, alloc: Global, file: &str, text: &[u8]) {
         if self.explains {
             tell_template_notes(&mut self.err, alloc, file, text);
         }
     }
 
-    fn refuse(&mut self, alloc: Global, refused: &Refused<'_>, fault: RunFault) {
+    fn after_fault(&mut self, alloc: Global, refused: &Refused<'_>, fault: RunFault) {
         if self.explains {
             explain(&mut self.err, alloc, refused, fault, self.setting);
         }
     }
 
-    fn reject(&mut self, lines: &[String]) {
+    fn after_rejection(&mut self, lines: &[String]) {
         if !self.explains {
             return;
         }
@@ -224,15 +224,15 @@ impl<C: Clock, V: Write> Witness for Progress<C, V> {
         }
     }
 
-    fn fail(&mut self, alloc: Global, name: &str, error: &io::Error) {
+    fn after_file_error(&mut self, alloc: Global, name: &str, error: &io::Error) {
         if self.explains {
             tell_error(&mut self.err, alloc, name, error);
         }
     }
 
-    fn lose(&mut self, alloc: Global, name: &str, failure: Option<io::Error>) {
+    fn after_lost_cert(&mut self, alloc: Global, name: &str, failure: Option<io::Error>) {
         if let Some(error) = failure {
-            self.fail(alloc, name, &error);
+            self.after_file_error(alloc, name, &error);
         }
     }
 }

@@ -8,32 +8,32 @@ use std::io;
 use tune_cert::{Standing, Watcher};
 use tune_runs::{Inputs, RunFault, TuneTexts};
 
-// A watcher that also hears what a run reads and why it fails. Of a fault it hears after the
-// fault's line, while the texts are still in memory. No result depends on it.
+// A watcher that also hears what a run reads and why it fails, while the texts are still in memory.
+// No result depends on it.
 pub(crate) trait Witness: Watcher {
     // Returns what a search has found so far.
     fn finding(&self) -> &Finding;
 
-    // Returns whether the lines of `reject` are shown.
+    // Returns whether the lines of `after_rejection` are shown.
     fn explains(&self) -> bool;
 
     // Called before the texts of a tuning or a check are judged.
-    fn name(&mut self, alloc: Global, words: &TuneWords<'_>, texts: &TuneTexts<'_>);
+    fn before_run(&mut self, alloc: Global, words: &TuneWords<'_>, texts: &TuneTexts<'_>);
 
     // Called before `settings` or `asm --setting` runs over a template.
-    fn note(&mut self, alloc: Global, file: &str, text: &[u8]);
+    fn before_template(&mut self, alloc: Global, file: &str, text: &[u8]);
 
-    // Called after a run that ended with a fault.
-    fn refuse(&mut self, alloc: Global, refused: &Refused<'_>, fault: RunFault);
+    // Called after the line of a fault with which a run ended.
+    fn after_fault(&mut self, alloc: Global, refused: &Refused<'_>, fault: RunFault);
 
     // Called after a certificate was rejected, with what is known of its inputs.
-    fn reject(&mut self, lines: &[String]);
+    fn after_rejection(&mut self, lines: &[String]);
 
-    // Called after a file could not be read or created, with what the system said.
-    fn fail(&mut self, alloc: Global, name: &str, error: &io::Error);
+    // Called after a file could not be read, created or written, with what the system said.
+    fn after_file_error(&mut self, alloc: Global, name: &str, error: &io::Error);
 
     // Called after the certificate could not be written, with what the system said, if it did.
-    fn lose(&mut self, alloc: Global, name: &str, failure: Option<io::Error>);
+    fn after_lost_cert(&mut self, alloc: Global, name: &str, failure: Option<io::Error>);
 }
 
 // A witness that says nothing, and keeps what a search has found.
@@ -73,15 +73,15 @@ impl Witness for Quiet {
         false
     }
 
-    fn name(&mut self, _alloc: Global, _words: &TuneWords<'_>, _texts: &TuneTexts<'_>) {}
+    fn before_run(&mut self, _alloc: Global, _words: &TuneWords<'_>, _texts: &TuneTexts<'_>) {}
 
-    fn note(&mut self, _alloc: Global, _file: &str, _text: &[u8]) {}
+    fn before_template(&mut self, _alloc: Global, _file: &str, _text: &[u8]) {}
 
-    fn refuse(&mut self, _alloc: Global, _refused: &Refused<'_>, _fault: RunFault) {}
+    fn after_fault(&mut self, _alloc: Global, _refused: &Refused<'_>, _fault: RunFault) {}
 
-    fn reject(&mut self, _lines: &[String]) {}
+    fn after_rejection(&mut self, _lines: &[String]) {}
 
-    fn fail(&mut self, _alloc: Global, _name: &str, _error: &io::Error) {}
+    fn after_file_error(&mut self, _alloc: Global, _name: &str, _error: &io::Error) {}
 
-    fn lose(&mut self, _alloc: Global, _name: &str, _failure: Option<io::Error>) {}
+    fn after_lost_cert(&mut self, _alloc: Global, _name: &str, _failure: Option<io::Error>) {}
 }

@@ -5,40 +5,22 @@ ghost use Rattle.tune_problem.specs.Limits.{MOST_KEPT};
 ghost use Rattle.tune_problem.specs.Ranking.{IsAim};
 ghost use Rattle.cwtune.specs.CommandLine.{aim_meant, kept_asked};
 
-use crate::words::options::{number_of, number_option};
+use crate::words::number_option::{CHECK_FLOOR, ranged_arg};
 use crate::words::usage_error::BadValue;
-use clap::{Arg, ArgAction, ArgMatches, value_parser};
+use clap::{Arg, ArgMatches};
 use std::alloc::Global;
 use tune_cert::Demand;
 use tune_problem::{Aim, limits};
 
-// Makes `--keep`.
 pub(crate) fn keep_option<'a>(alloc: Global, help: &'a str) -> Arg<'a> {
-    Arg::new(alloc, "keep")
-        .long("keep")
-        .value_name("NUMBER")
-        .action(ArgAction::Set)
-        .allow_negative_numbers(true)
-        .value_parser(value_parser!(u32).range(1..i64::from(limits::MOST_KEPT) + 1))
-        .help(help)
-}
-
-// Makes `--floor`.
-pub(crate) fn floor_option<'a>(alloc: Global, help: &'a str) -> Arg<'a> {
-    number_option(alloc, "floor", help)
+    ranged_arg(alloc, "keep", limits::MOST_KEPT, help)
 }
 
 // Returns what a tuning, or a check, is asked for beside the optimum.
 pub(crate) fn demand_of<'a>(found: &ArgMatches<'a>) -> Result<Demand, BadValue<'a>> {
-    let floor = number_of(
-        found,
-        "floor",
-        "--floor <NUMBER>",
-        "a number from 0 to 4294967295 is wanted",
-    )?;
     Ok(Demand {
         keep: kept_asked(found.get_one::<u32>("keep")),
-        floor,
+        floor: CHECK_FLOOR.value_in(found)?,
     })
 }
 

@@ -2,20 +2,21 @@
 ghost use Rattle.std.specs.Prelude.{◌≡◌, ◌≤◌, map, IfOk, IfSome, IsNone, string_bytes};
 ghost use Rattle.cwtune.specs.CommandLine.{AsksForFight, command_of, command_word};
 
-use crate::words::aim_options::{floor_option, keep_option};
+use crate::words::aim_options::keep_option;
 use crate::words::command_word::{asks_for_fight, is_named};
 use crate::words::help::{asks_for_help, command_in};
 use crate::words::method_options::{MethodWords, all_option, cache_option, method_words};
+use crate::words::number_option::{CHECK_FLOOR, POSITION, TUNE_FLOOR};
 use crate::words::options::{
-    check_options, explain_option, fight_numbers, number_option, progress_option, rules_of,
-    tune_options, with_rules,
+    check_options, explain_option, fight_numbers, progress_option, rules_of, tune_options,
+    with_rules,
 };
 use crate::words::part_word::part_option;
 use crate::words::setting_word::which_setting;
 use crate::words::share_word::share_option;
 use crate::words::usage_error::{BadValue, bad_value, not_first, one_file};
 use clap::builder::ValueParser;
-use clap::{Arg, ArgAction, ArgMatches, Command, Error, value_parser};
+use clap::{Arg, ArgAction, ArgMatches, Command, Error};
 use mars_core::Side;
 use std::alloc::{AllocError, Global};
 use tune_cert::{Demand, Share};
@@ -101,7 +102,6 @@ pub(crate) fn request_of<'a>(alloc: Global, words: &'a [String]) -> Result<Reque
     Err(not_first(commands(alloc, duel_command(alloc)?)?)?)
 }
 
-// Parses the words.
 fn parsed_request<'a>(alloc: Global, words: &'a [String]) -> Result<Request<'a>, Error> {
     let matches = commands(alloc, duel_command(alloc)?)?.try_get_matches_from(words)?;
     match matches.subcommand() {
@@ -140,7 +140,6 @@ fn fight_command<'a>(alloc: Global) -> Result<Command<'a>, AllocError> {
 fn duel_command<'a>(alloc: Global) -> Result<Command<'a>, AllocError> {
     let candidate = "Redcode source of the candidate, at address 0";
     let opponent = "Redcode source of the opponent";
-    let position = "Where the opponent is loaded [default: half of the core]";
     let first = Arg::new(alloc, "first")
         .long("first")
         .value_name("SIDE")
@@ -150,12 +149,11 @@ fn duel_command<'a>(alloc: Global) -> Result<Command<'a>, AllocError> {
     let command = fight_command(alloc)?
         .arg(file(alloc, "CANDIDATE", candidate).required(false))?
         .arg(file(alloc, "OPPONENT", opponent).required(false))?
-        .arg(number_option(alloc, "position", position))?
+        .arg(POSITION.arg(alloc))?
         .arg(first)?;
     with_rules(alloc, command)
 }
 
-// Returns what `fight` asks for.
 fn fight_request<'a>(
     alloc: Global,
     words: &'a [String],
@@ -240,7 +238,8 @@ fn asm_request<'a>(alloc: Global, found: &ArgMatches<'a>) -> Result<Request<'a>,
 fn bad_setting(alloc: Global, word: &str) -> Result<Error, AllocError> {
     let bad = BadValue {
         word,
-        option: "--setting <W>",
+        option: "setting",
+        value: "W",
         wanted: "neither an index nor `start`",
     };
     bad_value(alloc, bad, asm_command(alloc)?, "cwtune asm")
@@ -253,7 +252,6 @@ fn file<'a>(alloc: Global, name: &'a str, help: &'a str) -> Arg<'a> {
         .help(help)
 }
 
-// Makes the word TEMPLATE.
 fn template<'a>(alloc: Global) -> Arg<'a> {
     let help =
         "Redcode source with lines `;@tune NAME LOW HIGH STEP START`, one for each open constant";
@@ -299,9 +297,6 @@ fn with_files<'a>(
 const TUNE_KEEP: &str =
     "How many settings to find, the best, the second best and so on, 1 to 1000; above 1 each has a line `rank ..` after the report [default: 1]";
 
-const TUNE_FLOOR: &str =
-    "Find settings that total this or more, and drop the others early [default: 0]";
-
 fn tune_command<'a>(alloc: Global) -> Result<Command<'a>, AllocError> {
     let command = Command::new(alloc, "tune")
         .about(
@@ -310,7 +305,7 @@ fn tune_command<'a>(alloc: Global) -> Result<Command<'a>, AllocError> {
         .arg(cache_option(alloc))?
         .arg(all_option(alloc)?)?
         .arg(keep_option(alloc, TUNE_KEEP))?
-        .arg(floor_option(alloc, TUNE_FLOOR).conflicts_with("all")?)?;
+        .arg(TUNE_FLOOR.arg(alloc).conflicts_with("all")?)?;
     with_files(
         alloc,
         command,
@@ -332,15 +327,12 @@ fn tune_request<'a>(alloc: Global, found: &ArgMatches<'a>) -> Result<Request<'a>
 const CHECK_KEEP: &str =
     "Accept only if the rows show the first settings of the ranking, this many, 1 to 1000; above 1 each has a line `rank ..`";
 
-const CHECK_FLOOR: &str =
-    "Accept also a certificate that no setting totals this or more, with the line `accepted none below F`";
-
 fn check_command<'a>(alloc: Global) -> Result<Command<'a>, AllocError> {
     let command = Command::new(alloc, "check")
         .about("Check a certificate: print `accepted best W total T` or `rejected row R REASON`")
         .arg(share_option(alloc))?
         .arg(keep_option(alloc, CHECK_KEEP))?
-        .arg(floor_option(alloc, CHECK_FLOOR))?;
+        .arg(CHECK_FLOOR.arg(alloc))?;
     with_files(alloc, command, "File of the certificate")
 }
 

@@ -1,4 +1,4 @@
-//! Whether words ask for help, which wins over whatever else is wrong with them. They are UTF-8.
+//! Whether words ask for help. If they do, help is shown whatever else is wrong with them.
 ghost use Rattle.std.specs.Prelude.{◌≡◌, map, IsTrue, string_bytes};
 ghost use Rattle.std.specs.List.{list_any};
 ghost use Rattle.cwtune.specs.CommandLine.{AsksForHelp, is_help_word};
@@ -6,7 +6,7 @@ ghost use Rattle.cwtune.specs.CommandLine.{AsksForHelp, is_help_word};
 // The commands.
 const COMMANDS: [&str; 5] = ["fight", "asm", "settings", "tune", "check"];
 
-// The options of the rules, which take a value and are of all commands but `settings`.
+// The options of the rules, which take a value. All commands but `settings` have them.
 const RULES: [&str; 5] = ["--core", "--cycles", "--tasks", "--length", "--distance"];
 
 // The other options that take a value, each with its command.

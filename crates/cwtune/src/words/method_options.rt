@@ -4,7 +4,8 @@ ghost use Rattle.tune_search.specs.Limits.{MOST_CAPACITY};
 ghost use Rattle.tune_search.specs.Method.{HasCapacity};
 ghost use Rattle.cwtune.specs.CommandLine.{capacity_meant, method_meant};
 
-use clap::{Arg, ArgAction, ArgMatches, value_parser};
+use crate::words::number_option::ranged_arg;
+use clap::{Arg, ArgAction, ArgMatches};
 use std::alloc::{AllocError, Global};
 use tune_runs::Method;
 use tune_search::limits;
@@ -19,20 +20,12 @@ pub(crate) struct MethodWords {
     pub(crate) cache: Option<u32>,
 }
 
-// Makes `--cache`.
 pub(crate) fn cache_option<'a>(alloc: Global) -> Arg<'a> {
-    Arg::new(alloc, "cache")
-        .long("cache")
-        .value_name("NUMBER")
-        .action(ArgAction::Set)
-        .allow_negative_numbers(true)
-        .value_parser(value_parser!(u32).range(1..i64::from(limits::MOST_CAPACITY) + 1))
-        .help(
-            "Settings to remember, so that equal warriors share fights, 1 to 65536 [default: 4096]",
-        )
+    let help =
+        "Settings to remember, so that equal warriors share fights, 1 to 65536 [default: 4096]";
+    ranged_arg(alloc, "cache", limits::MOST_CAPACITY, help)
 }
 
-// Makes `--all`.
 pub(crate) fn all_option<'a>(alloc: Global) -> Result<Arg<'a>, AllocError> {
     let all = Arg::new(alloc, "all")
         .long("all")
@@ -42,7 +35,6 @@ pub(crate) fn all_option<'a>(alloc: Global) -> Result<Arg<'a>, AllocError> {
     Ok(all)
 }
 
-// Reads `--all` and `--cache`.
 pub(crate) fn method_words(found: &ArgMatches<'_>) -> MethodWords {
     MethodWords {
         all: found.get_flag("all"),

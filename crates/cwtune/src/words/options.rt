@@ -3,6 +3,7 @@ ghost use Rattle.std.specs.Prelude.{◌≡◌, IfOk};
 ghost use Rattle.std.specs.Option.{unwrap_or};
 
 use crate::words::aim_options::demand_of;
+use crate::words::number_option::{CORE, CYCLES, DISTANCE, LENGTH, POSITION, TASKS};
 use crate::words::part_word::part_of;
 use crate::words::share_word::share_of;
 use crate::words::usage_error::BadValue;
@@ -33,22 +34,11 @@ pub(crate) fn explain_option<'a>(alloc: Global) -> Arg<'a> {
         .help("Say more on standard error, as on a terminal: what is at fault, and what is ignored")
 }
 
-// Makes `--progress`.
 pub(crate) fn progress_option<'a>(alloc: Global) -> Arg<'a> {
     Arg::new(alloc, "progress")
         .long("progress")
         .action(ArgAction::SetTrue)
         .help("Say once a minute how far the run is, if standard error is not a terminal")
-}
-
-// Makes an option that takes a 32-bit number. Its range is checked later, with the other rules.
-pub(crate) fn number_option<'a>(alloc: Global, name: &'a str, help: &'a str) -> Arg<'a> {
-    Arg::new(alloc, name)
-        .long(name)
-        .value_name("NUMBER")
-        .action(ArgAction::Set)
-        .allow_negative_numbers(true)
-        .help(help)
 }
 
 // Adds the five options of the rules.
@@ -58,59 +48,11 @@ pub(crate) fn with_rules<'a>(
 ) -> Result<Command<'a>, AllocError> {
     command
         .next_help_heading("Rules")
-        .arg(number_option(
-            alloc,
-            "core",
-            "Core size in cells, 8 to 65535 [default: 8000]",
-        ))?
-        .arg(number_option(
-            alloc,
-            "cycles",
-            "Cycles until a tie, one turn per warrior each, 1 to 1000000 [default: 80000]",
-        ))?
-        .arg(number_option(
-            alloc,
-            "tasks",
-            "Most tasks of a warrior, 1 to 8000 [default: 8000]",
-        ))?
-        .arg(number_option(
-            alloc,
-            "length",
-            "Most instructions of a warrior, 1 to 200 [default: 100]",
-        ))?
-        .arg(number_option(
-            alloc,
-            "distance",
-            "Least distance between warriors in cells, from the length to half the core [default: 100]",
-        ))
-}
-
-// Returns the number that an option is given. `option` and `wanted` are for a usage error.
-pub(crate) fn number_of<'a>(
-    found: &ArgMatches<'a>,
-    name: &str,
-    option: &'static str,
-    wanted: &'static str,
-) -> Result<Option<u32>, BadValue<'a>> {
-    let Some(word) = found.get_str(name) else {
-        return Ok(None);
-    };
-    match number_in(word) {
-        Some(number) => Ok(Some(number)),
-        None => Err(BadValue {
-            word,
-            option,
-            wanted,
-        }),
-    }
-}
-
-// Returns the 32-bit number that a word is. It may have a sign.
-fn number_in(word: &str) -> Option<u32> {
-    match word.parse::<i64>() {
-        Ok(number) => u32::try_from(number).ok(),
-        Err(_) => None,
-    }
+        .arg(CORE.arg(alloc))?
+        .arg(CYCLES.arg(alloc))?
+        .arg(TASKS.arg(alloc))?
+        .arg(LENGTH.arg(alloc))?
+        .arg(DISTANCE.arg(alloc))
 }
 
 // The rules that options give.
@@ -144,36 +86,11 @@ fn with_defaults(given: GivenRules) -> RawRules
 // Returns the rules of the options.
 pub(crate) fn rules_of<'a>(found: &ArgMatches<'a>) -> Result<RawRules, BadValue<'a>> {
     Ok(with_defaults(GivenRules {
-        core: number_of(
-            found,
-            "core",
-            "--core <NUMBER>",
-            "a number from 8 to 65535 is wanted",
-        )?,
-        cycles: number_of(
-            found,
-            "cycles",
-            "--cycles <NUMBER>",
-            "a number from 1 to 1000000 is wanted",
-        )?,
-        tasks: number_of(
-            found,
-            "tasks",
-            "--tasks <NUMBER>",
-            "a number from 1 to 8000 is wanted",
-        )?,
-        length: number_of(
-            found,
-            "length",
-            "--length <NUMBER>",
-            "a number from 1 to 200 is wanted",
-        )?,
-        distance: number_of(
-            found,
-            "distance",
-            "--distance <NUMBER>",
-            "a number from the length to half the core size is wanted",
-        )?,
+        core: CORE.value_in(found)?,
+        cycles: CYCLES.value_in(found)?,
+        tasks: TASKS.value_in(found)?,
+        length: LENGTH.value_in(found)?,
+        distance: DISTANCE.value_in(found)?,
     }))
 }
 
@@ -182,12 +99,7 @@ pub(crate) fn fight_numbers<'a>(
     found: &ArgMatches<'a>,
 ) -> Result<(RawRules, Option<u32>), BadValue<'a>> {
     let rules = rules_of(found)?;
-    let position = number_of(
-        found,
-        "position",
-        "--position <NUMBER>",
-        "a number is wanted, from the distance to the core size less it",
-    )?;
+    let position = POSITION.value_in(found)?;
     Ok((rules, position))
 }
 

@@ -10,7 +10,6 @@ use rc_instr::{after, decimal_at, decimal_of};
 use std::alloc::Global;
 use tune_runs::Part;
 
-// Makes the option.
 pub(crate) fn part_option<'a>(alloc: Global) -> Arg<'a> {
     Arg::new(alloc, "part")
         .long("part")
@@ -28,7 +27,8 @@ pub(crate) fn part_of<'a>(found: &ArgMatches<'a>) -> Result<Part, BadValue<'a>> 
         Some(part) => Ok(part),
         None => Err(BadValue {
             word: word.unwrap_or(""),
-            option: "--part <I/K>",
+            option: "part",
+            value: "I/K",
             wanted: "two numbers are wanted, as in 1/4, with I from 1 to K",
         }),
     }

@@ -11,7 +11,6 @@ use std::alloc::Global;
 use tune_cert::Share;
 use tune_runs::Part;
 
-// Makes the option.
 pub(crate) fn share_option<'a>(alloc: Global) -> Arg<'a> {
     Arg::new(alloc, "share")
         .long("share")
@@ -31,13 +30,14 @@ pub(crate) fn share_of<'a>(found: &ArgMatches<'a>) -> Result<Option<Share>, BadV
         Some(share) => Ok(Some(share)),
         None => Err(BadValue {
             word,
-            option: "--share <I/K>",
+            option: "share",
+            value: "I/K",
             wanted: "two numbers are wanted, as in 1/4, with I from 1 to K",
         }),
     }
 }
 
-// Returns the share that a word says. It is spelt as a part is, but a share may be empty.
+// Returns the share that a word says. A share is spelt as a part is, but may be empty.
 fn share_said(word: &str) -> Option<Share>
     ensures { MatchOption result ((p : Part) → IsCounted p → word.now ≢ part_word p) (λ s. word.now ≡ part_word (part s.number s.shares)) }
 {

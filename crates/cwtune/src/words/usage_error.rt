@@ -8,9 +8,10 @@ use std::alloc::{AllocError, Global};
 #[derive(Clone, Copy)]
 pub(crate) struct BadValue<'a> {
     pub(crate) word: &'a str,
-    // The option as help shows it.
+    // The option, and what help calls its value.
     pub(crate) option: &'static str,
-    // What it takes.
+    pub(crate) value: &'static str,
+    // What the option takes.
     pub(crate) wanted: &'static str,
 }
 
@@ -23,8 +24,9 @@ pub(crate) fn bad_value(
 ) -> Result<Error, AllocError> {
     let word = bad.word;
     let option = bad.option;
+    let value = bad.value;
     let wanted = bad.wanted;
-    let message = format!(in alloc; "invalid value '{word}' for '{option}': {wanted}")?;
+    let message = format!(in alloc; "invalid value '{word}' for '--{option} <{value}>': {wanted}")?;
     let mut command = command.bin_name(name)?;
     command.error(ErrorKind::ValueValidation, message.as_str())
 }
