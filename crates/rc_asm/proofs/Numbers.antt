@@ -18,7 +18,7 @@ use Rattle.rc_asm.specs.declared.operand.Operand.{Operand}
 use Rattle.rc_asm.specs.declared.fault.AsmKind.TheVariants.{Value, AssertFailed}
 use Rattle.rc_asm.specs.Words.{mode_in}
 use Rattle.rc_asm.specs.Names.{NameValues, value_at}
-use Rattle.rc_asm.specs.Shape.{Shape, shape_of}
+use Rattle.rc_asm.specs.Shape.{ShapeView, shape_of}
 use Rattle.rc_asm.specs.Instructions.{natural, core_number, operand, operand_after, operand_at, instruction_of_parts, instruction_of_shape, instruction_at}
 use Rattle.rc_asm.specs.Faults.{at_line}
 use Rattle.rc_asm.specs.Lines.{ReadingView, nothing_read, with_instruction, with_org, with_end, line_value, after_word, after_line, after_lines}

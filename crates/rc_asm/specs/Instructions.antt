@@ -14,7 +14,7 @@ use Rattle.rc_asm.specs.declared.operand.Operand.{Operand}
 use Rattle.rc_instr.specs.Results.{mapped, with_fault, ◌>>=◌}
 use Rattle.rc_asm.specs.Words.{mode_in}
 use Rattle.rc_asm.specs.Names.{NameValues, value_at}
-use Rattle.rc_asm.specs.Shape.{Shape, shape_of}
+use Rattle.rc_asm.specs.Shape.{ShapeView, shape_of}
 
 -- An integer that is not negative, as a natural number.
 abbrev pub natural : ℤ → ℕ
@@ -29,7 +29,7 @@ abbrev pub operand : ℕ → Mode → ℤ → Operand
 operand m mode z = record { mode = mode; number = core_number m z }
 
 -- The instruction of a line and its operands; a modifier that is not written is the default one.
-unfoldable pub instruction_of_parts : Shape → Operand → Operand → Instruction
+unfoldable pub instruction_of_parts : ShapeView → Operand → Operand → Instruction
 instruction_of_parts s a b = record {
   opcode = s.opcode;
   modifier = unwrap_or s.modifier (default_modifier_of s.opcode a.mode b.mode);
@@ -52,7 +52,7 @@ module _ (source : List ℕ) (names : NameValues) (address : ℕ) where
   operand_at (Some (t ∷ ts)) = operand_after (mode_in t) t ts
 
   -- A fault of the A-operand comes before one of the B-operand.
-  unfoldable pub instruction_of_shape : Shape → Result Instruction EvalFault
+  unfoldable pub instruction_of_shape : ShapeView → Result Instruction EvalFault
   instruction_of_shape s = do
     a ← operand_at s.sides.a
     mapped (instruction_of_parts s a) (operand_at s.sides.b)

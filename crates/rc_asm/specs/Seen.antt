@@ -1,18 +1,18 @@
 -- The values that contracts of private functions see of borrowed types.
 use Rattle.std.specs.Prelude.{option_map}
 use Rattle.rc_expand.specs.Names.{table_in, entry_of}
-use Rattle.rc_asm.specs.declared.shape.Sides.{Sides as Borrowed}
-use Rattle.rc_asm.specs.declared.shape.Shape.{Shape as BorrowedShape}
+use Rattle.rc_asm.specs.declared.shape.Sides.{Sides}
+use Rattle.rc_asm.specs.declared.shape.Shape.{Shape}
 use Rattle.rc_asm.specs.declared.scope.Context.{Context}
 use Rattle.rc_asm.specs.declared.reading.Reading.{Reading}
 use Rattle.rc_asm.specs.Names.{NameValues}
 use Rattle.rc_asm.specs.Lines.{ReadingView}
-use Rattle.rc_asm.specs.Shape.{Sides, sides, Shape, shape}
+use Rattle.rc_asm.specs.Shape.{SidesView, sides, ShapeView, shape}
 
-abbrev pub seen_sides : Borrowed → Sides
+abbrev pub seen_sides : Sides → SidesView
 seen_sides s = sides (option_map (λ p. p.now) s.a) (option_map (λ p. p.now) s.b)
 
-abbrev pub seen_shape : BorrowedShape → Shape
+abbrev pub seen_shape : Shape → ShapeView
 seen_shape s = shape s.opcode s.modifier (seen_sides s.sides)
 
 abbrev pub seen_names : Context → NameValues

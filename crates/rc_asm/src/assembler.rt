@@ -25,9 +25,10 @@ use std::alloc::Global;
 /// opcode, a modifier after a dot or the default one (`rc_instr::default_modifier`), and operands
 /// parted by a comma. DAT and NOP may have no operand; a single operand is the B-operand of DAT,
 /// and the A-operand of JMP, SPL and NOP; a missing operand is `$0`. An operand is a mode (`$` if
-/// none is written) and an expression, whose value modulo the core size is the number. In it a
-/// label stands for its distance from the line, and CURLINE for the number of lines of code before
-/// the line.
+/// none is written) and an expression, whose value modulo the core size is the number.
+///
+/// The address of a line is the number of lines of code before it. In an operand CURLINE stands for
+/// the address of its line, and a label for its own address less that one.
 ///
 /// The start is the value of the last ORG (1994 draft); without ORG, the value after END (pMARS);
 /// without either, 0. Every `;assert` must have a value other than 0 (pMARS). In these expressions
@@ -83,7 +84,7 @@ fn assemble_lines(
         given: &given,
         labels: &labels,
     };
-    match assemble_with(alloc, source, &context, lines) {
+    match warrior_of_lines(alloc, source, &context, lines) {
         Ok(warrior) => Ok(warrior),
         Err(found) => match check_forms(source, lines) {
             Ok(()) => Err(found),
@@ -94,7 +95,7 @@ fn assemble_lines(
 
 // Makes the warrior of lines, or returns the fault of the first line that has one. A line may be
 // malformed: the caller then looks for the first that is.
-fn assemble_with(
+fn warrior_of_lines(
     alloc: Global,
     source: &[u8],
     context: &Context,
@@ -104,11 +105,11 @@ fn assemble_with(
     ensures fits { IfOk result (Fits context.now.given.now.rules.now) }
 {
     let reading = read_lines(alloc, source, context, lines)?;
-    warrior_of(reading, context.given.rules)
+    warrior_of_reading(reading, context.given.rules)
 }
 
 // Makes the warrior of what was read.
-fn warrior_of(reading: Reading, rules: &Rules) -> Result<Warrior, AsmFault>
+fn warrior_of_reading(reading: Reading, rules: &Rules) -> Result<Warrior, AsmFault>
     ensures outcome { Returns (λ w. w) result (warrior_of_reading rules.now (seen_reading reading)) }
     ensures fits { IfOk result (Fits rules.now) }
 {

@@ -100,7 +100,7 @@ fn line_instruction(
     }
 }
 
-// Evaluates the expression of a line at `address`.
+// Evaluates the expression of a line at `address`. In it labels stand for their addresses.
 fn line_value(
     source: &[u8],
     context: &Context,

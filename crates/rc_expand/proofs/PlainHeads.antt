@@ -18,10 +18,10 @@ use Rattle.rc_expand.specs.declared.heads.head.HeadWord.TheVariants as word
 use Rattle.rc_expand.specs.declared.fault.ExpandFault.{ExpandFault}
 use Rattle.rc_expand.specs.declared.line.Line.{Line}
 use Rattle.rc_expand.specs.declared.line.LineWord.TheVariants as line
-use Rattle.rc_expand.specs.Heads.Lines.{is_name_kind, is_reserved_class, is_unjoined, bytes_of, is_free, word_of_name, word_of_kind, no_labels, label_split, head_with_word, head_after_labels, head_of, line_of_tokens, line_then, lines_from}
-use Rattle.rc_expand.specs.Heads.Tree.{Blocks, NoLine, OneLine, line_before, blocks_of}
+use Rattle.rc_expand.specs.Heads.Lines.{is_name_kind, is_reserved_class, is_unjoined, bytes_of, is_free, word_of_name, word_of_kind, no_labels, label_split, head_with_word, head_after_labels, head_of, line_of_tokens, up_to_end, lines_from}
+use Rattle.rc_expand.specs.Heads.Tree.{BlockTree, NoLine, OneLine, line_before, blocks_of}
 use Rattle.rc_instr.specs.Results.{mapped, and_then}
-use Rattle.rc_expand.specs.Heads.{text_lines, equs_from, equs_of, with_equs, heads_of}
+use Rattle.rc_expand.specs.Heads.{text_lines, equs_from, equs_of, heads_of_blocks, heads_of}
 use Rattle.rc_expand.proofs.Reading.TextFaults.{no_fault}
 
 -- ---- plain lines
@@ -82,7 +82,7 @@ plain_heads [] = []
 plain_heads (p ∷ ps) = plain_head p ∷ plain_heads ps
 
 -- and their tree
-abbrev pub plain_blocks : List PlainLine → Blocks
+abbrev pub plain_blocks : List PlainLine → BlockTree
 plain_blocks [] = NoLine
 plain_blocks (p ∷ ps) = OneLine (plain_head p) (plain_blocks ps)
 
@@ -173,19 +173,19 @@ module _ (source : List ℕ) where
 
   -- the tokens up to a line's end are its line
   line_there : (ending : Option ExpandFault) (front ts : List Token) (e : Token) (others : List Token) → HaveNoEnd ts → is_line_end e.kind ≡ true
-      → lines_from source ending front (ts ++ (e ∷ others)) ≡ line_then (line_of_tokens source (front ++ ts)) (lines_from source ending [] others)
-  line_there ending front [] e others h k = rw k (ap (λ f. line_then (line_of_tokens source f) (lines_from source ending [] others)) (sym (append-nil front)))
+      → lines_from source ending front (ts ++ (e ∷ others)) ≡ up_to_end (line_of_tokens source (front ++ ts)) (lines_from source ending [] others)
+  line_there ending front [] e others h k = rw k (ap (λ f. up_to_end (line_of_tokens source f) (lines_from source ending [] others)) (sym (append-nil front)))
   line_there ending front (t ∷ ts) e others h k =
-      rw h.0 (line_there ending (front ++ (t ∷ [])) ts e others h.1 k ∙ ap (λ f. line_then (line_of_tokens source f) (lines_from source ending [] others)) (append_assoc front (t ∷ []) ts))
+      rw h.0 (line_there ending (front ++ (t ∷ [])) ts e others h.1 k ∙ ap (λ f. up_to_end (line_of_tokens source f) (lines_from source ending [] others)) (append_assoc front (t ∷ []) ts))
 
   -- the first token ends no line
   first_no_end : (p : PlainLine) → IsPlain source p → is_line_end p.first.kind ≡ false
   first_no_end p h = ap is_line_end h.kind
 
   -- no line is the last by END
-  then_more : (p : PlainLine) (later : Result (List Head) ExpandFault) → line_then (plain_head p ∷ []) later ≡ mapped (λ hs. plain_head p ∷ hs) later
+  then_more : (p : PlainLine) (later : Result (List Head) ExpandFault) → up_to_end (plain_head p ∷ []) later ≡ mapped (λ hs. plain_head p ∷ hs) later
   then_more p later = by_word p.word where
-    by_word : (w : PlainWord) → line_then (head_by w p.first p.others ∷ []) later ≡ mapped (λ hs. head_by w p.first p.others ∷ hs) later
+    by_word : (w : PlainWord) → up_to_end (head_by w p.first p.others ∷ []) later ≡ mapped (λ hs. head_by w p.first p.others ∷ hs) later
     by_word (AnOpcode o) = refl
     by_word AStart = refl
 
@@ -194,7 +194,7 @@ module _ (source : List ℕ) where
   heads_from [] a = refl
   heads_from (p ∷ ps) a =
       line_there None [] (p.first ∷ p.others) p.end (plain_tokens ps) (first_no_end p a.0, a.0.others) a.0.end
-      ∙ ap (λ h. line_then (h ∷ []) (lines_from source None [] (plain_tokens ps))) (head_there p a.0)
+      ∙ ap (λ h. up_to_end (h ∷ []) (lines_from source None [] (plain_tokens ps))) (head_there p a.0)
       ∙ then_more p (lines_from source None [] (plain_tokens ps))
       ∙ ap (mapped (λ hs. plain_head p ∷ hs)) (heads_from ps a.1)
 
@@ -232,8 +232,8 @@ module _ (source : List ℕ) where
         → heads_of source [] rules ≡ Ok (record { blocks = plain_blocks ps; equs = [] })
     unfolding heads_of
     heads_there ps a e =
-        ap (λ o. and_then (with_equs source [] rules) (and_then blocks_of o)) (lines_there ps a e)
-        ∙ ap (and_then (with_equs source [] rules)) (plain_nests ps)
+        ap (λ o. and_then (heads_of_blocks source [] rules) (and_then blocks_of o)) (lines_there ps a e)
+        ∙ ap (and_then (heads_of_blocks source [] rules)) (plain_nests ps)
         ∙ ap (mapped (λ equs. record { blocks = plain_blocks ps; equs = equs })) (no_equs ps)
 
 -- there is a head for each line

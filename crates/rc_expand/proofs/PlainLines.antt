@@ -11,32 +11,32 @@ use Rattle.rc_instr.specs.Results.{mapped, and_then}
 use Rattle.rc_expand.specs.declared.heads.head.Head.{Head}
 use Rattle.rc_expand.specs.declared.heads.head.HeadWord.{HeadWord}
 use Rattle.rc_expand.specs.declared.heads.head.HeadWord.TheVariants as word
-use Rattle.rc_expand.specs.Shared.{Shared}
+use Rattle.rc_expand.specs.Contexts.{ContextView}
 use Rattle.rc_expand.specs.Heads.Lines.{is_name_token}
 use Rattle.rc_expand.specs.Heads.Tree.{OneLine}
-use Rattle.rc_expand.specs.Replace.{EquText, Replaced, Inner, token_or_body, with_tokens, inner_at, replaced_tokens, exempt_len, line_tokens}
-use Rattle.rc_expand.specs.Unroll.{Unrolled, nothing, with_line, unrolled_in, unrolled}
-use Rattle.rc_expand.specs.Replace.Lines.{expanded_line, line_of, Replacement, with_expanded, line_replaced, lines_replaced, no_lines, replaced}
+use Rattle.rc_expand.specs.Replace.{EquView, TokensSoFarView, BodyStep, token_or_body, with_tokens, body_within, replaced_tokens, exempt_len, line_tokens}
+use Rattle.rc_expand.specs.Unroll.{UnrolledSoFarView, nothing_unrolled, with_line, unrolled_in, unrolled}
+use Rattle.rc_expand.specs.Replace.Lines.{expanded_line, line_of, LinesSoFarView, with_expanded_line, line_replaced, lines_replaced, nothing_replaced, replaced}
 use Rattle.rc_expand.specs.Expansion.{expansion_by, expansion_of, IsExpansion}
 use Rattle.rc_expand.proofs.PlainHeads.{PlainWord, AnOpcode, AStart, PlainLine, ArePlain, plain_tokens, head_by, plain_head, plain_heads, plain_blocks, plain_line_by, plain_line, plain_lines, heads_there}
 
 -- ---- without EQU names nothing is replaced
 
 -- no name is an EQU name
-no_body : (b : Bool) (o : Option EquText) → o ≡ None → (if b then o else None) ≡ None
+no_body : (b : Bool) (o : Option EquView) → o ≡ None → (if b then o else None) ≡ None
 no_body true o h = h
 no_body false o h = refl
 
 module _ (source : List ℕ) where
   -- each token stays, where they are not too many
-  same_spread : (inner : Inner) (ts : List Token) (r : Replaced) → length r.tokens + length ts ≤ MOST_TOKENS → with_tokens source [] inner ts r ≡ Ok (record r { tokens = r.tokens ++ ts })
+  same_spread : (inner : BodyStep) (ts : List Token) (r : TokensSoFarView) → length r.tokens + length ts ≤ MOST_TOKENS → with_tokens source [] inner ts r ≡ Ok (record r { tokens = r.tokens ++ ts })
   same_spread inner [] r h = let e : r.tokens ≡ r.tokens ++ [] = sym (append-nil r.tokens) in (λ x. Ok (record { line = r.line; tokens = e x; replacements = r.replacements }))
   same_spread inner (t ∷ ts) r h =
       let few : nat_lt (length r.tokens) MOST_TOKENS ≡ true = lt-ltb (length r.tokens) MOST_TOKENS (omega (arith, h)) in
-      let more : Replaced = record r { tokens = r.tokens ++ (t ∷ []) } in
+      let more : TokensSoFarView = record r { tokens = r.tokens ++ (t ∷ []) } in
       let pushed : token_or_body inner t None r ≡ Ok more = rw few refl in
       let all : (r.tokens ++ (t ∷ [])) ++ ts ≡ r.tokens ++ (t ∷ ts) = append_assoc r.tokens (t ∷ []) ts in
-      ap (λ o. and_then (with_tokens source [] inner ts) (token_or_body inner t (option_map (λ (e : EquText). e.tokens) o) r)) (no_body (is_name_token t) None refl)
+      ap (λ o. and_then (with_tokens source [] inner ts) (token_or_body inner t (option_map (λ (e : EquView). e.tokens) o) r)) (no_body (is_name_token t) None refl)
       ∙ ap (and_then (with_tokens source [] inner ts)) pushed
       ∙ same_spread inner ts more (omega (arith, h, length-append r.tokens (t ∷ [])))
       ∙ (λ x. Ok (record { line = r.line; tokens = all x; replacements = r.replacements }))
@@ -47,7 +47,7 @@ module _ (source : List ℕ) where
   same_line line w ts h =
       let n = exempt_len source w ts in
       let whole : take n ts ++ drop n ts ≡ ts = take-append-drop n ts in
-      ap (mapped (λ (r : Replaced). r.tokens)) (same_spread (inner_at source [] DEEPEST_EQU) (drop n ts) (record { line = line; tokens = take n ts; replacements = 0 }) (omega (arith, h, ap length whole, length-append (take n ts) (drop n ts))))
+      ap (mapped (λ (r : TokensSoFarView). r.tokens)) (same_spread (body_within source [] DEEPEST_EQU) (drop n ts) (record { line = line; tokens = take n ts; replacements = 0 }) (omega (arith, h, ap length whole, length-append (take n ts) (drop n ts))))
       ∙ ap Ok whole
 
   -- the line of a head
@@ -62,22 +62,22 @@ module _ (source : List ℕ) where
 
   module _ (rules : RulesView) where
     -- without constants and EQU names
-    abbrev plain : Shared
+    abbrev plain : ContextView
     plain = record { source = source; constants = []; rules = rules; equs = [] }
 
     -- a line defines no name and is added
-    line_next : (p : PlainLine) (r : Replacement) → length p.others < MOST_TOKENS
+    line_next : (p : PlainLine) (r : LinesSoFarView) → length p.others < MOST_TOKENS
         → line_replaced plain (head_by p.word p.first p.others) r ≡ Ok (record { names = r.names; lines = r.lines ++ (plain_line p ∷ []) })
     line_next p r h = by_word p.word (line_there p.word p.first p.others h) where
       by_word : (w : PlainWord) → line_of source [] (head_by w p.first p.others) ≡ Ok (plain_line_by w p.first p.others)
           → line_replaced plain (head_by w p.first p.others) r ≡ Ok (record { names = r.names; lines = r.lines ++ (plain_line_by w p.first p.others ∷ []) })
-      by_word (AnOpcode o) k = ap (mapped (with_expanded r.lines r.names)) k
-      by_word AStart k = ap (mapped (with_expanded r.lines r.names)) k
+      by_word (AnOpcode o) k = ap (mapped (with_expanded_line r.lines r.names)) k
+      by_word AStart k = ap (mapped (with_expanded_line r.lines r.names)) k
 
-    all_there : (ps : List PlainLine) (r : Replacement) → ArePlain source ps → lines_replaced plain (plain_heads ps) r ≡ Ok (record { names = r.names; lines = r.lines ++ plain_lines ps })
+    all_there : (ps : List PlainLine) (r : LinesSoFarView) → ArePlain source ps → lines_replaced plain (plain_heads ps) r ≡ Ok (record { names = r.names; lines = r.lines ++ plain_lines ps })
     all_there [] r a = let e : r.lines ≡ r.lines ++ [] = sym (append-nil r.lines) in (λ x. Ok (record { names = r.names; lines = e x }))
     all_there (p ∷ ps) r a =
-        let more : Replacement = record { names = r.names; lines = r.lines ++ (plain_line p ∷ []) } in
+        let more : LinesSoFarView = record { names = r.names; lines = r.lines ++ (plain_line p ∷ []) } in
         let all : (r.lines ++ (plain_line p ∷ [])) ++ plain_lines ps ≡ r.lines ++ (plain_line p ∷ plain_lines ps) = append_assoc r.lines (plain_line p ∷ []) (plain_lines ps) in
         ap (and_then (lines_replaced plain (plain_heads ps))) (line_next p r a.0.short)
         ∙ all_there ps more a.1
@@ -86,17 +86,17 @@ module _ (source : List ℕ) where
     -- the third part of the expansion
     heads_replaced : (ps : List PlainLine) → ArePlain source ps → replaced plain (plain_heads ps) ≡ Ok (plain_lines ps)
     unfolding replaced
-    heads_replaced ps a = ap (mapped (λ (r : Replacement). r.lines)) (all_there ps (no_lines) a)
+    heads_replaced ps a = ap (mapped (λ (r : LinesSoFarView). r.lines)) (all_there ps (nothing_replaced) a)
 
     -- ---- without FOR nothing is unrolled
 
     -- each line stays
-    all_stay : (ps : List PlainLine) (u : Unrolled) → length u.lines + u.copy_count + length ps ≤ MOST_LINES
+    all_stay : (ps : List PlainLine) (u : UnrolledSoFarView) → length u.lines + u.copy_count + length ps ≤ MOST_LINES
         → unrolled_in plain (plain_blocks ps) [] u ≡ Ok (record u { lines = u.lines ++ plain_heads ps })
     all_stay [] u l = let e : u.lines ≡ u.lines ++ [] = sym (append-nil u.lines) in (λ x. Ok (record { lines = e x; copy_count = u.copy_count }))
     all_stay (p ∷ ps) u l =
         let h : Head = plain_head p in
-        let more : Unrolled = record u { lines = u.lines ++ (h ∷ []) } in
+        let more : UnrolledSoFarView = record u { lines = u.lines ++ (h ∷ []) } in
         let few : nat_lt (length u.lines + u.copy_count) MOST_LINES ≡ true = lt-ltb (length u.lines + u.copy_count) MOST_LINES (omega (arith, l)) in
         let pushed : with_line h u ≡ Ok more = rw few refl in
         let all : (u.lines ++ (h ∷ [])) ++ plain_heads ps ≡ u.lines ++ (h ∷ plain_heads ps) = append_assoc u.lines (h ∷ []) (plain_heads ps) in
@@ -111,7 +111,7 @@ module _ (source : List ℕ) where
     -- the second part of the expansion
     heads_unrolled : (ps : List PlainLine) → length ps ≤ MOST_LINES → unrolled plain (plain_blocks ps) ≡ Ok (plain_heads ps)
     unfolding unrolled
-    heads_unrolled ps l = ap (mapped (λ (u : Unrolled). u.lines)) (all_stay ps nothing (omega (arith, l)))
+    heads_unrolled ps l = ap (mapped (λ (u : UnrolledSoFarView). u.lines)) (all_stay ps nothing_unrolled (omega (arith, l)))
 
     -- the three in turn
     pub plain_expands : (ps : List PlainLine) → ArePlain source ps → length ps ≤ MOST_LINES → tokens_of source ≡ record { tokens = plain_tokens ps; ending = None } → IsExpansion source [] rules (plain_lines ps)

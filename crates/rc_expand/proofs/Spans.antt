@@ -18,17 +18,17 @@ use Rattle.rc_expand.specs.declared.line.Line.{Line}
 use Rattle.rc_expand.specs.Limits.{MOST_JOINED, MOST_TOKENS, MOST_REPLACEMENTS, DEEPEST_BLOCK, DEEPEST_EQU}
 use Rattle.rc_instr.specs.Results.{mapped, and_then}
 use Rattle.rc_expand.specs.Names.{Table, entry_of, is_taken}
-use Rattle.rc_expand.specs.Shared.{Shared}
-use Rattle.rc_expand.specs.Heads.{text_lines, equ_token, with_equ, equs_with, equs_from, equs_of, with_equs, heads_of}
+use Rattle.rc_expand.specs.Contexts.{ContextView}
+use Rattle.rc_expand.specs.Heads.{text_lines, equ_token, with_equ, equs_after_line, equs_from, equs_of, heads_of_blocks, heads_of}
 use Rattle.rc_expand.specs.Heads.Faults.{text_fault}
-use Rattle.rc_expand.specs.Heads.Tree.{Blocks, NoLine, OneLine, Block, Parts, line_before, rof_before, for_before, parts_by, parts_from, blocks_of}
-use Rattle.rc_expand.specs.Heads.Lines.{choose, is_free, is_colon, has_modifier, label_token, label_split, head_with_word, head_after_labels, head_of, word_of, line_of_tokens, has_end, line_then, lines_unless, lines_from, bare_line, is_name_token}
-use Rattle.rc_expand.specs.Unroll.{Unrolled, Step, nothing, has_room, with_line, with_copy, copies_from, with_earlier, is_bare_rof, at_rof, checked_line, one_line, copy_of, block_of, unrolled_in, unrolled}
-use Rattle.rc_expand.specs.Unroll.Copies.{Copy, are_any, line_by, line_in, all_of, is_counter, with_number, with_counter, joins, copied_from, copied_tokens, copied_code, copied_rest, or_spoiled, copied_line}
-use Rattle.rc_expand.specs.Unroll.Openings.{Opening, earlier_of, counted_by, count_of, counter_name, counter_of, opening}
-use Rattle.rc_expand.specs.Replace.{Equs, Replaced, Inner, with_token, with_replacement, token_or_body, exempt_len, equ_in, equ_at, with_tokens, inner_at, replaced_within, replaced_tokens, line_tokens}
-use Rattle.rc_expand.specs.Replace.Lines.{own_step, own_labels, other_step, other_labels, expanded_line, made_line, line_with_labels, line_of, names_of, Replacement, no_lines, with_expanded, with_names, line_added, line_replaced, lines_replaced, replaced}
-use Rattle.rc_expand.specs.Expansion.{LineLies, shared_by, expansion_by, expansion_of, IsExpansion}
+use Rattle.rc_expand.specs.Heads.Tree.{BlockTree, NoLine, OneLine, Block, Parts, line_before, rof_before, for_before, parts_by, parts_from, blocks_of}
+use Rattle.rc_expand.specs.Heads.Lines.{choose, is_free, is_colon, has_modifier, label_token, label_split, head_with_word, head_after_labels, head_of, word_of, line_of_tokens, has_end, up_to_end, lines_unless_fault, lines_from, bare_line, is_name_token}
+use Rattle.rc_expand.specs.Unroll.{UnrolledSoFarView, Step, nothing_unrolled, has_room, with_line, with_copy, copies_from, with_earlier, is_bare_rof, rof_check, line_check, one_line, one_copy, one_block, unrolled_in, unrolled}
+use Rattle.rc_expand.specs.Unroll.Copies.{BlockCopyView, is_in_block, line_in_copy, line_in, all_of, is_counter, with_number, with_counter, joins, copied_from, copied_tokens, copied_code, copied_rest, or_spoiled, copied_line}
+use Rattle.rc_expand.specs.Unroll.Openings.{OpeningView, earlier_of, opening_with_counter, count_of, counter_name, counter_of, opening}
+use Rattle.rc_expand.specs.Replace.{Equs, TokensSoFarView, BodyStep, with_token, with_replacement, token_or_body, exempt_len, equ_in, equ_body, with_tokens, body_within, tokens_within, replaced_tokens, line_tokens}
+use Rattle.rc_expand.specs.Replace.Lines.{own_label_then, own_labels, others_here_or_later, other_labels, expanded_line, made_line, line_with_others, line_of, names_of, LinesSoFarView, nothing_replaced, with_expanded_line, with_names, line_added, line_replaced, lines_replaced, replaced}
+use Rattle.rc_expand.specs.Expansion.{LineLies, context_of, expansion_by, expansion_of, IsExpansion}
 use Rattle.rc_expand.proofs.Reading.LabelLaws.{labels_and_rest}
 
 -- either branch
@@ -121,10 +121,10 @@ module _ (source : List ℕ) where
   tokens_in_line [] h = tt
   tokens_in_line (t ∷ ts) h = (head_in t.line (t ∷ ts) h, tt)
 
-  then_lines : (hs : List Head) (later : Result (List Head) ExpandFault) → AreIn hs → IfOk later AreIn → IfOk (line_then hs later) AreIn
+  then_lines : (hs : List Head) (later : Result (List Head) ExpandFault) → AreIn hs → IfOk later AreIn → IfOk (up_to_end hs later) AreIn
   then_lines hs later h i = either (λ r. IfOk r AreIn) (has_end hs) (Ok hs) (mapped (λ r. hs ++ r) later) h (over AreIn AreIn (λ r. hs ++ r) later i (λ r j. both IsIn hs r h j))
 
-  unless_fault : (o : Option ExpandFault) (hs : List Head) → AreIn hs → IfOk (lines_unless o hs) AreIn
+  unless_fault : (o : Option ExpandFault) (hs : List Head) → AreIn hs → IfOk (lines_unless_fault o hs) AreIn
   unless_fault None hs h = h
   unless_fault (Some f) hs h = tt
 
@@ -139,7 +139,7 @@ module _ (source : List ℕ) where
   Bodies = ByRecursion (λ e. Ls e.1.tokens)
 
   -- so has a tree of lines, and what is read while blocks are open
-  abbrev TreeIn : Blocks → Type 0
+  abbrev TreeIn : BlockTree → Type 0
   TreeIn NoLine = Unit {0}
   TreeIn (OneLine h rest) = IsIn h × TreeIn rest
   TreeIn (Block f inside r rest) = IsIn f × TreeIn inside × IsIn r × TreeIn rest
@@ -175,13 +175,13 @@ module _ (source : List ℕ) where
     one_equ h equs (Some t) i j =
         either (λ r. IfOk r Bodies) (is_taken constants rules (name_of source t) || is_some (entry_of equs (name_of source t))) _ _ tt (both (λ e. Ls e.1.tokens) equs _ j (i.rest, tt))
 
-    with_equ_in : (w : HeadWord) (h : Head) (equs : Equs) → IsIn h → Bodies equs → IfOk (equs_with source constants rules w h equs) Bodies
+    with_equ_in : (w : HeadWord) (h : Head) (equs : Equs) → IsIn h → Bodies equs → IfOk (equs_after_line source constants rules w h equs) Bodies
     with_equ_in word.Equ h equs i j = one_equ h equs (equ_token source h.labels) i j
     with_equ_in _ h equs i j = j
 
-    equs_in : (b : Blocks) (equs : Equs) → TreeIn b → Bodies equs → IfOk (equs_from source constants rules b equs) Bodies
+    equs_in : (b : BlockTree) (equs : Equs) → TreeIn b → Bodies equs → IfOk (equs_from source constants rules b equs) Bodies
     equs_in NoLine equs i j = j
-    equs_in (OneLine h rest) equs i j = after Bodies Bodies (equs_from source constants rules rest) (equs_with source constants rules h.word h equs) (with_equ_in h.word h equs i.0 j) (λ e k. equs_in rest e i.1 k)
+    equs_in (OneLine h rest) equs i j = after Bodies Bodies (equs_from source constants rules rest) (equs_after_line source constants rules h.word h equs) (with_equ_in h.word h equs i.0 j) (λ e k. equs_in rest e i.1 k)
     equs_in (Block f inside r rest) equs i j = equs_in rest equs i.3 j
 
     heads_in : IfOk (heads_of source constants rules) (λ r. TreeIn r.blocks × Bodies r.equs)
@@ -189,7 +189,7 @@ module _ (source : List ℕ) where
     heads_in =
         let lines = lines_in (text_fault source) [] (tokens_of source).tokens tt (recursion_from_All (LiesIn source) (tokens_of source).tokens (lie_in_the_text source)) in
         let nested = after AreIn TreeIn blocks_of (text_lines source) lines (λ hs h. parts_in hs 0 0 h) in
-        after TreeIn (λ r. TreeIn r.blocks × Bodies r.equs) (with_equs source constants rules) (and_then blocks_of (text_lines source)) nested
+        after TreeIn (λ r. TreeIn r.blocks × Bodies r.equs) (heads_of_blocks source constants rules) (and_then blocks_of (text_lines source)) nested
         (λ b h. over Bodies (λ r. TreeIn r.blocks × Bodies r.equs) (λ equs. record { blocks = b; equs = equs }) (equs_of source constants rules b) (equs_in b [] h tt) (λ equs j. (h, j)))
 
   -- a copy changes no span
@@ -243,20 +243,20 @@ module _ (source : List ℕ) where
     unfolding copied_line
     copy_in h i = or_spoiled_in h (all_of (copied_tokens source counter k) h.labels) (copied_rest source counter k h.word h.rest) i (labels_in h.labels i.labels) (rest_in h.word h.rest i.rest)
 
-  by_copy : (counter : Option (List ℕ)) (k : ℕ) (h : Head) → IsIn h → IsIn (line_by source counter k h)
+  by_copy : (counter : Option (List ℕ)) (k : ℕ) (h : Head) → IsIn h → IsIn (line_in_copy source counter k h)
   by_copy None k h i = i
   by_copy (Some counter) k h i = copy_in counter k h i
 
-  in_copies : (cs : List Copy) (h : Head) → IsIn h → IsIn (line_in source cs h)
+  in_copies : (cs : List BlockCopyView) (h : Head) → IsIn h → IsIn (line_in source cs h)
   in_copies [] h i = i
-  in_copies (c ∷ cs) h i = in_copies cs (line_by source c.counter c.number h) (by_copy c.counter c.number h i)
+  in_copies (c ∷ cs) h i = in_copies cs (line_in_copy source c.counter c.number h) (by_copy c.counter c.number h i)
 
   -- what is unrolled so far has such lines, and each step keeps them
-  abbrev SoFar : Unrolled → Type 0
+  abbrev SoFar : UnrolledSoFarView → Type 0
   SoFar u = AreIn u.lines
 
   abbrev Keeps : Step → Type 0
-  Keeps step = (u : Unrolled) → SoFar u → IfOk (step u) SoFar
+  Keeps step = (u : UnrolledSoFarView) → SoFar u → IfOk (step u) SoFar
 
   line_kept : (h : Head) → IsIn h → Keeps (with_line h)
   line_kept h i u j = either (λ r. IfOk r SoFar) (has_room u) _ _ (both IsIn u.lines (h ∷ []) j (i, tt)) tt
@@ -272,7 +272,7 @@ module _ (source : List ℕ) where
   earlier_kept line [] h u j = j
   earlier_kept line (l ∷ ls) h u j = line_kept (bare_line line (l ∷ ls)) (record { labels = h; directive = tt; rest = tt }) u j
 
-  rof_kept : (rof : Head) → Keeps (at_rof rof)
+  rof_kept : (rof : Head) → Keeps (rof_check rof)
   rof_kept rof u j = either (λ r. IfOk r SoFar) (is_bare_rof rof) _ _ j tt
 
   earlier_in : (ls : List (List Token)) → Labels ls → Labels (earlier_of ls)
@@ -287,7 +287,7 @@ module _ (source : List ℕ) where
   label_in (t ∷ u ∷ []) h = either (λ o. IfSome o (LiesIn source)) (is_free source t && is_colon u) _ _ h.0 tt
   label_in (t ∷ u ∷ v ∷ ts) h = tt
 
-  own_stepped : (o : Option Token) (ts : List Token) → IfSome o (LiesIn source) → Ls ts → Ls (own_step source o ts)
+  own_stepped : (o : Option Token) (ts : List Token) → IfSome o (LiesIn source) → Ls ts → Ls (own_label_then source o ts)
   own_stepped None ts h i = tt
   own_stepped (Some t) ts h i = (h, i)
 
@@ -295,7 +295,7 @@ module _ (source : List ℕ) where
   own_in [] h = tt
   own_in (l ∷ ls) h = own_stepped (label_token source l) (own_labels source ls) (label_in l h.0) (own_in ls h.1)
 
-  other_stepped : (o : Option Token) (here later : List (List Token)) → Labels here → Labels later → Labels (other_step source o here later)
+  other_stepped : (o : Option Token) (here later : List (List Token)) → Labels here → Labels later → Labels (others_here_or_later source o here later)
   other_stepped None here later h i = h
   other_stepped (Some t) here later h i = i
 
@@ -309,45 +309,45 @@ module _ (source : List ℕ) where
 
   -- EQU names give way to tokens of EQU names
   module _ (equs : Equs) (bodies : Bodies equs) where
-    abbrev Tokens : Replaced → Type 0
+    abbrev Tokens : TokensSoFarView → Type 0
     Tokens r = Ls r.tokens
 
     entry_in : (table : Equs) → Bodies table → (name : List ℕ) → IfSome (entry_of table name) (λ e. Ls e.tokens)
     entry_in [] h name = tt
     entry_in (e ∷ table) h name = either (λ o. IfSome o (λ e. Ls e.tokens)) (bytes_eq name e.0) _ _ h.0 (entry_in table h.1 name)
 
-    body_in : (t : Token) → IfSome (equ_at source equs t) Ls
+    body_in : (t : Token) → IfSome (equ_body source equs t) Ls
     body_in t = some_over (λ e. Ls e.tokens) Ls (λ e. e.tokens) (equ_in source equs t)
         (either (λ o. IfSome o (λ e. Ls e.tokens)) (is_name_token t) _ _ (entry_in equs bodies (name_of source t)) tt) (λ e h. h)
 
-    token_kept : (t : Token) → LiesIn source t → (r : Replaced) → Tokens r → IfOk (with_token t r) Tokens
+    token_kept : (t : Token) → LiesIn source t → (r : TokensSoFarView) → Tokens r → IfOk (with_token t r) Tokens
     token_kept t i r j = either (λ x. IfOk x Tokens) (nat_lt (length r.tokens) MOST_TOKENS) _ _ (both (LiesIn source) r.tokens (t ∷ []) j (i, tt)) tt
 
-    replacement_kept : (r : Replaced) → Tokens r → IfOk (with_replacement r) Tokens
+    replacement_kept : (r : TokensSoFarView) → Tokens r → IfOk (with_replacement r) Tokens
     replacement_kept r j = either (λ x. IfOk x Tokens) (nat_lt r.replacements MOST_REPLACEMENTS) _ _ j tt
 
-    abbrev InnerKeeps : Inner → Type 0
-    InnerKeeps inner = (body : List Token) → Ls body → (r : Replaced) → Tokens r → IfOk (inner body r) Tokens
+    abbrev InnerKeeps : BodyStep → Type 0
+    InnerKeeps inner = (body : List Token) → Ls body → (r : TokensSoFarView) → Tokens r → IfOk (inner body r) Tokens
 
-    token_replaced : (inner : Inner) → InnerKeeps inner → (t : Token) (o : Option (List Token)) → LiesIn source t → IfSome o Ls → (r : Replaced) → Tokens r → IfOk (token_or_body inner t o r) Tokens
+    token_replaced : (inner : BodyStep) → InnerKeeps inner → (t : Token) (o : Option (List Token)) → LiesIn source t → IfSome o Ls → (r : TokensSoFarView) → Tokens r → IfOk (token_or_body inner t o r) Tokens
     token_replaced inner g t None i h r j = token_kept t i r j
     token_replaced inner g t (Some body) i h r j = g body h r j
 
-    spread_kept : (inner : Inner) → InnerKeeps inner → (ts : List Token) → Ls ts → (r : Replaced) → Tokens r → IfOk (with_tokens source equs inner ts r) Tokens
+    spread_kept : (inner : BodyStep) → InnerKeeps inner → (ts : List Token) → Ls ts → (r : TokensSoFarView) → Tokens r → IfOk (with_tokens source equs inner ts r) Tokens
     spread_kept inner g [] h r j = j
     spread_kept inner g (t ∷ ts) h r j =
-        after Tokens Tokens (with_tokens source equs inner ts) (token_or_body inner t (equ_at source equs t) r) (token_replaced inner g t (equ_at source equs t) h.0 (body_in t) r j) (λ x i. spread_kept inner g ts h.1 x i)
+        after Tokens Tokens (with_tokens source equs inner ts) (token_or_body inner t (equ_body source equs t) r) (token_replaced inner g t (equ_body source equs t) h.0 (body_in t) r j) (λ x i. spread_kept inner g ts h.1 x i)
 
-    inner_kept : (levels : ℕ) → InnerKeeps (inner_at source equs levels)
+    inner_kept : (levels : ℕ) → InnerKeeps (body_within source equs levels)
     inner_kept zero body h r j = tt
     inner_kept (suc n) body h r j =
-        after Tokens Tokens (with_tokens source equs (inner_at source equs n) body) (with_replacement r) (replacement_kept r j) (λ x i. spread_kept (inner_at source equs n) (inner_kept n) body h x i)
+        after Tokens Tokens (with_tokens source equs (body_within source equs n) body) (with_replacement r) (replacement_kept r j) (λ x i. spread_kept (body_within source equs n) (inner_kept n) body h x i)
 
     replaced_in : (line : ℕ) (front ts : List Token) → Ls front → Ls ts → IfOk (replaced_tokens source equs line front ts) Ls
     unfolding replaced_tokens
     replaced_in line front ts h i =
-        let start : Replaced = record { line = line; tokens = front; replacements = 0 } in
-        over Tokens Ls (λ r. r.tokens) (replaced_within source equs DEEPEST_EQU ts start) (spread_kept (inner_at source equs DEEPEST_EQU) (inner_kept DEEPEST_EQU) ts i start h) (λ r j. j)
+        let start : TokensSoFarView = record { line = line; tokens = front; replacements = 0 } in
+        over Tokens Ls (λ r. r.tokens) (tokens_within source equs DEEPEST_EQU ts start) (spread_kept (body_within source equs DEEPEST_EQU) (inner_kept DEEPEST_EQU) ts i start h) (λ r j. j)
 
     line_tokens_in : (line : ℕ) (w : HeadWord) (ts : List Token) → Ls ts → IfOk (line_tokens source equs line w ts) Ls
     line_tokens_in line w ts h =
@@ -360,7 +360,7 @@ module _ (source : List ℕ) where
         over Ls (LineLies source) (expanded_line source h w) (line_tokens source equs h.number w ts) (line_tokens_in h.number w ts j)
         (λ r k. record { labels = All-from_recursion (LiesIn source) (own_labels source h.labels) (own_in h.labels i.labels); tokens = All-from_recursion (LiesIn source) r k })
 
-    with_labels_in : (h : Head) (others : List (List Token)) → IsIn h → Labels others → IfOk (line_with_labels source equs h others) (LineLies source)
+    with_labels_in : (h : Head) (others : List (List Token)) → IsIn h → Labels others → IfOk (line_with_others source equs h others) (LineLies source)
     with_labels_in h [] i j = made_in h h.word h.rest i i.rest
     with_labels_in h (l ∷ ls) i j =
         made_in h word.Code (flat_map (λ x. x) (l ∷ ls) ++ (option_to_list h.directive ++ h.rest)) i
@@ -370,60 +370,60 @@ module _ (source : List ℕ) where
     unfolding line_of
     line_of_in h i = with_labels_in h (other_labels source h.labels) i (others_in h.labels i.labels)
 
-module _ (s : Shared) where
+module _ (s : ContextView) where
   opening_in : (f : Head) → IsIn s.source f → IfOk (opening s f) (λ o. Labels s.source o.earlier)
   unfolding opening
   opening_in f i =
-      either (λ (r : Result Opening ExpandFault). IfOk r (λ o. Labels s.source o.earlier)) f.spoiled _ _ tt
-      (after_any (λ o. Labels s.source o.earlier) (counted_by s f) (and_then (counter_name s f.number) (counter_of s.source f.number f.labels))
+      either (λ (r : Result OpeningView ExpandFault). IfOk r (λ o. Labels s.source o.earlier)) f.spoiled _ _ tt
+      (after_any (λ o. Labels s.source o.earlier) (opening_with_counter s f) (and_then (counter_name s f.number) (counter_of s.source f.number f.labels))
       (λ name. over_any (λ o. Labels s.source o.earlier) (λ n. record { counter = name; earlier = earlier_of f.labels; count = n }) (count_of s f.number f.rest) (λ n. earlier_in s.source f.labels i.labels)))
 
-  abbrev Kept : Unrolled → Type 0
+  abbrev Kept : UnrolledSoFarView → Type 0
   Kept u = SoFar s.source u
 
   -- a line, and a block whose lines keep them
-  one_kept : (cs : List Copy) (h : Head) → IsIn s.source h → Keeps s.source (one_line s cs h)
+  one_kept : (cs : List BlockCopyView) (h : Head) → IsIn s.source h → Keeps s.source (one_line s cs h)
   one_kept cs h i u j =
-      after_any Kept (λ _. with_line (line_in s.source cs h) u) (checked_line (are_any cs) (line_in s.source cs h))
+      after_any Kept (λ _. with_line (line_in s.source cs h) u) (line_check (is_in_block cs) (line_in s.source cs h))
       (λ _. line_kept s.source (line_in s.source cs h) (in_copies s.source cs h i) u j)
 
-  module _ (inside : List Copy → Step) (d : (cs : List Copy) → Keeps s.source (inside cs)) where
-    copy_of_kept : (cs : List Copy) (line : ℕ) (counter : Option (List ℕ)) (k : ℕ) → Keeps s.source (copy_of inside cs line counter k)
+  module _ (inside : List BlockCopyView → Step) (d : (cs : List BlockCopyView) → Keeps s.source (inside cs)) where
+    copy_of_kept : (cs : List BlockCopyView) (line : ℕ) (counter : Option (List ℕ)) (k : ℕ) → Keeps s.source (one_copy inside cs line counter k)
     copy_of_kept cs line counter k u j =
-        let more : List Copy = cs ++ (record { counter = counter; number = k } ∷ []) in
+        let more : List BlockCopyView = cs ++ (record { counter = counter; number = k } ∷ []) in
         after Kept Kept (inside more) (with_copy line u) (copy_kept s.source line u j) (λ v i. d more v i)
 
-    block_kept : (cs : List Copy) (f r : Head) → IsIn s.source f → Keeps s.source (block_of s inside cs f r)
+    block_kept : (cs : List BlockCopyView) (f r : Head) → IsIn s.source f → Keeps s.source (one_block s inside cs f r)
     block_kept cs f r i u j =
         after (λ o. Labels s.source o.earlier) Kept _ (opening s (line_in s.source cs f)) (opening_in (line_in s.source cs f) (in_copies s.source cs f i))
         (λ o l. after Kept Kept _ (with_earlier f.number o.earlier u) (earlier_kept s.source f.number o.earlier l u j)
-        (λ v k. after Kept Kept _ (copies_from (copy_of inside cs f.number o.counter) o.count 1 v) (copies_kept s.source (copy_of inside cs f.number o.counter) (copy_of_kept cs f.number o.counter) o.count 1 v k)
+        (λ v k. after Kept Kept _ (copies_from (one_copy inside cs f.number o.counter) o.count 1 v) (copies_kept s.source (one_copy inside cs f.number o.counter) (copy_of_kept cs f.number o.counter) o.count 1 v k)
         (λ w m. rof_kept s.source (line_in s.source cs r) w m)))
 
-  tree_kept : (b : Blocks) → TreeIn s.source b → (cs : List Copy) → Keeps s.source (unrolled_in s b cs)
+  tree_kept : (b : BlockTree) → TreeIn s.source b → (cs : List BlockCopyView) → Keeps s.source (unrolled_in s b cs)
   tree_kept NoLine i cs u j = j
   tree_kept (OneLine h rest) i cs u j = after Kept Kept (unrolled_in s rest cs) (one_line s cs h u) (one_kept cs h i.0 u j) (λ v k. tree_kept rest i.1 cs v k)
   tree_kept (Block f inside r rest) i cs u j =
-      after Kept Kept (unrolled_in s rest cs) (block_of s (unrolled_in s inside) cs f r u) (block_kept (unrolled_in s inside) (λ ds v k. tree_kept inside i.1 ds v k) cs f r i.0 u j) (λ v k. tree_kept rest i.3 cs v k)
+      after Kept Kept (unrolled_in s rest cs) (one_block s (unrolled_in s inside) cs f r u) (block_kept (unrolled_in s inside) (λ ds v k. tree_kept inside i.1 ds v k) cs f r i.0 u j) (λ v k. tree_kept rest i.3 cs v k)
 
-  unrolled_lines_in : (b : Blocks) → TreeIn s.source b → IfOk (unrolled s b) (AreIn s.source)
+  unrolled_lines_in : (b : BlockTree) → TreeIn s.source b → IfOk (unrolled s b) (AreIn s.source)
   unfolding unrolled
-  unrolled_lines_in b h = over (SoFar s.source) (AreIn s.source) (λ u. u.lines) (unrolled_in s b [] nothing) (tree_kept b h [] nothing tt) (λ u i. i)
+  unrolled_lines_in b h = over (SoFar s.source) (AreIn s.source) (λ u. u.lines) (unrolled_in s b [] nothing_unrolled) (tree_kept b h [] nothing_unrolled tt) (λ u i. i)
 
   -- the lines of the expansion
-  abbrev Made : Replacement → Type 0
+  abbrev Made : LinesSoFarView → Type 0
   Made r = ByRecursion (LineLies s.source) r.lines
 
   module _ (bodies : Bodies s.source s.equs) where
-    made_and_added : (h : Head) (lines : List Line) (names : List (List ℕ)) → IsIn s.source h → ByRecursion (LineLies s.source) lines → IfOk (mapped (with_expanded lines names) (line_of s.source s.equs h)) Made
+    made_and_added : (h : Head) (lines : List Line) (names : List (List ℕ)) → IsIn s.source h → ByRecursion (LineLies s.source) lines → IfOk (mapped (with_expanded_line lines names) (line_of s.source s.equs h)) Made
     made_and_added h lines names i j =
-        over (LineLies s.source) Made (with_expanded lines names) (line_of s.source s.equs h) (line_of_in s.source s.equs bodies h i) (λ l k. both (LineLies s.source) lines (l ∷ []) j (k, tt))
+        over (LineLies s.source) Made (with_expanded_line lines names) (line_of s.source s.equs h) (line_of_in s.source s.equs bodies h i) (λ l k. both (LineLies s.source) lines (l ∷ []) j (k, tt))
 
     added : (w : HeadWord) (h : Head) (lines : List Line) (names : List (List ℕ)) → IsIn s.source h → ByRecursion (LineLies s.source) lines → IfOk (line_added s w h lines names) Made
     added word.Equ h lines names i j = j
     added _ h lines names i j = made_and_added h lines names i j
 
-    lines_made : (hs : List Head) → AreIn s.source hs → (r : Replacement) → Made r → IfOk (lines_replaced s hs r) Made
+    lines_made : (hs : List Head) → AreIn s.source hs → (r : LinesSoFarView) → Made r → IfOk (lines_replaced s hs r) Made
     lines_made [] h r j = j
     lines_made (h ∷ hs) i r j =
         after Made Made (lines_replaced s hs) (line_replaced s h r)
@@ -431,14 +431,14 @@ module _ (s : Shared) where
 
     replaced_lines_in : (hs : List Head) → AreIn s.source hs → IfOk (replaced s hs) (ByRecursion (LineLies s.source))
     unfolding replaced
-    replaced_lines_in hs h = over Made (ByRecursion (LineLies s.source)) (λ r. r.lines) (lines_replaced s hs no_lines) (lines_made hs h no_lines tt) (λ r k. k)
+    replaced_lines_in hs h = over Made (ByRecursion (LineLies s.source)) (λ r. r.lines) (lines_replaced s hs nothing_replaced) (lines_made hs h nothing_replaced tt) (λ r k. k)
 
 -- all passes
 expansion_in : (source : List ℕ) (constants : Table) (rules : RulesView) → IfOk (expansion_of source constants rules) (ByRecursion (LineLies source))
 unfolding expansion_of
 expansion_in source constants rules =
     after (λ r. TreeIn source r.blocks × Bodies source r.equs) (ByRecursion (LineLies source)) (expansion_by source constants rules) (heads_of source constants rules) (heads_in source constants rules)
-    (λ r h. let s = shared_by source constants rules r in
+    (λ r h. let s = context_of source constants rules r in
     after (AreIn source) (ByRecursion (LineLies source)) (replaced s) (unrolled s r.blocks) (unrolled_lines_in s r.blocks h.0) (λ hs i. replaced_lines_in s h.1 hs i))
 
 pub expansion_lies : (source : List ℕ) (constants : Table) (rules : RulesView) (lines : List Line) → IsExpansion source constants rules lines → All (LineLies source) lines

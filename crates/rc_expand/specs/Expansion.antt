@@ -6,7 +6,7 @@ use Rattle.rc_expand.specs.declared.fault.ExpandFault.{ExpandFault}
 use Rattle.rc_expand.specs.declared.line.Line.{Line}
 use Rattle.rc_instr.specs.Results.{◌>>=◌}
 use Rattle.rc_expand.specs.Names.{Table}
-use Rattle.rc_expand.specs.Shared.{Shared}
+use Rattle.rc_expand.specs.Contexts.{ContextView}
 use Rattle.rc_expand.specs.Unroll.{unrolled}
 use Rattle.rc_expand.specs.Heads.{Heads, heads_of}
 use Rattle.rc_expand.specs.Replace.Lines.{replaced}
@@ -17,11 +17,11 @@ pub record LineLies (source : List ℕ) (l : Line) : Type 0 where
   pub tokens : All (LiesIn source) l.tokens
 
 module _ (source : List ℕ) (constants : Table) (rules : RulesView) where
-  abbrev pub shared_by : Heads → Shared
-  shared_by r = record { source = source; constants = constants; rules = rules; equs = r.equs }
+  abbrev pub context_of : Heads → ContextView
+  context_of r = record { source = source; constants = constants; rules = rules; equs = r.equs }
 
   abbrev pub expansion_by : Heads → Result (List Line) ExpandFault
-  expansion_by r = unrolled (shared_by r) r.blocks >>= replaced (shared_by r)
+  expansion_by r = unrolled (context_of r) r.blocks >>= replaced (context_of r)
 
   -- The lines of the expansion; or the fault that the passes meet first, at its line.
   unfoldable pub expansion_of : Result (List Line) ExpandFault

@@ -19,11 +19,11 @@ use Rattle.rc_expand.specs.Names.{Table, entry_of, is_taken}
 use Rattle.rc_expand.specs.Heads.Lines.{lines_from, plain_token}
 use Rattle.rc_expand.specs.Heads.Faults.{text_fault}
 use Rattle.rc_expand.specs.Replace.{Equs}
-use Rattle.rc_expand.specs.Heads.Tree.{Blocks, NoLine, OneLine, Block, blocks_of}
+use Rattle.rc_expand.specs.Heads.Tree.{BlockTree, NoLine, OneLine, Block, blocks_of}
 
 -- The lines of a text as a tree, and its EQU names with their tokens.
 pub record Heads : Type 0 where
-  pub blocks : Blocks
+  pub blocks : BlockTree
   pub equs : Equs
 
 module _ (source : List ℕ) where
@@ -46,24 +46,24 @@ module _ (source : List ℕ) where
         Ok (equs ++ ((name_of source t, record { tokens = h.rest; line = h.number }) ∷ []))
 
     -- A line outside blocks may be an EQU line.
-    abbrev pub equs_with : HeadWord → Head → Equs → Result Equs ExpandFault
-    equs_with word.Equ h equs = with_equ h equs (equ_token h.labels)
-    equs_with _ h equs = Ok equs
+    abbrev pub equs_after_line : HeadWord → Head → Equs → Result Equs ExpandFault
+    equs_after_line word.Equ h equs = with_equ h equs (equ_token h.labels)
+    equs_after_line _ h equs = Ok equs
 
-    abbrev pub equs_from : Blocks → Equs → Result Equs ExpandFault
+    abbrev pub equs_from : BlockTree → Equs → Result Equs ExpandFault
     equs_from NoLine equs = Ok equs
     equs_from (OneLine h rest) equs = do
-      more ← equs_with h.word h equs
+      more ← equs_after_line h.word h equs
       equs_from rest more
     equs_from (Block f inside r rest) equs = equs_from rest equs
 
     -- The EQU names of the EQU lines outside blocks.
-    unfoldable pub equs_of : Blocks → Result Equs ExpandFault
+    unfoldable pub equs_of : BlockTree → Result Equs ExpandFault
     equs_of b = equs_from b []
 
-    abbrev pub with_equs : Blocks → Result Heads ExpandFault
-    with_equs b = mapped (λ equs. record { blocks = b; equs = equs }) (equs_of b)
+    abbrev pub heads_of_blocks : BlockTree → Result Heads ExpandFault
+    heads_of_blocks b = mapped (λ equs. record { blocks = b; equs = equs }) (equs_of b)
 
     -- The lines up to END, whose blocks must nest, and the EQU names outside the blocks.
     unfoldable pub heads_of : Result Heads ExpandFault
-    heads_of = text_lines >>= blocks_of >>= with_equs
+    heads_of = text_lines >>= blocks_of >>= heads_of_blocks

@@ -4,7 +4,7 @@
 pub mod Limits
 pub mod Results
 pub mod Names
-pub mod Shared
+pub mod Contexts
 pub mod NameTables
 pub mod Heads
 pub mod Unroll

@@ -34,6 +34,6 @@ at_index table (Some i) = option_map (λ e. e.1) (slice_get table i)
 abbrev pub AreIndices : List ℕ → Equs → List Token → List (Option ℕ) → Type 0
 AreIndices source equs tokens indices = map (at_index equs) indices ≡ map (equ_in source equs) tokens
 
--- `links` has this for the tokens of every EQU name.
+-- `links` has such indices for the tokens of every EQU name.
 abbrev pub AreLinks : List ℕ → Equs → List (Vec (Option ℕ)) → Type 0
 AreLinks source equs links = map (λ l. map (at_index equs) l.items) links ≡ map (λ e. map (equ_in source equs) e.1.tokens) equs

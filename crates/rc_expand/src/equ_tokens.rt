@@ -3,7 +3,7 @@
 ghost use Rattle.std.specs.Prelude.{◌≡◌, ◌≢◌, ℕ, List, [], ◌∷◌, ◌++◌, ◌+◌, ◌≤◌, length, MatchResult, Ok, Err, Some, None, option_map, All, IfSome, IfOk, OnOk};
 ghost use Rattle.rc_expand.specs.Results.{Returns};
 ghost use Rattle.rc_expand.specs.NameTables.{at_index, AreIndices};
-ghost use Rattle.rc_expand.specs.Replace.{with_token, equ_in, token_within, replaced_within, replaced_tokens};
+ghost use Rattle.rc_expand.specs.Replace.{with_token, equ_in, token_within, tokens_within, replaced_tokens};
 
 pub(crate) mod links;
 
@@ -18,22 +18,22 @@ use std::marker::Model;
 
 // The tokens of a line so far, its number, and how many EQU names were replaced in it.
 #[derive(Drop)]
-pub(crate) struct Replacing {
+pub(crate) struct TokensSoFar {
     line: u64,
     tokens: Vec<Token>,
     replacements: u32,
 }
 
-impl Model for Replacing {
-    ghost use Rattle.rc_expand.specs.Replace.{Replaced};
+impl Model for TokensSoFar {
+    ghost use Rattle.rc_expand.specs.Replace.{TokensSoFarView};
 
-    ghost Value = { Replaced };
+    ghost Value = { TokensSoFarView };
 
     ghost view = { λ r. record { line = r.line; tokens = r.tokens.items; replacements = r.replacements } };
 }
 
 // Replaces the EQU names of `tokens`, at most `DEEPEST_EQU` deep. `front` are the tokens before
-// them in the line, which are left alone but count.
+// them in the line, which stay as they are but count as tokens of the line.
 #[tactic(auto, unfolding(crate::specs::Replace::replaced_tokens))]
 pub(crate) fn replace_tokens(
     context: &Context,
@@ -44,7 +44,7 @@ pub(crate) fn replace_tokens(
     ensures { Returns (λ t. t) result (replaced_tokens context.now.source.now context.now.equs.now line front.items tokens.now) }
 {
     let indices = link_tokens(context.alloc, context.source, tokens, context.equs)?;
-    let mut out = Replacing {
+    let mut out = TokensSoFar {
         line,
         tokens: front,
         replacements: 0,
@@ -67,7 +67,7 @@ fn body_at<'a>(
 }
 
 // Appends a token that is not an EQU name.
-fn push_token(out: &mut Replacing, token: &Token) -> Result<(), ExpandFault>
+fn push_token(out: &mut TokensSoFar, token: &Token) -> Result<(), ExpandFault>
     ensures { Returns (λ u. out.new) result (with_token token.now out.old) }
 {
     if out.tokens.len() >= MOST_TOKENS {
@@ -79,8 +79,8 @@ fn push_token(out: &mut Replacing, token: &Token) -> Result<(), ExpandFault>
 
 // Appends a token, or the tokens of the EQU name that it is.
 #[cycle(replace)]
-fn append_one(
-    out: &mut Replacing,
+fn append_token(
+    out: &mut TokensSoFar,
     context: &Context,
     token: &Token,
     index: Option<usize>,
@@ -107,17 +107,17 @@ fn append_one(
 // Appends tokens with their EQU names replaced, at most `levels` deep.
 #[cycle(replace)]
 fn append_replaced(
-    out: &mut Replacing,
+    out: &mut TokensSoFar,
     context: &Context,
     tokens: &[Token],
     indices: &[Option<usize>],
     levels: u8,
 ) -> Result<(), ExpandFault>
     requires { AreIndices context.now.source.now context.now.equs.now tokens.now indices.now }
-    ensures { Returns (λ u. out.new) result (replaced_within context.now.source.now context.now.equs.now levels tokens.now out.old) }
+    ensures { Returns (λ u. out.new) result (tokens_within context.now.source.now context.now.equs.now levels tokens.now out.old) }
 {
     for i in 0..tokens.len() {
-        append_one(out, context, &tokens[i], indices[i], levels)?;
+        append_token(out, context, &tokens[i], indices[i], levels)?;
     }
     Ok(())
 }

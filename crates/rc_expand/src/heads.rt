@@ -3,7 +3,7 @@
 //! and its tokens. Nothing is copied or replaced yet.
 ghost use Rattle.std.specs.Prelude.{◌≡◌, ◌≢◌, All, IfOk, Ok, Err};
 ghost use Rattle.rc_expand.specs.Results.{Returns};
-ghost use Rattle.rc_expand.specs.Shared.{constants_of};
+ghost use Rattle.rc_expand.specs.Contexts.{constants_of};
 ghost use Rattle.rc_expand.specs.Heads.{heads_of};
 ghost use Rattle.rc_expand.specs.Heads.Tree.{tree_of};
 

@@ -195,14 +195,14 @@ impl<'a, V: Drop> NameTable<'a, V> {
     pub fn get(&self, source: &[u8], token: &Token) -> Option<&V>
         ensures { option_map (λ v. v.now) result ≡ entry_of self.now (name_of source.now token.now) }
     {
-        self.entries.get(spelled(source, token))
+        self.entries.get(key_of(source, token))
     }
 
     // Returns the index of the name that a token spells.
     pub(crate) fn index_of(&self, source: &[u8], token: &Token) -> Option<usize>
         ensures { at_index self.now result ≡ entry_of self.now (name_of source.now token.now) }
     {
-        self.entries.get_index_of(spelled(source, token))
+        self.entries.get_index_of(key_of(source, token))
     }
 
     // Returns the value at an index.
@@ -259,7 +259,7 @@ pub(crate) fn kept_name<'a>(
 }
 
 // Makes the key by which the name of a token is looked up, without a copy.
-fn spelled<'a>(source: &'a [u8], token: &'a Token) -> JoinedName<'a>
+fn key_of<'a>(source: &'a [u8], token: &'a Token) -> JoinedName<'a>
     ensures { joined_name result.bytes.now result.counters.now ≡ name_of source.now token.now }
 {
     JoinedName {

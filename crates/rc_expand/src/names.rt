@@ -2,7 +2,7 @@
 ghost use Rattle.std.specs.Prelude.{◌≡◌, ◌≢◌, List, ℕ, ◌++◌, MatchOption, IfOk};
 ghost use Rattle.std.specs.Str.{bytes_eq};
 ghost use Rattle.rc_expand.specs.Names.{entry_of, predefined, table_in, is_taken};
-ghost use Rattle.rc_expand.specs.Shared.{constants_of};
+ghost use Rattle.rc_expand.specs.Contexts.{constants_of};
 ghost use Rattle.rc_text.specs.Symbols.{name_of, counter_text};
 ghost use Rattle.rc_expand.specs.NameTables.{joined_name};
 
@@ -15,7 +15,7 @@ use std::alloc::{AllocError, Global};
 /// The names given from outside of a text: the constants, and the predefined names but `CURLINE`.
 #[derive(Drop)]
 pub struct GivenNames<'a> {
-    /// The constants.
+    /// The constants, which come before the predefined names.
     pub constants: &'a Constants<'a>,
     /// The rules that give the predefined names their values.
     pub rules: &'a Rules,
@@ -91,7 +91,7 @@ pub(crate) fn counter_text<'b>(buffer: &'b mut Buffer, counter: u16) -> &'b [u8]
     buffer.format(counter).as_bytes()
 }
 
-// Strips a leading counter, as it is joined to a name.
+// Returns what comes after a counter, as it is joined to a name, if `bytes` begin with it.
 fn after_counter<'a>(counter: u16, bytes: &'a [u8]) -> Option<&'a [u8]>
     ensures { MatchOption result ((rest : List ℕ) → bytes.now ≢ counter_text counter ++ rest) (λ x. bytes.now ≡ counter_text counter ++ x.now) }
 {
@@ -99,14 +99,14 @@ fn after_counter<'a>(counter: u16, bytes: &'a [u8]) -> Option<&'a [u8]>
     after_bytes(counter_text(&mut buffer, counter), bytes)
 }
 
-// Strips a prefix.
+// Returns what comes after `front`, if `bytes` begin with it.
 fn after_bytes<'a>(front: &[u8], bytes: &'a [u8]) -> Option<&'a [u8]>
     ensures { MatchOption result ((rest : List ℕ) → bytes.now ≢ front.now ++ rest) (λ x. bytes.now ≡ front.now ++ x.now) }
 {
     bytes.strip_prefix(front)
 }
 
-// Looks up a constant.
+// Returns the value of a constant. Of equal names the first counts.
 #[tactic(auto, using(crate::proofs::TableSteps::found_ends, crate::proofs::TableSteps::found_passed))]
 fn constant_value(constants: &Constants, source: &[u8], token: &Token) -> Option<i64>
     ensures { result ≡ entry_of (table_in constants.now) (name_of source.now token.now) }
@@ -122,8 +122,7 @@ fn constant_value(constants: &Constants, source: &[u8], token: &Token) -> Option
     None
 }
 
-// Compares a name with each predefined one but CURLINE, which has no value before lines are
-// counted.
+// Returns the value of a predefined name. CURLINE has none before lines are counted.
 fn predefined_value(rules: &Rules, source: &[u8], token: &Token) -> Option<i64>
     ensures { result ≡ entry_of (predefined rules.now) (name_of source.now token.now) }
 {

@@ -3,7 +3,7 @@
 ghost use Rattle.std.specs.Prelude.{◌≡◌, ◌≢◌, ◌++◌, ◌∷◌, [], ◌||◌, List, ℕ, map, All, IfOk, OnOk, Ok, Err};
 ghost use Rattle.rc_text.specs.Symbols.{name_of};
 ghost use Rattle.rc_expand.specs.Results.{Returns};
-ghost use Rattle.rc_expand.specs.Shared.{shared};
+ghost use Rattle.rc_expand.specs.Contexts.{seen_context};
 ghost use Rattle.rc_expand.specs.NameTables.{names_in};
 ghost use Rattle.rc_expand.specs.Replace.Lines.{with_names, line_replaced, replaced};
 
@@ -22,16 +22,16 @@ use std::marker::Model;
 
 // The names defined so far, and the lines of the expansion.
 #[derive(Drop)]
-pub(crate) struct Replacements<'a> {
+pub(crate) struct LinesSoFar<'a> {
     names: NameTable<'a, ()>,
     lines: Vec<Line>,
 }
 
-impl<'a> Model for Replacements<'a> {
+impl<'a> Model for LinesSoFar<'a> {
     ghost use Rattle.rc_expand.specs.NameTables.{names_in};
-    ghost use Rattle.rc_expand.specs.Replace.Lines.{Replacement};
+    ghost use Rattle.rc_expand.specs.Replace.Lines.{LinesSoFarView};
 
-    ghost Value = { Replacement };
+    ghost Value = { LinesSoFarView };
 
     ghost view = { λ r. record { names = names_in r.names; lines = r.lines.items } };
 }
@@ -42,9 +42,9 @@ pub(crate) fn replace_lines(
     context: &Context,
     reached: &[Reached],
 ) -> Result<Vec<Line>, ExpandFault>
-    ensures { Returns (λ v. v.items) result (replaced (shared context.now) reached.now) }
+    ensures { Returns (λ v. v.items) result (replaced (seen_context context.now) reached.now) }
 {
-    let mut out = Replacements {
+    let mut out = LinesSoFar {
         names: NameTable::new(context.alloc),
         lines: Vec::new(context.alloc),
     };
@@ -54,13 +54,13 @@ pub(crate) fn replace_lines(
     Ok(out.lines)
 }
 
-// Adds a line that was reached. If it is as the text has it, it is not copied.
+// Adds a line that was reached. One that is as the text has it need not be made first.
 fn replace_reached<'a>(
-    out: &mut Replacements<'a>,
+    out: &mut LinesSoFar<'a>,
     context: &Context<'a>,
     reached: &Reached,
 ) -> Result<(), ExpandFault>
-    ensures { Returns (λ u. out.new) result (line_replaced (shared context.now) reached.now out.old) }
+    ensures { Returns (λ u. out.new) result (line_replaced (seen_context context.now) reached.now out.old) }
 {
     if let Some(head) = reached.as_written() {
         return replace_line(out, context, head);
@@ -72,11 +72,11 @@ fn replace_reached<'a>(
 // Defines the names of a line, and adds the line with its EQU names replaced, unless it is an EQU
 // line.
 fn replace_line<'a>(
-    out: &mut Replacements<'a>,
+    out: &mut LinesSoFar<'a>,
     context: &Context<'a>,
     head: &Head,
 ) -> Result<(), ExpandFault>
-    ensures { Returns (λ u. out.new) result (line_replaced (shared context.now) head.now out.old) }
+    ensures { Returns (λ u. out.new) result (line_replaced (seen_context context.now) head.now out.old) }
 {
     let (labels, others) = split_labels(context.alloc, context.source, head.labels.as_slice())?;
     define_names(&mut out.names, context, labels.as_slice(), head.number)?;
@@ -97,7 +97,7 @@ fn define_names<'a>(
     labels: &[Token],
     line: u64,
 ) -> Result<(), ExpandFault>
-    ensures { Returns (λ u. names_in names.new) result (with_names (shared context.now) line (map (name_of context.now.source.now) labels.now) (names_in names.old)) }
+    ensures { Returns (λ u. names_in names.new) result (with_names (seen_context context.now) line (map (name_of context.now.source.now) labels.now) (names_in names.old)) }
 {
     let mut rest = labels;
     while let Some((label, after)) = rest.split_first() {
@@ -115,7 +115,7 @@ fn define_name<'a>(
     label: &Token,
     line: u64,
 ) -> Result<(), ExpandFault>
-    ensures { Returns (λ u. names_in names.new) result (with_names (shared context.now) line (name_of context.now.source.now label.now ∷ []) (names_in names.old)) }
+    ensures { Returns (λ u. names_in names.new) result (with_names (seen_context context.now) line (name_of context.now.source.now label.now ∷ []) (names_in names.old)) }
 {
     if is_taken(context.names, context.source, label) {
         return Err(at_line(line, ExpandKind::DuplicateName));

@@ -3,10 +3,10 @@
 //! lazy: a line that is reached is a line of the text and the copies that it is in.
 ghost use Rattle.std.specs.Prelude.{◌≡◌};
 ghost use Rattle.rc_expand.specs.Results.{Returns};
-ghost use Rattle.rc_expand.specs.Shared.{shared};
+ghost use Rattle.rc_expand.specs.Contexts.{seen_context};
 ghost use Rattle.rc_expand.specs.Heads.Tree.{tree_of};
-ghost use Rattle.rc_expand.specs.Unroll.{with_line, with_earlier, copies_from, line_checked, checked_line, one_line, block_of, unrolled_in, unrolled};
-ghost use Rattle.rc_expand.specs.Unroll.Copies.{are_any, line_in};
+ghost use Rattle.rc_expand.specs.Unroll.{with_line, with_earlier, copies_from, word_check, line_check, one_line, one_block, unrolled_in, unrolled};
+ghost use Rattle.rc_expand.specs.Unroll.Copies.{is_in_block, line_in};
 ghost use Rattle.rc_expand.specs.Unroll.Openings.{earlier_of};
 ghost use Rattle.rc_expand.specs.Unroll.Reached.{copies_in, reached_part};
 ghost use Rattle.rc_expand.specs.Unroll.Steps.{step_of_copy};
@@ -20,11 +20,11 @@ use crate::context::Context;
 use crate::fault::{ExpandFault, ExpandKind, at_line};
 use crate::heads::blocks::BlockSlice;
 use crate::heads::head::{Head, HeadWord};
-use crate::unroll::opening::{begin_block, check_rof};
+use crate::unroll::opening::{check_rof, read_opening};
 use crate::unroll::reached::{
-    Copying, Reached, have_no_counter, inner_copies, is_short_line, make_line,
+    BlockCopy, Reached, have_no_counter, inner_copies, is_short_line, line_in,
 };
-use crate::unroll::unrolling::{BlockCopies, Unrolling};
+use crate::unroll::unrolling::{BlockToCopy, UnrolledSoFar};
 
 // Unrolls the blocks of lines.
 #[tactic(auto, unfolding(crate::specs::Unroll::unrolled))]
@@ -32,9 +32,9 @@ pub(crate) fn unroll<'a>(
     context: &Context<'a>,
     lines: &BlockSlice<'a>,
 ) -> Result<Vec<Reached<'a>>, ExpandFault>
-    ensures { Returns (λ v. v.items) result (unrolled (shared context.now) (tree_of lines.now.heads.now)) }
+    ensures { Returns (λ v. v.items) result (unrolled (seen_context context.now) (tree_of lines.now.heads.now)) }
 {
-    let mut out = Unrolling::new(context.alloc);
+    let mut out = UnrolledSoFar::new(context.alloc);
     append_lines(&mut out, context, &[], lines)?;
     Ok(out.into_lines())
 }
@@ -42,12 +42,12 @@ pub(crate) fn unroll<'a>(
 // Appends lines as they are in `copies`, with their blocks unrolled.
 #[cycle(unroll)]
 fn append_lines<'a>(
-    out: &mut Unrolling<'a>,
+    out: &mut UnrolledSoFar<'a>,
     context: &Context<'a>,
-    copies: &[Copying<'a>],
+    copies: &[BlockCopy<'a>],
     lines: &BlockSlice<'a>,
 ) -> Result<(), ExpandFault>
-    ensures { Returns (λ u. out.new) result (unrolled_in (shared context.now) (tree_of lines.now.heads.now) (copies_in copies.now) out.old) }
+    ensures { Returns (λ u. out.new) result (unrolled_in (seen_context context.now) (tree_of lines.now.heads.now) (copies_in copies.now) out.old) }
 {
     let mut rest = *lines;
     while let Some((head, block, after)) = rest.split_first() {
@@ -60,11 +60,11 @@ fn append_lines<'a>(
     Ok(())
 }
 
-// Appends a line, or the labels before its counter.
-fn append<'a>(
-    out: &mut Unrolling<'a>,
+// Appends a line as it is in `copies`, or, with `is_earlier`, the labels before its counter alone.
+fn append_reached<'a>(
+    out: &mut UnrolledSoFar<'a>,
     context: &Context<'a>,
-    copies: &[Copying<'a>],
+    copies: &[BlockCopy<'a>],
     head: &'a Head,
     is_earlier: bool,
 ) -> Result<(), ExpandFault>
@@ -76,8 +76,8 @@ fn append<'a>(
 
 // Refuses an EQU in a block and a spoiled line. Reads only the number, the word and `spoiled`.
 // Copying changes none of these in a short line, so the line of the text will do.
-fn check_line(head: &Head, in_block: bool) -> Result<(), ExpandFault>
-    ensures { Returns (λ u. u) result (line_checked head.now.number head.now.word in_block head.now.spoiled) }
+fn check_word(head: &Head, in_block: bool) -> Result<(), ExpandFault>
+    ensures { Returns (λ u. u) result (word_check head.now.number head.now.word in_block head.now.spoiled) }
 {
     if head.spoiled || (in_block && head.word == HeadWord::Equ) {
         return Err(at_line(head.number, ExpandKind::BadDirective));
@@ -85,38 +85,43 @@ fn check_line(head: &Head, in_block: bool) -> Result<(), ExpandFault>
     Ok(())
 }
 
-// Checks a line as it is in `copies`. It is made only if a ninth counter may be joined to it.
-fn check_copied_line(context: &Context, copies: &[Copying], head: &Head) -> Result<(), ExpandFault>
-    ensures { Returns (λ u. u) result (checked_line (are_any (copies_in copies.now)) (line_in context.now.source.now (copies_in copies.now) head.now)) }
+// Checks a line as it is in `copies`. It is made for that only if a ninth counter might be joined
+// to a name of it.
+fn check_copied_line(
+    context: &Context,
+    copies: &[BlockCopy],
+    head: &Head,
+) -> Result<(), ExpandFault>
+    ensures { Returns (λ u. u) result (line_check (is_in_block (copies_in copies.now)) (line_in context.now.source.now (copies_in copies.now) head.now)) }
 {
     let in_block = !copies.is_empty();
     if have_no_counter(copies) || is_short_line(head) {
-        return check_line(head, in_block);
+        return check_word(head, in_block);
     }
-    let made = make_line(context.alloc, context.source, copies, head)?;
-    check_line(&made, in_block)
+    let made = line_in(context.alloc, context.source, copies, head)?;
+    check_word(&made, in_block)
 }
 
 // Appends a line other than FOR and ROF.
 fn append_line<'a>(
-    out: &mut Unrolling<'a>,
+    out: &mut UnrolledSoFar<'a>,
     context: &Context<'a>,
-    copies: &[Copying<'a>],
+    copies: &[BlockCopy<'a>],
     head: &'a Head,
 ) -> Result<(), ExpandFault>
-    ensures { Returns (λ u. out.new) result (one_line (shared context.now) (copies_in copies.now) head.now out.old) }
+    ensures { Returns (λ u. out.new) result (one_line (seen_context context.now) (copies_in copies.now) head.now out.old) }
 {
     check_copied_line(context, copies, head)?;
-    append(out, context, copies, head, false)
+    append_reached(out, context, copies, head, false)
 }
 
 // Appends the labels before a counter as a line of their own, if there are any. `made` is the
 // line of the FOR as it is in `copies`.
 #[tactic(auto, using(crate::proofs::Unrolling::Reaching::no_earlier))]
 fn append_earlier<'a>(
-    out: &mut Unrolling<'a>,
+    out: &mut UnrolledSoFar<'a>,
     context: &Context<'a>,
-    copies: &[Copying<'a>],
+    copies: &[BlockCopy<'a>],
     head: &'a Head,
     made: &Head,
 ) -> Result<(), ExpandFault>
@@ -126,22 +131,22 @@ fn append_earlier<'a>(
     if made.labels.as_slice().len() < 2 {
         return Ok(());
     }
-    append(out, context, copies, head, true)
+    append_reached(out, context, copies, head, true)
 }
 
 // Appends the copy of a block for one `number` of its counter.
 #[cycle(unroll)]
 fn append_copy<'a>(
-    out: &mut Unrolling<'a>,
+    out: &mut UnrolledSoFar<'a>,
     context: &Context<'a>,
-    copies: &[Copying<'a>],
-    block: &BlockCopies<'a>,
+    copies: &[BlockCopy<'a>],
+    block: &BlockToCopy<'a>,
     number: u16,
 ) -> Result<(), ExpandFault>
     ensures { Returns (λ u. out.new) result (step_of_copy context.now copies.now block.now number out.old) }
 {
     out.add_copy(block.line)?;
-    let copy = Copying {
+    let copy = BlockCopy {
         counter: block.counter,
         number,
     };
@@ -152,10 +157,10 @@ fn append_copy<'a>(
 // Appends the copies of a block.
 #[cycle(unroll)]
 fn append_copies<'a>(
-    out: &mut Unrolling<'a>,
+    out: &mut UnrolledSoFar<'a>,
     context: &Context<'a>,
-    copies: &[Copying<'a>],
-    block: &BlockCopies<'a>,
+    copies: &[BlockCopy<'a>],
+    block: &BlockToCopy<'a>,
 ) -> Result<(), ExpandFault>
     ensures { Returns (λ u. out.new) result (copies_from (step_of_copy context.now copies.now block.now) block.now.count 1 out.old) }
 {
@@ -169,25 +174,25 @@ fn append_copies<'a>(
 // when it is reached, after the lines of the block.
 #[cycle(unroll)]
 fn append_block<'a>(
-    out: &mut Unrolling<'a>,
+    out: &mut UnrolledSoFar<'a>,
     context: &Context<'a>,
-    copies: &[Copying<'a>],
+    copies: &[BlockCopy<'a>],
     head: &'a Head,
     inside: &BlockSlice<'a>,
     rof: &'a Head,
 ) -> Result<(), ExpandFault>
-    ensures { Returns (λ u. out.new) result (block_of (shared context.now) (unrolled_in (shared context.now) (tree_of inside.now.heads.now)) (copies_in copies.now) head.now rof.now out.old) }
+    ensures { Returns (λ u. out.new) result (one_block (seen_context context.now) (unrolled_in (seen_context context.now) (tree_of inside.now.heads.now)) (copies_in copies.now) head.now rof.now out.old) }
 {
-    let made = make_line(context.alloc, context.source, copies, head)?;
-    let opening = begin_block(context, &made)?;
+    let made = line_in(context.alloc, context.source, copies, head)?;
+    let opening = read_opening(context, &made)?;
     append_earlier(out, context, copies, head, &made)?;
-    let block = BlockCopies {
+    let block = BlockToCopy {
         line: head.number,
         counter: opening.counter,
         count: opening.count,
         inside: *inside,
     };
     append_copies(out, context, copies, &block)?;
-    let made_rof = make_line(context.alloc, context.source, copies, rof)?;
+    let made_rof = line_in(context.alloc, context.source, copies, rof)?;
     check_rof(&made_rof)
 }

@@ -7,7 +7,7 @@ use Rattle.rc_text.specs.declared.token.Sign.TheVariants.{Open, Close}
 use Rattle.rc_text.specs.declared.fault.EvalFault.{EvalFault}
 use Rattle.rc_text.specs.declared.fault.EvalFault.TheVariants.{Syntax, TooDeep}
 use Rattle.rc_text.specs.Symbols.{Symbol, Numeral, Identifier, Mark, Foreign}
-use Rattle.rc_text.specs.Grammar.{spelling_of, level_of, is_prefix, depth_of}
+use Rattle.rc_text.specs.Grammar.{spelling_of, LOOSEST_LEVEL, level_of, is_prefix, depth_of}
 use Rattle.rc_text.specs.Values.{DEEPEST, opens_too_many, HasNoTree}
 use Rattle.rc_text.specs.Reading.{Algebra, Frame, Paren, Before, Left, open_count, Continuation, reduction, at_bottom, at_paren, is_close, is_open, before_operand, after_operand}
 use Rattle.rc_text.proofs.ReadTrees.{meaning_in}
@@ -99,11 +99,11 @@ module _ {A : Type 0} (m : Algebra A) where
 
     -- the same after an operand
     pub after_too_deep : (ws : List Symbol) (x : A) (S : List (Frame A)) → m.limit ≡ DEEPEST → after_operand m ws x S ≡ Err TooDeep → opens_too_many (open_count S) ws ≡ true
-    after_too_deep [] x S l h = let r = reduced_fault 1 at_bottom x S TooDeep h in absurd (at_bottom_not_deep r.0 r.1 r.3)
+    after_too_deep [] x S l h = let r = reduced_fault LOOSEST_LEVEL at_bottom x S TooDeep h in absurd (at_bottom_not_deep r.0 r.1 r.3)
     after_too_deep (Mark s ∷ ws) x S l h =
         elim (chosen (is_close s) _ _ (Err TooDeep) h) [
           | inl (on, g) ↦
-              let r = reduced_fault 1 (at_paren m (after_operand m ws)) x S TooDeep g in
+              let r = reduced_fault LOOSEST_LEVEL (at_paren m (after_operand m ws)) x S TooDeep g in
               let p = at_paren_deep (after_operand m ws) r.0 r.1 r.3 in
               closed s (open_count S) ws on (ap (λ n. opens_too_many n ws) (ap (λ n. n - 1) (sym r.2) ∙ sym p.2) ∙ after_too_deep ws p.0 p.1 l p.3)
           | inr (off, g) ↦ elim (chosen (nat_lt 0 (level_of s)) _ _ (Err TooDeep) g) [
@@ -167,10 +167,10 @@ module _ {A : Type 0} (m : Algebra A) where
 
     -- the same after an operand
     pub after_ends : (ws : List Symbol) (x : A) (S : List (Frame A)) (e : EvalFault) → after_operand m ws x S ≡ Err e → EndsReading e
-    after_ends [] x S e h = let r = reduced_fault m 1 at_bottom x S e h in bottom_ends r.0 r.1 e r.3
+    after_ends [] x S e h = let r = reduced_fault m LOOSEST_LEVEL at_bottom x S e h in bottom_ends r.0 r.1 e r.3
     after_ends (Mark s ∷ ws) x S e h =
         elim (chosen (is_close s) _ _ (Err e) h) [
-          | inl (on, g) ↦ let r = reduced_fault m 1 (at_paren m (after_operand m ws)) x S e g in paren_ends (after_operand m ws) (after_ends ws) r.0 r.1 e r.3
+          | inl (on, g) ↦ let r = reduced_fault m LOOSEST_LEVEL (at_paren m (after_operand m ws)) x S e g in paren_ends (after_operand m ws) (after_ends ws) r.0 r.1 e r.3
           | inr (off, g) ↦ elim (chosen (nat_lt 0 (level_of s)) _ _ (Err e) g) [
             | inl (is, f) ↦ let r = reduced_fault m (level_of s) (λ y T. before_operand m ws (Left y s ∷ T)) x S e f in before_ends ws (Left r.0 s ∷ r.1) e r.3
             | inr (not, f) ↦ ends Syntax e (Err Syntax) tt refl f
@@ -231,10 +231,10 @@ module _ {A : Type 0} (m : Algebra A) (limit : ℕ) (wider : m.limit ≤ limit) 
 
     -- the same after an operand
     pub after_syntax : (ws : List Symbol) (x : A) (S : List (Frame A)) → after_operand m ws x S ≡ Err Syntax → after_operand (widened m limit) ws x S ≡ Err Syntax
-    after_syntax [] x S h = reduced_syntax 1 at_bottom at_bottom x S at_bottom_syntax h
+    after_syntax [] x S h = reduced_syntax LOOSEST_LEVEL at_bottom at_bottom x S at_bottom_syntax h
     after_syntax (Mark s ∷ ws) x S h =
         elim (chosen (is_close s) _ _ (Err Syntax) h) [
-          | inl (on, g) ↦ rw on (reduced_syntax 1 (at_paren m (after_operand m ws)) (at_paren (widened m limit) (after_operand (widened m limit) ws)) x S (at_paren_syntax (after_operand m ws) (after_operand (widened m limit) ws) (after_syntax ws)) g)
+          | inl (on, g) ↦ rw on (reduced_syntax LOOSEST_LEVEL (at_paren m (after_operand m ws)) (at_paren (widened m limit) (after_operand (widened m limit) ws)) x S (at_paren_syntax (after_operand m ws) (after_operand (widened m limit) ws) (after_syntax ws)) g)
           | inr (off, g) ↦ elim (chosen (nat_lt 0 (level_of s)) _ _ (Err Syntax) g) [
             | inl (is, f) ↦ rw (off, is) (reduced_syntax (level_of s) (λ y T. before_operand m ws (Left y s ∷ T)) (λ y T. before_operand (widened m limit) ws (Left y s ∷ T)) x S (λ y T. before_syntax ws (Left y s ∷ T)) f)
             | inr (not, f) ↦ rw (off, not) refl

@@ -16,7 +16,7 @@ use Rattle.rc_text.specs.declared.fault.LexFault.{LexFault}
 use Rattle.rc_text.specs.declared.lexeme.Lexeme.{Lexeme}
 use Rattle.rc_text.specs.declared.lexeme.Lexeme.TheVariants.{Trivia, LineFeed, Word, Fault}
 use Rattle.rc_text.specs.declared.token.Kind.TheVariants.{LineEnd}
-use Rattle.rc_text.specs.Tokens.{lexeme_of, is_assert, sign_lexeme, tokens_after, with_token, token_of, tokens_from, line_after, ahead, ahead_at, Ahead, TakesToken}
+use Rattle.rc_text.specs.Tokens.{lexeme_of, is_assert, sign_lexeme, tokens_after, with_token, token_of, tokens_from, line_after, lexer_view, lexer_at, LexerView, TakesToken}
 
 -- the rest of a piece is passed over
 skipped : (bs : List ℕ) (k : ℕ) (first : Bool) (at line : ℕ) → k ≤ length bs → tokens_from bs k first at line ≡ tokens_from (drop k bs) 0 first (at + k) line
@@ -130,17 +130,17 @@ past_blanks (b ∷ bs) first at line = by_first (is_blank b) refl (past_blanks b
   by_first false e more = rw add-zero
 
 -- skipping the blanks at `at` changes nothing of what lies ahead
-pub blanks_at : (source : List ℕ) (first : Bool) (at line n : ℕ) → at ≤ length source → n ≡ prefix_len is_blank (take (length source - at) (drop at source)) → (at + n ≤ length source) × (ahead_at source first (at + n) line ≡ ahead_at source first at line)
+pub blanks_at : (source : List ℕ) (first : Bool) (at line n : ℕ) → at ≤ length source → n ≡ prefix_len is_blank (take (length source - at) (drop at source)) → (at + n ≤ length source) × (lexer_at source first (at + n) line ≡ lexer_at source first at line)
 blanks_at source first at line n h e =
     let tail : take (length source - at) (drop at source) ≡ drop at source = between_to_end source at (length source) (omega arith) in
     let is : n ≡ prefix_len is_blank (drop at source) = e ∙ ap (prefix_len is_blank) tail in
     let le = prefix_len-le-length is_blank (drop at source) in
     let d : drop n (drop at source) ≡ drop (at + n) source = rw drop-drop in
     let p : tokens_from (drop at source) 0 first at line ≡ tokens_from (drop n (drop at source)) 0 first (at + n) line = rw is (past_blanks (drop at source) first at line) in
-    (omega (arith, is, le, length-drop at source), ap (λ t. ahead t line) (sym (p ∙ ap (λ bs. tokens_from bs 0 first (at + n) line) d)))
+    (omega (arith, is, le, length-drop at source), ap (λ t. lexer_view t line) (sym (p ∙ ap (λ bs. tokens_from bs 0 first (at + n) line) d)))
 
 -- the same at a place of a source, for what lies ahead there
-module _ (source : List ℕ) (first : Bool) (at line : ℕ) (v : Ahead) (inside : at < length source) (is : ahead_at source first at line ≡ v) where
+module _ (source : List ℕ) (first : Bool) (at line : ℕ) (v : LexerView) (inside : at < length source) (is : lexer_at source first at line ≡ v) where
   -- a byte is left
   some_left : 0 < length (drop at source)
   some_left = simp length-drop (omega arith)
@@ -158,15 +158,15 @@ module _ (source : List ℕ) (first : Bool) (at line : ℕ) (v : Ahead) (inside 
   tail = between_to_end source at (length source) (omega arith)
 
   -- past what is not a token
-  pub trivia_at : (len : ℕ) → Trivia len ≡ lexeme_of first (take (length source - at) (drop at source)) → (0 < len) × (at + len ≤ length source) × (ahead_at source first (at + len) line ≡ v)
+  pub trivia_at : (len : ℕ) → Trivia len ≡ lexeme_of first (take (length source - at) (drop at source)) → (0 < len) × (at + len ≤ length source) × (lexer_at source first (at + len) line ≡ v)
   trivia_at len e =
       let f = subst (FitsIn (drop at source)) (sym (e ∙ ap (lexeme_of first) tail)) fits in
       let l = subst (LiesAhead (drop at source) first at line) (sym (e ∙ ap (lexeme_of first) tail)) front in
       let d : drop len (drop at source) ≡ drop (at + len) source = rw drop-drop in
-      (f.0, omega (arith, f.1, length-drop at source), ap (λ bs. ahead (tokens_from bs 0 first (at + len) line) line) (sym d) ∙ (ap (λ x. ahead x line) (sym l) ∙ is))
+      (f.0, omega (arith, f.1, length-drop at source), ap (λ bs. lexer_view (tokens_from bs 0 first (at + len) line) line) (sym d) ∙ (ap (λ x. lexer_view x line) (sym l) ∙ is))
 
   -- past a line feed
-  pub line_feed_at : LineFeed ≡ lexeme_of first (take (length source - at) (drop at source)) → TakesToken v (Ok (Some (token_of LineEnd at 1 line))) (ahead_at source true (at + 1) (line + 1))
+  pub line_feed_at : LineFeed ≡ lexeme_of first (take (length source - at) (drop at source)) → TakesToken v (Ok (Some (token_of LineEnd at 1 line))) (lexer_at source true (at + 1) (line + 1))
   line_feed_at e =
       let l = subst (LiesAhead (drop at source) first at line) (sym (e ∙ ap (lexeme_of first) tail)) front in
       let d : drop 1 (drop at source) ≡ drop (at + 1) source = rw drop-drop in
@@ -174,7 +174,7 @@ module _ (source : List ℕ) (first : Bool) (at line : ℕ) (v : Ahead) (inside 
       (sym (ap (λ x. x.tokens) is) ∙ ap (λ x. x.tokens) m, sym (ap (λ x. x.ending) m) ∙ ap (λ x. x.ending) is, ap (λ x. x.line) is, refl)
 
   -- past a token
-  pub word_at : (len : ℕ) (kind : Kind) → Word len kind ≡ lexeme_of first (take (length source - at) (drop at source)) → (0 < len) × (at + len ≤ length source) × TakesToken v (Ok (Some (token_of kind at len line))) (ahead_at source false (at + len) line)
+  pub word_at : (len : ℕ) (kind : Kind) → Word len kind ≡ lexeme_of first (take (length source - at) (drop at source)) → (0 < len) × (at + len ≤ length source) × TakesToken v (Ok (Some (token_of kind at len line))) (lexer_at source false (at + len) line)
   word_at len kind e =
       let f = subst (FitsIn (drop at source)) (sym (e ∙ ap (lexeme_of first) tail)) fits in
       let l = subst (LiesAhead (drop at source) first at line) (sym (e ∙ ap (lexeme_of first) tail)) front in

@@ -4,7 +4,7 @@ use Rattle.std.proofs.lemmas.Bool.Decides.{nat_tests}
 use Rattle.rc_text.specs.declared.token.Sign.{Sign}
 use Rattle.rc_text.specs.declared.token.Sign.TheVariants.{Open, Close, Plus, Minus, Star, Slash, Percent, Less, Greater, LessEqual, GreaterEqual, Equal, NotEqual, And, Or}
 use Rattle.rc_text.specs.Symbols.{Symbol, Numeral, Identifier, Mark, Foreign}
-use Rattle.rc_text.specs.Grammar.{Tree, Literal, Named, Group, Prefix, Infix, spelling_of, level_of, is_prefix, tightness, IsGrammatical, depth_of}
+use Rattle.rc_text.specs.Grammar.{Tree, Literal, Named, Group, Prefix, Infix, spelling_of, LOOSEST_LEVEL, OPERAND_LEVEL, level_of, is_prefix, tightness, IsGrammatical, depth_of}
 use Rattle.rc_text.specs.Reading.{Algebra, Frame, Paren, Before, Left, open_count, Continuation, reduction, at_bottom, at_paren, is_close, is_open, before_operand, after_operand, FitsFrames, Stops}
 
 -- what a tree means
@@ -81,9 +81,9 @@ module _ {A : Type 0} (m : Algebra A) where
   -- a left side is closed where no tighter operator follows
   pub after_left : (ws : List Symbol) (x l : A) (s : Sign) (S : List (Frame A)) → 0 < level_of s → Stops (suc (level_of s)) ws → after_operand m ws x (Left l s ∷ S) ≡ after_operand m ws (m.infix' l s x) S
   unfolding after_operand before_operand
-  after_left [] x l s S h stops = reduction_left 1 at_bottom x l s S (omega arith)
+  after_left [] x l s S h stops = reduction_left LOOSEST_LEVEL at_bottom x l s S (omega arith)
   after_left (Mark r ∷ ws) x l s S h stops =
-      let in_parens = reduction_left 1 (at_paren m (after_operand m ws)) x l s S (omega arith) in
+      let in_parens = reduction_left LOOSEST_LEVEL (at_paren m (after_operand m ws)) x l s S (omega arith) in
       let in_operator = reduction_left (level_of r) (λ y T. before_operand m ws (Left y r ∷ T)) x l s S (omega arith) in
       rw (in_parens, in_operator) refl
   after_left (Numeral n ∷ ws) x l s S h stops = refl
@@ -111,7 +111,7 @@ module _ {A : Type 0} (m : Algebra A) where
   reads (Prefix s t) S k g b stops d =
       let signed : is_prefix s ≡ true = g.0 in
       let not_open : is_open s ≡ false = not_open_of_prefix s signed in
-      let inner = reads t (Before s ∷ S) k g.2 g.1 (stops_more 8 (suc (tightness t)) k (omega arith) stops) d in
+      let inner = reads t (Before s ∷ S) k g.2 g.1 (stops_more OPERAND_LEVEL (suc (tightness t)) k (omega arith) stops) d in
       rw (not_open, signed) (inner ∙ after_before k (meaning_in m t) s S)
   reads (Infix l s r) S k g b stops d =
       let left = reads l S (Mark s ∷ (spelling_of r ++ k)) g.3 (below_more (level_of s) (tightness l) S g.1 b) (omega arith) (omega arith) in

@@ -7,7 +7,7 @@ use Rattle.rc_text.specs.declared.token.Sign.{Sign}
 use Rattle.rc_text.specs.declared.token.Sign.TheVariants.{Open, Close}
 use Rattle.rc_text.specs.declared.fault.EvalFault.{EvalFault}
 use Rattle.rc_text.specs.Symbols.{Symbol, Numeral, Identifier, Mark, Foreign}
-use Rattle.rc_text.specs.Grammar.{Tree, Literal, Named, Group, Prefix, Infix, spelling_of, level_of, is_prefix, tightness, IsGrammatical, depth_of}
+use Rattle.rc_text.specs.Grammar.{Tree, Literal, Named, Group, Prefix, Infix, spelling_of, LOOSEST_LEVEL, PREFIX_LEVEL, level_of, is_prefix, tightness, IsGrammatical, depth_of}
 use Rattle.rc_text.specs.Reading.{Algebra, Frame, Paren, Before, Left, open_count, Continuation, reduction, at_bottom, at_paren, is_close, is_open, before_operand, after_operand, FitsFrames}
 use Rattle.rc_text.proofs.ReadTrees.{meaning_in, below_more, level_le_6}
 
@@ -61,11 +61,11 @@ pub record Rest {A : Type 0} (m : Algebra A) (n : ℕ) (next : Continuation A) (
   pub goes_on : next value frames ≡ Ok y
 
 -- frames are no tighter than a prefix
-below_seven : {A : Type 0} (S : List (Frame A)) → FitsFrames 7 S
-below_seven [] = tt
-below_seven (Paren ∷ S) = tt
-below_seven (Before s ∷ S) = omega arith
-below_seven (Left x s ∷ S) = omega (arith, level_le_6 s)
+below_prefix : {A : Type 0} (S : List (Frame A)) → FitsFrames PREFIX_LEVEL S
+below_prefix [] = tt
+below_prefix (Paren ∷ S) = tt
+below_prefix (Before s ∷ S) = omega arith
+below_prefix (Left x s ∷ S) = omega (arith, level_le_6 s)
 
 -- the closing parenthesis
 pub is_Close : (s : Sign) → is_close s ≡ true → s ≡ Close
@@ -98,14 +98,14 @@ module _ {A : Type 0} (m : Algebra A) where
   renamed v w e r = record { tree = r.tree; value = r.value; trees = r.trees; frames = r.frames; means = r.means; stand = r.stand; below = r.below; stops = r.stops; tight = r.tight; spells = r.spells ∙ e; goes_on = r.goes_on }
 
   -- frames that are closed make a tree
-  pub reduced : (n : ℕ) (next : Continuation A) (t : Tree) (x y : A) {T : List (Frame Tree)} {S : List (Frame A)} → 0 < n → n ≤ 7 → Means m (open_count S) t x → Stand m T S → FitsFrames (tightness t) S → n ≤ tightness t
+  pub reduced : (n : ℕ) (next : Continuation A) (t : Tree) (x y : A) {T : List (Frame Tree)} {S : List (Frame A)} → 0 < n → n ≤ PREFIX_LEVEL → Means m (open_count S) t x → Stand m T S → FitsFrames (tightness t) S → n ≤ tightness t
       → reduction m n next x S ≡ Ok y → Rest m n next (before T ++ spelling_of t) y
   reduced n next t x y pos small means bottom below tight h = record { tree = t; value = x; trees = []; frames = []; means = means; stand = bottom; below = below; stops = tt; tight = tight; spells = refl; goes_on = h }
   reduced n next t x y pos small means (paren {T} {S} stand) below tight h = record { tree = t; value = x; trees = Paren ∷ T; frames = Paren ∷ S; means = means; stand = paren stand; below = below; stops = tt; tight = tight; spells = refl; goes_on = h }
   reduced n next t x y pos small means (signed {T} {S} s is stand) below tight h =
       let value : meaning_in m (Prefix s t) ≡ m.prefix s x = ap (m.prefix s) means.value in
       renamed (before T ++ spelling_of (Prefix s t)) _ (sym (append_assoc (before T) (Mark s ∷ []) (spelling_of t)))
-      (reduced n next (Prefix s t) (m.prefix s x) y pos small (record { grammatical = (is, below, means.grammatical); value = value; room = means.room }) stand (below_seven S) small h)
+      (reduced n next (Prefix s t) (m.prefix s x) y pos small (record { grammatical = (is, below, means.grammatical); value = value; room = means.room }) stand (below_prefix S) small h)
   reduced n next t x y pos small means (sided {T} {S} u l s is_operator firm under left stand) below tight h =
       elim (chosen (nat_le n (level_of s)) _ _ (Ok y) h) [
         | inl (on, g) ↦
@@ -157,15 +157,15 @@ module _ {A : Type 0} (m : Algebra A) where
     whole_before (Foreign ∷ ws) y stand room h = cc
 
     -- after an operand
-    pub whole_after : (ws : List Symbol) (y : A) (t : Tree) (x : A) {T : List (Frame Tree)} {S : List (Frame A)} → Stand m T S → Means m (open_count S) t x → 7 ≤ tightness t → after_operand m ws x S ≡ Ok y → Whole m (before T ++ (spelling_of t ++ ws)) y
+    pub whole_after : (ws : List Symbol) (y : A) (t : Tree) (x : A) {T : List (Frame Tree)} {S : List (Frame A)} → Stand m T S → Means m (open_count S) t x → PREFIX_LEVEL ≤ tightness t → after_operand m ws x S ≡ Ok y → Whole m (before T ++ (spelling_of t ++ ws)) y
     whole_after [] y t x {T} {S} stand means tight h =
-        let r = reduced 1 at_bottom t x y (omega arith) (omega arith) means stand (below_more 7 (tightness t) S tight (below_seven S)) (omega arith) h in
+        let r = reduced LOOSEST_LEVEL at_bottom t x y (omega arith) (omega arith) means stand (below_more PREFIX_LEVEL (tightness t) S tight (below_prefix S)) (omega arith) h in
         same_symbols _ _ (r.spells ∙ ap (λ w. before T ++ w) (sym (append-nil (spelling_of t)))) (whole_of_bottom r.tree r.value y r.stand r.means r.goes_on)
     whole_after (Mark s ∷ ws) y t x {T} {S} stand means tight h =
-        let below : FitsFrames (tightness t) S = below_more 7 (tightness t) S tight (below_seven S) in
+        let below : FitsFrames (tightness t) S = below_more PREFIX_LEVEL (tightness t) S tight (below_prefix S) in
         elim (chosen (is_close s) _ _ (Ok y) h) [
           | inl (on, g) ↦
-              let r = reduced 1 (at_paren m (after_operand m ws)) t x y (omega arith) (omega arith) means stand below (omega arith) g in
+              let r = reduced LOOSEST_LEVEL (at_paren m (after_operand m ws)) t x y (omega arith) (omega arith) means stand below (omega arith) g in
               let o = opened (after_operand m ws) r.tree r.value y r.stand r.means r.goes_on in
               same_symbols _ _ (ap (λ w. before o.trees ++ (Mark Open ∷ w)) (append_assoc (spelling_of o.tree) (Mark Close ∷ []) ws)
               ∙ (sym (append_assoc (before o.trees) (Mark Open ∷ spelling_of o.tree) (Mark Close ∷ ws))

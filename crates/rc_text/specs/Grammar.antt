@@ -21,7 +21,19 @@ spelling_of (Group t) = Mark Open ∷ (spelling_of t ++ Mark Close ∷ [])
 spelling_of (Prefix s t) = Mark s ∷ spelling_of t
 spelling_of (Infix a s b) = spelling_of a ++ (Mark s ∷ spelling_of b)
 
--- The level of an operator, from 1 (loosest) to 6 (tightest), or 0 for any other sign.
+-- The level of `||`, the loosest operator.
+abbrev pub LOOSEST_LEVEL : ℕ
+LOOSEST_LEVEL = 1
+
+-- The level of prefix operators, which are tighter than any infix operator.
+abbrev pub PREFIX_LEVEL : ℕ
+PREFIX_LEVEL = 7
+
+-- The level of a decimal, a name and parentheses, which nothing parts.
+abbrev pub OPERAND_LEVEL : ℕ
+OPERAND_LEVEL = 8
+
+-- The level of an infix operator, from 1 (loosest) to 6 (tightest), or 0 for any other sign.
 abbrev pub level_of : Sign → ℕ
 level_of Or = 1
 level_of And = 2
@@ -45,13 +57,12 @@ is_prefix Minus = true
 is_prefix Bang = true
 is_prefix _ = false
 
--- How tightly a tree binds: an infix operator as its level says, a prefix operator more tightly,
--- and a decimal, a name and parentheses the most, since nothing parts them.
+-- How tightly a tree binds: the level of what is at its top.
 abbrev pub tightness : Tree → ℕ
-tightness (Literal n) = 8
-tightness (Named name) = 8
-tightness (Group t) = 8
-tightness (Prefix s t) = 7
+tightness (Literal n) = OPERAND_LEVEL
+tightness (Named name) = OPERAND_LEVEL
+tightness (Group t) = OPERAND_LEVEL
+tightness (Prefix s t) = PREFIX_LEVEL
 tightness (Infix a s b) = level_of s
 
 -- Each operand binds tightly enough: at least as tightly as its operator on the left, and more
@@ -60,7 +71,7 @@ abbrev pub IsGrammatical : Tree → Type 0
 IsGrammatical (Literal n) = Unit {0}
 IsGrammatical (Named name) = Unit {0}
 IsGrammatical (Group t) = IsGrammatical t
-IsGrammatical (Prefix s t) = IsTrue (is_prefix s) × (7 ≤ tightness t) × IsGrammatical t
+IsGrammatical (Prefix s t) = IsTrue (is_prefix s) × (PREFIX_LEVEL ≤ tightness t) × IsGrammatical t
 IsGrammatical (Infix a s b) = (0 < level_of s) × (level_of s ≤ tightness a) × (level_of s < tightness b) × IsGrammatical a × IsGrammatical b
 
 -- How deep the parentheses of a tree are nested.

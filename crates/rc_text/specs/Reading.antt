@@ -12,7 +12,7 @@ use Rattle.rc_text.specs.declared.token.Token.{Token}
 use Rattle.rc_text.specs.declared.fault.EvalFault.{EvalFault}
 use Rattle.rc_text.specs.declared.fault.EvalFault.TheVariants.{Syntax, TooDeep}
 use Rattle.rc_text.specs.Symbols.{Symbol, Numeral, Identifier, Mark, Foreign, symbols_of}
-use Rattle.rc_text.specs.Grammar.{level_of, is_prefix}
+use Rattle.rc_text.specs.Grammar.{LOOSEST_LEVEL, PREFIX_LEVEL, level_of, is_prefix}
 use Rattle.rc_text.specs.Values.{Meaning, Outcome, name_outcome, prefix_outcome, infix_outcome, DEEPEST}
 
 -- The meaning of the parts of an expression, and the most parentheses that may be open.
@@ -85,9 +85,9 @@ unfoldable mutual
   before_operand m (Foreign ∷ rest) frames = Err Syntax
 
   pub after_operand : {A : Type 0} → Algebra A → List Symbol → A → List (Frame A) → Read A
-  after_operand m [] x frames = reduction m 1 at_bottom x frames
+  after_operand m [] x frames = reduction m LOOSEST_LEVEL at_bottom x frames
   after_operand m (Mark s ∷ rest) x frames =
-      if is_close s then reduction m 1 (at_paren m (after_operand m rest)) x frames else
+      if is_close s then reduction m LOOSEST_LEVEL (at_paren m (after_operand m rest)) x frames else
       if nat_lt 0 (level_of s) then reduction m (level_of s) (λ y others. before_operand m rest (Left y s ∷ others)) x frames else Err Syntax
   after_operand m (_ ∷ rest) x frames = Err Syntax
 
@@ -107,11 +107,11 @@ values names limit = record {
 abbrev pub evaluation_of : Meaning → List Symbol → Outcome
 evaluation_of names symbols = result_flatten (before_operand (values names DEEPEST) symbols [])
 
--- An operand of tightness `n` may come on these frames.
+-- An operand that binds as tightly as level `n` may come on these frames.
 abbrev pub FitsFrames : {A : Type 0} → ℕ → List (Frame A) → Type 0
 FitsFrames n [] = Unit {0}
 FitsFrames n (Paren ∷ frames) = Unit {0}
-FitsFrames n (Before s ∷ frames) = 7 ≤ n
+FitsFrames n (Before s ∷ frames) = PREFIX_LEVEL ≤ n
 FitsFrames n (Left x s ∷ frames) = level_of s < n
 
 -- The next symbol is not an operator of level `n` or tighter.

@@ -56,10 +56,10 @@ token_of kind lo len line = record { kind = kind; lo = lo; hi = lo + len; line =
 abbrev pub with_token : Token → TokenList → TokenList
 with_token t l = record { tokens = t ∷ l.tokens; ending = l.ending }
 
--- The tokens that follow, by the number of bytes that the last token still covers, whether only
--- blanks came before on the line, the index of the next byte, and its line.
+-- The tokens from the byte at index `at` on, which is in line `line`. The last lexeme still covers
+-- `inside` bytes; `first` says that only blanks come before the byte on its line.
 abbrev pub Onward : Type 0
-Onward = ℕ → Bool → ℕ → ℕ → TokenList
+Onward = (inside : ℕ) → (first : Bool) → (at line : ℕ) → TokenList
 
 abbrev pub tokens_after : Lexeme → Onward → Bool → ℕ → ℕ → TokenList
 tokens_after (Trivia len) next first at line = next (len - 1) first (at + 1) line
@@ -77,22 +77,22 @@ tokens_from (b ∷ rest) zero first at line = tokens_after (lexeme_of first (b �
 abbrev pub tokens_of : List ℕ → TokenList
 tokens_of text = let h = header_of text in tokens_from (drop h.bytes text) 0 true h.bytes (1 + h.lines)
 
--- The state of a lexer: the tokens still to come, what ends them, and the current line.
-pub record Ahead : Type 0 where
+-- What contracts see of a lexer: the tokens still to come, what ends them, and the current line.
+pub record LexerView : Type 0 where
   pub tokens : List Token
   pub ending : Option LexFault
   pub line : ℕ
 
-abbrev pub ahead : TokenList → ℕ → Ahead
-ahead l line = record { tokens = l.tokens; ending = l.ending; line = line }
+abbrev pub lexer_view : TokenList → ℕ → LexerView
+lexer_view l line = record { tokens = l.tokens; ending = l.ending; line = line }
 
--- The state at a given index of a text.
-abbrev pub ahead_at : List ℕ → Bool → ℕ → ℕ → Ahead
-ahead_at text first at line = ahead (tokens_from (drop at text) 0 first at line) line
+-- The lexer at an index of a text.
+abbrev pub lexer_at : List ℕ → Bool → ℕ → ℕ → LexerView
+lexer_at text first at line = lexer_view (tokens_from (drop at text) 0 first at line) line
 
--- The state at the beginning of a text.
-abbrev pub ahead_of : List ℕ → Ahead
-ahead_of text = ahead (tokens_of text) (1 + (header_of text).lines)
+-- The lexer at the beginning of a text.
+abbrev pub new_lexer : List ℕ → LexerView
+new_lexer text = lexer_view (tokens_of text) (1 + (header_of text).lines)
 
 -- A line end moves on to the next line.
 abbrev pub line_after : Kind → ℕ → ℕ
@@ -101,7 +101,7 @@ line_after _ line = line
 
 -- The first token is taken and the others stay; if none is left, the result is what ends the
 -- tokens, and nothing changes.
-abbrev pub TakesToken : Ahead → Result (Option Token) LexFault → Ahead → Type 0
+abbrev pub TakesToken : LexerView → Result (Option Token) LexFault → LexerView → Type 0
 TakesToken old (Ok (Some t)) new = (old.tokens ≡ t ∷ new.tokens) × (new.ending ≡ old.ending) × (t.line ≡ old.line) × (new.line ≡ line_after t.kind t.line)
 TakesToken old (Ok None) new = (old.tokens ≡ []) × (old.ending ≡ None) × (new ≡ old)
 TakesToken old (Err f) new = (old.tokens ≡ []) × (old.ending ≡ Some f) × (new ≡ old)

@@ -1,6 +1,7 @@
 //! Evaluation of expressions, by precedence climbing.
 ghost use Rattle.std.specs.Prelude.{true, ◌≡◌, ℤ, ◌<◌, ◌≤◌, [], ◌∷◌, length, IfOk, IfErr, IfSome, IfNone, All, MatchResult, Result};
 ghost use Rattle.std.specs.List.{prefix_len};
+ghost use Rattle.rc_text.specs.Grammar.{PREFIX_LEVEL, OPERAND_LEVEL};
 ghost use Rattle.rc_text.specs.Values.{DEEPEST};
 ghost use Rattle.rc_text.specs.Symbols.{symbol_of, symbols_of, Mark};
 ghost use Rattle.rc_text.specs.Reading.{Reads, Stops, is_prefix_kind, signed_by, signed_outcome, evaluation_of};
@@ -10,7 +11,7 @@ use crate::front::{after_close, first_of, operator, split_signs};
 use crate::limits;
 use crate::names::Names;
 use crate::operator::{
-    Outcome, infix_outcome, level_of, name_outcome, number_outcome, prefix_outcome,
+    LOOSEST_LEVEL, Outcome, infix_outcome, level_of, name_outcome, number_outcome, prefix_outcome,
 };
 use crate::token::{Kind, Sign, Token};
 
@@ -53,7 +54,7 @@ fn eval_token<N: Names>(source: &[u8], token: &Token, names: &N) -> Outcome
 fn climb_all<N: Names>(source: &[u8], tokens: &[Token], names: &N) -> Outcome
     ensures { result ≡ evaluation_of (N.meaning names.now) (symbols_of source.now tokens.now) }
 {
-    let (outcome, rest) = climb(source, tokens, names, 1, 0)?;
+    let (outcome, rest) = climb(source, tokens, names, LOOSEST_LEVEL, 0)?;
     if rest.is_empty() {
         outcome
     } else {
@@ -94,13 +95,13 @@ fn group<'a, N: Names>(
     depth: u8,
 ) -> Result<(Outcome, &'a [Token]), EvalFault>
     requires room { depth ≤ DEEPEST }
-    ensures read { Reads (N.meaning names.now) 8 depth source.now (Mark Sign.Open ∷ symbols_of source.now tokens.now) result }
+    ensures read { Reads (N.meaning names.now) OPERAND_LEVEL depth source.now (Mark Sign.Open ∷ symbols_of source.now tokens.now) result }
     ensures shorter { IfOk result (λ r. length r.1.now < length tokens.now) }
 {
     if depth == limits::DEEPEST {
         return Err(EvalFault::TooDeep);
     }
-    let (outcome, after) = climb(source, tokens, names, 1, depth + 1)?;
+    let (outcome, after) = climb(source, tokens, names, LOOSEST_LEVEL, depth + 1)?;
     match after_close(source, after) {
         None => Err(EvalFault::Syntax),
         Some(rest) => Ok((outcome, rest)),
@@ -117,7 +118,7 @@ fn primary<'a, N: Names>(
 ) -> Result<(Outcome, &'a [Token]), EvalFault>
     requires room { depth ≤ DEEPEST }
     requires unsigned { prefix_len (λ t. is_prefix_kind t.kind) tokens.now ≡ 0 }
-    ensures read { Reads (N.meaning names.now) 8 depth source.now (symbols_of source.now tokens.now) result }
+    ensures read { Reads (N.meaning names.now) OPERAND_LEVEL depth source.now (symbols_of source.now tokens.now) result }
     ensures shorter { IfOk result (λ r. length r.1.now < length tokens.now) }
 {
     match first_of(source, tokens) {
@@ -143,7 +144,7 @@ fn operand<'a, N: Names>(
     depth: u8,
 ) -> Result<(Outcome, &'a [Token]), EvalFault>
     requires room { depth ≤ DEEPEST }
-    ensures read { Reads (N.meaning names.now) 8 depth source.now (symbols_of source.now tokens.now) result }
+    ensures read { Reads (N.meaning names.now) OPERAND_LEVEL depth source.now (symbols_of source.now tokens.now) result }
     ensures shorter { IfOk result (λ r. length r.1.now < length tokens.now) }
 {
     let (signs, unsigned) = split_signs(tokens);
@@ -162,7 +163,7 @@ fn climb<'a, N: Names>(
 ) -> Result<(Outcome, &'a [Token]), EvalFault>
     requires room { depth ≤ DEEPEST }
     requires level { 0 < level }
-    requires tightest { level ≤ 7 }
+    requires tightest { level ≤ PREFIX_LEVEL }
     ensures read { Reads (N.meaning names.now) level depth source.now (symbols_of source.now tokens.now) result }
     ensures stops { IfOk result (λ r. Stops level (symbols_of source.now r.1.now)) }
     ensures shorter { IfOk result (λ r. length r.1.now < length tokens.now) }

@@ -24,21 +24,21 @@ pub struct Lexer<'a> {
 
 impl<'a> Model for Lexer<'a> {
     ghost use Rattle.std.specs.Prelude.{◌≤◌, ◌+◌, length};
-    ghost use Rattle.rc_text.specs.Tokens.{Ahead, ahead_at};
+    ghost use Rattle.rc_text.specs.Tokens.{LexerView, lexer_at};
 
-    ghost Value = { Ahead };
+    ghost Value = { LexerView };
 
-    ghost view = { λ l. ahead_at l.source.now l.first l.at l.line };
+    ghost view = { λ l. lexer_at l.source.now l.first l.at l.line };
 
     ghost invariant = { λ l. (l.at ≤ length l.source.now) × (l.line ≤ l.at + 1) };
 }
 
 impl<'a> Lexer<'a> {
-    ghost use Rattle.rc_text.specs.Tokens.{ahead_of, TakesToken};
+    ghost use Rattle.rc_text.specs.Tokens.{new_lexer, TakesToken};
 
     /// Creates a lexer before the first token of `source`.
     pub fn new(source: &'a [u8]) -> Self
-        ensures { result ≡ ahead_of source.now }
+        ensures { result ≡ new_lexer source.now }
     {
         let header = header_of(source);
         Lexer {
@@ -49,8 +49,8 @@ impl<'a> Lexer<'a> {
         }
     }
 
-    /// Returns the current line, from 1: the line of the last token, the next one after a line
-    /// feed, and the line of the fault after a fault.
+    /// Returns the current line, from 1: that of the last token, or the next one if that was a line
+    /// feed; after a fault, the line of the fault.
     pub fn line(&self) -> u64
         ensures { result ≡ self.now.line }
     {

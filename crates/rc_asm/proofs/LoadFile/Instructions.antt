@@ -24,7 +24,7 @@ use Rattle.rc_asm.specs.declared.fault.AsmKind.TheVariants.{UnknownOpcode, Value
 use Rattle.rc_asm.specs.declared.operand.Operand.{Operand}
 use Rattle.rc_instr.specs.Results.{mapped, and_then, with_fault}
 use Rattle.rc_asm.specs.Words.{is_plain, opcode_in, modifier_in, mode_of, mode_of_kind, mode_in, is_comma, is_comma_kind}
-use Rattle.rc_asm.specs.Shape.{parts_from, parts, sides, sides_of, Shape, shape, with_operands, with_modifier, after_opcode, shape_of}
+use Rattle.rc_asm.specs.Shape.{parts_from, parts, sides, sides_of, ShapeView, shape, with_operands, with_modifier, after_opcode, shape_of}
 use Rattle.rc_asm.specs.Names.{NameValues, stands_for}
 use Rattle.rc_asm.specs.Instructions.{natural, core_number, operand, operand_after, operand_at, instruction_of_parts, instruction_of_shape, instruction_at}
 use Rattle.rc_asm.proofs.LoadFile.Printed.{mode_sign, IsWord, AreNumber, Plain, Below, Row, a_tokens, b_tokens, row_tokens, IsPrinted}
@@ -164,7 +164,7 @@ two_parts a as' c bs h k l = first_part (a ∷ as') c bs h k ∙ ap (λ ps. (a �
 
 module _ (source : List ℕ) (names : NameValues) (address : ℕ) (i : Instruction) (r : Row) (p : IsPrinted source names.rules.core i r) where
   -- the opcode, the modifier and both operands are written
-  abbrev printed_shape : Shape
+  abbrev printed_shape : ShapeView
   printed_shape = shape i.opcode (Some i.modifier) (sides (Some (a_tokens r)) (Some (b_tokens r)))
 
   -- the form of a printed line
@@ -172,14 +172,14 @@ module _ (source : List ℕ) (names : NameValues) (address : ℕ) (i : Instructi
   unfolding shape_of after_opcode with_modifier with_operands
   shape_there =
       let m = names.rules.core in
-      let behind : List Token = a_tokens r ++ (r.comma ∷ b_tokens r) in
+      let operands : List Token = a_tokens r ++ (r.comma ∷ b_tokens r) in
       let ca = number_no_comma m i.a_number r.a_number p.a_number in
       let cb = number_no_comma m i.b_number r.b_number p.b_number in
       let ps = two_parts r.a_sign r.a_number r.comma (b_tokens r) (sign_no_comma i.a_mode r.a_sign p.a_sign, ca) (ap is_comma_kind p.comma) (sign_no_comma i.b_mode r.b_sign p.b_sign, cb) in
       let d : is_dot r.dot ≡ true = ap is_dot_kind p.dot in
-      ap (λ o. and_then (λ o. after_opcode source o (r.dot ∷ r.modifier ∷ behind)) (ok_or o UnknownOpcode)) (opcode_there source r.opcode i.opcode p.opcode)
-      ∙ ap (λ b. if b then with_modifier source i.opcode (r.modifier ∷ behind) else with_operands i.opcode None (r.dot ∷ r.modifier ∷ behind)) d
-      ∙ ap (λ o. and_then (λ f. with_operands i.opcode (Some f) behind) (ok_or o UnknownOpcode)) (modifier_there source r.modifier i.modifier p.modifier)
+      ap (λ o. and_then (λ o. after_opcode source o (r.dot ∷ r.modifier ∷ operands)) (ok_or o UnknownOpcode)) (opcode_there source r.opcode i.opcode p.opcode)
+      ∙ ap (λ b. if b then with_modifier source i.opcode (r.modifier ∷ operands) else with_operands i.opcode None (r.dot ∷ r.modifier ∷ operands)) d
+      ∙ ap (λ o. and_then (λ f. with_operands i.opcode (Some f) operands) (ok_or o UnknownOpcode)) (modifier_there source r.modifier i.modifier p.modifier)
       ∙ ap (λ x. mapped (shape i.opcode (Some i.modifier)) (sides_of i.opcode x)) ps
 
   -- the tokens of a printed instruction spell it

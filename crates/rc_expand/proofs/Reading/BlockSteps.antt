@@ -12,13 +12,13 @@ use Rattle.rc_expand.specs.declared.heads.head.HeadWord.TheVariants as word
 use Rattle.rc_expand.specs.declared.fault.ExpandKind.TheVariants.{ForTooDeep, RofWithoutFor, ForWithoutRof}
 use Rattle.rc_instr.specs.Results.{mapped}
 use Rattle.rc_expand.specs.Results.{at_line}
-use Rattle.rc_expand.specs.Heads.Tree.{Blocks, NoLine, OneLine, Block, distances, Parts, line_before, rof_before, for_before, parts_by, parts_from, blocks_of, HaveDistances}
+use Rattle.rc_expand.specs.Heads.Tree.{BlockTree, NoLine, OneLine, Block, distances, Parts, line_before, rof_before, for_before, parts_by, parts_from, blocks_of, HaveDistances}
 use Rattle.rc_expand.specs.Heads.Nesting.{opens_or_closes}
 use Rattle.rc_expand.proofs.Reading.NestingSteps.{join, tree_before, mapped_twice, at_word, at_line_alone, at_for, opened_line}
 
 -- ---- the distances so far
 
-join_distances : (b c : Blocks) → distances (join b c) ≡ distances b ++ distances c
+join_distances : (b c : BlockTree) → distances (join b c) ≡ distances b ++ distances c
 join_distances NoLine c = refl
 join_distances (OneLine h b) c = ap (λ ds. 0 ∷ ds) (join_distances b c)
 join_distances (Block f i r b) c =
@@ -34,7 +34,7 @@ finished (x ∷ xs) ds p = finished xs (set (ds ++ distances p.inside) x (length
 abbrev pub SoFar : List Head → (xs ds : List ℕ) → (line : ℕ) → List Head → Type 0
 SoFar heads xs ds line hs = mapped distances (blocks_of heads) ≡ mapped (finished xs ds) (parts_from hs (length xs) line)
 
-tree_finished : (d : Blocks) (xs ds : List ℕ) (p : Parts (length xs)) → finished xs ds (tree_before d (length xs) p) ≡ finished xs (ds ++ distances d) p
+tree_finished : (d : BlockTree) (xs ds : List ℕ) (p : Parts (length xs)) → finished xs ds (tree_before d (length xs) p) ≡ finished xs (ds ++ distances d) p
 tree_finished d [] ds p = ap (λ x. ds ++ x) (join_distances d p) ∙ sym (append_assoc ds (distances d) (distances p))
 tree_finished d (x ∷ xs) ds p =
     ap (λ all. finished xs (set all x (length all - x) ++ (0 ∷ [])) p.after)

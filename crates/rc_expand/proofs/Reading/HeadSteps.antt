@@ -5,7 +5,7 @@ use Rattle.std.proofs.lemmas.List.{drop_all, drop-drop, append-nil}
 use Rattle.rc_text.specs.declared.token.Token.{Token}
 use Rattle.rc_text.specs.declared.class.NameClass.TheVariants.{NoName, Reserved, Predefined, Free}
 use Rattle.rc_text.specs.NameClasses.{is_name, is_reserved, is_predefined, class_of}
-use Rattle.rc_expand.specs.Heads.Lines.{is_reserved_class, is_ampersand, is_colon, is_free, goes_on, tail_len, begins_label, LabelSplit, label_split, no_labels}
+use Rattle.rc_expand.specs.Heads.Lines.{is_reserved_class, is_ampersand, is_colon, is_free, label_goes_on, tail_len, begins_label, LabelSplit, label_split, no_labels}
 use Rattle.rc_expand.proofs.Each.{split_at}
 
 split_two : (ts : List Token) (i : ℕ) (u v : Token) → i + 1 < length ts → u ≡ get_or ts i u → v ≡ get_or ts (i + 1) v → drop i ts ≡ u ∷ v ∷ drop (i + 2) ts
@@ -28,32 +28,32 @@ reserved_is name = by_tests (is_name name) (is_reserved name) (is_predefined nam
   by_tests false false p = refl
 
 module _ (source : List ℕ) where
-  short_list : (ts : List Token) → length ts ≤ 1 → goes_on source ts ≡ false
+  short_list : (ts : List Token) → length ts ≤ 1 → label_goes_on source ts ≡ false
   short_list [] h = refl
   short_list (u ∷ []) h = refl
   short_list (u ∷ v ∷ ts) h = absurd (omega arith)
 
   -- no two tokens are left
-  pub goes_on_short : (ts : List Token) (i : ℕ) → length ts - i ≤ 1 → goes_on source (drop i ts) ≡ false
+  pub goes_on_short : (ts : List Token) (i : ℕ) → length ts - i ≤ 1 → label_goes_on source (drop i ts) ≡ false
   goes_on_short ts i h = short_list (drop i ts) (omega (arith, length-drop i ts))
 
   -- whether the next two tokens go on
-  pub goes_on_at : (ts : List Token) (i : ℕ) (u v : Token) → i + 1 < length ts → u ≡ get_or ts i u → v ≡ get_or ts (i + 1) v → goes_on source (drop i ts) ≡ (is_ampersand u && is_free source v)
-  goes_on_at ts i u v h e f = ap (goes_on source) (split_two ts i u v h e f)
+  pub goes_on_at : (ts : List Token) (i : ℕ) (u v : Token) → i + 1 < length ts → u ≡ get_or ts i u → v ≡ get_or ts (i + 1) v → label_goes_on source (drop i ts) ≡ (is_ampersand u && is_free source v)
+  goes_on_at ts i u v h e f = ap (label_goes_on source) (split_two ts i u v h e f)
 
-  tail_goes_on : (ts : List Token) → goes_on source ts ≡ true → tail_len source ts ≡ suc (suc (tail_len source (drop 2 ts)))
+  tail_goes_on : (ts : List Token) → label_goes_on source ts ≡ true → tail_len source ts ≡ suc (suc (tail_len source (drop 2 ts)))
   tail_goes_on [] h = cc
   tail_goes_on (u ∷ []) h = cc
   tail_goes_on (u ∷ v ∷ ts) h = rw h
 
   -- two more tokens of the label
-  pub tail_more : (ts : List Token) (i : ℕ) → true ≡ goes_on source (drop i ts) → i + tail_len source (drop i ts) ≡ i + 2 + tail_len source (drop (i + 2) ts)
+  pub tail_more : (ts : List Token) (i : ℕ) → true ≡ label_goes_on source (drop i ts) → i + tail_len source (drop i ts) ≡ i + 2 + tail_len source (drop (i + 2) ts)
   tail_more ts i h =
       let t : tail_len source (drop i ts) ≡ suc (suc (tail_len source (drop (i + 2) ts))) =
       tail_goes_on (drop i ts) (sym h) ∙ ap (λ r. suc (suc (tail_len source r))) (drop-drop 2 i ts) in
       omega (arith, t)
 
-  ends_list : (u : Token) (ts : List Token) → goes_on source (u ∷ ts) ≡ false → tail_len source (u ∷ ts) ≡ (if is_colon u then 1 else 0)
+  ends_list : (u : Token) (ts : List Token) → label_goes_on source (u ∷ ts) ≡ false → tail_len source (u ∷ ts) ≡ (if is_colon u then 1 else 0)
   ends_list u [] h = refl
   ends_list u (v ∷ ts) h = rw h
 
@@ -66,17 +66,17 @@ module _ (source : List ℕ) where
   colon_none false n e h = e
 
   -- the colon of the label
-  pub tail_colon : (ts : List Token) (i : ℕ) (u : Token) → i < length ts → u ≡ get_or ts i u → false ≡ goes_on source (drop i ts) → true ≡ is_colon u → tail_len source (drop i ts) ≡ 1
+  pub tail_colon : (ts : List Token) (i : ℕ) (u : Token) → i < length ts → u ≡ get_or ts i u → false ≡ label_goes_on source (drop i ts) → true ≡ is_colon u → tail_len source (drop i ts) ≡ 1
   tail_colon ts i u h e g c =
       let s = split_at ts i u h e in
-      let n : tail_len source (drop i ts) ≡ (if is_colon u then 1 else 0) = ap (tail_len source) s ∙ ends_list u (drop (i + 1) ts) (ap (goes_on source) (sym s) ∙ sym g) in
+      let n : tail_len source (drop i ts) ≡ (if is_colon u then 1 else 0) = ap (tail_len source) s ∙ ends_list u (drop (i + 1) ts) (ap (label_goes_on source) (sym s) ∙ sym g) in
       colon_one (is_colon u) (tail_len source (drop i ts)) n c
 
   -- no colon
-  pub tail_none : (ts : List Token) (i : ℕ) (u : Token) → i < length ts → u ≡ get_or ts i u → false ≡ goes_on source (drop i ts) → false ≡ is_colon u → tail_len source (drop i ts) ≡ 0
+  pub tail_none : (ts : List Token) (i : ℕ) (u : Token) → i < length ts → u ≡ get_or ts i u → false ≡ label_goes_on source (drop i ts) → false ≡ is_colon u → tail_len source (drop i ts) ≡ 0
   tail_none ts i u h e g c =
       let s = split_at ts i u h e in
-      let n : tail_len source (drop i ts) ≡ (if is_colon u then 1 else 0) = ap (tail_len source) s ∙ ends_list u (drop (i + 1) ts) (ap (goes_on source) (sym s) ∙ sym g) in
+      let n : tail_len source (drop i ts) ≡ (if is_colon u then 1 else 0) = ap (tail_len source) s ∙ ends_list u (drop (i + 1) ts) (ap (label_goes_on source) (sym s) ∙ sym g) in
       colon_none (is_colon u) (tail_len source (drop i ts)) n c
 
   -- no token is left
@@ -91,8 +91,8 @@ module _ (source : List ℕ) where
   pub begins_none : (ts : List Token) (i : ℕ) → length ts ≤ i → begins_label source (drop i ts) ≡ false
   begins_none ts i h = ap (begins_label source) (drop_all i ts h)
 
-  abbrev pub behind : List (List Token) → LabelSplit → LabelSplit
-  behind ls l = record { labels = ls ++ l.labels; after = l.after }
+  abbrev pub with_labels_before : List (List Token) → LabelSplit → LabelSplit
+  with_labels_before ls l = record { labels = ls ++ l.labels; after = l.after }
 
   no_label : (ts : List Token) → begins_label source ts ≡ false → label_split source ts ≡ no_labels ts
   no_label [] e = refl
@@ -122,15 +122,15 @@ module _ (source : List ℕ) where
   label_step [] b = cc
   label_step (t ∷ ts) b = first_label t ts (sym b)
 
-  after_more : (labels : List (List Token)) (x label : List Token) (l m : LabelSplit) → l ≡ m → x ≡ label → behind labels (record { labels = x ∷ l.labels; after = l.after }) ≡ behind (labels ++ (label ∷ [])) m
+  after_more : (labels : List (List Token)) (x label : List Token) (l m : LabelSplit) → l ≡ m → x ≡ label → with_labels_before labels (record { labels = x ∷ l.labels; after = l.after }) ≡ with_labels_before (labels ++ (label ∷ [])) m
   after_more labels x label l m e f =
-      ap (λ l. behind labels (record { labels = x ∷ l.labels; after = l.after })) e
-      ∙ (ap (λ x. behind labels (record { labels = x ∷ m.labels; after = m.after })) f
+      ap (λ l. with_labels_before labels (record { labels = x ∷ l.labels; after = l.after })) e
+      ∙ (ap (λ x. with_labels_before labels (record { labels = x ∷ m.labels; after = m.after })) f
       ∙ ap (λ ls. record { labels = ls; after = m.after }) (sym (append_assoc labels (label ∷ []) m.labels)))
 
   -- one more label of the line
   pub label_more : (tokens : List Token) (labels : List (List Token)) (at end : ℕ) (label : List Token) → true ≡ begins_label source (drop at tokens) → end ≡ at + 1 + tail_len source (drop (at + 1) tokens)
-      → label ≡ take (end - at) (drop at tokens) → label_split source tokens ≡ behind labels (label_split source (drop at tokens)) → label_split source tokens ≡ behind (labels ++ (label ∷ [])) (label_split source (drop end tokens))
+      → label ≡ take (end - at) (drop at tokens) → label_split source tokens ≡ with_labels_before labels (label_split source (drop at tokens)) → label_split source tokens ≡ with_labels_before (labels ++ (label ∷ [])) (label_split source (drop end tokens))
   label_more tokens labels at end label b e l r =
       let d : drop 1 (drop at tokens) ≡ drop (at + 1) tokens = drop-drop 1 at tokens in
       let n : ℕ = tail_len source (drop 1 (drop at tokens)) in
@@ -141,12 +141,12 @@ module _ (source : List ℕ) where
       ap (drop (tail_len source (drop 1 (drop at tokens)))) d ∙ (drop-drop (tail_len source (drop 1 (drop at tokens))) (at + 1) tokens ∙ ap (λ i. drop i tokens) p) in
       let front : take (suc (tail_len source (drop 1 (drop at tokens)))) (drop at tokens) ≡ label =
       ap (λ i. take i (drop at tokens)) (sym q) ∙ sym l in
-      r ∙ (ap (behind labels) (label_step (drop at tokens) b) ∙ after_more labels (take (suc (tail_len source (drop 1 (drop at tokens)))) (drop at tokens)) label _ (label_split source (drop end tokens)) (ap (label_split source) tail) front)
+      r ∙ (ap (with_labels_before labels) (label_step (drop at tokens) b) ∙ after_more labels (take (suc (tail_len source (drop 1 (drop at tokens)))) (drop at tokens)) label _ (label_split source (drop end tokens)) (ap (label_split source) tail) front)
 
   -- no label begins here
-  pub labels_done : (tokens : List Token) (labels : List (List Token)) (at : ℕ) → false ≡ begins_label source (drop at tokens) → label_split source tokens ≡ behind labels (label_split source (drop at tokens))
+  pub labels_done : (tokens : List Token) (labels : List (List Token)) (at : ℕ) → false ≡ begins_label source (drop at tokens) → label_split source tokens ≡ with_labels_before labels (label_split source (drop at tokens))
       → label_split source tokens ≡ record { labels = labels; after = drop at tokens }
-  labels_done tokens labels at b r = r ∙ (ap (behind labels) (no_label (drop at tokens) (sym b)) ∙ ap (λ ls. record { labels = ls; after = drop at tokens }) (append-nil labels))
+  labels_done tokens labels at b r = r ∙ (ap (with_labels_before labels) (no_label (drop at tokens) (sym b)) ∙ ap (λ ls. record { labels = ls; after = drop at tokens }) (append-nil labels))
 
   -- if no label begins after the first, the line has one label
   pub single_label : (tokens : List Token) (end : ℕ) (label : List Token) → true ≡ begins_label source tokens → end ≡ 1 + tail_len source (drop 1 tokens) → label ≡ take end tokens → false ≡ begins_label source (drop end tokens)

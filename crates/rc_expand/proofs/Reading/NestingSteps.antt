@@ -12,40 +12,40 @@ use Rattle.rc_expand.specs.declared.fault.ExpandFault.{ExpandFault}
 use Rattle.rc_expand.specs.declared.fault.ExpandKind.TheVariants.{ForTooDeep}
 use Rattle.rc_instr.specs.Results.{mapped}
 use Rattle.rc_expand.specs.Results.{at_line}
-use Rattle.rc_expand.specs.Heads.Tree.{Blocks, NoLine, OneLine, Block, lines_of, Parts, line_before, rof_before, for_before, parts_by, parts_from, blocks_of}
+use Rattle.rc_expand.specs.Heads.Tree.{BlockTree, NoLine, OneLine, Block, lines_of, Parts, line_before, rof_before, for_before, parts_by, parts_from, blocks_of}
 use Rattle.rc_expand.specs.Heads.Nesting.{opens_or_closes, IsNested, Open, open_lines, AreOpen, outermost_line, AreBlocks}
 
 -- ---- trees after one another
 
 -- two trees as one
-abbrev pub join : Blocks → Blocks → Blocks
+abbrev pub join : BlockTree → BlockTree → BlockTree
 join NoLine c = c
 join (OneLine h b) c = OneLine h (join b c)
 join (Block f i r b) c = Block f i r (join b c)
 
-join_none : (b : Blocks) → join b NoLine ≡ b
+join_none : (b : BlockTree) → join b NoLine ≡ b
 join_none NoLine = refl
 join_none (OneLine h b) = ap (OneLine h) (join_none b)
 join_none (Block f i r b) = ap (Block f i r) (join_none b)
 
-join_assoc : (b c d : Blocks) → join (join b c) d ≡ join b (join c d)
+join_assoc : (b c d : BlockTree) → join (join b c) d ≡ join b (join c d)
 join_assoc NoLine c d = refl
 join_assoc (OneLine h b) c d = ap (OneLine h) (join_assoc b c d)
 join_assoc (Block f i r b) c d = ap (Block f i r) (join_assoc b c d)
 
-join_lines : (b c : Blocks) → lines_of (join b c) ≡ lines_of b ++ lines_of c
+join_lines : (b c : BlockTree) → lines_of (join b c) ≡ lines_of b ++ lines_of c
 join_lines NoLine c = refl
 join_lines (OneLine h b) c = ap (λ hs. h ∷ hs) (join_lines b c)
 join_lines (Block f i r b) c = ap (λ hs. f ∷ (lines_of i ++ (r ∷ hs))) (join_lines b c) ∙ ap (λ hs. f ∷ hs) (sym (append_assoc (lines_of i) (r ∷ lines_of b) (lines_of c)))
 
-join_nested : (n : ℕ) (b c : Blocks) → IsNested n b → IsNested n c → IsNested n (join b c)
+join_nested : (n : ℕ) (b c : BlockTree) → IsNested n b → IsNested n c → IsNested n (join b c)
 join_nested n NoLine c h k = k
 join_nested n (OneLine x b) c h k = (h.0, join_nested n b c h.1 k)
 join_nested zero (Block f i r b) c h k = absurd h
 join_nested (suc n) (Block f i r b) c h k = (h.0, h.1, h.2, join_nested (suc n) b c h.3 k)
 
 -- a tree before what is read while `n` blocks are open
-abbrev pub tree_before : Blocks → (n : ℕ) → Parts n → Parts n
+abbrev pub tree_before : BlockTree → (n : ℕ) → Parts n → Parts n
 tree_before b zero p = join b p
 tree_before b (suc n) p = record { inside = join b p.inside; closes = p.closes; after = p.after }
 
@@ -53,11 +53,11 @@ none_before : (n : ℕ) (p : Parts n) → tree_before NoLine n p ≡ p
 none_before zero p = refl
 none_before (suc n) p = refl
 
-line_is_tree : (h : Head) (b : Blocks) (n : ℕ) (p : Parts n) → line_before h n (tree_before b n p) ≡ tree_before (OneLine h b) n p
+line_is_tree : (h : Head) (b : BlockTree) (n : ℕ) (p : Parts n) → line_before h n (tree_before b n p) ≡ tree_before (OneLine h b) n p
 line_is_tree h b zero p = refl
 line_is_tree h b (suc n) p = refl
 
-block_is_tree : (f r : Head) (i b : Blocks) (n : ℕ) (p : Parts n) → for_before f n (tree_before i (suc n) (rof_before r n (tree_before b n p))) ≡ tree_before (Block f i r b) n p
+block_is_tree : (f r : Head) (i b : BlockTree) (n : ℕ) (p : Parts n) → for_before f n (tree_before i (suc n) (rof_before r n (tree_before b n p))) ≡ tree_before (Block f i r b) n p
 block_is_tree f r i b zero p = ap (λ x. Block f x r (join b p)) (join_none i)
 block_is_tree f r i b (suc n) p = ap (λ x. record { inside = Block f x r (join b p.inside); closes = p.closes; after = p.after }) (join_none i)
 
@@ -119,7 +119,7 @@ after_block f (suc n) line hs = refl
 
 -- ---- closed lines are passed over
 
-pub passed_over : (b : Blocks) (k n line : ℕ) (rest : List Head) → IsNested k b → n + k ≤ DEEPEST_BLOCK → parts_from (lines_of b ++ rest) n line ≡ mapped (tree_before b n) (parts_from rest n line)
+pub passed_over : (b : BlockTree) (k n line : ℕ) (rest : List Head) → IsNested k b → n + k ≤ DEEPEST_BLOCK → parts_from (lines_of b ++ rest) n line ≡ mapped (tree_before b n) (parts_from rest n line)
 passed_over NoLine k n line rest i e = sym (mapped_same (tree_before NoLine n) (parts_from rest n line) (none_before n))
 passed_over (OneLine h b) k n line rest i e =
     at_line_alone h n line (lines_of b ++ rest) i.0
@@ -143,19 +143,19 @@ passed_over (Block f i r b) (suc k) n line rest h e =
     whole (Err g) = refl
 
 -- the lines of a tree have this tree
-pub tree_of_lines : (b : Blocks) (k : ℕ) → IsNested k b → k ≤ DEEPEST_BLOCK → blocks_of (lines_of b) ≡ Ok b
+pub tree_of_lines : (b : BlockTree) (k : ℕ) → IsNested k b → k ≤ DEEPEST_BLOCK → blocks_of (lines_of b) ≡ Ok b
 tree_of_lines b k i e =
     ap (λ hs. parts_from hs 0 0) (sym (append-nil (lines_of b))) ∙ (passed_over b k 0 0 [] i (omega (arith, e)) ∙ ap Ok (join_none b))
 
 -- ---- lines with open blocks
 
 -- the tree of closed lines in open blocks and of what is read after them
-abbrev whole : (xs : List Open) → Blocks → Parts (length xs) → Blocks
+abbrev whole : (xs : List Open) → BlockTree → Parts (length xs) → BlockTree
 whole [] c p = join c p
 whole (x ∷ xs) c p = whole xs x.before (for_before x.opens (length xs) (tree_before c (suc (length xs)) p))
 
 -- with more closed lines
-whole_more : (xs : List Open) (c d : Blocks) (p : Parts (length xs)) → whole xs (join c d) p ≡ whole xs c (tree_before d (length xs) p)
+whole_more : (xs : List Open) (c d : BlockTree) (p : Parts (length xs)) → whole xs (join c d) p ≡ whole xs c (tree_before d (length xs) p)
 whole_more [] c d p = join_assoc c d p
 whole_more (x ∷ xs) c d p = ap (λ i. whole xs x.before (for_before x.opens (length xs) (record { inside = i; closes = p.closes; after = p.after }))) (join_assoc c d p.inside)
 
@@ -173,7 +173,7 @@ counted [] n i = omega (arith, i)
 counted (x ∷ xs) n i = let e : length xs + suc n ≡ DEEPEST_BLOCK = counted xs (suc n) i.0 in omega (arith, e)
 
 -- lines with open blocks lead to the state that counts them
-opened_to : (xs : List Open) (c : Blocks) (n : ℕ) (rest : List Head) → AreOpen n xs → IsNested n c
+opened_to : (xs : List Open) (c : BlockTree) (n : ℕ) (rest : List Head) → AreOpen n xs → IsNested n c
     → parts_from ((open_lines xs ++ lines_of c) ++ rest) 0 0 ≡ mapped (whole xs c) (parts_from rest (length xs) (outermost_or xs 0))
 opened_to [] c n rest i j = passed_over c n 0 0 rest j (omega (arith, i))
 opened_to (x ∷ xs) c n rest i j =
@@ -200,7 +200,7 @@ opened_to (x ∷ xs) c n rest i j =
 
 -- ---- what the trees say is what is read
 
-pub found : (hs : List Head) (r : Result Blocks ExpandFault) → AreBlocks hs r → blocks_of hs ≡ r
+pub found : (hs : List Head) (r : Result BlockTree ExpandFault) → AreBlocks hs r → blocks_of hs ≡ r
 found hs (Ok b) a = ap (λ ls. parts_from ls 0 0) a.1 ∙ tree_of_lines b DEEPEST_BLOCK a.0 (omega arith)
 found hs (Err f) (inl r) =
     ap (λ ls. parts_from ls 0 0) r.lines
@@ -223,12 +223,12 @@ found hs (Err f) (inr (inr r)) =
 
 -- ---- what is read is what the trees say
 
-moved : (a b : List Head) (x y : Result Blocks ExpandFault) → a ≡ b → x ≡ y → AreBlocks a x → AreBlocks b y
+moved : (a b : List Head) (x y : Result BlockTree ExpandFault) → a ≡ b → x ≡ y → AreBlocks a x → AreBlocks b y
 moved a b x y e f t = subst (λ l. AreBlocks l y) e (subst (AreBlocks a) f t)
 
 -- what is told of lines that were read and of those that follow
 abbrev Told : List Head → Type 0
-Told hs = (xs : List Open) (c : Blocks) (n : ℕ) → AreOpen n xs → IsNested n c → AreBlocks ((open_lines xs ++ lines_of c) ++ hs) (mapped (whole xs c) (parts_from hs (length xs) (outermost_or xs 0)))
+Told hs = (xs : List Open) (c : BlockTree) (n : ℕ) → AreOpen n xs → IsNested n c → AreBlocks ((open_lines xs ++ lines_of c) ++ hs) (mapped (whole xs c) (parts_from hs (length xs) (outermost_or xs 0)))
 
 at_end : Told []
 at_end [] c n i j =
@@ -248,7 +248,7 @@ at_end (x ∷ xs) c n i j =
 
 module _ (h : Head) (hs : List Head) (next : Told hs) where
   -- more closed lines in the same blocks
-  closed_more : (xs : List Open) (c d : Blocks) (n : ℕ) → AreOpen n xs → IsNested n c → IsNested n d
+  closed_more : (xs : List Open) (c d : BlockTree) (n : ℕ) → AreOpen n xs → IsNested n c → IsNested n d
       → AreBlocks ((open_lines xs ++ lines_of c) ++ (lines_of d ++ hs)) (mapped (whole xs c) (mapped (tree_before d (length xs)) (parts_from hs (length xs) (outermost_or xs 0))))
   closed_more xs c d n i j k =
       let r = parts_from hs (length xs) (outermost_or xs 0) in
@@ -259,7 +259,7 @@ module _ (h : Head) (hs : List Head) (next : Told hs) where
       (next xs (join c d) n i (join_nested n c d j k))
 
   -- a line that is neither
-  plain : (xs : List Open) (c : Blocks) (n : ℕ) → AreOpen n xs → IsNested n c → opens_or_closes h.word ≡ false
+  plain : (xs : List Open) (c : BlockTree) (n : ℕ) → AreOpen n xs → IsNested n c → opens_or_closes h.word ≡ false
       → AreBlocks ((open_lines xs ++ lines_of c) ++ (h ∷ hs)) (mapped (whole xs c) (parts_from (h ∷ hs) (length xs) (outermost_or xs 0)))
   plain xs c n i j w =
       let r = parts_from hs (length xs) (outermost_or xs 0) in
@@ -275,7 +275,7 @@ module _ (h : Head) (hs : List Head) (next : Told hs) where
       same (Err f) = refl
 
   -- one more FOR
-  opening : (xs : List Open) (c : Blocks) (n : ℕ) → AreOpen n xs → IsNested n c → h.word ≡ word.For
+  opening : (xs : List Open) (c : BlockTree) (n : ℕ) → AreOpen n xs → IsNested n c → h.word ≡ word.For
       → AreBlocks ((open_lines xs ++ lines_of c) ++ (h ∷ hs)) (mapped (whole xs c) (parts_from (h ∷ hs) (length xs) (outermost_or xs 0)))
   opening [] c zero i j w = absurd (omega (arith, i))
   opening (x ∷ xs) c zero i j w =
@@ -311,7 +311,7 @@ module _ (h : Head) (hs : List Head) (next : Told hs) where
       same (Err f) = refl
 
   -- a ROF
-  closing : (xs : List Open) (c : Blocks) (n : ℕ) → AreOpen n xs → IsNested n c → h.word ≡ word.Rof
+  closing : (xs : List Open) (c : BlockTree) (n : ℕ) → AreOpen n xs → IsNested n c → h.word ≡ word.Rof
       → AreBlocks ((open_lines xs ++ lines_of c) ++ (h ∷ hs)) (mapped (whole xs c) (parts_from (h ∷ hs) (length xs) (outermost_or xs 0)))
   closing [] c n i j w =
       subst (λ r. AreBlocks (lines_of c ++ (h ∷ hs)) (mapped (whole [] c) r)) (sym (at_word h word.Rof 0 0 hs w))
@@ -326,7 +326,7 @@ module _ (h : Head) (hs : List Head) (next : Told hs) where
       })
   closing (x ∷ xs) c n i j w =
       let m = length xs in
-      let d : Blocks = Block x.opens c h NoLine in
+      let d : BlockTree = Block x.opens c h NoLine in
       let r = parts_from hs m (outermost_or xs 0) in
       let lines : (open_lines xs ++ lines_of x.before) ++ (lines_of d ++ hs) ≡ (open_lines (x ∷ xs) ++ lines_of c) ++ (h ∷ hs) =
       ap (λ l. (open_lines xs ++ lines_of x.before) ++ (x.opens ∷ l)) (append_assoc (lines_of c) (h ∷ []) hs)
@@ -365,5 +365,5 @@ told (h ∷ hs) = one_more h hs (told hs)
 tree_or_fault : (hs : List Head) → AreBlocks hs (blocks_of hs)
 tree_or_fault hs = subst (AreBlocks hs) (mapped_same (λ b. b) (blocks_of hs) (λ b. refl)) (told hs [] NoLine DEEPEST_BLOCK refl tt)
 
-pub said : (hs : List Head) (r : Result Blocks ExpandFault) → blocks_of hs ≡ r → AreBlocks hs r
+pub said : (hs : List Head) (r : Result BlockTree ExpandFault) → blocks_of hs ≡ r → AreBlocks hs r
 said hs r e = subst (AreBlocks hs) e (tree_or_fault hs)

@@ -7,12 +7,12 @@ use Rattle.rc_expand.specs.declared.heads.head.Head.{Head}
 use Rattle.rc_expand.specs.declared.heads.head.HeadWord.TheVariants as word
 use Rattle.rc_expand.specs.declared.fault.ExpandFault.{ExpandFault}
 use Rattle.rc_instr.specs.Results.{mapped}
-use Rattle.rc_expand.specs.Heads.Tree.{Blocks, NoLine, OneLine, Block, lines_of, distances, blocks_of, blocks_or_none, tree_of, HaveDistances}
+use Rattle.rc_expand.specs.Heads.Tree.{BlockTree, NoLine, OneLine, Block, lines_of, distances, blocks_of, blocks_or_none, tree_of, HaveDistances}
 use Rattle.rc_expand.specs.Heads.Nesting.{opens_or_closes, IsNested}
 use Rattle.rc_expand.proofs.Reading.NestingSteps.{said, tree_of_lines}
 
 -- there is a distance for each line
-same_length : (b : Blocks) → length (distances b) ≡ length (lines_of b)
+same_length : (b : BlockTree) → length (distances b) ≡ length (lines_of b)
 same_length NoLine = refl
 same_length (OneLine h b) = ap suc (same_length b)
 same_length (Block f i r b) =
@@ -21,7 +21,7 @@ same_length (Block f i r b) =
     omega (arith, p, q, length-append (distances i) (0 ∷ distances b), length-append (lines_of i) (r ∷ lines_of b))
 
 -- fewer blocks may be nested
-more_room : (n : ℕ) (b : Blocks) → IsNested n b → IsNested (suc n) b
+more_room : (n : ℕ) (b : BlockTree) → IsNested n b → IsNested (suc n) b
 more_room n NoLine h = tt
 more_room n (OneLine x b) h = (h.0, more_room n b h.1)
 more_room zero (Block f i r b) h = absurd h
@@ -29,7 +29,7 @@ more_room (suc n) (Block f i r b) h = (h.0, more_room n i h.1, h.2, more_room (s
 
 -- lines with a tree, and its distances
 pub record Paired (hs : List Head) (ds : List ℕ) : Type 0 where
-  pub tree : Blocks
+  pub tree : BlockTree
   pub nests : IsNested DEEPEST_BLOCK tree
   pub lines : hs ≡ lines_of tree
   pub distances_are : ds ≡ distances tree
@@ -41,7 +41,7 @@ paired hs ds h = by_result (blocks_of hs) refl h where
   or_none (Ok x) = x
   or_none (Err f) = []
 
-  by_result : (r : Result Blocks ExpandFault) → blocks_of hs ≡ r → mapped distances r ≡ Ok ds → Paired hs ds
+  by_result : (r : Result BlockTree ExpandFault) → blocks_of hs ≡ r → mapped distances r ≡ Ok ds → Paired hs ds
   by_result (Ok b) e k =
       let a = said hs (Ok b) e in
       record {
@@ -53,10 +53,10 @@ paired hs ds h = by_result (blocks_of hs) refl h where
   by_result (Err f) e k = absurd (cc)
 
 -- a tree of lines that are nested is found again
-pub tree_is : (b : Blocks) (n : ℕ) → IsNested n b → n ≤ DEEPEST_BLOCK → tree_of (lines_of b) ≡ b
+pub tree_is : (b : BlockTree) (n : ℕ) → IsNested n b → n ≤ DEEPEST_BLOCK → tree_of (lines_of b) ≡ b
 tree_is b n i e = ap blocks_or_none (tree_of_lines b n i e)
 
-pub distances_found : (b : Blocks) (n : ℕ) → IsNested n b → n ≤ DEEPEST_BLOCK → HaveDistances (lines_of b) (distances b)
+pub distances_found : (b : BlockTree) (n : ℕ) → IsNested n b → n ≤ DEEPEST_BLOCK → HaveDistances (lines_of b) (distances b)
 distances_found b n i e = ap (mapped distances) (tree_of_lines b n i e)
 
 -- the first line is a FOR, with its distance: what lies before and after its ROF
@@ -68,7 +68,7 @@ pub record IsBlock (hs : List Head) (ds : List ℕ) (h : Head) (d : ℕ) : Type 
   pub after : HaveDistances (drop (d + 1) hs) (drop (d + 1) ds)
   pub tree : (x : Head) → tree_of hs ≡ Block h (tree_of (take (d - 1) (drop 1 hs))) (get_or hs d x) (tree_of (drop (d + 1) hs))
 
-block_there : (f r : Head) (i b : Blocks) → IsNested DEEPEST_BLOCK (Block f i r b)
+block_there : (f r : Head) (i b : BlockTree) → IsNested DEEPEST_BLOCK (Block f i r b)
     → IsBlock (lines_of (Block f i r b)) (distances (Block f i r b)) f (suc (length (distances i)))
 block_there f r i b n =
     let d = suc (length (distances i)) in
@@ -104,7 +104,7 @@ first_block hs ds h hs' k e w =
     subst (λ l. IsBlock l ds h (get_or ds 0 0)) (sym p.lines)
     (subst (λ x. IsBlock (lines_of p.tree) x h (get_or x 0 0)) (sym p.distances_are) (by_tree p.tree p.nests (sym p.lines ∙ e)))
   where
-    by_tree : (b : Blocks) → IsNested DEEPEST_BLOCK b → lines_of b ≡ h ∷ hs' → IsBlock (lines_of b) (distances b) h (get_or (distances b) 0 0)
+    by_tree : (b : BlockTree) → IsNested DEEPEST_BLOCK b → lines_of b ≡ h ∷ hs' → IsBlock (lines_of b) (distances b) h (get_or (distances b) 0 0)
     by_tree NoLine n l = absurd (cc)
     by_tree (OneLine g b) n l =
         let same : g ≡ h = ap (λ x. get_or x 0 g) l in
@@ -126,7 +126,7 @@ first_line hs ds h hs' k e w =
     subst (λ l. IsLine l ds h) (sym p.lines)
     (subst (λ x. IsLine (lines_of p.tree) x h) (sym p.distances_are) (by_tree p.tree p.nests (sym p.lines ∙ e)))
   where
-    by_tree : (b : Blocks) → IsNested DEEPEST_BLOCK b → lines_of b ≡ h ∷ hs' → IsLine (lines_of b) (distances b) h
+    by_tree : (b : BlockTree) → IsNested DEEPEST_BLOCK b → lines_of b ≡ h ∷ hs' → IsLine (lines_of b) (distances b) h
     by_tree NoLine n l = absurd (cc)
     by_tree (OneLine g b) n l =
         let same : g ≡ h = ap (λ x. get_or x 0 g) l in

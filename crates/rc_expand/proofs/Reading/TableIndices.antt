@@ -4,7 +4,7 @@ use Rattle.std.specs.Prelude.{is_some, slice_get, IfSome}
 use Rattle.std.specs.Global.{Vec}
 use Rattle.std.proofs.lemmas.List.{append-nil, map-append}
 use Rattle.rc_text.specs.declared.token.Token.{Token}
-use Rattle.rc_expand.specs.Replace.{EquText, Equs, equ_in}
+use Rattle.rc_expand.specs.Replace.{EquView, Equs, equ_in}
 use Rattle.rc_expand.specs.NameTables.{at_index, AreIndices, AreLinks}
 
 module _ {A : Type 0} where
@@ -89,16 +89,16 @@ module _ (source : List ℕ) (equs : Equs) where
       → at_index equs (get_or indices i None) ≡ equ_in source equs t
   index_of tokens indices i t p h e = same_at (at_index equs) (equ_in source equs) indices tokens i None t p h ∙ ap (equ_in source equs) (sym e)
 
-  value_is : (table : Equs) (i : ℕ) (body : EquText) (d : List ℕ × EquText) → Some body ≡ at_index table (Some i) → (get_or table i d).1 ≡ body
+  value_is : (table : Equs) (i : ℕ) (body : EquView) (d : List ℕ × EquView) → Some body ≡ at_index table (Some i) → (get_or table i d).1 ≡ body
   value_is [] i body d h = cc
   value_is (e ∷ es) zero body d h = sym (ap (λ o. value_or o body) h)
   value_is (e ∷ es) (suc i) body d h = value_is es i body d h
 
   -- the tokens of an EQU name are linked
-  pub body_linked : (links : List (Vec (Option ℕ))) (i : ℕ) (body : EquText) (tokens : List Token) (l : Vec (Option ℕ)) (indices : List (Option ℕ)) → AreLinks source equs links → Some body ≡ at_index equs (Some i)
+  pub body_linked : (links : List (Vec (Option ℕ))) (i : ℕ) (body : EquView) (tokens : List Token) (l : Vec (Option ℕ)) (indices : List (Option ℕ)) → AreLinks source equs links → Some body ≡ at_index equs (Some i)
       → tokens ≡ body.tokens → l ≡ get_or links i l → indices ≡ l.items → AreIndices source equs tokens indices
   body_linked links i body tokens l indices a h t e p =
-      let d : List ℕ × EquText = ([], body) in
+      let d : List ℕ × EquView = ([], body) in
       ap (map (at_index equs)) (p ∙ ap (λ (v : Vec (Option ℕ)). v.items) e)
       ∙ (same_at (λ (v : Vec (Option ℕ)). map (at_index equs) v.items) (λ x. map (equ_in source equs) x.1.tokens) links equs i l d a (index_inside equs i body h)
-      ∙ ap (map (equ_in source equs)) (ap (λ (e : EquText). e.tokens) (value_is equs i body d h) ∙ sym t))
+      ∙ ap (map (equ_in source equs)) (ap (λ (e : EquView). e.tokens) (value_is equs i body d h) ∙ sym t))

@@ -9,9 +9,9 @@ use Rattle.rc_expand.specs.Limits.{MOST_JOINED}
 use Rattle.rc_expand.specs.declared.heads.head.Head.{Head}
 use Rattle.rc_expand.specs.declared.heads.head.HeadWord.{HeadWord}
 use Rattle.rc_expand.specs.declared.heads.head.HeadWord.TheVariants as word
-use Rattle.rc_expand.specs.declared.unroll.reached.Copying.{Copying}
+use Rattle.rc_expand.specs.declared.unroll.reached.BlockCopy.{BlockCopy}
 use Rattle.rc_expand.specs.Heads.Lines.{has_modifier}
-use Rattle.rc_expand.specs.Unroll.Copies.{Copy, line_by, line_in, is_counter, with_number, joins, with_counter, copied_from, copied_tokens, copied_code, copied_rest, copied_line, or_spoiled, all_of, stays_joinable, is_short, is_short_line}
+use Rattle.rc_expand.specs.Unroll.Copies.{BlockCopyView, line_in_copy, line_in, is_counter, with_number, joins, with_counter, copied_from, copied_tokens, copied_code, copied_rest, copied_line, or_spoiled, all_of, stays_joinable, is_short, is_short_line}
 use Rattle.rc_expand.specs.Unroll.Reached.{copies_in}
 use Rattle.rc_expand.proofs.Unrolling.Copies.{from_list, passed_list}
 
@@ -197,10 +197,10 @@ module _ (source counter : List ℕ) (k : ℕ) where
       record { spoiled = ap (λ x. x.spoiled) e; short = ap is_short_line e ∙ t }
 
 -- a short line is as spoiled as it was, in whatever copies
-pub short_in : (source : List ℕ) (cs : List Copy) (h : Head) → is_short_line h ≡ true → (line_in source cs h).spoiled ≡ h.spoiled
+pub short_in : (source : List ℕ) (cs : List BlockCopyView) (h : Head) → is_short_line h ≡ true → (line_in source cs h).spoiled ≡ h.spoiled
 short_in source [] h s = refl
 short_in source (c ∷ cs) h s = by_counter c.counter (λ g t. short_in source cs g t) where
-  by_counter : (o : Option (List ℕ)) → ((g : Head) → is_short_line g ≡ true → (line_in source cs g).spoiled ≡ g.spoiled) → (line_in source cs (line_by source o c.number h)).spoiled ≡ h.spoiled
+  by_counter : (o : Option (List ℕ)) → ((g : Head) → is_short_line g ≡ true → (line_in source cs g).spoiled ≡ g.spoiled) → (line_in source cs (line_in_copy source o c.number h)).spoiled ≡ h.spoiled
   by_counter None ih = ih h s
   by_counter (Some counter) ih =
       let st = stays_short source counter c.number h s in

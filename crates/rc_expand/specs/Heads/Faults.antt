@@ -3,7 +3,7 @@ use Rattle.std.specs.Prelude.{◌≡◌, ◌+◌, ℕ, List, [], ◌∷◌, Opti
 use Rattle.rc_text.specs.declared.token.Token.{Token}
 use Rattle.rc_text.specs.declared.fault.LexFault.{LexFault}
 use Rattle.rc_text.specs.Headers.{header_of}
-use Rattle.rc_text.specs.Tokens.{tokens_of, line_after, Ahead}
+use Rattle.rc_text.specs.Tokens.{tokens_of, line_after, LexerView}
 use Rattle.rc_expand.specs.declared.fault.ExpandFault.{ExpandFault}
 use Rattle.rc_expand.specs.declared.fault.ExpandKind.TheVariants.{Text}
 use Rattle.rc_expand.specs.Results.{at_line}
@@ -18,5 +18,5 @@ abbrev pub text_fault : List ℕ → Option ExpandFault
 text_fault source = option_map (λ fault. at_line (ending_line (1 + (header_of source).lines) (tokens_of source).tokens) (Text fault)) (tokens_of source).ending
 
 -- A lexer in this state, with no token left, ends with this fault.
-abbrev pub IsEnding : Ahead → ExpandFault → Type 0
+abbrev pub IsEnding : LexerView → ExpandFault → Type 0
 IsEnding a f = (fault : LexFault) × (a.ending ≡ Some fault) × (f ≡ at_line a.line (Text fault))

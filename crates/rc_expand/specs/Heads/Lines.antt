@@ -109,14 +109,13 @@ abbrev pub has_end : List Head → Bool
 has_end [] = false
 has_end (h ∷ hs) = is_end h.word || has_end hs
 
--- The lines, unless there is a fault.
-abbrev pub lines_unless : Option ExpandFault → List Head → Result (List Head) ExpandFault
-lines_unless None hs = Ok hs
-lines_unless (Some fault) hs = Err fault
+abbrev pub lines_unless_fault : Option ExpandFault → List Head → Result (List Head) ExpandFault
+lines_unless_fault None hs = Ok hs
+lines_unless_fault (Some fault) hs = Err fault
 
--- Lines were read: with END they are the last.
-abbrev pub line_then : List Head → Result (List Head) ExpandFault → Result (List Head) ExpandFault
-line_then hs later = if has_end hs then Ok hs else mapped (λ r. hs ++ r) later
+-- The lines `hs` and those after them, unless `hs` has END.
+abbrev pub up_to_end : List Head → Result (List Head) ExpandFault → Result (List Head) ExpandFault
+up_to_end hs later = if has_end hs then Ok hs else mapped (λ r. hs ++ r) later
 
 module _ (source : List ℕ) where
   -- The bytes of a token, without joined counters.
@@ -161,9 +160,9 @@ module _ (source : List ℕ) where
   begins_label (t ∷ ts) = is_free t
 
   -- A label goes on with `&` and a name.
-  abbrev pub goes_on : List Token → Bool
-  goes_on (u ∷ v ∷ ts) = is_ampersand u && is_free v
-  goes_on _ = false
+  abbrev pub label_goes_on : List Token → Bool
+  label_goes_on (u ∷ v ∷ ts) = is_ampersand u && is_free v
+  label_goes_on _ = false
 
   -- The name of a label that is a single name, with or without its colon.
   abbrev pub label_token : List Token → Option Token
@@ -174,7 +173,7 @@ module _ (source : List ℕ) where
   abbrev pub if_unjoined : Token → Option Token
   if_unjoined t = if is_unjoined t.joined then Some t else None
 
-  -- The same, if the name is written without `&`.
+  -- The same, but None if the name is written with `&`.
   abbrev pub plain_token : List Token → Option Token
   plain_token l = option_and_then if_unjoined (label_token l)
 
@@ -198,6 +197,6 @@ module _ (source : List ℕ) where
   -- The lines up to the first with END, or the `fault` that ends the tokens; `front` is what was
   -- read of the first line.
   abbrev pub lines_from : (fault : Option ExpandFault) → (front : List Token) → List Token → Result (List Head) ExpandFault
-  lines_from fault front [] = lines_unless fault (line_of_tokens front)
+  lines_from fault front [] = lines_unless_fault fault (line_of_tokens front)
   lines_from fault front (t ∷ ts) =
-      choose (is_line_end t.kind) (λ i. line_then (line_of_tokens front) (lines_from fault [] ts)) (λ i. lines_from fault (front ++ (t ∷ [])) ts)
+      choose (is_line_end t.kind) (λ i. up_to_end (line_of_tokens front) (lines_from fault [] ts)) (λ i. lines_from fault (front ++ (t ∷ [])) ts)

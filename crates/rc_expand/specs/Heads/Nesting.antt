@@ -7,7 +7,7 @@ use Rattle.rc_expand.specs.declared.fault.ExpandFault.{ExpandFault}
 use Rattle.rc_expand.specs.declared.fault.ExpandKind.TheVariants.{ForWithoutRof, RofWithoutFor, ForTooDeep}
 use Rattle.rc_expand.specs.Limits.{DEEPEST_BLOCK}
 use Rattle.rc_expand.specs.Results.{at_line}
-use Rattle.rc_expand.specs.Heads.Tree.{Blocks, NoLine, OneLine, Block, lines_of}
+use Rattle.rc_expand.specs.Heads.Tree.{BlockTree, NoLine, OneLine, Block, lines_of}
 
 abbrev pub opens_or_closes : HeadWord → Bool
 opens_or_closes word.For = true
@@ -15,7 +15,7 @@ opens_or_closes word.Rof = true
 opens_or_closes _ = false
 
 -- Each line has the word of its place in the tree, and at most `n` blocks are nested.
-abbrev pub IsNested : ℕ → Blocks → Type 0
+abbrev pub IsNested : ℕ → BlockTree → Type 0
 IsNested n NoLine = Unit {0}
 IsNested n (OneLine h rest) = (opens_or_closes h.word ≡ false) × IsNested n rest
 IsNested zero (Block f inside r rest) = ⊥
@@ -23,7 +23,7 @@ IsNested (suc n) (Block f inside r rest) = (f.word ≡ word.For) × IsNested n i
 
 -- An open block: its FOR, and the lines between it and the FOR around it, or the beginning.
 pub record Open : Type 0 where
-  pub before : Blocks
+  pub before : BlockTree
   pub opens : Head
 
 -- The lines of open blocks, the innermost of which is the first.
@@ -43,7 +43,7 @@ outermost_line x (y ∷ xs) = outermost_line y xs
 
 -- A ROF outside of all blocks.
 pub record IsRofAlone (hs : List Head) (f : ExpandFault) : Type 0 where
-  pub before : Blocks
+  pub before : BlockTree
   pub rof : Head
   pub after : List Head
   pub nests : IsNested DEEPEST_BLOCK before
@@ -54,7 +54,7 @@ pub record IsRofAlone (hs : List Head) (f : ExpandFault) : Type 0 where
 -- A FOR inside as many open blocks as may be open.
 pub record IsNinth (hs : List Head) (f : ExpandFault) : Type 0 where
   pub opened : List Open
-  pub inside : Blocks
+  pub inside : BlockTree
   pub ninth : Head
   pub after : List Head
   pub are_open : AreOpen 0 opened
@@ -67,7 +67,7 @@ pub record IsNinth (hs : List Head) (f : ExpandFault) : Type 0 where
 pub record IsLeftOpen (hs : List Head) (f : ExpandFault) : Type 0 where
   pub innermost : Open
   pub around : List Open
-  pub inside : Blocks
+  pub inside : BlockTree
   pub room : ℕ
   pub are_open : AreOpen room (innermost ∷ around)
   pub nests : IsNested room inside
@@ -76,6 +76,6 @@ pub record IsLeftOpen (hs : List Head) (f : ExpandFault) : Type 0 where
 
 -- A tree has the lines of the text, at most `DEEPEST_BLOCK` deep, and each fault means what its
 -- kind says.
-abbrev pub AreBlocks : List Head → Result Blocks ExpandFault → Type 0
+abbrev pub AreBlocks : List Head → Result BlockTree ExpandFault → Type 0
 AreBlocks hs (Ok b) = IsNested DEEPEST_BLOCK b × (hs ≡ lines_of b)
 AreBlocks hs (Err f) = IsRofAlone hs f ⊎ IsNinth hs f ⊎ IsLeftOpen hs f

@@ -13,14 +13,14 @@ use Rattle.rc_expand.specs.Limits.{MOST_JOINED}
 use Rattle.rc_expand.specs.Heads.Lines.{choose, is_name_token, is_ampersand, has_modifier}
 
 -- A copy of a block: the counter of the block, if it has one, and the counter's number.
-pub record Copy : Type 0 where
+pub record BlockCopyView : Type 0 where
   pub counter : Option (List ℕ)
   pub number : ℕ
 
--- A line in any copy is in a block.
-abbrev pub are_any : List Copy → Bool
-are_any [] = false
-are_any (c ∷ cs) = true
+-- A line that is in copies at all is in a block.
+abbrev pub is_in_block : List BlockCopyView → Bool
+is_in_block [] = false
+is_in_block (c ∷ cs) = true
 
 -- The results of `f` for all items, or None if `f` gives None for one of them.
 abbrev pub all_of : {A B : Type 0} → (A → Option B) → List A → Option (List B)
@@ -88,15 +88,15 @@ module _ (source : List ℕ) where
   unfoldable pub copied_line : List ℕ → ℕ → Head → Head
   copied_line counter k h = or_spoiled h (all_of (copied_tokens counter k) h.labels) (copied_rest counter k h.word h.rest)
 
-  -- A line in a copy of a block; without a counter it stays as it is.
-  abbrev pub line_by : Option (List ℕ) → ℕ → Head → Head
-  line_by None k h = h
-  line_by (Some counter) k h = copied_line counter k h
+  -- A line in one copy of a block; without a counter it stays as it is.
+  abbrev pub line_in_copy : Option (List ℕ) → ℕ → Head → Head
+  line_in_copy None k h = h
+  line_in_copy (Some counter) k h = copied_line counter k h
 
   -- A line in copies, the outermost first.
-  abbrev pub line_in : List Copy → Head → Head
+  abbrev pub line_in : List BlockCopyView → Head → Head
   line_in [] h = h
-  line_in (c ∷ cs) h = line_in cs (line_by c.counter c.number h)
+  line_in (c ∷ cs) h = line_in cs (line_in_copy c.counter c.number h)
 
 -- No ninth counter can be joined to the token, one of `n` tokens, in however many copies: each
 -- counter that is joined takes two tokens away.

@@ -10,7 +10,8 @@ use crate::limits::DEEPEST_BLOCK;
 use std::alloc::Global;
 use std::collections::VecDeque;
 
-// The lines of a text, and for each the distance to its ROF: 0, unless the line is a FOR.
+// The lines of a text, and for each FOR the distance to its ROF, 1 if that comes next; 0 for any
+// other line.
 #[derive(Drop)]
 pub(crate) struct Blocks {
     pub(crate) heads: Vec<Head>,
@@ -50,8 +51,8 @@ impl Blocks {
 }
 
 impl<'a> BlockSlice<'a> {
-    // Returns the first line, the lines of its block and their ROF if it is a FOR, and the lines
-    // after it all.
+    // Splits off the first line, and its whole block if it is a FOR. Returns the line, then the
+    // lines of the block and the ROF, then the lines after all of these.
     pub(crate) fn split_first(
         &self,
     ) -> Option<(&'a Head, Option<(BlockSlice<'a>, &'a Head)>, BlockSlice<'a>)>
@@ -84,7 +85,8 @@ impl<'a> BlockSlice<'a> {
     }
 }
 
-// Returns for each line the distance to its ROF, or 0 if it is no FOR. Refuses what `find` does.
+// Returns for each FOR the distance to its ROF, 1 if that comes next, and 0 for any other line.
+// Refuses what `find` does.
 fn check_blocks(alloc: Global, heads: &[Head]) -> Result<Vec<usize>, ExpandFault>
     ensures { Returns (λ v. v.items) result (mapped distances (blocks_of heads.now)) }
 {

@@ -3,9 +3,9 @@ ghost use Rattle.std.specs.Prelude.{◌≡◌, ◌≢◌, [], ◌∷◌, ◌++�
 ghost use Rattle.rc_expand.specs.declared.fault.ExpandKind.TheVariants.{BadDirective};
 ghost use Rattle.rc_text.specs.Symbols.{name_of};
 ghost use Rattle.rc_expand.specs.Results.{Returns, at_line};
-ghost use Rattle.rc_expand.specs.Heads.{equ_token, equs_of, equs_with, with_equ};
+ghost use Rattle.rc_expand.specs.Heads.{equ_token, equs_of, equs_after_line, with_equ};
 ghost use Rattle.rc_expand.specs.Heads.Tree.{tree_of};
-ghost use Rattle.rc_expand.specs.Shared.{constants_of};
+ghost use Rattle.rc_expand.specs.Contexts.{constants_of};
 ghost use Rattle.rc_expand.specs.Names.{entry_of};
 
 use crate::fault::{ExpandFault, ExpandKind, at_line};
@@ -28,9 +28,9 @@ pub(crate) struct Equ {
 }
 
 impl Model for Equ {
-    ghost use Rattle.rc_expand.specs.Replace.{EquText};
+    ghost use Rattle.rc_expand.specs.Replace.{EquView};
 
-    ghost Value = { EquText };
+    ghost Value = { EquView };
 
     ghost view = { λ e. record { tokens = e.tokens; line = e.line } };
 }
@@ -75,7 +75,7 @@ fn add_equ(
     equs: &mut NameTable<'static, Equ>,
     head: &Head,
 ) -> Result<(), ExpandFault>
-    ensures { Returns (λ u. equs.new) result (equs_with source.now (constants_of names.now) names.now.rules.now head.now.word head.now equs.old) }
+    ensures { Returns (λ u. equs.new) result (equs_after_line source.now (constants_of names.now) names.now.rules.now head.now.word head.now equs.old) }
 {
     if head.word == HeadWord::Equ {
         let (name, equ) = read_equ(alloc, source, names, equs, head)?;

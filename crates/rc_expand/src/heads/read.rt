@@ -2,7 +2,7 @@
 ghost use Rattle.std.specs.Prelude.{◌≡◌, ◌≢◌, List, ℕ, ◌++◌, [], ◌+◌, ◌≤◌, ◌&&◌, IsTrue, length, drop, All, IfOk, IfSome, MatchResult, Ok, Err, None};
 ghost use Rattle.rc_text.specs.Tokens.{tokens_of, TakesToken};
 ghost use Rattle.rc_text.specs.Gaps.{is_line_end};
-ghost use Rattle.rc_expand.specs.Heads.Lines.{head_of, is_free, is_ampersand, goes_on, tail_len, begins_label, label_split, line_of_tokens, has_end};
+ghost use Rattle.rc_expand.specs.Heads.Lines.{head_of, is_free, is_ampersand, label_goes_on, tail_len, begins_label, label_split, line_of_tokens, has_end};
 ghost use Rattle.rc_expand.specs.Results.{Returns};
 ghost use Rattle.rc_expand.specs.Heads.{text_lines};
 ghost use Rattle.rc_expand.specs.Heads.Faults.{IsEnding};
@@ -36,8 +36,7 @@ pub(crate) fn read_lines(alloc: Global, source: &[u8]) -> Result<Vec<Head>, Expa
     Ok(heads)
 }
 
-// Checks for `&` and a name.
-fn is_link(source: &[u8], sign: &Token, name: &Token) -> bool
+fn is_ampersand_name(source: &[u8], sign: &Token, name: &Token) -> bool
     ensures { result ≡ (is_ampersand sign.now && is_free source.now name.now) }
 {
     is_ampersand(sign) && is_free(source, name)
@@ -45,15 +44,15 @@ fn is_link(source: &[u8], sign: &Token, name: &Token) -> bool
 
 // Checks whether a label goes on at index `at` with `&` and a name.
 #[tactic(auto, using(crate::proofs::Reading::HeadSteps::goes_on_at, crate::proofs::Reading::HeadSteps::goes_on_short))]
-fn goes_on(source: &[u8], tokens: &[Token], at: usize) -> bool
+fn label_goes_on(source: &[u8], tokens: &[Token], at: usize) -> bool
     requires { at ≤ length tokens.now }
-    ensures result { result ≡ goes_on source.now (drop at tokens.now) }
+    ensures result { result ≡ label_goes_on source.now (drop at tokens.now) }
     ensures room { IsTrue result → at + 2 ≤ length tokens.now }
 {
-    at + 1 < tokens.len() && is_link(source, &tokens[at], &tokens[at + 1])
+    at + 1 < tokens.len() && is_ampersand_name(source, &tokens[at], &tokens[at + 1])
 }
 
-// Returns the index after a label. Its first name is the token before `from`.
+// Returns the index after a label whose first name is the token before `from`.
 #[tactic(auto, using(crate::proofs::Reading::HeadSteps::tail_more, crate::proofs::Reading::HeadSteps::tail_colon, crate::proofs::Reading::HeadSteps::tail_none, crate::proofs::Reading::HeadSteps::tail_end))]
 fn label_end(source: &[u8], tokens: &[Token], from: usize) -> usize
     requires { from ≤ length tokens.now }
@@ -62,7 +61,7 @@ fn label_end(source: &[u8], tokens: &[Token], from: usize) -> usize
     ensures high { result ≤ length tokens.now }
 {
     let mut end = from;
-    while goes_on(source, tokens, end) {
+    while label_goes_on(source, tokens, end) {
         end += 2;
     }
     if end < tokens.len() && is_colon(&tokens[end]) {

@@ -37,7 +37,8 @@ pub(crate) fn split_labels<'a>(
     Ok((Tokens::from_vec(own), rest))
 }
 
-// Makes the line of the expansion for an unrolled line, whose labels are split.
+// Makes the line of the expansion of an unrolled line. Its labels are split into `labels` and
+// `others`, by `split_labels`.
 #[tactic(auto, unfolding(crate::specs::Replace::Lines::line_of))]
 pub(crate) fn line_of(
     context: &Context,
@@ -50,10 +51,10 @@ pub(crate) fn line_of(
     ensures { Returns (λ l. l) result (line_of context.now.source.now context.now.equs.now head.now) }
 {
     if others.is_empty() {
-        return make_line(context, head, labels, head.word, head.rest.as_slice());
+        return made_line(context, head, labels, head.word, head.rest.as_slice());
     }
     let tokens = as_code_tokens(context.alloc, others, &head.directive, head.rest.as_slice())?;
-    make_line(context, head, labels, HeadWord::Code, &tokens)
+    made_line(context, head, labels, HeadWord::Code, &tokens)
 }
 
 fn push_tokens(all: &mut Vec<Token>, tokens: &[Token]) -> Result<(), AllocError>
@@ -74,7 +75,8 @@ fn push_directive(all: &mut Vec<Token>, directive: &Option<Token>) -> Result<(),
     Ok(())
 }
 
-// Turns would-be labels back into tokens: theirs, then the directive, then the rest.
+// Joins the tokens of a line whose would-be labels are code: theirs, then the directive, then the
+// rest.
 fn as_code_tokens(
     alloc: Global,
     others: &[Tokens],
@@ -149,7 +151,7 @@ fn line_word(word: HeadWord) -> LineWord
 }
 
 // Makes a line of the expansion from `tokens`, with their EQU names replaced.
-fn make_line(
+fn made_line(
     context: &Context,
     head: &Head,
     labels: Tokens,

@@ -2,9 +2,9 @@
 ghost use Rattle.std.specs.Prelude.{◌≡◌, ◌≢◌, [], true, false, Some, None, Ok, Err, All, IfOk, IfSome, option_map};
 ghost use Rattle.rc_text.specs.Symbols.{name_of};
 ghost use Rattle.rc_expand.specs.Results.{Returns, at_line};
-ghost use Rattle.rc_expand.specs.Shared.{shared};
-ghost use Rattle.rc_expand.specs.Unroll.{Unrolled, is_bare_rof, at_rof};
-ghost use Rattle.rc_expand.specs.Unroll.Openings.{is_plain_number, is_enclosing, counter_kind, counter_of, small_count, earlier_of, seen_start, opening, count_of, counter_name};
+ghost use Rattle.rc_expand.specs.Contexts.{seen_context};
+ghost use Rattle.rc_expand.specs.Unroll.{UnrolledSoFarView, is_bare_rof, rof_check};
+ghost use Rattle.rc_expand.specs.Unroll.Openings.{is_plain_number, is_enclosing_counter, counter_fault_kind, counter_of, limited_count, earlier_of, seen_opening, opening, count_of, counter_name};
 
 use crate::context::Context;
 use crate::equ_tokens::replace_tokens;
@@ -22,18 +22,18 @@ use std::alloc::{AllocError, Global};
 
 // What the FOR of a block says: its counter, as the text spells it, and the number of copies.
 #[derive(Debug, Drop)]
-pub(crate) struct BlockStart<'a> {
+pub(crate) struct Opening<'a> {
     pub counter: Option<&'a [u8]>,
     pub count: u16,
 }
 
 // Reads the FOR of a block: whether it is spoiled, then its counter, then its count.
 #[tactic(auto, unfolding(crate::specs::Unroll::Openings::opening))]
-pub(crate) fn begin_block<'a>(
+pub(crate) fn read_opening<'a>(
     context: &Context<'a>,
     head: &Head,
-) -> Result<BlockStart<'a>, ExpandFault>
-    ensures { Returns (seen_start head.now) result (opening (shared context.now) head.now) }
+) -> Result<Opening<'a>, ExpandFault>
+    ensures { Returns (seen_opening head.now) result (opening (seen_context context.now) head.now) }
 {
     if head.spoiled {
         return Err(at_line(head.number, ExpandKind::BadDirective));
@@ -41,23 +41,24 @@ pub(crate) fn begin_block<'a>(
     let token = counter_token(context.source, head)?;
     let counter = counter_name(context, token, head.number)?;
     let count = count_of(context, head)?;
-    Ok(BlockStart { counter, count })
+    Ok(Opening { counter, count })
 }
 
-// Checks for a label that is the counter of an enclosing block and nothing else. Copying made it a
-// number. A name written with `&` became a number with joined counters, which is not accepted.
-fn is_enclosing(label: &[Token]) -> bool
-    ensures { result ≡ is_enclosing label.now }
+// Checks for a label that was the name of an enclosing block's counter, written without `&`:
+// copying has put a number in its place. A number in the place of a name with `&` has counters
+// joined to it.
+fn is_enclosing_counter(label: &[Token]) -> bool
+    ensures { result ≡ is_enclosing_counter label.now }
 {
     match label {
-        [token] => is_number(token),
-        [token, colon] => is_number(token) && is_colon(colon),
+        [token] => is_plain_number(token),
+        [token, colon] => is_plain_number(token) && is_colon(colon),
         _ => false,
     }
 }
 
 // Checks for a number to which no counter is joined.
-fn is_number(token: &Token) -> bool
+fn is_plain_number(token: &Token) -> bool
     ensures { result ≡ is_plain_number token.now }
 {
     match token.kind {
@@ -68,9 +69,9 @@ fn is_number(token: &Token) -> bool
 
 // Returns why the label before FOR cannot be its counter.
 fn counter_fault(line: u64, label: &[Token]) -> ExpandFault
-    ensures { result ≡ at_line line (counter_kind label.now) }
+    ensures { result ≡ at_line line (counter_fault_kind label.now) }
 {
-    if is_enclosing(label) {
+    if is_enclosing_counter(label) {
         at_line(line, ExpandKind::DuplicateName)
     } else {
         at_line(line, ExpandKind::BadDirective)
@@ -93,10 +94,10 @@ fn counter_token<'a>(source: &[u8], head: &'a Head) -> Result<Option<&'a Token>,
     }
 }
 
-// Converts the value of a count. One below 1 makes no copies, and one above `MOST_COPIES` is
-// refused.
-fn small_count(value: i64) -> Option<u16>
-    ensures { result ≡ small_count value }
+// Converts the value of a count. One below 1 makes no copies, and one above `MOST_COPIES` gives
+// `None`.
+fn limited_count(value: i64) -> Option<u16>
+    ensures { result ≡ limited_count value }
 {
     if value < 0 {
         return Some(0);
@@ -111,12 +112,12 @@ fn small_count(value: i64) -> Option<u16>
 // Evaluates the count of a block, after replacing its EQU names.
 #[tactic(auto, unfolding(crate::specs::Unroll::Openings::count_of))]
 fn count_of(context: &Context, head: &Head) -> Result<u16, ExpandFault>
-    ensures { Returns (λ n. n) result (count_of (shared context.now) head.now.number head.now.rest) }
+    ensures { Returns (λ n. n) result (count_of (seen_context context.now) head.now.number head.now.rest) }
 {
     let front = Vec::new(context.alloc);
     let tokens = replace_tokens(context, head.number, front, head.rest.as_slice())?;
     match eval(context.source, tokens.as_slice(), context.names) {
-        Ok(value) => match small_count(value) {
+        Ok(value) => match limited_count(value) {
             Some(count) => Ok(count),
             None => Err(at_line(head.number, ExpandKind::CountRefused)),
         },
@@ -126,7 +127,7 @@ fn count_of(context: &Context, head: &Head) -> Result<u16, ExpandFault>
 
 // Refuses a ROF with something before or after it on its line.
 pub(crate) fn check_rof(rof: &Head) -> Result<(), ExpandFault>
-    ensures { (u : Unrolled) → Returns (λ i. u) result (at_rof rof.now u) }
+    ensures { (u : UnrolledSoFarView) → Returns (λ i. u) result (rof_check rof.now u) }
 {
     if is_bare_rof(rof) {
         Ok(())
@@ -149,7 +150,7 @@ fn counter_name<'a>(
     line: u64,
 ) -> Result<Option<&'a [u8]>, ExpandFault>
     requires { IfSome counter (λ t. t.now.joined ≡ []) }
-    ensures { Returns (λ o. option_map (λ b. b.now) o) result (counter_name (shared context.now) line (option_map (λ t. t.now) counter.entry)) }
+    ensures { Returns (λ o. option_map (λ b. b.now) o) result (counter_name (seen_context context.now) line (option_map (λ t. t.now) counter.entry)) }
 {
     match counter {
         None => Ok(None),
@@ -162,7 +163,7 @@ fn counter_name<'a>(
 
 // Refuses a counter that is a constant, a predefined name or an EQU name.
 fn check_counter(context: &Context, token: &Token, line: u64) -> Result<(), ExpandFault>
-    ensures { Returns (λ u. Some (name_of context.now.source.now token.now)) result (counter_name (shared context.now) line (Some token.now)) }
+    ensures { Returns (λ u. Some (name_of context.now.source.now token.now)) result (counter_name (seen_context context.now) line (Some token.now)) }
 {
     if is_taken(context.names, context.source, token) {
         return Err(at_line(line, ExpandKind::DuplicateName));

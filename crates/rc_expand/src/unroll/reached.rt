@@ -19,7 +19,7 @@ use std::marker::Model;
 
 // A copy of a block: its counter, if it has one, and the counter's number.
 #[derive(Clone, Copy)]
-pub(crate) struct Copying<'a> {
+pub(crate) struct BlockCopy<'a> {
     pub counter: Option<&'a [u8]>,
     pub number: u16,
 }
@@ -30,7 +30,7 @@ pub(crate) struct Copying<'a> {
 pub(crate) struct Reached<'a> {
     source: &'a [u8],
     head: &'a Head,
-    copies: Vec<Copying<'a>>,
+    copies: Vec<BlockCopy<'a>>,
     is_earlier: bool,
 }
 
@@ -46,10 +46,10 @@ impl<'a> Model for Reached<'a> {
 
 // Makes a line as it is in `copies`, the outermost first. The first copy with a counter is made of
 // the text's line itself, which is not cloned; each further one of the copy before.
-pub(crate) fn make_line(
+pub(crate) fn line_in(
     alloc: Global,
     source: &[u8],
-    copies: &[Copying],
+    copies: &[BlockCopy],
     head: &Head,
 ) -> Result<Head, AllocError>
     ensures { IfOk result (λ h. h ≡ line_in source.now (copies_in copies.now) head.now) }
@@ -57,20 +57,21 @@ pub(crate) fn make_line(
     match copies.split_first() {
         None => clone_head(alloc, head),
         Some((copy, inner)) => match copy.counter {
-            None => make_line(alloc, source, inner, head),
+            None => line_in(alloc, source, inner, head),
             Some(counter) => {
                 let made = copy_line(alloc, source, counter, copy.number, head)?;
-                copy_further(alloc, source, inner, made)
+                copy_for_each(alloc, source, inner, made)
             }
         },
     }
 }
 
-// Copies a line for each of `copies` that has a counter.
-fn copy_further(
+// Copies `line` for the first of `copies` that has a counter, that copy for the next one, and so
+// on.
+fn copy_for_each(
     alloc: Global,
     source: &[u8],
-    copies: &[Copying],
+    copies: &[BlockCopy],
     line: Head,
 ) -> Result<Head, AllocError>
     ensures { IfOk result (λ h. h ≡ line_in source.now (copies_in copies.now) line) }
@@ -84,7 +85,10 @@ fn copy_further(
     Ok(made)
 }
 
-fn clone_copies<'a>(alloc: Global, copies: &[Copying<'a>]) -> Result<Vec<Copying<'a>>, AllocError>
+fn clone_copies<'a>(
+    alloc: Global,
+    copies: &[BlockCopy<'a>],
+) -> Result<Vec<BlockCopy<'a>>, AllocError>
     ensures { IfOk result (λ v. v.items ≡ copies.now) }
 {
     let mut cloned = Vec::with_capacity(alloc, copies.len())?;
@@ -94,12 +98,12 @@ fn clone_copies<'a>(alloc: Global, copies: &[Copying<'a>]) -> Result<Vec<Copying
     Ok(cloned)
 }
 
-// Adds the copy of a block inside others.
+// Returns `copies` and, inside of them, `copy`.
 pub(crate) fn inner_copies<'a>(
     alloc: Global,
-    copies: &[Copying<'a>],
-    copy: Copying<'a>,
-) -> Result<Vec<Copying<'a>>, AllocError>
+    copies: &[BlockCopy<'a>],
+    copy: BlockCopy<'a>,
+) -> Result<Vec<BlockCopy<'a>>, AllocError>
     ensures { IfOk result (λ v. v.items ≡ copies.now ++ (copy.entry ∷ [])) }
 {
     let mut all = clone_copies(alloc, copies)?;
@@ -107,8 +111,8 @@ pub(crate) fn inner_copies<'a>(
     Ok(all)
 }
 
-// Checks that a line is in `copies` as the text has it.
-pub(crate) fn have_no_counter(copies: &[Copying]) -> bool
+// Checks that no copy has a counter. A line in `copies` is then as the text has it.
+pub(crate) fn have_no_counter(copies: &[BlockCopy]) -> bool
     ensures { result ≡ have_no_counter copies.now }
 {
     copies.iter().all(|copy| copy.counter.is_none())
@@ -146,10 +150,11 @@ fn stays_joinable(token: &Token, len: usize) -> bool
 }
 
 impl<'a> Reached<'a> {
-    // Reaches a line in `copies`.
+    // Keeps a line as it is in `copies`, or, with `is_earlier`, the labels before its counter
+    // alone.
     pub(crate) fn new(
         context: &Context<'a>,
-        copies: &[Copying<'a>],
+        copies: &[BlockCopy<'a>],
         head: &'a Head,
         is_earlier: bool,
     ) -> Result<Reached<'a>, AllocError>
@@ -183,11 +188,11 @@ impl<'a> Reached<'a> {
         }
     }
 
-    // Makes the line.
+    // Makes the line as it is in its copies.
     pub(crate) fn make(&self, alloc: Global) -> Result<Head, AllocError>
         ensures { IfOk result (λ h. h ≡ self.now) }
     {
-        let made = make_line(alloc, self.source, &self.copies, self.head)?;
+        let made = line_in(alloc, self.source, &self.copies, self.head)?;
         if !self.is_earlier {
             return Ok(made);
         }

@@ -1,7 +1,7 @@
-//! The state of the second pass, and a block on its way.
+//! The state of the second pass, and a block that is to be copied.
 ghost use Rattle.std.specs.Prelude.{◌≡◌};
 ghost use Rattle.rc_expand.specs.Results.{Returns};
-ghost use Rattle.rc_expand.specs.Unroll.{nothing, with_line, with_copy};
+ghost use Rattle.rc_expand.specs.Unroll.{nothing_unrolled, with_line, with_copy};
 
 use crate::fault::{ExpandFault, ExpandKind, at_line};
 use crate::heads::blocks::BlockSlice;
@@ -12,29 +12,29 @@ use std::marker::Model;
 
 // The lines so far, and the number of copies of blocks.
 #[derive(Drop)]
-pub(crate) struct Unrolling<'a> {
+pub(crate) struct UnrolledSoFar<'a> {
     lines: Vec<Reached<'a>>,
     copy_count: usize,
 }
 
-impl<'a> Model for Unrolling<'a> {
+impl<'a> Model for UnrolledSoFar<'a> {
     ghost use Rattle.std.specs.Prelude.{◌+◌, ◌≤◌, length};
     ghost use Rattle.rc_expand.specs.declared.limits.TheConstants.{MOST_LINES};
-    ghost use Rattle.rc_expand.specs.Unroll.{Unrolled};
+    ghost use Rattle.rc_expand.specs.Unroll.{UnrolledSoFarView};
 
-    ghost Value = { Unrolled };
+    ghost Value = { UnrolledSoFarView };
 
     ghost view = { λ u. record { lines = u.lines.items; copy_count = u.copy_count } };
 
     ghost invariant = { λ u. length u.lines.items + u.copy_count ≤ MOST_LINES };
 }
 
-impl<'a> Unrolling<'a> {
+impl<'a> UnrolledSoFar<'a> {
     // Begins with nothing, without allocating.
     pub(crate) fn new(alloc: Global) -> Self
-        ensures { result ≡ nothing }
+        ensures { result ≡ nothing_unrolled }
     {
-        Unrolling {
+        UnrolledSoFar {
             lines: Vec::new(alloc),
             copy_count: 0,
         }
@@ -71,7 +71,7 @@ impl<'a> Unrolling<'a> {
 
 // A block to be copied `count` times, with the line of its FOR.
 #[derive(Drop)]
-pub(crate) struct BlockCopies<'a> {
+pub(crate) struct BlockToCopy<'a> {
     pub(crate) line: u64,
     pub(crate) counter: Option<&'a [u8]>,
     pub(crate) count: u16,

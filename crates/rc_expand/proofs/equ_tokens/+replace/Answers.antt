@@ -4,24 +4,24 @@ use Rattle.rc_expand.proofs.Replacing.ReplaceSteps.{next, fails, ends}
 use Rattle.rc_expand.proofs.Reading.TableIndices.{index_of}
 use Rattle.rc_expand.proofs.equ_tokens.+replace.Goals as goal
 
-pub append_replaced-append_one-requires : goal.append_replaced-append_one-requires
-append_replaced-append_one-requires t c = (
+pub append_replaced-append_token-requires : goal.append_replaced-append_token-requires
+append_replaced-append_token-requires t c = (
   search rules,
   index_of c.args.context.now.source.now c.args.context.now.equs.now c.args.tokens.now c.args.indices.now c.loop-i.i c.index-tokens-i.result c.requires c.loop-i-test.true c.index-tokens-i.is,
 )
 
-pub append_replaced-returns-in_err-append_one : goal.append_replaced-returns-in_err-append_one
-append_replaced-returns-in_err-append_one t c =
+pub append_replaced-returns-in_err-append_token : goal.append_replaced-returns-in_err-append_token
+append_replaced-returns-in_err-append_token t c =
     let s = c.args.context.now in
     let p = err_from_is_err_and c.from_residual.result c.from_residual.ensures.1 in
     rw (p.1, p.2) (λ h. c.loop-i.invariant
-    ∙ fails s.source.now s.equs.now c.args.levels c.args.tokens.now c.loop-i.i c.loop-i.out c.index-tokens-i.result c.loop-i-test.true c.index-tokens-i.is c.in_err-append_one.field-0.0 (c.in_err-append_one.ensures h))
+    ∙ fails s.source.now s.equs.now c.args.levels c.args.tokens.now c.loop-i.i c.loop-i.out c.index-tokens-i.result c.loop-i-test.true c.index-tokens-i.is c.in_err-append_token.field-0.0 (c.in_err-append_token.ensures h))
 
 pub append_replaced-loop-i-preserved : goal.append_replaced-loop-i-preserved
 append_replaced-loop-i-preserved t c =
     let s = c.args.context.now in
     c.loop-i.invariant
-    ∙ next s.source.now s.equs.now c.args.levels c.args.tokens.now c.loop-i.i c.loop-i.out c.index-tokens-i.result c.loop-i-test.true c.index-tokens-i.is c.append_one.new.out c.in_ok-append_one.ensures
+    ∙ next s.source.now s.equs.now c.args.levels c.args.tokens.now c.loop-i.i c.loop-i.out c.index-tokens-i.result c.loop-i-test.true c.index-tokens-i.is c.append_token.new.out c.in_ok-append_token.ensures
 
 pub append_replaced-returns : goal.append_replaced-returns
 append_replaced-returns t c =

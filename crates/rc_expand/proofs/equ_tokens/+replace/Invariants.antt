@@ -1,15 +1,15 @@
 use Rattle.std.proofs.Common.{◌≡◌, ◌+◌, ◌*◌, drop}
-use Rattle.rc_expand.specs.Replace.{replaced_within}
+use Rattle.rc_expand.specs.Replace.{tokens_within}
 use Rattle.rc_expand.proofs.equ_tokens.+replace.Given as goal
 
 abbrev pub decreases-append_replaced : goal.decreases-append_replaced
 decreases-append_replaced l = 2 * l.levels + 1
 
-abbrev pub decreases-append_one : goal.decreases-append_one
-decreases-append_one l = 2 * l.levels
+abbrev pub decreases-append_token : goal.decreases-append_token
+decreases-append_token l = 2 * l.levels
 
 -- the tokens that are left make the whole
 abbrev pub invariant-append_replaced-loop-i : goal.invariant-append_replaced-loop-i
 invariant-append_replaced-loop-i l =
-    replaced_within l.context.source.now l.context.equs.now l.levels l.tokens l.fn.out
-    ≡ replaced_within l.context.source.now l.context.equs.now l.levels (drop l.i l.tokens) l.out
+    tokens_within l.context.source.now l.context.equs.now l.levels l.tokens l.fn.out
+    ≡ tokens_within l.context.source.now l.context.equs.now l.levels (drop l.i l.tokens) l.out

@@ -1,5 +1,5 @@
 use Rattle.std.proofs.Common.{◌≡◌, ◌≤◌, ◌+◌, ◌-◌, ◌*◌}
-use Rattle.rc_expand.specs.Shared.{shared}
+use Rattle.rc_expand.specs.Contexts.{seen_context}
 use Rattle.rc_expand.specs.Heads.Tree.{tree_of}
 use Rattle.rc_expand.specs.Unroll.{copies_from, unrolled_in}
 use Rattle.rc_expand.specs.Unroll.Reached.{copies_in}
@@ -25,7 +25,7 @@ decreases-append_lines-loop-head l = size (tree_of l.rest.heads.now)
 -- the lines that are left make the whole
 abbrev pub invariant-append_lines-loop-head : goal.invariant-append_lines-loop-head
 invariant-append_lines-loop-head l =
-    (unrolled_in (shared l.context) (tree_of l.lines.heads.now) (copies_in l.copies) l.fn.out ≡ unrolled_in (shared l.context) (tree_of l.rest.heads.now) (copies_in l.copies) l.out)
+    (unrolled_in (seen_context l.context) (tree_of l.lines.heads.now) (copies_in l.copies) l.fn.out ≡ unrolled_in (seen_context l.context) (tree_of l.rest.heads.now) (copies_in l.copies) l.out)
     × (size (tree_of l.rest.heads.now) ≤ size (tree_of l.lines.heads.now))
 
 -- the copies that are left make the whole

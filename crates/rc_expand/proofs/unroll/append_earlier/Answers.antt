@@ -17,4 +17,4 @@ returns c =
     let same = ap (λ n. with_line (bare_line n (earlier_of (line_in s cs f).labels)) u) (number_in s cs f)
     ∙ (ap (λ h. with_line (bare_line f.number (earlier_of h.labels)) u) (sym c.requires)
     ∙ sym (some_earlier f.number c.args.made.now.labels u (omega (arith, ap length c.as_slice.ensures)))) in
-    subst (λ r. Returns (λ i. c.append.new.out) c.append.result r) same c.append.ensures
+    subst (λ r. Returns (λ i. c.append_reached.new.out) c.append_reached.result r) same c.append_reached.ensures

@@ -1,11 +1,11 @@
 use Rattle.std.proofs.Common.{◌≡◌, ◌-◌, ◌≤◌, length, drop}
 use Rattle.rc_expand.specs.Heads.Lines.{label_split}
-use Rattle.rc_expand.proofs.Reading.HeadSteps.{behind}
+use Rattle.rc_expand.proofs.Reading.HeadSteps.{with_labels_before}
 use Rattle.rc_expand.proofs.heads.read.read_labels.Given as goal
 
 abbrev pub invariant-line : goal.invariant-line
 invariant-line l =
-    (label_split l.source l.tokens ≡ behind l.source l.labels (label_split l.source (drop l.at l.tokens))) × (l.at ≤ length l.tokens)
+    (label_split l.source l.tokens ≡ with_labels_before l.source l.labels (label_split l.source (drop l.at l.tokens))) × (l.at ≤ length l.tokens)
 
 abbrev pub decreases-line : goal.decreases-line
 decreases-line l = length l.tokens - l.at

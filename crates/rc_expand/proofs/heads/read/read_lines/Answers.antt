@@ -1,5 +1,5 @@
 use Rattle.std.proofs.Common.{◌≡◌, sym, ◌∙◌, subst, false, []}
-use Rattle.rc_text.specs.Tokens.{Ahead}
+use Rattle.rc_text.specs.Tokens.{LexerView}
 use Rattle.rc_expand.specs.Heads.Lines.{has_end, line_of_tokens}
 use Rattle.rc_expand.proofs.Reading.ReadSteps.{SoFar, at_first, at_token, at_line}
 use Rattle.rc_expand.proofs.Reading.TextFaults.{at_beginning, after_token}
@@ -7,7 +7,7 @@ use Rattle.rc_expand.proofs.heads.read.read_lines.Goals as goal
 
 pub loop-line-init : goal.loop-line-init
 loop-line-init c =
-    let P : Ahead → Type 0 = λ a. SoFar c.args.source.now [] [] a.tokens in
+    let P : LexerView → Type 0 = λ a. SoFar c.args.source.now [] [] a.tokens in
     let first : SoFar c.args.source.now c.new-heads.result.items c.new-line.result.items c.new-lexer.result.tokens =
     rw (c.new-heads.ensures.items, c.new-line.ensures.items) (subst P (sym c.new-lexer.ensures) (at_first c.args.source.now)) in (
       first,

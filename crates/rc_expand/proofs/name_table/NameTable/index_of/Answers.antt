@@ -8,4 +8,4 @@ use Rattle.rc_expand.proofs.name_table.NameTable.index_of.Goals as goal
 pub returns : goal.returns
 returns g c =
     index_finds c.self.inside.entries.entries c.args.self.now c.get_index_of.result _ c.self.view_is c.get_index_of.ensures.found c.get_index_of.ensures.value
-    ∙ finds (name_of c.args.source.now c.args.token.now) c.self.inside.entries.entries c.args.self.now (joined_name c.spelled.result.bytes.now c.spelled.result.counters.now) c.self.view_is c.spelled.ensures
+    ∙ finds (name_of c.args.source.now c.args.token.now) c.self.inside.entries.entries c.args.self.now (joined_name c.key_of.result.bytes.now c.key_of.result.counters.now) c.self.view_is c.key_of.ensures

@@ -6,7 +6,7 @@ use Rattle.rc_asm.specs.declared.fault.AsmKind.TheVariants.{Warrior}
 use Rattle.rc_asm.specs.Faults.{at_line}
 use Rattle.rc_asm.specs.Lines.{start_value}
 use Rattle.rc_asm.proofs.Outcomes.{same_start}
-use Rattle.rc_asm.proofs.assembler.warrior_of.Goals as goal
+use Rattle.rc_asm.proofs.assembler.warrior_of_reading.Goals as goal
 
 pub returns-in-Ok-clause-outcome : goal.returns-in-Ok-clause-outcome
 returns-in-Ok-clause-outcome c =
