@@ -10,6 +10,7 @@ use Rattle.tune_problem.specs.declared.part.Part.{Part}
 use Rattle.tune_cert.specs.declared.demand.Demand.{Demand}
 use Rattle.tune_cert.specs.declared.share.Share.{Share}
 use Rattle.tune_runs.specs.DuelRun.{position_meant}
+use Rattle.tune_runs.specs.Runs.{Writer, writer}
 use Rattle.tune_runs.specs.SettingsRun.{WritesSettings}
 use Rattle.tune_runs.specs.declared.given.WhichSetting.{WhichSetting}
 use Rattle.tune_problem.specs.declared.aim.Aim.{Aim}
@@ -58,9 +59,9 @@ named_at P r x is h = subst (λ q. IfOk q P) is h
 -- what is promised of a fight holds of words that ask for none
 other_run : {X : Type 0} (words : List (List ℕ)) (input : Option (List ℕ)) (old new : OutletView) (ended : Result X Ending) (status : ℕ)
     → status ≡ status_of ended → (AsksForFight words → ⊥) → (IsErrOf ended Misused → new ≡ old)
-    → (IsErrOf ended Refused → (new ≡ old) ⊎ WritesSomeCheckLine false old.bytes new.bytes) → (IsTrue new.failed → IsErrOf ended Failed)
+    → (IsErrOf ended Refused → (new ≡ old) ⊎ WritesSomeCheckLine false (writer old new)) → (IsTrue new.failed → IsErrOf ended Failed)
     → (IsErrOf ended Failed → (new ≡ old) ⊎ IsTrue new.failed)
-    → (status ≡ 0 → AsksForHelp words ⊎ IsSuccess words input old.bytes new.bytes) → IsProgramRun words input old new status
+    → (status ≡ 0 → AsksForHelp words ⊎ IsSuccess words input (writer old new)) → IsProgramRun words input old new status
 other_run words input old new ended status is other misused unwritten failed lost success = record {
   done = λ asked e. absurd (other asked);
   refused = λ asked e. absurd (other asked);
@@ -76,7 +77,7 @@ other_run words input old new ended status is other misused unwritten failed los
 -- a run that writes nothing unless it succeeds
 quiet_run : {X Wrote : Type 0} (words : List (List ℕ)) (input : Option (List ℕ)) (old new : OutletView) (ended : Result X Ending) (status : ℕ)
     → status ≡ status_of ended → (AsksForFight words → ⊥) → IsEnded Wrote old new ended
-    → (status ≡ 0 → AsksForHelp words ⊎ IsSuccess words input old.bytes new.bytes) → IsProgramRun words input old new status
+    → (status ≡ 0 → AsksForHelp words ⊎ IsSuccess words input (writer old new)) → IsProgramRun words input old new status
 quiet_run words input old new ended status is other ended_so success =
     other_run words input old new ended status is other ended_so.misused (λ e. inl (ended_so.refused e)) ended_so.failed ended_so.lost success
 
@@ -84,13 +85,13 @@ same_word : (word named other : List ℕ) → named ≡ word → IsTrue (bytes_e
 same_word word named other is same e = subst (λ w. IsTrue (bytes_eq w other)) (sym e ∙ is) same
 
 -- a command succeeds if it wrote what its own field says
-pub success_of : (word : List ℕ) (words : List (List ℕ)) (input old new : Option (List ℕ)) → command_of words ≡ word → IsTrue (is_command word)
-    → (IsTrue (bytes_eq word (codes "fight")) → WritesFightIn input old new ⊎ WritesSomeDuel old new)
-    → (IsTrue (bytes_eq word (codes "asm")) → WritesSomeLoadFile old new)
-    → (IsTrue (bytes_eq word (codes "settings")) → WritesSomeSettings old new)
-    → (IsTrue (bytes_eq word (codes "tune")) → WritesSomeReport old new)
-    → (IsTrue (bytes_eq word (codes "check")) → WritesSomeCheckLine true old new) → IsSuccess words input old new
-success_of word words input old new named known fight asm settings tune check = record {
+pub success_of : (word : List ℕ) (words : List (List ℕ)) (input : Option (List ℕ)) (out : Writer) → command_of words ≡ word → IsTrue (is_command word)
+    → (IsTrue (bytes_eq word (codes "fight")) → WritesFightIn input out ⊎ WritesSomeDuel out)
+    → (IsTrue (bytes_eq word (codes "asm")) → WritesSomeLoadFile out)
+    → (IsTrue (bytes_eq word (codes "settings")) → WritesSomeSettings out)
+    → (IsTrue (bytes_eq word (codes "tune")) → WritesSomeReport out)
+    → (IsTrue (bytes_eq word (codes "check")) → WritesSomeCheckLine true out) → IsSuccess words input out
+success_of word words input out named known fight asm settings tune check = record {
   known = subst (λ w. IsTrue (is_command w)) (sym named) known;
   fight = λ e. fight (same_word word (command_of words) (codes "fight") named refl e);
   asm = λ e. asm (same_word word (command_of words) (codes "asm") named refl e);
@@ -102,37 +103,37 @@ success_of word words input old new named known fight asm settings tune check = 
 no : {P : Type 0} → IsTrue false → P
 no e = absurd (cc)
 
-pub fight_success : (words : List (List ℕ)) (input old new : Option (List ℕ)) → command_of words ≡ codes "fight"
-    → WritesFightIn input old new ⊎ WritesSomeDuel old new → IsSuccess words input old new
-fight_success words input old new named wrote = success_of (codes "fight") words input old new named refl (λ _. wrote) no no no no
+pub fight_success : (words : List (List ℕ)) (input : Option (List ℕ)) (out : Writer) → command_of words ≡ codes "fight"
+    → WritesFightIn input out ⊎ WritesSomeDuel out → IsSuccess words input out
+fight_success words input out named wrote = success_of (codes "fight") words input out named refl (λ _. wrote) no no no no
 
 pub duel_run : {X : Type 0} (words : List (List ℕ)) (input : Option (List ℕ)) (old new : OutletView) (rules : RulesView) (position : Option ℕ) (first : Side)
-    (ended : Result X Ending) (status : ℕ) → status ≡ status_of ended → (AsksForFight words → ⊥) → IsEnded (WritesDuelOf rules position first old.bytes new.bytes) old new ended
+    (ended : Result X Ending) (status : ℕ) → status ≡ status_of ended → (AsksForFight words → ⊥) → IsEnded (WritesDuelOf rules position first (writer old new)) old new ended
     → command_of words ≡ codes "fight" → IsProgramRun words input old new status
 duel_run words input old new rules position first ended status is other ended_so named =
     quiet_run words input old new ended status is other ended_so (λ e. let (c, o, line) = done_at ended status is ended_so.done e in
-    inr (fight_success words input old.bytes new.bytes named (inr (c, o, rules, position_meant rules position, first, line))))
+    inr (fight_success words input (writer old new) named (inr (c, o, rules, position_meant rules position, first, line))))
 
 pub asm_run : {X : Type 0} (words : List (List ℕ)) (input : Option (List ℕ)) (old new : OutletView) (setting : Option WhichSetting) (rules : RulesView)
     (ended : Result X Ending) (status : ℕ) → status ≡ status_of ended → (AsksForFight words → ⊥)
-    → IsEnded ((source : List ℕ) × WritesLoadFile source setting rules old.bytes new.bytes) old new ended → command_of words ≡ codes "asm" → IsProgramRun words input old new status
+    → IsEnded ((source : List ℕ) × WritesLoadFile source setting rules (writer old new)) old new ended → command_of words ≡ codes "asm" → IsProgramRun words input old new status
 asm_run words input old new setting rules ended status is other ended_so named =
     quiet_run words input old new ended status is other ended_so (λ e. let (source, text) = done_at ended status is ended_so.done e in
-    inr (success_of (codes "asm") words input old.bytes new.bytes named refl no (λ _. (source, setting, rules, text)) no no no))
+    inr (success_of (codes "asm") words input (writer old new) named refl no (λ _. (source, setting, rules, text)) no no no))
 
 pub settings_run : {X : Type 0} (words : List (List ℕ)) (input : Option (List ℕ)) (old new : OutletView) (ended : Result X Ending) (status : ℕ)
-    → status ≡ status_of ended → (AsksForFight words → ⊥) → IsEnded ((source : List ℕ) × WritesSettings source old.bytes new.bytes) old new ended
+    → status ≡ status_of ended → (AsksForFight words → ⊥) → IsEnded ((source : List ℕ) × WritesSettings source (writer old new)) old new ended
     → command_of words ≡ codes "settings" → IsProgramRun words input old new status
 settings_run words input old new ended status is other ended_so named =
     quiet_run words input old new ended status is other ended_so (λ e. let text = done_at ended status is ended_so.done e in
-    inr (success_of (codes "settings") words input old.bytes new.bytes named refl no no (λ _. text) no no))
+    inr (success_of (codes "settings") words input (writer old new) named refl no no (λ _. text) no no))
 
 pub tune_run : {X : Type 0} (words : List (List ℕ)) (input : Option (List ℕ)) (old new : OutletView) (aim : Aim) (method : Method) (rules : RulesView) (part : Part)
-    (ended : Result X Ending) (status : ℕ) → status ≡ status_of ended → (AsksForFight words → ⊥) → IsEnded (WritesReport aim method rules part old.bytes new.bytes) old new ended
+    (ended : Result X Ending) (status : ℕ) → status ≡ status_of ended → (AsksForFight words → ⊥) → IsEnded (WritesReport aim method rules part (writer old new)) old new ended
     → command_of words ≡ codes "tune" → IsProgramRun words input old new status
 tune_run words input old new aim method rules part ended status is other ended_so named =
     quiet_run words input old new ended status is other ended_so (λ e. let text = done_at ended status is ended_so.done e in
-    inr (success_of (codes "tune") words input old.bytes new.bytes named refl no no no (λ _. (aim, method, rules, part, text)) no))
+    inr (success_of (codes "tune") words input (writer old new) named refl no no no (λ _. (aim, method, rules, part, text)) no))
 
 pub check_run : {X : Type 0} (words : List (List ℕ)) (input : Option (List ℕ)) (old new : OutletView) (rules : RulesView) (part : Part)
     (demand : Demand) (share : Option Share) (ended : Result X Ending) (status : ℕ) → status ≡ status_of ended → (AsksForFight words → ⊥)
@@ -141,7 +142,7 @@ check_run words input old new rules part demand share ended status is other ende
     other_run words input old new ended status is other ended_so.misused
     (λ e. elim (ended_so.refused e) [ inl same ↦ inl same | inr line ↦ inr (rules, part, demand, share, line) ]) ended_so.failed ended_so.lost
     (λ e. let line = done_at ended status is ended_so.done e in
-    inr (success_of (codes "check") words input old.bytes new.bytes named refl no no no no (λ _. (rules, part, demand, share, line))))
+    inr (success_of (codes "check") words input (writer old new) named refl no no no no (λ _. (rules, part, demand, share, line))))
 
 pub help_run : {X : Type 0} (words : List (List ℕ)) (input : Option (List ℕ)) (old new : OutletView) (ended : Result X Ending) (status : ℕ)
     → status ≡ status_of ended → (AsksForFight words → ⊥) → IsEnded (AsksForHelp words) old new ended → IsProgramRun words input old new status

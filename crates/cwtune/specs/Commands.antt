@@ -8,7 +8,7 @@ use Rattle.tune_problem.specs.declared.part.Part.{Part}
 use Rattle.tune_cert.specs.declared.demand.Demand.{Demand}
 use Rattle.tune_cert.specs.declared.share.Share.{Share}
 use Rattle.mars_core.specs.declared.side.Side.{Side}
-use Rattle.tune_runs.specs.Runs.{Writes}
+use Rattle.tune_runs.specs.Runs.{Writer, writer, Writes}
 use Rattle.tune_runs.specs.AsmRun.{asm_output}
 use Rattle.tune_runs.specs.DuelRun.{duel, position_meant, WritesDuel}
 use Rattle.tune_runs.specs.FightRun.{WritesFight}
@@ -26,8 +26,8 @@ use Rattle.cwtune.specs.declared.ending.Ending.{Ending}
 use Rattle.cwtune.specs.declared.ending.Ending.TheVariants.{Refused, Misused, Failed}
 
 -- The result line of the fight in the input was written.
-abbrev pub WritesFightIn : Option (List ℕ) → Option (List ℕ) → Option (List ℕ) → Type 0
-WritesFightIn input old new = (text : List ℕ) × IsInput input text × WritesFight text old new
+abbrev pub WritesFightIn : (input : Option (List ℕ)) → Writer → Type 0
+WritesFightIn input out = (text : List ℕ) × IsInput input text × WritesFight text out
 
 -- The output of `asm`: the load file of a text, or of a setting of a template; or the first fault.
 abbrev pub load_file_output : List ℕ → Option WhichSetting → RulesView → Result (Unit {0} × List ℕ) RunFault
@@ -35,19 +35,19 @@ load_file_output source None rules = asm_output source rules
 load_file_output source (Some which) rules = setting_output source which rules
 
 -- The load file was written.
-abbrev pub WritesLoadFile : List ℕ → Option WhichSetting → RulesView → Option (List ℕ) → Option (List ℕ) → Type 0
-WritesLoadFile source setting rules old new = Writes (load_file_output source setting rules) tt old new
+abbrev pub WritesLoadFile : List ℕ → Option WhichSetting → RulesView → Writer → Type 0
+WritesLoadFile source setting rules out = Writes (load_file_output source setting rules) tt out
 
 -- The result line of a fight of two texts was written. Without a position it is half of the core.
-abbrev pub WritesDuelOf : RulesView → (position : Option ℕ) → (first : Side) → Option (List ℕ) → Option (List ℕ) → Type 0
-WritesDuelOf rules position first old new =
-    (candidate : List ℕ) × (opponent : List ℕ) × WritesDuel (duel candidate opponent rules (position_meant rules position) first) old new
+abbrev pub WritesDuelOf : RulesView → (position : Option ℕ) → (first : Side) → Writer → Type 0
+WritesDuelOf rules position first out =
+    (candidate : List ℕ) × (opponent : List ℕ) × WritesDuel (duel candidate opponent rules (position_meant rules position) first) out
 
 -- The report of a tuning of some texts was written, and a certificate.
-abbrev pub WritesReport : Aim → Method → RulesView → Part → Option (List ℕ) → Option (List ℕ) → Type 0
-WritesReport aim method rules part old new =
-    (template : List ℕ) × (opponents : List (List ℕ)) × (schedule : List ℕ) × (cert : Option (List ℕ)) × (written : Option (List ℕ))
-    × WritesTuningFrom (part_texts template opponents schedule rules part) aim method old new cert written
+abbrev pub WritesReport : Aim → Method → RulesView → Part → (report : Writer) → Type 0
+WritesReport aim method rules part report =
+    (template : List ℕ) × (opponents : List (List ℕ)) × (schedule : List ℕ) × (cert : Writer)
+    × WritesTuningFrom (part_texts template opponents schedule rules part) aim method report cert
 
 -- A ranking or a floor is asked for.
 abbrev pub is_asked : Demand → Bool
@@ -60,35 +60,35 @@ verdict_output demand share t cert =
     if is_asked demand then check_for_output t demand (option_map part_given share) cert else check_output t (option_map part_given share) cert
 
 -- The lines were written, and `accepted` says whether the certificate is accepted.
-abbrev pub WritesVerdictOf : Demand → Option Share → Texts → List ℕ → Bool → Option (List ℕ) → Option (List ℕ) → Type 0
-WritesVerdictOf demand share t cert accepted old new = Writes (verdict_output demand share t cert) accepted old new
+abbrev pub WritesVerdictOf : Demand → Option Share → Texts → List ℕ → Bool → Writer → Type 0
+WritesVerdictOf demand share t cert accepted out = Writes (verdict_output demand share t cert) accepted out
 
 -- The lines of a check of some texts and a certificate were written.
-abbrev pub WritesCheckLine : RulesView → Part → Demand → Option Share → Bool → Option (List ℕ) → Option (List ℕ) → Type 0
-WritesCheckLine rules part demand share accepted old new =
+abbrev pub WritesCheckLine : RulesView → Part → Demand → Option Share → Bool → Writer → Type 0
+WritesCheckLine rules part demand share accepted out =
     (template : List ℕ) × (opponents : List (List ℕ)) × (schedule : List ℕ) × (cert : List ℕ)
-    × WritesVerdictOf demand share (part_texts template opponents schedule rules part) cert accepted old new
+    × WritesVerdictOf demand share (part_texts template opponents schedule rules part) cert accepted out
 
 -- ---- what a command wrote, for some files and some values of its options
 
-abbrev pub WritesSomeDuel : Option (List ℕ) → Option (List ℕ) → Type 0
-WritesSomeDuel old new =
+abbrev pub WritesSomeDuel : Writer → Type 0
+WritesSomeDuel out =
     (candidate : List ℕ) × (opponent : List ℕ) × (rules : RulesView) × (position : ℕ) × (first : Side)
-    × WritesDuel (duel candidate opponent rules position first) old new
+    × WritesDuel (duel candidate opponent rules position first) out
 
-abbrev pub WritesSomeLoadFile : Option (List ℕ) → Option (List ℕ) → Type 0
-WritesSomeLoadFile old new =
-    (source : List ℕ) × (setting : Option WhichSetting) × (rules : RulesView) × WritesLoadFile source setting rules old new
+abbrev pub WritesSomeLoadFile : Writer → Type 0
+WritesSomeLoadFile out =
+    (source : List ℕ) × (setting : Option WhichSetting) × (rules : RulesView) × WritesLoadFile source setting rules out
 
-abbrev pub WritesSomeSettings : Option (List ℕ) → Option (List ℕ) → Type 0
-WritesSomeSettings old new = (source : List ℕ) × WritesSettings source old new
+abbrev pub WritesSomeSettings : Writer → Type 0
+WritesSomeSettings out = (source : List ℕ) × WritesSettings source out
 
-abbrev pub WritesSomeReport : Option (List ℕ) → Option (List ℕ) → Type 0
-WritesSomeReport old new = (aim : Aim) × (method : Method) × (rules : RulesView) × (part : Part) × WritesReport aim method rules part old new
+abbrev pub WritesSomeReport : Writer → Type 0
+WritesSomeReport out = (aim : Aim) × (method : Method) × (rules : RulesView) × (part : Part) × WritesReport aim method rules part out
 
-abbrev pub WritesSomeCheckLine : Bool → Option (List ℕ) → Option (List ℕ) → Type 0
-WritesSomeCheckLine accepted old new =
-    (rules : RulesView) × (part : Part) × (demand : Demand) × (share : Option Share) × WritesCheckLine rules part demand share accepted old new
+abbrev pub WritesSomeCheckLine : Bool → Writer → Type 0
+WritesSomeCheckLine accepted out =
+    (rules : RulesView) × (part : Part) × (demand : Demand) × (share : Option Share) × WritesCheckLine rules part demand share accepted out
 
 -- The exit status of a command.
 abbrev pub status_of : {X : Type 0} → Result X Ending → ℕ
@@ -114,9 +114,9 @@ EndsUnderstood Wrote old new result = IsEnded Wrote old new result × IfErr resu
 -- How a check ends. `Wrote` says what it writes if it accepts, and if it does not. An input that is
 -- refused, or a usage error, left standard output as it was, and so did a failure, unless a write
 -- failed. A failed write ended as `Failed`.
-pub record IsCheckEnded {X : Type 0} (Wrote : Bool → Option (List ℕ) → Option (List ℕ) → Type 0) (old new : OutletView) (result : Result X Ending) : Type 0 where
-  pub done : OnOk result (Wrote true old.bytes new.bytes)
-  pub refused : IsErrOf result Refused → (new ≡ old) ⊎ Wrote false old.bytes new.bytes
+pub record IsCheckEnded {X : Type 0} (Wrote : Bool → Writer → Type 0) (old new : OutletView) (result : Result X Ending) : Type 0 where
+  pub done : OnOk result (Wrote true (writer old new))
+  pub refused : IsErrOf result Refused → (new ≡ old) ⊎ Wrote false (writer old new)
   pub misused : IsErrOf result Misused → new ≡ old
   pub failed : IsTrue new.failed → IsErrOf result Failed
   pub lost : IsErrOf result Failed → (new ≡ old) ⊎ IsTrue new.failed

@@ -4,6 +4,7 @@
 
 ghost use Rattle.std.specs.Prelude.{◌≡◌, [], ◌∷◌, false, OnOk};
 ghost use Rattle.rc_instr.specs.Rules.{rules_view};
+ghost use Rattle.tune_runs.specs.Runs.{writer};
 ghost use Rattle.tune_runs.specs.TuneRun.{texts, WritesOptimum};
 
 use rc_instr::{Outlet, Rules};
@@ -28,7 +29,7 @@ fn print_optimum<W: Write>(alloc: Global, out: &mut Outlet<W>) -> Result<(), Run
     // What was printed is the report of the optimum of these texts under the standard rules, found
     // by a search that remembers one setting.
     ensures { let t = texts TEMPLATE.now (OPPONENT.now ∷ []) SCHEDULE.now (rules_view 8000 80000 8000 100 100) in
-        OnOk result (WritesOptimum t (Method.Dropping 1) out.old.bytes out.new.bytes) }
+        OnOk result (WritesOptimum t (Method.Dropping 1) (writer out.old out.new)) }
 {
     let opponents = [OPPONENT.to_vec(alloc)?];
     let rules = Rules::standard();

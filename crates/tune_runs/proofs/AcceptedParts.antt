@@ -31,7 +31,8 @@ use Rattle.tune_cert.proofs.Demands.{met_if_accepted}
 use Rattle.tune_runs.specs.Report.{rank_lines, named_ranking}
 use Rattle.tune_runs.specs.TuneRun.{Texts, of_part, meaning_of, Means, HasNoCandidate}
 use Rattle.tune_runs.specs.CheckRun.{accepts, verdict_line, answer_text, judgement_lines, accepts_for, check_for_output, HasRightVerdict, Accepts, IsAccepted, IsShown}
-use Rattle.tune_runs.specs.Agreement.{Writer, Gets, Checks, ChecksFor, NamesAnswer, AreShown, IsBestShown, IsBestOfAll, AreShownBelow, AreAllBelow}
+use Rattle.tune_runs.specs.Agreement.{Checks, ChecksFor, NamesAnswer, AreShown, IsBestShown, IsBestOfAll, AreShownBelow, AreAllBelow}
+use Rattle.tune_runs.specs.Runs.{Writer, Gets}
 use Rattle.tune_runs.specs.declared.fault.RunFault.{RunFault}
 use Rattle.tune_runs.proofs.Meaning.{one_meaning, made_of, means}
 use Rattle.tune_runs.proofs.Verdicts.{right_line}

@@ -43,7 +43,8 @@ use Rattle.tune_search.proofs.Finish.{none_best}
 use Rattle.tune_runs.specs.Report.{named_setting, rank_lines}
 use Rattle.tune_runs.specs.TuneRun.{Texts, Means, answer_of}
 use Rattle.tune_runs.specs.CheckRun.{accepted_words, accepts_for, answer_text, check_for_output, judgement_lines, share_meant}
-use Rattle.tune_runs.specs.Agreement.{Writer, Gets, filled}
+use Rattle.tune_runs.specs.Agreement.{filled}
+use Rattle.tune_runs.specs.Runs.{Writer, Gets}
 use Rattle.tune_runs.specs.AimedRuns.{AgreeAsked, Asked, ChecksAsked, IsAsked, TunesAsked, accepted_lines, aim_of}
 use Rattle.tune_runs.specs.declared.fault.RunFault.{RunFault}
 use Rattle.tune_runs.proofs.BestTunings.{no_candidates}

@@ -3,7 +3,6 @@ use Rattle.std.proofs.Common.{◌≡◌, ℕ, zero, suc, ℤ, ◌+◌, ◌<◌, 
 use Rattle.std.specs.List.{count_by, range_with_len, slice_get}
 use Rattle.std.proofs.lemmas.List.Sums.{sum_by-cons}
 use Rattle.std.specs.Option.{is_some, option_map}
-use Rattle.std.specs.Io.KnownBytes.{Appends}
 use Rattle.rc_instr.specs.Outlet.{OutletView}
 use Rattle.tune_problem.specs.Inputs.{InputsView, settings_of}
 use Rattle.tune_problem.specs.Problem.{Problem, problem_of}
@@ -20,6 +19,7 @@ use Rattle.tune_search.specs.declared.method.Method.{Method}
 use Rattle.tune_search.proofs.Finish.{as_found, none_best}
 use Rattle.tune_runs.specs.Report.{Report, constants_with, report_for, report_from, report_text, NamedSetting, named_setting}
 use Rattle.tune_runs.specs.TuneRun.{Texts, IsTuneRun, WritesTuning, WritesTuningFrom, answer_of}
+use Rattle.tune_runs.specs.Runs.{Gets, Writer, writer}
 use Rattle.tune_runs.specs.declared.fault.RunFault.{RunFault}
 
 abbrev bit : Bool → ℕ
@@ -75,8 +75,8 @@ module _ (t : Texts) (method : Method) (i : InputsView) (f : Findings) (s : IsSe
       → statement_text (statement_with f.version (answer_of 0 (first_of f.ranking)) f.rows) ≡ cert_text (cert_of (found_of f best))
   same_cert best is = ap (λ (o : Option Best). statement_text (statement_with f.version (answer_of 0 o) f.rows)) is
 
-pub writes_tuning : (t : Texts) (method : Method) (a b c d : Option (List ℕ)) → WritesTuningFrom t best_alone method a b c d → WritesTuning t method a b c d
-writes_tuning t method a b c d (i, f, (means, s, some), wrote_cert, wrote_report) =
+pub writes_tuning : (t : Texts) (method : Method) (report cert : Writer) → WritesTuningFrom t best_alone method report cert → WritesTuning t method report cert
+writes_tuning t method report cert (i, f, (means, s, some), wrote_cert, wrote_report) =
     let best = ranks_one t method i f s some in
     let found : IsSearch (problem_of i) method (found_of f best.0) = as_found (problem_of i) method f best.0 best.1 s in
     let values = slice_get_some (settings_of i) best.0.vector found.optimum.inside in (
@@ -84,18 +84,18 @@ writes_tuning t method a b c d (i, f, (means, s, some), wrote_cert, wrote_report
       found_of f best.0,
       values.0,
       (means, found, values.1),
-      subst (λ (x : List ℕ). Appends c d x) (same_cert t method i f s some best.0 best.1) wrote_cert,
-      subst (λ (r : Report). Appends a b (report_text r)) (same_report t method i f s some best.0 values.0 best.1 values.1) wrote_report,
+      subst (λ (x : List ℕ). Gets cert x) (same_cert t method i f s some best.0 best.1) wrote_cert,
+      subst (λ (r : Report). Gets report (report_text r)) (same_report t method i f s some best.0 values.0 best.1 values.1) wrote_report,
     )
 
-as_written : {X : Type 0} (r : Result X RunFault) (t : Texts) (method : Method) (a b c d : Option (List ℕ)) → OnOk r (WritesTuningFrom t best_alone method a b c d) → OnOk r (WritesTuning t method a b c d)
-as_written (Ok x) t method a b c d h = writes_tuning t method a b c d h
-as_written (Err e) t method a b c d h = tt
+as_written : {X : Type 0} (r : Result X RunFault) (t : Texts) (method : Method) (report cert : Writer) → OnOk r (WritesTuningFrom t best_alone method report cert) → OnOk r (WritesTuning t method report cert)
+as_written (Ok x) t method report cert h = writes_tuning t method report cert h
+as_written (Err e) t method report cert h = tt
 
 -- the run of such a tuning is the run of a tuning
 pub is_tuning : {X : Type 0} (r : Result X RunFault) (t : Texts) (method : Method) (a b c d : OutletView) → IsTuneRun t (WritesTuningFrom t best_alone method) r a b c d → IsTuneRun t (WritesTuning t method) r a b c d
 is_tuning r t method a b c d h = record {
-  done = as_written r t method a.bytes b.bytes c.bytes d.bytes h.done;
+  done = as_written r t method (writer a b) (writer c d) h.done;
   stopped = h.stopped;
   write = h.write;
   unwritten = h.unwritten;

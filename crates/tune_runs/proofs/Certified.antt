@@ -16,10 +16,11 @@ use Rattle.tune_problem.proofs.Scores.{inputs_problem}
 use Rattle.tune_cert.proofs.WrittenBack.{written as written_back}
 use Rattle.tune_search.specs.Found.{IsSearch}
 use Rattle.tune_search.specs.declared.method.Method.{Method}
-use Rattle.tune_runs.specs.TuneRun.{Texts}
+use Rattle.tune_runs.specs.TuneRun.{Texts, WritesTuning}
 use Rattle.tune_cert.specs.Verdict.{IsVerdict, IsRightVerdict}
 use Rattle.tune_runs.specs.CheckRun.{accepts, verdict_line}
-use Rattle.tune_runs.specs.Agreement.{Writer, Gets, Tunes, MayFind, written, Checks, Agree}
+use Rattle.tune_runs.specs.Agreement.{MayFind, written, Checks, Agree}
+use Rattle.tune_runs.specs.Runs.{Writer, Gets}
 use Rattle.tune_runs.proofs.Meaning.{one_meaning, made_of}
 use Rattle.tune_runs.proofs.Verdicts.{right_line}
 use Rattle.tune_runs.proofs.Writable.{most_points, writable}
@@ -52,7 +53,7 @@ line_names t method bytes i f out h check =
     let name : r.verdict ≡ Accepted f.best f.total = named (problem_of i) (inputs_problem i) method f (records_of bytes) r.verdict h.search (sym r.says) here in
     subst (λ (x : Verdict). Gets out (verdict_line None x)) name r.line
 
-pub certified : (t : Texts) (method : Method) (bytes : List ℕ) (report cert out : Writer) → Tunes t method report cert → Checks t bytes true out → Agree t method report cert out
+pub certified : (t : Texts) (method : Method) (bytes : List ℕ) (report cert out : Writer) → WritesTuning t method report cert → Checks t bytes true out → Agree t method report cert out
 certified t method bytes report cert out (i, f, values, tuning, wrote_cert, wrote_report) check = record {
   inputs = i;
   found = f;

@@ -1,10 +1,10 @@
 -- How runs of tunings end.
-use Rattle.std.proofs.Common.{◌≡◌, ◌≢◌, ◌⊎◌, ℕ, List, Option, Bool, false, inl, inr, refl, sym, Result, Ok, Err, IsErrOf, IsTrue, ◌∙◌}
+use Rattle.std.proofs.Common.{◌≡◌, ◌≢◌, ◌⊎◌, Bool, false, inl, inr, refl, sym, Result, Ok, Err, IsErrOf, IsTrue, ◌∙◌}
 use Rattle.rc_instr.specs.Outlet.{OutletView}
 use Rattle.tune_problem.specs.Inputs.{InputsView}
 use Rattle.tune_problem.specs.Problem.{problem_of}
 use Rattle.tune_search.specs.Found.{NoneAssembles}
-use Rattle.tune_runs.specs.Runs.{IsMemory}
+use Rattle.tune_runs.specs.Runs.{IsMemory, Writer}
 use Rattle.tune_runs.specs.TuneRun.{Texts, meaning_of, HasNoCandidate, IsTuneRun}
 use Rattle.tune_runs.specs.declared.fault.RunFault.{RunFault}
 use Rattle.tune_runs.specs.declared.fault.RunFault.TheVariants.{NoCandidate, Write, OutOfMemory}
@@ -16,7 +16,7 @@ other_fault : (X : Type 0) (e : RunFault) (r : Result X RunFault) → r ≡ Err 
 other_fault X e r is other same = other (search (sym is ∙ same))
 
 -- a tuning that returns a fault before it writes has written nothing
-pub refused_tuning : (X : Type 0) (r : Result X RunFault) (e : RunFault) (t : Texts) (Wrote : (report_old report_new cert_old cert_new : Option (List ℕ)) → Type 0) (report cert : OutletView)
+pub refused_tuning : (X : Type 0) (r : Result X RunFault) (e : RunFault) (t : Texts) (Wrote : (report cert : Writer) → Type 0) (report cert : OutletView)
     → r ≡ Err e → report.failed ≡ false → cert.failed ≡ false → e ≢ Write
     → ((¬ IsMemory e) → (meaning_of t ≡ Err e) ⊎ ((e ≡ NoCandidate) × HasNoCandidate t)) → IsTuneRun t Wrote r report report cert cert
 refused_tuning X r e t Wrote report cert is whole_report whole_cert other says = record {

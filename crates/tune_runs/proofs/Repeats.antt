@@ -11,9 +11,10 @@ use Rattle.tune_cert.specs.declared.verdict.Verdict.TheVariants.{Accepted}
 use Rattle.tune_search.specs.Found.{IsSearch}
 use Rattle.tune_search.specs.declared.method.Method.{Method}
 use Rattle.tune_search.proofs.OneAnswer.{answer_one}
-use Rattle.tune_runs.specs.TuneRun.{Texts}
+use Rattle.tune_runs.specs.TuneRun.{Texts, WritesTuning}
 use Rattle.tune_runs.specs.CheckRun.{accepts, verdict_line}
-use Rattle.tune_runs.specs.Agreement.{Writer, Output, Gets, Tunes, IsOutput, written, ChecksCert, Agree}
+use Rattle.tune_runs.specs.Agreement.{Output, IsOutput, written, ChecksCert, Agree}
+use Rattle.tune_runs.specs.Runs.{Writer, Gets}
 use Rattle.tune_runs.proofs.Meaning.{one_meaning}
 use Rattle.tune_runs.proofs.Certified.{accepted}
 use Rattle.tune_runs.proofs.Verdicts.{right_line}
@@ -30,7 +31,7 @@ same_bytes t method one other (i, f, values, a, wrote_cert, wrote_report) (j, g,
     let certs : one.cert ≡ other.cert = cc in
     λ k. record { report = reports k; cert = certs k }
 
-pub checked : (t : Texts) (method : Method) (says : Bool) (report cert out : Writer) → Tunes t method report cert → ChecksCert t cert says out
+pub checked : (t : Texts) (method : Method) (says : Bool) (report cert out : Writer) → WritesTuning t method report cert → ChecksCert t cert says out
     → (says ≡ true) × Agree t method report cert out
 checked t method says report cert out (i, f, values, tuning, wrote_cert, wrote_report) check =
     let own : check.bytes ≡ cert_text (cert_of f) = subst (λ (w : Writer). Gets w (cert_text (cert_of f))) check.held wrote_cert in

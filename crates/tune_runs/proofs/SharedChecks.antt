@@ -13,7 +13,8 @@ use Rattle.tune_cert.specs.declared.verdict.Verdict.TheVariants.{Accepted, Rejec
 use Rattle.tune_cert.proofs.RightVerdicts.{right_verdict, shares_accept, accepted_in_share, valid_verdict}
 use Rattle.tune_runs.specs.TuneRun.{Texts, Means}
 use Rattle.tune_runs.specs.CheckRun.{accepts, verdict_line, Accepts}
-use Rattle.tune_runs.specs.Agreement.{Writer, Gets, ChecksShare, AllAccept, NamesIn, AllName, AcceptsAsWhole}
+use Rattle.tune_runs.specs.Agreement.{ChecksShare, AllAccept, NamesIn, AllName, AcceptsAsWhole}
+use Rattle.tune_runs.specs.Runs.{Writer, Gets}
 use Rattle.tune_runs.proofs.Meaning.{one_meaning}
 use Rattle.tune_runs.proofs.Verdicts.{IsVerdictLine, line_said}
 

@@ -1,6 +1,5 @@
 -- The verdict that a check writes, and that it is the right one.
 use Rattle.std.proofs.Common.{◌≡◌, ℕ, Bool, List, Option, None, Ok, sym, ap, subst}
-use Rattle.std.specs.Io.KnownBytes.{Appends}
 use Rattle.rc_instr.proofs.Chains.{went_on}
 use Rattle.tables.specs.Records.{records_of}
 use Rattle.tune_problem.specs.Inputs.{InputsView}
@@ -12,7 +11,8 @@ use Rattle.tune_cert.specs.declared.verdict.Verdict.{Verdict}
 use Rattle.tune_cert.proofs.RightVerdicts.{right_verdict}
 use Rattle.tune_runs.specs.TuneRun.{Texts, meaning_of, Means}
 use Rattle.tune_runs.specs.CheckRun.{WritesCheck, accepts, check_output, share_meant, verdict_given, verdict_line}
-use Rattle.tune_runs.specs.Agreement.{Writer, Gets, Checks, IsRightLine}
+use Rattle.tune_runs.specs.Agreement.{Checks, IsRightLine}
+use Rattle.tune_runs.specs.Runs.{Writer, Gets}
 
 -- what is given for bytes is a verdict for the inputs in the texts
 pub verdict_for : (t : Texts) (share : Part) (bytes : List ℕ) (v : Verdict) → verdict_given t share bytes ≡ Ok v
@@ -32,7 +32,7 @@ pub record IsVerdictLine (t : Texts) (share : Option Part) (bytes : List ℕ) (a
   pub says : accepted ≡ accepts verdict
   pub line : Gets out (verdict_line share verdict)
 
-pub line_said : (t : Texts) (share : Option Part) (bytes : List ℕ) (accepted : Bool) (out : Writer) → WritesCheck t share bytes accepted out.old out.new → IsVerdictLine t share bytes accepted out
+pub line_said : (t : Texts) (share : Option Part) (bytes : List ℕ) (accepted : Bool) (out : Writer) → WritesCheck t share bytes accepted out → IsVerdictLine t share bytes accepted out
 unfolding check_output
 line_said t share bytes accepted out (text, output, wrote) =
     let v = went_on (verdict_given t (share_meant share) bytes) (λ x. Ok (accepts x, verdict_line share x)) (accepted, text) output in
@@ -44,7 +44,7 @@ line_said t share bytes accepted out (text, output, wrote) =
       means = i.1;
       is = i.2;
       says = sym (ap (λ (p : Bool × List ℕ). p.0) both);
-      line = subst (λ (x : List ℕ). Appends out.old out.new x) (sym (ap (λ (p : Bool × List ℕ). p.1) both)) wrote;
+      line = subst (λ (x : List ℕ). Gets out x) (sym (ap (λ (p : Bool × List ℕ). p.1) both)) wrote;
     }
 
 -- a check writes the line of the right verdict

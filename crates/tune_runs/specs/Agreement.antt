@@ -1,6 +1,5 @@
 -- What tunings and checks of the same texts wrote, and how they agree.
 use Rattle.std.specs.Prelude.{◌≡◌, ℕ, ◌≤◌, ℤ, Bool, true, List, [], ◌++◌, codes, Option, Some, None}
-use Rattle.std.specs.Io.KnownBytes.{Appends}
 use Rattle.tables.specs.Records.{Fields, records_of}
 use Rattle.tune_problem.specs.Below.{AllBelow}
 use Rattle.tune_problem.specs.BestPart.{in_whole, IsBest, AllStayBelow, IsBestPart}
@@ -8,7 +7,6 @@ use Rattle.tune_problem.specs.Inputs.{InputsView}
 use Rattle.tune_problem.specs.Parts.{part}
 use Rattle.tune_problem.specs.Problem.{problem_of}
 use Rattle.tune_problem.specs.Valid.{cert_of}
-use Rattle.tune_problem.specs.declared.aim.Aim.{Aim}
 use Rattle.tune_problem.specs.declared.cert.Found.{Found}
 use Rattle.tune_problem.specs.declared.part.Part.{Part}
 use Rattle.tune_problem.specs.declared.statement.Answer.{Answer}
@@ -20,33 +18,15 @@ use Rattle.tune_cert.specs.declared.verdict.Verdict.TheVariants.{Accepted}
 use Rattle.tune_search.specs.Found.{IsSearch}
 use Rattle.tune_search.specs.declared.method.Method.{Method}
 use Rattle.tune_runs.specs.Report.{report_text, report_for}
-use Rattle.tune_runs.specs.TuneRun.{Texts, of_part, Means, IsTuning, WritesTuning, WritesTuningFrom}
+use Rattle.tune_runs.specs.TuneRun.{Texts, of_part, Means, IsTuning, WritesTuning}
+use Rattle.tune_runs.specs.Runs.{Writer, Gets}
 use Rattle.tune_runs.specs.CheckRun.{WritesCheck, WritesCheckFor, HasRightVerdict, Accepts, AcceptsFor, IsShown, accepts, answer_text, verdict_line}
-
--- ---- writers
-
--- A writer over a run: the bytes that it holds before and after it, if they are known.
-pub record Writer : Type 0 where
-  pub old : Option (List ℕ)
-  pub new : Option (List ℕ)
 
 -- A writer that was empty, and holds these bytes.
 abbrev pub filled : List ℕ → Writer
 filled bytes = record { old = Some []; new = Some bytes }
 
--- A text was appended.
-abbrev pub Gets : Writer → List ℕ → Type 0
-Gets out text = Appends out.old out.new text
-
 -- ---- tunings
-
--- A tuning by this method wrote its report and its certificate.
-abbrev pub Tunes : Texts → Method → (report cert : Writer) → Type 0
-Tunes t method report cert = WritesTuning t method report.old report.new cert.old cert.new
-
--- A tuning with an aim wrote its report and its certificate.
-abbrev pub TunesFrom : Texts → Aim → Method → (report cert : Writer) → Type 0
-TunesFrom t aim method report cert = WritesTuningFrom t aim method report.old report.new cert.old cert.new
 
 -- The bytes that a tuning gave two empty writers.
 pub record Output : Type 0 where
@@ -55,7 +35,7 @@ pub record Output : Type 0 where
 
 -- A tuning by this method gave these bytes.
 abbrev pub IsOutput : Texts → Method → Output → Type 0
-IsOutput t method o = Tunes t method (filled o.report) (filled o.cert)
+IsOutput t method o = WritesTuning t method (filled o.report) (filled o.cert)
 
 -- The texts mean these inputs, and a search by this method may find this for them.
 pub record MayFind (t : Texts) (method : Method) (i : InputsView) (f : Found) : Type 0 where
@@ -70,7 +50,7 @@ written f = records_of (cert_text (cert_of f))
 
 -- A check of all rows of these bytes wrote its line; `accepted` says whether it accepts.
 abbrev pub Checks : Texts → List ℕ → (accepted : Bool) → Writer → Type 0
-Checks t bytes accepted out = WritesCheck t None bytes accepted out.old out.new
+Checks t bytes accepted out = WritesCheck t None bytes accepted out
 
 -- An empty writer got a certificate, and a check of its bytes wrote its line.
 pub record ChecksCert (t : Texts) (cert : Writer) (accepted : Bool) (out : Writer) : Type 0 where
@@ -99,7 +79,7 @@ pub record Agree (t : Texts) (method : Method) (report cert line : Writer) : Typ
 -- A check of all rows of these bytes with a demand wrote its lines; `accepted` says whether it
 -- accepts.
 abbrev pub ChecksFor : Texts → Demand → List ℕ → (accepted : Bool) → Writer → Type 0
-ChecksFor t demand bytes accepted out = WritesCheckFor t demand None bytes accepted out.old out.new
+ChecksFor t demand bytes accepted out = WritesCheckFor t demand None bytes accepted out
 
 -- The first line says `accepted` and an answer, with which the bytes are accepted.
 pub record NamesAnswer (t : Texts) (demand : Demand) (bytes : List ℕ) (out : Writer) : Type 0 where
@@ -146,7 +126,7 @@ AreAllBelow t floor = (i : InputsView) × Means (of_part t 1 1) i × AllBelow (p
 
 -- A check of a share of the rows of these bytes wrote its line; `accepted` says whether it accepts.
 abbrev pub ChecksShare : Texts → (share : Part) → List ℕ → (accepted : Bool) → Writer → Type 0
-ChecksShare t share bytes accepted out = WritesCheck t (Some share) bytes accepted out.old out.new
+ChecksShare t share bytes accepted out = WritesCheck t (Some share) bytes accepted out
 
 -- Each share of these bytes was checked, and accepts them.
 pub record AllAccept (t : Texts) (shares : ℕ) (bytes : List ℕ) (out : ℕ → Writer) : Type 0 where

@@ -10,9 +10,9 @@ use Rattle.tune_cert.specs.declared.demand.Demand.{Demand}
 use Rattle.tune_search.specs.declared.findings.Findings.{Findings}
 use Rattle.tune_search.specs.declared.method.Method.{Method}
 use Rattle.tune_runs.specs.Report.{rank_lines, report_from, report_text}
-use Rattle.tune_runs.specs.TuneRun.{Texts, IsTuningFrom, answer_of}
+use Rattle.tune_runs.specs.TuneRun.{Texts, IsTuningFrom, WritesTuningFrom, answer_of}
 use Rattle.tune_runs.specs.CheckRun.{WritesCheckFor, accepted_words, answer_text, share_meant}
-use Rattle.tune_runs.specs.Agreement.{Writer, Gets, TunesFrom}
+use Rattle.tune_runs.specs.Runs.{Writer, Gets}
 
 -- The aim of a tuning that is asked for what a check demands: it keeps one setting if `keep` is
 -- None, and has the floor 0 if `floor` is None.
@@ -37,11 +37,11 @@ pub record IsAsked (a : Asked) : Type 0 where
 
 -- The tuning wrote its report and its certificate.
 abbrev pub TunesAsked : Asked → (report cert : Writer) → Type 0
-TunesAsked a report cert = TunesFrom a.texts (aim_of a.demand) a.method report cert
+TunesAsked a report cert = WritesTuningFrom a.texts (aim_of a.demand) a.method report cert
 
 -- The check of these bytes wrote its lines; `accepted` says whether it accepts.
 abbrev pub ChecksAsked : Asked → List ℕ → (accepted : Bool) → Writer → Type 0
-ChecksAsked a bytes accepted out = WritesCheckFor a.texts a.demand a.share bytes accepted out.old out.new
+ChecksAsked a bytes accepted out = WritesCheckFor a.texts a.demand a.share bytes accepted out
 
 -- The lines of a check that accepts the answer of these findings, and the ranking of their report.
 abbrev pub accepted_lines : InputsView → Aim → Option Part → Findings → List ℕ

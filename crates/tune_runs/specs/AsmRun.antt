@@ -1,11 +1,11 @@
 -- What the run of an assembly writes, or why it refuses.
-use Rattle.std.specs.Prelude.{ℕ, List, [], Option, Result, Ok}
+use Rattle.std.specs.Prelude.{ℕ, List, [], Result, Ok}
 use Rattle.rc_instr.specs.Results.{with_fault, ◌>>=◌}
 use Rattle.rc_instr.specs.Rules.{RulesView}
 use Rattle.rc_instr.specs.Warrior.{WarriorView}
 use Rattle.rc_instr.specs.LoadText.{load_text}
 use Rattle.rc_asm.specs.Assembly.{outcome_of}
-use Rattle.tune_runs.specs.Runs.{asm_fault, Writes}
+use Rattle.tune_runs.specs.Runs.{asm_fault, Writes, Writer}
 use Rattle.tune_runs.specs.declared.fault.RunFault.{RunFault}
 
 -- The warrior to which a text without open constants assembles.
@@ -19,5 +19,5 @@ asm_output source rules = do
   Ok (tt, load_text rules.core w)
 
 -- The load file was written.
-abbrev pub WritesAsm : List ℕ → RulesView → Option (List ℕ) → Option (List ℕ) → Type 0
-WritesAsm source rules old new = Writes (asm_output source rules) tt old new
+abbrev pub WritesAsm : List ℕ → RulesView → Writer → Type 0
+WritesAsm source rules out = Writes (asm_output source rules) tt out

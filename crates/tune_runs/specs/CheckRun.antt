@@ -21,7 +21,7 @@ use Rattle.tune_cert.specs.declared.verdict.Reason.TheVariants.{Malformed, RowCo
 use Rattle.tune_cert.specs.declared.verdict.Verdict.{Verdict}
 use Rattle.tune_cert.specs.declared.verdict.Verdict.TheVariants.{Accepted, Rejected}
 use Rattle.tune_runs.specs.TuneRun.{Texts, meaning_of, Means, HasNoCandidate}
-use Rattle.tune_runs.specs.Runs.{Writes}
+use Rattle.tune_runs.specs.Runs.{Writes, Writer}
 use Rattle.tune_runs.specs.declared.fault.RunFault.{RunFault}
 
 abbrev pub reason_text : Reason → List ℕ
@@ -99,8 +99,8 @@ check_for_output t demand share cert = do
     said i judgement = (accepts_for judgement, judgement_lines i demand share judgement)
 
 -- The lines were written, and `accepted` says whether the bytes are accepted.
-abbrev pub WritesCheckFor : Texts → Demand → Option Part → List ℕ → Bool → Option (List ℕ) → Option (List ℕ) → Type 0
-WritesCheckFor t demand share cert accepted old new = Writes (check_for_output t demand share cert) accepted old new
+abbrev pub WritesCheckFor : Texts → Demand → Option Part → List ℕ → Bool → Writer → Type 0
+WritesCheckFor t demand share cert accepted out = Writes (check_for_output t demand share cert) accepted out
 
 -- ---- checks for the optimum
 
@@ -118,8 +118,8 @@ check_output t share cert = do
   Ok (accepts verdict, verdict_line share verdict)
 
 -- The line was written, and `accepted` says whether the bytes are accepted.
-abbrev pub WritesCheck : Texts → Option Part → List ℕ → Bool → Option (List ℕ) → Option (List ℕ) → Type 0
-WritesCheck t share cert accepted old new = Writes (check_output t share cert) accepted old new
+abbrev pub WritesCheck : Texts → Option Part → List ℕ → Bool → Writer → Type 0
+WritesCheck t share cert accepted out = Writes (check_output t share cert) accepted out
 
 -- The right verdict on the bytes, for the inputs in the texts.
 abbrev pub HasRightVerdict : Texts → List ℕ → Verdict → Type 0

@@ -6,7 +6,7 @@ use Rattle.rc_asm.specs.Assembly.{outcome_of}
 use Rattle.mars_core.specs.declared.side.Side.{Side}
 use Rattle.tune_runs.specs.AsmRun.{warrior_of}
 use Rattle.tune_runs.specs.FightRun.{keeps_distance, line_of}
-use Rattle.tune_runs.specs.Runs.{opponent_fault, Writes}
+use Rattle.tune_runs.specs.Runs.{opponent_fault, Writes, Writer}
 use Rattle.tune_runs.specs.declared.fight.NamedFight.{NamedFight}
 use Rattle.tune_runs.specs.declared.fault.RunFault.{RunFault}
 use Rattle.tune_runs.specs.declared.fault.RunFault.TheVariants.{Position}
@@ -41,5 +41,5 @@ abbrev pub duel_output : Duel → Result (Unit {0} × List ℕ) RunFault
 duel_output d = line_of (duel_named d)
 
 -- The line was written.
-abbrev pub WritesDuel : Duel → Option (List ℕ) → Option (List ℕ) → Type 0
-WritesDuel d old new = Writes (duel_output d) tt old new
+abbrev pub WritesDuel : Duel → Writer → Type 0
+WritesDuel d out = Writes (duel_output d) tt out

@@ -1,5 +1,5 @@
 -- What the run of a fight text writes, or why it refuses.
-use Rattle.std.specs.Prelude.{ℕ, ◌+◌, Bool, ◌&&◌, nat_le, List, Option, Result, Ok}
+use Rattle.std.specs.Prelude.{ℕ, ◌+◌, Bool, ◌&&◌, nat_le, List, Result, Ok}
 use Rattle.rc_instr.specs.Results.{with_fault, ◌>>=◌, check}
 use Rattle.rc_instr.specs.Rules.{RulesView}
 use Rattle.rc_instr.specs.Warrior.{Fits}
@@ -12,7 +12,7 @@ use Rattle.mars_core.specs.declared.side.Side.TheVariants.{Candidate, Opponent}
 use Rattle.mars_fight.specs.Listed.{IsPosition}
 use Rattle.tune_runs.specs.FightText.{fight_words}
 use Rattle.tune_runs.specs.ResultLine.{result_line}
-use Rattle.tune_runs.specs.Runs.{load_fault, Writes}
+use Rattle.tune_runs.specs.Runs.{load_fault, Writes, Writer}
 use Rattle.tune_runs.specs.declared.fight.NamedFight.{NamedFight}
 use Rattle.tune_runs.specs.declared.fault.RunFault.{RunFault}
 use Rattle.tune_runs.specs.declared.fault.RunFault.TheVariants.{FightText, Rules, Position}
@@ -50,5 +50,5 @@ abbrev pub fight_output : List ℕ → Result (Unit {0} × List ℕ) RunFault
 fight_output text = line_of (fight_named text)
 
 -- The line was written.
-abbrev pub WritesFight : List ℕ → Option (List ℕ) → Option (List ℕ) → Type 0
-WritesFight text old new = Writes (fight_output text) tt old new
+abbrev pub WritesFight : List ℕ → Writer → Type 0
+WritesFight text out = Writes (fight_output text) tt out

@@ -62,14 +62,27 @@ abbrev pub Returns : {A B : Type 0} → (view : A → B) → (result : Result A 
 Returns view (Ok x) definition = definition ≡ Ok (view x)
 Returns view (Err e) definition = (e ≢ Write) × ((¬ IsMemory e) → definition ≡ Err e)
 
--- The output of a run has this value, and all bytes of its text were appended.
-abbrev pub Writes : {X : Type 0} → Result (X × List ℕ) RunFault → X → Option (List ℕ) → Option (List ℕ) → Type 0
-Writes output x old new = (text : List ℕ) × (output ≡ Ok (x, text)) × Appends old new text
+-- A writer over a run: the bytes that it holds before and after it, if they are known.
+pub record Writer : Type 0 where
+  pub old : Option (List ℕ)
+  pub new : Option (List ℕ)
+
+-- The writer of an outlet, as it was before a run and is after it.
+abbrev pub writer : (old new : OutletView) → Writer
+writer old new = record { old = old.bytes; new = new.bytes }
+
+-- A text was appended.
+abbrev pub Gets : Writer → List ℕ → Type 0
+Gets out text = Appends out.old out.new text
+
+-- The output of a run has this value, and its text was appended, all of it.
+abbrev pub Writes : {X : Type 0} → Result (X × List ℕ) RunFault → X → Writer → Type 0
+Writes output x out = (text : List ℕ) × (output ≡ Ok (x, text)) × Gets out text
 
 -- How a run ends. Its output is a value and the text to be written, or a fault.
 pub record IsRun {X : Type 0} (output : Result (X × List ℕ) RunFault) (result : Result X RunFault) (old new : OutletView) : Type 0 where
   -- it returns the value, and the whole text was written
-  pub done : IfOk result (λ x. Writes output x old.bytes new.bytes)
+  pub done : IfOk result (λ x. Writes output x (writer old new))
   -- `Write`: the writer failed. The output is no fault, and what is out is not said.
   pub stopped : IsErrOf result Write → IsOk output
   pub write : IsErrOf result Write ↔ IsTrue new.failed

@@ -1,5 +1,5 @@
 -- What the run of one setting of a template writes, or why it refuses.
-use Rattle.std.specs.Prelude.{ℕ, nat_lt, if◌then◌else◌, List, Option, Result, Ok, Err}
+use Rattle.std.specs.Prelude.{ℕ, nat_lt, if◌then◌else◌, List, Result, Ok, Err}
 use Rattle.rc_instr.specs.Results.{with_fault, ◌>>=◌}
 use Rattle.rc_instr.specs.Rules.{RulesView}
 use Rattle.rc_instr.specs.Warrior.{WarriorView}
@@ -7,7 +7,7 @@ use Rattle.rc_instr.specs.LoadText.{load_text}
 use Rattle.tune_template.specs.declared.span.Span.{Span}
 use Rattle.tune_template.specs.Vectors.{start_index}
 use Rattle.tune_template.specs.Instances.{setting_count, template_of, instance_of}
-use Rattle.tune_runs.specs.Runs.{asm_fault, template_fault, Writes}
+use Rattle.tune_runs.specs.Runs.{asm_fault, template_fault, Writes, Writer}
 use Rattle.tune_runs.specs.declared.given.WhichSetting.{WhichSetting}
 use Rattle.tune_runs.specs.declared.given.WhichSetting.TheVariants.{Start, Index}
 use Rattle.tune_runs.specs.declared.fault.RunFault.{RunFault}
@@ -37,5 +37,5 @@ setting_output source which rules = do
   Ok (tt, load_text rules.core w)
 
 -- The load file was written.
-abbrev pub WritesSetting : List ℕ → WhichSetting → RulesView → Option (List ℕ) → Option (List ℕ) → Type 0
-WritesSetting source which rules old new = Writes (setting_output source which rules) tt old new
+abbrev pub WritesSetting : List ℕ → WhichSetting → RulesView → Writer → Type 0
+WritesSetting source which rules out = Writes (setting_output source which rules) tt out

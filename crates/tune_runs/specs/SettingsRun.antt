@@ -1,12 +1,12 @@
 -- What the run of the settings of a template writes, or why it refuses.
-use Rattle.std.specs.Prelude.{ℕ, List, [], ◌∷◌, ◌++◌, Option, Result, Ok, codes}
+use Rattle.std.specs.Prelude.{ℕ, List, [], ◌∷◌, ◌++◌, Result, Ok, codes}
 use Rattle.std.specs.Fmt.{decimal, signed_decimal}
 use Rattle.rc_instr.specs.Results.{with_fault, ◌>>=◌}
 use Rattle.tune_template.specs.declared.span.Span.{Span}
 use Rattle.tune_template.specs.Spans.{span_value}
 use Rattle.tune_template.specs.Instances.{TemplateView, setting_count, template_of}
 use Rattle.tune_runs.specs.Report.{number_line}
-use Rattle.tune_runs.specs.Runs.{template_fault, Writes}
+use Rattle.tune_runs.specs.Runs.{template_fault, Writes, Writer}
 use Rattle.tune_runs.specs.declared.fault.RunFault.{RunFault}
 
 -- ` VALUES START` and a line feed: the number of a constant's values, and the one to begin with.
@@ -33,5 +33,5 @@ settings_output source = do
   Ok (tt, settings_text t)
 
 -- The text was written.
-abbrev pub WritesSettings : List ℕ → Option (List ℕ) → Option (List ℕ) → Type 0
-WritesSettings source old new = Writes (settings_output source) tt old new
+abbrev pub WritesSettings : List ℕ → Writer → Type 0
+WritesSettings source out = Writes (settings_output source) tt out

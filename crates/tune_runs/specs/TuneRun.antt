@@ -1,6 +1,5 @@
 -- What the texts of a tuning mean, what its run writes, and why it refuses.
 use Rattle.std.specs.Prelude.{◌≡◌, ◌≢◌, ◌↔◌, ◌⊎◌, ℕ, ◌+◌, ◌<◌, ℤ, Bool, ◌&&◌, nat_le, List, [], ◌∷◌, length, slice_get, Option, Some, None, true, false, Result, Ok, Err, IfErr, OnOk, IsOk, IsErrOf, IsTrue}
-use Rattle.std.specs.Io.KnownBytes.{Appends}
 use Rattle.rc_instr.specs.Results.{with_fault, ◌>>=◌, check}
 use Rattle.rc_instr.specs.Rules.{RulesView}
 use Rattle.rc_instr.specs.Warrior.{WarriorView}
@@ -28,7 +27,7 @@ use Rattle.tune_search.specs.declared.method.Method.{Method}
 use Rattle.tune_search.specs.declared.fault.SearchFault.{SearchFault}
 use Rattle.tune_search.specs.declared.fault.SearchFault.TheVariants.{NoCandidate as NoneFound, OutOfMemory as SearchMemory}
 use Rattle.tune_runs.specs.Report.{report_text, report_for, report_from}
-use Rattle.tune_runs.specs.Runs.{opponent_fault, template_fault, schedule_fault, IsMemory}
+use Rattle.tune_runs.specs.Runs.{opponent_fault, template_fault, schedule_fault, IsMemory, Writer, writer, Gets}
 use Rattle.tune_runs.specs.declared.fault.RunFault.{RunFault}
 use Rattle.tune_runs.specs.declared.fault.RunFault.TheVariants.{TooManyOpponents, Template, Opponent, Schedule, NoCandidate, Write, OutOfMemory, Part as BadPart}
 
@@ -103,15 +102,14 @@ IsTuning t method i f values =
     Means t i × IsSearch (problem_of i) method f × (slice_get (settings_of i) f.best ≡ Some values)
 
 -- The certificate and the report of what the tuning finds were written.
-abbrev pub WritesTuning : Texts → Method → Option (List ℕ) → Option (List ℕ) → Option (List ℕ) → Option (List ℕ) → Type 0
-WritesTuning t method report_old report_new cert_old cert_new =
+abbrev pub WritesTuning : Texts → Method → (report cert : Writer) → Type 0
+WritesTuning t method report cert =
     (i : InputsView) × (f : Found) × (values : List ℤ) × IsTuning t method i f values
-    × Appends cert_old cert_new (cert_text (cert_of f)) × Appends report_old report_new (report_text (report_for i f values))
+    × Gets cert (cert_text (cert_of f)) × Gets report (report_text (report_for i f values))
 
 -- The report of what the tuning finds was written, and its certificate to some writer.
-abbrev pub WritesOptimum : Texts → Method → (report_old report_new : Option (List ℕ)) → Type 0
-WritesOptimum t method report_old report_new =
-    (cert_old : Option (List ℕ)) × (cert_new : Option (List ℕ)) × WritesTuning t method report_old report_new cert_old cert_new
+abbrev pub WritesOptimum : Texts → Method → (report : Writer) → Type 0
+WritesOptimum t method report = (cert : Writer) × WritesTuning t method report cert
 
 -- What a tuning with an aim finds: the inputs that the texts mean, some of whose settings assemble,
 -- and what a search by this method finds for them.
@@ -124,18 +122,18 @@ answer_of floor None = NoneFrom floor
 answer_of floor (Some best) = TheBest best
 
 -- The certificate and the report of what such a tuning finds were written.
-abbrev pub WritesTuningFrom : Texts → Aim → Method → Option (List ℕ) → Option (List ℕ) → Option (List ℕ) → Option (List ℕ) → Type 0
-WritesTuningFrom t aim method report_old report_new cert_old cert_new =
+abbrev pub WritesTuningFrom : Texts → Aim → Method → (report cert : Writer) → Type 0
+WritesTuningFrom t aim method report cert =
     (i : InputsView) × (f : Findings) × IsTuningFrom t aim method i f
-    × Appends cert_old cert_new (statement_text (statement_with f.version (answer_of aim.floor (first_of f.ranking)) f.rows))
-    × Appends report_old report_new (report_text (report_from i aim f))
+    × Gets cert (statement_text (statement_with f.version (answer_of aim.floor (first_of f.ranking)) f.rows))
+    × Gets report (report_text (report_from i aim f))
 
--- How a run of a tuning ends. `Wrote` says of the bytes of report and certificate, before and
--- after, what a run writes that succeeds.
-pub record IsTuneRun {X : Type 0} (t : Texts) (Wrote : (report_old report_new cert_old cert_new : Option (List ℕ)) → Type 0) (result : Result X RunFault)
+-- How a run of a tuning ends. `Wrote` says what the writers of the report and of the certificate get
+-- from a run that succeeds.
+pub record IsTuneRun {X : Type 0} (t : Texts) (Wrote : (report cert : Writer) → Type 0) (result : Result X RunFault)
     (report_old report_new cert_old cert_new : OutletView) : Type 0 where
   -- it succeeded: both were written
-  pub done : OnOk result (Wrote report_old.bytes report_new.bytes cert_old.bytes cert_new.bytes)
+  pub done : OnOk result (Wrote (writer report_old report_new) (writer cert_old cert_new))
   -- `Write`: a writer failed. The texts have a meaning, and what is out is not said.
   pub stopped : IsErrOf result Write → IsOk (meaning_of t)
   pub write : IsErrOf result Write ↔ (IsTrue report_new.failed ⊎ IsTrue cert_new.failed)

@@ -9,9 +9,10 @@ ghost use Rattle.tune_problem.specs.declared.part.Part.{Part};
 ghost use Rattle.tune_problem.specs.declared.watcher.Best.{Best};
 ghost use Rattle.tune_cert.specs.Spelling.{Spells};
 ghost use Rattle.tune_cert.specs.Verdict.{IsRightVerdict};
-ghost use Rattle.tune_runs.specs.TuneRun.{Texts, of_part, meaning_of, is_text_fault, Means, HasNoCandidate};
+ghost use Rattle.tune_runs.specs.TuneRun.{Texts, of_part, meaning_of, is_text_fault, Means, HasNoCandidate, WritesTuning, WritesTuningFrom};
+ghost use Rattle.tune_runs.specs.Runs.{Writer, Gets};
 ghost use Rattle.tune_runs.specs.CheckRun.{Accepts, verdict_line};
-ghost use Rattle.tune_runs.specs.Agreement.{Writer, filled, Output, Gets, Tunes, TunesFrom, IsOutput, MayFind, written, Checks, ChecksCert, IsRightLine, Agree, ChecksFor, NamesAnswer, ForEach, IsBestShown, IsBestOfAll, AreShownBelow, AreAllBelow, ChecksShare, AllAccept, AllName, AcceptsAsWhole};
+ghost use Rattle.tune_runs.specs.Agreement.{filled, Output, IsOutput, MayFind, written, Checks, ChecksCert, IsRightLine, Agree, ChecksFor, NamesAnswer, ForEach, IsBestShown, IsBestOfAll, AreShownBelow, AreAllBelow, ChecksShare, AllAccept, AllName, AcceptsAsWhole};
 ghost use Rattle.tune_runs.specs.AimedRuns.{Asked, IsAsked, TunesAsked, ChecksAsked, AgreeAsked};
 
 use crate::fault::RunFault;
@@ -42,7 +43,7 @@ pub fn equal_tunings_write_equal_bytes()
 /// States that a tuning that keeps one setting and has the floor 0 writes what `WritesTuning` says:
 /// the certificate and the report of the optimum.
 pub fn a_tuning_without_a_floor_is_a_tuning()
-    ensures { (t : Texts) (method : Method) (report cert : Writer) → TunesFrom t best_alone method report cert → Tunes t method report cert }
+    ensures { (t : Texts) (method : Method) (report cert : Writer) → WritesTuningFrom t best_alone method report cert → WritesTuning t method report cert }
 {}
 
 /// States that the line of a check is that of the right verdict on the bytes, whoever made them:
@@ -56,7 +57,7 @@ pub fn a_check_writes_the_right_verdict()
 /// best setting and the total of its report.
 pub fn a_tuning_is_accepted_by_its_check()
     ensures { (t : Texts) (method : Method) (accepted : Bool) (report cert out : Writer)
-        → Tunes t method report cert → ChecksCert t cert accepted out → IsTrue accepted × Agree t method report cert out }
+        → WritesTuning t method report cert → ChecksCert t cert accepted out → IsTrue accepted × Agree t method report cert out }
 {}
 
 /// States that a check accepts the bytes that a tuning wrote with the same `keep` and the same
@@ -74,7 +75,7 @@ pub fn a_tuning_with_an_aim_is_accepted_by_its_check()
 /// report tells.
 pub fn an_accepted_certificate_names_the_optimum()
     ensures { (t : Texts) (method : Method) (bytes : List ℕ) (report cert out : Writer)
-        → Tunes t method report cert → Checks t bytes true out → Agree t method report cert out }
+        → WritesTuning t method report cert → Checks t bytes true out → Agree t method report cert out }
 {}
 
 /// States that accepted certificates of parts name the optimum of the whole: whoever has a line of

@@ -1,7 +1,7 @@
 //! The command `asm`: from a Redcode text, or a setting of a template, to a load file.
 ghost use Rattle.std.specs.Prelude.{◌≡◌, ℕ, List, false};
 ghost use Rattle.tune_runs.specs.Given.{rules_given};
-ghost use Rattle.tune_runs.specs.Runs.{IsRun};
+ghost use Rattle.tune_runs.specs.Runs.{IsRun, writer};
 ghost use Rattle.cwtune.specs.Commands.{load_file_output, WritesLoadFile, EndsUnderstood};
 
 use crate::ending::Ending;
@@ -23,7 +23,7 @@ pub(crate) fn asm<F: Files, T: Witness, W: Write, V: Write>(
 ) -> Result<(), Ending>
     requires { out.old.failed ≡ false }
     ensures { let rules = rules_given words.now.rules in
-        EndsUnderstood ((source : List ℕ) × WritesLoadFile source words.now.setting rules out.old.bytes out.new.bytes) out.old out.new result }
+        EndsUnderstood ((source : List ℕ) × WritesLoadFile source words.now.setting rules (writer out.old out.new)) out.old out.new result }
 {
     let rules = host.rules(words.rules)?;
     let source = host.read(words.file)?;

@@ -1,5 +1,6 @@
 //! The command `fight` with two files: from two Redcode texts to a result line.
 ghost use Rattle.std.specs.Prelude.{◌≡◌, ◌/◌, false};
+ghost use Rattle.tune_runs.specs.Runs.{writer};
 ghost use Rattle.tune_runs.specs.Given.{rules_given};
 ghost use Rattle.tune_runs.specs.DuelRun.{position_meant};
 ghost use Rattle.cwtune.specs.Commands.{WritesDuelOf, EndsUnderstood};
@@ -21,7 +22,7 @@ pub(crate) fn duel<F: Files, T: Witness, W: Write, V: Write>(
 ) -> Result<(), Ending>
     requires { out.old.failed ≡ false }
     ensures { let w = words.now in
-        EndsUnderstood (WritesDuelOf (rules_given w.rules) w.position w.first out.old.bytes out.new.bytes) out.old out.new result }
+        EndsUnderstood (WritesDuelOf (rules_given w.rules) w.position w.first (writer out.old out.new)) out.old out.new result }
 {
     let rules = host.rules(words.rules)?;
     let candidate = host.read(words.candidate)?;

@@ -1,5 +1,6 @@
 //! The command `fight`: from a fight text to a result line.
 ghost use Rattle.std.specs.Prelude.{◌≡◌, false, List, ℕ, Err, IsErrOf};
+ghost use Rattle.tune_runs.specs.Runs.{writer};
 ghost use Rattle.tune_runs.specs.FightRun.{fight_output};
 ghost use Rattle.tune_runs.specs.declared.fault.RunFault.{RunFault};
 ghost use Rattle.cwtune.specs.Commands.{WritesFightIn, EndsUnderstood};
@@ -21,7 +22,7 @@ pub(crate) fn fight<F: Files, R: Read, T: Witness, W: Write, V: Write>(
     out: &mut Outlet<W>,
 ) -> Result<(), Ending>
     requires { out.old.failed ≡ false }
-    ensures ended { EndsUnderstood (WritesFightIn (R.remaining input.old) out.old.bytes out.new.bytes) out.old out.new result }
+    ensures ended { EndsUnderstood (WritesFightIn (R.remaining input.old) (writer out.old out.new)) out.old out.new result }
     ensures refused { IsErrOf result Ending.Refused → (text : List ℕ) × (fault : RunFault) × IsInput (R.remaining input.old) text × (fight_output text ≡ Err fault) }
 {
     let text = match read_text(host.alloc, input) {

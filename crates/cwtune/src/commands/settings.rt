@@ -1,5 +1,6 @@
 //! The command `settings`: from a template to the number of its settings, and its constants.
 ghost use Rattle.std.specs.Prelude.{◌≡◌, ℕ, List, false};
+ghost use Rattle.tune_runs.specs.Runs.{writer};
 ghost use Rattle.tune_runs.specs.SettingsRun.{WritesSettings};
 ghost use Rattle.cwtune.specs.Commands.{EndsUnderstood};
 
@@ -19,7 +20,7 @@ pub(crate) fn settings<F: Files, T: Witness, W: Write, V: Write>(
     out: &mut Outlet<W>,
 ) -> Result<(), Ending>
     requires { out.old.failed ≡ false }
-    ensures { EndsUnderstood ((source : List ℕ) × WritesSettings source out.old.bytes out.new.bytes) out.old out.new result }
+    ensures { EndsUnderstood ((source : List ℕ) × WritesSettings source (writer out.old out.new)) out.old out.new result }
 {
     let source = host.read(file)?;
     let text = source.as_slice();

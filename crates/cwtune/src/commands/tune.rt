@@ -1,5 +1,6 @@
 //! The command `tune`: from texts to the certificate of the best setting, and a report.
 ghost use Rattle.std.specs.Prelude.{◌≡◌, ◌≢◌, ◌⊎◌, true, false, IfErr, IsErr, IsTrue, OnOk};
+ghost use Rattle.tune_runs.specs.Runs.{writer};
 ghost use Rattle.tune_runs.specs.Given.{rules_given, texts_given};
 ghost use Rattle.tune_runs.specs.TuneRun.{WritesTuningFrom};
 ghost use Rattle.tune_problem.specs.Ranking.{IsAim};
@@ -34,7 +35,7 @@ pub(crate) fn tune<F: Files, T: Witness, W: Write, V: Write>(
 ) -> Result<(), Ending>
     requires out { out.old.failed ≡ false }
     ensures ended { let rules = rules_given words.now.rules in
-        IsEnded (WritesReport (aim_meant demand) (method_meant method) rules words.now.part out.old.bytes out.new.bytes) out.old out.new result }
+        IsEnded (WritesReport (aim_meant demand) (method_meant method) rules words.now.part (writer out.old out.new)) out.old out.new result }
     ensures named { IsTrue (names_twice words.now) → IsErr result × (out.new ≡ out.old) }
 {
     let rules = host.rules(words.rules)?;
@@ -76,7 +77,7 @@ fn tune_into<F: Files, T: Witness, W: Write, V: Write, X: Write>(
     requires out { out.old.failed ≡ false }
     requires cert { cert.old.failed ≡ false }
     ensures ended { let t = texts_given texts.now in
-        IsEnded (WritesTuningFrom t aim method out.old.bytes out.new.bytes cert.old.bytes cert.new.bytes) out.old out.new result }
+        IsEnded (WritesTuningFrom t aim method (writer out.old out.new) (writer cert.old cert.new)) out.old out.new result }
     ensures unwritten { IfErr result (λ e. e ≢ Ending.Failed → cert.new ≡ cert.old) }
     ensures flushed { OnOk result (cert.new.flushed ≡ true) }
     ensures before { (out.new ≡ out.old) ⊎ (cert.new.flushed ≡ true) }

@@ -8,13 +8,13 @@ use crate::words::help::{asks_for_help, command_in};
 use crate::words::method_options::{MethodWords, all_option, cache_option, method_words};
 use crate::words::number_option::{CHECK_FLOOR, POSITION, TUNE_FLOOR};
 use crate::words::options::{
-    check_options, explain_option, fight_numbers, progress_option, rules_of, tune_options,
+    asm_options, check_options, explain_option, fight_numbers, progress_option, tune_options,
     with_rules,
 };
 use crate::words::part_word::part_option;
-use crate::words::setting_word::which_setting;
+use crate::words::setting_word::setting_option;
 use crate::words::share_word::share_option;
-use crate::words::usage_error::{BadValue, bad_value, not_first, one_file};
+use crate::words::usage_error::{bad_value, not_first, one_file};
 use clap::builder::ValueParser;
 use clap::{Arg, ArgAction, ArgMatches, Command, Error};
 use mars_core::Side;
@@ -197,52 +197,24 @@ fn asm_command<'a>(alloc: Global) -> Result<Command<'a>, AllocError> {
         .required(true)
         .action(ArgAction::Set)
         .help("Redcode source of a warrior, at most 65536 bytes (`-` is a file of that name)");
-    let setting = Arg::new(alloc, "setting")
-        .long("setting")
-        .value_name("W")
-        .action(ArgAction::Set)
-        .help("Take FILE for a template, and setting W of it: an index from 0, or `start`");
     let command = Command::new(alloc, "asm")
         .about("Assemble a Redcode file and print the load file of its warrior")
         .arg(file)?
-        .arg(setting)?
+        .arg(setting_option(alloc))?
         .arg(explain_option(alloc))?;
     with_rules(alloc, command)
 }
 
 fn asm_request<'a>(alloc: Global, found: &ArgMatches<'a>) -> Result<Request<'a>, Error> {
-    let rules = match rules_of(found) {
-        Ok(rules) => rules,
-        Err(bad) => return Err(bad_value(alloc, bad, asm_command(alloc)?, "cwtune asm")?),
-    };
-    // `clap` requires the file.
-    let file = found.get_str("FILE").unwrap_or("");
-    let Some(word) = found.get_str("setting") else {
-        return Ok(Request::Asm(AsmWords {
+    match asm_options(found) {
+        Ok((rules, setting)) => Ok(Request::Asm(AsmWords {
             rules,
-            file,
-            setting: None,
-        }));
-    };
-    match which_setting(word) {
-        Some(which) => Ok(Request::Asm(AsmWords {
-            rules,
-            file,
-            setting: Some(which),
+            // `clap` requires the file.
+            file: found.get_str("FILE").unwrap_or(""),
+            setting,
         })),
-        None => Err(bad_setting(alloc, word)?),
+        Err(bad) => Err(bad_value(alloc, bad, asm_command(alloc)?, "cwtune asm")?),
     }
-}
-
-// Makes the usage error of a word for a setting.
-fn bad_setting(alloc: Global, word: &str) -> Result<Error, AllocError> {
-    let bad = BadValue {
-        word,
-        option: "setting",
-        value: "W",
-        wanted: "neither an index nor `start`",
-    };
-    bad_value(alloc, bad, asm_command(alloc)?, "cwtune asm")
 }
 
 fn file<'a>(alloc: Global, name: &'a str, help: &'a str) -> Arg<'a> {

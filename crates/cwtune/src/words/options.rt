@@ -5,13 +5,14 @@ ghost use Rattle.std.specs.Option.{unwrap_or};
 use crate::words::aim_options::demand_of;
 use crate::words::number_option::{CORE, CYCLES, DISTANCE, LENGTH, POSITION, TASKS};
 use crate::words::part_word::part_of;
+use crate::words::setting_word::setting_of;
 use crate::words::share_word::share_of;
 use crate::words::usage_error::BadValue;
 use clap::{Arg, ArgAction, ArgMatches, Command};
 use rc_instr::Rules;
 use std::alloc::{AllocError, Global};
 use tune_cert::{Demand, Share};
-use tune_runs::{Part, RawRules};
+use tune_runs::{Part, RawRules, WhichSetting};
 
 // Returns whether a flag is among the words before `--`. After it they are files.
 pub(crate) fn is_given(words: &[String], flag: &str) -> bool {
@@ -84,7 +85,7 @@ fn with_defaults(given: GivenRules) -> RawRules
 }
 
 // Returns the rules of the options.
-pub(crate) fn rules_of<'a>(found: &ArgMatches<'a>) -> Result<RawRules, BadValue<'a>> {
+fn rules_of<'a>(found: &ArgMatches<'a>) -> Result<RawRules, BadValue<'a>> {
     Ok(with_defaults(GivenRules {
         core: CORE.value_in(found)?,
         cycles: CYCLES.value_in(found)?,
@@ -101,6 +102,15 @@ pub(crate) fn fight_numbers<'a>(
     let rules = rules_of(found)?;
     let position = POSITION.value_in(found)?;
     Ok((rules, position))
+}
+
+// Returns the rules and the setting of an assembly.
+pub(crate) fn asm_options<'a>(
+    found: &ArgMatches<'a>,
+) -> Result<(RawRules, Option<WhichSetting>), BadValue<'a>> {
+    let rules = rules_of(found)?;
+    let setting = setting_of(found)?;
+    Ok((rules, setting))
 }
 
 // Returns the rules, the part and the demand of a tuning.

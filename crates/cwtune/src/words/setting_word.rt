@@ -1,9 +1,35 @@
-//! The word of the option `--setting`.
+//! The option `--setting` and its word: `start`, or an index.
 
+use crate::words::usage_error::BadValue;
+use clap::{Arg, ArgAction, ArgMatches};
+use std::alloc::Global;
 use tune_runs::WhichSetting;
 
-// Parses the word for a setting: `start`, or its index.
-pub(crate) fn which_setting(word: &str) -> Option<WhichSetting> {
+pub(crate) fn setting_option<'a>(alloc: Global) -> Arg<'a> {
+    Arg::new(alloc, "setting")
+        .long("setting")
+        .value_name("W")
+        .action(ArgAction::Set)
+        .help("Take FILE for a template, and setting W of it: an index from 0, or `start`")
+}
+
+// Returns the setting that the option says, or `None` without it.
+pub(crate) fn setting_of<'a>(found: &ArgMatches<'a>) -> Result<Option<WhichSetting>, BadValue<'a>> {
+    let Some(word) = found.get_str("setting") else {
+        return Ok(None);
+    };
+    match which_setting(word) {
+        Some(which) => Ok(Some(which)),
+        None => Err(BadValue {
+            word,
+            option: "setting",
+            value: "W",
+            wanted: "neither an index nor `start`",
+        }),
+    }
+}
+
+fn which_setting(word: &str) -> Option<WhichSetting> {
     if word == "start" {
         return Some(WhichSetting::Start);
     }

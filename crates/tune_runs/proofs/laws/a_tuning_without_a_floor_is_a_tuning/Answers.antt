@@ -2,4 +2,4 @@ use Rattle.tune_runs.proofs.BestTunings.{writes_tuning}
 use Rattle.tune_runs.proofs.laws.a_tuning_without_a_floor_is_a_tuning.Goals as goal
 
 pub returns : goal.returns
-returns c = λ t method report cert w. writes_tuning t method report.old report.new cert.old cert.new w
+returns c = writes_tuning
