@@ -26,7 +26,7 @@ use Rattle.tune_cert.specs.CertText.{stated}
 use Rattle.tune_cert.specs.Checks.{row_reason, is_exact, is_best_row, first_failure, failure_by, is_version_of, has_row_count, rows_failure, share_settings}
 use Rattle.tune_cert.specs.Shares.{IsRightInShare}
 use Rattle.tune_cert.specs.Verdict.{verdict_by, verdict_on}
-use Rattle.tune_cert.specs.Judgement.{no_demand, aim_for, claim_of, as_cert, is_floor, is_answered, failure_of, judgement_by, judgement_on, ranking_for, accepted_with, judged, IsExactFor, MeetsBy, MeetsDemand}
+use Rattle.tune_cert.specs.Judgement.{no_demand, aim_for, best_against, as_cert, is_floor, is_answered, failure_of, judgement_by, judgement_on, ranking_for, accepted_with, judged, IsExactFor, MeetsBy, MeetsDemand}
 use Rattle.tune_cert.specs.declared.demand.Demand.{Demand}
 use Rattle.tune_cert.specs.declared.verdict.Reason.{Reason}
 use Rattle.tune_cert.specs.declared.verdict.Judgement.TheVariants.{Accepted}
@@ -119,7 +119,7 @@ no_better cap v floor count l h = grind (arith, nat_tests)
 
 module _ (p : Problem) (floor version count : ℕ) (rows : List Row) where
   abbrev claim : Cert
-  claim = cert_with version count rows (claim_of p (NoneFrom floor))
+  claim = cert_with version count rows (best_against p (NoneFrom floor))
 
   row_below : (v : ℕ) (row : Row) → v < p.count → IsRightRow p claim v row → IsRowBelow p floor rows v row
   row_below v Refused l h = h
@@ -158,13 +158,13 @@ module _ (p : Problem) (floor version count : ℕ) (rows : List Row) where
 -- ---- either answer
 
 module _ (p : Problem) (laws : IsProblem p) (demand : Demand) (s : Statement) where
-  met_by : (answer : Answer) → failure_by p whole (is_answered p demand s.rows answer) (aim_for demand answer) (cert_with s.version s.count s.rows (claim_of p answer)) ≡ None → MeetsBy p demand s answer
+  met_by : (answer : Answer) → failure_by p whole (is_answered p demand s.rows answer) (aim_for demand answer) (cert_with s.version s.count s.rows (best_against p answer)) ≡ None → MeetsBy p demand s answer
   met_by (TheBest best) e = valid_exact p laws (cert_with s.version s.count s.rows best) (aim_for demand (TheBest best)) e
   met_by (NoneFrom floor) e =
       let h = valid_below p floor s.version s.count s.rows (is_floor floor demand.floor) e in
       (floor_is floor demand.floor h.0, h.1, h.2)
 
-  by_met : (answer : Answer) → MeetsBy p demand s answer → failure_by p whole (is_answered p demand s.rows answer) (aim_for demand answer) (cert_with s.version s.count s.rows (claim_of p answer)) ≡ None
+  by_met : (answer : Answer) → MeetsBy p demand s answer → failure_by p whole (is_answered p demand s.rows answer) (aim_for demand answer) (cert_with s.version s.count s.rows (best_against p answer)) ≡ None
   by_met (TheBest best) h = exact_valid p laws (cert_with s.version s.count s.rows best) (aim_for demand (TheBest best)) h.0 h.1
   by_met (NoneFrom floor) h = below_valid p floor s.version s.count s.rows (is_floor floor demand.floor) (is_floor_of floor demand.floor h.0) h.1 h.2
 

@@ -79,46 +79,48 @@ share_warrior None other = false
 share_warrior (Some w) None = false
 share_warrior (Some w) (Some x) = (w.start == x.start) && same_code w.code x.code
 
--- What is wrong with the cap row of setting v.
-unfoldable pub cap_reason : Problem → Cert → Option Aim → ℕ → List (ℕ × ℕ) → Option Reason
-cap_reason p c aim v row =
-    first_of (
-    unless (rises 0 row) RepeatedFight
-    ∷ unless (has_points p (p.warrior v) row) WrongPoints
-    ∷ unless (((v == c.best) || is_no_better p c v row) && is_exact p aim c.rows v row) CapTooHigh
-    ∷ []
-    )
+-- What is wrong with rows of certificate c, against problem p. With an aim they have to be exact.
+module _ (p : Problem) (c : Cert) (aim : Option Aim) where
+  -- What is wrong with the cap row of setting v.
+  unfoldable pub cap_reason : ℕ → List (ℕ × ℕ) → Option Reason
+  cap_reason v row =
+      first_of (
+      unless (rises 0 row) RepeatedFight
+      ∷ unless (has_points p (p.warrior v) row) WrongPoints
+      ∷ unless (((v == c.best) || is_no_better p c v row) && is_exact p aim c.rows v row) CapTooHigh
+      ∷ []
+      )
 
--- What is wrong with the row of setting v if it refers to setting u, which has a cap row. That row
--- is taken as listed: whether it has its points is a check of its own setting.
-unfoldable pub listed_reason : Problem → Cert → Option Aim → ℕ → ℕ → List (ℕ × ℕ) → Option Reason
-listed_reason p c aim v u row =
-    first_of (
-    unless (not (u == v) && (share_warrior (p.warrior v) (p.warrior u) && (rises 0 row && are_fights p row))) NotSame
-    ∷ unless (is_no_better p c v row && is_exact p aim c.rows v row) CapTooHigh
-    ∷ []
-    )
+  -- What is wrong with the row of setting v if it refers to setting u, which has this cap row. That
+  -- row is taken as listed: whether it has its points is a check of its own setting.
+  unfoldable pub listed_reason : (v u : ℕ) → List (ℕ × ℕ) → Option Reason
+  listed_reason v u row =
+      first_of (
+      unless (not (u == v) && (share_warrior (p.warrior v) (p.warrior u) && (rises 0 row && are_fights p row))) NotSame
+      ∷ unless (is_no_better p c v row && is_exact p aim c.rows v row) CapTooHigh
+      ∷ []
+      )
 
--- What is wrong with the row of setting v if it refers to setting u, by the row of that one.
-abbrev pub reference_reason : Problem → Cert → Option Aim → ℕ → ℕ → Option Row → Option Reason
-reference_reason p c aim v u None = Some NotSame
-reference_reason p c aim v u (Some Refused) = Some NotSame
-reference_reason p c aim v u (Some (Same t)) = Some NotSame
-reference_reason p c aim v u (Some (Cap row)) = listed_reason p c aim v u row
+  -- What is wrong with the row of setting v if it refers to setting u, by the row of that one.
+  abbrev pub reference_reason : (v u : ℕ) → Option Row → Option Reason
+  reference_reason v u None = Some NotSame
+  reference_reason v u (Some Refused) = Some NotSame
+  reference_reason v u (Some (Same t)) = Some NotSame
+  reference_reason v u (Some (Cap row)) = listed_reason v u row
 
--- What is wrong with the row of setting v: the first reason that applies.
-abbrev pub row_reason : Problem → Cert → Option Aim → ℕ → Row → Option Reason
-row_reason p c aim v Refused = unless (is_none (p.warrior v)) NotRefused
-row_reason p c aim v (Same u) = reference_reason p c aim v u (slice_get c.rows u)
-row_reason p c aim v (Cap row) = cap_reason p c aim v row
+  -- What is wrong with the row of setting v: the first reason that applies.
+  abbrev pub row_reason : ℕ → Row → Option Reason
+  row_reason v Refused = unless (is_none (p.warrior v)) NotRefused
+  row_reason v (Same u) = reference_reason v u (slice_get c.rows u)
+  row_reason v (Cap row) = cap_reason v row
 
--- What is wrong with the row of setting v if it refers to no other setting; None if it does.
-abbrev pub alone_reason : Problem → Cert → Option Aim → ℕ → Row → Option Reason
-alone_reason p c aim v row = if refers row then None else row_reason p c aim v row
+  -- The same of a row that refers to no other setting, and None of one that does.
+  abbrev pub alone_reason : ℕ → Row → Option Reason
+  alone_reason v row = if refers row then None else row_reason v row
 
--- What is wrong with the row of setting v if it refers to another setting; None if it does not.
-abbrev pub same_reason : Problem → Cert → Option Aim → ℕ → Row → Option Reason
-same_reason p c aim v row = if refers row then row_reason p c aim v row else None
+  -- The same of a row that refers to another setting, and None of one that does not.
+  abbrev pub same_reason : ℕ → Row → Option Reason
+  same_reason v row = if refers row then row_reason v row else None
 
 -- ---- the rows of a share
 
@@ -143,17 +145,20 @@ abbrev pub first_wrong : (ℕ → Option Reason) → List ℕ → Option (ℕ ×
 first_wrong reason [] = None
 first_wrong reason (v ∷ settings) = first_of (at_record (record_of v) (reason v) ∷ first_wrong reason settings ∷ [])
 
--- The first wrong row of those that refer to no other setting, and of those that do.
-abbrev pub wrong_alone : Problem → Cert → Option Aim → List ℕ → Option (ℕ × Reason)
-wrong_alone p c aim settings = first_wrong (reason_at (alone_reason p c aim) c.rows) settings
+-- Of certificate c, against problem p, with an aim or without:
+module _ (p : Problem) (c : Cert) (aim : Option Aim) where
+  -- The first wrong row of some settings, of the rows that refer to no other setting.
+  abbrev pub wrong_alone : List ℕ → Option (ℕ × Reason)
+  wrong_alone settings = first_wrong (reason_at (alone_reason p c aim) c.rows) settings
 
-abbrev pub wrong_same : Problem → Cert → Option Aim → List ℕ → Option (ℕ × Reason)
-wrong_same p c aim settings = first_wrong (reason_at (same_reason p c aim) c.rows) settings
+  -- The first wrong row of some settings, of the rows that refer to another setting.
+  abbrev pub wrong_same : List ℕ → Option (ℕ × Reason)
+  wrong_same settings = first_wrong (reason_at (same_reason p c aim) c.rows) settings
 
--- The first wrong row of some settings: the refused and the cap rows are checked first, in order,
--- and then those that refer to other settings.
-abbrev pub rows_failure : Problem → Cert → Option Aim → List ℕ → Option (ℕ × Reason)
-rows_failure p c aim settings = first_of (wrong_alone p c aim settings ∷ wrong_same p c aim settings ∷ [])
+  -- The first wrong row of some settings: the refused and the cap rows are checked first, in
+  -- order, and then those that refer to other settings.
+  abbrev pub rows_failure : List ℕ → Option (ℕ × Reason)
+  rows_failure settings = first_of (wrong_alone settings ∷ wrong_same settings ∷ [])
 
 -- The number of fights that the rows of some settings list together.
 abbrev pub listed_fights_of : List Row → List ℕ → ℕ

@@ -40,15 +40,16 @@ aim_for demand (NoneFrom floor) = None
 
 -- ---- checks
 
--- The claim that the rows are checked against. That no setting reaches the floor is checked as if
--- the setting after the last had a total of the floor: a cap beats that exactly if it is the floor
--- or more.
-abbrev pub claim_of : Problem → Answer → Best
-claim_of p (TheBest best) = best
-claim_of p (NoneFrom floor) = record { vector = p.count; total = floor }
+-- The best setting that the rows are checked against. If no setting is said to reach the floor, it
+-- is the one after the last, with the floor as its total: a cap beats that exactly if it reaches
+-- the floor.
+abbrev pub best_against : Problem → Answer → Best
+best_against p (TheBest best) = best
+best_against p (NoneFrom floor) = record { vector = p.count; total = floor }
 
+-- A statement as the certificate whose rows are checked.
 abbrev pub as_cert : Problem → Statement → Cert
-as_cert p s = cert_with s.version s.count s.rows (claim_of p s.answer)
+as_cert p s = cert_with s.version s.count s.rows (best_against p s.answer)
 
 -- A floor is asked for, and it is `floor`.
 abbrev pub is_floor : ℕ → Option ℕ → Bool
@@ -78,7 +79,7 @@ abbrev pub judgement_by : Answer → List Best → Option (ℕ × Reason) → Ju
 judgement_by answer ranking None = Accepted answer ranking
 judgement_by answer ranking (Some failure) = Rejected failure.0 failure.1
 
--- What an accepting judgement on a statement says.
+-- The judgement that accepts a statement.
 abbrev pub accepted_with : Problem → Demand → Statement → Judgement
 accepted_with p demand s = Accepted s.answer (ranking_for p s.rows (aim_for demand s.answer))
 

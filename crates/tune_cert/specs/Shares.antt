@@ -1,7 +1,7 @@
--- Certificates that are valid in a share of their rows.
+-- The part of the settings that a share looks at, and certificates that are valid in a share.
 use Rattle.std.specs.Prelude.{◌≡◌, ◌≢◌, ℕ, ◌<◌, ◌≤◌, true, List, length, slice_get, Some}
 use Rattle.rc_instr.specs.Warrior.{WarriorView}
-use Rattle.tune_problem.specs.Parts.{part_first, part_end}
+use Rattle.tune_problem.specs.Parts.{part, part_first, part_end}
 use Rattle.tune_problem.specs.Problem.{Problem}
 use Rattle.tune_problem.specs.Optimum.{all_fights}
 use Rattle.tune_problem.specs.Valid.{listed_indices, listed_total, IsVersionOf, IsRightRow, IsNoBetter}
@@ -11,6 +11,11 @@ use Rattle.tune_problem.specs.declared.cert.Row.{Row}
 use Rattle.tune_problem.specs.declared.cert.Row.TheVariants.{Refused, Same, Cap}
 use Rattle.tune_problem.specs.declared.part.Part.{Part}
 use Rattle.tune_cert.specs.Checks.{rises, are_fights}
+use Rattle.tune_cert.specs.declared.share.Share.{Share}
+
+-- The part of the settings whose rows a share has.
+abbrev pub share_part : Share → Part
+share_part share = part share.number share.shares
 
 -- A refused or a cap row is right in a share if it is a right row of the certificate. A row of v
 -- that refers to u is right if u is another setting with the same warrior and has a cap row, whose

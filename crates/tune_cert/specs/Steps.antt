@@ -1,13 +1,20 @@
--- Words that only the contracts of private functions use: parts of certificates, checks under way,
--- and a certificate that is being written.
+-- Words that only the contracts of private functions use: a claim that is checked, and a
+-- certificate that is being written.
 use Rattle.std.specs.Prelude.{◌≡◌, ℕ, ◌*◌, List, length, slice_get, Option, Some, false}
 use Rattle.std.specs.Global.{Vec}
 use Rattle.std.specs.Io.KnownBytes.{Appends}
 use Rattle.std.specs.List.{sum_by}
 use Rattle.rc_instr.specs.Warrior.{WarriorView}
-use Rattle.tune_problem.specs.Problem.{Problem}
+use Rattle.tune_problem.specs.Problem.{Problem, problem_of}
+use Rattle.tune_problem.specs.declared.aim.Aim.{Aim}
+use Rattle.tune_problem.specs.declared.cert.Cert.{Cert}
+use Rattle.tune_cert.specs.declared.claim.Claim.{Claim}
 use Rattle.csv.specs.Writing.{default_writer, writer_setup, fields_written, has_written, text_written}
 use Rattle.csv.specs.declared.writer.Writer.{Writer}
+
+-- What a rule of `Checks` says of a claim: of its certificate, against its inputs, for its aim.
+abbrev pub for_claim : {A : Type 0} → (rule : Problem → Cert → Option Aim → A) → Claim → A
+for_claim rule claim = rule (problem_of claim.inputs.now) claim.cert.now claim.aim
 
 -- The most that the fights of a row can give.
 abbrev pub listed_most : Problem → List (ℕ × ℕ) → ℕ

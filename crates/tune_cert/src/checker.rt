@@ -2,17 +2,20 @@
 ghost use Rattle.std.specs.Prelude.{◌≡◌, ◌≤◌, length, IfOk, IsTrue};
 ghost use Rattle.mars_core.specs.Arena.{IsBlank};
 ghost use Rattle.tables.specs.Records.{records_of};
-ghost use Rattle.tune_problem.specs.Parts.{whole, part};
+ghost use Rattle.tune_problem.specs.Parts.{whole};
 ghost use Rattle.tune_problem.specs.Problem.{problem_of};
 ghost use Rattle.tune_cert.specs.Checks.{wrong_alone, wrong_same, rows_failure, settings_between, share_settings, listed_fights_of, PlaysAtMost, is_version_of, has_row_count};
 ghost use Rattle.tune_cert.specs.Verdict.{verdict_on, IsVerdictOf};
 ghost use Rattle.tune_cert.specs.Judgement.{is_answered, as_cert, judgement_on, judgement_of, IsOfSettings};
+ghost use Rattle.tune_cert.specs.Shares.{share_part};
+ghost use Rattle.tune_cert.specs.Steps.{for_claim};
 
+use crate::claim::Claim;
 use crate::demand::Demand;
 use crate::fault::{CheckFault, ReadFault};
 use crate::listed::ranking_for;
 use crate::read::{read_cert, read_statement, record_of};
-use crate::row_checks::{Claim, check_alone, check_same, is_best_row};
+use crate::row_checks::{check_alone, check_same, is_best_row};
 use crate::share::Share;
 use crate::telling::{before_rows, refers, tell_row};
 use crate::verdict::{Judgement, Reason, Verdict};
@@ -71,7 +74,7 @@ pub fn check_share<T: Watcher>(
     watcher: &mut T,
 ) -> Result<Verdict, CheckFault>
     // The verdict is that of the share on the certificate that the bytes spell, or Malformed.
-    ensures verdict { IfOk result (IsVerdictOf (problem_of inputs.now) (part share.number share.shares) (records_of bytes.now)) }
+    ensures verdict { IfOk result (IsVerdictOf (problem_of inputs.now) (share_part share) (records_of bytes.now)) }
 {
     match read_cert(alloc, bytes) {
         Ok(cert) => check_cert(alloc, inputs, share, cert, watcher),
@@ -107,7 +110,7 @@ pub fn check_for<T: Watcher>(
     watcher: &mut T,
 ) -> Result<Judgement, CheckFault>
     // The judgement is that of the share on the statement that the bytes spell, or Malformed.
-    ensures judgement { IfOk result (λ j. j ≡ judgement_of (problem_of inputs.now) demand (part share.number share.shares) (records_of bytes.now)) }
+    ensures judgement { IfOk result (λ j. j ≡ judgement_of (problem_of inputs.now) demand (share_part share) (records_of bytes.now)) }
     ensures settings { IfOk result (IsOfSettings (problem_of inputs.now).count) }
 {
     match read_statement(alloc, demand.floor.is_some(), bytes) {
@@ -117,254 +120,7 @@ pub fn check_for<T: Watcher>(
     }
 }
 
-// Returns the first wrong row of the refused and the cap rows from `first` to just before `end`.
-fn check_rows_alone<T: Watcher>(
-    alloc: Global,
-    arena: &mut Arena<PackedCells>,
-    claim: &Claim<'_>,
-    first: u32,
-    end: u32,
-    standing: &mut Standing,
-    watcher: &mut T,
-) -> Result<Option<(u64, Reason)>, CheckFault>
-    requires blank { IsBlank claim.now.inputs.now.rules arena.old }
-    requires inside { end ≤ (problem_of claim.now.inputs.now).count }
-    ensures wrong { IfOk result (λ o. o ≡ wrong_alone (problem_of claim.now.inputs.now) claim.now.cert.now claim.now.aim (settings_between first end)) }
-
-    // At most as many fights are played as these rows list.
-    ensures most { PlaysAtMost arena.old arena.new (listed_fights_of claim.now.cert.now.rows (settings_between first end)) }
-{
-    let rows = claim.cert.rows.as_slice();
-    for vector in first..end {
-        let row = &rows[vector as usize];
-        if let Some(reason) = check_alone(alloc, arena, claim, vector, row, watcher)? {
-            return Ok(Some((record_of(u64::from(vector)), reason)));
-        }
-        if !refers(row) {
-            tell_row(row, standing, watcher);
-        }
-    }
-    Ok(None)
-}
-
-// Returns the first wrong row of those from `first` to just before `end` that refer to other
-// settings. Assembles each such row's setting, and once each setting that such rows refer to.
-fn check_rows_same<T: Watcher>(
-    alloc: Global,
-    claim: &Claim<'_>,
-    first: u32,
-    end: u32,
-    standing: &mut Standing,
-    watcher: &mut T,
-) -> Result<Option<(u64, Reason)>, CheckFault>
-    requires inside { end ≤ (problem_of claim.now.inputs.now).count }
-    ensures wrong { IfOk result (λ o. o ≡ wrong_same (problem_of claim.now.inputs.now) claim.now.cert.now claim.now.aim (settings_between first end)) }
-{
-    let rows = claim.cert.rows.as_slice();
-    let mut warriors = no_warriors(alloc, claim.inputs.count())?;
-    for vector in first..end {
-        let row = &rows[vector as usize];
-        if let Some(reason) = check_same(alloc, claim, &mut warriors, vector, row)? {
-            return Ok(Some((record_of(u64::from(vector)), reason)));
-        }
-        if refers(row) {
-            tell_row(row, standing, watcher);
-        }
-    }
-    Ok(None)
-}
-
-// Checks that no row from `first` to just before `end` refers to another setting.
-fn none_refer(claim: &Claim<'_>, first: u32, end: u32) -> bool
-    requires inside { end ≤ length claim.now.cert.now.rows }
-    ensures { IsTrue result → None ≡ wrong_same (problem_of claim.now.inputs.now) claim.now.cert.now claim.now.aim (settings_between first end) }
-{
-    let rows = claim.cert.rows.as_slice();
-    for vector in first..end {
-        if refers(&rows[vector as usize]) {
-            return false;
-        }
-    }
-    true
-}
-
-fn rejected(index: u64, reason: Reason) -> Judgement
-    ensures { result ≡ Judgement.Rejected index reason }
-{
-    Judgement::Rejected { row: index, reason }
-}
-
-fn malformed(index: u64) -> Verdict
-    ensures { result ≡ Verdict.Rejected index Reason.Malformed }
-{
-    Verdict::Rejected {
-        row: index,
-        reason: Reason::Malformed,
-    }
-}
-
-// Returns the best setting of a certificate, for the watcher. A certificate without one claims the
-// setting after the last.
-fn named_best(claim: &Claim<'_>) -> Option<Best> {
-    if claim.cert.best >= claim.inputs.count() {
-        return None;
-    }
-    Some(Best {
-        vector: claim.cert.best,
-        total: claim.cert.total,
-    })
-}
-
-// Returns the first wrong row of a share. Those that refer to other settings are checked last.
-fn check_rows<T: Watcher>(
-    alloc: Global,
-    arena: &mut Arena<PackedCells>,
-    claim: &Claim<'_>,
-    share: Share,
-    watcher: &mut T,
-) -> Result<Option<(u64, Reason)>, CheckFault>
-    requires blank { IsBlank claim.now.inputs.now.rules arena.old }
-    ensures wrong { let c = claim.now in let p = problem_of c.inputs.now in
-        IfOk result (λ o. o ≡ rows_failure p c.cert.now c.aim (share_settings (part share.number share.shares) p.count)) }
-
-    // At most as many fights are played as the rows of the share list.
-    ensures most { PlaysAtMost arena.old arena.new
-        (listed_fights_of claim.now.cert.now.rows (share_settings (part share.number share.shares) (problem_of claim.now.inputs.now).count)) }
-{
-    let count = claim.inputs.count();
-    let first = share.first(count);
-    let end = share.end(count);
-    let mut standing = before_rows(named_best(claim), end - first);
-    if let Some(wrong) = check_rows_alone(
-        alloc,
-        arena,
-        claim,
-        first,
-        end,
-        &mut standing,
-        watcher,
-    )? {
-        return Ok(Some(wrong));
-    }
-    if none_refer(claim, first, end) {
-        return Ok(None);
-    }
-    check_rows_same(alloc, claim, first, end, &mut standing, watcher)
-}
-
-// Checks whether the version is one for the schedule: version 1 is for schedules in which every
-// fight counts once.
-fn is_version_of(inputs: &Inputs, cert: &Cert) -> bool
-    ensures { result ≡ is_version_of (problem_of inputs.now) cert.now.version }
-{
-    if cert.version == 1 {
-        return cert_version(inputs) == 1;
-    }
-    true
-}
-
-// Checks whether there is a row for each setting, and the certificate claims this count.
-fn has_row_count(inputs: &Inputs, cert: &Cert) -> bool
-    ensures { result ≡ has_row_count (problem_of inputs.now) cert.now }
-{
-    let count = inputs.count();
-    cert.count == count && cert.rows.as_slice().len() == count as usize
-}
-
-// Checks whether the record of the answer is right: a best setting has its row, and a floor is the
-// one that is asked for.
-fn is_answered(inputs: &Inputs, demand: Demand, statement: &Statement) -> bool
-    ensures { result ≡ is_answered (problem_of inputs.now) demand statement.now.rows statement.now.answer }
-{
-    match statement.answer {
-        Answer::Best(best) => is_best_row(inputs, &statement.rows, best),
-        Answer::NoneFrom(floor) => match demand.floor {
-            Some(asked) => floor == asked,
-            None => false,
-        },
-    }
-}
-
-// Returns a statement as the certificate that its rows are checked against. That no setting reaches
-// a floor is checked as if the setting after the last had a total of the floor.
-fn as_cert(inputs: &Inputs, statement: Statement) -> Cert
-    ensures { result ≡ as_cert (problem_of inputs.now) statement }
-{
-    let Statement {
-        version,
-        count,
-        answer,
-        rows,
-    } = statement;
-    let best = match answer {
-        Answer::Best(best) => best,
-        Answer::NoneFrom(floor) => Best {
-            vector: inputs.count(),
-            total: floor,
-        },
-    };
-    Cert {
-        version,
-        count,
-        best: best.vector,
-        total: best.total,
-        rows,
-    }
-}
-
-// Checks the rows of a certificate. Makes the arena of its fights.
-fn check_claim<T: Watcher>(
-    alloc: Global,
-    claim: &Claim<'_>,
-    share: Share,
-    watcher: &mut T,
-) -> Result<Option<(u64, Reason)>, CheckFault>
-    ensures wrong { let c = claim.now in let p = problem_of c.inputs.now in
-        IfOk result (λ o. o ≡ rows_failure p c.cert.now c.aim (share_settings (part share.number share.shares) p.count)) }
-{
-    let mut arena = Arena::<PackedCells>::try_new(alloc, claim.inputs.rules())?;
-    check_rows(alloc, &mut arena, claim, share, watcher)
-}
-
-// Checks a statement whose form is right.
-fn check_statement<T: Watcher>(
-    alloc: Global,
-    inputs: &Inputs,
-    demand: Demand,
-    share: Share,
-    statement: Statement,
-    watcher: &mut T,
-) -> Result<Judgement, CheckFault>
-    ensures judgement { IfOk result (λ j. j ≡ judgement_on (problem_of inputs.now) demand (part share.number share.shares) statement) }
-    ensures settings { IfOk result (IsOfSettings (problem_of inputs.now).count) }
-{
-    let answer = statement.answer;
-    let aim = demand.aim_for(answer);
-    let answered = is_answered(inputs, demand, &statement);
-    let cert = as_cert(inputs, statement);
-    if !is_version_of(inputs, &cert) {
-        return Ok(rejected(0, Reason::Version));
-    }
-    if !has_row_count(inputs, &cert) {
-        return Ok(rejected(0, Reason::RowCount));
-    }
-    if !answered {
-        return Ok(rejected(1, Reason::BestRow));
-    }
-    let ranking = ranking_for(alloc, inputs, &cert.rows, aim)?;
-    let claim = Claim {
-        inputs,
-        cert: &cert,
-        aim,
-        ranking: &ranking,
-    };
-    match check_claim(alloc, &claim, share, watcher)? {
-        Some((index, reason)) => Ok(rejected(index, reason)),
-        None => Ok(Judgement::Accepted { answer, ranking }),
-    }
-}
-
-// Checks a certificate whose form is right.
+// Checks a certificate whose records have the right form: as a statement, without a demand.
 fn check_cert<T: Watcher>(
     alloc: Global,
     inputs: &Inputs,
@@ -372,7 +128,7 @@ fn check_cert<T: Watcher>(
     cert: Cert,
     watcher: &mut T,
 ) -> Result<Verdict, CheckFault>
-    ensures { IfOk result (λ v. v ≡ verdict_on (problem_of inputs.now) (part share.number share.shares) cert) }
+    ensures { IfOk result (λ v. v ≡ verdict_on (problem_of inputs.now) (share_part share) cert) }
 {
     let Cert {
         version,
@@ -401,4 +157,252 @@ fn check_cert<T: Watcher>(
         return Ok(Verdict::Rejected { row, reason });
     }
     Ok(Verdict::Accepted { best, total })
+}
+
+fn malformed(index: u64) -> Verdict
+    ensures { result ≡ Verdict.Rejected index Reason.Malformed }
+{
+    Verdict::Rejected {
+        row: index,
+        reason: Reason::Malformed,
+    }
+}
+
+// Checks a statement whose records have the right form.
+fn check_statement<T: Watcher>(
+    alloc: Global,
+    inputs: &Inputs,
+    demand: Demand,
+    share: Share,
+    statement: Statement,
+    watcher: &mut T,
+) -> Result<Judgement, CheckFault>
+    ensures judgement { IfOk result (λ j. j ≡ judgement_on (problem_of inputs.now) demand (share_part share) statement) }
+    ensures settings { IfOk result (IsOfSettings (problem_of inputs.now).count) }
+{
+    let answer = statement.answer;
+    let aim = demand.aim_for(answer);
+    let answered = is_answered(inputs, demand, &statement);
+    let cert = as_cert(inputs, statement);
+    if !is_version_of(inputs, &cert) {
+        return Ok(rejected(0, Reason::Version));
+    }
+    if !has_row_count(inputs, &cert) {
+        return Ok(rejected(0, Reason::RowCount));
+    }
+    if !answered {
+        return Ok(rejected(1, Reason::BestRow));
+    }
+    let ranking = ranking_for(alloc, inputs, &cert.rows, aim)?;
+    let claim = Claim {
+        inputs,
+        cert: &cert,
+        aim,
+        ranking: &ranking,
+    };
+    match check_claim(alloc, &claim, share, watcher)? {
+        Some((index, reason)) => Ok(rejected(index, reason)),
+        None => Ok(Judgement::Accepted { answer, ranking }),
+    }
+}
+
+// Checks whether the record of the answer is right: a best setting has its row, and a floor is the
+// one that is asked for.
+fn is_answered(inputs: &Inputs, demand: Demand, statement: &Statement) -> bool
+    ensures { result ≡ is_answered (problem_of inputs.now) demand statement.now.rows statement.now.answer }
+{
+    match statement.answer {
+        Answer::Best(best) => is_best_row(inputs, &statement.rows, best),
+        Answer::NoneFrom(floor) => match demand.floor {
+            Some(asked) => floor == asked,
+            None => false,
+        },
+    }
+}
+
+// Returns the certificate as which the rows of a statement are checked. If no setting is said to
+// reach a floor, its best setting is the one after the last, with the floor as its total: a cap
+// beats that exactly if it reaches the floor.
+fn as_cert(inputs: &Inputs, statement: Statement) -> Cert
+    ensures { result ≡ as_cert (problem_of inputs.now) statement }
+{
+    let Statement {
+        version,
+        count,
+        answer,
+        rows,
+    } = statement;
+    let best = match answer {
+        Answer::Best(best) => best,
+        Answer::NoneFrom(floor) => Best {
+            vector: inputs.count(),
+            total: floor,
+        },
+    };
+    Cert {
+        version,
+        count,
+        best: best.vector,
+        total: best.total,
+        rows,
+    }
+}
+
+// Checks whether the version is one for the schedule: version 1 is for schedules in which every
+// fight counts once.
+fn is_version_of(inputs: &Inputs, cert: &Cert) -> bool
+    ensures { result ≡ is_version_of (problem_of inputs.now) cert.now.version }
+{
+    if cert.version == 1 {
+        return cert_version(inputs) == 1;
+    }
+    true
+}
+
+// Checks whether there is a row for each setting, and the certificate claims this count.
+fn has_row_count(inputs: &Inputs, cert: &Cert) -> bool
+    ensures { result ≡ has_row_count (problem_of inputs.now) cert.now }
+{
+    let count = inputs.count();
+    cert.count == count && cert.rows.as_slice().len() == count as usize
+}
+
+fn rejected(index: u64, reason: Reason) -> Judgement
+    ensures { result ≡ Judgement.Rejected index reason }
+{
+    Judgement::Rejected { row: index, reason }
+}
+
+// Checks the rows of a share, in an arena of their own. Returns the first wrong row.
+fn check_claim<T: Watcher>(
+    alloc: Global,
+    claim: &Claim<'_>,
+    share: Share,
+    watcher: &mut T,
+) -> Result<Option<(u64, Reason)>, CheckFault>
+    ensures wrong { IfOk result (λ o. o ≡ for_claim rows_failure claim.now (share_settings (share_part share) (problem_of claim.now.inputs.now).count)) }
+{
+    let mut arena = Arena::<PackedCells>::try_new(alloc, claim.inputs.rules())?;
+    check_rows(alloc, &mut arena, claim, share, watcher)
+}
+
+// Checks the rows of a share: first those that refer to no other setting, then those that do.
+// Returns the first wrong row.
+fn check_rows<T: Watcher>(
+    alloc: Global,
+    arena: &mut Arena<PackedCells>,
+    claim: &Claim<'_>,
+    share: Share,
+    watcher: &mut T,
+) -> Result<Option<(u64, Reason)>, CheckFault>
+    requires blank { IsBlank claim.now.inputs.now.rules arena.old }
+    ensures wrong { IfOk result (λ o. o ≡ for_claim rows_failure claim.now (share_settings (share_part share) (problem_of claim.now.inputs.now).count)) }
+
+    // At most as many fights are played as the rows of the share list.
+    ensures most { PlaysAtMost arena.old arena.new
+        (listed_fights_of claim.now.cert.now.rows (share_settings (share_part share) (problem_of claim.now.inputs.now).count)) }
+{
+    let count = claim.inputs.count();
+    let first = share.first(count);
+    let end = share.end(count);
+    let mut standing = before_rows(named_best(claim), end - first);
+    if let Some(wrong) = check_rows_alone(
+        alloc,
+        arena,
+        claim,
+        first,
+        end,
+        &mut standing,
+        watcher,
+    )? {
+        return Ok(Some(wrong));
+    }
+    if none_refer(claim, first, end) {
+        return Ok(None);
+    }
+    check_rows_same(alloc, claim, first, end, &mut standing, watcher)
+}
+
+// Returns the best setting that the certificate names, for the watcher. It names none if its best
+// is the setting after the last, as `as_cert` makes it.
+fn named_best(claim: &Claim<'_>) -> Option<Best> {
+    if claim.cert.best >= claim.inputs.count() {
+        return None;
+    }
+    Some(Best {
+        vector: claim.cert.best,
+        total: claim.cert.total,
+    })
+}
+
+// Checks the refused and the cap rows from `first` to just before `end`. Returns the first wrong
+// one.
+fn check_rows_alone<T: Watcher>(
+    alloc: Global,
+    arena: &mut Arena<PackedCells>,
+    claim: &Claim<'_>,
+    first: u32,
+    end: u32,
+    standing: &mut Standing,
+    watcher: &mut T,
+) -> Result<Option<(u64, Reason)>, CheckFault>
+    requires blank { IsBlank claim.now.inputs.now.rules arena.old }
+    requires inside { end ≤ (problem_of claim.now.inputs.now).count }
+    ensures wrong { IfOk result (λ o. o ≡ for_claim wrong_alone claim.now (settings_between first end)) }
+
+    // At most as many fights are played as these rows list.
+    ensures most { PlaysAtMost arena.old arena.new (listed_fights_of claim.now.cert.now.rows (settings_between first end)) }
+{
+    let rows = claim.cert.rows.as_slice();
+    for vector in first..end {
+        let row = &rows[vector as usize];
+        if let Some(reason) = check_alone(alloc, arena, claim, vector, row, watcher)? {
+            return Ok(Some((record_of(u64::from(vector)), reason)));
+        }
+        if !refers(row) {
+            tell_row(row, standing, watcher);
+        }
+    }
+    Ok(None)
+}
+
+// Checks that no row from `first` to just before `end` refers to another setting.
+fn none_refer(claim: &Claim<'_>, first: u32, end: u32) -> bool
+    requires inside { end ≤ length claim.now.cert.now.rows }
+    ensures { IsTrue result → None ≡ for_claim wrong_same claim.now (settings_between first end) }
+{
+    let rows = claim.cert.rows.as_slice();
+    for vector in first..end {
+        if refers(&rows[vector as usize]) {
+            return false;
+        }
+    }
+    true
+}
+
+// Checks the rows from `first` to just before `end` that refer to other settings. Returns the first
+// wrong one. Assembles each such row's setting, and once each setting that such rows refer to.
+fn check_rows_same<T: Watcher>(
+    alloc: Global,
+    claim: &Claim<'_>,
+    first: u32,
+    end: u32,
+    standing: &mut Standing,
+    watcher: &mut T,
+) -> Result<Option<(u64, Reason)>, CheckFault>
+    requires inside { end ≤ (problem_of claim.now.inputs.now).count }
+    ensures wrong { IfOk result (λ o. o ≡ for_claim wrong_same claim.now (settings_between first end)) }
+{
+    let rows = claim.cert.rows.as_slice();
+    let mut warriors = no_warriors(alloc, claim.inputs.count())?;
+    for vector in first..end {
+        let row = &rows[vector as usize];
+        if let Some(reason) = check_same(alloc, claim, &mut warriors, vector, row)? {
+            return Ok(Some((record_of(u64::from(vector)), reason)));
+        }
+        if refers(row) {
+            tell_row(row, standing, watcher);
+        }
+    }
+    Ok(None)
 }

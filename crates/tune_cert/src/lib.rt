@@ -5,6 +5,7 @@
 #![tactic(auto)]
 
 mod checker;
+mod claim;
 mod demand;
 mod fault;
 pub mod laws;

@@ -1,17 +1,17 @@
 //! Checks single rows of a certificate.
-ghost use Rattle.std.specs.Prelude.{◌≡◌, ◌↔◌, ◌<◌, ◌==◌, ◌||◌, not, IsTrue, IfOk, IfSome, IfNone, None, Some, Option, length, ◌+◌, ◌*◌, ◌≤◌, ◌^◌, ℕ, List, true, slice_get};
+ghost use Rattle.std.specs.Prelude.{◌≡◌, ◌<◌, ◌==◌, ◌||◌, not, IsTrue, IfOk, IfSome, IfNone, None, Some, Option, length, ◌+◌, ◌*◌, ◌≤◌, ◌^◌, ℕ, List, true, slice_get};
 ghost use Rattle.mars_core.specs.Arena.{IsBlank};
 ghost use Rattle.mars_fight.specs.Limits.{MOST_FIGHTS, MOST_WEIGHT};
 ghost use Rattle.rc_instr.specs.Warrior.{Fits};
 ghost use Rattle.tune_problem.specs.Optimum.{beats};
 ghost use Rattle.tune_problem.specs.Problem.{problem_of};
 ghost use Rattle.tune_problem.specs.Valid.{listed_in, listed_total};
-ghost use Rattle.tune_problem.specs.Exact.{lists_all, listed_cap, listed_ranking};
-ghost use Rattle.tune_problem.specs.declared.aim.Aim.{Aim as AimView};
+ghost use Rattle.tune_problem.specs.Exact.{lists_all, listed_cap};
 ghost use Rattle.tune_problem.specs.declared.cert.Row.TheVariants.{Refused, Cap};
 ghost use Rattle.tune_cert.specs.Checks.{rises, are_fights, have_points, PlaysAtMost, is_no_better, is_exact, is_best_row, cap_reason, alone_reason, same_reason, reference_reason};
-ghost use Rattle.tune_cert.specs.Steps.{AreAssembled, listed_most};
+ghost use Rattle.tune_cert.specs.Steps.{AreAssembled, for_claim, listed_most};
 
+use crate::claim::Claim;
 use crate::fault::CheckFault;
 use crate::verdict::Reason;
 use crate::warriors::share_warrior;
@@ -20,22 +20,9 @@ use mars_fight::MOST_POINTS;
 use rc_instr::Warrior;
 use std::alloc::Global;
 use tune_problem::{
-    Aim, Best, Cert, Inputs, Ranking, Row, Rows, Watcher, beats, contends, fight_count,
-    fight_points, fight_weight, greatest_total, setting_warrior,
+    Best, Inputs, Row, Rows, Watcher, beats, contends, fight_count, fight_points, fight_weight,
+    greatest_total, setting_warrior,
 };
-
-// A certificate, and the inputs against which it is checked.
-#[derive(Clone, Copy)]
-pub(crate) struct Claim<'a> {
-    pub(crate) inputs: &'a Inputs,
-    pub(crate) cert: &'a Cert,
-    // The aim for which the rows have to be exact, and the ranking that they list for it.
-    pub(crate) aim: Option<Aim>,
-    pub(crate) ranking: &'a Ranking,
-    ghost listed: { (a : AimView) → aim ≡ Some a → ranking.now ≡ listed_ranking (problem_of inputs.now) a cert.now.rows },
-    // There is a row for each setting.
-    ghost counted: { length cert.now.rows ≡ (problem_of inputs.now).count },
-}
 
 // Returns what is wrong with a refused or a cap row, and passes over a row that refers to another
 // setting. `watcher` hears of each fight.
@@ -49,7 +36,7 @@ pub(crate) fn check_alone<T: Watcher>(
 ) -> Result<Option<Reason>, CheckFault>
     requires inside { vector < (problem_of claim.now.inputs.now).count }
     requires blank { IsBlank claim.now.inputs.now.rules arena.old }
-    ensures reason { IfOk result (λ o. o ≡ alone_reason (problem_of claim.now.inputs.now) claim.now.cert.now claim.now.aim vector row.now) }
+    ensures reason { IfOk result (λ o. o ≡ for_claim alone_reason claim.now vector row.now) }
     ensures blank { IsBlank claim.now.inputs.now.rules arena.new }
 
     // At most as many fights are played as the row lists.
@@ -65,6 +52,40 @@ pub(crate) fn check_alone<T: Watcher>(
     }
 }
 
+// Checks a cap row: its fights, then its points, then its cap.
+fn check_cap<T: Watcher>(
+    alloc: Global,
+    arena: &mut Arena<PackedCells>,
+    claim: &Claim<'_>,
+    vector: u32,
+    listed: &[(u32, u8)],
+    watcher: &mut T,
+) -> Result<Option<Reason>, CheckFault>
+    requires inside { vector < (problem_of claim.now.inputs.now).count }
+    requires blank { IsBlank claim.now.inputs.now.rules arena.old }
+    ensures reason { IfOk result (λ o. o ≡ for_claim cap_reason claim.now vector listed.now) }
+    ensures blank { IsBlank claim.now.inputs.now.rules arena.new }
+    ensures most { PlaysAtMost arena.old arena.new (length listed.now) }
+{
+    if !is_rising(listed) {
+        return Ok(Some(Reason::RepeatedFight));
+    }
+    let Some(warrior) = setting_warrior(alloc, claim.inputs, vector)? else {
+        return Ok(Some(Reason::WrongPoints));
+    };
+    if !have_points(arena, claim.inputs, &warrior, listed, watcher) {
+        return Ok(Some(Reason::WrongPoints));
+    }
+    let cap = listed_cap(claim.inputs, listed);
+    if !is_best_or_no_better(claim, vector, cap) {
+        return Ok(Some(Reason::CapTooHigh));
+    }
+    if !is_exact(claim, vector, listed, cap) {
+        return Ok(Some(Reason::CapTooHigh));
+    }
+    Ok(None)
+}
+
 // Returns what is wrong with a row that refers to another setting, and passes over any other row.
 // `warriors` has those of the settings to which rows referred before.
 pub(crate) fn check_same(
@@ -76,13 +97,54 @@ pub(crate) fn check_same(
 ) -> Result<Option<Reason>, CheckFault>
     requires inside { vector < (problem_of claim.now.inputs.now).count }
     requires assembled { AreAssembled (problem_of claim.now.inputs.now) warriors.old.items }
-    ensures reason { IfOk result (λ o. o ≡ same_reason (problem_of claim.now.inputs.now) claim.now.cert.now claim.now.aim vector row.now) }
+    ensures reason { IfOk result (λ o. o ≡ for_claim same_reason claim.now vector row.now) }
     ensures assembled { AreAssembled (problem_of claim.now.inputs.now) warriors.new.items }
 {
     match row {
         Row::Same(other) => check_reference(alloc, claim, warriors, vector, *other),
         _ => Ok(None),
     }
+}
+
+// Checks the row of setting `vector` that refers to setting `other`: that must have a cap row of
+// rising fights and the same warrior, and the cap must not beat the best for `vector` either. Takes
+// the listed points as they are: whether they are right is a check of the row of `other`.
+fn check_reference(
+    alloc: Global,
+    claim: &Claim<'_>,
+    warriors: &mut Vec<Option<Warrior>>,
+    vector: u32,
+    other: u32,
+) -> Result<Option<Reason>, CheckFault>
+    requires inside { vector < (problem_of claim.now.inputs.now).count }
+    requires assembled { AreAssembled (problem_of claim.now.inputs.now) warriors.old.items }
+    ensures reason { IfOk result (λ o. o ≡ for_claim reference_reason claim.now vector other (slice_get claim.now.cert.now.rows other)) }
+    ensures assembled { AreAssembled (problem_of claim.now.inputs.now) warriors.new.items }
+{
+    let Some(listed) = cap_row(&claim.cert.rows, other) else {
+        return Ok(Some(Reason::NotSame));
+    };
+    if other == vector {
+        return Ok(Some(Reason::NotSame));
+    }
+    let shared = share_warrior(alloc, claim.inputs, warriors, vector, other)?;
+    if !shared {
+        return Ok(Some(Reason::NotSame));
+    }
+    if !is_rising(listed) {
+        return Ok(Some(Reason::NotSame));
+    }
+    if !are_fights(claim.inputs, listed) {
+        return Ok(Some(Reason::NotSame));
+    }
+    let cap = listed_cap(claim.inputs, listed);
+    if !is_no_better(claim, vector, cap) {
+        return Ok(Some(Reason::CapTooHigh));
+    }
+    if !is_exact(claim, vector, listed, cap) {
+        return Ok(Some(Reason::CapTooHigh));
+    }
+    Ok(None)
 }
 
 // Checks whether the row of a best setting lists every fight in order, with scores that add up to
@@ -97,6 +159,44 @@ pub(crate) fn is_best_row(inputs: &Inputs, rows: &Rows, best: Best) -> bool
         return false;
     }
     listed_total(inputs, listed) == best.total
+}
+
+// Checks whether a cap row lists each of the `fights` fights, in order.
+pub(crate) fn lists_all(fights: u32, listed: &[(u32, u8)]) -> bool
+    ensures { result ≡ lists_all fights 0 listed.now }
+{
+    let mut next: u64 = 0;
+    for (index, _) in listed {
+        if u64::from(*index) != next {
+            return false;
+        }
+        next += 1;
+    }
+    next == u64::from(fights)
+}
+
+// Returns the fights in the row of setting `vector` if that is a cap row.
+pub(crate) fn cap_row(rows: &Rows, vector: u32) -> Option<&[(u32, u8)]>
+    ensures some { IfSome result (λ row. slice_get rows.now vector ≡ Some (Cap row.now)) }
+    ensures none { IfNone result ((row : List (ℕ × ℕ)) → slice_get rows.now vector ≡ Some (Cap row) → ⊥) }
+{
+    match rows.as_slice().get(vector as usize) {
+        Some(Row::Cap(listed)) => Some(listed.as_slice()),
+        _ => None,
+    }
+}
+
+// Adds up the scores that a cap row lists: points times the weight of the fight.
+pub(crate) fn listed_total(inputs: &Inputs, listed: &[(u32, u8)]) -> u32
+    requires few { length listed.now ≤ MOST_FIGHTS }
+    ensures sum { result ≡ listed_total (problem_of inputs.now) listed.now }
+    ensures small { result ≤ 255 * MOST_WEIGHT * length listed.now }
+{
+    let mut total: u32 = 0;
+    for (index, points) in listed {
+        total += u32::from(*points) * fight_weight(inputs, *index);
+    }
+    total
 }
 
 // Checks whether the fights of a cap row rise, so that none is listed twice.
@@ -158,117 +258,16 @@ fn have_points<T: Watcher>(
     true
 }
 
-// Checks a cap row: its fights, then its points, then its cap.
-fn check_cap<T: Watcher>(
-    alloc: Global,
-    arena: &mut Arena<PackedCells>,
-    claim: &Claim<'_>,
-    vector: u32,
-    listed: &[(u32, u8)],
-    watcher: &mut T,
-) -> Result<Option<Reason>, CheckFault>
-    requires inside { vector < (problem_of claim.now.inputs.now).count }
-    requires blank { IsBlank claim.now.inputs.now.rules arena.old }
-    ensures reason { IfOk result (λ o. o ≡ cap_reason (problem_of claim.now.inputs.now) claim.now.cert.now claim.now.aim vector listed.now) }
-    ensures blank { IsBlank claim.now.inputs.now.rules arena.new }
-    ensures most { PlaysAtMost arena.old arena.new (length listed.now) }
+// Returns the cap of a row: the scores that it lists, and the most that the other fights can give.
+#[tactic(auto, using(crate::proofs::ListedCaps::besides_row))]
+fn listed_cap(inputs: &Inputs, listed: &[(u32, u8)]) -> u32
+    requires rising { rises 0 listed.now ≡ true }
+    requires fights { are_fights (problem_of inputs.now) listed.now ≡ true }
+    ensures { result ≡ listed_cap (problem_of inputs.now) listed.now }
 {
-    if !is_rising(listed) {
-        return Ok(Some(Reason::RepeatedFight));
-    }
-    let Some(warrior) = setting_warrior(alloc, claim.inputs, vector)? else {
-        return Ok(Some(Reason::WrongPoints));
-    };
-    if !have_points(arena, claim.inputs, &warrior, listed, watcher) {
-        return Ok(Some(Reason::WrongPoints));
-    }
-    let cap = listed_cap(claim.inputs, listed);
-    if !is_best_or_no_better(claim, vector, cap) {
-        return Ok(Some(Reason::CapTooHigh));
-    }
-    if !is_exact(claim, vector, listed, cap) {
-        return Ok(Some(Reason::CapTooHigh));
-    }
-    Ok(None)
-}
-
-// Checks the row of setting `vector` that refers to setting `other`: that must have a cap row of
-// rising fights and the same warrior, and the cap must not beat the best for `vector` either. Takes
-// the listed points as they are: whether they are right is a check of the row of `other`.
-fn check_reference(
-    alloc: Global,
-    claim: &Claim<'_>,
-    warriors: &mut Vec<Option<Warrior>>,
-    vector: u32,
-    other: u32,
-) -> Result<Option<Reason>, CheckFault>
-    requires inside { vector < (problem_of claim.now.inputs.now).count }
-    requires assembled { AreAssembled (problem_of claim.now.inputs.now) warriors.old.items }
-    ensures reason { IfOk result (λ o. o ≡ reference_reason (problem_of claim.now.inputs.now) claim.now.cert.now claim.now.aim vector other (slice_get claim.now.cert.now.rows other)) }
-    ensures assembled { AreAssembled (problem_of claim.now.inputs.now) warriors.new.items }
-{
-    let Some(listed) = cap_row(&claim.cert.rows, other) else {
-        return Ok(Some(Reason::NotSame));
-    };
-    if other == vector {
-        return Ok(Some(Reason::NotSame));
-    }
-    let shared = share_warrior(alloc, claim.inputs, warriors, vector, other)?;
-    if !shared {
-        return Ok(Some(Reason::NotSame));
-    }
-    if !is_rising(listed) {
-        return Ok(Some(Reason::NotSame));
-    }
-    if !are_fights(claim.inputs, listed) {
-        return Ok(Some(Reason::NotSame));
-    }
-    let cap = listed_cap(claim.inputs, listed);
-    if !is_no_better(claim, vector, cap) {
-        return Ok(Some(Reason::CapTooHigh));
-    }
-    if !is_exact(claim, vector, listed, cap) {
-        return Ok(Some(Reason::CapTooHigh));
-    }
-    Ok(None)
-}
-
-// Checks whether a cap row lists each of the `fights` fights, in order.
-pub(crate) fn lists_all(fights: u32, listed: &[(u32, u8)]) -> bool
-    ensures { result ≡ lists_all fights 0 listed.now }
-{
-    let mut next: u64 = 0;
-    for (index, _) in listed {
-        if u64::from(*index) != next {
-            return false;
-        }
-        next += 1;
-    }
-    next == u64::from(fights)
-}
-
-// Returns the fights in the row of setting `vector` if that is a cap row.
-pub(crate) fn cap_row(rows: &Rows, vector: u32) -> Option<&[(u32, u8)]>
-    ensures some { IfSome result (λ row. slice_get rows.now vector ≡ Some (Cap row.now)) }
-    ensures none { IfNone result ((row : List (ℕ × ℕ)) → slice_get rows.now vector ≡ Some (Cap row) → ⊥) }
-{
-    match rows.as_slice().get(vector as usize) {
-        Some(Row::Cap(listed)) => Some(listed.as_slice()),
-        _ => None,
-    }
-}
-
-// Adds up the scores that a cap row lists: points times the weight of the fight.
-pub(crate) fn listed_total(inputs: &Inputs, listed: &[(u32, u8)]) -> u32
-    requires few { length listed.now ≤ MOST_FIGHTS }
-    ensures sum { result ≡ listed_total (problem_of inputs.now) listed.now }
-    ensures small { result ≤ 255 * MOST_WEIGHT * length listed.now }
-{
-    let mut total: u32 = 0;
-    for (index, points) in listed {
-        total += u32::from(*points) * fight_weight(inputs, *index);
-    }
-    total
+    let greatest = greatest_total(inputs);
+    let most = listed_most(inputs, listed);
+    listed_total(inputs, listed) + (greatest - most)
 }
 
 // Adds up the most that the fights of a cap row can give.
@@ -284,16 +283,12 @@ fn listed_most(inputs: &Inputs, listed: &[(u32, u8)]) -> u32
     most
 }
 
-// Returns the cap of a row: the scores that it lists, and the most that the other fights can give.
-#[tactic(auto, using(crate::proofs::ListedCaps::besides_row))]
-fn listed_cap(inputs: &Inputs, listed: &[(u32, u8)]) -> u32
-    requires rising { rises 0 listed.now ≡ true }
-    requires fights { are_fights (problem_of inputs.now) listed.now ≡ true }
-    ensures { result ≡ listed_cap (problem_of inputs.now) listed.now }
+// Checks whether setting `vector` is the best setting of the certificate, or cap `cap` does not
+// beat the best setting.
+fn is_best_or_no_better(claim: &Claim<'_>, vector: u32, cap: u32) -> bool
+    ensures { result ≡ ((vector == claim.now.cert.now.best) || not (beats cap vector claim.now.cert.now.total claim.now.cert.now.best)) }
 {
-    let greatest = greatest_total(inputs);
-    let most = listed_most(inputs, listed);
-    listed_total(inputs, listed) + (greatest - most)
+    vector == claim.cert.best || is_no_better(claim, vector, cap)
 }
 
 // Checks whether cap `cap` of setting `vector` does not beat the best setting of the certificate.
@@ -305,14 +300,6 @@ fn is_no_better(claim: &Claim<'_>, vector: u32, cap: u32) -> bool
         total: claim.cert.total,
     };
     !beats(cap, vector, best)
-}
-
-// Checks whether setting `vector` is the best setting of the certificate, or cap `cap` does not
-// beat the best setting.
-fn is_best_or_no_better(claim: &Claim<'_>, vector: u32, cap: u32) -> bool
-    ensures { result ≡ ((vector == claim.now.cert.now.best) || not (beats cap vector claim.now.cert.now.total claim.now.cert.now.best)) }
-{
-    vector == claim.cert.best || is_no_better(claim, vector, cap)
 }
 
 // Checks whether a row, as one of setting `vector`, lists every fight, or its cap `cap` does not

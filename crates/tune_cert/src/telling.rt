@@ -28,15 +28,6 @@ pub(crate) fn refers(row: &Row) -> bool
     }
 }
 
-fn listed_count(row: &Row) -> u64
-    ensures { result ≡ listed_in row.now }
-{
-    match row {
-        Row::Cap(listing) => listing.as_slice().len() as u64,
-        _ => 0,
-    }
-}
-
 // Counts a checked row and its fights, and tells the watcher.
 pub(crate) fn tell_row<T: Watcher>(row: &Row, standing: &mut Standing, watcher: &mut T)
     ensures settings { standing.new.settings ≡ (standing.old.settings + 1) % 2 ^ 32 }
@@ -47,4 +38,13 @@ pub(crate) fn tell_row<T: Watcher>(row: &Row, standing: &mut Standing, watcher: 
     standing.settings = standing.settings.wrapping_add(1);
     standing.fights = standing.fights.wrapping_add(listed_count(row));
     watcher.see(*standing);
+}
+
+fn listed_count(row: &Row) -> u64
+    ensures { result ≡ listed_in row.now }
+{
+    match row {
+        Row::Cap(listing) => listing.as_slice().len() as u64,
+        _ => 0,
+    }
 }

@@ -20,24 +20,6 @@ pub(crate) fn no_warriors(alloc: Global, count: u32) -> Result<Vec<Option<Warrio
     Ok(warriors)
 }
 
-// Makes the warrior of setting `vector`, unless `warriors` has it already.
-pub(crate) fn assemble_once(
-    alloc: Global,
-    inputs: &Inputs,
-    warriors: &mut Vec<Option<Warrior>>,
-    vector: u32,
-) -> Result<(), OutOfMemory>
-    requires inside { vector < (problem_of inputs.now).count }
-    requires assembled { AreAssembled (problem_of inputs.now) warriors.old.items }
-    ensures assembled { AreAssembled (problem_of inputs.now) warriors.new.items }
-    ensures warrior { OnOk result (slice_get warriors.new.items vector ≡ Some ((problem_of inputs.now).warrior vector)) }
-{
-    if warriors[vector as usize].is_none() {
-        warriors[vector as usize] = setting_warrior(alloc, inputs, vector)?;
-    }
-    Ok(())
-}
-
 // Checks whether settings `vector` and `other` assemble, to equal warriors. The warrior of `other`
 // is kept.
 pub(crate) fn share_warrior(
@@ -63,6 +45,30 @@ pub(crate) fn share_warrior(
     }
 }
 
+// Makes the warrior of setting `vector`, unless `warriors` has it already.
+pub(crate) fn assemble_once(
+    alloc: Global,
+    inputs: &Inputs,
+    warriors: &mut Vec<Option<Warrior>>,
+    vector: u32,
+) -> Result<(), OutOfMemory>
+    requires inside { vector < (problem_of inputs.now).count }
+    requires assembled { AreAssembled (problem_of inputs.now) warriors.old.items }
+    ensures assembled { AreAssembled (problem_of inputs.now) warriors.new.items }
+    ensures warrior { OnOk result (slice_get warriors.new.items vector ≡ Some ((problem_of inputs.now).warrior vector)) }
+{
+    if warriors[vector as usize].is_none() {
+        warriors[vector as usize] = setting_warrior(alloc, inputs, vector)?;
+    }
+    Ok(())
+}
+
+fn is_same_warrior(one: &Warrior, other: &Warrior) -> bool
+    ensures { IsTrue result ↔ (one.now ≡ other.now) }
+{
+    one.start() == other.start() && is_same_code(one.code(), other.code())
+}
+
 fn is_same_code(one: &[Instruction], other: &[Instruction]) -> bool
     ensures { IsTrue result ↔ (one.now ≡ other.now) }
 {
@@ -77,10 +83,4 @@ fn is_same_code(one: &[Instruction], other: &[Instruction]) -> bool
         rest = after;
     }
     rest.is_empty()
-}
-
-fn is_same_warrior(one: &Warrior, other: &Warrior) -> bool
-    ensures { IsTrue result ↔ (one.now ≡ other.now) }
-{
-    one.start() == other.start() && is_same_code(one.code(), other.code())
 }

@@ -75,68 +75,67 @@ pub fn write_answer<W: Write>(
     Ok(())
 }
 
-fn add_decimal(text: &mut Vec<u8>, number: u32) -> Result<(), OutOfMemory>
-    ensures { OnOk result (text.new.items ≡ text.old.items ++ decimal number) }
+// Builds the whole text in memory.
+#[tactic(auto, using(crate::proofs::Written::whole_text))]
+fn text_of(alloc: Global, version: u32, answer: Answer, rows: &Rows) -> Result<Vec<u8>, OutOfMemory>
+    requires { length rows.now < 2 ^ 32 }
+    ensures { IfOk result (λ text. text.items ≡ statement_text (statement_with version answer rows.now)) }
 {
-    text.extend_from_slice(Buffer::new().format(number).as_bytes())?;
-    Ok(())
+    let mut writer = WriterBuilder::new().from_writer(Vec::new(alloc));
+    let rows = rows.as_slice();
+    write_numbers(&mut writer, b"cwcert", version, rows.len() as u32)?;
+    write_answer_record(&mut writer, answer)?;
+    write_rows(alloc, &mut writer, rows)?;
+    writer.into_inner().map_err(|_refused| OutOfMemory)
 }
 
-// Appends a fight with its points, as in `7:3`.
-#[tactic(auto, unfolding(crate::specs::CertText::item_text))]
-fn add_item(text: &mut Vec<u8>, item: (u32, u8)) -> Result<(), OutOfMemory>
-    ensures { OnOk result (text.new.items ≡ text.old.items ++ item_text item) }
-{
-    add_decimal(text, item.0)?;
-    text.push(b':')?;
-    add_decimal(text, u32::from(item.1))
-}
-
-// Appends a space, then a fight with its points.
-#[tactic(auto, unfolding(crate::specs::CertText::spaced_text))]
-fn add_spaced(text: &mut Vec<u8>, item: (u32, u8)) -> Result<(), OutOfMemory>
-    ensures { OnOk result (text.new.items ≡ text.old.items ++ spaced_text item) }
-{
-    text.push(b' ')?;
-    add_item(text, item)
-}
-
-// Appends the fights after the first, each with a space before it.
-fn add_others(text: &mut Vec<u8>, items: &[(u32, u8)]) -> Result<(), OutOfMemory>
-    ensures { OnOk result (text.new.items ≡ text.old.items ++ flat_map spaced_text items.now) }
-{
-    for item in items {
-        add_spaced(text, *item)?;
-    }
-    Ok(())
-}
-
-// Replaces `text` by the list of a cap row: its fights, or `-` for none.
-#[tactic(auto, unfolding(crate::specs::CertText::list_text))]
-fn set_list(text: &mut Vec<u8>, items: &[(u32, u8)]) -> Result<(), OutOfMemory>
-    ensures { OnOk result (text.new.items ≡ list_text items.now) }
-{
-    text.clear();
-    let Some((first, others)) = items.split_first() else {
-        text.push(b'-')?;
-        return Ok(());
-    };
-    add_item(text, *first)?;
-    add_others(text, others)
-}
-
-fn write_record(
+// Writes a record of a word and two numbers.
+fn write_numbers(
     writer: &mut Writer<Vec<u8>>,
-    first: &[u8],
-    second: &[u8],
-    third: &[u8],
+    word: &[u8],
+    first: u32,
+    second: u32,
 ) -> Result<(), OutOfMemory>
     requires { IsReady writer.old }
-    ensures { OnOk result (AddsText writer.old writer.new (row_text default_writer (first.now ∷ second.now ∷ third.now ∷ []))) }
+    ensures { OnOk result (AddsText writer.old writer.new (row_text default_writer (word.now ∷ decimal first ∷ decimal second ∷ []))) }
 {
-    writer
-        .write_fields(&[first, second, third])
-        .map_err(|_refused| OutOfMemory)
+    write_record(
+        writer,
+        word,
+        Buffer::new().format(first).as_bytes(),
+        Buffer::new().format(second).as_bytes(),
+    )
+}
+
+fn write_answer_record(writer: &mut Writer<Vec<u8>>, answer: Answer) -> Result<(), OutOfMemory>
+    requires { IsReady writer.old }
+    ensures { OnOk result (AddsText writer.old writer.new (row_text default_writer (answer_fields answer))) }
+{
+    match answer {
+        Answer::Best(best) => write_numbers(writer, b"best", best.vector, best.total),
+        Answer::NoneFrom(floor) => {
+            write_record(
+                writer,
+                b"none",
+                b"-",
+                Buffer::new().format(floor).as_bytes(),
+            )
+        }
+    }
+}
+
+fn write_rows(alloc: Global, writer: &mut Writer<Vec<u8>>, rows: &[Row]) -> Result<(), OutOfMemory>
+    requires ready { IsReady writer.old }
+    requires few { length rows.now < 2 ^ 32 }
+    ensures { OnOk result (AddsText writer.old writer.new (records_text (rows_fields rows.now 0))) }
+{
+    let mut list = Vec::new(alloc);
+    let mut vector = 0u32;
+    for row in rows {
+        write_row(writer, &mut list, vector, row)?;
+        vector += 1;
+    }
+    Ok(())
 }
 
 // Writes the row of setting `vector`. Builds the text of a list in `list`, so that all rows share
@@ -169,65 +168,66 @@ fn write_row(
     }
 }
 
-// Writes a record of a word and two numbers.
-fn write_numbers(
+fn write_record(
     writer: &mut Writer<Vec<u8>>,
-    word: &[u8],
-    first: u32,
-    second: u32,
+    first: &[u8],
+    second: &[u8],
+    third: &[u8],
 ) -> Result<(), OutOfMemory>
     requires { IsReady writer.old }
-    ensures { OnOk result (AddsText writer.old writer.new (row_text default_writer (word.now ∷ decimal first ∷ decimal second ∷ []))) }
+    ensures { OnOk result (AddsText writer.old writer.new (row_text default_writer (first.now ∷ second.now ∷ third.now ∷ []))) }
 {
-    write_record(
-        writer,
-        word,
-        Buffer::new().format(first).as_bytes(),
-        Buffer::new().format(second).as_bytes(),
-    )
+    writer
+        .write_fields(&[first, second, third])
+        .map_err(|_refused| OutOfMemory)
 }
 
-fn write_rows(alloc: Global, writer: &mut Writer<Vec<u8>>, rows: &[Row]) -> Result<(), OutOfMemory>
-    requires ready { IsReady writer.old }
-    requires few { length rows.now < 2 ^ 32 }
-    ensures { OnOk result (AddsText writer.old writer.new (records_text (rows_fields rows.now 0))) }
+// Replaces `text` by the list of a cap row: its fights, or `-` for none.
+#[tactic(auto, unfolding(crate::specs::CertText::list_text))]
+fn set_list(text: &mut Vec<u8>, items: &[(u32, u8)]) -> Result<(), OutOfMemory>
+    ensures { OnOk result (text.new.items ≡ list_text items.now) }
 {
-    let mut list = Vec::new(alloc);
-    let mut vector = 0u32;
-    for row in rows {
-        write_row(writer, &mut list, vector, row)?;
-        vector += 1;
+    text.clear();
+    let Some((first, others)) = items.split_first() else {
+        text.push(b'-')?;
+        return Ok(());
+    };
+    add_item(text, *first)?;
+    add_others(text, others)
+}
+
+// Appends a fight with its points, as in `7:3`.
+#[tactic(auto, unfolding(crate::specs::CertText::item_text))]
+fn add_item(text: &mut Vec<u8>, item: (u32, u8)) -> Result<(), OutOfMemory>
+    ensures { OnOk result (text.new.items ≡ text.old.items ++ item_text item) }
+{
+    add_decimal(text, item.0)?;
+    text.push(b':')?;
+    add_decimal(text, u32::from(item.1))
+}
+
+// Appends the fights after the first, each with a space before it.
+fn add_others(text: &mut Vec<u8>, items: &[(u32, u8)]) -> Result<(), OutOfMemory>
+    ensures { OnOk result (text.new.items ≡ text.old.items ++ flat_map spaced_text items.now) }
+{
+    for item in items {
+        add_spaced(text, *item)?;
     }
     Ok(())
 }
 
-fn write_answer_record(writer: &mut Writer<Vec<u8>>, answer: Answer) -> Result<(), OutOfMemory>
-    requires { IsReady writer.old }
-    ensures { OnOk result (AddsText writer.old writer.new (row_text default_writer (answer_fields answer))) }
+// Appends a space, then a fight with its points.
+#[tactic(auto, unfolding(crate::specs::CertText::spaced_text))]
+fn add_spaced(text: &mut Vec<u8>, item: (u32, u8)) -> Result<(), OutOfMemory>
+    ensures { OnOk result (text.new.items ≡ text.old.items ++ spaced_text item) }
 {
-    match answer {
-        Answer::Best(best) => write_numbers(writer, b"best", best.vector, best.total),
-        Answer::NoneFrom(floor) => {
-            write_record(
-                writer,
-                b"none",
-                b"-",
-                Buffer::new().format(floor).as_bytes(),
-            )
-        }
-    }
+    text.push(b' ')?;
+    add_item(text, item)
 }
 
-// Builds the whole text in memory.
-#[tactic(auto, using(crate::proofs::Written::whole_text))]
-fn text_of(alloc: Global, version: u32, answer: Answer, rows: &Rows) -> Result<Vec<u8>, OutOfMemory>
-    requires { length rows.now < 2 ^ 32 }
-    ensures { IfOk result (λ text. text.items ≡ statement_text (statement_with version answer rows.now)) }
+fn add_decimal(text: &mut Vec<u8>, number: u32) -> Result<(), OutOfMemory>
+    ensures { OnOk result (text.new.items ≡ text.old.items ++ decimal number) }
 {
-    let mut writer = WriterBuilder::new().from_writer(Vec::new(alloc));
-    let rows = rows.as_slice();
-    write_numbers(&mut writer, b"cwcert", version, rows.len() as u32)?;
-    write_answer_record(&mut writer, answer)?;
-    write_rows(alloc, &mut writer, rows)?;
-    writer.into_inner().map_err(|_refused| OutOfMemory)
+    text.extend_from_slice(Buffer::new().format(number).as_bytes())?;
+    Ok(())
 }

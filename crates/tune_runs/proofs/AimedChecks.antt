@@ -88,8 +88,9 @@ module _ (p : Problem) (laws : IsProblem p) (start : p.start < p.count) (demand 
       by_floor None e =
           let below : AllBelow p aim.floor = subst (IsBestFrom p aim.floor) none s.best in
           let zero : aim.floor ≡ 0 = ap (λ (o : Option ℕ). unwrap_or o 0) e in
-          let count : candidates_of p ≡ 0 = no_candidates p (none_best p (subst (AllBelow p) zero below)) in
-          absurd (omega (arith, some, s.count, count))
+          let none_of : candidates_of p ≡ 0 = no_candidates p (none_best p (subst (AllBelow p) zero below)) in
+          let count : f.candidates ≡ candidates_of p = s.work.count in
+          absurd (omega (arith, some, count, none_of))
 
   -- ---- the demand is met
 

@@ -52,7 +52,8 @@ module _ (t : Texts) (method : Method) (i : InputsView) (f : Findings) (s : IsSe
       by_first (Some best) is = (best, is)
       by_first None is =
           let zero_of : candidates_of (problem_of i) ≡ 0 = no_candidates (problem_of i) (none_best (problem_of i) (subst (IsBestFrom (problem_of i) 0) is s.best)) in
-          absurd (omega (arith, some, s.count, zero_of))
+          let count : f.candidates ≡ candidates_of (problem_of i) = s.work.count in
+          absurd (omega (arith, some, count, zero_of))
 
   -- the report is that of what is found
   pub same_report : (best : Best) (values : List ℤ) → first_of f.ranking ≡ Some best → slice_get (settings_of i) best.vector ≡ Some values

@@ -74,11 +74,11 @@ module _ (p : Problem) (laws : IsProblem p) (few : p.fights ≤ MOST_FIGHTS) (mo
 
     pub writable : IsCert (cert_of f)
     writable =
-        let few_rows : length f.rows ≤ MOST_SETTINGS = s.few in
+        let few_rows : length f.rows ≤ MOST_SETTINGS = s.work.few in
         let inside : f.best < p.count = s.valid.best_inside in
         let total : total_of p s.total_is.0 ≡ f.total = s.total_is.2 in
         record {
-          version = is_version p f.version s.version;
+          version = is_version p f.version s.work.version;
           count = omega arith;
           best = omega (arith, all_rows);
           total = omega (arith, most, total_few p laws s.total_is.0);
@@ -93,19 +93,19 @@ module _ (p : Problem) (laws : IsProblem p) (few : p.fights ≤ MOST_FIGHTS) (mo
 
     by_best : (o : Option Best) → IsCertified p aim.floor f.version f.rows o → IsBestFrom p aim.floor o → IsStatement (said o)
     by_best None h best =
-        let few_rows : length f.rows ≤ MOST_SETTINGS = s.few in
+        let few_rows : length f.rows ≤ MOST_SETTINGS = s.work.few in
         record {
-          version = is_version p f.version s.version;
+          version = is_version p f.version s.work.version;
           count = omega arith;
           answer = fits;
           rows = rows_of f.rows (λ v row at. row_below (omega (arith, few_rows, h.rows_are)) aim.floor f.rows v row (h.right v row at));
           few = omega arith;
         }
     by_best (Some b) h best =
-        let few_rows : length f.rows ≤ MOST_SETTINGS = s.few in
+        let few_rows : length f.rows ≤ MOST_SETTINGS = s.work.few in
         let total : total_of p best.1.0 ≡ b.total = best.1.2 in
         record {
-          version = is_version p f.version s.version;
+          version = is_version p f.version s.work.version;
           count = omega arith;
           answer = (omega (arith, few_rows, h.rows_are, h.best_inside), omega (arith, total, most, total_few p laws best.1.0));
           rows = rows_of f.rows (λ v row at. row_of (omega (arith, few_rows, h.rows_are)) (cert_with f.version (length f.rows) f.rows b) v row (h.right v row at));

@@ -3,11 +3,11 @@ use Rattle.std.proofs.Common.{◌≡◌, ℕ, ◌<◌, ◌≤◌, arith, true, f
 use Rattle.std.proofs.lemmas.Bool.Decides.{nat_tests}
 use Rattle.tune_problem.specs.Optimum.{beats}
 use Rattle.tune_problem.proofs.Certificates.{Trails, not_beats, same_number, trails}
-use Rattle.tune_search.specs.Visits.{place}
+use Rattle.tune_search.specs.Visits.{visits_before}
 use Rattle.tune_search.specs.Sharing.{copies, leads}
 use Rattle.tune_problem.specs.declared.watcher.Best.{Best}
 use Rattle.tune_search.proofs.Leads.{not_copied}
-use Rattle.tune_search.proofs.Places.{lesser}
+use Rattle.tune_search.proofs.VisitOrder.{lesser}
 
 pub by_start : (s u v : ℕ) (l : Option Best) → copies s u v l ≡ true → u ≡ s
 by_start s u v None h = absurd (grind (arith, nat_tests))
@@ -27,7 +27,7 @@ pub by_total : (s u v : ℕ) (l : Best) → copies s u v (Some l) ≡ true → b
 by_total s u v l h = grind (arith, nat_tests)
 
 -- where v does not copy, its total does not beat the lead, as that of u does not
-pub shares_trails : (s u v t z c : ℕ) → place s u < place s v → place s z < place s v → copies s u v (Some (record { total = t; vector = z })) ≡ false → beats c u t z ≡ false → beats c v t z ≡ false
+pub shares_trails : (s u v t z c : ℕ) → visits_before s u < visits_before s v → visits_before s z < visits_before s v → copies s u v (Some (record { total = t; vector = z })) ≡ false → beats c u t z ≡ false → beats c v t z ≡ false
 shares_trails s u v t z c bu bz apart no_more =
     let behind : Trails c u t z = trails c u t z no_more in
     not_beats c v t z (record {

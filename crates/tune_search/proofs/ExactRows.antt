@@ -16,14 +16,14 @@ use Rattle.tune_problem.specs.declared.watcher.Best.{Best}
 use Rattle.tune_problem.proofs.CapRows.{row_total, whole}
 use Rattle.tune_problem.proofs.Certificates.{some_is}
 use Rattle.tune_problem.proofs.ListedRanks.{listed_is_cap, up_to}
-use Rattle.tune_search.specs.Visits.{IsFought, place, ranking_after}
+use Rattle.tune_search.specs.Visits.{IsFought, visits_before, ranking_after}
 use Rattle.tune_search.specs.Sharing.{HasRowOf}
 use Rattle.tune_search.specs.Findings.{IsCertified, IsFull, IsSearchFrom}
 use Rattle.tune_search.specs.declared.findings.Findings.{Findings}
 use Rattle.tune_search.specs.declared.method.Method.{Method}
 use Rattle.tune_search.proofs.FoughtCaps.{fought_row, later_cases, own_cases}
 use Rattle.tune_search.proofs.OneRanking.{one_ranking}
-use Rattle.tune_search.proofs.Places.{place_below}
+use Rattle.tune_search.proofs.VisitOrder.{before_below}
 use Rattle.tune_search.proofs.Rankings.{of_all, ranking_is}
 use Rattle.tune_search.proofs.ShownRanks.{ShownBelow, listed_ranks}
 
@@ -72,21 +72,21 @@ module _ (p : Problem) (laws : IsProblem p) (aim : Aim) (is_aim : IsAim aim) (st
     u : ℕ
     fought : IsFought p aim method f.rows u w
     at : listed_at f.rows v ≡ Some fought.row
-    before : (u ≡ v) ⊎ (place p.start u < place p.start v)
+    before : (u ≡ v) ⊎ (visits_before p.start u < visits_before p.start v)
 
-  by_copy : (u v : ℕ) (w : WarriorView) (b : Bool) (h : IsFought p aim method f.rows u w) → place p.start u < place p.start v → HasRowOf f.rows f.copied u v b → Lists v w
+  by_copy : (u v : ℕ) (w : WarriorView) (b : Bool) (h : IsFought p aim method f.rows u w) → visits_before p.start u < visits_before p.start v → HasRowOf f.rows f.copied u v b → Lists v w
   by_copy u v w true h before row = record { u = u; fought = h; at = ap (option_and_then (listed_for f.rows)) (row.1 ∙ h.at); before = inr before }
   by_copy u v w false h before row =
       record { u = u; fought = h; at = ap (option_and_then (listed_for f.rows)) row.1 ∙ ap (option_and_then fights_of) h.at; before = inr before }
 
   lists : (v : ℕ) (w : WarriorView) → v < p.count → p.warrior v ≡ Some w → Lists v w
-  lists v w l is = elim (s.shared v w l is).row [
+  lists v w l is = elim (s.work.shared v w l is).row [
     | inl h ↦ record { u = v; fought = h.2; at = ap (option_and_then (listed_for f.rows)) h.2.at; before = inl refl }
     | inr h ↦ by_copy h.0 v w _ h.2.fought h.2.before h.2.row
   ]
 
   unlisted : (v : ℕ) → v < p.count → p.warrior v ≡ None → listed_at f.rows v ≡ None
-  unlisted v l none = ap (option_and_then (listed_for f.rows)) (s.refused v l none)
+  unlisted v l none = ap (option_and_then (listed_for f.rows)) (s.work.refused v l none)
 
   row_of : (v : ℕ) (w : WarriorView) (h : Lists v w) → IsCapRow p w 0 h.fought.row
   row_of v w h = fought_row p laws start aim is_aim method f.rows h.u w h.fought
@@ -159,7 +159,7 @@ module _ (p : Problem) (laws : IsProblem p) (aim : Aim) (is_aim : IsAim aim) (st
       (length h.fought.row ≡ p.fights) ⊎ (contends aim (cap_of p w (listed_indices h.fought.row)) v (ranking_after p aim p.count) ≡ false)
   cap_cases v w h =
       let inside : h.u < p.count = subst (λ (n : ℕ). h.u < n) rows_are (slice_get_within f.rows h.u _ h.fought.at) in
-      let visited : place p.start h.u < p.count = place_below p.start p.count h.u start inside in
+      let early : visits_before p.start h.u < p.count = before_below p.start p.count h.u start inside in
       elim h.before [
         | inl same ↦ elim (own_cases p laws start aim is_aim method f.rows h.u w h.fought p.count (omega arith) (omega arith)) [
           | inl all ↦ inl all.1

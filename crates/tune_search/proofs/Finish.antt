@@ -15,10 +15,10 @@ use Rattle.tune_problem.specs.declared.cert.Row.{Row}
 use Rattle.tune_problem.specs.declared.cert.Row.TheVariants.{Cap, Refused, Same}
 use Rattle.tune_problem.proofs.Certificates.{Trails, same_number, some_is, trails}
 use Rattle.tune_problem.proofs.CapRows.{row_total}
-use Rattle.tune_search.specs.Visits.{IsFought, place, ranking_after}
+use Rattle.tune_search.specs.Visits.{IsFought, visits_before, ranking_after}
 use Rattle.tune_search.specs.Ranking.{IsRankingBy}
 use Rattle.tune_search.specs.Sharing.{HasRowOf, IsExplained, IsVisited}
-use Rattle.tune_search.specs.Found.{IsSearch, is_cap, is_copied}
+use Rattle.tune_search.specs.Found.{IsSearch, IsWorked, is_cap, is_copied}
 use Rattle.tune_problem.specs.Below.{IsRowBelow, AllBelow, cert_with}
 use Rattle.tune_search.specs.Findings.{IsBestFrom, IsCertified, IsSearchFrom, found_of}
 use Rattle.tune_search.specs.declared.findings.Findings.{Findings}
@@ -27,7 +27,7 @@ use Rattle.tune_problem.specs.declared.watcher.Best.{Best}
 use Rattle.tune_search.proofs.Rankings.{ranking_is, visited_behind, of_all}
 use Rattle.tune_search.proofs.FoughtCaps.{fought_row, own_cases, start_cases}
 use Rattle.tune_search.proofs.Cached.{none_is}
-use Rattle.tune_search.proofs.Places.{lesser, place_below}
+use Rattle.tune_search.proofs.VisitOrder.{lesser, before_below}
 use Rattle.tune_problem.specs.declared.aim.Aim.{Aim}
 use Rattle.tune_search.specs.declared.method.Method.{Method}
 use Rattle.tune_problem.specs.Ranking.{contends, IsAim, best_alone, first_of}
@@ -65,24 +65,24 @@ module _ (p : Problem) (laws : IsProblem p) (start : p.start < p.count) (aim : A
 
   -- each candidate is beaten, or it leads
   behind : (v : ℕ) (x : WarriorView) → v < p.count → p.warrior v ≡ Some x → Beaten aim (total_of p x) v lead
-  behind v x l is_v = visited_behind p aim is_aim p.count ranking is_ranking v x l (place_below p.start p.count v start l) is_v
+  behind v x l is_v = visited_behind p aim is_aim p.count ranking is_ranking v x l (before_below p.start p.count v start l) is_v
 
   module _ (method : Method) (u : ℕ) (x : WarriorView) (inside : u < p.count) (is_u : p.warrior u ≡ Some x) (h : IsFought p aim method rows u x) where
     abbrev cap : ℕ
     cap = cap_of p x (listed_indices h.row)
 
-    u_placed : place p.start u ≤ p.count
-    u_placed = let l : place p.start u < p.count = place_below p.start p.count u start inside in omega arith
+    u_within : visits_before p.start u ≤ p.count
+    u_within = let l : visits_before p.start u < p.count = before_below p.start p.count u start inside in omega arith
 
     -- its cap is beaten
     pub fought_behind : Beaten aim cap u lead
-    fought_behind = elim (own_cases p laws start aim is_aim method rows u x h p.count u_placed (omega arith)) [
+    fought_behind = elim (own_cases p laws start aim is_aim method rows u x h p.count u_within (omega arith)) [
       | inl a ↦ subst (λ (n : ℕ). Beaten aim n u lead) (sym a.0) (behind u x inside is_u)
       | inr n ↦ behind_first aim is_aim cap u ranking is_ranking.order (all_map ranking (λ x r. r.reaches) is_ranking.members) (ap (contends aim cap u) is ∙ n)
     ]
 
     -- and so for each vector with the same warrior that is visited later
-    pub shared_behind : (v : ℕ) → v < p.count → p.warrior v ≡ Some x → place p.start u < place p.start v → Beaten aim cap v lead
+    pub shared_behind : (v : ℕ) → v < p.count → p.warrior v ≡ Some x → visits_before p.start u < visits_before p.start v → Beaten aim cap v lead
     shared_behind v l is_v before = elim (same_number u p.start) [
       | inl first ↦ subst (λ (n : ℕ). Beaten aim n v lead) (sym (start_cases p laws start aim is_aim method rows u x h first).0) (behind v x l is_v)
       | inr other ↦ beaten_later aim cap u v lead (lesser p.start u v before (λ e. absurd (other e))) fought_behind
@@ -91,7 +91,7 @@ module _ (p : Problem) (laws : IsProblem p) (start : p.start < p.count) (aim : A
   module _ (method : Method) (copied : Option ℕ) (rows_are : length rows ≡ p.count)
       (told : (v : ℕ) → v < p.count → IsExplained p aim method rows copied v (p.warrior v)) where
     shared_shown : (u v : ℕ) (x : WarriorView) (b : Bool) (row : Row) → v < p.count → p.warrior v ≡ Some x → p.warrior u ≡ Some x → u < p.count →
-        (f : IsFought p aim method rows u x) → place p.start u < place p.start v → HasRowOf rows copied u v b → slice_get rows v ≡ Some row → Shown p aim rows lead v row
+        (f : IsFought p aim method rows u x) → visits_before p.start u < visits_before p.start v → HasRowOf rows copied u v b → slice_get rows v ≡ Some row → Shown p aim rows lead v row
     shared_shown u v x true row l is_v is_u inside f before h at =
         let same : row ≡ Cap f.row = some_is _ _ (sym at ∙ h.1 ∙ f.at) in
         subst (λ (r : Row). Shown p aim rows lead v r) (sym same)
@@ -101,7 +101,7 @@ module _ (p : Problem) (laws : IsProblem p) (start : p.start < p.count) (aim : A
         subst (λ (r : Row). Shown p aim rows lead v r) (sym same) (
           x,
           f.row,
-          (λ e. let even : place p.start u ≡ place p.start v = ap (place p.start) e in omega arith),
+          (λ e. let even : visits_before p.start u ≡ visits_before p.start v = ap (visits_before p.start) e in omega arith),
           inside,
           is_v,
           is_u,
@@ -130,12 +130,12 @@ module _ (p : Problem) (laws : IsProblem p) (start : p.start < p.count) (aim : A
 
 -- the optimum
 best_from : (p : Problem) → p.start < p.count → (aim : Aim) → IsAim aim → (ranking : List Best) → IsRankingBy p aim p.count ranking → IsBestFrom p aim.floor (first_of ranking)
-best_from p start aim is_aim [] h = λ v x l is. visited_behind p aim is_aim p.count [] h v x l (place_below p.start p.count v start l) is
+best_from p start aim is_aim [] h = λ v x l is. visited_behind p aim is_aim p.count [] h v x l (before_below p.start p.count v start l) is
 best_from p start aim is_aim (lead ∷ xs) h =
     let it = h.members.0 in
     let made : total_of p it.warrior ≡ lead.total = it.scores in
     let after : (v : ℕ) (x : WarriorView) → v < p.count → p.warrior v ≡ Some x → Trails (total_of p x) v lead.total lead.vector =
-    (λ v x l is. trails _ _ _ _ (visited_behind p aim is_aim p.count (lead ∷ xs) h v x l (place_below p.start p.count v start l) is)) in (
+    (λ v x l is. trails _ _ _ _ (visited_behind p aim is_aim p.count (lead ∷ xs) h v x l (before_below p.start p.count v start l) is)) in (
       record {
         warrior = it.warrior;
         inside = it.inside;
@@ -242,8 +242,8 @@ starts p rules aim method = record {
   ranking_is = refl;
   whole = tt;
   full = tt;
-  told = λ v l before. absurd (omega arith);
-  left = λ v l later. blank_at p.count v l;
+  explained = λ v l before. absurd (omega arith);
+  unvisited = λ v l later. blank_at p.count v l;
   order_is = refl;
   recent = refl;
   all_known = tt;
@@ -268,7 +268,7 @@ own_row (Some u) v b h e = let same : u ≡ v = cc in grind (arith, nat_tests, h
 module _ (p : Problem) (laws : IsProblem p) (start : p.start < p.count) (rules : RulesView) (aim : Aim) (is_aim : IsAim aim) (method : Method)
     (g : Progress) (s : IsUnderWay p rules aim method p.count g) where
   all_told : (v : ℕ) → v < p.count → IsExplained p aim method g.rows g.copied v (p.warrior v)
-  all_told v l = s.told v l (place_below p.start p.count v start l)
+  all_told v l = s.explained v l (before_below p.start p.count v start l)
 
   told_refused : (v : ℕ) (o : Option WarriorView) → o ≡ None → IsExplained p aim method g.rows g.copied v o → slice_get g.rows v ≡ Some Refused
   told_refused v None e h = h.1
@@ -302,18 +302,12 @@ module _ (p : Problem) (laws : IsProblem p) (start : p.start < p.count) (rules :
       let at : 0 + v ≡ v = omega arith in
       none_is (p.warrior v) (ap (λ u. is_some (p.warrior u)) (sym at) ∙ none_passes (λ u. is_some (p.warrior u)) 0 p.count v none l)
 
-  -- what was found is what a search promises
-  pub finds : (version : ℕ) → IsOwnVersion p version → p.count ≤ MOST_SETTINGS →
-      IsSearchFrom p aim method (record { version = version; ranking = g.ranking; rows = g.rows; fights = g.fights; candidates = g.candidates; copied = g.copied })
-  finds version own few =
+  -- the rows and the counts are those of the method
+  worked : (version : ℕ) → IsOwnVersion p version → p.count ≤ MOST_SETTINGS →
+      IsWorked p aim method (record { version = version; rows = g.rows; copied = g.copied; fights = g.fights; candidates = g.candidates })
+  worked version own few =
       let all : length g.rows ≡ p.count = s.rows_are in
-      let right_ranking : IsRankingBy p aim p.count g.ranking = is_ranking p laws start aim is_aim g.rows g.ranking s.ranking_is in
       record {
-        ranking = of_all p aim is_aim start g.ranking right_ranking;
-        full = s.full;
-        best = best_from p start aim is_aim g.ranking right_ranking;
-        certified = certified p laws aim version (own_version p version own) g.rows s.rows_are g.ranking right_ranking
-            (shown p laws start aim is_aim g.rows g.ranking s.ranking_is method g.copied s.rows_are all_told) s.whole;
         version = own;
         count = s.count ∙ filled_candidates p aim method g.rows g.copied s.rows_are all_told;
         few = omega (arith, all, few);
@@ -325,7 +319,21 @@ module _ (p : Problem) (laws : IsProblem p) (start : p.start < p.count) (rules :
         copied = λ v is.
             let i : v < p.count = inside_copied v g.copied is s.copied_is in
             (i, told_copied v (p.warrior v) is (all_told v i));
-        work = s.work;
+        fights = s.work;
+      }
+
+  -- what was found is what a search promises
+  pub finds : (version : ℕ) → IsOwnVersion p version → p.count ≤ MOST_SETTINGS →
+      IsSearchFrom p aim method (record { version = version; ranking = g.ranking; rows = g.rows; fights = g.fights; candidates = g.candidates; copied = g.copied })
+  finds version own few =
+      let right_ranking : IsRankingBy p aim p.count g.ranking = is_ranking p laws start aim is_aim g.rows g.ranking s.ranking_is in
+      record {
+        ranking = of_all p aim is_aim start g.ranking right_ranking;
+        full = s.full;
+        best = best_from p start aim is_aim g.ranking right_ranking;
+        certified = certified p laws aim version (own_version p version own) g.rows s.rows_are g.ranking right_ranking
+            (shown p laws start aim is_aim g.rows g.ranking s.ranking_is method g.copied s.rows_are all_told) s.whole;
+        work = worked version own few;
       }
 
 -- without a floor
@@ -336,13 +344,6 @@ as_found p method f best is s =
       optimum = found.0;
       total_is = found.1;
       valid = subst (IsCertified p 0 f.version f.rows) is s.certified;
-      version = s.version;
-      count = s.count;
-      few = s.few;
-      refused = s.refused;
-      fought = s.fought;
-      shared = s.shared;
-      copied = s.copied;
       work = s.work;
     }
 

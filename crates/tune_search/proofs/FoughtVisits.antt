@@ -16,8 +16,8 @@ use Rattle.tune_problem.specs.declared.cert.Row.{Row}
 use Rattle.tune_problem.specs.declared.cert.Row.TheVariants.{Cap}
 use Rattle.tune_search.specs.Plays.{played}
 use Rattle.tune_search.specs.Order.{aim_at, by_points, enough, fight_order, order_after}
-use Rattle.tune_search.specs.Visits.{IsFought, IsListed, place, ranking_after, visit}
-use Rattle.tune_search.specs.Recent.{IsRecalled, IsRecent, NoneHas}
+use Rattle.tune_search.specs.Visits.{IsFought, IsListed, visits_before, ranking_after, visited}
+use Rattle.tune_search.specs.Recent.{ChangesRecent, IsRecent, NoneHas}
 use Rattle.tune_search.specs.Sharing.{IsExplained, IsVisited, leads}
 use Rattle.tune_search.specs.Found.{copied_fights}
 use Rattle.tune_search.specs.Findings.{IsFull}
@@ -44,7 +44,7 @@ take_rec P (suc n) [] h = tt
 take_rec P (suc n) (x ∷ xs) h = (h.0, take_rec P n xs h.1)
 
 module _ (p : Problem) (laws : IsProblem p) (start : p.start < p.count) (rules : RulesView) (aim : Aim) (is_aim : IsAim aim) (method : Method)
-    (k v : ℕ) (at : v ≡ visit p.start k) (inside : v < p.count) (g : Progress) (s : IsUnderWay p rules aim method k g) where
+    (k v : ℕ) (at : v ≡ visited p.start k) (inside : v < p.count) (g : Progress) (s : IsUnderWay p rules aim method k g) where
   abbrev now : IsVisit p aim method k v g
   now = visit_facts p laws start rules aim is_aim method k v at inside g s
 
@@ -115,7 +115,7 @@ module _ (p : Problem) (laws : IsProblem p) (start : p.start < p.count) (rules :
     copied_then : (run : Bool) (o : Option ℕ) → IsCopied p k (first_of g.ranking) o → IsCopied p (suc k) (first_of (ranking_by aim c' v g.ranking run)) o
     copied_then run None h = tt
     copied_then true (Some u) h =
-        let before : place p.start u < k = h.1 in (
+        let before : visits_before p.start u < k = h.1 in (
           h.0,
           omega arith,
           elim (first_next aim is_aim (record { total = c'; vector = v }) g.ranking) [
@@ -123,11 +123,11 @@ module _ (p : Problem) (laws : IsProblem p) (start : p.start < p.count) (rules :
             | inr a ↦ ap (leads p.start) a.0 ∙ h.2
           ],
         )
-    copied_then false (Some u) h = let before : place p.start u < k = h.1 in (h.0, omega arith, h.2)
+    copied_then false (Some u) h = let before : visits_before p.start u < k = h.1 in (h.0, omega arith, h.2)
 
     order_then : (m : ℕ) → k ≡ m → (if m == 0 then by_points made else g.order) ≡ order_after p false (p.warrior p.start)
     order_then zero e =
-        let start_is : v ≡ p.start = at ∙ ap (visit p.start) e in
+        let start_is : v ≡ p.start = at ∙ ap (visited p.start) e in
         let all : enough p method (aim_at p aim v) w g.order v g.ranking ≡ p.fights = all_fought p method (aim_at p aim v) w g.order v g.ranking
         (ap (contends (aim_at p aim v) (cap_of p w ks) v) now.ranking_here ∙ start_contends p aim (cap_of p w ks) v start_is) in
         let numbers : g.order ≡ all_fights p = s.order_is ∙ ap (λ m. order_after p (m == 0) (p.warrior p.start)) e in
@@ -145,15 +145,15 @@ module _ (p : Problem) (laws : IsProblem p) (start : p.start < p.count) (rules :
       none_has : NoneHas p w (map (λ e. e.1.vector) g.known)
       none_has = none_found p rules hold aim method g.rows k w is_w fits g.known s.all_known (ap (λ t. lookup (same_text t) g.known) (sym text_is) ∙ absent)
 
-      visited : IsVisited p aim method rows' g.copied v w
-      visited = record { recent = map (λ e. e.1.vector) g.known; is_recent = now.recent_here; row = inl (none_has, now.fresh, fought) }
+      row_made : IsVisited p aim method rows' g.copied v w
+      row_made = record { recent = map (λ e. e.1.vector) g.known; is_recent = now.recent_here; row = inl (none_has, now.fresh, fought) }
 
       recent_then : IsRecent p (capacity_of method) (suc k) (map (λ e. e.1.vector) (take (capacity_of method) ((text, mine) ∷ g.known)))
       recent_then = (
         map (λ e. e.1.vector) g.known,
         s.recent,
-        subst (λ (u : ℕ). IsRecalled p (capacity_of method) u (p.warrior u) (map (λ e. e.1.vector) g.known) (map (λ e. e.1.vector) (take (capacity_of method) ((text, mine) ∷ g.known)))) at
-            (subst (λ (o : Option WarriorView). IsRecalled p (capacity_of method) v o (map (λ e. e.1.vector) g.known) (map (λ e. e.1.vector) (take (capacity_of method) ((text, mine) ∷ g.known)))) (sym is)
+        subst (λ (u : ℕ). ChangesRecent p (capacity_of method) u (p.warrior u) (map (λ e. e.1.vector) g.known) (map (λ e. e.1.vector) (take (capacity_of method) ((text, mine) ∷ g.known)))) at
+            (subst (λ (o : Option WarriorView). ChangesRecent p (capacity_of method) v o (map (λ e. e.1.vector) g.known) (map (λ e. e.1.vector) (take (capacity_of method) ((text, mine) ∷ g.known)))) (sym is)
             (inr (none_has, sym (take-map (λ e. e.1.vector) (capacity_of method) ((text, mine) ∷ g.known))))),
       )
 
@@ -191,9 +191,9 @@ module _ (p : Problem) (laws : IsProblem p) (start : p.start < p.count) (rules :
         ranking_is = ranking_then;
         whole = whole_then _ refl;
         full = full_made _ refl;
-        told = told_more p rules aim method k v at g.rows (Cap row) now.blank g.copied g.copied (keeps_same p rules aim method k v at g.rows (Cap row) now.blank g.copied) s.told
-            (subst (λ (o : Option WarriorView). IsExplained p aim method rows' g.copied v o) (sym is) visited);
-        left = left_more p rules aim method k v at g.rows (Cap row) now.blank s.left;
+        explained = told_more p rules aim method k v at g.rows (Cap row) now.blank g.copied g.copied (keeps_same p rules aim method k v at g.rows (Cap row) now.blank g.copied) s.explained
+            (subst (λ (o : Option WarriorView). IsExplained p aim method rows' g.copied v o) (sym is) row_made);
+        unvisited = left_more p rules aim method k v at g.rows (Cap row) now.blank s.unvisited;
         order_is = order_then k refl ∙ ap (λ b. order_after p b (p.warrior p.start)) (sym (not_zero k));
         recent = recent_then;
         all_known = known_then;

@@ -5,10 +5,10 @@ use Rattle.rc_instr.specs.Warrior.{WarriorView}
 use Rattle.tune_problem.specs.Problem.{Problem}
 use Rattle.tune_problem.specs.Optimum.{beats, cap_of}
 use Rattle.tune_search.specs.Order.{aim_at, drops, enough}
-use Rattle.tune_search.specs.Visits.{place, ranking_after, ranking_at, visit}
+use Rattle.tune_search.specs.Visits.{visits_before, ranking_after, ranking_before, visited}
 use Rattle.tune_problem.specs.declared.watcher.Best.{Best}
 use Rattle.tune_search.proofs.Enough.{least_cases}
-use Rattle.tune_search.proofs.Places.{is_visit, place_visit, start_place}
+use Rattle.tune_search.proofs.VisitOrder.{is_visited, before_visited, before_start}
 use Rattle.tune_problem.specs.declared.aim.Aim.{Aim}
 use Rattle.tune_search.specs.declared.method.Method.{Method}
 use Rattle.tune_search.specs.declared.method.Method.TheVariants.{Dropping, PlayingAll}
@@ -33,14 +33,14 @@ as_asked p aim c v ranking h = elim (short_of (aim_at p aim v) c v ranking h) [
 ]
 
 -- the start setting always contends at its visit
-pub first_ranking : (p : Problem) (aim : Aim) (v : ℕ) → v ≡ p.start → ranking_at p aim v ≡ []
+pub first_ranking : (p : Problem) (aim : Aim) (v : ℕ) → v ≡ p.start → ranking_before p aim v ≡ []
 unfolding ranking_after
-first_ranking p aim v e = ap (ranking_after p aim) (ap (place p.start) e ∙ start_place p.start)
+first_ranking p aim v e = ap (ranking_after p aim) (ap (visits_before p.start) e ∙ before_start p.start)
 
-pub start_contends : (p : Problem) (aim : Aim) (c v : ℕ) → v ≡ p.start → contends (aim_at p aim v) c v (ranking_at p aim v) ≡ true
+pub start_contends : (p : Problem) (aim : Aim) (c v : ℕ) → v ≡ p.start → contends (aim_at p aim v) c v (ranking_before p aim v) ≡ true
 start_contends p aim c v e =
     let none : (aim_at p aim v).floor ≡ 0 = start_floor p aim v e in
-    contending (aim_at p aim v) c v (ranking_at p aim v) (omega (arith, none)) (ap (λ r. beats_lead c v (last_kept (aim_at p aim v) r)) (first_ranking p aim v e))
+    contending (aim_at p aim v) c v (ranking_before p aim v) (omega (arith, none)) (ap (λ r. beats_lead c v (last_kept (aim_at p aim v) r)) (first_ranking p aim v e))
 
 -- what is dropped does not contend
 dropped : (method : Method) (aim : Aim) (c v : ℕ) (ranking : List Best) → drops method aim c v ranking ≡ true → contends aim c v ranking ≡ false
@@ -69,13 +69,13 @@ pub all_fought : (p : Problem) (method : Method) (aim : Aim) (w : WarriorView) (
     contends aim (cap_of p w (take (enough p method aim w order v ranking) order)) v ranking ≡ true → enough p method aim w order v ranking ≡ p.fights
 all_fought p method aim w order v ranking h = elim (enough_cases p method aim w order v ranking) [ inl e ↦ e | inr n ↦ absurd (cc) ]
 
-module _ (p : Problem) (k v : ℕ) (at : v ≡ visit p.start k) where
-  here : place p.start v ≡ k
-  here = ap (place p.start) at ∙ place_visit p.start k
+module _ (p : Problem) (k v : ℕ) (at : v ≡ visited p.start k) where
+  here : visits_before p.start v ≡ k
+  here = ap (visits_before p.start) at ∙ before_visited p.start k
 
   -- those visited by then are those before, and v
-  pub by_then : (u : ℕ) → place p.start u < suc k → (place p.start u < k) ⊎ (u ≡ v)
-  by_then u h = elim (leb_tells k (place p.start u)) [
-    | inl q ↦ let e : place p.start u ≡ k = omega arith in inr (is_visit p.start u k e ∙ sym at)
+  pub by_then : (u : ℕ) → visits_before p.start u < suc k → (visits_before p.start u < k) ⊎ (u ≡ v)
+  by_then u h = elim (leb_tells k (visits_before p.start u)) [
+    | inl q ↦ let e : visits_before p.start u ≡ k = omega arith in inr (is_visited p.start u k e ∙ sym at)
     | inr q ↦ inl (omega arith)
   ]

@@ -3,7 +3,7 @@ pub mod Listed
 pub mod Caps
 pub mod Enough
 pub mod Orders
-pub mod Places
+pub mod VisitOrder
 pub mod Slots
 pub mod Totals
 pub mod ListedFights

@@ -12,8 +12,8 @@ use Rattle.tune_problem.specs.declared.cert.Row.TheVariants.{Cap}
 use Rattle.tune_problem.proofs.Certificates.{optimum_one, some_is, total_one}
 use Rattle.tune_search.specs.Plays.{played}
 use Rattle.tune_search.specs.Order.{aim_at, enough, fight_order}
-use Rattle.tune_search.specs.Visits.{place, ranking_at, IsFought}
-use Rattle.tune_search.specs.Recent.{Has, NoneHas}
+use Rattle.tune_search.specs.Visits.{visits_before, ranking_before, IsFought}
+use Rattle.tune_search.specs.Recent.{OneHas, NoneHas}
 use Rattle.tune_search.specs.Method.{capacity_of}
 use Rattle.tune_search.specs.Sharing.{HasRowOf, Shares, copies}
 use Rattle.tune_search.specs.Found.{IsSearch, copied_fights}
@@ -107,7 +107,7 @@ module _ (p : Problem) (method : Method) (f g : Found) (s : IsSearch p method f)
   fought_same : (v : ℕ) (w : WarriorView) → IsFought p best_alone method f.rows v w → IsFought p best_alone method g.rows v w → slice_get f.rows v ≡ slice_get g.rows v
   fought_same v w a b =
       let order = fight_order p v in
-      let fights : IsPermutation (played p w (take (enough p method (aim_at p best_alone v) w order v (ranking_at p best_alone v)) order)) a.row = a.listed.same in
+      let fights : IsPermutation (played p w (take (enough p method (aim_at p best_alone v) w order v (ranking_before p best_alone v)) order)) a.row = a.listed.same in
       let moved : IsPermutation a.row b.row = IsPermutation-trans _ _ _ (IsPermutation-sym _ _ fights) b.listed.same in
       let x = s.valid.right v (Cap a.row) a.at in
       let y = t.valid.right v (Cap b.row) b.at in
@@ -127,30 +127,30 @@ module _ (p : Problem) (method : Method) (f g : Found) (s : IsSearch p method f)
 
   shared_same : (u v : ℕ) (w : WarriorView) → Shares p best_alone method f.rows f.copied u v w → Shares p best_alone method g.rows g.copied u v w → Alike v
   shared_same u v w a b =
-      row_same u v (copies p.start u v (first_of (ranking_at p best_alone v))) (fought_same u w a.fought b.fought) a.row b.row
+      row_same u v (copies p.start u v (first_of (ranking_before p best_alone v))) (fought_same u w a.fought b.fought) a.row b.row
 
-  never_both : (w : WarriorView) (u : ℕ) (us : List ℕ) → Has p w u us → NoneHas p w us → ⊥
+  never_both : (w : WarriorView) (u : ℕ) (us : List ℕ) → OneHas p w u us → NoneHas p w us → ⊥
   never_both w u us h none = none_of p w u h.front h.back (subst (NoneHas p w) h.split none) h.alike
 
   alike_by : (v : ℕ) (o : Option WarriorView) → v < p.count → p.warrior v ≡ o → Alike v
   alike_by v None l is = record {
-    row = s.refused v l is ∙ sym (t.refused v l is);
-    there = λ e. absurd ((s.copied v e).1 is);
-    back = λ e. absurd ((t.copied v e).1 is);
+    row = s.work.refused v l is ∙ sym (t.work.refused v l is);
+    there = λ e. absurd ((s.work.copied v e).1 is);
+    back = λ e. absurd ((t.work.copied v e).1 is);
   }
   alike_by v (Some w) l is =
-      let a = s.shared v w l is in
-      let b = t.shared v w l is in
-      let same : a.recent ≡ b.recent = recent_one p (capacity_of method) (place p.start v) a.recent b.recent a.is_recent b.is_recent in
+      let a = s.work.shared v w l is in
+      let b = t.work.shared v w l is in
+      let same : a.recent ≡ b.recent = recent_one p (capacity_of method) (visits_before p.start v) a.recent b.recent a.is_recent b.is_recent in
       elim a.row [
         | inl x ↦ elim b.row [
           | inl y ↦ record { row = fought_same v w x.2 y.2; there = λ e. absurd (x.1 e); back = λ e. absurd (y.1 e) }
-          | inr y ↦ absurd (never_both w y.0 a.recent (subst (Has p w y.0) (sym same) y.1) x.0)
+          | inr y ↦ absurd (never_both w y.0 a.recent (subst (OneHas p w y.0) (sym same) y.1) x.0)
         ]
         | inr x ↦ elim b.row [
-          | inl y ↦ absurd (never_both w x.0 b.recent (subst (Has p w x.0) same x.1) y.0)
+          | inl y ↦ absurd (never_both w x.0 b.recent (subst (OneHas p w x.0) same x.1) y.0)
           | inr y ↦
-              let apart : Apart p (x.1.front ++ x.0 ∷ x.1.back) = subst (Apart p) x.1.split (apart_recent p (capacity_of method) (place p.start v) a.recent a.is_recent) in
+              let apart : Apart p (x.1.front ++ x.0 ∷ x.1.back) = subst (Apart p) x.1.split (apart_recent p (capacity_of method) (visits_before p.start v) a.recent a.is_recent) in
               let both : x.1.front ++ x.0 ∷ x.1.back ≡ y.1.front ++ y.0 ∷ y.1.back = sym x.1.split ∙ same ∙ y.1.split in
               let one : x.0 ≡ y.0 = (split_one p w x.0 y.0 x.1.back y.1.back x.1.front y.1.front x.1.alike y.1.alike apart both).0 in
               shared_same y.0 v w (subst (λ (u : ℕ). Shares p best_alone method f.rows f.copied u v w) one x.2) y.2
@@ -164,20 +164,22 @@ module _ (p : Problem) (method : Method) (f g : Found) (s : IsSearch p method f)
   rows_same = same_lists f.rows g.rows (s.valid.rows_are ∙ sym t.valid.rows_are) (λ k l. (alike k (subst (λ (n : ℕ). k < n) s.valid.rows_are l)).row)
 
   copied_same : f.copied ≡ g.copied
-  copied_same = same_options f.copied g.copied (λ v e. (alike v (s.copied v e).0).there e) (λ v e. (alike v (t.copied v e).0).back e)
+  copied_same = same_options f.copied g.copied (λ v e. (alike v (s.work.copied v e).0).there e) (λ v e. (alike v (t.work.copied v e).0).back e)
 
   fights_same : f.fights ≡ g.fights
   fights_same =
       let copied : copied_fights f.rows f.copied ≡ copied_fights g.rows g.copied = λ i. copied_fights (rows_same i) (copied_same i) in
       let listed : listed_fights f.rows ≡ listed_fights g.rows = ap listed_fights rows_same in
-      omega (arith, s.work, t.work, copied, listed)
+      let one : f.fights + copied_fights f.rows f.copied ≡ listed_fights f.rows = s.work.fights in
+      let other : g.fights + copied_fights g.rows g.copied ≡ listed_fights g.rows = t.work.fights in
+      omega (arith, one, other, copied, listed)
 
   pub answer_one : f ≡ g
   answer_one =
       let best : f.best ≡ g.best = optimum_one p f.best g.best s.optimum t.optimum in
       let total : f.total ≡ g.total = total_one p f.best g.best f.total g.total best s.total_is t.total_is in
-      let version : f.version ≡ g.version = version_one p f.version g.version s.version t.version in
-      let candidates : f.candidates ≡ g.candidates = s.count ∙ sym t.count in
+      let version : f.version ≡ g.version = version_one p f.version g.version s.work.version t.work.version in
+      let candidates : f.candidates ≡ g.candidates = s.work.count ∙ sym t.work.count in
       λ i. record { version = version i; best = best i; total = total i; rows = rows_same i; fights = fights_same i; candidates = candidates i; copied = copied_same i }
 
 -- searches by any two methods find the optimum, and there is one
@@ -185,4 +187,4 @@ pub one_optimum : (p : Problem) (one other : Method) (f g : Found) → IsSearch 
     → (f.best ≡ g.best) × (f.total ≡ g.total) × (f.candidates ≡ g.candidates)
 one_optimum p one other f g s t =
     let best : f.best ≡ g.best = optimum_one p f.best g.best s.optimum t.optimum in
-    (best, total_one p f.best g.best f.total g.total best s.total_is t.total_is, s.count ∙ sym t.count)
+    (best, total_one p f.best g.best f.total g.total best s.total_is t.total_is, s.work.count ∙ sym t.work.count)

@@ -13,8 +13,8 @@ use Rattle.tune_problem.specs.declared.cert.Row.TheVariants.{Refused, Cap}
 use Rattle.tune_problem.proofs.CapRows.{whole}
 use Rattle.tune_search.specs.Plays.{played, row_of, row_with, rows_of}
 use Rattle.tune_search.specs.Order.{aim_at, enough, fight_order}
-use Rattle.tune_search.specs.Visits.{IsFought, IsListed, place, ranking_at, visit}
-use Rattle.tune_search.specs.Recent.{Has, IsRecalled, IsRecent}
+use Rattle.tune_search.specs.Visits.{IsFought, IsListed, visits_before, ranking_before, visited}
+use Rattle.tune_search.specs.Recent.{OneHas, ChangesRecent, IsRecent}
 use Rattle.tune_search.specs.Found.{IsSearch, copied_fights}
 use Rattle.tune_search.specs.declared.method.Method.TheVariants.{PlayingAll}
 use Rattle.tune_search.proofs.Enough.{all_enough}
@@ -30,19 +30,19 @@ nothing : (u : ℕ) (front back : List ℕ) → [] ≡ front ++ u ∷ back → �
 nothing u [] back e = cc
 nothing u (x ∷ front) back e = cc
 
-none_there : (p : Problem) (w : WarriorView) (u : ℕ) → Has p w u [] → ⊥
+none_there : (p : Problem) (w : WarriorView) (u : ℕ) → OneHas p w u [] → ⊥
 none_there p w u h = nothing u h.front h.back h.split
 
-none_recalled : (p : Problem) (v : ℕ) (o : Option WarriorView) (old us : List ℕ) → old ≡ [] → IsRecalled p 0 v o old us → us ≡ []
+none_recalled : (p : Problem) (v : ℕ) (o : Option WarriorView) (old us : List ℕ) → old ≡ [] → ChangesRecent p 0 v o old us → us ≡ []
 none_recalled p v None old us e h = h ∙ e
 none_recalled p v (Some w) old us e h = elim h [
-  | inl m ↦ absurd (none_there p w m.0 (subst (Has p w m.0) e m.1))
+  | inl m ↦ absurd (none_there p w m.0 (subst (OneHas p w m.0) e m.1))
   | inr n ↦ n.1
 ]
 
 none_recent : (p : Problem) (k : ℕ) (us : List ℕ) → IsRecent p 0 k us → us ≡ []
 none_recent p zero us h = h
-none_recent p (suc k) us h = none_recalled p (visit p.start k) (p.warrior (visit p.start k)) h.0 us (none_recent p k h.0 h.1) h.2
+none_recent p (suc k) us h = none_recalled p (visited p.start k) (p.warrior (visited p.start k)) h.0 us (none_recent p k h.0 h.1) h.2
 
 -- a cap row is made of its indices
 row_played : (p : Problem) (w : WarriorView) (a : ℕ) (row : List (ℕ × ℕ)) → IsCapRow p w a row → row ≡ played p w (listed_indices row)
@@ -53,11 +53,11 @@ module _ (p : Problem) (f : Found) (s : IsSearch p PlayingAll f) where
   -- a setting that assembles is fought, and no copy
   own : (v : ℕ) (w : WarriorView) → v < p.count → p.warrior v ≡ Some w → (f.copied ≢ Some v) × IsFought p best_alone PlayingAll f.rows v w
   own v w l is =
-      let h = s.shared v w l is in
-      let none : h.recent ≡ [] = none_recent p (place p.start v) h.recent h.is_recent in
+      let h = s.work.shared v w l is in
+      let none : h.recent ≡ [] = none_recent p (visits_before p.start v) h.recent h.is_recent in
       elim h.row [
         | inl g ↦ (g.1, g.2)
-        | inr g ↦ absurd (none_there p w g.0 (subst (Has p w g.0) none g.1))
+        | inr g ↦ absurd (none_there p w g.0 (subst (OneHas p w g.0) none g.1))
       ]
 
   no_copy : (v : ℕ) (o : Option WarriorView) → p.warrior v ≡ o → v < p.count → o ≢ None → f.copied ≢ Some v
@@ -66,21 +66,21 @@ module _ (p : Problem) (f : Found) (s : IsSearch p PlayingAll f) where
 
   none_copied : (o : Option ℕ) → f.copied ≡ o → o ≡ None
   none_copied None e = refl
-  none_copied (Some v) e = let h = s.copied v e in absurd (no_copy v (p.warrior v) refl h.0 h.1 e)
+  none_copied (Some v) e = let h = s.work.copied v e in absurd (no_copy v (p.warrior v) refl h.0 h.1 e)
 
   pub all_copied : f.copied ≡ None
   all_copied = none_copied f.copied refl
 
   module _ (laws : IsProblem p) where
     row_at : (v : ℕ) (o : Option WarriorView) → v < p.count → p.warrior v ≡ o → slice_get f.rows v ≡ Some (row_with p o)
-    row_at v None l is = s.refused v l is
+    row_at v None l is = s.work.refused v l is
     row_at v (Some w) l is =
         let h = (own v w l is).1 in
         let order = fight_order p v in
         let permutes : IsPermutation (all_fights p) order = order_permutes p v laws in
         let many : length order ≡ p.fights = order_length p order permutes in
-        let all : take (enough p PlayingAll (aim_at p best_alone v) w order v (ranking_at p best_alone v)) order ≡ order =
-        ap (λ j. take j order) (all_enough p (aim_at p best_alone v) w order v (ranking_at p best_alone v)) ∙ take_all p.fights order (omega (arith, many)) in
+        let all : take (enough p PlayingAll (aim_at p best_alone v) w order v (ranking_before p best_alone v)) order ≡ order =
+        ap (λ j. take j order) (all_enough p (aim_at p best_alone v) w order v (ranking_before p best_alone v)) ∙ take_all p.fights order (omega (arith, many)) in
         let listed : IsListed p w order h.row = subst (λ (ks : List ℕ). IsListed p w ks h.row) all h.listed in
         let row : IsCapRow p w 0 h.row = listed_is_row p w order h.row (order_below p order permutes) listed in
         let indices : listed_indices h.row ≡ all_fights p = whole p laws w p.fights 0 h.row (omega arith) row (listed_length p w order h.row listed ∙ many) in
@@ -101,5 +101,6 @@ module _ (p : Problem) (f : Found) (s : IsSearch p PlayingAll f) where
     pub all_work : f.fights ≡ f.candidates * p.fights
     all_work =
         let none : copied_fights f.rows f.copied ≡ 0 = ap (copied_fights f.rows) all_copied in
-        let played : f.fights ≡ listed_fights f.rows = omega (arith, s.work, none) in
-        played ∙ ap listed_fights all_rows ∙ listed_rows p ∙ ap (λ n. n * p.fights) (sym s.count)
+        let fights : f.fights + copied_fights f.rows f.copied ≡ listed_fights f.rows = s.work.fights in
+        let played : f.fights ≡ listed_fights f.rows = omega (arith, fights, none) in
+        played ∙ ap listed_fights all_rows ∙ listed_rows p ∙ ap (λ n. n * p.fights) (sym s.work.count)

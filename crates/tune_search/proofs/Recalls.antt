@@ -12,7 +12,7 @@ use Rattle.rc_instr.proofs.Loads.{one_warrior}
 use Rattle.tune_problem.specs.Problem.{Problem}
 use Rattle.tune_problem.specs.declared.cert.Row.{Row}
 use Rattle.tune_problem.proofs.Certificates.{some_is}
-use Rattle.tune_search.specs.Recent.{Has, NoneHas}
+use Rattle.tune_search.specs.Recent.{OneHas, NoneHas}
 use Rattle.tune_search.specs.Cache.{same_text}
 use Rattle.tune_search.specs.State.{IsKnown}
 use Rattle.tune_problem.specs.declared.aim.Aim.{Aim}
@@ -34,7 +34,7 @@ module _ (p : Problem) (rules : RulesView) (hold : IsRules rules) (aim : Aim) (m
     pub entry : List ℕ × Fought
     pub is : lookup_entry test known ≡ Some entry
     pub vector : entry.1 ≡ u
-    pub has : Has p w u.vector (map (λ e. e.1.vector) known)
+    pub has : OneHas p w u.vector (map (λ e. e.1.vector) known)
     pub rest : map (λ e. e.1.vector) (remove_entry test known) ≡ has.front ++ has.back
     pub known_one : IsKnown p rules aim method rows k entry
     pub known_rest : AllByRecursion (IsKnown p rules aim method rows k) (remove_entry test known)

@@ -14,9 +14,9 @@ use Rattle.tune_problem.specs.Valid.{listed_indices}
 use Rattle.tune_problem.specs.declared.cert.Row.{Row}
 use Rattle.tune_problem.specs.declared.cert.Row.TheVariants.{Cap, Same}
 use Rattle.tune_problem.proofs.Certificates.{some_is}
-use Rattle.tune_search.specs.Visits.{IsFought, place, ranking_after, visit}
+use Rattle.tune_search.specs.Visits.{IsFought, visits_before, ranking_after, visited}
 use Rattle.tune_search.specs.Ranking.{IsRankingBy}
-use Rattle.tune_search.specs.Recent.{IsRecalled, IsRecent}
+use Rattle.tune_search.specs.Recent.{ChangesRecent, IsRecent}
 use Rattle.tune_search.specs.Sharing.{HasRowOf, IsExplained, Shares, copies, leads}
 use Rattle.tune_search.specs.Found.{copied_fights}
 use Rattle.tune_search.specs.Findings.{IsFull}
@@ -38,7 +38,7 @@ use Rattle.tune_problem.proofs.Ranks.{contending, reaching, all_map, all_ranked,
 use Rattle.tune_search.proofs.Visiting.{IsVisit, visit_facts}
 
 module _ (p : Problem) (laws : IsProblem p) (start : p.start < p.count) (rules : RulesView) (aim : Aim) (is_aim : IsAim aim) (method : Method)
-    (k v : ℕ) (at : v ≡ visit p.start k) (inside : v < p.count) (g : Progress) (s : IsUnderWay p rules aim method k g) where
+    (k v : ℕ) (at : v ≡ visited p.start k) (inside : v < p.count) (g : Progress) (s : IsUnderWay p rules aim method k g) where
   abbrev now : IsVisit p aim method k v g
   now = visit_facts p laws start rules aim is_aim method k v at inside g s
 
@@ -59,11 +59,11 @@ module _ (p : Problem) (laws : IsProblem p) (start : p.start < p.count) (rules :
     u_inside : u < p.count
     u_inside = it_known.inside
 
-    u_before : place p.start u < k
+    u_before : visits_before p.start u < k
     u_before = it_known.before
 
-    u_earlier : place p.start u < place p.start v
-    u_earlier = let b : place p.start u < k = u_before in let e : place p.start v ≡ k = now.its_place in omega arith
+    u_earlier : visits_before p.start u < visits_before p.start v
+    u_earlier = let b : visits_before p.start u < k = u_before in let e : visits_before p.start v ≡ k = now.its_place in omega arith
 
     with_cap : (g : IsFought p aim method g.rows u w) × (other.cap ≡ cap_of p w (listed_indices g.row))
     with_cap = subst (λ (y : WarriorView). (g : IsFought p aim method g.rows u y) × (other.cap ≡ cap_of p y (listed_indices g.row)))
@@ -78,7 +78,7 @@ module _ (p : Problem) (laws : IsProblem p) (start : p.start < p.count) (rules :
 
     -- where its cap contends as one of v, all its fights were fought
     u_whole : contends aim other.cap v g.ranking ≡ true → (other.cap ≡ total_of p w) × (length u_fought.row ≡ p.fights)
-    u_whole run = elim (later_cases p laws start aim is_aim method g.rows u w u_fought v k u_earlier (let b : place p.start u < k = u_before in omega arith) now.at_most) [
+    u_whole run = elim (later_cases p laws start aim is_aim method g.rows u w u_fought v k u_earlier (let b : visits_before p.start u < k = u_before in omega arith) now.at_most) [
       | inl a ↦ (cap_is ∙ a.0, a.1)
       | inr n ↦
           let out : contends aim other.cap v g.ranking ≡ false = ap (λ c. contends aim c v g.ranking) cap_is ∙ ap (contends aim (cap_of p w (listed_indices u_fought.row)) v) s.ranking_is ∙ n in
@@ -94,8 +94,8 @@ module _ (p : Problem) (laws : IsProblem p) (start : p.start < p.count) (rules :
     recent_shared = (
       map (λ e. e.1.vector) g.known,
       s.recent,
-      subst (λ (x : ℕ). IsRecalled p (capacity_of method) x (p.warrior x) (map (λ e. e.1.vector) g.known) (map (λ e. e.1.vector) (promoted (same_text (load_text rules.core w)) g.known))) at
-          (subst (λ (o : Option WarriorView). IsRecalled p (capacity_of method) v o (map (λ e. e.1.vector) g.known) (map (λ e. e.1.vector) (promoted (same_text (load_text rules.core w)) g.known))) (sym is)
+      subst (λ (x : ℕ). ChangesRecent p (capacity_of method) x (p.warrior x) (map (λ e. e.1.vector) g.known) (map (λ e. e.1.vector) (promoted (same_text (load_text rules.core w)) g.known))) at
+          (subst (λ (o : Option WarriorView). ChangesRecent p (capacity_of method) v o (map (λ e. e.1.vector) g.known) (map (λ e. e.1.vector) (promoted (same_text (load_text rules.core w)) g.known))) (sym is)
           (inl (u, one.has, promoted_is p rules hold aim method g.rows k w is_w fits g.known other one))),
     )
 
@@ -136,7 +136,7 @@ module _ (p : Problem) (laws : IsProblem p) (start : p.start < p.count) (rules :
               let here : IsRankingBy p aim k (x ∷ xs) = subst (λ (r : List Best). IsRankingBy p aim k r) e now.is_ranking in
               let no_copy : copies p.start u v (Some x) ≡ false = ap (λ r. copies p.start u v (first_of r)) (sym e) ∙ apart in
               ap (λ c. beats c v x.total x.vector) (u_whole run).0
-              ∙ shares_trails p.start u v x.total x.vector (total_of p w) u_earlier (let b : place p.start x.vector < k = here.members.0.is_among in let q : place p.start v ≡ k = now.its_place in omega arith) no_copy
+              ∙ shares_trails p.start u v x.total x.vector (total_of p w) u_earlier (let b : visits_before p.start x.vector < k = here.members.0.is_among in let q : visits_before p.start v ≡ k = now.its_place in omega arith) no_copy
               (visited_behind p aim is_aim k (x ∷ xs) here u w u_inside u_before u_is)
 
       first_by : (run : Bool) → contends aim other.cap v g.ranking ≡ run → first_of (ranking_by aim other.cap v g.ranking run) ≡ first_of g.ranking
@@ -153,7 +153,7 @@ module _ (p : Problem) (laws : IsProblem p) (start : p.start < p.count) (rules :
       full_then true run = full_by (Same u) (
         u,
         u_fought.row,
-        slot_other g.rows v u (Same u) (λ e. let even : place p.start u ≡ place p.start v = ap (place p.start) e in let l : place p.start u < place p.start v = u_earlier in omega arith) ∙ u_fought.at,
+        slot_other g.rows v u (Same u) (λ e. let even : visits_before p.start u ≡ visits_before p.start v = ap (visits_before p.start) e in let l : visits_before p.start u < visits_before p.start v = u_earlier in omega arith) ∙ u_fought.at,
         (u_whole run).1,
         inr (slot_same g.rows v (Same u) (inside_rows p rules aim method k v at g.rows (Same u) now.blank)),
       ) true
@@ -168,11 +168,11 @@ module _ (p : Problem) (laws : IsProblem p) (start : p.start < p.count) (rules :
         ranking_is = ranking_shared;
         whole = subst (λ (o : Option Best). IsWhole p same' o) (sym same_first) (whole_stays p rules aim method k v at g.rows (Same u) now.blank (first_of g.ranking) s.whole);
         full = full_then (contends aim other.cap v g.ranking) refl;
-        told = told_more p rules aim method k v at g.rows (Same u) now.blank g.copied g.copied (keeps_same p rules aim method k v at g.rows (Same u) now.blank g.copied) s.told
+        explained = told_more p rules aim method k v at g.rows (Same u) now.blank g.copied g.copied (keeps_same p rules aim method k v at g.rows (Same u) now.blank g.copied) s.explained
             (subst (λ (o : Option WarriorView). IsExplained p aim method same' g.copied v o) (sym is)
             (record { recent = map (λ e. e.1.vector) g.known; is_recent = now.recent_here; row = inr (u, one.has, shares) }));
-        left = left_more p rules aim method k v at g.rows (Same u) now.blank s.left;
-        order_is = now.order_later (let b : place p.start u < k = u_before in omega arith);
+        unvisited = left_more p rules aim method k v at g.rows (Same u) now.blank s.unvisited;
+        order_is = now.order_later (let b : visits_before p.start u < k = u_before in omega arith);
         recent = recent_shared;
         all_known = known_more p rules aim method k v at g.rows (Same u) now.blank _ (promoted_known p rules hold aim method g.rows k w is_w fits g.known other one);
         copied_is = subst (λ (o : Option Best). IsCopied p (suc k) o g.copied) (sym same_first) (now.copied_grows g.copied s.copied_is);
@@ -194,8 +194,8 @@ module _ (p : Problem) (laws : IsProblem p) (start : p.start < p.count) (rules :
 
       u_other : u ≢ v
       u_other e =
-          let there : place p.start v < k = subst (λ (m : ℕ). place p.start m < k) e u_before in
-          let here : place p.start v ≡ k = now.its_place in
+          let there : visits_before p.start v < k = subst (λ (m : ℕ). visits_before p.start m < k) e u_before in
+          let here : visits_before p.start v ≡ k = now.its_place in
           omega arith
 
       row_at_u : slice_get copied' u ≡ Some row
@@ -251,7 +251,7 @@ module _ (p : Problem) (laws : IsProblem p) (start : p.start < p.count) (rules :
 
       copied_taken : IsCopied p (suc k) (first_of ranking'') (Some v)
       copied_taken =
-          let here : place p.start v ≡ k = now.its_place in
+          let here : visits_before p.start v ≡ k = now.its_place in
           (inside, omega arith, ap (leads p.start) now_first ∙ by_other p.start u v (first_of g.ranking) apart)
 
       shares_copied : Shares p aim method copied' (Some v) u v w
@@ -271,12 +271,12 @@ module _ (p : Problem) (laws : IsProblem p) (start : p.start < p.count) (rules :
         ranking_is = ranking_shared;
         whole = whole_taken;
         full = full_taken;
-        told = told_more p rules aim method k v at g.rows row now.blank g.copied (Some v)
-            (subst (λ (o : Option ℕ). Keeps p rules aim method k v at g.rows row now.blank o (Some v)) (sym was_none) (keeps_new p rules aim method k v at g.rows row now.blank)) s.told
+        explained = told_more p rules aim method k v at g.rows row now.blank g.copied (Some v)
+            (subst (λ (o : Option ℕ). Keeps p rules aim method k v at g.rows row now.blank o (Some v)) (sym was_none) (keeps_new p rules aim method k v at g.rows row now.blank)) s.explained
             (subst (λ (o : Option WarriorView). IsExplained p aim method copied' (Some v) v o) (sym is)
             (record { recent = map (λ e. e.1.vector) g.known; is_recent = now.recent_here; row = inr (u, one.has, shares_copied) }));
-        left = left_more p rules aim method k v at g.rows row now.blank s.left;
-        order_is = now.order_later (let b : place p.start u < k = u_before in omega arith);
+        unvisited = left_more p rules aim method k v at g.rows row now.blank s.unvisited;
+        order_is = now.order_later (let b : visits_before p.start u < k = u_before in omega arith);
         recent = recent_shared;
         all_known = known_more p rules aim method k v at g.rows row now.blank _ (promoted_known p rules hold aim method g.rows k w is_w fits g.known other one);
         copied_is = copied_taken;

@@ -9,7 +9,7 @@ use Rattle.tune_problem.specs.Problem.{Problem}
 use Rattle.tune_problem.specs.Valid.{listed_by, listed_fights, listed_in}
 use Rattle.tune_problem.specs.declared.cert.Row.{Row}
 use Rattle.tune_problem.specs.declared.cert.Row.TheVariants.{Cap, Refused}
-use Rattle.tune_search.specs.Visits.{IsFought, place, visit}
+use Rattle.tune_search.specs.Visits.{IsFought, visits_before, visited}
 use Rattle.tune_search.specs.Sharing.{HasRowOf, IsExplained}
 use Rattle.tune_search.specs.Found.{copied_fights}
 use Rattle.tune_search.specs.Findings.{IsFull}
@@ -17,7 +17,7 @@ use Rattle.tune_search.specs.State.{IsKnown, IsWhole, is_filled}
 use Rattle.tune_problem.specs.declared.watcher.Best.{Best}
 use Rattle.tune_search.proofs.Slots.{slot_other, slot_same}
 use Rattle.tune_search.proofs.Leads.{by_then}
-use Rattle.tune_search.proofs.Places.{place_visit}
+use Rattle.tune_search.proofs.VisitOrder.{before_visited}
 use Rattle.tune_problem.specs.declared.aim.Aim.{Aim}
 use Rattle.tune_search.specs.declared.fought.Fought.{Fought}
 use Rattle.tune_search.specs.declared.method.Method.{Method}
@@ -26,7 +26,7 @@ abbrev bit : Bool → ℕ
 bit b = cond b 1 0
 
 -- the row of v is written, which was not before
-module _ (p : Problem) (rules : RulesView) (aim : Aim) (method : Method) (k v : ℕ) (at : v ≡ visit p.start k) (rows : List Row) (row : Row) (blank : slice_get rows v ≡ Some Refused) where
+module _ (p : Problem) (rules : RulesView) (aim : Aim) (method : Method) (k v : ℕ) (at : v ≡ visited p.start k) (rows : List Row) (row : Row) (blank : slice_get rows v ≡ Some Refused) where
   abbrev after : List Row
   after = slice_set rows v row
 
@@ -78,25 +78,25 @@ module _ (p : Problem) (rules : RulesView) (aim : Aim) (method : Method) (k v : 
     }
 
     -- all that were visited, and v
-    pub told_more : ((u : ℕ) → u < p.count → place p.start u < k → IsExplained p aim method rows old u (p.warrior u)) →
-        IsExplained p aim method after new v (p.warrior v) → (u : ℕ) → u < p.count → place p.start u < suc k → IsExplained p aim method after new u (p.warrior u)
+    pub told_more : ((u : ℕ) → u < p.count → visits_before p.start u < k → IsExplained p aim method rows old u (p.warrior u)) →
+        IsExplained p aim method after new v (p.warrior v) → (u : ℕ) → u < p.count → visits_before p.start u < suc k → IsExplained p aim method after new u (p.warrior u)
     told_more told one u l before =
         elim (by_then p k v at u before) [
-          | inl b ↦ explained_stays u (p.warrior u) (λ e. let same : place p.start u ≡ k = ap (place p.start) (e ∙ at) ∙ place_visit p.start k in omega arith) (told u l b)
+          | inl b ↦ explained_stays u (p.warrior u) (λ e. let same : visits_before p.start u ≡ k = ap (visits_before p.start) (e ∙ at) ∙ before_visited p.start k in omega arith) (told u l b)
           | inr e ↦ subst (λ (n : ℕ). IsExplained p aim method after new n (p.warrior n)) (sym e) one
         ]
 
-  pub left_more : ((u : ℕ) → u < p.count → k ≤ place p.start u → slice_get rows u ≡ Some Refused) →
-      (u : ℕ) → u < p.count → suc k ≤ place p.start u → slice_get after u ≡ Some Refused
+  pub left_more : ((u : ℕ) → u < p.count → k ≤ visits_before p.start u → slice_get rows u ≡ Some Refused) →
+      (u : ℕ) → u < p.count → suc k ≤ visits_before p.start u → slice_get after u ≡ Some Refused
   left_more left u l later =
-      slot_other rows v u row (λ e. let same : place p.start u ≡ k = ap (place p.start) (e ∙ at) ∙ place_visit p.start k in omega arith) ∙ left u l (omega arith)
+      slot_other rows v u row (λ e. let same : visits_before p.start u ≡ k = ap (visits_before p.start) (e ∙ at) ∙ before_visited p.start k in omega arith) ∙ left u l (omega arith)
 
   known_one : (e : List ℕ × Fought) → IsKnown p rules aim method rows k e → IsKnown p rules aim method after (suc k) e
   unfolding fought_stays
   known_one e h = record {
     warrior = h.warrior;
     inside = h.inside;
-    before = let b : place p.start e.1.vector < k = h.before in omega arith;
+    before = let b : visits_before p.start e.1.vector < k = h.before in omega arith;
     candidate = h.candidate;
     is_warrior = h.is_warrior;
     fits = h.fits;

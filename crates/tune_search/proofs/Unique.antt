@@ -2,8 +2,8 @@
 use Rattle.std.proofs.Common.{◌≡◌, ◌≢◌, ℕ, zero, suc, List, [], ◌∷◌, ◌++◌, Option, Some, None, take, refl, sym, ◌∙◌, ap, inl, inr, subst}
 use Rattle.rc_instr.specs.Warrior.{WarriorView}
 use Rattle.tune_problem.specs.Problem.{Problem}
-use Rattle.tune_search.specs.Visits.{visit}
-use Rattle.tune_search.specs.Recent.{IsRecalled, IsRecent, NoneHas}
+use Rattle.tune_search.specs.Visits.{visited}
+use Rattle.tune_search.specs.Recent.{ChangesRecent, IsRecent, NoneHas}
 
 module _ (p : Problem) where
   -- no two have one warrior
@@ -38,7 +38,7 @@ module _ (p : Problem) where
   one_warrior : (u : ℕ) (w y : WarriorView) → p.warrior u ≡ Some w → p.warrior u ≡ Some y → w ≡ y
   one_warrior u w y a b = let e : Some w ≡ Some y = sym a ∙ b in cc
 
-  apart_touched : (c v : ℕ) (o : Option WarriorView) (old new : List ℕ) → p.warrior v ≡ o → Apart old → IsRecalled p c v o old new → Apart new
+  apart_touched : (c v : ℕ) (o : Option WarriorView) (old new : List ℕ) → p.warrior v ≡ o → Apart old → ChangesRecent p c v o old new → Apart new
   apart_touched c v None old new is h t = subst Apart (sym t) h
   apart_touched c v (Some w) old new is h t = elim t [
     | inl m ↦
@@ -51,7 +51,7 @@ module _ (p : Problem) where
 
   pub apart_recent : (c k : ℕ) (us : List ℕ) → IsRecent p c k us → Apart us
   apart_recent c zero us h = subst Apart (sym h) tt
-  apart_recent c (suc k) us h = apart_touched c (visit p.start k) (p.warrior (visit p.start k)) h.0 us refl (apart_recent c k h.0 h.1) h.2
+  apart_recent c (suc k) us h = apart_touched c (visited p.start k) (p.warrior (visited p.start k)) h.0 us refl (apart_recent c k h.0 h.1) h.2
 
   pub split_one : (w : WarriorView) (u v : ℕ) (b d : List ℕ) (f g : List ℕ) → p.warrior u ≡ Some w → p.warrior v ≡ Some w → Apart (f ++ u ∷ b) → f ++ u ∷ b ≡ g ++ v ∷ d →
       (u ≡ v) × (f ++ b ≡ g ++ d)
@@ -68,7 +68,7 @@ module _ (p : Problem) where
       let on = split_one w u v b d f g iu iv h.1 rest in
       (on.0, λ i. same i ∷ on.1 i)
 
-  touched_one : (c v : ℕ) (o : Option WarriorView) (old us vs : List ℕ) → Apart old → IsRecalled p c v o old us → IsRecalled p c v o old vs → us ≡ vs
+  touched_one : (c v : ℕ) (o : Option WarriorView) (old us vs : List ℕ) → Apart old → ChangesRecent p c v o old us → ChangesRecent p c v o old vs → us ≡ vs
   touched_one c v None old us vs h a b = a ∙ sym b
   touched_one c v (Some w) old us vs h a b = elim a [
     | inl m ↦ elim b [
@@ -86,6 +86,6 @@ module _ (p : Problem) where
   pub recent_one : (c k : ℕ) (us vs : List ℕ) → IsRecent p c k us → IsRecent p c k vs → us ≡ vs
   recent_one c zero us vs a b = a ∙ sym b
   recent_one c (suc k) us vs a b =
-      let v = visit p.start k in
+      let v = visited p.start k in
       let same : a.0 ≡ b.0 = recent_one c k a.0 b.0 a.1 b.1 in
-      touched_one c v (p.warrior v) b.0 us vs (apart_recent c k b.0 b.1) (subst (λ (l : List ℕ). IsRecalled p c v (p.warrior v) l us) same a.2) b.2
+      touched_one c v (p.warrior v) b.0 us vs (apart_recent c k b.0 b.1) (subst (λ (l : List ℕ). ChangesRecent p c v (p.warrior v) l us) same a.2) b.2

@@ -11,34 +11,34 @@ use Rattle.tune_problem.specs.Optimum.{all_fights, total_of}
 use Rattle.tune_problem.specs.declared.cert.Row.{Row}
 use Rattle.tune_problem.specs.declared.cert.Row.TheVariants.{Refused}
 use Rattle.tune_search.specs.Order.{fight_order, order_after}
-use Rattle.tune_search.specs.Visits.{place, ranking_after, ranking_at, visit}
+use Rattle.tune_search.specs.Visits.{visits_before, ranking_after, ranking_before, visited}
 use Rattle.tune_search.specs.Ranking.{IsRankingBy}
-use Rattle.tune_search.specs.Recent.{IsRecalled, IsRecent}
+use Rattle.tune_search.specs.Recent.{ChangesRecent, IsRecent}
 use Rattle.tune_search.specs.Sharing.{IsExplained}
 use Rattle.tune_search.specs.Method.{capacity_of}
 use Rattle.tune_search.specs.State.{IsCopied, IsKnown, IsUnderWay, Progress}
 use Rattle.tune_problem.specs.declared.watcher.Best.{Best}
 use Rattle.tune_search.proofs.Orders.{order_permutes}
 use Rattle.tune_search.proofs.Leads.{by_then}
-use Rattle.tune_search.proofs.Places.{place_below, place_visit}
+use Rattle.tune_search.proofs.VisitOrder.{before_below, before_visited}
 use Rattle.tune_search.proofs.Rankings.{after_visit, ranking_is}
 use Rattle.tune_problem.specs.declared.aim.Aim.{Aim}
 use Rattle.tune_search.specs.declared.fought.Fought.{Fought}
 use Rattle.tune_search.specs.declared.method.Method.{Method}
 use Rattle.tune_problem.specs.Ranking.{next_ranking, ranking_with, first_of, IsAim}
 
-pub first_visit : (s k v : ℕ) → v ≡ visit s k → (v == s) ≡ (k == 0)
+pub first_visit : (s k v : ℕ) → v ≡ visited s k → (v == s) ≡ (k == 0)
 first_visit s k v at = ap (λ n. n == s) at ∙ grind (arith, nat_tests)
 
 pub not_zero : (k : ℕ) → (suc k == 0) ≡ false
 not_zero k = grind (arith, nat_tests)
 
-not_yet : (p : Problem) (k v : ℕ) (lead : Option Best) (copied : Option ℕ) → place p.start v ≡ k → IsCopied p k lead copied → copied ≢ Some v
+not_yet : (p : Problem) (k v : ℕ) (lead : Option Best) (copied : Option ℕ) → visits_before p.start v ≡ k → IsCopied p k lead copied → copied ≢ Some v
 not_yet p k v lead None at h e = cc
 not_yet p k v lead (Some u) at h e =
     let same : u ≡ v = cc in
-    let before : place p.start u < k = h.1 in
-    let there : place p.start u ≡ k = ap (place p.start) same ∙ at in
+    let before : visits_before p.start u < k = h.1 in
+    let there : visits_before p.start u ≡ k = ap (visits_before p.start) same ∙ at in
     omega arith
 
 -- the same at equal values
@@ -50,26 +50,26 @@ under_way_along p rules aim method k rows rows' ranking ranking' order order' f 
 
 -- What holds at the visit of setting v, after k others.
 pub record IsVisit (p : Problem) (aim : Aim) (method : Method) (k v : ℕ) (g : Progress) : Type 0 where
-  pub its_place : place p.start v ≡ k
+  pub its_place : visits_before p.start v ≡ k
   pub at_most : k ≤ p.count
   pub blank : slice_get g.rows v ≡ Some Refused
   pub fresh : g.copied ≢ Some v
   pub order_here : g.order ≡ fight_order p v
   pub permutes : IsPermutation (all_fights p) g.order
   pub order_later : 0 < k → g.order ≡ order_after p (suc k == 0) (p.warrior p.start)
-  pub ranking_here : g.ranking ≡ ranking_at p aim v
+  pub ranking_here : g.ranking ≡ ranking_before p aim v
   pub is_ranking : IsRankingBy p aim k g.ranking
   pub ranked_next : (w : WarriorView) → p.warrior v ≡ Some w → next_ranking aim (total_of p w) v g.ranking ≡ ranking_after p aim (suc k)
-  pub recent_here : IsRecent p (capacity_of method) (place p.start v) (map (λ e. e.1.vector) g.known)
+  pub recent_here : IsRecent p (capacity_of method) (visits_before p.start v) (map (λ e. e.1.vector) g.known)
   pub copied_grows : (o : Option ℕ) → IsCopied p k (first_of g.ranking) o → IsCopied p (suc k) (first_of g.ranking) o
 
 module _ (p : Problem) (laws : IsProblem p) (start : p.start < p.count) (rules : RulesView) (aim : Aim) (is_aim : IsAim aim) (method : Method)
-    (k v : ℕ) (at : v ≡ visit p.start k) (inside : v < p.count) (g : Progress) (s : IsUnderWay p rules aim method k g) where
-  its_place : place p.start v ≡ k
-  its_place = ap (place p.start) at ∙ place_visit p.start k
+    (k v : ℕ) (at : v ≡ visited p.start k) (inside : v < p.count) (g : Progress) (s : IsUnderWay p rules aim method k g) where
+  its_place : visits_before p.start v ≡ k
+  its_place = ap (visits_before p.start) at ∙ before_visited p.start k
 
   blank : slice_get g.rows v ≡ Some Refused
-  blank = s.left v inside (omega (arith, its_place))
+  blank = s.unvisited v inside (omega (arith, its_place))
 
   fresh : g.copied ≢ Some v
   fresh = not_yet p k v (first_of g.ranking) g.copied its_place s.copied_is
@@ -81,15 +81,15 @@ module _ (p : Problem) (laws : IsProblem p) (start : p.start < p.count) (rules :
   pub permutes : IsPermutation (all_fights p) g.order
   permutes = subst (λ (l : List ℕ). IsPermutation (all_fights p) l) (sym order_here) (order_permutes p v laws)
 
-  ranking_here : g.ranking ≡ ranking_at p aim v
+  ranking_here : g.ranking ≡ ranking_before p aim v
   ranking_here = s.ranking_is ∙ ap (ranking_after p aim) (sym its_place)
 
   is_ranking : IsRankingBy p aim k g.ranking
   is_ranking = subst (λ (r : List Best). IsRankingBy p aim k r) (sym s.ranking_is)
-      (ranking_is p aim is_aim start k (let l : place p.start v < p.count = place_below p.start p.count v start inside in let e : place p.start v ≡ k = its_place in omega arith))
+      (ranking_is p aim is_aim start k (let l : visits_before p.start v < p.count = before_below p.start p.count v start inside in let e : visits_before p.start v ≡ k = its_place in omega arith))
 
   at_most : k ≤ p.count
-  at_most = let l : place p.start v < p.count = place_below p.start p.count v start inside in let e : place p.start v ≡ k = its_place in omega arith
+  at_most = let l : visits_before p.start v < p.count = before_below p.start p.count v start inside in let e : visits_before p.start v ≡ k = its_place in omega arith
 
   -- the ranking after a visit of a candidate
   ranked_next : (w : WarriorView) → p.warrior v ≡ Some w → next_ranking aim (total_of p w) v g.ranking ≡ ranking_after p aim (suc k)
@@ -97,7 +97,7 @@ module _ (p : Problem) (laws : IsProblem p) (start : p.start < p.count) (rules :
       ap (next_ranking aim (total_of p w) v) s.ranking_is
       ∙ sym (after_visit p aim is_aim k v at ∙ ap (λ o. ranking_with p aim v o (ranking_after p aim k)) is)
 
-  recent_here : IsRecent p (capacity_of method) (place p.start v) (map (λ e. e.1.vector) g.known)
+  recent_here : IsRecent p (capacity_of method) (visits_before p.start v) (map (λ e. e.1.vector) g.known)
   recent_here = subst (λ (m : ℕ). IsRecent p (capacity_of method) m (map (λ e. e.1.vector) g.known)) (sym its_place) s.recent
 
   order_later : 0 < k → g.order ≡ order_after p (suc k == 0) (p.warrior p.start)
@@ -106,7 +106,7 @@ module _ (p : Problem) (laws : IsProblem p) (start : p.start < p.count) (rules :
 
   copied_grows : (o : Option ℕ) → IsCopied p k (first_of g.ranking) o → IsCopied p (suc k) (first_of g.ranking) o
   copied_grows None h = tt
-  copied_grows (Some u) h = let before : place p.start u < k = h.1 in (h.0, omega arith, h.2)
+  copied_grows (Some u) h = let before : visits_before p.start u < k = h.1 in (h.0, omega arith, h.2)
 
   pub visit_facts : IsVisit p aim method k v g
   visit_facts = record {
@@ -131,7 +131,7 @@ module _ (p : Problem) (laws : IsProblem p) (start : p.start < p.count) (rules :
     record {
       warrior = h.0.warrior;
       inside = h.0.inside;
-      before = (let b : place p.start e.1.vector < k = h.0.before in omega arith);
+      before = (let b : visits_before p.start e.1.vector < k = h.0.before in omega arith);
       candidate = h.0.candidate;
       is_warrior = h.0.is_warrior;
       fits = h.0.fits;
@@ -143,15 +143,15 @@ module _ (p : Problem) (laws : IsProblem p) (start : p.start < p.count) (rules :
   )
 
   module _ (none : p.warrior v ≡ None) where
-    refused_told : (u : ℕ) → u < p.count → place p.start u < suc k → IsExplained p aim method g.rows g.copied u (p.warrior u)
+    refused_told : (u : ℕ) → u < p.count → visits_before p.start u < suc k → IsExplained p aim method g.rows g.copied u (p.warrior u)
     refused_told u l before = elim (by_then p k v at u before) [
-      | inl b ↦ s.told u l b
+      | inl b ↦ s.explained u l b
       | inr e ↦ subst (λ (n : ℕ). IsExplained p aim method g.rows g.copied n (p.warrior n)) (sym e) (subst (λ (o : Option WarriorView). IsExplained p aim method g.rows g.copied v o) (sym none) (fresh, blank))
     ]
 
     refused_order : (m : ℕ) → k ≡ m → g.order ≡ order_after p false (p.warrior p.start)
     refused_order zero e =
-        let start : v ≡ p.start = at ∙ ap (visit p.start) e in
+        let start : v ≡ p.start = at ∙ ap (visited p.start) e in
         s.order_is ∙ ap (λ m. order_after p (m == 0) (p.warrior p.start)) e ∙ sym (ap (order_after p false) (ap p.warrior (sym start) ∙ none))
     refused_order (suc m) e = s.order_is ∙ ap (λ m. order_after p (m == 0) (p.warrior p.start)) e ∙ ap (λ b. order_after p b (p.warrior p.start)) (not_zero m)
 
@@ -161,14 +161,14 @@ module _ (p : Problem) (laws : IsProblem p) (start : p.start < p.count) (rules :
       ranking_is = s.ranking_is ∙ sym (after_visit p aim is_aim k v at ∙ ap (λ o. ranking_with p aim v o (ranking_after p aim k)) none);
       whole = s.whole;
       full = s.full;
-      told = refused_told;
-      left = λ u l later. s.left u l (omega arith);
+      explained = refused_told;
+      unvisited = λ u l later. s.unvisited u l (omega arith);
       order_is = refused_order k refl ∙ ap (λ b. order_after p b (p.warrior p.start)) (sym (not_zero k));
       recent = (
         map (λ e. e.1.vector) g.known,
         s.recent,
-        subst (λ (u : ℕ). IsRecalled p (capacity_of method) u (p.warrior u) (map (λ e. e.1.vector) g.known) (map (λ e. e.1.vector) g.known)) at
-            (subst (λ (o : Option WarriorView). IsRecalled p (capacity_of method) v o (map (λ e. e.1.vector) g.known) (map (λ e. e.1.vector) g.known)) (sym none) refl),
+        subst (λ (u : ℕ). ChangesRecent p (capacity_of method) u (p.warrior u) (map (λ e. e.1.vector) g.known) (map (λ e. e.1.vector) g.known)) at
+            (subst (λ (o : Option WarriorView). ChangesRecent p (capacity_of method) v o (map (λ e. e.1.vector) g.known) (map (λ e. e.1.vector) g.known)) (sym none) refl),
       );
       all_known = known_grows g.known s.all_known;
       copied_is = copied_grows g.copied s.copied_is;

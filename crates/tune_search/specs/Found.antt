@@ -15,11 +15,14 @@ use Rattle.tune_search.specs.declared.fault.SearchFault.{SearchFault}
 use Rattle.tune_search.specs.declared.fault.SearchFault.TheVariants.{NoCandidate}
 use Rattle.tune_search.specs.declared.method.Method.{Method}
 use Rattle.tune_problem.specs.Ranking.{best_alone}
+use Rattle.tune_problem.specs.declared.aim.Aim.{Aim}
 
+-- There is a row, and it is a cap row.
 abbrev pub is_cap : Option Row → Bool
 is_cap (Some (Cap row)) = true
 is_cap _ = false
 
+-- Setting v is the one with the copied row.
 abbrev pub is_copied : Option ℕ → ℕ → Bool
 is_copied None v = false
 is_copied (Some u) v = u == v
@@ -28,6 +31,7 @@ is_copied (Some u) v = u == v
 abbrev pub is_fought : List Row → Option ℕ → ℕ → Bool
 is_fought rows copied v = is_cap (slice_get rows v) && not (is_copied copied v)
 
+-- The same by what a search found.
 abbrev pub was_fought : Found → ℕ → Bool
 was_fought f v = is_fought f.rows f.copied v
 
@@ -54,24 +58,42 @@ NoneAssembles p = (v : ℕ) → v < p.count → p.warrior v ≡ None
 abbrev pub IsRefused : Problem → SearchFault → Type 0
 IsRefused p fault = fault ≡ NoCandidate → NoneAssembles p
 
+-- What a search writes beside its answer: a row for each setting, the version of their certificate,
+-- which setting has the copied row, and the numbers of fights played and of candidates visited.
+pub record Work : Type 0 where
+  pub version : ℕ
+  pub rows : List Row
+  pub copied : Option ℕ
+  pub fights : ℕ
+  pub candidates : ℕ
+
+-- The work of a search, by what it found.
+abbrev pub work_of : Found → Work
+work_of f = record { version = f.version; rows = f.rows; copied = f.copied; fights = f.fights; candidates = f.candidates }
+
+-- The rows and the counts of a search by a method, for an aim.
+pub record IsWorked (p : Problem) (aim : Aim) (method : Method) (work : Work) : Type 0 where
+  -- the version is 1 exactly if every fight counts once
+  pub version : IsOwnVersion p work.version
+  pub count : work.candidates ≡ candidates_of p
+  pub few : length work.rows ≤ MOST_SETTINGS
+  -- a setting that does not assemble has the row `Refused`
+  pub refused : (v : ℕ) → v < p.count → p.warrior v ≡ None → slice_get work.rows v ≡ Some Refused
+  -- the fights of a fought setting are the first ones of its order, exactly as many as are enough
+  pub fought : (v : ℕ) (w : WarriorView) → v < p.count → p.warrior v ≡ Some w → is_fought work.rows work.copied v ≡ true → IsFought p aim method work.rows v w
+  -- a setting is fought exactly if none of the settings that are recent at its visit has its
+  -- warrior; otherwise it shares the fights of the one that has it
+  pub shared : (v : ℕ) (w : WarriorView) → v < p.count → p.warrior v ≡ Some w → IsVisited p aim method work.rows work.copied v w
+  -- only a setting that assembles has a copied row; `shared` says whose row it copies
+  pub copied : (v : ℕ) → work.copied ≡ Some v → (v < p.count) × (p.warrior v ≢ None)
+  -- every listed fight was played once, except those of the copied row
+  pub fights : work.fights + copied_fights work.rows work.copied ≡ listed_fights work.rows
+
 -- What a search by a method finds that is asked for the best setting.
 pub record IsSearch (p : Problem) (method : Method) (f : Found) : Type 0 where
   -- the best setting is the optimum, and the rows are a valid certificate of it
   pub optimum : IsOptimum p f.best
   pub total_is : HasTotal p f.best f.total
   pub valid : IsValid p (cert_of f)
-  -- its version is 1 exactly if every fight counts once
-  pub version : IsOwnVersion p f.version
-  pub count : f.candidates ≡ candidates_of p
-  pub few : length f.rows ≤ MOST_SETTINGS
-  -- a setting that does not assemble has the row `Refused`
-  pub refused : (v : ℕ) → v < p.count → p.warrior v ≡ None → slice_get f.rows v ≡ Some Refused
-  -- the fights of a fought setting are the first ones of its order, exactly as many as are enough
-  pub fought : (v : ℕ) (w : WarriorView) → v < p.count → p.warrior v ≡ Some w → was_fought f v ≡ true → IsFought p best_alone method f.rows v w
-  -- a setting is fought exactly if none of the settings that are recent at its visit has its
-  -- warrior; otherwise it shares the fights of the one that has it
-  pub shared : (v : ℕ) (w : WarriorView) → v < p.count → p.warrior v ≡ Some w → IsVisited p best_alone method f.rows f.copied v w
-  -- only a setting that assembles has a copied row; `shared` says whose row it copies
-  pub copied : (v : ℕ) → f.copied ≡ Some v → (v < p.count) × (p.warrior v ≢ None)
-  -- the number of fights played is that of the fights that all rows list, without the copied row's
-  pub work : f.fights + copied_fights f.rows f.copied ≡ listed_fights f.rows
+  -- the rows and the counts are those of the method
+  pub work : IsWorked p best_alone method (work_of f)

@@ -20,8 +20,8 @@ with_points x fights = map (λ e. e.0) (filter (λ e. e.1 == x) fights)
 abbrev pub by_points : List (ℕ × ℕ) → List ℕ
 by_points fights = with_points 0 fights ++ with_points 1 fights ++ with_points 3 fights
 
--- The order of a setting's fights, given whether it is the start setting, and the start setting's
--- warrior.
+-- The order of a setting's fights, given whether it is the start setting, and the warrior of the
+-- start setting.
 abbrev pub order_after : Problem → Bool → Option WarriorView → List ℕ
 order_after p true start = all_fights p
 order_after p false None = all_fights p
@@ -32,17 +32,21 @@ order_after p false (Some w) = by_points (played p w (all_fights p))
 unfoldable pub fight_order : Problem → ℕ → List ℕ
 fight_order p v = order_after p (v == p.start) (p.warrior p.start)
 
--- What counts at the visit of setting v: no floor for the start setting, which plays all its
--- fights.
+-- The aim that decides when setting v is dropped. The start setting has no floor, so that it plays
+-- all its fights.
 abbrev pub aim_at : Problem → Aim → ℕ → Aim
 aim_at p aim v = record { keep = aim.keep; floor = if v == p.start then 0 else aim.floor }
 
--- Whether setting v is dropped at cap c: the method drops settings, and c does not contend.
+-- Setting v is dropped at cap c if the method drops settings, and c does not contend.
 abbrev pub drops : Method → Aim → ℕ → ℕ → List Best → Bool
 drops (Dropping capacity) aim c v ranking = not (contends aim c v ranking)
 drops PlayingAll aim c v ranking = false
 
--- How many fights of an order are played: the least number after which the setting is dropped, or
--- all of them. It may be 0.
+-- How many fights of an order are played: the least number after which setting v, with warrior w,
+-- is dropped, or all of them. It may be 0.
 unfoldable pub enough : Problem → Method → Aim → WarriorView → List ℕ → ℕ → List Best → ℕ
 enough p method aim w order v ranking = least (λ k. drops method aim (cap_of p w (take k order)) v ranking) p.fights
+
+-- These fights: the first ones of the order, exactly as many as are enough.
+abbrev pub enough_fights : Problem → Method → Aim → WarriorView → List ℕ → ℕ → List Best → List ℕ
+enough_fights p method aim w order v ranking = take (enough p method aim w order v ranking) order

@@ -11,6 +11,7 @@ use Rattle.tune_problem.specs.declared.cert.Row.TheVariants.{Refused, Cap}
 abbrev pub played : Problem → WarriorView → List ℕ → List (ℕ × ℕ)
 played p w fights = map (λ k. (k, p.points w k)) fights
 
+-- The row of a setting that has this warrior, if any.
 abbrev pub row_with : Problem → Option WarriorView → Row
 row_with p None = Refused
 row_with p (Some w) = Cap (played p w (all_fights p))
@@ -19,5 +20,6 @@ row_with p (Some w) = Cap (played p w (all_fights p))
 abbrev pub row_of : Problem → ℕ → Row
 row_of p v = row_with p (p.warrior v)
 
+-- The rows of all settings.
 abbrev pub rows_of : Problem → List Row
 rows_of p = map (row_of p) (range_with_len 0 p.count)

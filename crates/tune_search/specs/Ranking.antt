@@ -1,19 +1,20 @@
--- The ranking of the settings visited.
+-- The ranking of the settings visited: each with its total, the greatest first, then the smaller
+-- index.
 use Rattle.std.specs.Prelude.{ℕ, ◌<◌, List}
 use Rattle.tune_problem.specs.Problem.{Problem}
 use Rattle.tune_problem.specs.Ranking.{IsRanked, IsRanking}
 use Rattle.tune_problem.specs.declared.aim.Aim.{Aim}
 use Rattle.tune_problem.specs.declared.watcher.Best.{Best}
-use Rattle.tune_search.specs.Visits.{place}
+use Rattle.tune_search.specs.Visits.{visits_before}
 
--- A setting is among the first k visited.
+-- Setting v is among the first k visited.
 abbrev pub VisitedBy : Problem → (k v : ℕ) → Type 0
-VisitedBy p k v = place p.start v < k
+VisitedBy p k v = visits_before p.start v < k
 
--- One of a ranking of these.
+-- One of these, with its total, which reaches the floor.
 abbrev pub IsRankedBy : Problem → Aim → ℕ → Best → Type 0
 IsRankedBy p aim k best = IsRanked p aim (VisitedBy p k) best
 
--- The first of the ranking of these.
+-- The first of the ranking of these, as many as are kept.
 abbrev pub IsRankingBy : Problem → Aim → ℕ → List Best → Type 0
 IsRankingBy p aim k ranking = IsRanking p aim (VisitedBy p k) ranking

@@ -1,5 +1,5 @@
 -- A search under way, as the contracts of private functions see it.
-use Rattle.std.specs.Prelude.{◌≡◌, ℕ, ◌+◌, ◌*◌, ◌<◌, ◌≤◌, Bool, true, false, ◌==◌, List, length, map, take, slice_get, Option, Some, None}
+use Rattle.std.specs.Prelude.{◌≡◌, ℕ, ◌+◌, ◌*◌, ◌<◌, ◌≤◌, Bool, true, false, ◌==◌, List, length, map, slice_get, Option, Some, None}
 use Rattle.std.specs.List.{AllByRecursion, count_by}
 use Rattle.std.specs.Ordering.{nat_cmp, ordering_then}
 use Rattle.std.specs.declared.cmp.Ordering.{Ordering}
@@ -14,8 +14,8 @@ use Rattle.tune_problem.specs.Optimum.{cap_of}
 use Rattle.tune_problem.specs.Valid.{IsOwnVersion, listed_fights, listed_indices}
 use Rattle.tune_problem.specs.declared.cert.Row.{Row}
 use Rattle.tune_problem.specs.declared.cert.Row.TheVariants.{Refused, Same, Cap}
-use Rattle.tune_search.specs.Order.{order_after, enough}
-use Rattle.tune_search.specs.Visits.{place, ranking_after, IsFought}
+use Rattle.tune_search.specs.Order.{order_after, enough_fights}
+use Rattle.tune_search.specs.Visits.{visits_before, ranking_after, IsFought}
 use Rattle.tune_search.specs.Recent.{IsRecent}
 use Rattle.tune_search.specs.Sharing.{leads, IsExplained}
 use Rattle.tune_search.specs.Found.{copied_fights}
@@ -40,15 +40,15 @@ pub record IsCandidateAt (i : InputsView) (v : ℕ) (c : Candidate) : Type 0 whe
   pub fits : Fits i.rules c.warrior
   pub text_is : c.text.items ≡ load_text i.rules.core c.warrior
 
--- The fights of a challenge that are played: the first of its order, as many as are enough.
-abbrev pub fights_asked : Problem → Challenge → List ℕ
-fights_asked p c = take (enough p c.method c.aim c.entrant.now.warrior c.order.now c.entrant.now.vector c.ranking.now) c.order.now
+-- The fights of a challenge that are played.
+abbrev pub fights_of_challenge : Problem → Challenge → List ℕ
+fights_of_challenge p c = enough_fights p c.method c.aim c.entrant.now.warrior c.order.now c.entrant.now.vector c.ranking.now
 
 -- Fights with points, by the index of the fight.
 abbrev pub by_index : ℕ × ℕ → ℕ × ℕ → Ordering
 by_index x y = ordering_then (nat_cmp x.0 y.0) (nat_cmp x.1 y.1)
 
--- The row of the lead lists every fight.
+-- The lead has a cap row, and that lists every fight.
 abbrev pub IsWhole : Problem → List Row → Option Best → Type 0
 IsWhole p rows None = Unit {0}
 IsWhole p rows (Some lead) = (row : List (ℕ × ℕ)) × (slice_get rows lead.vector ≡ Some (Cap row)) × (length row ≡ p.fights)
@@ -56,13 +56,14 @@ IsWhole p rows (Some lead) = (row : List (ℕ × ℕ)) × (slice_get rows lead.v
 -- The setting with the copied row was visited, and the start setting leads no more.
 abbrev pub IsCopied : Problem → ℕ → Option Best → Option ℕ → Type 0
 IsCopied p k lead None = Unit {0}
-IsCopied p k lead (Some v) = (v < p.count) × (place p.start v < k) × (leads p.start lead ≡ false)
+IsCopied p k lead (Some v) = (v < p.count) × (visits_before p.start v < k) × (leads p.start lead ≡ false)
 
--- A setting in the cache after k visits: it was fought, and is there under its load file.
+-- An entry of the cache after k visits: a setting that was fought, under its load file, with its
+-- cap by the fights that its row lists.
 pub record IsKnown (p : Problem) (rules : RulesView) (aim : Aim) (method : Method) (rows : List Row) (k : ℕ) (e : List ℕ × Fought) : Type 0 where
   pub warrior : WarriorView
   pub inside : e.1.vector < p.count
-  pub before : place p.start e.1.vector < k
+  pub before : visits_before p.start e.1.vector < k
   pub candidate : p.warrior e.1.vector ≡ Some warrior
   pub is_warrior : IsWarrior warrior
   pub fits : Fits rules warrior
@@ -70,6 +71,7 @@ pub record IsKnown (p : Problem) (rules : RulesView) (aim : Aim) (method : Metho
   pub fought : IsFought p aim method rows e.1.vector warrior
   pub cap : e.1.cap ≡ cap_of p warrior (listed_indices fought.row)
 
+-- A row other than `Refused`: its setting was visited, and assembles.
 abbrev pub is_filled : Row → Bool
 is_filled Refused = false
 is_filled (Same u) = true
@@ -78,6 +80,7 @@ is_filled (Cap row) = true
 -- What a search has after some visits.
 pub record Progress : Type 0 where
   pub rows : List Row
+  -- the first of the ranking of the settings visited
   pub ranking : List Best
   -- the fights of the next visit, in their order
   pub order : List ℕ
@@ -86,24 +89,29 @@ pub record Progress : Type 0 where
   pub candidates : ℕ
   -- the setting with the copied row, if there is one
   pub copied : Option ℕ
-  -- the cache
+  -- the cache: load files, each with the fought setting that has it, the last used first
   pub known : List (List ℕ × Fought)
 
--- After k visits: the rows of the settings visited are explained, and the others are `Refused`. The
--- order is that of the next visit.
+-- A search after k visits.
 pub record IsUnderWay (p : Problem) (rules : RulesView) (aim : Aim) (method : Method) (k : ℕ) (g : Progress) : Type 0 where
   pub rows_are : length g.rows ≡ p.count
+  -- the ranking is that of the settings visited; the rows of the settings in it list all fights
   pub ranking_is : g.ranking ≡ ranking_after p aim k
   pub whole : IsWhole p g.rows (first_of g.ranking)
   pub full : AllByRecursion (IsFull p g.rows) g.ranking
-  pub told : (v : ℕ) → v < p.count → place p.start v < k → IsExplained p aim method g.rows g.copied v (p.warrior v)
-  pub left : (v : ℕ) → v < p.count → k ≤ place p.start v → slice_get g.rows v ≡ Some Refused
+  -- the row of each setting visited is what its visit makes, and any other row is `Refused`
+  pub explained : (v : ℕ) → v < p.count → visits_before p.start v < k → IsExplained p aim method g.rows g.copied v (p.warrior v)
+  pub unvisited : (v : ℕ) → v < p.count → k ≤ visits_before p.start v → slice_get g.rows v ≡ Some Refused
+  -- the next visit plays its fights by index if it is the first, else in the learned order
   pub order_is : g.order ≡ order_after p (k == 0) (p.warrior p.start)
+  -- the cache has the recent settings
   pub recent : IsRecent p (capacity_of method) k (map (λ e. e.1.vector) g.known)
   pub all_known : AllByRecursion (IsKnown p rules aim method g.rows k) g.known
   pub copied_is : IsCopied p k (first_of g.ranking) g.copied
+  -- every listed fight was played once, except those of the copied row
   pub work : g.fights + copied_fights g.rows g.copied ≡ listed_fights g.rows
   pub count : g.candidates ≡ count_by is_filled g.rows
+  -- so that the count of fights does not wrap around
   pub room : g.fights ≤ MOST_FIGHTS * k
 
 -- How far a search is, by its state.
@@ -118,6 +126,7 @@ progress_of s = record {
   known = s.cache.known;
 }
 
+-- The state of a search of these inputs after k visits.
 pub record IsState (i : InputsView) (aim : Aim) (method : Method) (k : ℕ) (s : State) : Type 0 where
   pub start_is : s.start ≡ (problem_of i).start
   pub start_inside : (problem_of i).start < (problem_of i).count
@@ -129,6 +138,6 @@ pub record IsState (i : InputsView) (aim : Aim) (method : Method) (k : ℕ) (s :
   pub blank : IsBlank i.rules s.arena
   pub going : IsUnderWay (problem_of i) i.rules aim method k (progress_of s)
 
--- What is found at the end, with the count of fights.
-abbrev pub found_with : State → Findings
-found_with s = record s.found { fights = s.arena.fights }
+-- The findings of a search: those of its state, with the count of fights, which the arena has.
+abbrev pub findings_of : State → Findings
+findings_of s = record s.found { fights = s.arena.fights }

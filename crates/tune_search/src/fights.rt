@@ -7,13 +7,12 @@ ghost use Rattle.tune_problem.specs.Problem.{problem_of};
 ghost use Rattle.tune_problem.specs.Optimum.{all_fights, cap_of};
 ghost use Rattle.std.specs.List.Sorted.{IsPermutation};
 ghost use Rattle.tune_search.specs.Plays.{played};
-ghost use Rattle.tune_search.specs.State.{fights_asked};
+ghost use Rattle.tune_search.specs.State.{fights_of_challenge};
 
 use crate::candidate::Candidate;
 use crate::method::{Method, drops};
 use mars_core::{Arena, PackedCells};
 use mars_fight::MOST_POINTS;
-use rc_instr::Warrior;
 use std::alloc::{AllocError, Global};
 use tune_problem::{Aim, Best, Inputs, Watcher, fight_points, fight_weight, greatest_total};
 
@@ -25,8 +24,8 @@ pub(crate) struct Bout {
     pub(crate) cap: u32,
 }
 
-// A candidate, the order of its fights, the aim and the ranking before it, and the method that may
-// drop it.
+// A candidate whose fights are to be played, in this order, and what decides when it is dropped:
+// the method, the aim of its visit, and the ranking before it.
 #[derive(Clone, Copy)]
 pub(crate) struct Challenge<'a> {
     pub(crate) method: Method,
@@ -51,8 +50,8 @@ pub(crate) fn play_enough<T: Watcher>(
     requires all { length challenge.now.order.now ≡ (problem_of inputs.now).fights }
     requires once { IsPermutation (all_fights (problem_of inputs.now)) challenge.now.order.now }
     requires below { All (λ k. k < (problem_of inputs.now).fights) challenge.now.order.now }
-    ensures listing { let p = problem_of inputs.now in IfOk result (λ b. b.listing.items ≡ played p challenge.now.entrant.now.warrior (fights_asked p challenge.now)) }
-    ensures cap { let p = problem_of inputs.now in IfOk result (λ b. b.cap ≡ cap_of p challenge.now.entrant.now.warrior (fights_asked p challenge.now)) }
+    ensures listing { let p = problem_of inputs.now in IfOk result (λ b. b.listing.items ≡ played p challenge.now.entrant.now.warrior (fights_of_challenge p challenge.now)) }
+    ensures cap { let p = problem_of inputs.now in IfOk result (λ b. b.cap ≡ cap_of p challenge.now.entrant.now.warrior (fights_of_challenge p challenge.now)) }
     ensures few { IfOk result (λ b. length b.listing.items ≤ MOST_FIGHTS) }
     ensures blank { IsBlank inputs.now.rules arena.new }
     ensures fights { IfOk result (λ b. arena.old.fights + length b.listing.items < 2 ^ 64 → arena.new.fights ≡ arena.old.fights + length b.listing.items) }

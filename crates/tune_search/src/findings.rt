@@ -11,7 +11,8 @@ use tune_problem::{Found, Ranking, Rows};
 pub struct Findings {
     /// The version of a certificate: 1 if every fight has the weight 1, and otherwise 2.
     pub version: u32,
-    /// The first of the ranking, of those that total the floor or more, each with its total.
+    /// The settings that are ranked, those that total the floor or more, up to as many as the aim
+    /// keeps: each with its total, the greatest first, then the smaller index.
     pub ranking: Ranking,
     /// A row for each setting.
     pub rows: Rows,

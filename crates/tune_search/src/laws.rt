@@ -18,7 +18,7 @@ pub use tune_problem::laws::a_certificate_below_a_floor_is_right;
 use tune_problem::{Aim, Best, Found};
 
 /// States that after any number of visits there is at most one list of recent settings.
-pub fn visits_determine_the_rest()
+pub fn visits_determine_the_recent_settings()
     ensures recent { (p : Problem) (capacity k : ℕ) (us vs : List ℕ) → IsRecent p capacity k us → IsRecent p capacity k vs → us ≡ vs }
 {}
 

@@ -35,8 +35,8 @@ pub(crate) fn drops(method: Method, aim: Aim, cap: u32, vector: u32, ranking: &[
     }
 }
 
-// Returns what counts at a visit: no floor at the first one, since the start setting plays all its
-// fights, of which the others learn their order.
+// Returns the aim of a visit. The first one has no floor: the start setting plays all its fights,
+// since the others learn their order from them.
 pub(crate) fn aim_at(aim: Aim, first: bool) -> Aim
     ensures { result ≡ record { keep = aim.keep; floor = if first then 0 else aim.floor } }
 {

@@ -3,9 +3,9 @@ ghost use Rattle.std.specs.Prelude.{◌≡◌, ◌+◌, ◌<◌, ◌≤◌, None
 ghost use Rattle.std.specs.Map.{lookup};
 ghost use Rattle.tune_problem.specs.Problem.{problem_of};
 ghost use Rattle.tune_search.specs.Cache.{same_text};
-ghost use Rattle.tune_search.specs.Visits.{visit};
+ghost use Rattle.tune_search.specs.Visits.{visited};
 ghost use Rattle.tune_problem.specs.Ranking.{IsAim};
-ghost use Rattle.tune_search.specs.State.{IsCandidateAt, IsState, found_with};
+ghost use Rattle.tune_search.specs.State.{IsCandidateAt, IsState, findings_of};
 
 use crate::cache::Cache;
 use crate::candidate::{Candidate, candidate_at};
@@ -30,17 +30,17 @@ pub(crate) struct State {
     // Blank between visits. It counts the fights played.
     pub(crate) arena: Arena<PackedCells>,
     pub(crate) start: u32,
-    // What is found so far: the first of the ranking leads. A row is `Refused` until its setting is
-    // visited. The count of fights is set at the end.
+    // What is found so far. The first setting of its ranking leads. A row is `Refused` until its
+    // setting is visited. The count of fights is set at the end.
     pub(crate) found: Findings,
-    // The order in which the next setting plays its fights.
+    // The order in which the next visit plays its fights.
     pub(crate) order: Vec<u32>,
     // The recent settings.
     pub(crate) cache: Cache,
 }
 
 impl State {
-    // Starts before the first visit.
+    // Makes the state of a search before its first visit.
     pub(crate) fn begin(
         alloc: Global,
         inputs: &Inputs,
@@ -120,7 +120,7 @@ impl State {
     ) -> Result<(), OutOfMemory>
         requires visits { visits < (problem_of inputs.now).count }
         requires state { IsState inputs.now self.old.aim self.old.method visits self.old }
-        requires candidate { IsCandidateAt inputs.now (visit (problem_of inputs.now).start visits) entrant }
+        requires candidate { IsCandidateAt inputs.now (visited (problem_of inputs.now).start visits) entrant }
         requires unknown { lookup (same_text entrant.text.items) self.old.cache.known ≡ None }
         ensures { OnOk result (IsState inputs.now self.old.aim self.old.method (visits + 1) self.new) }
     {
@@ -144,9 +144,9 @@ impl State {
         Ok(())
     }
 
-    // Returns what was found, with the count of fights.
+    // Returns what was found, with the arena's count of fights.
     pub(crate) fn into_findings(self) -> Findings
-        ensures { result ≡ found_with self }
+        ensures { result ≡ findings_of self }
     {
         let State { arena, found, .. } = self;
         Findings {

@@ -8,10 +8,10 @@ use Rattle.tune_problem.specs.declared.cert.Row.TheVariants.{Cap}
 use Rattle.tune_problem.proofs.Scores.{inputs_problem}
 use Rattle.tune_search.specs.Plays.{played}
 use Rattle.tune_search.specs.Order.{aim_at, by_points, enough}
-use Rattle.tune_search.specs.Visits.{visit}
+use Rattle.tune_search.specs.Visits.{visited}
 use Rattle.tune_search.specs.Cache.{CacheView}
 use Rattle.tune_search.specs.Method.{capacity_of}
-use Rattle.tune_search.proofs.Places.{visit_below}
+use Rattle.tune_search.proofs.VisitOrder.{visited_below}
 use Rattle.tune_search.proofs.Totals.{order_length}
 use Rattle.tune_search.proofs.ListedFights.{order_below}
 use Rattle.tune_search.proofs.Counted.{small_count}
@@ -27,8 +27,8 @@ play_enough-requires-clause-all g c =
     let p = problem_of i in
     let s = c.args.self.now in
     let k = c.args.visits in
-    let v = visit p.start k in
-    let inside : v < p.count = visit_below p.start p.count k c.requires.state.start_inside c.requires.visits in
+    let v = visited p.start k in
+    let inside : v < p.count = visited_below p.start p.count k c.requires.state.start_inside c.requires.visits in
     ap length c.deref.ensures.value
     ∙ order_length p s.order.items (permutes p (inputs_problem i) c.requires.state.start_inside i.rules s.aim c.requires.state.is_aim c.args.self.now.method k v refl inside
     (progress_of s) c.requires.state.going)
@@ -39,8 +39,8 @@ play_enough-requires-clause-once g c =
     let p = problem_of i in
     let s = c.args.self.now in
     let k = c.args.visits in
-    let v = visit p.start k in
-    let inside : v < p.count = visit_below p.start p.count k c.requires.state.start_inside c.requires.visits in
+    let v = visited p.start k in
+    let inside : v < p.count = visited_below p.start p.count k c.requires.state.start_inside c.requires.visits in
     subst (λ (l : List ℕ). IsPermutation (all_fights p) l) (sym c.deref.ensures.value)
     (permutes p (inputs_problem i) c.requires.state.start_inside i.rules s.aim c.requires.state.is_aim c.args.self.now.method k v refl inside
     (progress_of s) c.requires.state.going)
@@ -51,8 +51,8 @@ play_enough-requires-clause-below g c =
     let p = problem_of i in
     let s = c.args.self.now in
     let k = c.args.visits in
-    let v = visit p.start k in
-    let inside : v < p.count = visit_below p.start p.count k c.requires.state.start_inside c.requires.visits in
+    let v = visited p.start k in
+    let inside : v < p.count = visited_below p.start p.count k c.requires.state.start_inside c.requires.visits in
     subst (λ (l : List ℕ). All (λ k. k < p.fights) l) (sym c.deref.ensures.value)
     (order_below p s.order.items (permutes p (inputs_problem i) c.requires.state.start_inside i.rules s.aim c.requires.state.is_aim c.args.self.now.method k v refl inside
     (progress_of s) c.requires.state.going))
@@ -63,10 +63,10 @@ returns g c =
     let p = problem_of i in
     let s = c.args.self.now in
     let k = c.args.visits in
-    let v = visit p.start k in
+    let v = visited p.start k in
     let e = c.args.entrant in
     let is = c.requires.candidate in
-    let inside : v < p.count = visit_below p.start p.count k c.requires.state.start_inside c.requires.visits in
+    let inside : v < p.count = visited_below p.start p.count k c.requires.state.start_inside c.requires.visits in
     let bout = c.in_ok-bout.bout in
     let in_order = c.deref.ensures.value in
     let listed = c.deref-2.ensures.value in

@@ -7,12 +7,12 @@ use Rattle.tune_problem.specs.Problem.{problem_of}
 use Rattle.tune_problem.specs.declared.cert.Row.{Row}
 use Rattle.tune_problem.proofs.Scores.{inputs_problem}
 use Rattle.tune_search.specs.Cache.{CacheView, cache_view, same_text}
-use Rattle.tune_search.specs.Visits.{visit}
+use Rattle.tune_search.specs.Visits.{visited}
 use Rattle.tune_search.specs.Sharing.{copies}
 use Rattle.tune_search.specs.State.{IsCandidateAt, IsUnderWay, progress_of}
 use Rattle.tune_search.specs.declared.candidate.Candidate.{Candidate}
 use Rattle.tune_search.proofs.Cached.{promoted_none}
-use Rattle.tune_search.proofs.Places.{visit_below}
+use Rattle.tune_search.proofs.VisitOrder.{visited_below}
 use Rattle.tune_search.proofs.Visiting.{refused_visit, under_way_along}
 use Rattle.tune_search.proofs.SharedVisits.{shared_visit, copied_visit}
 use Rattle.tune_search.proofs.state.State.visit.Goals as goal
@@ -25,8 +25,8 @@ returns-in_default g c =
     let s = c.args.self.now in
     let k = c.args.visits in
     let v = c.visited-vector.result in
-    let at : v ≡ visit p.start k = c.visited-vector.ensures ∙ ap (λ n. visit n k) c.requires.state.start_is in
-    let inside : v < p.count = subst (λ (n : ℕ). n < p.count) (sym at) (visit_below p.start p.count k c.requires.state.start_inside c.requires.visits) in
+    let at : v ≡ visited p.start k = c.visited-vector.ensures ∙ ap (λ n. visited n k) c.requires.state.start_is in
+    let inside : v < p.count = subst (λ (n : ℕ). n < p.count) (sym at) (visited_below p.start p.count k c.requires.state.start_inside c.requires.visits) in
     record {
       start_is = c.requires.state.start_is;
       start_inside = c.requires.state.start_inside;
@@ -81,8 +81,8 @@ returns-then-copied g c =
     let u = c.in-Some-recall.other in
     let e = c.in-Some.entrant in
     let is : IsCandidateAt i c.visited-vector.result e = subst (λ (o : Option Candidate). IfSome o (IsCandidateAt i c.visited-vector.result)) c.in-Some.is c.in_ok-entrant.ensures.some in
-    let at : v ≡ visit p.start k = c.visited-vector.ensures ∙ ap (λ n. visit n k) c.requires.state.start_is in
-    let inside : v < p.count = subst (λ (n : ℕ). n < p.count) (sym at) (visit_below p.start p.count k c.requires.state.start_inside c.requires.visits) in
+    let at : v ≡ visited p.start k = c.visited-vector.ensures ∙ ap (λ n. visited n k) c.requires.state.start_is in
+    let inside : v < p.count = subst (λ (n : ℕ). n < p.count) (sym at) (visited_below p.start p.count k c.requires.state.start_inside c.requires.visits) in
     let text : c.deref.result.now ≡ load_text i.rules.core e.warrior = c.deref.ensures.value ∙ is.text_is in
     let look : lookup (same_text (load_text i.rules.core e.warrior)) s.cache.known ≡ Some u = ap (λ t. lookup (same_text t) s.cache.known) (sym text) ∙ sym c.in-Some-recall.ensures.value in
     let row = c.in_ok-row.row in
@@ -118,8 +118,8 @@ returns g c =
     let u = c.in-Some-recall.other in
     let e = c.in-Some.entrant in
     let is : IsCandidateAt i c.visited-vector.result e = subst (λ (o : Option Candidate). IfSome o (IsCandidateAt i c.visited-vector.result)) c.in-Some.is c.in_ok-entrant.ensures.some in
-    let at : v ≡ visit p.start k = c.visited-vector.ensures ∙ ap (λ n. visit n k) c.requires.state.start_is in
-    let inside : v < p.count = subst (λ (n : ℕ). n < p.count) (sym at) (visit_below p.start p.count k c.requires.state.start_inside c.requires.visits) in
+    let at : v ≡ visited p.start k = c.visited-vector.ensures ∙ ap (λ n. visited n k) c.requires.state.start_is in
+    let inside : v < p.count = subst (λ (n : ℕ). n < p.count) (sym at) (visited_below p.start p.count k c.requires.state.start_inside c.requires.visits) in
     let text : c.deref.result.now ≡ load_text i.rules.core e.warrior = c.deref.ensures.value ∙ is.text_is in
     let look : lookup (same_text (load_text i.rules.core e.warrior)) s.cache.known ≡ Some u = ap (λ t. lookup (same_text t) s.cache.known) (sym text) ∙ sym c.in-Some-recall.ensures.value in
     let apart : copies p.start u.vector v (first_of s.found.ranking) ≡ false = ap (λ n. copies n u.vector v (first_of s.found.ranking)) (sym c.requires.state.start_is) ∙ ap (copies s.start u.vector v) (sym c.first.ensures) ∙ sym c.copies-copied.ensures ∙ c.if-copied.false in
