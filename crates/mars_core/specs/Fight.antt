@@ -35,8 +35,8 @@ abbrev pub TurnsLeave : List Instruction → (mine theirs : Queue) → (turns : 
 TurnsLeave core mine theirs turns core_new my_new their_new =
     (first : Side) → seen_from first core_new my_new.items their_new.items ≡ play_of mine.capacity (seen_from first core mine.items theirs.items) first turns
 
--- What turns that alternate need: a core of m cells, the tasks of both sides in it, the same room
--- for both, and at most a million cycles.
+-- The premise of a fight: a core of m cells, the tasks of both sides in it, the same room for both,
+-- and at most a million cycles.
 pub record CanPlay (m : ℕ) (core : List Instruction) (mine theirs : Queue) (cycles : ℕ) : Type 0 where
   pub core_holds : IsCore m core
   pub mine_below : AreTasks m mine.items
@@ -44,8 +44,8 @@ pub record CanPlay (m : ℕ) (core : List Instruction) (mine theirs : Queue) (cy
   pub same_room : theirs.capacity ≡ mine.capacity
   pub few : cycles ≤ 1000000
 
--- What they leave, after the number of turns that the fight takes within the cycles: the state of
--- the fight, in a core of m cells again, and queues with the room that they had.
+-- The result of a fight: its turns, at most two for each cycle; the state after them, in a core of
+-- m cells again; and queues with the room that they had.
 pub record IsPlayed (m : ℕ) (core : List Instruction) (mine theirs : Queue) (cycles turns : ℕ) (core_new : List Instruction) (my_new their_new : Queue) : Type 0 where
   pub turns_are : AreTurns core mine theirs cycles turns
   pub state_is : TurnsLeave core mine theirs turns core_new my_new their_new

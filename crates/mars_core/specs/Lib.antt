@@ -13,6 +13,7 @@ pub mod Classes
 pub mod Packed
 pub mod Store
 pub mod Evaluated
+pub mod Executed
 pub mod Queue
 pub mod Snapshot
 pub mod Arena

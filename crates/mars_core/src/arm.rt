@@ -4,7 +4,7 @@ ghost use Rattle.rc_instr.specs.Warrior.{IsBelow};
 ghost use Rattle.mars_core.specs.Classes.{IsCoded};
 ghost use Rattle.mars_core.specs.Codes.{opcode_of, modifier_of, mode_of};
 ghost use Rattle.mars_core.specs.Core.{IsCore};
-ghost use Rattle.mars_core.specs.Evaluated.{IsFetched, IsExecuted, IsEvaluated, IsActed};
+ghost use Rattle.mars_core.specs.Executed.{IsFetched, IsExecuted, IsEvaluated, IsActed};
 
 use crate::cell::Cell;
 use crate::cells::Cells;

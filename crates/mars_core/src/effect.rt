@@ -4,7 +4,7 @@ ghost use Rattle.rc_instr.specs.Warrior.{IsBelow};
 ghost use Rattle.rc_instr.specs.declared.instruction.Opcode.{Opcode};
 ghost use Rattle.mars_core.specs.Core.{cell_at, IsCore};
 ghost use Rattle.mars_core.specs.Pairs.{computed, counted_down, has_zero_divisor, pairs_of, written, written_value};
-ghost use Rattle.mars_core.specs.Evaluated.{IsActed};
+ghost use Rattle.mars_core.specs.Executed.{IsActed};
 ghost use Rattle.mars_core.specs.declared.effect.Queued.{Queued};
 
 use crate::cell::Cell;

@@ -4,7 +4,7 @@ ghost use Rattle.rc_instr.specs.Warrior.{IsBelow};
 ghost use Rattle.mars_core.specs.Classes.{IsClassOf, IsModed};
 ghost use Rattle.mars_core.specs.Codes.{opcode_of, modifier_of};
 ghost use Rattle.mars_core.specs.Core.{IsCore};
-ghost use Rattle.mars_core.specs.Evaluated.{IsFetched, IsExecuted, AreEvaluated, IsActed};
+ghost use Rattle.mars_core.specs.Executed.{IsFetched, IsExecuted, AreEvaluated, IsActed};
 
 use crate::arm::evaluate_in;
 use crate::cell::Cell;

@@ -3,7 +3,7 @@ ghost use Rattle.std.specs.Prelude.{◌≡◌, ◌<◌, ◌≤◌, ◌+◌};
 ghost use Rattle.rc_instr.specs.Warrior.{IsBelow};
 ghost use Rattle.mars_core.specs.Core.{cell_at, changed_at, IsCore};
 ghost use Rattle.mars_core.specs.Numbers.{sum_of, difference_of, field_of};
-ghost use Rattle.mars_core.specs.Evaluated.{IsEvaluated};
+ghost use Rattle.mars_core.specs.Executed.{IsEvaluated};
 
 use crate::cell::Cell;
 use crate::cells::{Cells, read, write};

@@ -4,7 +4,8 @@ ghost use Rattle.mars_core.specs.Queue.{queue};
 ghost use Rattle.mars_core.specs.Classes.{IsClassOf};
 ghost use Rattle.mars_core.specs.Core.{IsCore, AreTasks};
 ghost use Rattle.mars_core.specs.State.{appended, core_after, tasks_after};
-ghost use Rattle.mars_core.specs.Evaluated.{IsFetched, IsExecuted, addresses};
+ghost use Rattle.mars_core.specs.Evaluated.{addresses};
+ghost use Rattle.mars_core.specs.Executed.{IsFetched, IsExecuted};
 
 use crate::arm::arm;
 use crate::cell::Cell;

@@ -27,8 +27,8 @@ use std::alloc::Global;
 /// and the A-operand of JMP, SPL and NOP; a missing operand is `$0`. An operand is a mode (`$` if
 /// none is written) and an expression, whose value modulo the core size is the number.
 ///
-/// The address of a line is the number of lines of code before it. In an operand CURLINE stands for
-/// the address of its line, and a label for its own address less that one.
+/// The address of a line is the number of lines of code before it. CURLINE stands for the address
+/// of its line, and a label in an operand for its own address minus that of the line.
 ///
 /// The start is the value of the last ORG (1994 draft); without ORG, the value after END (pMARS);
 /// without either, 0. Every `;assert` must have a value other than 0 (pMARS). In these expressions

@@ -100,7 +100,7 @@ fn line_instruction(
     }
 }
 
-// Evaluates the expression of a line at `address`. In it labels stand for their addresses.
+// Evaluates the expression of the line at `address`. Labels stand for addresses, not for distances.
 fn line_value(
     source: &[u8],
     context: &Context,

@@ -28,7 +28,7 @@ pub record TokensSoFarView : Type 0 where
   pub tokens : List Token
   pub replacements : ℕ
 
--- A part of a line, as what it adds to the tokens so far, or its first fault.
+-- A step: the tokens so far with a part of the line added, or the first fault.
 abbrev pub TokenStep : Type 0
 TokenStep = TokensSoFarView → Result TokensSoFarView ExpandFault
 
@@ -55,8 +55,8 @@ module _ (source : List ℕ) where
   exempt_len_of_code (t ∷ u ∷ v ∷ ts) = if has_modifier source t u v then 3 else 1
   exempt_len_of_code _ = 1
 
-  -- The number of tokens at the front of a line in which no EQU name is replaced: in code the
-  -- first, or an opcode, a dot and a modifier.
+  -- The number of tokens at the front of a line that stay as they are: in code the first, or an
+  -- opcode, a dot and a modifier.
   abbrev pub exempt_len : HeadWord → List Token → ℕ
   exempt_len word.Code ts = exempt_len_of_code ts
   exempt_len _ ts = 0
@@ -82,7 +82,7 @@ module _ (source : List ℕ) (equs : Equs) where
   body_within zero = λ body r. Err (at_line r.line EquTooDeep)
   body_within (suc levels) = λ body r. with_replacement r >>= with_tokens (body_within levels) body
 
-  -- Adds a token. If it is an EQU name, names may nest `levels` deep in it, itself included.
+  -- Adds a token. If it is an EQU name, it and the names inside of it may nest `levels` deep.
   abbrev pub token_within : ℕ → Token → TokenStep
   token_within levels t = token_or_body (body_within levels) t (equ_body t)
 

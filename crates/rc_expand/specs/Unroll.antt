@@ -28,7 +28,7 @@ pub record UnrolledSoFarView : Type 0 where
 abbrev pub nothing_unrolled : UnrolledSoFarView
 nothing_unrolled = record { lines = []; copy_count = 0 }
 
--- A part of the text, as what it adds to the lines so far, or its first fault.
+-- A step: the lines so far with a part of the text added, or the first fault.
 abbrev pub Step : Type 0
 Step = UnrolledSoFarView → Result UnrolledSoFarView ExpandFault
 
@@ -58,22 +58,22 @@ with_earlier line (l ∷ ls) u = with_line (bare_line line (l ∷ ls)) u
 abbrev pub is_bare_rof : Head → Bool
 is_bare_rof h = not h.spoiled && ((length h.labels == 0) && (length h.rest == 0))
 
--- Refuses any other ROF. A ROF adds no line.
+-- Refuses a ROF with anything else on its line. A ROF adds no line.
 abbrev pub rof_check : Head → Step
 rof_check rof u = if is_bare_rof rof then Ok u else Err (at_line rof.number BadDirective)
 
--- Refuses a line other than FOR and ROF that is an EQU in a block, or spoiled: a ninth counter was
--- to be joined to a name of it.
+-- Refuses an EQU line in a block, and a spoiled line, which has a name to which a ninth counter was
+-- joined. FOR and ROF have checks of their own.
 abbrev pub word_check : (line : ℕ) → HeadWord → (in_block spoiled : Bool) → Result (Unit {0}) ExpandFault
 word_check line word.Equ true s = Err (at_line line BadDirective)
 word_check line _ b s = if s then Err (at_line line BadDirective) else Ok tt
 
--- The same check, of a whole line.
+-- `word_check` of a whole line.
 abbrev pub line_check : (in_block : Bool) → Head → Result (Unit {0}) ExpandFault
 line_check b h = word_check h.number h.word b h.spoiled
 
--- The copy for the number `k` of a block that is in `copies` itself and has its FOR at this line.
--- `inside` unrolls the lines of the block.
+-- One copy of a block, for its counter's number `k`. The block is in `copies`, and its FOR is at
+-- `line`; `inside` unrolls its lines.
 abbrev pub one_copy : (inside : List BlockCopyView → Step) → List BlockCopyView → (line : ℕ) → Option (List ℕ) → (k : ℕ) → Step
 one_copy inside copies line counter k u = do
   v ← with_copy line u

@@ -15,7 +15,7 @@ use std::alloc::{AllocError, Global};
 /// The names given from outside of a text: the constants, and the predefined names but `CURLINE`.
 #[derive(Drop)]
 pub struct GivenNames<'a> {
-    /// The constants, which come before the predefined names.
+    /// The constants, which take precedence over the predefined names.
     pub constants: &'a Constants<'a>,
     /// The rules that give the predefined names their values.
     pub rules: &'a Rules,

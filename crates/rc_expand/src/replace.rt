@@ -54,7 +54,7 @@ pub(crate) fn replace_lines(
     Ok(out.lines)
 }
 
-// Adds a line that was reached. One that is as the text has it need not be made first.
+// Adds a line that was reached. A line that no copy changes is used as the text has it.
 fn replace_reached<'a>(
     out: &mut LinesSoFar<'a>,
     context: &Context<'a>,

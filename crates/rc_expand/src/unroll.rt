@@ -60,7 +60,7 @@ fn append_lines<'a>(
     Ok(())
 }
 
-// Appends a line as it is in `copies`, or, with `is_earlier`, the labels before its counter alone.
+// Appends a line as it is in `copies`; with `is_earlier`, only the labels before its counter.
 fn append_reached<'a>(
     out: &mut UnrolledSoFar<'a>,
     context: &Context<'a>,
@@ -85,8 +85,8 @@ fn check_word(head: &Head, in_block: bool) -> Result<(), ExpandFault>
     Ok(())
 }
 
-// Checks a line as it is in `copies`. It is made for that only if a ninth counter might be joined
-// to a name of it.
+// Checks a line as it is in `copies`. Makes the copied line only if a ninth counter might be joined
+// to one of its names.
 fn check_copied_line(
     context: &Context,
     copies: &[BlockCopy],

@@ -11,8 +11,7 @@ pub record RulesView : Type 0 where
   pub tasks : ℕ
   -- The most instructions of a warrior.
   pub length : ℕ
-  -- How far apart two warriors are loaded at least, from first cell to first cell and either way
-  -- round the core.
+  -- The least distance between the first cells of two warriors, either way round the core.
   pub distance : ℕ
 
 abbrev pub rules_view : ℕ → ℕ → ℕ → ℕ → ℕ → RulesView

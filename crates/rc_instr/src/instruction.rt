@@ -2,8 +2,8 @@
 ghost use Rattle.std.specs.Prelude.{◌≡◌, ◌↔◌, IsTrue};
 
 /// What an instruction does: the opcodes of the 1994 draft, with CMP under its later name SEQ, and
-/// SNE and NOP (pMARS). A and B stand for the numbers that the modifier picks, of the A-instruction
-/// and of the B-instruction.
+/// SNE and NOP (pMARS). A and B stand for what the modifier picks of the cells to which the
+/// A-operand and the B-operand point. These cells are copied when the operands are evaluated.
 #[derive(Clone, Copy, Debug, PartialEq, Eq)]
 pub enum Opcode {
     /// Ends the task that runs it.
@@ -26,7 +26,7 @@ pub enum Opcode {
     Jmz,
     /// Jumps to the A-operand if B is not zero.
     Jmn,
-    /// Subtracts 1 from B, then jumps to the A-operand if the result is not zero.
+    /// Subtracts 1 from B, then jumps to the A-operand unless the copy of B was 1.
     Djn,
     /// Skips the next instruction if A equals B. The 1994 draft calls it CMP.
     Seq,
@@ -64,7 +64,7 @@ pub enum Modifier {
 pub enum Mode {
     /// `#`: the instruction's own cell.
     Immediate,
-    /// `$`: the cell that many cells after the instruction's own.
+    /// `$`: the cell that is the operand's number of cells after the instruction's own.
     Direct,
     /// `*`: through the A-number of that cell.
     AIndirect,

@@ -24,8 +24,8 @@ pub fn rules_are_within_their_limits()
     ensures { (r w : RulesView) → rules_of r ≡ Ok w ↔ (w ≡ r) × IsRules r }
 {}
 
-/// Code and a start are accepted as a warrior exactly if they are one that fits the rules, and
-/// neither is changed.
+/// Code and a start are accepted as a warrior exactly if they make a warrior that fits the rules.
+/// Neither is changed.
 #[tactic(auto, using(crate::proofs::CheckSteps::warrior_fits, crate::proofs::CheckSteps::warrior_passes))]
 pub fn a_warrior_fits_its_rules()
     ensures { (r : RulesView) (p w : WarriorView) → IsRules r → warrior_of r p ≡ Ok w ↔ (w ≡ p) × IsWarrior p × Fits r p }
@@ -64,8 +64,8 @@ pub fn a_load_file_means_its_warrior()
 {}
 
 /// A first line is read exactly if it is the text of a start, and a line of code exactly if it is
-/// the text of an instruction. Lines of code are read until what is left begins with none; what was
-/// read is their text.
+/// the text of an instruction. Reading stops before the first line that is not a line of code; the
+/// bytes that were read are the text of the instructions.
 pub fn lines_are_read_as_they_are_written()
     ensures start { (bytes rest : List ℕ) (n : ℕ) → start_at bytes ≡ Some (n, rest) ↔ (bytes ≡ start_text n ++ rest) × (n < 2 ^ 16) }
     ensures line { (m : ℕ) (bytes rest : List ℕ) (i : Instruction) → IsCoreSize m
@@ -76,8 +76,8 @@ pub fn lines_are_read_as_they_are_written()
         (bytes ≡ code_text m read.0 ++ read.1) × All (IsBelow m) read.0 × (line_at m read.1 ≡ None) }
 {}
 
-/// Line 1 is malformed exactly if no first line is read. After a first line, the malformed line is
-/// the one after the lines of code that are read, if something is left there.
+/// Line 1 is malformed exactly if no first line is read. Otherwise the malformed line is the one
+/// after the last line of code, if bytes are left there.
 pub fn a_malformed_line_is_the_first()
     ensures start { (rules : RulesView) (bytes : List ℕ) → load_meaning rules bytes ≡ Err (Malformed 1) ↔ start_at bytes ≡ None }
     ensures later { (r : RulesView) (bytes lines : List ℕ) (start n : ℕ) → start_at bytes ≡ Some (start, lines)

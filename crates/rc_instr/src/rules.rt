@@ -67,8 +67,8 @@ impl Rules {
     /// - `cycles`: after how many cycles a fight is a tie, 1 to 1000000.
     /// - `tasks`: the most tasks of a warrior, 1 to 8000.
     /// - `length`: the most instructions of a warrior, 1 to 200.
-    /// - `distance`: how far apart two warriors are loaded at least, from first cell to first cell
-    ///   and either way round the core, `length` to half of `core`.
+    /// - `distance`: the least distance between the first cells of two warriors, either way round
+    ///   the core, `length` to half of `core`.
     ///
     /// # Errors
     ///
@@ -159,8 +159,8 @@ impl Rules {
         self.length
     }
 
-    /// Returns how far apart two warriors are loaded at least, from first cell to first cell and
-    /// either way round the core: `length` to half the core size.
+    /// Returns the least distance between the first cells of two warriors, either way round the
+    /// core: `length` to half the core size.
     #[inline(always)]
     pub fn distance(&self) -> u32
         ensures distance { result ≡ self.now.distance }

@@ -29,7 +29,7 @@ LOOSEST_LEVEL = 1
 abbrev pub PREFIX_LEVEL : ℕ
 PREFIX_LEVEL = 7
 
--- The level of a decimal, a name and parentheses, which nothing parts.
+-- The level of a decimal, a name or a group in parentheses: no operator splits it.
 abbrev pub OPERAND_LEVEL : ℕ
 OPERAND_LEVEL = 8
 

@@ -56,8 +56,8 @@ token_of kind lo len line = record { kind = kind; lo = lo; hi = lo + len; line =
 abbrev pub with_token : Token → TokenList → TokenList
 with_token t l = record { tokens = t ∷ l.tokens; ending = l.ending }
 
--- The tokens from the byte at index `at` on, which is in line `line`. The last lexeme still covers
--- `inside` bytes; `first` says that only blanks come before the byte on its line.
+-- The tokens from index `at` on, in line `line`. The first `inside` bytes belong to the lexeme
+-- before; `first` says that only blanks come before the byte on its line.
 abbrev pub Onward : Type 0
 Onward = (inside : ℕ) → (first : Bool) → (at line : ℕ) → TokenList
 
@@ -90,7 +90,7 @@ lexer_view l line = record { tokens = l.tokens; ending = l.ending; line = line }
 abbrev pub lexer_at : List ℕ → Bool → ℕ → ℕ → LexerView
 lexer_at text first at line = lexer_view (tokens_from (drop at text) 0 first at line) line
 
--- The lexer at the beginning of a text.
+-- A new lexer, before the first token.
 abbrev pub new_lexer : List ℕ → LexerView
 new_lexer text = lexer_view (tokens_of text) (1 + (header_of text).lines)
 

@@ -49,8 +49,7 @@ impl<'a> Lexer<'a> {
         }
     }
 
-    /// Returns the current line, from 1: that of the last token, or the next one if that was a line
-    /// feed; after a fault, the line of the fault.
+    /// Returns the line of the next byte, from 1. After a fault it is the line of the fault.
     pub fn line(&self) -> u64
         ensures { result ≡ self.now.line }
     {

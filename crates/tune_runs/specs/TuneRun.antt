@@ -128,8 +128,8 @@ WritesTuningFrom t aim method report cert =
     × Gets cert (statement_text (statement_with f.version (answer_of aim.floor (first_of f.ranking)) f.rows))
     × Gets report (report_text (report_from i aim f))
 
--- How a run of a tuning ends. `Wrote` says what the writers of the report and of the certificate get
--- from a run that succeeds.
+-- How a run of a tuning ends. `Wrote` says what the writers of the report and of the certificate
+-- get from a run that succeeds.
 pub record IsTuneRun {X : Type 0} (t : Texts) (Wrote : (report cert : Writer) → Type 0) (result : Result X RunFault)
     (report_old report_new cert_old cert_new : OutletView) : Type 0 where
   -- it succeeded: both were written

@@ -113,7 +113,7 @@ abbrev pub lines_unless_fault : Option ExpandFault → List Head → Result (Lis
 lines_unless_fault None hs = Ok hs
 lines_unless_fault (Some fault) hs = Err fault
 
--- The lines `hs` and those after them, unless `hs` has END.
+-- `hs`, and `later` after them unless `hs` has END.
 abbrev pub up_to_end : List Head → Result (List Head) ExpandFault → Result (List Head) ExpandFault
 up_to_end hs later = if has_end hs then Ok hs else mapped (λ r. hs ++ r) later
 
@@ -173,7 +173,7 @@ module _ (source : List ℕ) where
   abbrev pub if_unjoined : Token → Option Token
   if_unjoined t = if is_unjoined t.joined then Some t else None
 
-  -- The same, but None if the name is written with `&`.
+  -- `label_token`, or None if the name is written with `&`.
   abbrev pub plain_token : List Token → Option Token
   plain_token l = option_and_then if_unjoined (label_token l)
 

@@ -23,7 +23,7 @@ lines_of NoLine = []
 lines_of (OneLine h rest) = h ∷ lines_of rest
 lines_of (Block f inside r rest) = f ∷ (lines_of inside ++ (r ∷ lines_of rest))
 
--- For each FOR the distance to its ROF, 1 if that comes next, and 0 for any other line.
+-- A number for each line: for a FOR the distance to its ROF, 1 if that comes next, and else 0.
 abbrev pub distances : BlockTree → List ℕ
 distances NoLine = []
 distances (OneLine h rest) = 0 ∷ distances rest
@@ -40,16 +40,16 @@ abbrev pub Parts : (n : ℕ) → Type 0
 Parts zero = BlockTree
 Parts (suc n) = Part (Parts n)
 
--- Puts a line before them.
+-- Puts a line before the parts.
 abbrev pub line_before : Head → (n : ℕ) → Parts n → Parts n
 line_before h zero b = OneLine h b
 line_before h (suc n) p = record { inside = OneLine h p.inside; closes = p.closes; after = p.after }
 
--- Puts a ROF before them, which closes one block more.
+-- Puts a ROF before the parts, which closes one block more.
 abbrev pub rof_before : Head → (n : ℕ) → Parts n → Parts (suc n)
 rof_before r n p = record { inside = NoLine; closes = r; after = p }
 
--- Puts a FOR before them, which makes a block of the first part.
+-- Puts a FOR before the parts, which makes a block of the first.
 abbrev pub for_before : Head → (n : ℕ) → Parts (suc n) → Parts n
 for_before f zero p = Block f p.inside p.closes p.after
 for_before f (suc n) p = record { inside = Block f p.inside p.closes p.after.inside; closes = p.after.closes; after = p.after.after }
@@ -70,7 +70,7 @@ parts_from [] zero outermost = Ok NoLine
 parts_from [] (suc n) outermost = Err (at_line outermost ForWithoutRof)
 parts_from (h ∷ hs) n outermost = parts_by h.word h n outermost (λ m line. parts_from hs m line)
 
--- The tree of lines. Refuses the first FOR inside as many blocks as may be open, or ROF outside of
+-- The tree of lines. Refuses the first FOR inside `DEEPEST_BLOCK` open blocks, or ROF outside of
 -- all blocks; then the outermost FOR that is still open at the end.
 abbrev pub blocks_of : List Head → Result BlockTree ExpandFault
 blocks_of hs = parts_from hs 0 0

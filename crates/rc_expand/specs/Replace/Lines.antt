@@ -50,7 +50,8 @@ module _ (source : List ℕ) where
   abbrev pub made_line : Equs → Head → HeadWord → List Token → Result Line ExpandFault
   made_line equs h w tokens = mapped (expanded_line h w) (line_tokens source equs h.number w tokens)
 
-  -- A would-be label that is not a single name makes its line one of code, which begins with it.
+  -- If a would-be label is not a single name, the line is code, and begins with the tokens of that
+  -- label.
   abbrev pub line_with_others : Equs → Head → List (List Token) → Result Line ExpandFault
   line_with_others equs h [] = made_line equs h h.word h.rest
   line_with_others equs h (l ∷ ls) = made_line equs h word.Code (flat_map (λ x. x) (l ∷ ls) ++ (option_to_list h.directive ++ h.rest))

@@ -17,7 +17,7 @@ pub record BlockCopyView : Type 0 where
   pub counter : Option (List ℕ)
   pub number : ℕ
 
--- A line that is in copies at all is in a block.
+-- A line in these copies is in a block if there are any.
 abbrev pub is_in_block : List BlockCopyView → Bool
 is_in_block [] = false
 is_in_block (c ∷ cs) = true

@@ -36,7 +36,7 @@ earlier_of (l ∷ m ∷ ls) = l ∷ earlier_of (m ∷ ls)
 abbrev pub seen_opening : (f : Head) → Opening → OpeningView
 seen_opening f s = record { counter = option_map (λ b. b.now) s.counter; earlier = earlier_of f.labels; count = s.count }
 
--- A value below 1 makes no copies, and one above the limit is no count.
+-- The count of a value: 0 if that is below 1, None if it is above the limit.
 abbrev pub limited_count : ℤ → Option ℕ
 limited_count (negsuc n) = Some 0
 limited_count (pos n) = if nat_le n MOST_COPIES then Some n else None

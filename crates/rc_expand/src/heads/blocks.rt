@@ -10,8 +10,8 @@ use crate::limits::DEEPEST_BLOCK;
 use std::alloc::Global;
 use std::collections::VecDeque;
 
-// The lines of a text, and for each FOR the distance to its ROF, 1 if that comes next; 0 for any
-// other line.
+// The lines of a text, and a number for each: for a FOR the distance to its ROF, 1 if that comes
+// next, and else 0.
 #[derive(Drop)]
 pub(crate) struct Blocks {
     pub(crate) heads: Vec<Head>,
@@ -85,8 +85,8 @@ impl<'a> BlockSlice<'a> {
     }
 }
 
-// Returns for each FOR the distance to its ROF, 1 if that comes next, and 0 for any other line.
-// Refuses what `find` does.
+// Returns a number for each line: for a FOR the distance to its ROF, 1 if that comes next, and else
+// 0. Refuses what `find` does.
 fn check_blocks(alloc: Global, heads: &[Head]) -> Result<Vec<usize>, ExpandFault>
     ensures { Returns (λ v. v.items) result (mapped distances (blocks_of heads.now)) }
 {

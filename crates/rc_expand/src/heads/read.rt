@@ -36,68 +36,40 @@ pub(crate) fn read_lines(alloc: Global, source: &[u8]) -> Result<Vec<Head>, Expa
     Ok(heads)
 }
 
-fn is_ampersand_name(source: &[u8], sign: &Token, name: &Token) -> bool
-    ensures { result ≡ (is_ampersand sign.now && is_free source.now name.now) }
+// Takes the next token. A fault is reported at the line of the lexer.
+fn next_token(lexer: &mut Lexer) -> Result<Option<Token>, ExpandFault>
+    ensures { MatchResult result (λ o. TakesToken lexer.old (Ok o) lexer.new) (λ e. (lexer.old.tokens ≡ []) × (lexer.old.ending ≢ None) × IsEnding lexer.old e) }
 {
-    is_ampersand(sign) && is_free(source, name)
-}
-
-// Checks whether a label goes on at index `at` with `&` and a name.
-#[tactic(auto, using(crate::proofs::Reading::HeadSteps::goes_on_at, crate::proofs::Reading::HeadSteps::goes_on_short))]
-fn label_goes_on(source: &[u8], tokens: &[Token], at: usize) -> bool
-    requires { at ≤ length tokens.now }
-    ensures result { result ≡ label_goes_on source.now (drop at tokens.now) }
-    ensures room { IsTrue result → at + 2 ≤ length tokens.now }
-{
-    at + 1 < tokens.len() && is_ampersand_name(source, &tokens[at], &tokens[at + 1])
-}
-
-// Returns the index after a label whose first name is the token before `from`.
-#[tactic(auto, using(crate::proofs::Reading::HeadSteps::tail_more, crate::proofs::Reading::HeadSteps::tail_colon, crate::proofs::Reading::HeadSteps::tail_none, crate::proofs::Reading::HeadSteps::tail_end))]
-fn label_end(source: &[u8], tokens: &[Token], from: usize) -> usize
-    requires { from ≤ length tokens.now }
-    ensures end { result ≡ from + tail_len source.now (drop from tokens.now) }
-    ensures low { from ≤ result }
-    ensures high { result ≤ length tokens.now }
-{
-    let mut end = from;
-    while label_goes_on(source, tokens, end) {
-        end += 2;
+    match lexer.next_token() {
+        Ok(token) => Ok(token),
+        Err(cause) => Err(at_line(lexer.line(), ExpandKind::Text(cause))),
     }
-    if end < tokens.len() && is_colon(&tokens[end]) {
-        end += 1;
-    }
-    end
 }
 
-// Checks whether a label begins at index `at`.
-#[tactic(auto, using(crate::proofs::Reading::HeadSteps::begins_at, crate::proofs::Reading::HeadSteps::begins_none))]
-fn begins_label(source: &[u8], tokens: &[Token], at: usize) -> bool
-    ensures result { result ≡ begins_label source.now (drop at tokens.now) }
-    ensures room { IsTrue result → at + 1 ≤ length tokens.now }
+fn is_line_end(token: &Token) -> bool
+    ensures { result ≡ is_line_end token.now.kind }
 {
-    at < tokens.len() && is_free(source, &tokens[at])
+    matches!(token.kind, Kind::LineEnd)
 }
 
-// Reads the labels of a line. Returns them and the index after them.
-fn read_labels(
+// Appends the line of these tokens, unless there are none, and returns whether it has END. Moves
+// what comes after the labels out of `line`, which the caller clears.
+fn push_line(
     alloc: Global,
     source: &[u8],
-    tokens: &[Token],
-) -> Result<(Labels, usize), AllocError>
-    ensures labels { IfOk result (λ p. p.0 ≡ (label_split source.now tokens.now).labels) }
-    ensures rest { IfOk result (λ p. drop p.1 tokens.now ≡ (label_split source.now tokens.now).after) }
-    ensures index { IfOk result (λ p. p.1 ≤ length tokens.now) }
+    heads: &mut Vec<Head>,
+    line: &mut Vec<Token>,
+) -> Result<bool, AllocError>
+    ensures heads { IfOk result (λ ended. heads.new.items ≡ heads.old.items ++ line_of_tokens source.now line.old.items) }
+    ensures ended { IfOk result (λ ended. ended ≡ has_end (line_of_tokens source.now line.old.items)) }
 {
-    let mut labels = Labels::none(alloc);
-    let mut at = 0;
-    'line: while begins_label(source, tokens, at) {
-        let end = label_end(source, tokens, at + 1);
-        let label = clone_tokens(alloc, &tokens[at..end])?;
-        labels.push(label)?;
-        at = end;
+    if line.is_empty() {
+        return Ok(false);
     }
-    Ok((labels, at))
+    let head = read_head(alloc, source, line[0].line, line)?;
+    let ended = head.word == HeadWord::End;
+    heads.push(head)?;
+    Ok(ended)
 }
 
 // Reads a line from its tokens. Those after the labels are moved into it.
@@ -138,38 +110,66 @@ fn read_head(
     })
 }
 
-// Appends the line of these tokens, unless there are none, and returns whether it has END. Moves
-// what comes after the labels out of `line`, which the caller clears.
-fn push_line(
+// Reads the labels of a line. Returns them and the index after them.
+fn read_labels(
     alloc: Global,
     source: &[u8],
-    heads: &mut Vec<Head>,
-    line: &mut Vec<Token>,
-) -> Result<bool, AllocError>
-    ensures heads { IfOk result (λ ended. heads.new.items ≡ heads.old.items ++ line_of_tokens source.now line.old.items) }
-    ensures ended { IfOk result (λ ended. ended ≡ has_end (line_of_tokens source.now line.old.items)) }
+    tokens: &[Token],
+) -> Result<(Labels, usize), AllocError>
+    ensures labels { IfOk result (λ p. p.0 ≡ (label_split source.now tokens.now).labels) }
+    ensures rest { IfOk result (λ p. drop p.1 tokens.now ≡ (label_split source.now tokens.now).after) }
+    ensures index { IfOk result (λ p. p.1 ≤ length tokens.now) }
 {
-    if line.is_empty() {
-        return Ok(false);
+    let mut labels = Labels::none(alloc);
+    let mut at = 0;
+    'line: while begins_label(source, tokens, at) {
+        let end = label_end(source, tokens, at + 1);
+        let label = clone_tokens(alloc, &tokens[at..end])?;
+        labels.push(label)?;
+        at = end;
     }
-    let head = read_head(alloc, source, line[0].line, line)?;
-    let ended = head.word == HeadWord::End;
-    heads.push(head)?;
-    Ok(ended)
+    Ok((labels, at))
 }
 
-// Takes the next token. A fault is reported at the line of the lexer.
-fn next_token(lexer: &mut Lexer) -> Result<Option<Token>, ExpandFault>
-    ensures { MatchResult result (λ o. TakesToken lexer.old (Ok o) lexer.new) (λ e. (lexer.old.tokens ≡ []) × (lexer.old.ending ≢ None) × IsEnding lexer.old e) }
+// Checks whether a label begins at index `at`.
+#[tactic(auto, using(crate::proofs::Reading::HeadSteps::begins_at, crate::proofs::Reading::HeadSteps::begins_none))]
+fn begins_label(source: &[u8], tokens: &[Token], at: usize) -> bool
+    ensures result { result ≡ begins_label source.now (drop at tokens.now) }
+    ensures room { IsTrue result → at + 1 ≤ length tokens.now }
 {
-    match lexer.next_token() {
-        Ok(token) => Ok(token),
-        Err(cause) => Err(at_line(lexer.line(), ExpandKind::Text(cause))),
-    }
+    at < tokens.len() && is_free(source, &tokens[at])
 }
 
-fn is_line_end(token: &Token) -> bool
-    ensures { result ≡ is_line_end token.now.kind }
+// Returns the index after a label whose first name is the token before `from`.
+#[tactic(auto, using(crate::proofs::Reading::HeadSteps::tail_more, crate::proofs::Reading::HeadSteps::tail_colon, crate::proofs::Reading::HeadSteps::tail_none, crate::proofs::Reading::HeadSteps::tail_end))]
+fn label_end(source: &[u8], tokens: &[Token], from: usize) -> usize
+    requires { from ≤ length tokens.now }
+    ensures end { result ≡ from + tail_len source.now (drop from tokens.now) }
+    ensures low { from ≤ result }
+    ensures high { result ≤ length tokens.now }
 {
-    matches!(token.kind, Kind::LineEnd)
+    let mut end = from;
+    while label_goes_on(source, tokens, end) {
+        end += 2;
+    }
+    if end < tokens.len() && is_colon(&tokens[end]) {
+        end += 1;
+    }
+    end
+}
+
+// Checks whether a label goes on at index `at` with `&` and a name.
+#[tactic(auto, using(crate::proofs::Reading::HeadSteps::goes_on_at, crate::proofs::Reading::HeadSteps::goes_on_short))]
+fn label_goes_on(source: &[u8], tokens: &[Token], at: usize) -> bool
+    requires { at ≤ length tokens.now }
+    ensures result { result ≡ label_goes_on source.now (drop at tokens.now) }
+    ensures room { IsTrue result → at + 2 ≤ length tokens.now }
+{
+    at + 1 < tokens.len() && is_ampersand_name(source, &tokens[at], &tokens[at + 1])
+}
+
+fn is_ampersand_name(source: &[u8], sign: &Token, name: &Token) -> bool
+    ensures { result ≡ (is_ampersand sign.now && is_free source.now name.now) }
+{
+    is_ampersand(sign) && is_free(source, name)
 }

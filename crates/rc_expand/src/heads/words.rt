@@ -17,7 +17,7 @@ pub(crate) fn is_free(source: &[u8], token: &Token) -> bool
     is_name_token(token) && !(is_unjoined(token) && is_reserved(text_of(source, token)))
 }
 
-// Checks for an opcode. A name with joined counters is none.
+// Checks for an opcode. A name with joined counters is not an opcode.
 #[tactic(auto, unfolding(crate::specs::Heads::Lines::is_opcode))]
 pub(crate) fn is_opcode(source: &[u8], token: &Token) -> bool
     ensures { result ≡ is_opcode source.now token.now }
@@ -25,8 +25,8 @@ pub(crate) fn is_opcode(source: &[u8], token: &Token) -> bool
     is_name_token(token) && is_unjoined(token) && is_opcode_word(text_of(source, token))
 }
 
-// Checks for an opcode, a dot and a modifier. Here any name will do as a modifier; the assembler
-// refuses others.
+// Checks for an opcode, a dot and a modifier. Any name passes as a modifier here; the assembler
+// checks it.
 pub(crate) fn has_modifier(source: &[u8], opcode: &Token, dot: &Token, modifier: &Token) -> bool
     ensures { result ≡ has_modifier source.now opcode.now dot.now modifier.now }
 {

@@ -37,8 +37,8 @@ pub(crate) fn split_labels<'a>(
     Ok((Tokens::from_vec(own), rest))
 }
 
-// Makes the line of the expansion of an unrolled line. Its labels are split into `labels` and
-// `others`, by `split_labels`.
+// Makes a `Line` from an unrolled line, whose labels `split_labels` has split into `labels` and
+// `others`.
 #[tactic(auto, unfolding(crate::specs::Replace::Lines::line_of))]
 pub(crate) fn line_of(
     context: &Context,
@@ -57,26 +57,8 @@ pub(crate) fn line_of(
     made_line(context, head, labels, HeadWord::Code, &tokens)
 }
 
-fn push_tokens(all: &mut Vec<Token>, tokens: &[Token]) -> Result<(), AllocError>
-    ensures { OnOk result (all.new.items ≡ all.old.items ++ tokens.now) }
-{
-    for token in tokens {
-        all.push(clone_token(token)?)?;
-    }
-    Ok(())
-}
-
-fn push_directive(all: &mut Vec<Token>, directive: &Option<Token>) -> Result<(), AllocError>
-    ensures { OnOk result (all.new.items ≡ all.old.items ++ option_to_list directive.now) }
-{
-    if let Some(token) = directive {
-        all.push(clone_token(token)?)?;
-    }
-    Ok(())
-}
-
-// Joins the tokens of a line whose would-be labels are code: theirs, then the directive, then the
-// rest.
+// Concatenates the tokens of a line whose would-be labels are code: theirs, then the directive,
+// then the rest.
 fn as_code_tokens(
     alloc: Global,
     others: &[Tokens],
@@ -94,60 +76,22 @@ fn as_code_tokens(
     Ok(all)
 }
 
-// Counts the tokens that EQU names do not replace at the front of a line of code: its first one,
-// and the modifier after an opcode and a dot.
-fn exempt_len_of_code(source: &[u8], tokens: &[Token]) -> usize
-    ensures exempt { result ≡ exempt_len_of_code source.now tokens.now }
-    ensures room { result ≤ length tokens.now }
+fn push_directive(all: &mut Vec<Token>, directive: &Option<Token>) -> Result<(), AllocError>
+    ensures { OnOk result (all.new.items ≡ all.old.items ++ option_to_list directive.now) }
 {
-    match tokens {
-        [] => 0,
-        [first, dot, modifier, ..] => if has_modifier(source, first, dot, modifier) {
-            3
-        } else {
-            1
-        },
-        _ => 1,
+    if let Some(token) = directive {
+        all.push(clone_token(token)?)?;
     }
+    Ok(())
 }
 
-// Counts the tokens that EQU names do not replace at the front of a line.
-fn exempt_len(source: &[u8], word: HeadWord, tokens: &[Token]) -> usize
-    ensures exempt { result ≡ exempt_len source.now word tokens.now }
-    ensures room { result ≤ length tokens.now }
+fn push_tokens(all: &mut Vec<Token>, tokens: &[Token]) -> Result<(), AllocError>
+    ensures { OnOk result (all.new.items ≡ all.old.items ++ tokens.now) }
 {
-    match word {
-        HeadWord::Code => exempt_len_of_code(source, tokens),
-        _ => 0,
+    for token in tokens {
+        all.push(clone_token(token)?)?;
     }
-}
-
-// Replaces the EQU names of a line.
-fn line_tokens(
-    context: &Context,
-    line: u64,
-    word: HeadWord,
-    tokens: &[Token],
-) -> Result<Tokens, ExpandFault>
-    ensures { Returns (λ t. t) result (line_tokens context.now.source.now context.now.equs.now line word tokens.now) }
-{
-    let (front, back) = tokens.split_at(exempt_len(context.source, word, tokens));
-    let mut kept = Vec::new(context.alloc);
-    push_tokens(&mut kept, front)?;
-    replace_tokens(context, line, kept, back)
-}
-
-// Converts the word of a line. Anything that is left and not a directive is code.
-fn line_word(word: HeadWord) -> LineWord
-    ensures { result ≡ line_word word }
-{
-    match word {
-        HeadWord::Bare => LineWord::Bare,
-        HeadWord::Org => LineWord::Org,
-        HeadWord::End => LineWord::End,
-        HeadWord::Assert => LineWord::Assert,
-        _ => LineWord::Code,
-    }
+    Ok(())
 }
 
 // Makes a line of the expansion from `tokens`, with their EQU names replaced.
@@ -168,4 +112,60 @@ fn made_line(
         word: line_word(word),
         tokens,
     })
+}
+
+// Replaces the EQU names of a line.
+fn line_tokens(
+    context: &Context,
+    line: u64,
+    word: HeadWord,
+    tokens: &[Token],
+) -> Result<Tokens, ExpandFault>
+    ensures { Returns (λ t. t) result (line_tokens context.now.source.now context.now.equs.now line word tokens.now) }
+{
+    let (front, back) = tokens.split_at(exempt_len(context.source, word, tokens));
+    let mut kept = Vec::new(context.alloc);
+    push_tokens(&mut kept, front)?;
+    replace_tokens(context, line, kept, back)
+}
+
+// Counts the tokens that EQU names do not replace at the front of a line.
+fn exempt_len(source: &[u8], word: HeadWord, tokens: &[Token]) -> usize
+    ensures exempt { result ≡ exempt_len source.now word tokens.now }
+    ensures room { result ≤ length tokens.now }
+{
+    match word {
+        HeadWord::Code => exempt_len_of_code(source, tokens),
+        _ => 0,
+    }
+}
+
+// Counts the tokens that EQU names do not replace at the front of a line of code: its first one,
+// and the modifier after an opcode and a dot.
+fn exempt_len_of_code(source: &[u8], tokens: &[Token]) -> usize
+    ensures exempt { result ≡ exempt_len_of_code source.now tokens.now }
+    ensures room { result ≤ length tokens.now }
+{
+    match tokens {
+        [] => 0,
+        [first, dot, modifier, ..] => if has_modifier(source, first, dot, modifier) {
+            3
+        } else {
+            1
+        },
+        _ => 1,
+    }
+}
+
+// Converts the word of a line. Anything that is left and not a directive is code.
+fn line_word(word: HeadWord) -> LineWord
+    ensures { result ≡ line_word word }
+{
+    match word {
+        HeadWord::Bare => LineWord::Bare,
+        HeadWord::Org => LineWord::Org,
+        HeadWord::End => LineWord::End,
+        HeadWord::Assert => LineWord::Assert,
+        _ => LineWord::Code,
+    }
 }

@@ -45,8 +45,8 @@ pub(crate) fn read_opening<'a>(
 }
 
 // Checks for a label that was the name of an enclosing block's counter, written without `&`:
-// copying has put a number in its place. A number in the place of a name with `&` has counters
-// joined to it.
+// copying has put a number in its place. A number that replaced a joined name still has counters,
+// and does not count.
 fn is_enclosing_counter(label: &[Token]) -> bool
     ensures { result ≡ is_enclosing_counter label.now }
 {

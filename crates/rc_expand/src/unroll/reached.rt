@@ -98,7 +98,7 @@ fn clone_copies<'a>(
     Ok(cloned)
 }
 
-// Returns `copies` and, inside of them, `copy`.
+// Returns `copies` with `copy` as the innermost.
 pub(crate) fn inner_copies<'a>(
     alloc: Global,
     copies: &[BlockCopy<'a>],
