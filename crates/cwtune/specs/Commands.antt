@@ -46,8 +46,8 @@ WritesDuelOf rules position first out =
 -- The report of a tuning of some texts was written, and a certificate.
 abbrev pub WritesReport : Aim → Method → RulesView → Part → (report : Writer) → Type 0
 WritesReport aim method rules part report =
-    (template : List ℕ) × (opponents : List (List ℕ)) × (schedule : List ℕ) × (cert : Writer)
-    × WritesTuningFrom (part_texts template opponents schedule rules part) aim method report cert
+    (template : List ℕ) × (opponents : List (List ℕ)) × (schedule : List ℕ) × (old : Option (List ℕ)) × (new : Option (List ℕ))
+    × WritesTuningFrom (part_texts template opponents schedule rules part) aim method report (record { old = old; new = new })
 
 -- A ranking or a floor is asked for.
 abbrev pub is_asked : Demand → Bool

@@ -15,6 +15,7 @@ use Rattle.tune_problem.specs.declared.statement.Statement.{Statement}
 unfoldable pub item_text : ℕ × ℕ → List ℕ
 item_text item = decimal item.0 ++ 58 ∷ decimal item.1
 
+-- A space, then a fight with its points.
 unfoldable pub spaced_text : ℕ × ℕ → List ℕ
 spaced_text item = 32 ∷ item_text item
 
@@ -23,11 +24,13 @@ unfoldable pub list_text : List (ℕ × ℕ) → List ℕ
 list_text [] = codes "-"
 list_text (item ∷ items) = item_text item ++ flat_map spaced_text items
 
+-- The first field of a row.
 abbrev pub kind_text : Row → List ℕ
 kind_text Refused = codes "refused"
 kind_text (Same u) = codes "same"
 kind_text (Cap fights) = codes "cap"
 
+-- The last field of a row.
 abbrev pub last_text : Row → List ℕ
 last_text Refused = codes "-"
 last_text (Same u) = decimal u
@@ -62,6 +65,7 @@ answer_fields (NoneFrom floor) = none_fields floor
 unfoldable pub statement_fields : Statement → List Fields
 statement_fields s = count_fields s.version s.count ∷ answer_fields s.answer ∷ rows_fields s.rows 0
 
+-- The records as the crate `csv` writes them, one after the other.
 unfoldable pub records_text : List Fields → List ℕ
 records_text [] = []
 records_text (fields ∷ records) = row_text default_writer fields ++ records_text records
@@ -69,7 +73,7 @@ records_text (fields ∷ records) = row_text default_writer fields ++ records_te
 unfoldable pub statement_text : Statement → List ℕ
 statement_text s = records_text (statement_fields s)
 
--- The statement of such an answer by these rows, one for each setting.
+-- The statement that has this answer and these rows, and claims as many settings as rows.
 abbrev pub statement_with : (version : ℕ) → Answer → List Row → Statement
 statement_with version answer rows = record { version = version; count = length rows; answer = answer; rows = rows }
 

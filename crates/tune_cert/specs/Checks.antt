@@ -136,7 +136,7 @@ share_settings share count = settings_between (part_first share count) (part_end
 abbrev pub at_record : ℕ → Option Reason → Option (ℕ × Reason)
 at_record number reason = option_map (λ r. (number, r)) reason
 
--- What is wrong with the row of setting v, by a check of rows.
+-- What a check of rows finds wrong with the row of setting v, if there is one.
 abbrev pub reason_at : (ℕ → Row → Option Reason) → List Row → ℕ → Option Reason
 reason_at check rows v = option_and_then (check v) (slice_get rows v)
 
@@ -145,18 +145,18 @@ abbrev pub first_wrong : (ℕ → Option Reason) → List ℕ → Option (ℕ ×
 first_wrong reason [] = None
 first_wrong reason (v ∷ settings) = first_of (at_record (record_of v) (reason v) ∷ first_wrong reason settings ∷ [])
 
--- Of certificate c, against problem p, with an aim or without:
+-- The first wrong row of certificate c, against problem p. With an aim the rows have to be exact.
 module _ (p : Problem) (c : Cert) (aim : Option Aim) where
-  -- The first wrong row of some settings, of the rows that refer to no other setting.
+  -- Of some settings, and only of the rows that refer to no other setting.
   abbrev pub wrong_alone : List ℕ → Option (ℕ × Reason)
   wrong_alone settings = first_wrong (reason_at (alone_reason p c aim) c.rows) settings
 
-  -- The first wrong row of some settings, of the rows that refer to another setting.
+  -- Of some settings, and only of the rows that refer to another setting.
   abbrev pub wrong_same : List ℕ → Option (ℕ × Reason)
   wrong_same settings = first_wrong (reason_at (same_reason p c aim) c.rows) settings
 
-  -- The first wrong row of some settings: the refused and the cap rows are checked first, in
-  -- order, and then those that refer to other settings.
+  -- Of some settings. The refused and the cap rows are checked first, in order, and then those that
+  -- refer to other settings.
   abbrev pub rows_failure : List ℕ → Option (ℕ × Reason)
   rows_failure settings = first_of (wrong_alone settings ∷ wrong_same settings ∷ [])
 
@@ -185,8 +185,8 @@ is_best_row p total (Some Refused) = false
 is_best_row p total (Some (Same u)) = false
 is_best_row p total (Some (Cap row)) = lists_all p.fights 0 row && (listed_total p row == total)
 
--- What is wrong with a certificate, and at which record, as far as a check of a share sees, given
--- whether the record of the answer is right, and the aim for which the rows have to be exact.
+-- What is wrong with a certificate, and at which record, as far as a check of a share sees.
+-- `answered` says whether the record of the answer is right. With an aim the rows have to be exact.
 unfoldable pub failure_by : Problem → Part → Bool → Option Aim → Cert → Option (ℕ × Reason)
 failure_by p share answered aim c =
     first_of (

@@ -111,7 +111,8 @@ statement_of floors records = do
   rows ← rows_from 0 (drop 2 records)
   Ok (record { version = first.0; count = first.1; answer = answer; rows = rows })
 
--- A statement by its answer, as a certificate: the answer, at record 1, is its best setting.
+-- A statement with this answer as a certificate, if the answer is a best setting. If not, record 1
+-- is malformed, which has the answer.
 abbrev pub cert_by : Statement → Answer → Result Cert ℕ
 cert_by s (TheBest best) = Ok (record { version = s.version; count = s.count; best = best.vector; total = best.total; rows = s.rows })
 cert_by s (NoneFrom floor) = Err 1

@@ -2,14 +2,12 @@
 use Rattle.std.proofs.Common.{◌≡◌, ℕ, ◌<◌, ◌≤◌, arith, Bool, true, List, [], ◌∷◌, ◌++◌, map, length, Option, Some, None, Result, Ok, refl, sym, ◌∙◌, ap, subst}
 use Rattle.std.specs.Prelude.{nat_lt, if◌then◌else◌}
 use Rattle.std.specs.Option.{is_some, option_map, unwrap_or}
-use Rattle.std.specs.Io.KnownBytes.{Appends}
 use Rattle.std.proofs.lemmas.Bool.Decides.{nat_tests}
 use Rattle.tables.specs.Records.{records_of}
 use Rattle.mars_fight.specs.Limits.{MOST_TOTAL}
 use Rattle.mars_fight.proofs.Listed.{listed}
 use Rattle.tune_template.specs.Vectors.{vectors_of}
 use Rattle.tune_template.specs.Instances.{setting_count}
-use Rattle.tune_problem.specs.Limits.{MOST_KEPT}
 use Rattle.tune_problem.specs.Parts.{IsPart}
 use Rattle.tune_problem.specs.Inputs.{InputsView, index_among, part_start, settings_of}
 use Rattle.tune_problem.specs.Problem.{Problem, IsProblem, problem_of}

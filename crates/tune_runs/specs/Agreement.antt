@@ -1,5 +1,5 @@
 -- What tunings and checks of the same texts wrote, and how they agree.
-use Rattle.std.specs.Prelude.{◌≡◌, ℕ, ◌≤◌, ℤ, Bool, true, List, [], ◌++◌, codes, Option, Some, None}
+use Rattle.std.specs.Prelude.{◌≡◌, ℕ, ◌≤◌, ℤ, Bool, true, List, [], ◌++◌, codes, Some, None}
 use Rattle.tables.specs.Records.{Fields, records_of}
 use Rattle.tune_problem.specs.Below.{AllBelow}
 use Rattle.tune_problem.specs.BestPart.{in_whole, IsBest, AllStayBelow, IsBestPart}

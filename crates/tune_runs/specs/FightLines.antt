@@ -1,6 +1,6 @@
 -- The lines of a fight text, each read from the front of bytes. A reader gives a value and the
 -- bytes after it.
-use Rattle.std.specs.Prelude.{ℕ, ◌+◌, Bool, true, ◌==◌, bytes_eq, length, take, drop, position, if◌then◌else◌, List, [], ◌∷◌, codes, Option, Some, None, option_and_then}
+use Rattle.std.specs.Prelude.{ℕ, ◌+◌, Bool, ◌==◌, bytes_eq, length, take, drop, position, if◌then◌else◌, List, [], ◌∷◌, codes, Option, Some, None, option_and_then}
 use Rattle.std.specs.Option.{option_map}
 use Rattle.std.specs.Str.{byte}
 use Rattle.rc_instr.specs.Rules.{RulesView, rules_view}

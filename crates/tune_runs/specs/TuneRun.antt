@@ -109,7 +109,8 @@ WritesTuning t method report cert =
 
 -- The report of what the tuning finds was written, and its certificate to some writer.
 abbrev pub WritesOptimum : Texts → Method → (report : Writer) → Type 0
-WritesOptimum t method report = (cert : Writer) × WritesTuning t method report cert
+WritesOptimum t method report =
+    (old : Option (List ℕ)) × (new : Option (List ℕ)) × WritesTuning t method report (record { old = old; new = new })
 
 -- What a tuning with an aim finds: the inputs that the texts mean, some of whose settings assemble,
 -- and what a search by this method finds for them.

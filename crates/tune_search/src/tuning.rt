@@ -21,9 +21,9 @@ use tune_problem::{Aim, Best, Found, Inputs, Silent, Standing, Watcher, part_siz
 /// Visits the start setting first, then the others in order. The fights of the start setting go by
 /// index, and those of the others by the points that it made in them, the fewest first, and by
 /// index where these are equal; all by index if it does not assemble. A setting is dropped as soon
-/// as its cap does not beat the lead, the best setting visited so far: what it has and 3 times the
-/// weight of each fight left are less than the lead's total, or equal and the lead has the smaller
-/// index.
+/// as its cap does not beat the lead, the best setting visited so far. The cap is the scores that
+/// it has and 3 times the weight of each fight left. It does not beat the lead if it is less than
+/// the lead's total, or equal and the lead has the smaller index.
 ///
 /// Remembers up to `capacity` fought settings, 1 to 65536, and forgets the one used least recently
 /// to make room. A setting v with the warrior of a remembered setting u is not fought, and u
