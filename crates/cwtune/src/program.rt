@@ -42,8 +42,8 @@ use tune_runs::RunFault;
 ///   `--floor` it writes the lines of the judgement.
 /// - `--help`, `help`: writes the help text. `--version`: writes the version.
 ///
-/// A text may have at most 1073741824 bytes. On standard error goes a line `refused: ..` for an
-/// input that is refused, the usage error, or a line `failed: ..` with status 3. If such a write
+/// A text may have at most 1073741824 bytes. Writes to standard error a line `refused: ..` for an
+/// input that is refused, the usage error, or a line `failed: ..` with status 3. If that write
 /// fails, nothing else changes. The outlet `out` must not have failed.
 pub fn program<F: Files, R: Read, W: Write, V: Write>(
     rt: &F,

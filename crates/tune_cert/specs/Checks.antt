@@ -114,11 +114,11 @@ module _ (p : Problem) (c : Cert) (aim : Option Aim) where
   row_reason v (Same u) = reference_reason v u (slice_get c.rows u)
   row_reason v (Cap row) = cap_reason v row
 
-  -- The same of a row that refers to no other setting, and None of one that does.
+  -- What is wrong with the row of v if it refers to no other setting; None if it refers to one.
   abbrev pub alone_reason : ℕ → Row → Option Reason
   alone_reason v row = if refers row then None else row_reason v row
 
-  -- The same of a row that refers to another setting, and None of one that does not.
+  -- What is wrong with the row of v if it refers to another setting; None if it does not.
   abbrev pub same_reason : ℕ → Row → Option Reason
   same_reason v row = if refers row then row_reason v row else None
 
@@ -145,7 +145,7 @@ abbrev pub first_wrong : (ℕ → Option Reason) → List ℕ → Option (ℕ ×
 first_wrong reason [] = None
 first_wrong reason (v ∷ settings) = first_of (at_record (record_of v) (reason v) ∷ first_wrong reason settings ∷ [])
 
--- The first wrong row of certificate c, against problem p. With an aim the rows have to be exact.
+-- The first wrong rows of certificate c, against problem p. With an aim they have to be exact.
 module _ (p : Problem) (c : Cert) (aim : Option Aim) where
   -- Of some settings, and only of the rows that refer to no other setting.
   abbrev pub wrong_alone : List ℕ → Option (ℕ × Reason)

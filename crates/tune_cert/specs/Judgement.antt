@@ -47,7 +47,7 @@ abbrev pub best_against : Problem → Answer → Best
 best_against p (TheBest best) = best
 best_against p (NoneFrom floor) = record { vector = p.count; total = floor }
 
--- A statement as the certificate whose rows are checked.
+-- The certificate that a statement is checked as.
 abbrev pub as_cert : Problem → Statement → Cert
 as_cert p s = cert_with s.version s.count s.rows (best_against p s.answer)
 

@@ -12,7 +12,7 @@ use Rattle.tune_cert.specs.declared.claim.Claim.{Claim}
 use Rattle.csv.specs.Writing.{default_writer, writer_setup, fields_written, has_written, text_written}
 use Rattle.csv.specs.declared.writer.Writer.{Writer}
 
--- What a rule of `Checks` says of a claim: of its certificate, against its inputs, for its aim.
+-- Applies a rule of `Checks` to the inputs, the certificate and the aim of a claim.
 abbrev pub for_claim : {A : Type 0} → (rule : Problem → Cert → Option Aim → A) → Claim → A
 for_claim rule claim = rule (problem_of claim.inputs.now) claim.cert.now claim.aim
 

@@ -220,9 +220,9 @@ fn is_answered(inputs: &Inputs, demand: Demand, statement: &Statement) -> bool
     }
 }
 
-// Returns the certificate as which the rows of a statement are checked. If no setting is said to
-// reach a floor, its best setting is the one after the last, with the floor as its total: a cap
-// beats that exactly if it reaches the floor.
+// Returns the certificate that a statement is checked as. If no setting is said to reach a floor,
+// its best setting is the one after the last, with the floor as its total: a cap beats that exactly
+// if it reaches the floor.
 fn as_cert(inputs: &Inputs, statement: Statement) -> Cert
     ensures { result ≡ as_cert (problem_of inputs.now) statement }
 {

@@ -87,7 +87,7 @@ fn check_cap<T: Watcher>(
 }
 
 // Returns what is wrong with a row that refers to another setting, and passes over any other row.
-// `warriors` has those of the settings to which rows referred before.
+// `warriors` keeps the warriors of settings to which earlier rows referred.
 pub(crate) fn check_same(
     alloc: Global,
     claim: &Claim<'_>,
@@ -240,7 +240,7 @@ fn have_points<T: Watcher>(
     ensures points { result ≡ have_points (problem_of inputs.now) warrior.now listed.now }
     ensures blank { IsBlank inputs.now.rules arena.new }
 
-    // Each listed fight is played once, if all have the listed points, and no other is.
+    // If all points are as listed, each listed fight is played once, and no other.
     ensures all { IsTrue result → arena.old.fights + length listed.now < 2 ^ 64 → arena.new.fights ≡ arena.old.fights + length listed.now }
     ensures most { PlaysAtMost arena.old arena.new (length listed.now) }
 {

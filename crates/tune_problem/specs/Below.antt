@@ -23,8 +23,8 @@ IsRowBelow p floor rows v (Same u) =
     (w : WarriorView) × (row : List (ℕ × ℕ)) × (u ≢ v) × (u < p.count) × (p.warrior v ≡ Some w) × (p.warrior u ≡ Some w)
     × (slice_get rows u ≡ Some (Cap row)) × (cap_of p w (listed_indices row) < floor)
 
--- Rows are a valid certificate that no candidate reaches the floor if there is one for each
--- setting, which shows it of that.
+-- A valid certificate that no candidate reaches the floor: its version fits the schedule, and each
+-- setting has a row, which shows that the setting does not reach the floor.
 pub record IsValidBelow (p : Problem) (floor version : ℕ) (rows : List Row) : Type 0 where
   pub version_is : IsVersionOf p version
   pub rows_are : length rows ≡ p.count

@@ -36,7 +36,7 @@ pub record AreInputs (i : InputsView) : Type 0 where
 unfoldable pub settings_of : InputsView → List (List ℤ)
 settings_of i = part_of i.part (vectors_of i.template.ranges.spans)
 
--- The index of v among the `count` numbers from `first` on, or 0 if it is none of them.
+-- v - first, or 0 unless v is one of the `count` numbers from `first` on.
 abbrev pub index_among : (first count v : ℕ) → ℕ
 index_among first count v = if nat_le first v && nat_lt v (first + count) then v - first else 0
 

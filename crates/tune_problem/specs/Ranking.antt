@@ -37,17 +37,17 @@ last_kept aim ranking = slice_get ranking (aim.keep - 1)
 abbrev pub contends : Aim → ℕ → ℕ → List Best → Bool
 contends aim c v ranking = nat_le aim.floor c && beats_lead c v (last_kept aim ranking)
 
--- What is kept of a ranking with setting v and its total c, given whether c contends. If it does
--- not, v is not ranked.
+-- The ranking with setting v and its total c, cut to what the aim keeps; or, if c does not contend,
+-- the ranking as it was.
 abbrev pub ranking_by : Aim → ℕ → ℕ → List Best → Bool → List Best
 ranking_by aim c v ranking true = take aim.keep (ranked (record { total = c; vector = v }) ranking)
 ranking_by aim c v ranking false = ranking
 
--- The same, where v is ranked exactly if c contends.
+-- The ranking after setting v with its total c: v is ranked if c contends.
 abbrev pub next_ranking : Aim → ℕ → ℕ → List Best → List Best
 next_ranking aim c v ranking = ranking_by aim c v ranking (contends aim c v ranking)
 
--- The same with the total of setting v, if v has a warrior.
+-- The ranking after setting v, by the total of its warrior; as it was, if v has none.
 abbrev pub ranking_with : Problem → Aim → ℕ → Option WarriorView → List Best → List Best
 ranking_with p aim v None ranking = ranking
 ranking_with p aim v (Some w) ranking = next_ranking aim (total_of p w) v ranking

@@ -162,8 +162,7 @@ impl Inputs {
     }
 }
 
-// Returns the index of `index` among the `count` numbers from `first` on, or 0 if it is none of
-// them.
+// Returns `index - first`, or 0 unless `index` is one of the `count` numbers from `first` on.
 fn index_among(first: u32, count: u32, index: u32) -> u32
     requires { 0 < count }
     ensures index { result ≡ index_among first count index }

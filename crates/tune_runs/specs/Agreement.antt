@@ -90,7 +90,7 @@ pub record NamesAnswer (t : Texts) (demand : Demand) (bytes : List ℕ) (out : W
 
 -- ---- parts
 
--- This holds of each number from 1 to `count`.
+-- P holds of each number from 1 to `count`.
 abbrev pub ForEach : (count : ℕ) → (ℕ → Type 0) → Type 0
 ForEach count P = (n : ℕ) → 1 ≤ n → n ≤ count → P n
 

@@ -52,8 +52,8 @@ best_text best total = codes " best " ++ decimal best ++ codes " total " ++ deci
 abbrev pub rejected_line : (row : ℕ) → Reason → List ℕ
 rejected_line row reason = codes "rejected row " ++ decimal row ++ codes " " ++ reason_text reason ++ codes "\n"
 
--- The line of a verdict on all rows, or on a share: `accepted best W total T`, `accepted share I/K
--- best W total T`, or `rejected row R REASON`.
+-- The line of a verdict on all rows, or on a share: `accepted_words` and `best_text`, or
+-- `rejected_line`.
 abbrev pub verdict_line : Option Part → Verdict → List ℕ
 verdict_line share (Accepted best total) = accepted_words share ++ best_text best total
 verdict_line share (Rejected row reason) = rejected_line row reason

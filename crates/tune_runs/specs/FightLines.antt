@@ -35,8 +35,7 @@ raw_rules = do
 unfoldable pub rules_line : Reader RulesView
 rules_line bytes = option_and_then raw_rules (after_word (codes "rules ") bytes)
 
--- The side that moves first: the candidate if there are bytes after its letter, or the opponent if
--- there are bytes after its own.
+-- The candidate moves first if its line was read, else the opponent if its line was read.
 abbrev pub mover_or : Option (List ℕ) → Option (List ℕ) → Option (Side × List ℕ)
 mover_or (Some rest) other = Some (Candidate, rest)
 mover_or None (Some rest) = Some (Opponent, rest)
@@ -57,7 +56,7 @@ position_and_mover = do
 unfoldable pub fight_line : Reader (ℕ × Side)
 fight_line bytes = option_and_then position_and_mover (after_word (codes "fight ") bytes)
 
--- The cut is here if there are bytes after a line `opponent`, or else it is a later one.
+-- Nothing and `rest`, if a line `opponent` was read here, or else the `later` cut.
 abbrev pub parted_or : Option (List ℕ) → Option (List ℕ × List ℕ) → Option (List ℕ × List ℕ)
 parted_or (Some rest) later = Some ([], rest)
 parted_or None later = later

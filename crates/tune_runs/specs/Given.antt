@@ -13,7 +13,7 @@ use Rattle.tune_runs.specs.declared.given.RawRules.{RawRules}
 use Rattle.tune_runs.specs.declared.given.DuelTexts.{DuelTexts}
 use Rattle.tune_runs.specs.declared.given.TuneTexts.{TuneTexts}
 
--- Raw rules, written as rules. They need not be within the limits of rules.
+-- Raw rules in the form of rules. Their numbers are not checked.
 abbrev pub rules_given : RawRules → RulesView
 rules_given raw = rules_view raw.core raw.cycles raw.tasks raw.length raw.distance
 

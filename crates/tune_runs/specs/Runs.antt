@@ -17,7 +17,7 @@ use Rattle.tune_template.specs.declared.fault.TemplateKind.TheVariants.{OutOfMem
 use Rattle.tune_runs.specs.declared.fault.RunFault.{RunFault}
 use Rattle.tune_runs.specs.declared.fault.RunFault.TheVariants.{Load, Asm, Template, Opponent, Schedule, Write, OutOfMemory}
 
--- ---- the fault of a run that has another fault inside; that one is never out of memory
+-- ---- the fault of a run for a fault inside it; out of memory becomes the run's own
 
 abbrev pub asm_fault : AsmFault → RunFault
 asm_fault fault = by_kind fault.kind
@@ -67,7 +67,7 @@ pub record Writer : Type 0 where
   pub old : Option (List ℕ)
   pub new : Option (List ℕ)
 
--- The writer of an outlet, as it was before a run and is after it.
+-- An outlet before and after a run, as a `Writer`.
 abbrev pub writer : (old new : OutletView) → Writer
 writer old new = record { old = old.bytes; new = new.bytes }
 
@@ -75,7 +75,7 @@ writer old new = record { old = old.bytes; new = new.bytes }
 abbrev pub Gets : Writer → List ℕ → Type 0
 Gets out text = Appends out.old out.new text
 
--- The output of a run has this value, and its text was appended, all of it.
+-- The output of a run is this value and a text, and the whole text was appended.
 abbrev pub Writes : {X : Type 0} → Result (X × List ℕ) RunFault → X → Writer → Type 0
 Writes output x out = (text : List ℕ) × (output ≡ Ok (x, text)) × Gets out text
 
@@ -83,7 +83,7 @@ Writes output x out = (text : List ℕ) × (output ≡ Ok (x, text)) × Gets out
 pub record IsRun {X : Type 0} (output : Result (X × List ℕ) RunFault) (result : Result X RunFault) (old new : OutletView) : Type 0 where
   -- it returns the value, and the whole text was written
   pub done : IfOk result (λ x. Writes output x (writer old new))
-  -- `Write`: the writer failed. The output is no fault, and what is out is not said.
+  -- `Write`: the writer failed. The output is not a fault; how many bytes were written is open.
   pub stopped : IsErrOf result Write → IsOk output
   pub write : IsErrOf result Write ↔ IsTrue new.failed
   -- after any other fault nothing was written; unless memory ran out the output is this fault

@@ -73,8 +73,8 @@ meaning_of t = do
   _ ← check (is_part t.part (setting_count template)) BadPart
   Ok (record { template = template; opponents = opponents; schedule = schedule; rules = t.rules; part = t.part })
 
--- The faults that texts may have, besides a part that does not exist. `OutOfMemory` is here only
--- because `template_fault` and the like may give it: no text has that fault.
+-- The faults of texts, except `BadPart`. No text is out of memory, but the type of `template_fault`
+-- allows it.
 abbrev pub is_text_fault : RunFault → Bool
 is_text_fault TooManyOpponents = true
 is_text_fault (Template fault) = true
@@ -135,7 +135,7 @@ pub record IsTuneRun {X : Type 0} (t : Texts) (Wrote : (report cert : Writer) �
     (report_old report_new cert_old cert_new : OutletView) : Type 0 where
   -- it succeeded: both were written
   pub done : OnOk result (Wrote (writer report_old report_new) (writer cert_old cert_new))
-  -- `Write`: a writer failed. The texts have a meaning, and what is out is not said.
+  -- `Write`: a writer failed. The texts have a meaning; how many bytes were written is open.
   pub stopped : IsErrOf result Write → IsOk (meaning_of t)
   pub write : IsErrOf result Write ↔ (IsTrue report_new.failed ⊎ IsTrue cert_new.failed)
   -- after any other fault nothing was written; unless memory ran out the texts have this fault, or

@@ -62,5 +62,5 @@ pub record IsSearchFrom (p : Problem) (aim : Aim) (method : Method) (f : Finding
   pub best : IsBestFrom p aim.floor (first_of f.ranking)
   -- the rows are a valid certificate of it, or that no candidate reaches the floor
   pub certified : IsCertified p aim.floor f.version f.rows (first_of f.ranking)
-  -- the rows and the counts are those of the method
+  -- the rows and the counts are those of a search by the method for this aim
   pub work : IsWorked p aim method (work_from f)

@@ -31,7 +31,7 @@ is_copied (Some u) v = u == v
 abbrev pub is_fought : List Row → Option ℕ → ℕ → Bool
 is_fought rows copied v = is_cap (slice_get rows v) && not (is_copied copied v)
 
--- The same by what a search found.
+-- Setting v was fought, by the rows of what a search found.
 abbrev pub was_fought : Found → ℕ → Bool
 was_fought f v = is_fought f.rows f.copied v
 
@@ -58,8 +58,8 @@ NoneAssembles p = (v : ℕ) → v < p.count → p.warrior v ≡ None
 abbrev pub IsRefused : Problem → SearchFault → Type 0
 IsRefused p fault = fault ≡ NoCandidate → NoneAssembles p
 
--- What a search writes beside its answer: a row for each setting, the version of their certificate,
--- which setting has the copied row, and the numbers of fights played and of candidates visited.
+-- What a search returns beside its answer: the version of the certificate, a row for each setting,
+-- the setting with the copied row, the number of fights played, and the number of candidates.
 pub record Work : Type 0 where
   pub version : ℕ
   pub rows : List Row
@@ -84,7 +84,7 @@ pub record IsWorked (p : Problem) (aim : Aim) (method : Method) (work : Work) : 
   -- a setting is fought exactly if none of the settings that are recent at its visit has its
   -- warrior; otherwise it shares the fights of the one that has it
   pub shared : (v : ℕ) (w : WarriorView) → v < p.count → p.warrior v ≡ Some w → IsVisited p aim method work.rows work.copied v w
-  -- only a setting that assembles has a copied row; `shared` says whose row it copies
+  -- the setting with the copied row assembles; `shared` says whose row it copies
   pub copied : (v : ℕ) → work.copied ≡ Some v → (v < p.count) × (p.warrior v ≢ None)
   -- every listed fight was played once, except those of the copied row
   pub fights : work.fights + copied_fights work.rows work.copied ≡ listed_fights work.rows
@@ -95,5 +95,5 @@ pub record IsSearch (p : Problem) (method : Method) (f : Found) : Type 0 where
   pub optimum : IsOptimum p f.best
   pub total_is : HasTotal p f.best f.total
   pub valid : IsValid p (cert_of f)
-  -- the rows and the counts are those of the method
+  -- the rows and the counts are those of a search by the method for the best setting alone
   pub work : IsWorked p best_alone method (work_of f)

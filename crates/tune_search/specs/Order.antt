@@ -47,6 +47,6 @@ drops PlayingAll aim c v ranking = false
 unfoldable pub enough : Problem → Method → Aim → WarriorView → List ℕ → ℕ → List Best → ℕ
 enough p method aim w order v ranking = least (λ k. drops method aim (cap_of p w (take k order)) v ranking) p.fights
 
--- These fights: the first ones of the order, exactly as many as are enough.
+-- The fights of an order that setting v plays before it is dropped: its first `enough`.
 abbrev pub enough_fights : Problem → Method → Aim → WarriorView → List ℕ → ℕ → List Best → List ℕ
 enough_fights p method aim w order v ranking = take (enough p method aim w order v ranking) order

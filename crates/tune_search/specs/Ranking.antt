@@ -11,10 +11,10 @@ use Rattle.tune_search.specs.Visits.{visits_before}
 abbrev pub VisitedBy : Problem → (k v : ℕ) → Type 0
 VisitedBy p k v = visits_before p.start v < k
 
--- One of these, with its total, which reaches the floor.
+-- A candidate among the first k visited, with its total, which reaches the floor.
 abbrev pub IsRankedBy : Problem → Aim → ℕ → Best → Type 0
 IsRankedBy p aim k best = IsRanked p aim (VisitedBy p k) best
 
--- The first of the ranking of these, as many as are kept.
+-- The ranking of the first k settings visited, cut to as many as the aim keeps.
 abbrev pub IsRankingBy : Problem → Aim → ℕ → List Best → Type 0
 IsRankingBy p aim k ranking = IsRanking p aim (VisitedBy p k) ranking

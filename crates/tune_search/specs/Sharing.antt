@@ -22,8 +22,8 @@ leads v (Some lead) = lead.vector == v
 abbrev pub copies : ℕ → ℕ → ℕ → Option Best → Bool
 copies start u v lead = (u == start) && leads u lead && nat_lt v u
 
--- The row of v, which shares the fights of u. If v copies the row of u, v is the setting `copied`,
--- and its row is equal; if not, it is another setting, and its row is `Same u`.
+-- The row of v, which shares the fights of u. If v copies the row of u, `copied` is v, and the rows
+-- are equal. Otherwise `copied` is not v, and the row of v is `Same u`.
 abbrev pub HasRowOf : List Row → Option ℕ → ℕ → ℕ → Bool → Type 0
 HasRowOf rows copied u v true = (copied ≡ Some v) × (slice_get rows v ≡ slice_get rows u)
 HasRowOf rows copied u v false = (copied ≢ Some v) × (slice_get rows v ≡ Some (Same u))

@@ -95,7 +95,8 @@ pub record Progress : Type 0 where
 -- A search after k visits.
 pub record IsUnderWay (p : Problem) (rules : RulesView) (aim : Aim) (method : Method) (k : ℕ) (g : Progress) : Type 0 where
   pub rows_are : length g.rows ≡ p.count
-  -- the ranking is that of the settings visited; the rows of the settings in it list all fights
+  -- the ranking is that of the settings visited; each has a row with every fight, or one that
+  -- refers to such a row, and the lead has a cap row with every fight
   pub ranking_is : g.ranking ≡ ranking_after p aim k
   pub whole : IsWhole p g.rows (first_of g.ranking)
   pub full : AllByRecursion (IsFull p g.rows) g.ranking
@@ -111,7 +112,7 @@ pub record IsUnderWay (p : Problem) (rules : RulesView) (aim : Aim) (method : Me
   -- every listed fight was played once, except those of the copied row
   pub work : g.fights + copied_fights g.rows g.copied ≡ listed_fights g.rows
   pub count : g.candidates ≡ count_by is_filled g.rows
-  -- so that the count of fights does not wrap around
+  -- a bound, so that the count of fights does not wrap around
   pub room : g.fights ≤ MOST_FIGHTS * k
 
 -- How far a search is, by its state.
@@ -138,6 +139,6 @@ pub record IsState (i : InputsView) (aim : Aim) (method : Method) (k : ℕ) (s :
   pub blank : IsBlank i.rules s.arena
   pub going : IsUnderWay (problem_of i) i.rules aim method k (progress_of s)
 
--- The findings of a search: those of its state, with the count of fights, which the arena has.
+-- The findings of a state, with the arena's count of fights.
 abbrev pub findings_of : State → Findings
 findings_of s = record s.found { fights = s.arena.fights }

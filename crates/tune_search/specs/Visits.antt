@@ -26,7 +26,7 @@ unfoldable pub ranking_after : Problem → Aim → ℕ → List Best
 ranking_after p aim zero = []
 ranking_after p aim (suc k) = ranking_with p aim (visited p.start k) (p.warrior (visited p.start k)) (ranking_after p aim k)
 
--- The same of the settings that are visited before setting v.
+-- The ranking of the settings that are visited before setting v.
 abbrev pub ranking_before : Problem → Aim → ℕ → List Best
 ranking_before p aim v = ranking_after p aim (visits_before p.start v)
 

@@ -11,8 +11,8 @@ use tune_problem::{Found, Ranking, Rows};
 pub struct Findings {
     /// The version of a certificate: 1 if every fight has the weight 1, and otherwise 2.
     pub version: u32,
-    /// The settings that are ranked, those that total the floor or more, up to as many as the aim
-    /// keeps: each with its total, the greatest first, then the smaller index.
+    /// The first settings of the ranking that total the floor or more, at most as many as the aim
+    /// keeps, each with its total. The greatest total is first, then the smaller index.
     pub ranking: Ranking,
     /// A row for each setting.
     pub rows: Rows,

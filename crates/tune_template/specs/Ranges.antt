@@ -34,12 +34,12 @@ small_number word = if nat_le (length word) 5 then at_most (padded_decimal word)
     at_most None = None
     at_most (Some n) = if nat_le n 65535 then Some n else None
 
--- The number of such a word, which may have a minus before it.
+-- A small number, with or without a minus before it.
 abbrev pub signed_number : List ℕ → Option ℤ
 signed_number [] = None
 signed_number (b ∷ word) = if b == byte "-" then option_map (λ n. neg_ℤ (pos n)) (small_number word) else option_map pos (small_number (b ∷ word))
 
--- The number of such a word that is a step, 1 to 65535.
+-- A small number that is a step: 1 to 65535.
 abbrev pub step_number : List ℕ → Option ℕ
 step_number word = above_zero (small_number word)
   where
@@ -52,8 +52,8 @@ abbrev pub vector_count : List Span → ℕ
 vector_count [] = 1
 vector_count (s ∷ ss) = s.count * vector_count ss
 
--- Checks a name of this class as the next constant, after these: it must be a name that is not
--- reserved, not predefined, and not an earlier one.
+-- Checks `name`, of the given class, as the constant after `names`: it must be a name, not reserved,
+-- not predefined, and not one of `names`.
 abbrev pub name_checked : List (List ℕ) → NameClass → List ℕ → Result (Unit {0}) TemplateKind
 name_checked names NoName name = Err BadLine
 name_checked names Reserved name = Err ReservedName
@@ -94,7 +94,7 @@ with_range r next = ranges (r.names ++ (next.0 ∷ [])) (r.spans ++ (next.1 ∷ 
 abbrev pub line_added : ℕ → Ranges → List ℕ → Result Ranges TemplateFault
 line_added n r line = if is_range_line line then mapped (with_range r) (with_fault (at_line n) (next_range r line)) else Ok r
 
--- The ranges so far, and those of these lines, of which the first is line n.
+-- The ranges `r`, then those of the lines, the first of which is line n of the template.
 abbrev pub ranges_from : ℕ → Ranges → List (List ℕ) → Result Ranges TemplateFault
 ranges_from n r [] = Ok r
 ranges_from n r (line ∷ lines) = do

@@ -113,7 +113,7 @@ fn follow<F: Files>(rt: &F, alloc: Global, path: &mut PathBuf) -> io::Result<boo
     Ok(true)
 }
 
-// Returns whether reading a link failed because the name is of another kind of file, or of none.
+// Checks whether reading a link failed because the name is not of a link, or of no file.
 fn is_no_link(kind: io::ErrorKind) -> bool {
     kind == io::ErrorKind::InvalidInput || kind == io::ErrorKind::NotFound
 }

@@ -12,7 +12,7 @@ const VALUE_NAME: &str = "NUMBER";
 #[derive(Clone, Copy)]
 pub(crate) struct NumberOption {
     pub(crate) name: &'static str,
-    // What help says: what the number is, the least, the greatest, and the default.
+    // What help says: what the number is, and its range and its default, if it has them.
     pub(crate) help: &'static str,
     // What a usage error says of a word that is not a 32-bit number.
     pub(crate) wanted: &'static str,
@@ -68,7 +68,7 @@ pub(crate) const CHECK_FLOOR: NumberOption = NumberOption {
 };
 
 impl NumberOption {
-    // Makes the option. Whether its number is in the range is checked when the command runs.
+    // Makes the option. The command checks the range when it runs.
     pub(crate) fn arg<'a>(self, alloc: Global) -> Arg<'a> {
         number_arg(alloc, self.name, self.help)
     }
@@ -104,7 +104,7 @@ fn number_arg<'a>(alloc: Global, name: &'a str, help: &'a str) -> Arg<'a> {
         .help(help)
 }
 
-// Returns the 32-bit number that a word is. It may have a sign.
+// Reads a word as a 32-bit number. A sign may come first, but `-` only before 0.
 fn number_in(word: &str) -> Option<u32> {
     match word.parse::<i64>() {
         Ok(number) => u32::try_from(number).ok(),

@@ -11,7 +11,7 @@ pub(crate) struct BadValue<'a> {
     // The option, and what help calls its value.
     pub(crate) option: &'static str,
     pub(crate) value: &'static str,
-    // What the option takes.
+    // What a usage error says of such a word.
     pub(crate) wanted: &'static str,
 }
 
