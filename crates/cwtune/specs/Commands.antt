@@ -55,19 +55,19 @@ is_asked demand = is_some demand.keep || is_some demand.floor
 
 -- The output of `check`: whether the certificate is accepted, and the line of the verdict, or the
 -- lines of the judgement if a ranking or a floor is asked for; or the first fault of the texts.
-abbrev pub verdict_output : Demand → Option Share → Texts → List ℕ → Result (Bool × List ℕ) RunFault
-verdict_output demand share t cert =
+abbrev pub check_command_output : Demand → Option Share → Texts → List ℕ → Result (Bool × List ℕ) RunFault
+check_command_output demand share t cert =
     if is_asked demand then check_for_output t demand (option_map part_given share) cert else check_output t (option_map part_given share) cert
 
 -- The lines were written, and `accepted` says whether the certificate is accepted.
-abbrev pub WritesVerdictOf : Demand → Option Share → Texts → List ℕ → Bool → Writer → Type 0
-WritesVerdictOf demand share t cert accepted out = Writes (verdict_output demand share t cert) accepted out
+abbrev pub WritesCheckOf : Demand → Option Share → Texts → List ℕ → Bool → Writer → Type 0
+WritesCheckOf demand share t cert accepted out = Writes (check_command_output demand share t cert) accepted out
 
 -- The lines of a check of some texts and a certificate were written.
 abbrev pub WritesCheckLine : RulesView → Part → Demand → Option Share → Bool → Writer → Type 0
 WritesCheckLine rules part demand share accepted out =
     (template : List ℕ) × (opponents : List (List ℕ)) × (schedule : List ℕ) × (cert : List ℕ)
-    × WritesVerdictOf demand share (part_texts template opponents schedule rules part) cert accepted out
+    × WritesCheckOf demand share (part_texts template opponents schedule rules part) cert accepted out
 
 -- ---- what a command wrote, for some files and some values of its options
 

@@ -13,13 +13,13 @@ use Rattle.tune_search.specs.declared.method.Method.{Method}
 use Rattle.tune_search.proofs.OneAnswer.{answer_one}
 use Rattle.tune_runs.specs.TuneRun.{Texts, WritesTuning}
 use Rattle.tune_runs.specs.CheckRun.{accepts, verdict_line}
-use Rattle.tune_runs.specs.Agreement.{Output, IsOutput, written, ChecksCert, Agree}
+use Rattle.tune_runs.specs.Agreement.{TuningBytes, GivesBytes, written, ChecksCert, Agree}
 use Rattle.tune_runs.specs.Runs.{Writer, Gets}
 use Rattle.tune_runs.proofs.Meaning.{one_meaning}
 use Rattle.tune_runs.proofs.Certified.{accepted}
 use Rattle.tune_runs.proofs.Verdicts.{right_line}
 
-pub same_bytes : (t : Texts) (method : Method) (one other : Output) → IsOutput t method one → IsOutput t method other → one ≡ other
+pub same_bytes : (t : Texts) (method : Method) (one other : TuningBytes) → GivesBytes t method one → GivesBytes t method other → one ≡ other
 same_bytes t method one other (i, f, values, a, wrote_cert, wrote_report) (j, g, others, b, wrote_cert_too, wrote_report_too) =
     let inputs : i ≡ j = one_meaning t i j a.0 b.0 in
     let again : IsSearch (problem_of i) method g = subst (λ (x : InputsView). IsSearch (problem_of x) method g) (sym inputs) b.1 in

@@ -29,13 +29,13 @@ filled bytes = record { old = Some []; new = Some bytes }
 -- ---- tunings
 
 -- The bytes that a tuning gave two empty writers.
-pub record Output : Type 0 where
+pub record TuningBytes : Type 0 where
   pub report : List ℕ
   pub cert : List ℕ
 
 -- A tuning by this method gave these bytes.
-abbrev pub IsOutput : Texts → Method → Output → Type 0
-IsOutput t method o = WritesTuning t method (filled o.report) (filled o.cert)
+abbrev pub GivesBytes : Texts → Method → TuningBytes → Type 0
+GivesBytes t method o = WritesTuning t method (filled o.report) (filled o.cert)
 
 -- The texts mean these inputs, and a search by this method may find this for them.
 pub record MayFind (t : Texts) (method : Method) (i : InputsView) (f : Found) : Type 0 where

@@ -12,7 +12,7 @@ ghost use Rattle.tune_cert.specs.Verdict.{IsRightVerdict};
 ghost use Rattle.tune_runs.specs.TuneRun.{Texts, of_part, meaning_of, is_text_fault, Means, HasNoCandidate, WritesTuning, WritesTuningFrom};
 ghost use Rattle.tune_runs.specs.Runs.{Writer, Gets};
 ghost use Rattle.tune_runs.specs.CheckRun.{Accepts, verdict_line};
-ghost use Rattle.tune_runs.specs.Agreement.{filled, Output, IsOutput, MayFind, written, Checks, ChecksCert, IsRightLine, Agree, ChecksFor, NamesAnswer, ForEach, IsBestShown, IsBestOfAll, AreShownBelow, AreAllBelow, ChecksShare, AllAccept, AllName, AcceptsAsWhole};
+ghost use Rattle.tune_runs.specs.Agreement.{filled, TuningBytes, GivesBytes, MayFind, written, Checks, ChecksCert, IsRightLine, Agree, ChecksFor, NamesAnswer, ForEach, IsBestShown, IsBestOfAll, AreShownBelow, AreAllBelow, ChecksShare, AllAccept, AllName, AcceptsAsWhole};
 ghost use Rattle.tune_runs.specs.AimedRuns.{Asked, IsAsked, TunesAsked, ChecksAsked, AgreeAsked};
 
 use crate::fault::RunFault;
@@ -37,7 +37,7 @@ pub fn a_written_certificate_is_accepted()
 /// States that a tuning can be repeated: from empty writers the same texts and the same method give
 /// the same bytes of the report and of the certificate.
 pub fn equal_tunings_write_equal_bytes()
-    ensures { (t : Texts) (method : Method) (one other : Output) → IsOutput t method one → IsOutput t method other → one ≡ other }
+    ensures { (t : Texts) (method : Method) (one other : TuningBytes) → GivesBytes t method one → GivesBytes t method other → one ≡ other }
 {}
 
 /// States that a tuning that keeps one setting and has the floor 0 writes what `WritesTuning` says:

@@ -7,7 +7,7 @@ use Rattle.tune_problem.specs.Problem.{Problem}
 use Rattle.tune_problem.specs.declared.cert.Found.{Found}
 use Rattle.tune_problem.specs.declared.cert.Row.TheVariants.{Cap}
 use Rattle.tune_problem.proofs.Certificates.{same_number}
-use Rattle.tune_search.specs.Visits.{visits_before, visited}
+use Rattle.tune_search.specs.Visits.{visits_before, setting_visited}
 use Rattle.tune_search.specs.Recent.{OneHas, ChangesRecent, IsRecent, NoneHas}
 use Rattle.tune_search.specs.Method.{capacity_of}
 use Rattle.tune_search.specs.Sharing.{HasRowOf}
@@ -25,7 +25,7 @@ bit b = cond b 1 0
 module _ (g : ℕ → Bool) (s : ℕ) where
   abbrev pub among : ℕ → ℕ
   among zero = 0
-  among (suc k) = among k + bit (g (visited s k))
+  among (suc k) = among k + bit (g (setting_visited s k))
 
   abbrev pub below : ℕ → ℕ
   below k = count_by g (range_with_len 0 k)
@@ -38,9 +38,9 @@ module _ (g : ℕ → Bool) (s : ℕ) where
   early zero l = refl
   early (suc k) l =
       let i = early k (omega arith) in
-      let at : visited s (suc k) ≡ k = visited_early s k l in
+      let at : setting_visited s (suc k) ≡ k = visited_early s k l in
       let more = below_more k in
-      let here : bit (g (visited s (suc k))) ≡ bit (g k) = ap (λ v. bit (g v)) at in
+      let here : bit (g (setting_visited s (suc k))) ≡ bit (g k) = ap (λ v. bit (g v)) at in
       omega (arith, i, more, here)
 
   -- past it, all before
@@ -58,7 +58,7 @@ module _ (g : ℕ → Bool) (s : ℕ) where
         let past : s < k = omega arith in
         let i = late k past in
         let more = below_more k in
-        let here : bit (g (visited s k)) ≡ bit (g k) = ap (λ v. bit (g v)) (visited_late s k past) in
+        let here : bit (g (setting_visited s k)) ≡ bit (g k) = ap (λ v. bit (g v)) (visited_late s k past) in
         omega (arith, i, more, here)
   ]
 
@@ -67,7 +67,7 @@ module _ (g : ℕ → Bool) (s : ℕ) where
   grows k (suc m) =
       let i = grows k m in
       let e : among (k + suc m) ≡ among (suc (k + m)) = ap among (let q : k + suc m ≡ suc (k + m) = omega arith in q) in
-      let more : among (suc (k + m)) ≡ among (k + m) + bit (g (visited s (k + m))) = refl in
+      let more : among (suc (k + m)) ≡ among (k + m) + bit (g (setting_visited s (k + m))) = refl in
       omega (arith, i, e, more)
 
   pub few_among : (k n : ℕ) → k ≤ n → s < n → among k ≤ below n
@@ -117,7 +117,7 @@ module _ (p : Problem) (method : Method) (f : Found) (s : IsSearch p method f) (
   none_back w u (x ∷ front) back h = (h.1.0, none_back w u front back (h.0, h.1.1))
 
   -- how a visit goes by the recent settings before it
-  goes : (k v : ℕ) (w : WarriorView) (old : List ℕ) → v ≡ visited p.start k → v < p.count → p.warrior v ≡ Some w → IsRecent p capacity k old →
+  goes : (k v : ℕ) (w : WarriorView) (old : List ℕ) → v ≡ setting_visited p.start k → v < p.count → p.warrior v ≡ Some w → IsRecent p capacity k old →
       (NoneHas p w old × (test v ≡ true)) ⊎ ((u : ℕ) × OneHas p w u old × (test v ≡ false))
   goes k v w old at l is recent =
       let h = s.work.shared v w l is in
@@ -133,7 +133,7 @@ module _ (p : Problem) (method : Method) (f : Found) (s : IsSearch p method f) (
     as_many : length us ≡ among test p.start k
     each : (v : ℕ) (w : WarriorView) → v < p.count → visits_before p.start v < k → test v ≡ true → p.warrior v ≡ Some w → NoneHas p w us → ⊥
 
-  step : (k v : ℕ) (o : Option WarriorView) (old us : List ℕ) → k < p.count → v ≡ visited p.start k → v < p.count → p.warrior v ≡ o → IsRecent p capacity k old → ChangesRecent p capacity v o old us →
+  step : (k v : ℕ) (o : Option WarriorView) (old us : List ℕ) → k < p.count → v ≡ setting_visited p.start k → v < p.count → p.warrior v ≡ o → IsRecent p capacity k old → ChangesRecent p capacity v o old us →
       Full k old → Full (suc k) us
   step k v None old us less at l is recent r i =
       let no : test v ≡ false = refused_false v l is in
@@ -178,7 +178,7 @@ module _ (p : Problem) (method : Method) (f : Found) (s : IsSearch p method f) (
   full : (k : ℕ) (us : List ℕ) → k ≤ p.count → IsRecent p capacity k us → Full k us
   full zero us le r = record { as_many = ap length r; each = λ v w l before. absurd (omega arith) }
   full (suc k) us le r =
-      let v = visited p.start k in
+      let v = setting_visited p.start k in
       step k v (p.warrior v) r.0 us (omega arith) refl (visited_below p.start p.count k start (omega arith)) refl r.1 r.2 (full k r.0 (omega arith) r.1)
 
   not_later : (v u : ℕ) (w : WarriorView) → v < p.count → u < p.count → p.warrior v ≡ Some w → p.warrior u ≡ Some w → test v ≡ true → test u ≡ true →
@@ -194,7 +194,7 @@ module _ (p : Problem) (method : Method) (f : Found) (s : IsSearch p method f) (
 
   pub one_fought : (v u : ℕ) (w : WarriorView) → v < p.count → u < p.count → p.warrior v ≡ Some w → p.warrior u ≡ Some w → test v ≡ true → test u ≡ true → v ≡ u
   one_fought v u w lv lu iv iu tv tu = elim (same_number (visits_before p.start v) (visits_before p.start u)) [
-    | inl e ↦ sym (visited_before p.start v) ∙ ap (visited p.start) e ∙ visited_before p.start u
+    | inl e ↦ sym (visited_before p.start v) ∙ ap (setting_visited p.start) e ∙ visited_before p.start u
     | inr ne ↦ elim (leb_tells (visits_before p.start v) (visits_before p.start u)) [
       | inl le ↦ absurd (not_later u v w lu lv iu iv tu tv (omega arith))
       | inr gt ↦ absurd (not_later v u w lv lu iv iu tv tu (omega arith))

@@ -18,11 +18,11 @@ use Rattle.tune_problem.proofs.CapRows.{row_total}
 use Rattle.tune_search.specs.Visits.{IsFought, visits_before, ranking_after}
 use Rattle.tune_search.specs.Ranking.{IsRankingBy}
 use Rattle.tune_search.specs.Sharing.{HasRowOf, IsExplained, IsVisited}
-use Rattle.tune_search.specs.Found.{IsSearch, IsWorked, is_cap, is_copied}
+use Rattle.tune_search.specs.Found.{IsSearch, IsWorkOf, is_cap, is_copied}
 use Rattle.tune_problem.specs.Below.{IsRowBelow, AllBelow, cert_with}
 use Rattle.tune_search.specs.Findings.{IsBestFrom, IsCertified, IsSearchFrom, found_of}
 use Rattle.tune_search.specs.declared.findings.Findings.{Findings}
-use Rattle.tune_search.specs.State.{IsCopied, IsUnderWay, IsWhole, Progress, is_filled}
+use Rattle.tune_search.specs.State.{HasCopied, IsUnderWay, IsWhole, Progress, is_filled}
 use Rattle.tune_problem.specs.declared.watcher.Best.{Best}
 use Rattle.tune_search.proofs.Rankings.{ranking_is, visited_behind, of_all}
 use Rattle.tune_search.proofs.FoughtCaps.{fought_row, own_cases, start_cases}
@@ -278,7 +278,7 @@ module _ (p : Problem) (laws : IsProblem p) (start : p.start < p.count) (rules :
   told_copied v None is h = λ e. h.0 is
   told_copied v (Some w) is h = λ e. cc
 
-  inside_copied : (v : ℕ) (o : Option ℕ) → o ≡ Some v → IsCopied p p.count (first_of g.ranking) o → v < p.count
+  inside_copied : (v : ℕ) (o : Option ℕ) → o ≡ Some v → HasCopied p p.count (first_of g.ranking) o → v < p.count
   inside_copied v None e h = absurd (cc)
   inside_copied v (Some u) e h = let same : u ≡ v = cc in subst (λ (n : ℕ). n < p.count) same h.0
 
@@ -304,7 +304,7 @@ module _ (p : Problem) (laws : IsProblem p) (start : p.start < p.count) (rules :
 
   -- the rows and the counts are those of the method
   worked : (version : ℕ) → IsOwnVersion p version → p.count ≤ MOST_SETTINGS →
-      IsWorked p aim method (record { version = version; rows = g.rows; copied = g.copied; fights = g.fights; candidates = g.candidates })
+      IsWorkOf p aim method (record { version = version; rows = g.rows; copied = g.copied; fights = g.fights; candidates = g.candidates })
   worked version own few =
       let all : length g.rows ≡ p.count = s.rows_are in
       record {

@@ -16,14 +16,14 @@ use Rattle.tune_problem.specs.declared.cert.Row.{Row}
 use Rattle.tune_problem.specs.declared.cert.Row.TheVariants.{Cap}
 use Rattle.tune_search.specs.Plays.{played}
 use Rattle.tune_search.specs.Order.{aim_at, by_points, enough, fight_order, order_after}
-use Rattle.tune_search.specs.Visits.{IsFought, IsListed, visits_before, ranking_after, visited}
+use Rattle.tune_search.specs.Visits.{IsFought, IsListed, visits_before, ranking_after, setting_visited}
 use Rattle.tune_search.specs.Recent.{ChangesRecent, IsRecent, NoneHas}
 use Rattle.tune_search.specs.Sharing.{IsExplained, IsVisited, leads}
 use Rattle.tune_search.specs.Found.{copied_fights}
 use Rattle.tune_search.specs.Findings.{IsFull}
 use Rattle.tune_search.specs.Cache.{same_text}
 use Rattle.tune_search.specs.Method.{capacity_of}
-use Rattle.tune_search.specs.State.{IsCopied, IsKnown, IsUnderWay, IsWhole, Progress, by_index}
+use Rattle.tune_search.specs.State.{HasCopied, IsKnown, IsUnderWay, IsWhole, Progress, by_index}
 use Rattle.tune_problem.specs.declared.watcher.Best.{Best}
 use Rattle.tune_search.proofs.Slots.{slot_same}
 use Rattle.tune_search.proofs.Totals.{cap_all, order_length, total_le_cap}
@@ -44,7 +44,7 @@ take_rec P (suc n) [] h = tt
 take_rec P (suc n) (x ∷ xs) h = (h.0, take_rec P n xs h.1)
 
 module _ (p : Problem) (laws : IsProblem p) (start : p.start < p.count) (rules : RulesView) (aim : Aim) (is_aim : IsAim aim) (method : Method)
-    (k v : ℕ) (at : v ≡ visited p.start k) (inside : v < p.count) (g : Progress) (s : IsUnderWay p rules aim method k g) where
+    (k v : ℕ) (at : v ≡ setting_visited p.start k) (inside : v < p.count) (g : Progress) (s : IsUnderWay p rules aim method k g) where
   abbrev now : IsVisit p aim method k v g
   now = visit_facts p laws start rules aim is_aim method k v at inside g s
 
@@ -112,7 +112,7 @@ module _ (p : Problem) (laws : IsProblem p) (start : p.start < p.count) (rules :
     full_made true h = all_take (IsFull p rows') aim.keep _ (all_ranked (IsFull p rows') _ g.ranking (v, row, row_here, sym lengths ∙ all_made (all_of h), inl refl) full_old)
     full_made false h = full_old
 
-    copied_then : (run : Bool) (o : Option ℕ) → IsCopied p k (first_of g.ranking) o → IsCopied p (suc k) (first_of (ranking_by aim c' v g.ranking run)) o
+    copied_then : (run : Bool) (o : Option ℕ) → HasCopied p k (first_of g.ranking) o → HasCopied p (suc k) (first_of (ranking_by aim c' v g.ranking run)) o
     copied_then run None h = tt
     copied_then true (Some u) h =
         let before : visits_before p.start u < k = h.1 in (
@@ -127,7 +127,7 @@ module _ (p : Problem) (laws : IsProblem p) (start : p.start < p.count) (rules :
 
     order_then : (m : ℕ) → k ≡ m → (if m == 0 then by_points made else g.order) ≡ order_after p false (p.warrior p.start)
     order_then zero e =
-        let start_is : v ≡ p.start = at ∙ ap (visited p.start) e in
+        let start_is : v ≡ p.start = at ∙ ap (setting_visited p.start) e in
         let all : enough p method (aim_at p aim v) w g.order v g.ranking ≡ p.fights = all_fought p method (aim_at p aim v) w g.order v g.ranking
         (ap (contends (aim_at p aim v) (cap_of p w ks) v) now.ranking_here ∙ start_contends p aim (cap_of p w ks) v start_is) in
         let numbers : g.order ≡ all_fights p = s.order_is ∙ ap (λ m. order_after p (m == 0) (p.warrior p.start)) e in

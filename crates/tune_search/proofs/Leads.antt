@@ -5,7 +5,7 @@ use Rattle.rc_instr.specs.Warrior.{WarriorView}
 use Rattle.tune_problem.specs.Problem.{Problem}
 use Rattle.tune_problem.specs.Optimum.{beats, cap_of}
 use Rattle.tune_search.specs.Order.{aim_at, drops, enough}
-use Rattle.tune_search.specs.Visits.{visits_before, ranking_after, ranking_before, visited}
+use Rattle.tune_search.specs.Visits.{visits_before, ranking_after, ranking_before, setting_visited}
 use Rattle.tune_problem.specs.declared.watcher.Best.{Best}
 use Rattle.tune_search.proofs.Enough.{least_cases}
 use Rattle.tune_search.proofs.VisitOrder.{is_visited, before_visited, before_start}
@@ -69,7 +69,7 @@ pub all_fought : (p : Problem) (method : Method) (aim : Aim) (w : WarriorView) (
     contends aim (cap_of p w (take (enough p method aim w order v ranking) order)) v ranking ≡ true → enough p method aim w order v ranking ≡ p.fights
 all_fought p method aim w order v ranking h = elim (enough_cases p method aim w order v ranking) [ inl e ↦ e | inr n ↦ absurd (cc) ]
 
-module _ (p : Problem) (k v : ℕ) (at : v ≡ visited p.start k) where
+module _ (p : Problem) (k v : ℕ) (at : v ≡ setting_visited p.start k) where
   here : visits_before p.start v ≡ k
   here = ap (visits_before p.start) at ∙ before_visited p.start k
 

@@ -13,7 +13,7 @@ use Rattle.tune_problem.specs.declared.cert.Row.TheVariants.{Refused, Cap}
 use Rattle.tune_problem.proofs.CapRows.{whole}
 use Rattle.tune_search.specs.Plays.{played, row_of, row_with, rows_of}
 use Rattle.tune_search.specs.Order.{aim_at, enough, fight_order}
-use Rattle.tune_search.specs.Visits.{IsFought, IsListed, visits_before, ranking_before, visited}
+use Rattle.tune_search.specs.Visits.{IsFought, IsListed, visits_before, ranking_before, setting_visited}
 use Rattle.tune_search.specs.Recent.{OneHas, ChangesRecent, IsRecent}
 use Rattle.tune_search.specs.Found.{IsSearch, copied_fights}
 use Rattle.tune_search.specs.declared.method.Method.TheVariants.{PlayingAll}
@@ -42,7 +42,7 @@ none_recalled p v (Some w) old us e h = elim h [
 
 none_recent : (p : Problem) (k : ℕ) (us : List ℕ) → IsRecent p 0 k us → us ≡ []
 none_recent p zero us h = h
-none_recent p (suc k) us h = none_recalled p (visited p.start k) (p.warrior (visited p.start k)) h.0 us (none_recent p k h.0 h.1) h.2
+none_recent p (suc k) us h = none_recalled p (setting_visited p.start k) (p.warrior (setting_visited p.start k)) h.0 us (none_recent p k h.0 h.1) h.2
 
 -- a cap row is made of its indices
 row_played : (p : Problem) (w : WarriorView) (a : ℕ) (row : List (ℕ × ℕ)) → IsCapRow p w a row → row ≡ played p w (listed_indices row)

@@ -7,7 +7,7 @@ use Rattle.tune_problem.specs.Ranking.{Any, IsAim, IsRanking, contends, first_of
 use Rattle.tune_problem.specs.declared.aim.Aim.{Aim}
 use Rattle.tune_problem.specs.declared.watcher.Best.{Best}
 use Rattle.tune_problem.proofs.Ranks.{Beaten, all_map, behind_first, in_behind, ranking_more, stays_out}
-use Rattle.tune_search.specs.Visits.{visits_before, ranking_after, visited}
+use Rattle.tune_search.specs.Visits.{visits_before, ranking_after, setting_visited}
 use Rattle.tune_search.specs.Ranking.{IsRankingBy, VisitedBy}
 use Rattle.tune_search.proofs.Leads.{by_then}
 use Rattle.tune_search.proofs.VisitOrder.{before_below, before_visited, visited_below}
@@ -17,29 +17,29 @@ module _ (p : Problem) (aim : Aim) (is_aim : IsAim aim) where
   unfolding ranking_after
   ranking_is start zero le = record { few = omega arith; members = tt; order = tt; others = λ v w l before. absurd (omega (arith, before)) }
   ranking_is start (suc k) le =
-      let here : visits_before p.start (visited p.start k) ≡ k = before_visited p.start k in
-      ranking_more p aim is_aim (VisitedBy p k) (VisitedBy p (suc k)) (visited p.start k) (visited_below p.start p.count k start (omega arith))
+      let here : visits_before p.start (setting_visited p.start k) ≡ k = before_visited p.start k in
+      ranking_more p aim is_aim (VisitedBy p k) (VisitedBy p (suc k)) (setting_visited p.start k) (visited_below p.start p.count k start (omega arith))
       (omega (arith, here))
       (λ u before. omega (arith, before))
-      (by_then p k (visited p.start k) refl)
-      (λ u before e. let even : visits_before p.start (visited p.start k) ≡ visits_before p.start u = ap (visits_before p.start) e in omega (arith, before, here, even))
-      (ranking_after p aim k) (ranking_is start k (omega arith)) (p.warrior (visited p.start k)) refl
+      (by_then p k (setting_visited p.start k) refl)
+      (λ u before e. let even : visits_before p.start (setting_visited p.start k) ≡ visits_before p.start u = ap (visits_before p.start) e in omega (arith, before, here, even))
+      (ranking_after p aim k) (ranking_is start k (omega arith)) (p.warrior (setting_visited p.start k)) refl
 
-  pub after_visit : (k v : ℕ) → v ≡ visited p.start k → ranking_after p aim (suc k) ≡ ranking_with p aim v (p.warrior v) (ranking_after p aim k)
+  pub after_visit : (k v : ℕ) → v ≡ setting_visited p.start k → ranking_after p aim (suc k) ≡ ranking_with p aim v (p.warrior v) (ranking_after p aim k)
   unfolding ranking_after
   after_visit k v at = ap (λ u. ranking_with p aim u (p.warrior u) (ranking_after p aim k)) (sym at)
 
   -- what does not contend after k visits does not after more
   out_one : p.start < p.count → (c u k : ℕ) → suc k ≤ p.count → contends aim c u (ranking_after p aim k) ≡ false → contends aim c u (ranking_after p aim (suc k)) ≡ false
-  out_one start c u k le h = ap (contends aim c u) (after_visit k (visited p.start k) refl) ∙ by_warrior (p.warrior (visited p.start k))
+  out_one start c u k le h = ap (contends aim c u) (after_visit k (setting_visited p.start k) refl) ∙ by_warrior (p.warrior (setting_visited p.start k))
     where
-      by_run : (t : ℕ) (run : Bool) → contends aim c u (ranking_by aim t (visited p.start k) (ranking_after p aim k) run) ≡ false
-      by_run t true = stays_out aim is_aim c u (record { total = t; vector = visited p.start k }) (ranking_after p aim k) (ranking_is start k (omega arith)).order h
+      by_run : (t : ℕ) (run : Bool) → contends aim c u (ranking_by aim t (setting_visited p.start k) (ranking_after p aim k) run) ≡ false
+      by_run t true = stays_out aim is_aim c u (record { total = t; vector = setting_visited p.start k }) (ranking_after p aim k) (ranking_is start k (omega arith)).order h
       by_run t false = h
 
-      by_warrior : (o : Option WarriorView) → contends aim c u (ranking_with p aim (visited p.start k) o (ranking_after p aim k)) ≡ false
+      by_warrior : (o : Option WarriorView) → contends aim c u (ranking_with p aim (setting_visited p.start k) o (ranking_after p aim k)) ≡ false
       by_warrior None = h
-      by_warrior (Some w) = by_run (total_of p w) (contends aim (total_of p w) (visited p.start k) (ranking_after p aim k))
+      by_warrior (Some w) = by_run (total_of p w) (contends aim (total_of p w) (setting_visited p.start k) (ranking_after p aim k))
 
   pub out_stays : p.start < p.count → (c u k m : ℕ) → k + m ≤ p.count → contends aim c u (ranking_after p aim k) ≡ false → contends aim c u (ranking_after p aim (k + m)) ≡ false
   out_stays start c u k zero le h = ap (λ n. contends aim c u (ranking_after p aim n)) (add-zero k) ∙ h

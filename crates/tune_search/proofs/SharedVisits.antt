@@ -14,7 +14,7 @@ use Rattle.tune_problem.specs.Valid.{listed_indices}
 use Rattle.tune_problem.specs.declared.cert.Row.{Row}
 use Rattle.tune_problem.specs.declared.cert.Row.TheVariants.{Cap, Same}
 use Rattle.tune_problem.proofs.Certificates.{some_is}
-use Rattle.tune_search.specs.Visits.{IsFought, visits_before, ranking_after, visited}
+use Rattle.tune_search.specs.Visits.{IsFought, visits_before, ranking_after, setting_visited}
 use Rattle.tune_search.specs.Ranking.{IsRankingBy}
 use Rattle.tune_search.specs.Recent.{ChangesRecent, IsRecent}
 use Rattle.tune_search.specs.Sharing.{HasRowOf, IsExplained, Shares, copies, leads}
@@ -22,7 +22,7 @@ use Rattle.tune_search.specs.Found.{copied_fights}
 use Rattle.tune_search.specs.Findings.{IsFull}
 use Rattle.tune_search.specs.Cache.{same_text}
 use Rattle.tune_search.specs.Method.{capacity_of}
-use Rattle.tune_search.specs.State.{IsCopied, IsKnown, IsUnderWay, IsWhole, Progress, is_filled}
+use Rattle.tune_search.specs.State.{HasCopied, IsKnown, IsUnderWay, IsWhole, Progress, is_filled}
 use Rattle.tune_problem.specs.declared.watcher.Best.{Best}
 use Rattle.tune_search.proofs.Copies.{by_lead, by_none, by_other, by_start, by_total, by_vector, shares_trails}
 use Rattle.tune_search.proofs.Slots.{slot_other, slot_same}
@@ -38,7 +38,7 @@ use Rattle.tune_problem.proofs.Ranks.{contending, reaching, all_map, all_ranked,
 use Rattle.tune_search.proofs.Visiting.{IsVisit, visit_facts}
 
 module _ (p : Problem) (laws : IsProblem p) (start : p.start < p.count) (rules : RulesView) (aim : Aim) (is_aim : IsAim aim) (method : Method)
-    (k v : ℕ) (at : v ≡ visited p.start k) (inside : v < p.count) (g : Progress) (s : IsUnderWay p rules aim method k g) where
+    (k v : ℕ) (at : v ≡ setting_visited p.start k) (inside : v < p.count) (g : Progress) (s : IsUnderWay p rules aim method k g) where
   abbrev now : IsVisit p aim method k v g
   now = visit_facts p laws start rules aim is_aim method k v at inside g s
 
@@ -175,7 +175,7 @@ module _ (p : Problem) (laws : IsProblem p) (start : p.start < p.count) (rules :
         order_is = now.order_later (let b : visits_before p.start u < k = u_before in omega arith);
         recent = recent_shared;
         all_known = known_more p rules aim method k v at g.rows (Same u) now.blank _ (promoted_known p rules hold aim method g.rows k w is_w fits g.known other one);
-        copied_is = subst (λ (o : Option Best). IsCopied p (suc k) o g.copied) (sym same_first) (now.copied_grows g.copied s.copied_is);
+        copied_is = subst (λ (o : Option Best). HasCopied p (suc k) o g.copied) (sym same_first) (now.copied_grows g.copied s.copied_is);
         work = ap (λ m. m + copied_fights same' g.copied) (sym (add-zero g.fights)) ∙ work_more p rules aim method k v at g.rows (Same u) now.blank g.fights g.copied s.work now.fresh;
         count = filled_more p rules aim method k v at g.rows (Same u) now.blank g.candidates s.count refl;
         room = let a : g.fights ≤ MOST_FIGHTS * k = s.room in omega arith;
@@ -204,7 +204,7 @@ module _ (p : Problem) (laws : IsProblem p) (start : p.start < p.count) (rules :
       first : u ≡ p.start
       first = by_start p.start u v (first_of g.ranking) apart
 
-      none_copied : (o : Option ℕ) → IsCopied p k (first_of g.ranking) o → o ≡ None
+      none_copied : (o : Option ℕ) → HasCopied p k (first_of g.ranking) o → o ≡ None
       none_copied None h = refl
       none_copied (Some x) h =
           let no : leads p.start (first_of g.ranking) ≡ false = h.2 in
@@ -249,7 +249,7 @@ module _ (p : Problem) (laws : IsProblem p) (start : p.start < p.count) (rules :
       full_taken : AllByRecursion (IsFull p copied') ranking''
       full_taken = full_by row (v, u_fought.row, row_at_v ∙ ap Some row_is, its_cap.1, inl refl) (contends aim other.cap v g.ranking)
 
-      copied_taken : IsCopied p (suc k) (first_of ranking'') (Some v)
+      copied_taken : HasCopied p (suc k) (first_of ranking'') (Some v)
       copied_taken =
           let here : visits_before p.start v ≡ k = now.its_place in
           (inside, omega arith, ap (leads p.start) now_first ∙ by_other p.start u v (first_of g.ranking) apart)

@@ -9,7 +9,7 @@ use Rattle.tune_problem.specs.Problem.{Problem}
 use Rattle.tune_problem.specs.Valid.{listed_by, listed_fights, listed_in}
 use Rattle.tune_problem.specs.declared.cert.Row.{Row}
 use Rattle.tune_problem.specs.declared.cert.Row.TheVariants.{Cap, Refused}
-use Rattle.tune_search.specs.Visits.{IsFought, visits_before, visited}
+use Rattle.tune_search.specs.Visits.{IsFought, visits_before, setting_visited}
 use Rattle.tune_search.specs.Sharing.{HasRowOf, IsExplained}
 use Rattle.tune_search.specs.Found.{copied_fights}
 use Rattle.tune_search.specs.Findings.{IsFull}
@@ -26,7 +26,7 @@ abbrev bit : Bool → ℕ
 bit b = cond b 1 0
 
 -- the row of v is written, which was not before
-module _ (p : Problem) (rules : RulesView) (aim : Aim) (method : Method) (k v : ℕ) (at : v ≡ visited p.start k) (rows : List Row) (row : Row) (blank : slice_get rows v ≡ Some Refused) where
+module _ (p : Problem) (rules : RulesView) (aim : Aim) (method : Method) (k v : ℕ) (at : v ≡ setting_visited p.start k) (rows : List Row) (row : Row) (blank : slice_get rows v ≡ Some Refused) where
   abbrev after : List Row
   after = slice_set rows v row
 

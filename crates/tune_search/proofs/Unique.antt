@@ -2,7 +2,7 @@
 use Rattle.std.proofs.Common.{◌≡◌, ◌≢◌, ℕ, zero, suc, List, [], ◌∷◌, ◌++◌, Option, Some, None, take, refl, sym, ◌∙◌, ap, inl, inr, subst}
 use Rattle.rc_instr.specs.Warrior.{WarriorView}
 use Rattle.tune_problem.specs.Problem.{Problem}
-use Rattle.tune_search.specs.Visits.{visited}
+use Rattle.tune_search.specs.Visits.{setting_visited}
 use Rattle.tune_search.specs.Recent.{ChangesRecent, IsRecent, NoneHas}
 
 module _ (p : Problem) where
@@ -51,7 +51,7 @@ module _ (p : Problem) where
 
   pub apart_recent : (c k : ℕ) (us : List ℕ) → IsRecent p c k us → Apart us
   apart_recent c zero us h = subst Apart (sym h) tt
-  apart_recent c (suc k) us h = apart_touched c (visited p.start k) (p.warrior (visited p.start k)) h.0 us refl (apart_recent c k h.0 h.1) h.2
+  apart_recent c (suc k) us h = apart_touched c (setting_visited p.start k) (p.warrior (setting_visited p.start k)) h.0 us refl (apart_recent c k h.0 h.1) h.2
 
   pub split_one : (w : WarriorView) (u v : ℕ) (b d : List ℕ) (f g : List ℕ) → p.warrior u ≡ Some w → p.warrior v ≡ Some w → Apart (f ++ u ∷ b) → f ++ u ∷ b ≡ g ++ v ∷ d →
       (u ≡ v) × (f ++ b ≡ g ++ d)
@@ -86,6 +86,6 @@ module _ (p : Problem) where
   pub recent_one : (c k : ℕ) (us vs : List ℕ) → IsRecent p c k us → IsRecent p c k vs → us ≡ vs
   recent_one c zero us vs a b = a ∙ sym b
   recent_one c (suc k) us vs a b =
-      let v = visited p.start k in
+      let v = setting_visited p.start k in
       let same : a.0 ≡ b.0 = recent_one c k a.0 b.0 a.1 b.1 in
       touched_one c v (p.warrior v) b.0 us vs (apart_recent c k b.0 b.1) (subst (λ (l : List ℕ). ChangesRecent p c v (p.warrior v) l us) same a.2) b.2

@@ -11,12 +11,12 @@ use Rattle.tune_problem.specs.Optimum.{all_fights, total_of}
 use Rattle.tune_problem.specs.declared.cert.Row.{Row}
 use Rattle.tune_problem.specs.declared.cert.Row.TheVariants.{Refused}
 use Rattle.tune_search.specs.Order.{fight_order, order_after}
-use Rattle.tune_search.specs.Visits.{visits_before, ranking_after, ranking_before, visited}
+use Rattle.tune_search.specs.Visits.{visits_before, ranking_after, ranking_before, setting_visited}
 use Rattle.tune_search.specs.Ranking.{IsRankingBy}
 use Rattle.tune_search.specs.Recent.{ChangesRecent, IsRecent}
 use Rattle.tune_search.specs.Sharing.{IsExplained}
 use Rattle.tune_search.specs.Method.{capacity_of}
-use Rattle.tune_search.specs.State.{IsCopied, IsKnown, IsUnderWay, Progress}
+use Rattle.tune_search.specs.State.{HasCopied, IsKnown, IsUnderWay, Progress}
 use Rattle.tune_problem.specs.declared.watcher.Best.{Best}
 use Rattle.tune_search.proofs.Orders.{order_permutes}
 use Rattle.tune_search.proofs.Leads.{by_then}
@@ -27,13 +27,13 @@ use Rattle.tune_search.specs.declared.fought.Fought.{Fought}
 use Rattle.tune_search.specs.declared.method.Method.{Method}
 use Rattle.tune_problem.specs.Ranking.{next_ranking, ranking_with, first_of, IsAim}
 
-pub first_visit : (s k v : ℕ) → v ≡ visited s k → (v == s) ≡ (k == 0)
+pub first_visit : (s k v : ℕ) → v ≡ setting_visited s k → (v == s) ≡ (k == 0)
 first_visit s k v at = ap (λ n. n == s) at ∙ grind (arith, nat_tests)
 
 pub not_zero : (k : ℕ) → (suc k == 0) ≡ false
 not_zero k = grind (arith, nat_tests)
 
-not_yet : (p : Problem) (k v : ℕ) (lead : Option Best) (copied : Option ℕ) → visits_before p.start v ≡ k → IsCopied p k lead copied → copied ≢ Some v
+not_yet : (p : Problem) (k v : ℕ) (lead : Option Best) (copied : Option ℕ) → visits_before p.start v ≡ k → HasCopied p k lead copied → copied ≢ Some v
 not_yet p k v lead None at h e = cc
 not_yet p k v lead (Some u) at h e =
     let same : u ≡ v = cc in
@@ -61,10 +61,10 @@ pub record IsVisit (p : Problem) (aim : Aim) (method : Method) (k v : ℕ) (g : 
   pub is_ranking : IsRankingBy p aim k g.ranking
   pub ranked_next : (w : WarriorView) → p.warrior v ≡ Some w → next_ranking aim (total_of p w) v g.ranking ≡ ranking_after p aim (suc k)
   pub recent_here : IsRecent p (capacity_of method) (visits_before p.start v) (map (λ e. e.1.vector) g.known)
-  pub copied_grows : (o : Option ℕ) → IsCopied p k (first_of g.ranking) o → IsCopied p (suc k) (first_of g.ranking) o
+  pub copied_grows : (o : Option ℕ) → HasCopied p k (first_of g.ranking) o → HasCopied p (suc k) (first_of g.ranking) o
 
 module _ (p : Problem) (laws : IsProblem p) (start : p.start < p.count) (rules : RulesView) (aim : Aim) (is_aim : IsAim aim) (method : Method)
-    (k v : ℕ) (at : v ≡ visited p.start k) (inside : v < p.count) (g : Progress) (s : IsUnderWay p rules aim method k g) where
+    (k v : ℕ) (at : v ≡ setting_visited p.start k) (inside : v < p.count) (g : Progress) (s : IsUnderWay p rules aim method k g) where
   its_place : visits_before p.start v ≡ k
   its_place = ap (visits_before p.start) at ∙ before_visited p.start k
 
@@ -104,7 +104,7 @@ module _ (p : Problem) (laws : IsProblem p) (start : p.start < p.count) (rules :
   order_later some =
       s.order_is ∙ ap (λ b. order_after p b (p.warrior p.start)) (let e : (k == 0) ≡ (suc k == 0) = grind (arith, nat_tests) in e)
 
-  copied_grows : (o : Option ℕ) → IsCopied p k (first_of g.ranking) o → IsCopied p (suc k) (first_of g.ranking) o
+  copied_grows : (o : Option ℕ) → HasCopied p k (first_of g.ranking) o → HasCopied p (suc k) (first_of g.ranking) o
   copied_grows None h = tt
   copied_grows (Some u) h = let before : visits_before p.start u < k = h.1 in (h.0, omega arith, h.2)
 
@@ -151,7 +151,7 @@ module _ (p : Problem) (laws : IsProblem p) (start : p.start < p.count) (rules :
 
     refused_order : (m : ℕ) → k ≡ m → g.order ≡ order_after p false (p.warrior p.start)
     refused_order zero e =
-        let start : v ≡ p.start = at ∙ ap (visited p.start) e in
+        let start : v ≡ p.start = at ∙ ap (setting_visited p.start) e in
         s.order_is ∙ ap (λ m. order_after p (m == 0) (p.warrior p.start)) e ∙ sym (ap (order_after p false) (ap p.warrior (sym start) ∙ none))
     refused_order (suc m) e = s.order_is ∙ ap (λ m. order_after p (m == 0) (p.warrior p.start)) e ∙ ap (λ b. order_after p b (p.warrior p.start)) (not_zero m)
 

@@ -11,7 +11,7 @@ use Rattle.tune_problem.specs.declared.watcher.Best.{Best}
 use Rattle.tune_problem.specs.Ranking.{IsRanking, Any, first_of}
 use Rattle.tune_problem.specs.Below.{AllBelow, IsValidBelow, cert_with}
 use Rattle.tune_problem.specs.declared.aim.Aim.{Aim}
-use Rattle.tune_search.specs.Found.{IsWorked, Work}
+use Rattle.tune_search.specs.Found.{IsWorkOf, Work}
 use Rattle.tune_search.specs.declared.findings.Findings.{Findings}
 use Rattle.tune_search.specs.declared.method.Method.{Method}
 
@@ -63,4 +63,4 @@ pub record IsSearchFrom (p : Problem) (aim : Aim) (method : Method) (f : Finding
   -- the rows are a valid certificate of it, or that no candidate reaches the floor
   pub certified : IsCertified p aim.floor f.version f.rows (first_of f.ranking)
   -- the rows and the counts are those of a search by the method for this aim
-  pub work : IsWorked p aim method (work_from f)
+  pub work : IsWorkOf p aim method (work_from f)

@@ -72,7 +72,7 @@ abbrev pub work_of : Found → Work
 work_of f = record { version = f.version; rows = f.rows; copied = f.copied; fights = f.fights; candidates = f.candidates }
 
 -- The rows and the counts of a search by a method, for an aim.
-pub record IsWorked (p : Problem) (aim : Aim) (method : Method) (work : Work) : Type 0 where
+pub record IsWorkOf (p : Problem) (aim : Aim) (method : Method) (work : Work) : Type 0 where
   -- the version is 1 exactly if every fight counts once
   pub version : IsOwnVersion p work.version
   pub count : work.candidates ≡ candidates_of p
@@ -96,4 +96,4 @@ pub record IsSearch (p : Problem) (method : Method) (f : Found) : Type 0 where
   pub total_is : HasTotal p f.best f.total
   pub valid : IsValid p (cert_of f)
   -- the rows and the counts are those of a search by the method for the best setting alone
-  pub work : IsWorked p best_alone method (work_of f)
+  pub work : IsWorkOf p best_alone method (work_of f)

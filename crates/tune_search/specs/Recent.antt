@@ -3,7 +3,7 @@ use Rattle.std.specs.Prelude.{◌≡◌, ◌≢◌, ℕ, zero, suc, ◌⊎◌, L
 use Rattle.std.specs.List.{AllByRecursion}
 use Rattle.rc_instr.specs.Warrior.{WarriorView}
 use Rattle.tune_problem.specs.Problem.{Problem}
-use Rattle.tune_search.specs.Visits.{visited}
+use Rattle.tune_search.specs.Visits.{setting_visited}
 
 -- None of these settings has the warrior.
 abbrev pub NoneHas : Problem → WarriorView → List ℕ → Type 0
@@ -29,4 +29,4 @@ ChangesRecent p capacity v (Some w) old new =
 abbrev pub IsRecent : Problem → ℕ → ℕ → List ℕ → Type 0
 IsRecent p capacity zero settings = settings ≡ []
 IsRecent p capacity (suc k) settings =
-    (old : List ℕ) × IsRecent p capacity k old × ChangesRecent p capacity (visited p.start k) (p.warrior (visited p.start k)) old settings
+    (old : List ℕ) × IsRecent p capacity k old × ChangesRecent p capacity (setting_visited p.start k) (p.warrior (setting_visited p.start k)) old settings

@@ -54,9 +54,9 @@ IsWhole p rows None = Unit {0}
 IsWhole p rows (Some lead) = (row : List (ℕ × ℕ)) × (slice_get rows lead.vector ≡ Some (Cap row)) × (length row ≡ p.fights)
 
 -- The setting with the copied row was visited, and the start setting leads no more.
-abbrev pub IsCopied : Problem → ℕ → Option Best → Option ℕ → Type 0
-IsCopied p k lead None = Unit {0}
-IsCopied p k lead (Some v) = (v < p.count) × (visits_before p.start v < k) × (leads p.start lead ≡ false)
+abbrev pub HasCopied : Problem → ℕ → Option Best → Option ℕ → Type 0
+HasCopied p k lead None = Unit {0}
+HasCopied p k lead (Some v) = (v < p.count) × (visits_before p.start v < k) × (leads p.start lead ≡ false)
 
 -- An entry of the cache after k visits: a setting that was fought, under its load file, with its
 -- cap by the fights that its row lists.
@@ -108,7 +108,7 @@ pub record IsUnderWay (p : Problem) (rules : RulesView) (aim : Aim) (method : Me
   -- the cache has the recent settings
   pub recent : IsRecent p (capacity_of method) k (map (λ e. e.1.vector) g.known)
   pub all_known : AllByRecursion (IsKnown p rules aim method g.rows k) g.known
-  pub copied_is : IsCopied p k (first_of g.ranking) g.copied
+  pub copied_is : HasCopied p k (first_of g.ranking) g.copied
   -- every listed fight was played once, except those of the copied row
   pub work : g.fights + copied_fights g.rows g.copied ≡ listed_fights g.rows
   pub count : g.candidates ≡ count_by is_filled g.rows

@@ -14,8 +14,8 @@ use Rattle.tune_search.specs.declared.method.Method.{Method}
 use Rattle.tune_problem.specs.declared.watcher.Best.{Best}
 
 -- The setting that is visited after k others: the start setting first, then the others in order.
-abbrev pub visited : (start k : ℕ) → ℕ
-visited start k = if k == 0 then start else if nat_lt start k then k else k - 1
+abbrev pub setting_visited : (start k : ℕ) → ℕ
+setting_visited start k = if k == 0 then start else if nat_lt start k then k else k - 1
 
 -- The number of settings that are visited before setting v.
 abbrev pub visits_before : (start v : ℕ) → ℕ
@@ -24,7 +24,7 @@ visits_before start v = if v == start then 0 else if nat_lt v start then v + 1 e
 -- The first of the ranking of the first k settings visited, by their totals.
 unfoldable pub ranking_after : Problem → Aim → ℕ → List Best
 ranking_after p aim zero = []
-ranking_after p aim (suc k) = ranking_with p aim (visited p.start k) (p.warrior (visited p.start k)) (ranking_after p aim k)
+ranking_after p aim (suc k) = ranking_with p aim (setting_visited p.start k) (p.warrior (setting_visited p.start k)) (ranking_after p aim k)
 
 -- The ranking of the settings that are visited before setting v.
 abbrev pub ranking_before : Problem → Aim → ℕ → List Best

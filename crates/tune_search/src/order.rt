@@ -3,15 +3,15 @@ ghost use Rattle.std.specs.Prelude.{◌≡◌, ◌++◌, if◌then◌else◌, If
 ghost use Rattle.std.specs.List.{range_with_len};
 ghost use Rattle.std.specs.List.Sorted.{IsPermutation, IsSorted};
 ghost use Rattle.tune_search.specs.Order.{with_points, by_points};
-ghost use Rattle.tune_search.specs.Visits.{visited};
+ghost use Rattle.tune_search.specs.Visits.{setting_visited};
 ghost use Rattle.tune_search.specs.State.{by_index};
 
 use std::alloc::{AllocError, Global};
 
 // Returns the setting that is visited after `visits` others: `start` first, then the others in
 // order.
-pub(crate) fn visited(start: u32, visits: u32) -> u32
-    ensures { result ≡ visited start visits }
+pub(crate) fn setting_visited(start: u32, visits: u32) -> u32
+    ensures { result ≡ setting_visited start visits }
 {
     if visits == 0 {
         start

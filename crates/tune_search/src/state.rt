@@ -3,7 +3,7 @@ ghost use Rattle.std.specs.Prelude.{◌≡◌, ◌+◌, ◌<◌, ◌≤◌, None
 ghost use Rattle.std.specs.Map.{lookup};
 ghost use Rattle.tune_problem.specs.Problem.{problem_of};
 ghost use Rattle.tune_search.specs.Cache.{same_text};
-ghost use Rattle.tune_search.specs.Visits.{visited};
+ghost use Rattle.tune_search.specs.Visits.{setting_visited};
 ghost use Rattle.tune_problem.specs.Ranking.{IsAim};
 ghost use Rattle.tune_search.specs.State.{IsCandidateAt, IsState, findings_of};
 
@@ -13,7 +13,7 @@ use crate::fights::{Challenge, play_enough};
 use crate::findings::Findings;
 use crate::fought::Fought;
 use crate::method::{Method, aim_at, capacity_of};
-use crate::order::{all_in_order, learn_order, sort_by_index, visited};
+use crate::order::{all_in_order, learn_order, setting_visited, sort_by_index};
 use crate::sharing::copies;
 use mars_core::{Arena, PackedCells};
 use rc_instr::OutOfMemory;
@@ -86,7 +86,7 @@ impl State {
         requires state { IsState inputs.now self.old.aim self.old.method visits self.old }
         ensures { OnOk result (IsState inputs.now self.old.aim self.old.method (visits + 1) self.new) }
     {
-        let vector = visited(self.start, visits);
+        let vector = setting_visited(self.start, visits);
         let Some(entrant) = candidate_at(alloc, inputs, vector)? else {
             return Ok(());
         };
@@ -120,7 +120,7 @@ impl State {
     ) -> Result<(), OutOfMemory>
         requires visits { visits < (problem_of inputs.now).count }
         requires state { IsState inputs.now self.old.aim self.old.method visits self.old }
-        requires candidate { IsCandidateAt inputs.now (visited (problem_of inputs.now).start visits) entrant }
+        requires candidate { IsCandidateAt inputs.now (setting_visited (problem_of inputs.now).start visits) entrant }
         requires unknown { lookup (same_text entrant.text.items) self.old.cache.known ≡ None }
         ensures { OnOk result (IsState inputs.now self.old.aim self.old.method (visits + 1) self.new) }
     {

@@ -52,8 +52,8 @@ abbrev pub vector_count : List Span → ℕ
 vector_count [] = 1
 vector_count (s ∷ ss) = s.count * vector_count ss
 
--- Checks `name`, of the given class, as the constant after `names`: it must be a name, not reserved,
--- not predefined, and not one of `names`.
+-- Checks `name`, of the given class, as the constant after `names`: it must be a name, not
+-- reserved, not predefined, and not one of `names`.
 abbrev pub name_checked : List (List ℕ) → NameClass → List ℕ → Result (Unit {0}) TemplateKind
 name_checked names NoName name = Err BadLine
 name_checked names Reserved name = Err ReservedName

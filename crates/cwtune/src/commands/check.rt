@@ -2,7 +2,7 @@
 ghost use Rattle.std.specs.Prelude.{◌≡◌, false};
 ghost use Rattle.tune_runs.specs.Given.{rules_given, texts_given};
 ghost use Rattle.tune_runs.specs.Runs.{IsRun};
-ghost use Rattle.cwtune.specs.Commands.{verdict_output, WritesCheckLine, WritesVerdictOf, IsCheckEnded};
+ghost use Rattle.cwtune.specs.Commands.{check_command_output, WritesCheckLine, WritesCheckOf, IsCheckEnded};
 
 use crate::ending::Ending;
 use crate::files::reading::TuneFiles;
@@ -53,7 +53,7 @@ fn check_texts<F: Files, T: Witness, W: Write, V: Write>(
     out: &mut Outlet<W>,
 ) -> Result<(), Ending>
     requires out { out.old.failed ≡ false }
-    ensures { IsCheckEnded (WritesVerdictOf demand share (texts_given texts.now) cert.now) out.old out.new result }
+    ensures { IsCheckEnded (WritesCheckOf demand share (texts_given texts.now) cert.now) out.old out.new result }
 {
     host.witness.before_run(host.alloc, words, texts);
     match verdict_on(host.alloc, texts, share, demand, host.witness, cert, out) {
@@ -78,7 +78,7 @@ fn verdict_on<T: Watcher, W: Write>(
     out: &mut Outlet<W>,
 ) -> Result<bool, RunFault>
     requires out { out.old.failed ≡ false }
-    ensures { IsRun (verdict_output demand share (texts_given texts.now) cert.now) result out.old out.new }
+    ensures { IsRun (check_command_output demand share (texts_given texts.now) cert.now) result out.old out.new }
 {
     if demand.keep.is_some() || demand.floor.is_some() {
         return check_for_run(alloc, texts, demand, share, watcher, cert, out);

@@ -8,7 +8,7 @@ use Rattle.tune_problem.specs.declared.cert.Row.TheVariants.{Cap}
 use Rattle.tune_problem.proofs.Scores.{inputs_problem}
 use Rattle.tune_search.specs.Plays.{played}
 use Rattle.tune_search.specs.Order.{aim_at, by_points, enough}
-use Rattle.tune_search.specs.Visits.{visited}
+use Rattle.tune_search.specs.Visits.{setting_visited}
 use Rattle.tune_search.specs.Cache.{CacheView}
 use Rattle.tune_search.specs.Method.{capacity_of}
 use Rattle.tune_search.proofs.VisitOrder.{visited_below}
@@ -27,7 +27,7 @@ play_enough-requires-clause-all g c =
     let p = problem_of i in
     let s = c.args.self.now in
     let k = c.args.visits in
-    let v = visited p.start k in
+    let v = setting_visited p.start k in
     let inside : v < p.count = visited_below p.start p.count k c.requires.state.start_inside c.requires.visits in
     ap length c.deref.ensures.value
     ∙ order_length p s.order.items (permutes p (inputs_problem i) c.requires.state.start_inside i.rules s.aim c.requires.state.is_aim c.args.self.now.method k v refl inside
@@ -39,7 +39,7 @@ play_enough-requires-clause-once g c =
     let p = problem_of i in
     let s = c.args.self.now in
     let k = c.args.visits in
-    let v = visited p.start k in
+    let v = setting_visited p.start k in
     let inside : v < p.count = visited_below p.start p.count k c.requires.state.start_inside c.requires.visits in
     subst (λ (l : List ℕ). IsPermutation (all_fights p) l) (sym c.deref.ensures.value)
     (permutes p (inputs_problem i) c.requires.state.start_inside i.rules s.aim c.requires.state.is_aim c.args.self.now.method k v refl inside
@@ -51,7 +51,7 @@ play_enough-requires-clause-below g c =
     let p = problem_of i in
     let s = c.args.self.now in
     let k = c.args.visits in
-    let v = visited p.start k in
+    let v = setting_visited p.start k in
     let inside : v < p.count = visited_below p.start p.count k c.requires.state.start_inside c.requires.visits in
     subst (λ (l : List ℕ). All (λ k. k < p.fights) l) (sym c.deref.ensures.value)
     (order_below p s.order.items (permutes p (inputs_problem i) c.requires.state.start_inside i.rules s.aim c.requires.state.is_aim c.args.self.now.method k v refl inside
@@ -63,7 +63,7 @@ returns g c =
     let p = problem_of i in
     let s = c.args.self.now in
     let k = c.args.visits in
-    let v = visited p.start k in
+    let v = setting_visited p.start k in
     let e = c.args.entrant in
     let is = c.requires.candidate in
     let inside : v < p.count = visited_below p.start p.count k c.requires.state.start_inside c.requires.visits in

@@ -7,7 +7,7 @@ use Rattle.tune_problem.specs.Problem.{problem_of}
 use Rattle.tune_problem.specs.declared.cert.Row.{Row}
 use Rattle.tune_problem.proofs.Scores.{inputs_problem}
 use Rattle.tune_search.specs.Cache.{CacheView, cache_view, same_text}
-use Rattle.tune_search.specs.Visits.{visited}
+use Rattle.tune_search.specs.Visits.{setting_visited}
 use Rattle.tune_search.specs.Sharing.{copies}
 use Rattle.tune_search.specs.State.{IsCandidateAt, IsUnderWay, progress_of}
 use Rattle.tune_search.specs.declared.candidate.Candidate.{Candidate}
@@ -24,8 +24,8 @@ returns-in_default g c =
     let p = problem_of i in
     let s = c.args.self.now in
     let k = c.args.visits in
-    let v = c.visited-vector.result in
-    let at : v ≡ visited p.start k = c.visited-vector.ensures ∙ ap (λ n. visited n k) c.requires.state.start_is in
+    let v = c.setting_visited-vector.result in
+    let at : v ≡ setting_visited p.start k = c.setting_visited-vector.ensures ∙ ap (λ n. setting_visited n k) c.requires.state.start_is in
     let inside : v < p.count = subst (λ (n : ℕ). n < p.count) (sym at) (visited_below p.start p.count k c.requires.state.start_inside c.requires.visits) in
     record {
       start_is = c.requires.state.start_is;
@@ -77,11 +77,11 @@ returns-then-copied g c =
     let p = problem_of i in
     let s = c.args.self.now in
     let k = c.args.visits in
-    let v = c.visited-vector.result in
+    let v = c.setting_visited-vector.result in
     let u = c.in-Some-recall.other in
     let e = c.in-Some.entrant in
-    let is : IsCandidateAt i c.visited-vector.result e = subst (λ (o : Option Candidate). IfSome o (IsCandidateAt i c.visited-vector.result)) c.in-Some.is c.in_ok-entrant.ensures.some in
-    let at : v ≡ visited p.start k = c.visited-vector.ensures ∙ ap (λ n. visited n k) c.requires.state.start_is in
+    let is : IsCandidateAt i c.setting_visited-vector.result e = subst (λ (o : Option Candidate). IfSome o (IsCandidateAt i c.setting_visited-vector.result)) c.in-Some.is c.in_ok-entrant.ensures.some in
+    let at : v ≡ setting_visited p.start k = c.setting_visited-vector.ensures ∙ ap (λ n. setting_visited n k) c.requires.state.start_is in
     let inside : v < p.count = subst (λ (n : ℕ). n < p.count) (sym at) (visited_below p.start p.count k c.requires.state.start_inside c.requires.visits) in
     let text : c.deref.result.now ≡ load_text i.rules.core e.warrior = c.deref.ensures.value ∙ is.text_is in
     let look : lookup (same_text (load_text i.rules.core e.warrior)) s.cache.known ≡ Some u = ap (λ t. lookup (same_text t) s.cache.known) (sym text) ∙ sym c.in-Some-recall.ensures.value in
@@ -114,11 +114,11 @@ returns g c =
     let p = problem_of i in
     let s = c.args.self.now in
     let k = c.args.visits in
-    let v = c.visited-vector.result in
+    let v = c.setting_visited-vector.result in
     let u = c.in-Some-recall.other in
     let e = c.in-Some.entrant in
-    let is : IsCandidateAt i c.visited-vector.result e = subst (λ (o : Option Candidate). IfSome o (IsCandidateAt i c.visited-vector.result)) c.in-Some.is c.in_ok-entrant.ensures.some in
-    let at : v ≡ visited p.start k = c.visited-vector.ensures ∙ ap (λ n. visited n k) c.requires.state.start_is in
+    let is : IsCandidateAt i c.setting_visited-vector.result e = subst (λ (o : Option Candidate). IfSome o (IsCandidateAt i c.setting_visited-vector.result)) c.in-Some.is c.in_ok-entrant.ensures.some in
+    let at : v ≡ setting_visited p.start k = c.setting_visited-vector.ensures ∙ ap (λ n. setting_visited n k) c.requires.state.start_is in
     let inside : v < p.count = subst (λ (n : ℕ). n < p.count) (sym at) (visited_below p.start p.count k c.requires.state.start_inside c.requires.visits) in
     let text : c.deref.result.now ≡ load_text i.rules.core e.warrior = c.deref.ensures.value ∙ is.text_is in
     let look : lookup (same_text (load_text i.rules.core e.warrior)) s.cache.known ≡ Some u = ap (λ t. lookup (same_text t) s.cache.known) (sym text) ∙ sym c.in-Some-recall.ensures.value in
