@@ -35,7 +35,7 @@ fn a_schedule_is_read(rt: HostRuntime) -> Result<(), Fail> {
     Ok(())
 }
 
-// Whether `TWO_FIGHTS` fits a number of opponents, and rules of `core` and `distance`.
+// Checks whether `TWO_FIGHTS` fits a number of opponents, and rules of `core` and `distance`.
 struct Fit {
     name: &'static str,
     core: u32,

@@ -154,7 +154,7 @@ pub fn check_for_run<T: Watcher, W: Write>(
     Ok(judged.is_accepted)
 }
 
-// Whether a certificate is accepted, and the lines that say so.
+// What a check says of a certificate: whether it is accepted, and the lines that say so.
 #[derive(Drop)]
 struct Judged {
     is_accepted: bool,

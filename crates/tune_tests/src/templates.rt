@@ -83,7 +83,7 @@ const VECTORS: [(u32, i64, i64); 6] = [
     (5, 1, 9),
 ];
 
-// Whether a template has two constants, of these names.
+// Checks that a template has two constants, of these names.
 fn has_names(template: &Template, first: &[u8], second: &[u8]) -> bool {
     match template.names() {
         [one, other] => one.as_slice() == first && other.as_slice() == second,
