@@ -35,7 +35,7 @@ fn a_schedule_is_read(rt: HostRuntime) -> Result<(), Fail> {
     Ok(())
 }
 
-// Checks whether `TWO_FIGHTS` fits a number of opponents, and rules of `core` and `distance`.
+// A number of opponents and rules of `core` and `distance`, and whether `TWO_FIGHTS` fits them.
 struct Fit {
     name: &'static str,
     core: u32,

@@ -107,7 +107,8 @@ fn a_warrior_keeps_its_code_and_its_start(rt: HostRuntime) -> Result<(), Fail> {
     Ok(())
 }
 
-// Checks whether a warrior of 4 cells, with 15 as its greatest number, fits rules of `core` and `length`.
+// Rules of `core` and `length`, and whether a warrior of 4 cells, with 15 as its greatest number,
+// fits them.
 struct Fit {
     name: &'static str,
     core: u32,
