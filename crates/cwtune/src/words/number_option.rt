@@ -9,7 +9,6 @@ use std::alloc::Global;
 const VALUE_NAME: &str = "NUMBER";
 
 // An option that takes a 32-bit number.
-#[derive(Clone, Copy)]
 pub(crate) struct NumberOption {
     pub(crate) name: &'static str,
     // What help says: what the number is, and its range and its default, if it has them.
@@ -69,12 +68,12 @@ pub(crate) const CHECK_FLOOR: NumberOption = NumberOption {
 
 impl NumberOption {
     // Makes the option. The command checks the range when it runs.
-    pub(crate) fn arg<'a>(self, alloc: Global) -> Arg<'a> {
+    pub(crate) fn arg<'a>(&self, alloc: Global) -> Arg<'a> {
         number_arg(alloc, self.name, self.help)
     }
 
     // Returns the number that the option is given.
-    pub(crate) fn value_in<'a>(self, found: &ArgMatches<'a>) -> Result<Option<u32>, BadValue<'a>> {
+    pub(crate) fn value_in<'a>(&self, found: &ArgMatches<'a>) -> Result<Option<u32>, BadValue<'a>> {
         let Some(word) = found.get_str(self.name) else {
             return Ok(None);
         };
