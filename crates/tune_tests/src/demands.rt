@@ -1,6 +1,6 @@
-//! Tests of `check_for`, worked out by hand: each setting that assembles is an imp, whose total is 4
-//! (`fixtures`). A row that lists the tie alone has a cap of 4, and one that lists the win alone a
-//! cap of 6. In the certificate of three warriors the last has not played its first fight.
+//! Tests of `check_for`, worked out by hand: each setting that assembles is an imp, whose total is
+//! 4 (`fixtures`). A row that lists the tie alone has a cap of 4, and one that lists the win alone
+//! a cap of 6. In the certificate of three warriors the last has not played its first fight.
 
 use crate::fixtures::{
     FOUR_EQUAL, FOUR_EQUAL_CERT, THREE_UNEQUAL, THREE_UNEQUAL_CERT, THREE_UNEQUAL_NONE_FROM_5, imp,
