@@ -14,12 +14,12 @@ abbrev pub at_line : ℕ → AsmKind → AsmFault
 at_line line kind = record { line = line; kind = kind }
 
 -- Out of memory has no line.
-abbrev pub IsMemory : AsmFault → Type 0
-IsMemory fault = fault ≡ at_line 0 OutOfMemory
+abbrev pub IsOutOfMemory : AsmFault → Type 0
+IsOutOfMemory fault = fault ≡ at_line 0 OutOfMemory
 
 -- A call returns what the definition gives, seen through `view`, unless memory runs out.
 abbrev pub Returns : {A B : Type 0} → (view : A → B) → (result : Result A AsmFault) → (definition : Result B AsmFault) → Type 0
-Returns view result definition = ReturnsBut IsMemory view result definition
+Returns view result definition = ReturnsBut IsOutOfMemory view result definition
 
 -- A line of code must parse, and ORG needs an expression.
 abbrev pub form_of : List ℕ → LineWord → List Token → Result (Unit {0}) AsmKind

@@ -9,9 +9,9 @@ abbrev pub at_line : ℕ → ExpandKind → ExpandFault
 at_line line kind = record { line = line; kind = kind }
 
 -- Out of memory has no line.
-abbrev pub IsMemory : ExpandFault → Type 0
-IsMemory fault = fault ≡ at_line 0 OutOfMemory
+abbrev pub IsOutOfMemory : ExpandFault → Type 0
+IsOutOfMemory fault = fault ≡ at_line 0 OutOfMemory
 
 -- A call returns what the definition gives, seen through `view`, unless memory runs out.
 abbrev pub Returns : {A B : Type 0} → (view : A → B) → (result : Result A ExpandFault) → (definition : Result B ExpandFault) → Type 0
-Returns view result definition = ReturnsBut IsMemory view result definition
+Returns view result definition = ReturnsBut IsOutOfMemory view result definition

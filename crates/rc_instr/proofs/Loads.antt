@@ -9,7 +9,7 @@ use Rattle.rc_instr.specs.Warrior.{WarriorView, warrior_view, IsBelow, IsWarrior
 use Rattle.rc_instr.specs.Checks.{warrior_of}
 use Rattle.rc_instr.specs.LoadText.{line_text, start_text, code_text, load_text}
 use Rattle.rc_instr.specs.LoadReaders.{opcode_at, head_at, line_at, start_at}
-use Rattle.rc_instr.specs.Loaded.{IsMemory, with_line, lines_from, lines_at, only_lines, code_of, load_meaning}
+use Rattle.rc_instr.specs.LoadMeaning.{IsOutOfMemory, with_line, lines_from, lines_at, only_lines, code_of, load_meaning}
 use Rattle.rc_instr.specs.declared.instruction.Instruction.{Instruction}
 use Rattle.rc_instr.specs.declared.loadfile.fault.LoadFault.{LoadFault}
 use Rattle.rc_instr.specs.declared.loadfile.fault.LoadFault.TheVariants.{Malformed, Warrior, OutOfMemory}
@@ -153,13 +153,13 @@ spelled_as rules bytes w k e =
     (text ∙ ap (λ (v : WarriorView). start_text v.start ++ code_text rules.core v.code) (sym f.0), subst (λ v. IsWarrior v) (sym f.0) f.1, subst (λ v. Fits rules v) (sym f.0) f.2)
 
 -- what is no fault of a text is out of memory
-only_memory : (fault : LoadFault) → ((IsMemory fault → ⊥) → ⊥) → fault ≡ OutOfMemory
+only_memory : (fault : LoadFault) → ((IsOutOfMemory fault → ⊥) → ⊥) → fault ≡ OutOfMemory
 only_memory (Malformed line) h = absurd (h (λ e. absurd (cc)))
 only_memory (Warrior error) h = absurd (h (λ e. absurd (cc)))
 only_memory OutOfMemory h = refl
 
 -- a call that reads the load file of a warrior returns it, unless memory runs out
-pub read_back : (r meaning : Result WarriorView LoadFault) (w : WarriorView) → Returns IsMemory (λ v. v) r meaning → meaning ≡ Ok w
+pub read_back : (r meaning : Result WarriorView LoadFault) (w : WarriorView) → Returns IsOutOfMemory (λ v. v) r meaning → meaning ≡ Ok w
     → MatchResult r (λ v. v ≡ w) (λ e. e ≡ OutOfMemory)
 read_back (Ok v) meaning w h e = cc
 read_back (Err f) meaning w h e = only_memory f (λ n. let q = h n in absurd (cc))

@@ -12,6 +12,6 @@ pub mod Digits
 pub mod Decimal
 pub mod LoadText
 pub mod LoadReaders
-pub mod Loaded
+pub mod LoadMeaning
 pub mod Appending
 pub mod Outlet

@@ -27,7 +27,7 @@ abbrev pub check : {E : Type 0} → Bool → E → Result (Unit {0}) E
 check holds fault = if holds then Ok tt else Err fault
 
 -- A call returns what the definition gives, seen through `view`, unless memory runs out.
--- `IsMemory` says which faults are out of memory.
-abbrev pub Returns : {A B E : Type 0} → (IsMemory : E → Type 0) → (view : A → B) → (result : Result A E) → (definition : Result B E) → Type 0
-Returns IsMemory view (Ok x) r = r ≡ Ok (view x)
-Returns IsMemory view (Err e) r = (¬ IsMemory e) → r ≡ Err e
+-- `IsOutOfMemory` says which faults are out of memory.
+abbrev pub Returns : {A B E : Type 0} → (IsOutOfMemory : E → Type 0) → (view : A → B) → (result : Result A E) → (definition : Result B E) → Type 0
+Returns IsOutOfMemory view (Ok x) r = r ≡ Ok (view x)
+Returns IsOutOfMemory view (Err e) r = (¬ IsOutOfMemory e) → r ≡ Err e

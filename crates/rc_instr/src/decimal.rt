@@ -1,21 +1,10 @@
 //! Decimals in texts: 0 to 4294967295 without leading zeros, or 1 to 9 digits of any kind.
-ghost use Rattle.std.specs.Prelude.{◌≡◌, ℕ, ◌<◌, ◌≤◌, ◌^◌, true, List, ◌∷◌, ◌++◌, length, IfSome, IsSomeAnd, Some, take_while};
+ghost use Rattle.std.specs.Prelude.{◌≡◌, ℕ, ◌<◌, ◌≤◌, ◌^◌, true, List, ◌++◌, length, IfSome, IsSomeAnd, Some, take_while};
 ghost use Rattle.std.specs.Char.{is_ascii_digit};
 ghost use Rattle.std.specs.Fmt.{decimal};
 ghost use Rattle.std.specs.Str.{all_ascii_digits};
 ghost use Rattle.rc_instr.specs.Digits.{NoDigitFirst, read_on};
 ghost use Rattle.rc_instr.specs.Decimal.{padded_decimal};
-
-/// Returns the rest of `bytes` if the first of them is `byte`.
-pub fn after(byte: u8, bytes: &[u8]) -> Option<&[u8]>
-    ensures found { IfSome result (λ rest. bytes.now ≡ byte ∷ rest.now) }
-    ensures only { (rest : List ℕ) → bytes.now ≡ byte ∷ rest → IsSomeAnd result (λ r. r.now ≡ rest) }
-{
-    match bytes {
-        [first, rest @ ..] if *first == byte => Some(rest),
-        _ => None,
-    }
-}
 
 /// Reads the decimal at the front and returns its value and the rest of `bytes`.
 ///

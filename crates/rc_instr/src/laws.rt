@@ -3,7 +3,7 @@ ghost use Rattle.std.specs.Prelude.{◌≡◌, ◌≢◌, ◌↔◌, ℕ, ◌+�
 ghost use Rattle.rc_instr.specs.Checks.{rules_of, warrior_of};
 ghost use Rattle.rc_instr.specs.Rules.{RulesView, IsRules, IsCoreSize};
 ghost use Rattle.rc_instr.specs.Warrior.{WarriorView, IsWarrior, IsBelow, Fits};
-ghost use Rattle.rc_instr.specs.Loaded.{lines_at, code_of, load_meaning};
+ghost use Rattle.rc_instr.specs.LoadMeaning.{lines_at, code_of, load_meaning};
 ghost use Rattle.rc_instr.specs.LoadReaders.{line_at, start_at};
 ghost use Rattle.rc_instr.specs.Words.{opcode_text, modifier_text, opcode_named, modifier_named};
 ghost use Rattle.rc_instr.specs.LoadText.{line_text, start_text, code_text, load_text};

@@ -4,6 +4,7 @@
 //! back gives the same warrior, and nothing but such a text is read.
 #![tactic(auto)]
 
+mod bytes;
 mod decimal;
 mod instruction;
 pub mod laws;
@@ -15,7 +16,8 @@ mod rules;
 mod warrior;
 mod words;
 
-pub use decimal::{after, decimal_at, decimal_of, padded_decimal};
+pub use bytes::after;
+pub use decimal::{decimal_at, decimal_of, padded_decimal};
 pub use instruction::{Instruction, Mode, Modifier, Opcode};
 pub use loadfile::{LoadFault, read_loadfile, write_loadfile};
 pub use memory::OutOfMemory;

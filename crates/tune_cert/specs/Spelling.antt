@@ -184,9 +184,9 @@ pub record IsFirstMalformed (records : List Fields) (number : ℕ) : Type 0 wher
   pub first : (k : ℕ) → k < number → ¬ (IsMalformed records k)
 
 -- Out of memory says nothing of the bytes.
-abbrev pub IsMemory : ReadFault → Type 0
-IsMemory fault = fault ≡ OutOfMemory
+abbrev pub IsOutOfMemory : ReadFault → Type 0
+IsOutOfMemory fault = fault ≡ OutOfMemory
 
 -- A call returns what the definition gives, seen through `view`, unless memory runs out.
 abbrev pub Returns : {A B : Type 0} → (view : A → B) → (result : Result A ReadFault) → (definition : Result B ReadFault) → Type 0
-Returns view result definition = ReturnsBut IsMemory view result definition
+Returns view result definition = ReturnsBut IsOutOfMemory view result definition

@@ -4,7 +4,7 @@ use Rattle.rc_instr.specs.Outlet.{OutletView}
 use Rattle.tune_problem.specs.Inputs.{InputsView}
 use Rattle.tune_problem.specs.Problem.{problem_of}
 use Rattle.tune_search.specs.Found.{NoneAssembles}
-use Rattle.tune_runs.specs.Runs.{IsMemory, Writer}
+use Rattle.tune_runs.specs.Runs.{IsOutOfMemory, Writer}
 use Rattle.tune_runs.specs.TuneRun.{Texts, meaning_of, HasNoCandidate, IsTuneRun}
 use Rattle.tune_runs.specs.declared.fault.RunFault.{RunFault}
 use Rattle.tune_runs.specs.declared.fault.RunFault.TheVariants.{NoCandidate, Write, OutOfMemory}
@@ -18,7 +18,7 @@ other_fault X e r is other same = other (search (sym is ∙ same))
 -- a tuning that returns a fault before it writes has written nothing
 pub refused_tuning : (X : Type 0) (r : Result X RunFault) (e : RunFault) (t : Texts) (Wrote : (report cert : Writer) → Type 0) (report cert : OutletView)
     → r ≡ Err e → report.failed ≡ false → cert.failed ≡ false → e ≢ Write
-    → ((¬ IsMemory e) → (meaning_of t ≡ Err e) ⊎ ((e ≡ NoCandidate) × HasNoCandidate t)) → IsTuneRun t Wrote r report report cert cert
+    → ((¬ IsOutOfMemory e) → (meaning_of t ≡ Err e) ⊎ ((e ≡ NoCandidate) × HasNoCandidate t)) → IsTuneRun t Wrote r report report cert cert
 refused_tuning X r e t Wrote report cert is whole_report whole_cert other says = record {
   done = rw is tt;
   stopped = λ same. absurd (other_fault X e r is other same);
@@ -39,6 +39,6 @@ search_other e P (inl memory) = λ w. let q : OutOfMemory ≡ Write = sym memory
 search_other e P (inr none) = λ w. let q : NoCandidate ≡ Write = sym none.0 ∙ w in cc
 
 pub search_refused : (e : RunFault) (t : Texts) (i : InputsView) → meaning_of t ≡ Ok i → (e ≡ OutOfMemory) ⊎ ((e ≡ NoCandidate) × NoneAssembles (problem_of i))
-    → (¬ IsMemory e) → (meaning_of t ≡ Err e) ⊎ ((e ≡ NoCandidate) × HasNoCandidate t)
+    → (¬ IsOutOfMemory e) → (meaning_of t ≡ Err e) ⊎ ((e ≡ NoCandidate) × HasNoCandidate t)
 search_refused e t i means (inl memory) known = absurd (known memory)
 search_refused e t i means (inr none) known = inr (none.0, (i, means, none.1))

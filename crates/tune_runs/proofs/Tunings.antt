@@ -8,7 +8,7 @@ use Rattle.tune_template.specs.Instances.{TemplateView, setting_count, template_
 use Rattle.tune_template.proofs.RangeLaws.{some_setting}
 use Rattle.tune_problem.specs.Parts.{whole, IsPart}
 use Rattle.tune_problem.specs.declared.part.Part.{Part}
-use Rattle.tune_runs.specs.Runs.{IsMemory}
+use Rattle.tune_runs.specs.Runs.{IsOutOfMemory}
 use Rattle.tune_runs.specs.TuneRun.{Texts, is_part, meaning_of, HasNoCandidate}
 use Rattle.tune_runs.specs.CheckRun.{check_output}
 use Rattle.tune_runs.specs.declared.fault.RunFault.{RunFault}
@@ -38,7 +38,7 @@ whole_parted t is h = elim (text_fault t BadPart h) [
       cc
 ]
 
-not_part : (e : RunFault) (t : Texts) → t.part ≡ whole → (e ≢ Write → (¬ IsMemory e) → (meaning_of t ≡ Err e) ⊎ ((e ≡ NoCandidate) × HasNoCandidate t)) → e ≢ BadPart
+not_part : (e : RunFault) (t : Texts) → t.part ≡ whole → (e ≢ Write → (¬ IsOutOfMemory e) → (meaning_of t ≡ Err e) ⊎ ((e ≡ NoCandidate) × HasNoCandidate t)) → e ≢ BadPart
 not_part e t is says = λ same.
     let other : e ≢ Write = (λ w. let q : BadPart ≡ Write = sym same ∙ w in cc) in
     let known : e ≢ OutOfMemory = (λ w. let q : BadPart ≡ OutOfMemory = sym same ∙ w in cc) in
@@ -48,11 +48,11 @@ not_part e t is says = λ same.
     ]
 
 pub tuning_parted : {X : Type 0} (r : Result X RunFault) (t : Texts) → t.part ≡ whole
-    → IfErr r (λ e. e ≢ Write → (¬ IsMemory e) → (meaning_of t ≡ Err e) ⊎ ((e ≡ NoCandidate) × HasNoCandidate t)) → IfErr r (λ e. e ≢ BadPart)
+    → IfErr r (λ e. e ≢ Write → (¬ IsOutOfMemory e) → (meaning_of t ≡ Err e) ⊎ ((e ≡ NoCandidate) × HasNoCandidate t)) → IfErr r (λ e. e ≢ BadPart)
 tuning_parted (Ok x) t is h = tt
 tuning_parted (Err e) t is h = not_part e t is h
 
 pub check_parted : {X : Type 0} (r : Result X RunFault) (t : Texts) (cert : List ℕ) (old new : OutletView) → t.part ≡ whole
-    → IfErr r (λ e. e ≢ Write → (new ≡ old) × ((¬ IsMemory e) → check_output t None cert ≡ Err e)) → IfErr r (λ e. e ≢ BadPart)
+    → IfErr r (λ e. e ≢ Write → (new ≡ old) × ((¬ IsOutOfMemory e) → check_output t None cert ≡ Err e)) → IfErr r (λ e. e ≢ BadPart)
 check_parted (Ok x) t cert old new is h = tt
 check_parted (Err e) t cert old new is h = not_part e t is (λ other known. inl (of_texts t cert e ((h other).1 known)))

@@ -4,7 +4,7 @@ use Rattle.rc_instr.specs.Results.{with_fault, ◌>>=◌, check}
 use Rattle.rc_instr.specs.Rules.{RulesView}
 use Rattle.rc_instr.specs.Warrior.{Fits}
 use Rattle.rc_instr.specs.Checks.{rules_of}
-use Rattle.rc_instr.specs.Loaded.{load_meaning}
+use Rattle.rc_instr.specs.LoadMeaning.{load_meaning}
 use Rattle.mars_core.specs.State.{start_of}
 use Rattle.mars_core.specs.Fight.{outcome_of}
 use Rattle.mars_core.specs.declared.arena.Outcome.{Outcome}

@@ -53,14 +53,14 @@ load_fault side fault = Load side fault
 
 -- ---- endings
 
-abbrev pub IsMemory : RunFault → Type 0
-IsMemory fault = fault ≡ OutOfMemory
+abbrev pub IsOutOfMemory : RunFault → Type 0
+IsOutOfMemory fault = fault ≡ OutOfMemory
 
 -- A call returns what the definition gives, seen through `view`, unless memory runs out. It writes
 -- nothing, so its fault is not `Write`.
 abbrev pub Returns : {A B : Type 0} → (view : A → B) → (result : Result A RunFault) → (definition : Result B RunFault) → Type 0
 Returns view (Ok x) definition = definition ≡ Ok (view x)
-Returns view (Err e) definition = (e ≢ Write) × ((¬ IsMemory e) → definition ≡ Err e)
+Returns view (Err e) definition = (e ≢ Write) × ((¬ IsOutOfMemory e) → definition ≡ Err e)
 
 -- A writer over a run: the bytes that it holds before and after it, if they are known.
 pub record Writer : Type 0 where
@@ -87,4 +87,4 @@ pub record IsRun {X : Type 0} (output : Result (X × List ℕ) RunFault) (result
   pub stopped : IsErrOf result Write → IsOk output
   pub write : IsErrOf result Write ↔ IsTrue new.failed
   -- after any other fault nothing was written; unless memory ran out the output is this fault
-  pub refused : IfErr result (λ e. e ≢ Write → (new ≡ old) × ((¬ IsMemory e) → output ≡ Err e))
+  pub refused : IfErr result (λ e. e ≢ Write → (new ≡ old) × ((¬ IsOutOfMemory e) → output ≡ Err e))

@@ -27,7 +27,7 @@ use Rattle.tune_search.specs.declared.method.Method.{Method}
 use Rattle.tune_search.specs.declared.fault.SearchFault.{SearchFault}
 use Rattle.tune_search.specs.declared.fault.SearchFault.TheVariants.{NoCandidate as NoneFound, OutOfMemory as SearchMemory}
 use Rattle.tune_runs.specs.Report.{report_text, report_for, report_from}
-use Rattle.tune_runs.specs.Runs.{opponent_fault, template_fault, schedule_fault, IsMemory, Writer, writer, Gets}
+use Rattle.tune_runs.specs.Runs.{opponent_fault, template_fault, schedule_fault, IsOutOfMemory, Writer, writer, Gets}
 use Rattle.tune_runs.specs.declared.fault.RunFault.{RunFault}
 use Rattle.tune_runs.specs.declared.fault.RunFault.TheVariants.{TooManyOpponents, Template, Opponent, Schedule, NoCandidate, Write, OutOfMemory, Part as BadPart}
 
@@ -141,7 +141,7 @@ pub record IsTuneRun {X : Type 0} (t : Texts) (Wrote : (report cert : Writer) �
   -- after any other fault nothing was written; unless memory ran out the texts have this fault, or
   -- a meaning without a candidate
   pub unwritten : IfErr result (λ e. e ≢ Write → (report_new ≡ report_old) × (cert_new ≡ cert_old))
-  pub refused : IfErr result (λ e. e ≢ Write → (¬ IsMemory e) → (meaning_of t ≡ Err e) ⊎ ((e ≡ NoCandidate) × HasNoCandidate t))
+  pub refused : IfErr result (λ e. e ≢ Write → (¬ IsOutOfMemory e) → (meaning_of t ≡ Err e) ⊎ ((e ≡ NoCandidate) × HasNoCandidate t))
   -- the report begins only after the certificate is out and flushed
   pub order : IsTrue cert_new.failed → report_new ≡ report_old
   pub before : (report_new ≡ report_old) ⊎ (cert_new.flushed ≡ true)

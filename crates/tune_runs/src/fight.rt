@@ -2,9 +2,9 @@
 ghost use Rattle.std.specs.Prelude.{◌≡◌, false, IfOk, MatchResult};
 ghost use Rattle.rc_instr.specs.Results.{with_fault};
 ghost use Rattle.rc_instr.specs.Warrior.{Fits};
-ghost use Rattle.rc_instr.specs.Loaded.{load_meaning};
+ghost use Rattle.rc_instr.specs.LoadMeaning.{load_meaning};
 ghost use Rattle.tune_runs.specs.ResultLine.{result_line};
-ghost use Rattle.tune_runs.specs.Runs.{load_fault, IsMemory, Returns, IsRun};
+ghost use Rattle.tune_runs.specs.Runs.{load_fault, IsOutOfMemory, Returns, IsRun};
 ghost use Rattle.tune_runs.specs.FightRun.{fight_named, outcome_for, fight_output, KeepsRules};
 
 use crate::fault::{RunFault, load_fault};
@@ -59,7 +59,7 @@ fn fight_line(alloc: Global, text: &[u8]) -> Result<Vec<u8>, RunFault>
 // Plays a fight and makes its result line.
 pub(crate) fn line_of(alloc: Global, fight: &NamedFight) -> Result<Vec<u8>, RunFault>
     requires { KeepsRules fight.now }
-    ensures { MatchResult result (λ line. line.items ≡ result_line (outcome_for fight.now)) IsMemory }
+    ensures { MatchResult result (λ line. line.items ≡ result_line (outcome_for fight.now)) IsOutOfMemory }
 {
     let mut arena = Arena::<PackedCells>::try_new(alloc, &fight.rules)?;
     arena.load(&fight.candidate, &fight.opponent, fight.position);

@@ -10,9 +10,9 @@ abbrev pub at_line : ℕ → TemplateKind → TemplateFault
 at_line line kind = record { line = line; kind = kind }
 
 -- Out of memory has no line.
-abbrev pub IsMemory : TemplateFault → Type 0
-IsMemory fault = fault ≡ at_line 0 OutOfMemory
+abbrev pub IsOutOfMemory : TemplateFault → Type 0
+IsOutOfMemory fault = fault ≡ at_line 0 OutOfMemory
 
 -- A call returns what the definition gives, seen through `view`, unless memory runs out.
 abbrev pub Returns : {A B : Type 0} → (view : A → B) → (result : Result A TemplateFault) → (definition : Result B TemplateFault) → Type 0
-Returns view result definition = ReturnsBut IsMemory view result definition
+Returns view result definition = ReturnsBut IsOutOfMemory view result definition

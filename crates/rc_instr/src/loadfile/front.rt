@@ -3,7 +3,7 @@ ghost use Rattle.std.specs.Prelude.{◌≡◌, ◌∷◌, [], Some, None, MatchO
 ghost use Rattle.rc_instr.specs.LoadText.{mode_of};
 ghost use Rattle.rc_instr.specs.LoadReaders.{mode_at, opcode_at, modifier_at};
 
-use crate::decimal::after;
+use crate::bytes::after;
 use crate::instruction::{Mode, Modifier, Opcode};
 use crate::words::{modifier_of_letter, modifier_of_letters, opcode_of};
 

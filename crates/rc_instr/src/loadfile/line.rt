@@ -2,7 +2,7 @@
 ghost use Rattle.std.specs.Prelude.{◌≡◌, Some, None, MatchOption};
 ghost use Rattle.rc_instr.specs.LoadReaders.{head_at, comma_at, operand_at, line_at, start_at};
 
-use crate::decimal::after;
+use crate::bytes::after;
 use crate::instruction::{Instruction, Mode, Modifier, Opcode};
 use crate::loadfile::front::{mode_at, modifier_at, opcode_at};
 use crate::loadfile::number::{number_at, short_number_at};

@@ -2,7 +2,8 @@
 ghost use Rattle.std.specs.Prelude.{◌≡◌, Some, None, MatchOption};
 ghost use Rattle.rc_instr.specs.LoadReaders.{short_number_at, small_at, large_at, number_at};
 
-use crate::decimal::{after, decimal_at};
+use crate::bytes::after;
+use crate::decimal::decimal_at;
 
 // Reads a decimal up to 65535.
 pub(crate) fn short_number_at(bytes: &[u8]) -> Option<(u16, &[u8])>

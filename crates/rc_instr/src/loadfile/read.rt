@@ -2,7 +2,7 @@
 ghost use Rattle.std.specs.Prelude.{◌<◌, IfOk};
 ghost use Rattle.rc_instr.specs.Warrior.{Fits};
 ghost use Rattle.rc_instr.specs.Results.{Returns};
-ghost use Rattle.rc_instr.specs.Loaded.{IsMemory, code_of, load_meaning};
+ghost use Rattle.rc_instr.specs.LoadMeaning.{IsOutOfMemory, code_of, load_meaning};
 
 use crate::instruction::Instruction;
 use crate::loadfile::fault::LoadFault;
@@ -21,9 +21,9 @@ use std::alloc::Global;
 ///   line 1.
 /// - `Warrior`: every line is well formed, but the warrior breaks the rules.
 /// - `OutOfMemory`: an allocation failed.
-#[tactic(auto, using(crate::proofs::CheckSteps::warrior_passes), unfolding(crate::specs::Loaded::load_meaning))]
+#[tactic(auto, using(crate::proofs::CheckSteps::warrior_passes), unfolding(crate::specs::LoadMeaning::load_meaning))]
 pub fn read_loadfile(alloc: Global, bytes: &[u8], rules: &Rules) -> Result<Warrior, LoadFault>
-    ensures meaning { Returns IsMemory (λ w. w) result (load_meaning rules.now bytes.now) }
+    ensures meaning { Returns IsOutOfMemory (λ w. w) result (load_meaning rules.now bytes.now) }
     ensures fits { IfOk result (Fits rules.now) }
 {
     let (start, lines) = match start_at(bytes) {
@@ -38,10 +38,10 @@ pub fn read_loadfile(alloc: Global, bytes: &[u8], rules: &Rules) -> Result<Warri
 }
 
 // Reads the lines of code. They begin with line 2, after the line of the start.
-#[tactic(auto, unfolding(crate::specs::Loaded::code_of))]
+#[tactic(auto, unfolding(crate::specs::LoadMeaning::code_of))]
 fn read_code(alloc: Global, core: u16, bytes: &[u8]) -> Result<Vec<Instruction>, LoadFault>
     requires { 0 < core }
-    ensures { Returns IsMemory (λ v. v.items) result (code_of core bytes.now) }
+    ensures { Returns IsOutOfMemory (λ v. v.items) result (code_of core bytes.now) }
 {
     let mut code = Vec::new(alloc);
     let mut rest = bytes;

@@ -1,5 +1,5 @@
 use Rattle.std.proofs.Common.{◌∙◌, ap}
-use Rattle.rc_instr.specs.Loaded.{load_meaning}
+use Rattle.rc_instr.specs.LoadMeaning.{load_meaning}
 use Rattle.rc_instr.proofs.Loads.{means, spelled_as}
 use Rattle.rc_instr.proofs.laws.a_load_file_means_its_warrior.Goals as goal
 

@@ -1,5 +1,5 @@
 use Rattle.std.proofs.Common.{refl}
-use Rattle.rc_instr.specs.Loaded.{load_meaning}
+use Rattle.rc_instr.specs.LoadMeaning.{load_meaning}
 use Rattle.rc_instr.proofs.Loads.{first_line, later_line, line_later, code_line, line_code}
 use Rattle.rc_instr.proofs.laws.a_malformed_line_is_the_first.Goals as goal
 

@@ -1,6 +1,6 @@
 use Rattle.std.proofs.Common.{◌∙◌, ap, refl}
 use Rattle.rc_instr.specs.LoadReaders.{line_at, start_at}
-use Rattle.rc_instr.specs.Loaded.{lines_at}
+use Rattle.rc_instr.specs.LoadMeaning.{lines_at}
 use Rattle.rc_instr.proofs.LoadReading.{line_read, line_is, start_read, start_is}
 use Rattle.rc_instr.proofs.Loads.{lines_are, lines_read}
 use Rattle.rc_instr.proofs.laws.lines_are_read_as_they_are_written.Goals as goal

@@ -1,6 +1,6 @@
 use Rattle.std.proofs.Common.{◌≡◌, ◌∙◌, ap, ◌++◌}
 use Rattle.rc_instr.specs.LoadText.{load_text}
-use Rattle.rc_instr.specs.Loaded.{load_meaning}
+use Rattle.rc_instr.specs.LoadMeaning.{load_meaning}
 use Rattle.rc_instr.proofs.Loads.{means, read_back}
 use Rattle.rc_instr.proofs.laws.load_text_reads_as_its_warrior.Goals as goal
 

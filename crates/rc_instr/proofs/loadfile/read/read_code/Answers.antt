@@ -1,6 +1,6 @@
 use Rattle.std.proofs.Common.{◌≡◌, ◌∙◌, ap, Err, arith, length-append, length, [], ◌∷◌, ◌+◌, ◌++◌, append-nil, refl}
 use Rattle.std.proofs.lemmas.Grind.{common_steps}
-use Rattle.rc_instr.specs.Loaded.{lines_at}
+use Rattle.rc_instr.specs.LoadMeaning.{lines_at}
 use Rattle.rc_instr.specs.declared.loadfile.fault.LoadFault.TheVariants.{Malformed}
 use Rattle.rc_instr.proofs.Loads.{after_code, shorter, advanced, stopped, pushed, ended, told}
 use Rattle.rc_instr.proofs.loadfile.read.read_code.Goals as goal

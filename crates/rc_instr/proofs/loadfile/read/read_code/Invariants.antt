@@ -1,5 +1,5 @@
 use Rattle.std.proofs.Common.{◌≡◌, ◌+◌, ◌≤◌, length}
-use Rattle.rc_instr.specs.Loaded.{lines_at}
+use Rattle.rc_instr.specs.LoadMeaning.{lines_at}
 use Rattle.rc_instr.proofs.Loads.{after_code}
 use Rattle.rc_instr.proofs.loadfile.read.read_code.Given as goal
 

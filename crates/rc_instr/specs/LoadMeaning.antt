@@ -11,8 +11,8 @@ use Rattle.rc_instr.specs.declared.loadfile.fault.LoadFault.{LoadFault}
 use Rattle.rc_instr.specs.declared.loadfile.fault.LoadFault.TheVariants.{Malformed, Warrior, OutOfMemory}
 
 -- An allocation failed.
-abbrev pub IsMemory : LoadFault → Type 0
-IsMemory fault = fault ≡ OutOfMemory
+abbrev pub IsOutOfMemory : LoadFault → Type 0
+IsOutOfMemory fault = fault ≡ OutOfMemory
 
 -- Puts the instruction of a line before those of the lines after it.
 abbrev pub with_line : Instruction → List Instruction × List ℕ → List Instruction × List ℕ
