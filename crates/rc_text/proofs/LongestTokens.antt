@@ -6,7 +6,7 @@ use Rattle.std.specs.List.{prefix_len, list_all}
 use Rattle.std.proofs.lemmas.Bool.Decides.{nat_tests}
 use Rattle.rc_text.specs.declared.token.Sign.{Sign}
 use Rattle.rc_text.specs.declared.lexeme.Lexeme.{Lexeme}
-use Rattle.rc_text.specs.declared.lexeme.Lexeme.TheVariants.{Trivia, LineFeed, Word, Fault}
+use Rattle.rc_text.specs.declared.lexeme.Lexeme.TheVariants.{Trivia, LineFeed, Token as TokenOf, Fault}
 use Rattle.rc_text.specs.Bytes.{is_blank, LINE_FEED, SEMICOLON, begins_name, continues_name, decimal_value}
 use Rattle.rc_text.specs.Signs.{long_sign, short_sign}
 use Rattle.rc_text.specs.Tokens.{lexeme_of, sign_lexeme, is_assert}
@@ -86,7 +86,7 @@ module _ (a b : ℕ) (rest : List ℕ) (k : ℕ) (within : k ≤ length rest) wh
 abbrev pub NoLonger : List ℕ → Lexeme → Type 0
 NoLonger text (Trivia len) = Unit {0}
 NoLonger text LineFeed = (n : ℕ) → 1 < n → n ≤ length text → is_one_token (take n text) ≡ false
-NoLonger text (Word len kind) = (n : ℕ) → len < n → n ≤ length text → is_one_token (take n text) ≡ false
+NoLonger text (TokenOf len kind) = (n : ℕ) → len < n → n ≤ length text → is_one_token (take n text) ≡ false
 NoLonger text (Fault f) = Unit {0}
 
 -- a longer text than a lexeme has two bytes at least
@@ -99,7 +99,7 @@ two_or_more text len pos h (suc (suc k)) lt le = h k lt le
 one_byte : (a : ℕ) (l : Lexeme) → FitsIn (a ∷ []) l → NoLonger (a ∷ []) l
 one_byte a (Trivia len) fits = tt
 one_byte a LineFeed fits = λ n lt le. absurd (omega arith)
-one_byte a (Word len kind) fits = λ n lt le. absurd (omega (arith, fits.0))
+one_byte a (TokenOf len kind) fits = λ n lt le. absurd (omega (arith, fits.0))
 one_byte a (Fault f) fits = tt
 
 module _ (a b : ℕ) (rest : List ℕ) where
@@ -129,13 +129,13 @@ module _ (a b : ℕ) (rest : List ℕ) where
   semicolon_is_other h = (grind (arith, nat_tests), grind (arith, nat_tests), grind (arith, nat_tests))
 
   -- a text of two bytes or more
-  two_bytes : (first : Bool) → NoLonger (a ∷ b ∷ rest) (lexeme_of first (a ∷ b ∷ rest))
-  two_bytes first =
+  two_bytes : (at_line_start : Bool) → NoLonger (a ∷ b ∷ rest) (lexeme_of at_line_start (a ∷ b ∷ rest))
+  two_bytes at_line_start =
       let text = a ∷ b ∷ rest in
       if_both (NoLonger text) (is_blank a) _ _ (λ _. tt) (λ _.
       if_both (NoLonger text) (a == LINE_FEED) _ _ (λ feed. let o = line_feed_is_other feed in after_other 1 (omega arith) o.0 o.1 o.2) (λ _.
       if_both (NoLonger text) (a == SEMICOLON) _ _
-      (λ semicolon. if_both (NoLonger text) (first && is_assert text) _ _ (λ _. let o = semicolon_is_other semicolon in after_other 7 (omega arith) o.0 o.1 o.2) (λ _. tt)) (λ _.
+      (λ semicolon. if_both (NoLonger text) (at_line_start && is_assert text) _ _ (λ _. let o = semicolon_is_other semicolon in after_other 7 (omega arith) o.0 o.1 o.2) (λ _. tt)) (λ _.
       if_both (NoLonger text) (begins_name a) _ _
       (λ name. two_or_more text (prefix_len continues_name text) ((front_fits continues_name text (omega arith) (rw name refl)).0) (λ k lt le. longer_name a b rest k (omega arith) name lt)) (λ no_name.
       if_both (NoLonger text) (is_ascii_digit a) _ _
@@ -144,7 +144,7 @@ module _ (a b : ℕ) (rest : List ℕ) where
       (λ no_digit. after_sign no_name no_digit (long_sign a b) (short_sign a) refl)))))
 
 -- any text
-pub no_longer : (text : List ℕ) (first : Bool) → 0 < length text → NoLonger text (lexeme_of first text)
-no_longer [] first h = absurd (omega arith)
-no_longer (a ∷ []) first h = one_byte a (lexeme_of first (a ∷ [])) (lexeme_fits (a ∷ []) first h)
-no_longer (a ∷ b ∷ rest) first h = two_bytes a b rest first
+pub no_longer : (text : List ℕ) (at_line_start : Bool) → 0 < length text → NoLonger text (lexeme_of at_line_start text)
+no_longer [] at_line_start h = absurd (omega arith)
+no_longer (a ∷ []) at_line_start h = one_byte a (lexeme_of at_line_start (a ∷ [])) (lexeme_fits (a ∷ []) at_line_start h)
+no_longer (a ∷ b ∷ rest) at_line_start h = two_bytes a b rest at_line_start

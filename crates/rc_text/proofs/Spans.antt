@@ -4,7 +4,7 @@ use Rattle.std.specs.Prelude.{All}
 use Rattle.std.proofs.lemmas.List.Elements.{All-cons}
 use Rattle.rc_text.specs.declared.token.Token.{Token}
 use Rattle.rc_text.specs.declared.lexeme.Lexeme.{Lexeme}
-use Rattle.rc_text.specs.declared.lexeme.Lexeme.TheVariants.{Trivia, LineFeed, Word, Fault}
+use Rattle.rc_text.specs.declared.lexeme.Lexeme.TheVariants.{Trivia, LineFeed, Token as TokenOf, Fault}
 use Rattle.rc_text.specs.Tokens.{lexeme_of, tokens_after, tokens_from, InOrder, Onward}
 use Rattle.rc_text.specs.Symbols.{LiesIn}
 use Rattle.rc_text.proofs.LexemeSteps.{FitsIn, lexeme_fits}
@@ -19,27 +19,27 @@ moved : (l m e f : ℕ) (ts : List Token) → l ≡ m → e ≡ f → InOrder l 
 moved l m e f ts p q h = subst (λ x. InOrder x f ts) p (subst (λ y. InOrder l y ts) q h)
 
 -- after the first lexeme
-lexeme_in_order : (bs : List ℕ) (p : Lexeme) (next : Onward) (first : Bool) (at line n : ℕ) → suc n ≡ length bs → FitsIn bs p
-    → ((k : ℕ) (first : Bool) (line : ℕ) → k ≤ n → InOrder (at + 1 + k) (at + 1 + n) (next k first (at + 1) line).tokens)
-    → InOrder at (at + suc n) (tokens_after p next first at line).tokens
-lexeme_in_order bs (Trivia len) next first at line n e fits h =
-    from_lower at (at + 1 + (len - 1)) (at + suc n) _ (omega arith) (moved _ _ _ _ _ refl (omega arith) (h (len - 1) first line (omega (arith, fits.0, fits.1))))
-lexeme_in_order bs LineFeed next first at line n e fits h = (omega arith, omega arith, moved _ _ _ _ _ (omega arith) (omega arith) (h 0 true (line + 1) (omega arith)))
-lexeme_in_order bs (Word len kind) next first at line n e fits h =
+lexeme_in_order : (bs : List ℕ) (p : Lexeme) (next : Onward) (at_line_start : Bool) (at line n : ℕ) → suc n ≡ length bs → FitsIn bs p
+    → ((k : ℕ) (at_line_start : Bool) (line : ℕ) → k ≤ n → InOrder (at + 1 + k) (at + 1 + n) (next k at_line_start (at + 1) line).tokens)
+    → InOrder at (at + suc n) (tokens_after p next at_line_start at line).tokens
+lexeme_in_order bs (Trivia len) next at_line_start at line n e fits h =
+    from_lower at (at + 1 + (len - 1)) (at + suc n) _ (omega arith) (moved _ _ _ _ _ refl (omega arith) (h (len - 1) at_line_start line (omega (arith, fits.0, fits.1))))
+lexeme_in_order bs LineFeed next at_line_start at line n e fits h = (omega arith, omega arith, moved _ _ _ _ _ (omega arith) (omega arith) (h 0 true (line + 1) (omega arith)))
+lexeme_in_order bs (TokenOf len kind) next at_line_start at line n e fits h =
     (omega arith, omega (arith, fits.0), moved _ _ _ _ _ (omega (arith, fits.0)) (omega arith) (h (len - 1) false line (omega (arith, fits.0, fits.1))))
-lexeme_in_order bs (Fault f) next first at line n e fits h = omega arith
+lexeme_in_order bs (Fault f) next at_line_start at line n e fits h = omega arith
 
 -- the tokens of what is left
-from_in_order : (bs : List ℕ) (k : ℕ) (first : Bool) (at line : ℕ) → k ≤ length bs → InOrder (at + k) (at + length bs) (tokens_from bs k first at line).tokens
-from_in_order [] k first at line h = omega arith
-from_in_order (b ∷ bs) (suc k) first at line h = moved _ _ _ _ _ (omega arith) (omega arith) (from_in_order bs k first (at + 1) line (omega arith))
-from_in_order (b ∷ bs) zero first at line h =
+from_in_order : (bs : List ℕ) (k : ℕ) (at_line_start : Bool) (at line : ℕ) → k ≤ length bs → InOrder (at + k) (at + length bs) (tokens_from bs k at_line_start at line).tokens
+from_in_order [] k at_line_start at line h = omega arith
+from_in_order (b ∷ bs) (suc k) at_line_start at line h = moved _ _ _ _ _ (omega arith) (omega arith) (from_in_order bs k at_line_start (at + 1) line (omega arith))
+from_in_order (b ∷ bs) zero at_line_start at line h =
     moved at _ _ _ _ (omega arith) refl
-    (lexeme_in_order (b ∷ bs) (lexeme_of first (b ∷ bs)) (tokens_from bs) first at line (length bs) refl (lexeme_fits (b ∷ bs) first (omega arith)) (λ k f l le. from_in_order bs k f (at + 1) l le))
+    (lexeme_in_order (b ∷ bs) (lexeme_of at_line_start (b ∷ bs)) (tokens_from bs) at_line_start at line (length bs) refl (lexeme_fits (b ∷ bs) at_line_start (omega arith)) (λ k f l le. from_in_order bs k f (at + 1) l le))
 
 -- the tokens from an index on
-pub in_order_at : (source : List ℕ) (first : Bool) (at line : ℕ) → at ≤ length source → InOrder at (length source) (tokens_from (drop at source) 0 first at line).tokens
-in_order_at source first at line h = moved _ _ _ _ _ (omega arith) (omega (arith, length-drop at source)) (from_in_order (drop at source) 0 first at line (omega arith))
+pub in_order_at : (source : List ℕ) (at_line_start : Bool) (at line : ℕ) → at ≤ length source → InOrder at (length source) (tokens_from (drop at source) 0 at_line_start at line).tokens
+in_order_at source at_line_start at line h = moved _ _ _ _ _ (omega arith) (omega (arith, length-drop at source)) (from_in_order (drop at source) 0 at_line_start at line (omega arith))
 
 -- spans in order lie in the source
 pub all_inside : (source : List ℕ) (l : ℕ) (ts : List Token) → InOrder l (length source) ts → All (LiesIn source) ts

@@ -9,7 +9,7 @@ use Rattle.std.proofs.lemmas.Slice.Eq.{bytes_eq-Decides}
 use Rattle.std.proofs.lemmas.List.Folds.{list_all-map}
 use Rattle.rc_text.specs.declared.token.Sign.{Sign}
 use Rattle.rc_text.specs.declared.lexeme.Lexeme.{Lexeme}
-use Rattle.rc_text.specs.declared.lexeme.Lexeme.TheVariants.{Trivia, LineFeed, Word, Fault}
+use Rattle.rc_text.specs.declared.lexeme.Lexeme.TheVariants.{Trivia, LineFeed, Token as TokenOf, Fault}
 use Rattle.rc_text.specs.Bytes.{is_blank, LINE_FEED, SEMICOLON, begins_name, continues_name, begins_with_word, is_same_word, decimal_value}
 use Rattle.rc_text.specs.Signs.{long_sign, short_sign}
 use Rattle.rc_text.specs.Tokens.{lexeme_of, sign_lexeme, is_assert}
@@ -83,7 +83,7 @@ plain_assert bytes h =
 abbrev pub Shows : List ℕ → Lexeme → Type 0
 Shows text (Trivia len) = IsPlain (take len text)
 Shows text LineFeed = take 1 text ≡ LINE_FEED ∷ []
-Shows text (Word len kind) = SpellsToken (take len text) kind × IsPlain (take len text)
+Shows text (TokenOf len kind) = SpellsToken (take len text) kind × IsPlain (take len text)
 Shows text (Fault f) = Unit {0}
 
 -- a sign of the last byte
@@ -120,15 +120,15 @@ line_feed_shown a rest h =
     ]
 
 -- what any text begins with
-pub shows : (text : List ℕ) (first : Bool) → 0 < length text → Shows text (lexeme_of first text)
-shows [] first h = absurd (omega arith)
-shows (a ∷ rest) first h =
+pub shows : (text : List ℕ) (at_line_start : Bool) → 0 < length text → Shows text (lexeme_of at_line_start text)
+shows [] at_line_start h = absurd (omega arith)
+shows (a ∷ rest) at_line_start h =
     let text = a ∷ rest in
     if_both (Shows text) (is_blank a) _ _ (λ blank. let p = plain_blank a blank in rw p refl) (λ _.
     if_both (Shows text) (a == LINE_FEED) _ _ (λ feed. line_feed_shown a rest feed) (λ no_feed.
     if_both (Shows text) (a == SEMICOLON) _ _
-    (λ _. if_both (Shows text) (first && is_assert text) _ _
-    (λ is. let word = and_left (begins_with_word (codes ";assert") text) (is_blank (get_or text 7 0)) (and_right first (is_assert text) is) in (word, plain_assert (take 7 text) word))
+    (λ _. if_both (Shows text) (at_line_start && is_assert text) _ _
+    (λ is. let word = and_left (begins_with_word (codes ";assert") text) (is_blank (get_or text 7 0)) (and_right at_line_start (is_assert text) is) in (word, plain_assert (take 7 text) word))
     (λ _. all_taken is_plain text)) (λ _.
     if_both (Shows text) (begins_name a) _ _
     (λ name. (name_taken a rest name, plain_of continues_name plain_name (take (prefix_len continues_name text) text) (all_taken continues_name text))) (λ _.

@@ -11,7 +11,7 @@ use Rattle.rc_text.specs.declared.token.Kind.{Kind}
 use Rattle.rc_text.specs.declared.token.Kind.TheVariants.{LineEnd}
 use Rattle.rc_text.specs.declared.header.Extent.{Extent}
 use Rattle.rc_text.specs.declared.lexeme.Lexeme.{Lexeme}
-use Rattle.rc_text.specs.declared.lexeme.Lexeme.TheVariants.{Trivia, LineFeed, Word, Fault}
+use Rattle.rc_text.specs.declared.lexeme.Lexeme.TheVariants.{Trivia, LineFeed, Token as TokenOf, Fault}
 use Rattle.rc_text.specs.Bytes.{LINE_FEED, begins_with_word}
 use Rattle.rc_text.specs.Headers.{extent, further_on, header_from, header_of}
 use Rattle.rc_text.specs.Tokens.{lexeme_of, token_of, tokens_after, tokens_from, tokens_of, Onward}
@@ -83,30 +83,30 @@ tail_plain zero b rest pos h = absurd (omega arith)
 tail_plain (suc len) b rest pos h = let e : suc len - 1 ≡ len = omega arith in rw e (and_right (is_plain b) (list_all is_plain (take len rest)) h)
 
 -- after the first lexeme
-stand_after : (source : List ℕ) (b : ℕ) (rest : List ℕ) (l : Lexeme) (next : Onward) (first : Bool) (at line : ℕ) → b ∷ rest ≡ drop at source
+stand_after : (source : List ℕ) (b : ℕ) (rest : List ℕ) (l : Lexeme) (next : Onward) (at_line_start : Bool) (at line : ℕ) → b ∷ rest ≡ drop at source
     → Shows (b ∷ rest) l → NoLonger (b ∷ rest) l → FitsIn (b ∷ rest) l → line ≡ 1 + line_feed_count (take at source)
-    → ((k : ℕ) (first : Bool) (line : ℕ) → IsPlain (take k rest) → line ≡ 1 + line_feed_count (take (at + 1) source) → All (StandsIn source) (next k first (at + 1) line).tokens)
-    → All (StandsIn source) (tokens_after l next first at line).tokens
-stand_after source b rest (Trivia len) next first at line e shown longest fits l more =
-    more (len - 1) first line (tail_plain len b rest fits.0 shown) (omega (arith, counted source b rest at e, not_counted b (front_plain len b rest fits.0 shown)))
-stand_after source b rest LineFeed next first at line e shown longest fits l more =
+    → ((k : ℕ) (at_line_start : Bool) (line : ℕ) → IsPlain (take k rest) → line ≡ 1 + line_feed_count (take (at + 1) source) → All (StandsIn source) (next k at_line_start (at + 1) line).tokens)
+    → All (StandsIn source) (tokens_after l next at_line_start at line).tokens
+stand_after source b rest (Trivia len) next at_line_start at line e shown longest fits l more =
+    more (len - 1) at_line_start line (tail_plain len b rest fits.0 shown) (omega (arith, counted source b rest at e, not_counted b (front_plain len b rest fits.0 shown)))
+stand_after source b rest LineFeed next at_line_start at line e shown longest fits l more =
     let feed : line_feed_count (b ∷ []) ≡ 1 = ap line_feed_count shown in
     All-cons (StandsIn source) (token_of LineEnd at 1 line) (next 0 true (at + 1) (line + 1)).tokens (token_stands source (b ∷ rest) at 1 line LineEnd e shown longest l)
     (more 0 true (line + 1) refl (omega (arith, counted source b rest at e)))
-stand_after source b rest (Word len kind) next first at line e shown longest fits l more =
+stand_after source b rest (TokenOf len kind) next at_line_start at line e shown longest fits l more =
     All-cons (StandsIn source) (token_of kind at len line) (next (len - 1) false (at + 1) line).tokens (token_stands source (b ∷ rest) at len line kind e shown.0 longest l)
     (more (len - 1) false line (tail_plain len b rest fits.0 shown.1) (omega (arith, counted source b rest at e, not_counted b (front_plain len b rest fits.0 shown.1))))
-stand_after source b rest (Fault f) next first at line e shown longest fits l more = none_stands source
+stand_after source b rest (Fault f) next at_line_start at line e shown longest fits l more = none_stands source
 
 -- the tokens of what is left
-stand_from : (source bs : List ℕ) (inside : ℕ) (first : Bool) (at line : ℕ) → bs ≡ drop at source → IsPlain (take inside bs) → line ≡ 1 + line_feed_count (take at source)
-    → All (StandsIn source) (tokens_from bs inside first at line).tokens
-stand_from source [] inside first at line e plain l = none_stands source
-stand_from source (b ∷ rest) (suc inside) first at line e plain l =
-    stand_from source rest inside first (at + 1) line (tail_dropped source b rest at e) (and_right (is_plain b) (list_all is_plain (take inside rest)) plain)
+stand_from : (source bs : List ℕ) (inside : ℕ) (at_line_start : Bool) (at line : ℕ) → bs ≡ drop at source → IsPlain (take inside bs) → line ≡ 1 + line_feed_count (take at source)
+    → All (StandsIn source) (tokens_from bs inside at_line_start at line).tokens
+stand_from source [] inside at_line_start at line e plain l = none_stands source
+stand_from source (b ∷ rest) (suc inside) at_line_start at line e plain l =
+    stand_from source rest inside at_line_start (at + 1) line (tail_dropped source b rest at e) (and_right (is_plain b) (list_all is_plain (take inside rest)) plain)
     (omega (arith, counted source b rest at e, not_counted b (and_left (is_plain b) (list_all is_plain (take inside rest)) plain)))
-stand_from source (b ∷ rest) zero first at line e plain l =
-    stand_after source b rest (lexeme_of first (b ∷ rest)) (tokens_from rest) first at line e (shows (b ∷ rest) first (omega arith)) (no_longer (b ∷ rest) first (omega arith)) (lexeme_fits (b ∷ rest) first (omega arith)) l
+stand_from source (b ∷ rest) zero at_line_start at line e plain l =
+    stand_after source b rest (lexeme_of at_line_start (b ∷ rest)) (tokens_from rest) at_line_start at line e (shows (b ∷ rest) at_line_start (omega arith)) (no_longer (b ∷ rest) at_line_start (omega arith)) (lexeme_fits (b ∷ rest) at_line_start (omega arith)) l
     (λ k f n p m. stand_from source rest k f (at + 1) n (tail_dropped source b rest at e) p m)
 
 -- the ignored lines are counted by their line feeds

@@ -9,21 +9,21 @@ use Rattle.rc_text.specs.Bytes.{LINE_FEED, SEMICOLON, is_blank, decimal_value}
 use Rattle.rc_text.specs.Tokens.{is_assert}
 use Rattle.rc_text.specs.TokenTexts.{is_number, is_one_token}
 
--- A comment: a semicolon and all that follows it, up to a line feed or the end of the text; if only
--- blanks come before it on its line (`first`), it is not `;assert`.
-pub record IsComment (text : List ℕ) (first : Bool) (lo hi : ℕ) : Type 0 where
+-- A comment: a semicolon and all that follows it, up to a line feed or the end of the text. At the
+-- start of a line, with only blanks before it, it is not `;assert`.
+pub record IsComment (text : List ℕ) (at_line_start : Bool) (lo hi : ℕ) : Type 0 where
   pub semicolon : slice_index text lo ≡ SEMICOLON
   pub goes_on : (k : ℕ) → lo ≤ k → k < hi → slice_index text k ≢ LINE_FEED
   pub ends : (hi ≡ length text) ⊎ (slice_index text hi ≡ LINE_FEED)
-  pub other : (first && is_assert (drop lo text)) ≡ false
+  pub other : (at_line_start && is_assert (drop lo text)) ≡ false
 
--- The bytes from `lo` up to `hi`: blanks, and after them nothing or a comment; `first` says that a
--- line begins at `lo`.
-pub record IsGap (text : List ℕ) (first : Bool) (lo hi : ℕ) : Type 0 where
+-- The bytes from `lo` up to `hi`: blanks, and after them nothing or a comment; `at_line_start` says
+-- that a line begins at `lo`.
+pub record IsGap (text : List ℕ) (at_line_start : Bool) (lo hi : ℕ) : Type 0 where
   pub blanks_end : ℕ
   pub inside : (lo ≤ blanks_end) × (blanks_end ≤ hi)
   pub blanks : (k : ℕ) → lo ≤ k → k < blanks_end → is_blank (slice_index text k) ≡ true
-  pub comment : (blanks_end ≡ hi) ⊎ IsComment text first blanks_end hi
+  pub comment : (blanks_end ≡ hi) ⊎ IsComment text at_line_start blanks_end hi
 
 -- A byte that neither a token nor a gap begins with.
 pub record IsBadByte (text : List ℕ) (at : ℕ) : Type 0 where
@@ -47,6 +47,6 @@ is_line_end _ = false
 
 -- From `lo` on there is a gap before each of the tokens, and one after the last, up to what ends
 -- them.
-abbrev pub OnlyGapsBetween : List ℕ → (first : Bool) → (lo : ℕ) → List Token → Option LexFault → Type 0
-OnlyGapsBetween text first lo [] ending = (end : ℕ) × IsGap text first lo end × EndsAt text end ending
-OnlyGapsBetween text first lo (t ∷ ts) ending = IsGap text first lo t.lo × OnlyGapsBetween text (is_line_end t.kind) t.hi ts ending
+abbrev pub OnlyGapsBetween : List ℕ → (at_line_start : Bool) → (lo : ℕ) → List Token → Option LexFault → Type 0
+OnlyGapsBetween text at_line_start lo [] ending = (end : ℕ) × IsGap text at_line_start lo end × EndsAt text end ending
+OnlyGapsBetween text at_line_start lo (t ∷ ts) ending = IsGap text at_line_start lo t.lo × OnlyGapsBetween text (is_line_end t.kind) t.hi ts ending

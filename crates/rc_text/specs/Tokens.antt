@@ -9,20 +9,20 @@ use Rattle.rc_text.specs.declared.token.Token.{Token}
 use Rattle.rc_text.specs.declared.fault.LexFault.{LexFault}
 use Rattle.rc_text.specs.declared.fault.LexFault.TheVariants.{BadByte, NumberTooLarge}
 use Rattle.rc_text.specs.declared.lexeme.Lexeme.{Lexeme}
-use Rattle.rc_text.specs.declared.lexeme.Lexeme.TheVariants.{Trivia, LineFeed, Word, Fault}
+use Rattle.rc_text.specs.declared.lexeme.Lexeme.TheVariants.{Trivia, LineFeed, Token as TokenOf, Fault}
 use Rattle.rc_text.specs.Bytes.{LINE_FEED, SEMICOLON, is_blank, begins_name, continues_name, begins_with_word, decimal_value}
 use Rattle.rc_text.specs.Signs.{long_sign, short_sign}
 use Rattle.rc_text.specs.Headers.{header_of}
 
 -- A sign of two bytes if there is one, else a sign of one byte.
 abbrev pub sign_lexeme : Option Sign → Option Sign → Lexeme
-sign_lexeme (Some s) short = Word 2 (SignOf s)
-sign_lexeme None (Some s) = Word 1 (SignOf s)
+sign_lexeme (Some s) short = TokenOf 2 (SignOf s)
+sign_lexeme None (Some s) = TokenOf 1 (SignOf s)
 sign_lexeme None None = Fault BadByte
 
 -- A decimal of `len` digits, whose value must be below 2 ^ 32.
 abbrev pub number_lexeme : ℕ → ℕ → Lexeme
-number_lexeme len value = if nat_lt value (2 ^ 32) then Word len (Number value) else Fault NumberTooLarge
+number_lexeme len value = if nat_lt value (2 ^ 32) then TokenOf len (Number value) else Fault NumberTooLarge
 
 -- `;assert` in any case, with a blank after it.
 abbrev pub is_assert : List ℕ → Bool
@@ -32,15 +32,15 @@ is_assert text = begins_with_word (codes ";assert") text && is_blank (slice_inde
 abbrev pub comment_len : List ℕ → ℕ
 comment_len text = prefix_len (λ b. not (b == LINE_FEED)) text
 
--- What a text begins with, unless it is empty; `first` says that only blanks come before it on its
--- line.
+-- What a text begins with, unless it is empty; `at_line_start` says that only blanks come before it
+-- on its line.
 abbrev pub lexeme_of : Bool → List ℕ → Lexeme
-lexeme_of first text =
+lexeme_of at_line_start text =
     let b = slice_index text 0 in
     if is_blank b then Trivia 1 else
     if b == LINE_FEED then LineFeed else
-    if b == SEMICOLON then (if first && is_assert text then Word 7 Assert else Trivia (comment_len text)) else
-    if begins_name b then Word (prefix_len continues_name text) Name else
+    if b == SEMICOLON then (if at_line_start && is_assert text then TokenOf 7 Assert else Trivia (comment_len text)) else
+    if begins_name b then TokenOf (prefix_len continues_name text) Name else
     if is_ascii_digit b then number_lexeme (prefix_len is_ascii_digit text) (decimal_value (take (prefix_len is_ascii_digit text) text)) else
     sign_lexeme (long_sign b (slice_index text 1)) (short_sign b)
 
@@ -57,21 +57,21 @@ abbrev pub with_token : Token → TokenList → TokenList
 with_token t l = record { tokens = t ∷ l.tokens; ending = l.ending }
 
 -- The tokens from index `at` on, in line `line`. The first `inside` bytes belong to the lexeme
--- before; `first` says that only blanks come before the byte on its line.
+-- before; `at_line_start` says that only blanks come before the byte on its line.
 abbrev pub Onward : Type 0
-Onward = (inside : ℕ) → (first : Bool) → (at line : ℕ) → TokenList
+Onward = (inside : ℕ) → (at_line_start : Bool) → (at line : ℕ) → TokenList
 
 abbrev pub tokens_after : Lexeme → Onward → Bool → ℕ → ℕ → TokenList
-tokens_after (Trivia len) next first at line = next (len - 1) first (at + 1) line
-tokens_after LineFeed next first at line = with_token (token_of LineEnd at 1 line) (next 0 true (at + 1) (line + 1))
-tokens_after (Word len kind) next first at line = with_token (token_of kind at len line) (next (len - 1) false (at + 1) line)
-tokens_after (Fault fault) next first at line = record { tokens = []; ending = Some fault }
+tokens_after (Trivia len) next at_line_start at line = next (len - 1) at_line_start (at + 1) line
+tokens_after LineFeed next at_line_start at line = with_token (token_of LineEnd at 1 line) (next 0 true (at + 1) (line + 1))
+tokens_after (TokenOf len kind) next at_line_start at line = with_token (token_of kind at len line) (next (len - 1) false (at + 1) line)
+tokens_after (Fault fault) next at_line_start at line = record { tokens = []; ending = Some fault }
 
 -- The tokens of the rest of a text, byte by byte.
 abbrev pub tokens_from : List ℕ → Onward
-tokens_from [] inside first at line = record { tokens = []; ending = None }
-tokens_from (b ∷ rest) (suc inside) first at line = tokens_from rest inside first (at + 1) line
-tokens_from (b ∷ rest) zero first at line = tokens_after (lexeme_of first (b ∷ rest)) (tokens_from rest) first at line
+tokens_from [] inside at_line_start at line = record { tokens = []; ending = None }
+tokens_from (b ∷ rest) (suc inside) at_line_start at line = tokens_from rest inside at_line_start (at + 1) line
+tokens_from (b ∷ rest) zero at_line_start at line = tokens_after (lexeme_of at_line_start (b ∷ rest)) (tokens_from rest) at_line_start at line
 
 -- The tokens of a text after its header; lines count from 1, those of the header included.
 abbrev pub tokens_of : List ℕ → TokenList
@@ -88,7 +88,7 @@ lexer_view l line = record { tokens = l.tokens; ending = l.ending; line = line }
 
 -- The lexer at an index of a text.
 abbrev pub lexer_at : List ℕ → Bool → ℕ → ℕ → LexerView
-lexer_at text first at line = lexer_view (tokens_from (drop at text) 0 first at line) line
+lexer_at text at_line_start at line = lexer_view (tokens_from (drop at text) 0 at_line_start at line) line
 
 -- A new lexer, before the first token.
 abbrev pub new_lexer : List ℕ → LexerView

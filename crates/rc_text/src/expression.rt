@@ -11,7 +11,7 @@ use crate::front::{after_close, first_of, operator, split_signs};
 use crate::limits;
 use crate::names::Names;
 use crate::operator::{
-    LOOSEST_LEVEL, Outcome, infix_outcome, level_of, name_outcome, number_outcome, prefix_outcome,
+    Outcome, infix_outcome, level_of, name_outcome, number_outcome, prefix_outcome,
 };
 use crate::token::{Kind, Sign, Token};
 
@@ -54,7 +54,7 @@ fn eval_token<N: Names>(source: &[u8], token: &Token, names: &N) -> Outcome
 fn climb_all<N: Names>(source: &[u8], tokens: &[Token], names: &N) -> Outcome
     ensures { result ≡ evaluation_of (N.meaning names.now) (symbols_of source.now tokens.now) }
 {
-    let (outcome, rest) = climb(source, tokens, names, LOOSEST_LEVEL, 0)?;
+    let (outcome, rest) = climb(source, tokens, names, limits::LOOSEST_LEVEL, 0)?;
     if rest.is_empty() {
         outcome
     } else {
@@ -101,7 +101,7 @@ fn group<'a, N: Names>(
     if depth == limits::DEEPEST {
         return Err(EvalFault::TooDeep);
     }
-    let (outcome, after) = climb(source, tokens, names, LOOSEST_LEVEL, depth + 1)?;
+    let (outcome, after) = climb(source, tokens, names, limits::LOOSEST_LEVEL, depth + 1)?;
     match after_close(source, after) {
         None => Err(EvalFault::Syntax),
         Some(rest) => Ok((outcome, rest)),

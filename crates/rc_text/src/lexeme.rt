@@ -15,14 +15,14 @@ use crate::token::{Kind, Sign};
 pub enum Lexeme {
     Trivia(usize),
     LineFeed,
-    Word(usize, Kind),
+    Token(usize, Kind),
     Fault(LexFault),
 }
 
-// Reads what `text` begins with. `first` says that only blanks come before it on its line.
-pub(crate) fn lexeme_of(text: &[u8], first: bool) -> Lexeme
+// Reads what `text` begins with. `at_line_start` says that only blanks come before it on its line.
+pub(crate) fn lexeme_of(text: &[u8], at_line_start: bool) -> Lexeme
     requires { 0 < length text.now }
-    ensures { result ≡ lexeme_of first text.now }
+    ensures { result ≡ lexeme_of at_line_start text.now }
 {
     let byte = text[0];
     if is_blank(byte) {
@@ -30,13 +30,13 @@ pub(crate) fn lexeme_of(text: &[u8], first: bool) -> Lexeme
     } else if byte == b'\n' {
         Lexeme::LineFeed
     } else if byte == b';' {
-        if first && is_assert(text) {
-            Lexeme::Word(7, Kind::Assert)
+        if at_line_start && is_assert(text) {
+            Lexeme::Token(7, Kind::Assert)
         } else {
             Lexeme::Trivia(comment_len(text))
         }
     } else if begins_name(byte) {
-        Lexeme::Word(name_len(text), Kind::Name)
+        Lexeme::Token(name_len(text), Kind::Name)
     } else if byte.is_ascii_digit() {
         number(text)
     } else {
@@ -116,7 +116,7 @@ fn number(text: &[u8]) -> Lexeme
     let len = digits_len(text);
     let value = decimal(&text[..len]);
     if value < 1 << 32 {
-        Lexeme::Word(len, Kind::Number(value as u32))
+        Lexeme::Token(len, Kind::Number(value as u32))
     } else {
         Lexeme::Fault(LexFault::NumberTooLarge)
     }
@@ -130,9 +130,9 @@ fn sign(text: &[u8]) -> Lexeme
 {
     let second = if text.len() > 1 { text[1] } else { 0 };
     match long_sign(text[0], second) {
-        Some(sign) => Lexeme::Word(2, Kind::Sign(sign)),
+        Some(sign) => Lexeme::Token(2, Kind::Sign(sign)),
         None => match short_sign(text[0]) {
-            Some(sign) => Lexeme::Word(1, Kind::Sign(sign)),
+            Some(sign) => Lexeme::Token(1, Kind::Sign(sign)),
             None => Lexeme::Fault(LexFault::BadByte),
         },
     }

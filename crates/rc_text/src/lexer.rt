@@ -19,7 +19,8 @@ pub struct Lexer<'a> {
     source: &'a [u8],
     at: usize,
     line: u64,
-    first: bool,
+    // Set while only blanks come before `at` on its line.
+    at_line_start: bool,
 }
 
 impl<'a> Model for Lexer<'a> {
@@ -28,7 +29,7 @@ impl<'a> Model for Lexer<'a> {
 
     ghost Value = { LexerView };
 
-    ghost view = { λ l. lexer_at l.source.now l.first l.at l.line };
+    ghost view = { λ l. lexer_at l.source.now l.at_line_start l.at l.line };
 
     ghost invariant = { λ l. (l.at ≤ length l.source.now) × (l.line ≤ l.at + 1) };
 }
@@ -45,7 +46,7 @@ impl<'a> Lexer<'a> {
             source,
             at: header.bytes,
             line: 1 + header.lines,
-            first: true,
+            at_line_start: true,
         }
     }
 
@@ -65,7 +66,7 @@ impl<'a> Lexer<'a> {
         ensures { TakesToken self.old result self.new }
     {
         while self.at < self.source.len() {
-            match lexeme_of(&self.source[self.at..], self.first) {
+            match lexeme_of(&self.source[self.at..], self.at_line_start) {
                 Lexeme::Trivia(len) => {
                     self.at += len;
                     // Else each further blank would be a lexeme of its own.
@@ -75,13 +76,13 @@ impl<'a> Lexer<'a> {
                     let token = token_of(Kind::LineEnd, self.at, 1, self.line);
                     self.at += 1;
                     self.line += 1;
-                    self.first = true;
+                    self.at_line_start = true;
                     return Ok(Some(token));
                 }
-                Lexeme::Word(len, kind) => {
+                Lexeme::Token(len, kind) => {
                     let token = token_of(kind, self.at, len, self.line);
                     self.at += len;
-                    self.first = false;
+                    self.at_line_start = false;
                     return Ok(Some(token));
                 }
                 Lexeme::Fault(fault) => return Err(fault),

@@ -6,9 +6,6 @@ ghost use Rattle.rc_text.specs.Values.{truth_value, prefix_value, infix_value, n
 use crate::fault::EvalFault;
 use crate::token::Sign;
 
-// The level of `||`, the loosest operator.
-pub(crate) const LOOSEST_LEVEL: u8 = 1;
-
 // Returns the level of an infix operator, from 1 (loosest) to 6 (tightest), or 0 for any other
 // sign.
 pub(crate) fn level_of(sign: Sign) -> u8

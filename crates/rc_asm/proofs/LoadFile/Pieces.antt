@@ -9,7 +9,7 @@ use Rattle.std.proofs.lemmas.Bool.{and_parts, leb-true, lt-leb, ne_eqb, lt-ltb, 
 use Rattle.std.proofs.Math.Seq.{take-append_seam}
 use Rattle.rc_text.specs.declared.token.Kind.{Kind}
 use Rattle.rc_text.specs.declared.token.Kind.TheVariants.{Number}
-use Rattle.rc_text.specs.declared.lexeme.Lexeme.TheVariants.{Word}
+use Rattle.rc_text.specs.declared.lexeme.Lexeme.TheVariants.{Token as TokenOf}
 use Rattle.rc_text.specs.Bytes.{LINE_FEED, is_blank, begins_name, decimal_value}
 use Rattle.rc_text.specs.Tokens.{lexeme_of, number_lexeme, tokens_after, tokens_from, with_token, token_of}
 use Rattle.rc_instr.specs.Digits.{read_on, NoDigitFirst}
@@ -17,16 +17,16 @@ use Rattle.rc_instr.proofs.Same.{both}
 use Rattle.rc_instr.proofs.Numerals.{decimal_some, decimal_all, decimal_value as decimal_is}
 
 -- the bytes that belong to a piece are passed over
-skip : (p rest : List ℕ) (first : Bool) (at line : ℕ) → tokens_from (p ++ rest) (length p) first at line ≡ tokens_from rest 0 first (at + length p) line
-skip [] rest first at line = ap (λ k. tokens_from rest 0 first k line) (omega arith)
-skip (b ∷ p) rest first at line = skip p rest first (at + 1) line ∙ ap (λ k. tokens_from rest 0 first k line) (omega (arith))
+skip : (p rest : List ℕ) (at_line_start : Bool) (at line : ℕ) → tokens_from (p ++ rest) (length p) at_line_start at line ≡ tokens_from rest 0 at_line_start (at + length p) line
+skip [] rest at_line_start at line = ap (λ k. tokens_from rest 0 at_line_start k line) (omega arith)
+skip (b ∷ p) rest at_line_start at line = skip p rest at_line_start (at + 1) line ∙ ap (λ k. tokens_from rest 0 at_line_start k line) (omega (arith))
 
 -- a token at the front
-pub front : (p rest : List ℕ) (kind : Kind) (first : Bool) (at line : ℕ) → 0 < length p → lexeme_of first (p ++ rest) ≡ Word (length p) kind
-    → tokens_from (p ++ rest) 0 first at line ≡ with_token (token_of kind at (length p) line) (tokens_from rest 0 false (at + length p) line)
-front [] rest kind first at line h e = absurd (omega (arith, h))
-front (b ∷ p) rest kind first at line h e =
-    ap (λ x. tokens_after x (tokens_from (p ++ rest)) first at line) e
+pub front : (p rest : List ℕ) (kind : Kind) (at_line_start : Bool) (at line : ℕ) → 0 < length p → lexeme_of at_line_start (p ++ rest) ≡ TokenOf (length p) kind
+    → tokens_from (p ++ rest) 0 at_line_start at line ≡ with_token (token_of kind at (length p) line) (tokens_from rest 0 false (at + length p) line)
+front [] rest kind at_line_start at line h e = absurd (omega (arith, h))
+front (b ∷ p) rest kind at_line_start at line h e =
+    ap (λ x. tokens_after x (tokens_from (p ++ rest)) at_line_start at line) e
     ∙ ap (with_token (token_of kind at (length (b ∷ p)) line)) (ap (λ k. tokens_from (p ++ rest) k false (at + 1) line) (omega arith) ∙ skip p rest false (at + 1) line ∙ ap (λ k. tokens_from rest 0 false k line) (omega arith))
 
 -- ---- numbers
@@ -88,13 +88,13 @@ if_true true x y z h e = e
 if_true false x y z h e = absurd (both_ways _ refl h)
 
 -- a number below 2 ^ 32 is a token
-number_fits : (len n : ℕ) → n < 2 ^ 32 → number_lexeme len n ≡ Word len (Number n)
+number_fits : (len n : ℕ) → n < 2 ^ 32 → number_lexeme len n ≡ TokenOf len (Number n)
 number_fits len n l = let t = lt-ltb n (2 ^ 32) l in rw t refl
 
 -- digits are one token
-digits_word : (ds rest : List ℕ) (first : Bool) → 0 < length ds → all_ascii_digits ds ≡ true → NoDigitFirst rest → read_on 0 ds < 2 ^ 32 → lexeme_of first (ds ++ rest) ≡ Word (length ds) (Number (read_on 0 ds))
-digits_word [] rest first s p h l = absurd (omega (arith, s))
-digits_word (d ∷ ds) rest first s p h l =
+digits_word : (ds rest : List ℕ) (at_line_start : Bool) → 0 < length ds → all_ascii_digits ds ≡ true → NoDigitFirst rest → read_on 0 ds < 2 ^ 32 → lexeme_of at_line_start (ds ++ rest) ≡ TokenOf (length ds) (Number (read_on 0 ds))
+digits_word [] rest at_line_start s p h l = absurd (omega (arith, s))
+digits_word (d ∷ ds) rest at_line_start s p h l =
     let q = both (is_ascii_digit d) (all_ascii_digits ds) p in
     let g = digit_bounds d q.0 in
     let n = digits_len (d ∷ ds) rest p h in
@@ -103,12 +103,12 @@ digits_word (d ∷ ds) rest first s p h l =
     let b2 = no_feed d g in
     let b3 = no_comment d g in
     let b4 = no_letter d g in
-    let e : number_lexeme (prefix_len is_ascii_digit ((d ∷ ds) ++ rest)) (decimal_value (take (prefix_len is_ascii_digit ((d ∷ ds) ++ rest)) ((d ∷ ds) ++ rest))) ≡ Word (length (d ∷ ds)) (Number (read_on 0 (d ∷ ds))) =
+    let e : number_lexeme (prefix_len is_ascii_digit ((d ∷ ds) ++ rest)) (decimal_value (take (prefix_len is_ascii_digit ((d ∷ ds) ++ rest)) ((d ∷ ds) ++ rest))) ≡ TokenOf (length (d ∷ ds)) (Number (read_on 0 (d ∷ ds))) =
     (λ i. number_lexeme (n i) (v i)) ∙ number_fits (length (d ∷ ds)) (read_on 0 (d ∷ ds)) l in
     rw b1 (rw b2 (rw b3 (rw b4 (if_true (is_ascii_digit d) _ _ _ q.0 e))))
 
 -- a number that a load file writes is one token
-pub number_word : (n : ℕ) (rest : List ℕ) (first : Bool) → n < 2 ^ 16 → NoDigitFirst rest → lexeme_of first (decimal n ++ rest) ≡ Word (length (decimal n)) (Number n)
-number_word n rest first l h =
+pub number_word : (n : ℕ) (rest : List ℕ) (at_line_start : Bool) → n < 2 ^ 16 → NoDigitFirst rest → lexeme_of at_line_start (decimal n ++ rest) ≡ TokenOf (length (decimal n)) (Number n)
+number_word n rest at_line_start l h =
     let v : read_on 0 (decimal n) ≡ n = decimal_is n (omega (arith, l)) in
-    digits_word (decimal n) rest first (decimal_some n (omega (arith, l))) (decimal_all n (omega (arith, l))) h (omega (arith, v)) ∙ ap (λ k. Word (length (decimal n)) (Number k)) v
+    digits_word (decimal n) rest at_line_start (decimal_some n (omega (arith, l))) (decimal_all n (omega (arith, l))) h (omega (arith, v)) ∙ ap (λ k. TokenOf (length (decimal n)) (Number k)) v

@@ -9,7 +9,7 @@ use Rattle.std.proofs.Math.Seq.{take-append_seam, drop-append_seam}
 use Rattle.rc_text.specs.declared.token.Sign.TheVariants.{Dot, Comma, Minus}
 use Rattle.rc_text.specs.declared.token.Kind.TheVariants.{Name, Number, LineEnd, Sign as SignOf}
 use Rattle.rc_text.specs.declared.token.Token.{Token}
-use Rattle.rc_text.specs.declared.lexeme.Lexeme.TheVariants.{Word}
+use Rattle.rc_text.specs.declared.lexeme.Lexeme.TheVariants.{Token as TokenOf}
 use Rattle.rc_text.specs.Tokens.{TokenList, lexeme_of, tokens_from, with_token, token_of}
 use Rattle.rc_instr.specs.Digits.{NoDigitFirst}
 use Rattle.rc_instr.specs.Words.{opcode_text, modifier_text}
@@ -36,16 +36,16 @@ IsPlainNext [] = Unit {0}
 IsPlainNext (b ∷ bs) = (b == 61) ≡ false
 
 -- a mode is one token
-sign_word : (m : Mode) (first : Bool) (text : List ℕ) → 0 < length text → IsPlainNext text → lexeme_of first (mode_text m ++ text) ≡ Word 1 (SignOf (mode_sign m))
-sign_word m first [] s h = absurd (omega (arith, s))
-sign_word mode.Immediate first (b ∷ bs) s h = refl
-sign_word mode.Direct first (b ∷ bs) s h = refl
-sign_word mode.AIndirect first (b ∷ bs) s h = refl
-sign_word mode.BIndirect first (b ∷ bs) s h = refl
-sign_word mode.APredecrement first (b ∷ bs) s h = refl
-sign_word mode.BPredecrement first (b ∷ bs) s h = rw h refl
-sign_word mode.APostincrement first (b ∷ bs) s h = refl
-sign_word mode.BPostincrement first (b ∷ bs) s h = rw h refl
+sign_word : (m : Mode) (at_line_start : Bool) (text : List ℕ) → 0 < length text → IsPlainNext text → lexeme_of at_line_start (mode_text m ++ text) ≡ TokenOf 1 (SignOf (mode_sign m))
+sign_word m at_line_start [] s h = absurd (omega (arith, s))
+sign_word mode.Immediate at_line_start (b ∷ bs) s h = refl
+sign_word mode.Direct at_line_start (b ∷ bs) s h = refl
+sign_word mode.AIndirect at_line_start (b ∷ bs) s h = refl
+sign_word mode.BIndirect at_line_start (b ∷ bs) s h = refl
+sign_word mode.APredecrement at_line_start (b ∷ bs) s h = refl
+sign_word mode.BPredecrement at_line_start (b ∷ bs) s h = rw h refl
+sign_word mode.APostincrement at_line_start (b ∷ bs) s h = refl
+sign_word mode.BPostincrement at_line_start (b ∷ bs) s h = rw h refl
 
 -- digits may follow a sign
 digits_plain : (ds rest : List ℕ) → 0 < length ds → all_ascii_digits ds ≡ true → IsPlainNext (ds ++ rest)
@@ -59,7 +59,7 @@ digits_plain (d ∷ ds) rest s h =
 pub record NumberScan (m k : ℕ) (text rest : List ℕ) (at line : ℕ) : Type 0 where
   pub tokens : List Token
   pub shown : AreNumber m k tokens
-  pub scan : (first : Bool) → tokens_from (text ++ rest) 0 first at line ≡ onto tokens (tokens_from rest 0 false (at + length text) line)
+  pub scan : (at_line_start : Bool) → tokens_from (text ++ rest) 0 at_line_start at line ≡ onto tokens (tokens_from rest 0 false (at + length text) line)
   pub some : 0 < length text
   pub plain : IsPlainNext (text ++ rest)
 
@@ -68,7 +68,7 @@ plain_scan : (m k : ℕ) (rest : List ℕ) (at line : ℕ) → k < 2 ^ 16 → No
 plain_scan m k rest at line l h = record {
   tokens = token_of (Number k) at (length (decimal k)) line ∷ [];
   shown = Plain _ refl;
-  scan = λ first. front (decimal k) rest (Number k) first at line (decimal_some k (omega (arith, l))) (number_word k rest first l h);
+  scan = λ at_line_start. front (decimal k) rest (Number k) at_line_start at line (decimal_some k (omega (arith, l))) (number_word k rest at_line_start l h);
   some = decimal_some k (omega (arith, l));
   plain = digits_plain (decimal k) rest (decimal_some k (omega (arith, l))) (decimal_all k (omega (arith, l)));
 }
@@ -79,7 +79,7 @@ below_scan m k zero rest at line l s e h = absurd (omega (arith, s))
 below_scan m k (suc j) rest at line l s e h = record {
   tokens = token_of (SignOf Minus) at 1 line ∷ token_of (Number (suc j)) (at + 1) (length (decimal (suc j))) line ∷ [];
   shown = Below _ _ j refl refl e;
-  scan = λ first.
+  scan = λ at_line_start.
       ap (with_token (token_of (SignOf Minus) at 1 line)) (front (decimal (suc j)) rest (Number (suc j)) false (at + 1) line (decimal_some (suc j) (omega (arith, l))) (number_word (suc j) rest false l h)
       ∙ ap (λ n. with_token (token_of (Number (suc j)) (at + 1) (length (decimal (suc j))) line) (tokens_from rest 0 false n line)) (omega arith));
   some = omega arith;
@@ -112,7 +112,7 @@ pub record OperandScan (m : ℕ) (mode : Mode) (k : ℕ) (rest : List ℕ) (at l
   pub number : List Token
   pub sign_kind : sign.kind ≡ SignOf (mode_sign mode)
   pub shown : AreNumber m k number
-  pub scan : (first : Bool) → tokens_from (operand_text m mode k ++ rest) 0 first at line ≡ onto (sign ∷ number) (tokens_from rest 0 false (at + length (operand_text m mode k)) line)
+  pub scan : (at_line_start : Bool) → tokens_from (operand_text m mode k ++ rest) 0 at_line_start at line ≡ onto (sign ∷ number) (tokens_from rest 0 false (at + length (operand_text m mode k)) line)
 
 -- a text is not empty if its front is not
 some_append : (xs ys : List ℕ) → 0 < length xs → 0 < length (xs ++ ys)
@@ -126,17 +126,17 @@ operand_scan m mode k rest at line l s h =
     let n = number_scan m k rest (at + length p) line l s h in
     let t = token_of (SignOf (mode_sign mode)) at (length p) line in
     let some : 0 < length p = omega (arith, mode_len mode) in
-    let piece : (first : Bool) → lexeme_of first (p ++ (number_text m k ++ rest)) ≡ Word (length p) (SignOf (mode_sign mode)) =
-    λ first. sign_word mode first (number_text m k ++ rest) (some_append (number_text m k) rest n.some) n.plain ∙ ap (λ x. Word x (SignOf (mode_sign mode))) (sym (mode_len mode)) in
+    let piece : (at_line_start : Bool) → lexeme_of at_line_start (p ++ (number_text m k ++ rest)) ≡ TokenOf (length p) (SignOf (mode_sign mode)) =
+    λ at_line_start. sign_word mode at_line_start (number_text m k ++ rest) (some_append (number_text m k) rest n.some) n.plain ∙ ap (λ x. TokenOf x (SignOf (mode_sign mode))) (sym (mode_len mode)) in
     let place : at + length p + length (number_text m k) ≡ at + length (p ++ number_text m k) = omega (arith, length-append p (number_text m k)) in
     record {
       sign = t;
       number = n.tokens;
       sign_kind = refl;
       shown = n.shown;
-      scan = λ first.
-          ap (λ x. tokens_from x 0 first at line) (append_assoc p (number_text m k) rest)
-          ∙ front p (number_text m k ++ rest) (SignOf (mode_sign mode)) first at line some (piece first)
+      scan = λ at_line_start.
+          ap (λ x. tokens_from x 0 at_line_start at line) (append_assoc p (number_text m k) rest)
+          ∙ front p (number_text m k ++ rest) (SignOf (mode_sign mode)) at_line_start at line some (piece at_line_start)
           ∙ ap (with_token t) (n.scan false)
           ∙ ap (λ x. onto (t ∷ n.tokens) (tokens_from rest 0 false x line)) place;
     }
@@ -144,33 +144,33 @@ operand_scan m mode k rest at line l s h =
 -- ---- words
 
 -- an opcode before a dot is one token
-opcode_word : (o : Opcode) (first : Bool) (rest : List ℕ) → lexeme_of first (opcode_text o ++ (46 ∷ rest)) ≡ Word (length (opcode_text o)) Name
-opcode_word op.Dat first rest = refl
-opcode_word op.Mov first rest = refl
-opcode_word op.Add first rest = refl
-opcode_word op.Sub first rest = refl
-opcode_word op.Mul first rest = refl
-opcode_word op.Div first rest = refl
-opcode_word op.Mod first rest = refl
-opcode_word op.Jmp first rest = refl
-opcode_word op.Jmz first rest = refl
-opcode_word op.Jmn first rest = refl
-opcode_word op.Djn first rest = refl
-opcode_word op.Seq first rest = refl
-opcode_word op.Sne first rest = refl
-opcode_word op.Slt first rest = refl
-opcode_word op.Spl first rest = refl
-opcode_word op.Nop first rest = refl
+opcode_word : (o : Opcode) (at_line_start : Bool) (rest : List ℕ) → lexeme_of at_line_start (opcode_text o ++ (46 ∷ rest)) ≡ TokenOf (length (opcode_text o)) Name
+opcode_word op.Dat at_line_start rest = refl
+opcode_word op.Mov at_line_start rest = refl
+opcode_word op.Add at_line_start rest = refl
+opcode_word op.Sub at_line_start rest = refl
+opcode_word op.Mul at_line_start rest = refl
+opcode_word op.Div at_line_start rest = refl
+opcode_word op.Mod at_line_start rest = refl
+opcode_word op.Jmp at_line_start rest = refl
+opcode_word op.Jmz at_line_start rest = refl
+opcode_word op.Jmn at_line_start rest = refl
+opcode_word op.Djn at_line_start rest = refl
+opcode_word op.Seq at_line_start rest = refl
+opcode_word op.Sne at_line_start rest = refl
+opcode_word op.Slt at_line_start rest = refl
+opcode_word op.Spl at_line_start rest = refl
+opcode_word op.Nop at_line_start rest = refl
 
 -- a modifier before a blank is one token
-modifier_word : (f : Modifier) (first : Bool) (rest : List ℕ) → lexeme_of first (modifier_text f ++ (32 ∷ rest)) ≡ Word (length (modifier_text f)) Name
-modifier_word mod'.A first rest = refl
-modifier_word mod'.B first rest = refl
-modifier_word mod'.AB first rest = refl
-modifier_word mod'.BA first rest = refl
-modifier_word mod'.F first rest = refl
-modifier_word mod'.X first rest = refl
-modifier_word mod'.I first rest = refl
+modifier_word : (f : Modifier) (at_line_start : Bool) (rest : List ℕ) → lexeme_of at_line_start (modifier_text f ++ (32 ∷ rest)) ≡ TokenOf (length (modifier_text f)) Name
+modifier_word mod'.A at_line_start rest = refl
+modifier_word mod'.B at_line_start rest = refl
+modifier_word mod'.AB at_line_start rest = refl
+modifier_word mod'.BA at_line_start rest = refl
+modifier_word mod'.F at_line_start rest = refl
+modifier_word mod'.X at_line_start rest = refl
+modifier_word mod'.I at_line_start rest = refl
 
 -- an opcode has three letters
 pub opcode_length : (o : Opcode) → length (opcode_text o) ≡ 3
