@@ -2,7 +2,7 @@ pub mod NameSteps
 pub mod Each
 pub mod TableSteps
 pub mod TreeSteps
-pub mod PlainHeads
+pub mod PlainRawLines
 pub mod PlainLines
 pub mod Reading
 pub mod Unrolling

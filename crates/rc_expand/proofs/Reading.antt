@@ -1,7 +1,7 @@
 -- The steps of the first pass: lines, blocks, EQU names and their table.
 pub mod EquSteps
 pub mod ReadSteps
-pub mod HeadSteps
+pub mod LabelSteps
 pub mod TableFound
 pub mod TableIndices
 pub mod TextFaults

@@ -10,19 +10,19 @@ use Rattle.rc_text.specs.Symbols.{LiesIn, name_of}
 use Rattle.rc_text.specs.Tokens.{tokens_of}
 use Rattle.rc_text.proofs.GapSteps.{lie_in_the_text}
 use Rattle.rc_instr.specs.Rules.{RulesView}
-use Rattle.rc_expand.specs.declared.heads.head.Head.{Head}
-use Rattle.rc_expand.specs.declared.heads.head.HeadWord.{HeadWord}
-use Rattle.rc_expand.specs.declared.heads.head.HeadWord.TheVariants as word
+use Rattle.rc_expand.specs.declared.read.raw_line.RawLine.{RawLine}
+use Rattle.rc_expand.specs.declared.read.raw_line.RawWord.{RawWord}
+use Rattle.rc_expand.specs.declared.read.raw_line.RawWord.TheVariants as word
 use Rattle.rc_expand.specs.declared.fault.ExpandFault.{ExpandFault}
 use Rattle.rc_expand.specs.declared.line.Line.{Line}
 use Rattle.rc_expand.specs.Limits.{MOST_JOINED, MOST_TOKENS, MOST_REPLACEMENTS, DEEPEST_BLOCK, DEEPEST_EQU}
 use Rattle.rc_instr.specs.Results.{mapped, and_then}
 use Rattle.rc_expand.specs.Names.{Table, entry_of, is_taken}
 use Rattle.rc_expand.specs.Contexts.{ContextView}
-use Rattle.rc_expand.specs.Heads.{text_lines, equ_token, with_equ, equs_after_line, equs_from, equs_of, heads_of_blocks, heads_of}
-use Rattle.rc_expand.specs.Heads.Faults.{text_fault}
-use Rattle.rc_expand.specs.Heads.Tree.{BlockTree, NoLine, OneLine, Block, Parts, line_before, rof_before, for_before, parts_by, parts_from, blocks_of}
-use Rattle.rc_expand.specs.Heads.Lines.{choose, is_free, is_colon, has_modifier, label_token, label_split, head_with_word, head_after_labels, head_of, word_of, line_of_tokens, has_end, up_to_end, lines_unless_fault, lines_from, bare_line, is_name_token}
+use Rattle.rc_expand.specs.Read.{text_lines, equ_token, with_equ, equs_after_line, equs_from, equs_of, first_pass_of_blocks, first_pass}
+use Rattle.rc_expand.specs.Read.Faults.{text_fault}
+use Rattle.rc_expand.specs.Read.Tree.{BlockTree, NoLine, OneLine, Block, Parts, line_before, rof_before, for_before, parts_by, parts_from, blocks_of}
+use Rattle.rc_expand.specs.Read.Lines.{choose, is_free, is_colon, has_modifier, label_token, label_split, line_with_word, line_after_labels, raw_line_of, word_of, line_of_tokens, has_end, up_to_end, lines_unless_fault, lines_from, bare_line, is_name_token}
 use Rattle.rc_expand.specs.Unroll.{UnrolledSoFarView, Step, nothing_unrolled, has_room, with_line, with_copy, copies_from, with_earlier, is_bare_rof, rof_check, line_check, one_line, one_copy, one_block, unrolled_in, unrolled}
 use Rattle.rc_expand.specs.Unroll.Copies.{BlockCopyView, is_in_block, line_in_copy, line_in, all_of, is_counter, with_number, with_counter, joins, copied_from, copied_tokens, copied_code, copied_rest, or_spoiled, copied_line}
 use Rattle.rc_expand.specs.Unroll.Openings.{OpeningView, earlier_of, opening_with_counter, count_of, counter_name, counter_of, opening}
@@ -85,12 +85,12 @@ module _ (source : List ℕ) where
   abbrev Labels : List (List Token) → Type 0
   Labels = ByRecursion Ls
 
-  record IsIn (h : Head) : Type 0 where
+  record IsIn (h : RawLine) : Type 0 where
     labels : Labels h.labels
     directive : IfSome h.directive (LiesIn source)
     rest : Ls h.rest
 
-  abbrev AreIn : List Head → Type 0
+  abbrev AreIn : List RawLine → Type 0
   AreIn = ByRecursion IsIn
 
   flat : (ls : List (List Token)) → Ls (flat_map (λ x. x) ls) → Labels ls
@@ -102,29 +102,29 @@ module _ (source : List ℕ) where
   joined_up (l ∷ ls) h = both (LiesIn source) l (flat_map (λ x. x) ls) h.0 (joined_up ls h.1)
 
   -- lines are made of tokens
-  with_word : (w : HeadWord) (n : ℕ) (ls : List (List Token)) (t : Token) (ts : List Token) → Labels ls → LiesIn source t → Ls ts → IsIn (head_with_word w n ls t ts)
+  with_word : (w : RawWord) (n : ℕ) (ls : List (List Token)) (t : Token) (ts : List Token) → Labels ls → LiesIn source t → Ls ts → IsIn (line_with_word w n ls t ts)
   with_word word.Code n ls t ts h i j = record { labels = h; directive = tt; rest = (i, j) }
   with_word _ n ls t ts h i j = record { labels = h; directive = i; rest = j }
 
-  after_labels : (n : ℕ) (ls : List (List Token)) (ts : List Token) → Labels ls → Ls ts → IsIn (head_after_labels source n ls ts)
+  after_labels : (n : ℕ) (ls : List (List Token)) (ts : List Token) → Labels ls → Ls ts → IsIn (line_after_labels source n ls ts)
   after_labels n ls [] h j = record { labels = h; directive = tt; rest = tt }
   after_labels n ls (t ∷ ts) h j = with_word (word_of source t) n ls t ts h j.0 j.1
 
-  head_in : (n : ℕ) (ts : List Token) → Ls ts → IsIn (head_of source n ts)
-  unfolding head_of
-  head_in n ts h =
+  raw_line_in : (n : ℕ) (ts : List Token) → Ls ts → IsIn (raw_line_of source n ts)
+  unfolding raw_line_of
+  raw_line_in n ts h =
       let l = label_split source ts in
       let r = parts (LiesIn source) (flat_map (λ x. x) l.labels) l.after (subst Ls (sym (labels_and_rest source ts)) h) in
       after_labels n l.labels l.after (flat l.labels r.0) r.1
 
   tokens_in_line : (ts : List Token) → Ls ts → AreIn (line_of_tokens source ts)
   tokens_in_line [] h = tt
-  tokens_in_line (t ∷ ts) h = (head_in t.line (t ∷ ts) h, tt)
+  tokens_in_line (t ∷ ts) h = (raw_line_in t.line (t ∷ ts) h, tt)
 
-  then_lines : (hs : List Head) (later : Result (List Head) ExpandFault) → AreIn hs → IfOk later AreIn → IfOk (up_to_end hs later) AreIn
+  then_lines : (hs : List RawLine) (later : Result (List RawLine) ExpandFault) → AreIn hs → IfOk later AreIn → IfOk (up_to_end hs later) AreIn
   then_lines hs later h i = either (λ r. IfOk r AreIn) (has_end hs) (Ok hs) (mapped (λ r. hs ++ r) later) h (over AreIn AreIn (λ r. hs ++ r) later i (λ r j. both IsIn hs r h j))
 
-  unless_fault : (o : Option ExpandFault) (hs : List Head) → AreIn hs → IfOk (lines_unless_fault o hs) AreIn
+  unless_fault : (o : Option ExpandFault) (hs : List RawLine) → AreIn hs → IfOk (lines_unless_fault o hs) AreIn
   unless_fault None hs h = h
   unless_fault (Some f) hs h = tt
 
@@ -148,15 +148,15 @@ module _ (source : List ℕ) where
   PartsIn zero b = TreeIn b
   PartsIn (suc n) p = TreeIn p.inside × IsIn p.closes × PartsIn n p.after
 
-  line_in_parts : (h : Head) → IsIn h → (n : ℕ) (p : Parts n) → PartsIn n p → PartsIn n (line_before h n p)
+  line_in_parts : (h : RawLine) → IsIn h → (n : ℕ) (p : Parts n) → PartsIn n p → PartsIn n (line_before h n p)
   line_in_parts h i zero b j = (i, j)
   line_in_parts h i (suc n) p j = ((i, j.0), j.1, j.2)
 
-  for_in_parts : (f : Head) → IsIn f → (n : ℕ) (p : Parts (suc n)) → PartsIn (suc n) p → PartsIn n (for_before f n p)
+  for_in_parts : (f : RawLine) → IsIn f → (n : ℕ) (p : Parts (suc n)) → PartsIn (suc n) p → PartsIn n (for_before f n p)
   for_in_parts f i zero p j = (i, j.0, j.1, j.2)
   for_in_parts f i (suc n) p j = ((i, j.0, j.1, j.2.0), j.2.1, j.2.2)
 
-  by_word_in : (w : HeadWord) (h : Head) (n line : ℕ) (next : (m l : ℕ) → Result (Parts m) ExpandFault) → IsIn h → ((m l : ℕ) → IfOk (next m l) (PartsIn m)) → IfOk (parts_by w h n line next) (PartsIn n)
+  by_word_in : (w : RawWord) (h : RawLine) (n line : ℕ) (next : (m l : ℕ) → Result (Parts m) ExpandFault) → IsIn h → ((m l : ℕ) → IfOk (next m l) (PartsIn m)) → IfOk (parts_by w h n line next) (PartsIn n)
   by_word_in word.For h zero line next i j = over (PartsIn 1) (PartsIn 0) (for_before h 0) (next 1 h.number) (j 1 h.number) (for_in_parts h i 0)
   by_word_in word.For h (suc n) line next i j =
       either (λ r. IfOk r (PartsIn (suc n))) (nat_lt (suc n) DEEPEST_BLOCK) _ _ (over (PartsIn (suc (suc n))) (PartsIn (suc n)) (for_before h (suc n)) (next (suc (suc n)) line) (j (suc (suc n)) line) (for_in_parts h i (suc n))) tt
@@ -164,18 +164,18 @@ module _ (source : List ℕ) where
   by_word_in word.Rof h (suc n) line next i j = over (PartsIn n) (PartsIn (suc n)) (rof_before h n) (next n line) (j n line) (λ p k. (tt, i, k))
   by_word_in _ h n line next i j = over (PartsIn n) (PartsIn n) (line_before h n) (next n line) (j n line) (line_in_parts h i n)
 
-  parts_in : (hs : List Head) (n line : ℕ) → AreIn hs → IfOk (parts_from hs n line) (PartsIn n)
+  parts_in : (hs : List RawLine) (n line : ℕ) → AreIn hs → IfOk (parts_from hs n line) (PartsIn n)
   parts_in [] zero line h = tt
   parts_in [] (suc n) line h = tt
   parts_in (h ∷ hs) n line i = by_word_in h.word h n line (λ m l. parts_from hs m l) i.0 (λ m l. parts_in hs m l i.1)
 
   module _ (constants : Table) (rules : RulesView) where
-    one_equ : (h : Head) (equs : Equs) (o : Option Token) → IsIn h → Bodies equs → IfOk (with_equ source constants rules h equs o) Bodies
+    one_equ : (h : RawLine) (equs : Equs) (o : Option Token) → IsIn h → Bodies equs → IfOk (with_equ source constants rules h equs o) Bodies
     one_equ h equs None i j = tt
     one_equ h equs (Some t) i j =
         either (λ r. IfOk r Bodies) (is_taken constants rules (name_of source t) || is_some (entry_of equs (name_of source t))) _ _ tt (both (λ e. Ls e.1.tokens) equs _ j (i.rest, tt))
 
-    with_equ_in : (w : HeadWord) (h : Head) (equs : Equs) → IsIn h → Bodies equs → IfOk (equs_after_line source constants rules w h equs) Bodies
+    with_equ_in : (w : RawWord) (h : RawLine) (equs : Equs) → IsIn h → Bodies equs → IfOk (equs_after_line source constants rules w h equs) Bodies
     with_equ_in word.Equ h equs i j = one_equ h equs (equ_token source h.labels) i j
     with_equ_in _ h equs i j = j
 
@@ -184,12 +184,12 @@ module _ (source : List ℕ) where
     equs_in (OneLine h rest) equs i j = after Bodies Bodies (equs_from source constants rules rest) (equs_after_line source constants rules h.word h equs) (with_equ_in h.word h equs i.0 j) (λ e k. equs_in rest e i.1 k)
     equs_in (Block f inside r rest) equs i j = equs_in rest equs i.3 j
 
-    heads_in : IfOk (heads_of source constants rules) (λ r. TreeIn r.blocks × Bodies r.equs)
-    unfolding heads_of equs_of
-    heads_in =
+    first_pass_in : IfOk (first_pass source constants rules) (λ r. TreeIn r.blocks × Bodies r.equs)
+    unfolding first_pass equs_of
+    first_pass_in =
         let lines = lines_in (text_fault source) [] (tokens_of source).tokens tt (recursion_from_All (LiesIn source) (tokens_of source).tokens (lie_in_the_text source)) in
         let nested = after AreIn TreeIn blocks_of (text_lines source) lines (λ hs h. parts_in hs 0 0 h) in
-        after TreeIn (λ r. TreeIn r.blocks × Bodies r.equs) (heads_of_blocks source constants rules) (and_then blocks_of (text_lines source)) nested
+        after TreeIn (λ r. TreeIn r.blocks × Bodies r.equs) (first_pass_of_blocks source constants rules) (and_then blocks_of (text_lines source)) nested
         (λ b h. over Bodies (λ r. TreeIn r.blocks × Bodies r.equs) (λ equs. record { blocks = b; equs = equs }) (equs_of source constants rules b) (equs_in b [] h tt) (λ equs j. (h, j)))
 
   -- a copy changes no span
@@ -224,7 +224,7 @@ module _ (source : List ℕ) where
         (some_over Ls Ls (λ r. t ∷ u ∷ v ∷ r) (copied_tokens source counter k ts) (tokens_in ts (rest_of (LiesIn source) v ts q)) (λ r j. (h.0, (p.0, (q.0, j)))))
         (tokens_in (t ∷ u ∷ v ∷ ts) h)
 
-    rest_in : (w : HeadWord) (ts : List Token) → Ls ts → IfSome (copied_rest source counter k w ts) Ls
+    rest_in : (w : RawWord) (ts : List Token) → Ls ts → IfSome (copied_rest source counter k w ts) Ls
     rest_in word.Code ts h = code_in ts h
     rest_in _ ts h = tokens_in ts h
 
@@ -234,20 +234,20 @@ module _ (source : List ℕ) where
         some_after Ls Labels (λ y. option_map (λ ys. y ∷ ys) (all_of (copied_tokens source counter k) ls)) (copied_tokens source counter k l) (tokens_in l h.0)
         (λ y p. some_over Labels Labels (λ ys. y ∷ ys) (all_of (copied_tokens source counter k) ls) (labels_in ls h.1) (λ ys q. (p, q)))
 
-    or_spoiled_in : (h : Head) (a : Option (List (List Token))) (b : Option (List Token)) → IsIn h → IfSome a Labels → IfSome b Ls → IsIn (or_spoiled source h a b)
+    or_spoiled_in : (h : RawLine) (a : Option (List (List Token))) (b : Option (List Token)) → IsIn h → IfSome a Labels → IfSome b Ls → IsIn (or_spoiled source h a b)
     or_spoiled_in h (Some a) (Some b) i p q = record { labels = p; directive = i.directive; rest = q }
     or_spoiled_in h (Some a) None i p q = record { labels = tt; directive = i.directive; rest = tt }
     or_spoiled_in h None b i p q = record { labels = tt; directive = i.directive; rest = tt }
 
-    copy_in : (h : Head) → IsIn h → IsIn (copied_line source counter k h)
+    copy_in : (h : RawLine) → IsIn h → IsIn (copied_line source counter k h)
     unfolding copied_line
     copy_in h i = or_spoiled_in h (all_of (copied_tokens source counter k) h.labels) (copied_rest source counter k h.word h.rest) i (labels_in h.labels i.labels) (rest_in h.word h.rest i.rest)
 
-  by_copy : (counter : Option (List ℕ)) (k : ℕ) (h : Head) → IsIn h → IsIn (line_in_copy source counter k h)
+  by_copy : (counter : Option (List ℕ)) (k : ℕ) (h : RawLine) → IsIn h → IsIn (line_in_copy source counter k h)
   by_copy None k h i = i
   by_copy (Some counter) k h i = copy_in counter k h i
 
-  in_copies : (cs : List BlockCopyView) (h : Head) → IsIn h → IsIn (line_in source cs h)
+  in_copies : (cs : List BlockCopyView) (h : RawLine) → IsIn h → IsIn (line_in source cs h)
   in_copies [] h i = i
   in_copies (c ∷ cs) h i = in_copies cs (line_in_copy source c.counter c.number h) (by_copy c.counter c.number h i)
 
@@ -258,7 +258,7 @@ module _ (source : List ℕ) where
   abbrev Keeps : Step → Type 0
   Keeps step = (u : UnrolledSoFarView) → SoFar u → IfOk (step u) SoFar
 
-  line_kept : (h : Head) → IsIn h → Keeps (with_line h)
+  line_kept : (h : RawLine) → IsIn h → Keeps (with_line h)
   line_kept h i u j = either (λ r. IfOk r SoFar) (has_room u) _ _ (both IsIn u.lines (h ∷ []) j (i, tt)) tt
 
   copy_kept : (line : ℕ) → Keeps (with_copy line)
@@ -272,7 +272,7 @@ module _ (source : List ℕ) where
   earlier_kept line [] h u j = j
   earlier_kept line (l ∷ ls) h u j = line_kept (bare_line line (l ∷ ls)) (record { labels = h; directive = tt; rest = tt }) u j
 
-  rof_kept : (rof : Head) → Keeps (rof_check rof)
+  rof_kept : (rof : RawLine) → Keeps (rof_check rof)
   rof_kept rof u j = either (λ r. IfOk r SoFar) (is_bare_rof rof) _ _ j tt
 
   earlier_in : (ls : List (List Token)) → Labels ls → Labels (earlier_of ls)
@@ -349,29 +349,29 @@ module _ (source : List ℕ) where
         let start : TokensSoFarView = record { line = line; tokens = front; replacements = 0 } in
         over Tokens Ls (λ r. r.tokens) (tokens_within source equs DEEPEST_EQU ts start) (spread_kept (body_within source equs DEEPEST_EQU) (inner_kept DEEPEST_EQU) ts i start h) (λ r j. j)
 
-    line_tokens_in : (line : ℕ) (w : HeadWord) (ts : List Token) → Ls ts → IfOk (line_tokens source equs line w ts) Ls
+    line_tokens_in : (line : ℕ) (w : RawWord) (ts : List Token) → Ls ts → IfOk (line_tokens source equs line w ts) Ls
     line_tokens_in line w ts h =
         let n = exempt_len source w ts in
         let all = All-from_recursion (LiesIn source) ts h in
         replaced_in line (take n ts) (drop n ts) (recursion_from_All (LiesIn source) (take n ts) (All-take (LiesIn source) n ts all)) (recursion_from_All (LiesIn source) (drop n ts) (All-drop (LiesIn source) n ts all))
 
-    made_in : (h : Head) (w : HeadWord) (ts : List Token) → IsIn h → Ls ts → IfOk (made_line source equs h w ts) (LineLies source)
+    made_in : (h : RawLine) (w : RawWord) (ts : List Token) → IsIn h → Ls ts → IfOk (made_line source equs h w ts) (LineLies source)
     made_in h w ts i j =
         over Ls (LineLies source) (expanded_line source h w) (line_tokens source equs h.number w ts) (line_tokens_in h.number w ts j)
         (λ r k. record { labels = All-from_recursion (LiesIn source) (own_labels source h.labels) (own_in h.labels i.labels); tokens = All-from_recursion (LiesIn source) r k })
 
-    with_labels_in : (h : Head) (others : List (List Token)) → IsIn h → Labels others → IfOk (line_with_others source equs h others) (LineLies source)
+    with_labels_in : (h : RawLine) (others : List (List Token)) → IsIn h → Labels others → IfOk (line_with_others source equs h others) (LineLies source)
     with_labels_in h [] i j = made_in h h.word h.rest i i.rest
     with_labels_in h (l ∷ ls) i j =
         made_in h word.Code (flat_map (λ x. x) (l ∷ ls) ++ (option_to_list h.directive ++ h.rest)) i
         (both (LiesIn source) (flat_map (λ x. x) (l ∷ ls)) (option_to_list h.directive ++ h.rest) (joined_up (l ∷ ls) j) (both (LiesIn source) (option_to_list h.directive) h.rest (option_in h.directive i.directive) i.rest))
 
-    line_of_in : (h : Head) → IsIn h → IfOk (line_of source equs h) (LineLies source)
+    line_of_in : (h : RawLine) → IsIn h → IfOk (line_of source equs h) (LineLies source)
     unfolding line_of
     line_of_in h i = with_labels_in h (other_labels source h.labels) i (others_in h.labels i.labels)
 
 module _ (s : ContextView) where
-  opening_in : (f : Head) → IsIn s.source f → IfOk (opening s f) (λ o. Labels s.source o.earlier)
+  opening_in : (f : RawLine) → IsIn s.source f → IfOk (opening s f) (λ o. Labels s.source o.earlier)
   unfolding opening
   opening_in f i =
       either (λ (r : Result OpeningView ExpandFault). IfOk r (λ o. Labels s.source o.earlier)) f.spoiled _ _ tt
@@ -382,7 +382,7 @@ module _ (s : ContextView) where
   Kept u = SoFar s.source u
 
   -- a line, and a block whose lines keep them
-  one_kept : (cs : List BlockCopyView) (h : Head) → IsIn s.source h → Keeps s.source (one_line s cs h)
+  one_kept : (cs : List BlockCopyView) (h : RawLine) → IsIn s.source h → Keeps s.source (one_line s cs h)
   one_kept cs h i u j =
       after_any Kept (λ _. with_line (line_in s.source cs h) u) (line_check (is_in_block cs) (line_in s.source cs h))
       (λ _. line_kept s.source (line_in s.source cs h) (in_copies s.source cs h i) u j)
@@ -393,7 +393,7 @@ module _ (s : ContextView) where
         let more : List BlockCopyView = cs ++ (record { counter = counter; number = k } ∷ []) in
         after Kept Kept (inside more) (with_copy line u) (copy_kept s.source line u j) (λ v i. d more v i)
 
-    block_kept : (cs : List BlockCopyView) (f r : Head) → IsIn s.source f → Keeps s.source (one_block s inside cs f r)
+    block_kept : (cs : List BlockCopyView) (f r : RawLine) → IsIn s.source f → Keeps s.source (one_block s inside cs f r)
     block_kept cs f r i u j =
         after (λ o. Labels s.source o.earlier) Kept _ (opening s (line_in s.source cs f)) (opening_in (line_in s.source cs f) (in_copies s.source cs f i))
         (λ o l. after Kept Kept _ (with_earlier f.number o.earlier u) (earlier_kept s.source f.number o.earlier l u j)
@@ -415,21 +415,21 @@ module _ (s : ContextView) where
   Made r = ByRecursion (LineLies s.source) r.lines
 
   module _ (bodies : Bodies s.source s.equs) where
-    made_and_added : (h : Head) (lines : List Line) (names : List (List ℕ)) → IsIn s.source h → ByRecursion (LineLies s.source) lines → IfOk (mapped (with_expanded_line lines names) (line_of s.source s.equs h)) Made
+    made_and_added : (h : RawLine) (lines : List Line) (names : List (List ℕ)) → IsIn s.source h → ByRecursion (LineLies s.source) lines → IfOk (mapped (with_expanded_line lines names) (line_of s.source s.equs h)) Made
     made_and_added h lines names i j =
         over (LineLies s.source) Made (with_expanded_line lines names) (line_of s.source s.equs h) (line_of_in s.source s.equs bodies h i) (λ l k. both (LineLies s.source) lines (l ∷ []) j (k, tt))
 
-    added : (w : HeadWord) (h : Head) (lines : List Line) (names : List (List ℕ)) → IsIn s.source h → ByRecursion (LineLies s.source) lines → IfOk (line_added s w h lines names) Made
+    added : (w : RawWord) (h : RawLine) (lines : List Line) (names : List (List ℕ)) → IsIn s.source h → ByRecursion (LineLies s.source) lines → IfOk (line_added s w h lines names) Made
     added word.Equ h lines names i j = j
     added _ h lines names i j = made_and_added h lines names i j
 
-    lines_made : (hs : List Head) → AreIn s.source hs → (r : LinesSoFarView) → Made r → IfOk (lines_replaced s hs r) Made
+    lines_made : (hs : List RawLine) → AreIn s.source hs → (r : LinesSoFarView) → Made r → IfOk (lines_replaced s hs r) Made
     lines_made [] h r j = j
     lines_made (h ∷ hs) i r j =
         after Made Made (lines_replaced s hs) (line_replaced s h r)
         (after_any Made (line_added s h.word h r.lines) (with_names s h.number (names_of s.source h) r.names) (λ names. added h.word h r.lines names i.0 j)) (λ x k. lines_made hs i.1 x k)
 
-    replaced_lines_in : (hs : List Head) → AreIn s.source hs → IfOk (replaced s hs) (ByRecursion (LineLies s.source))
+    replaced_lines_in : (hs : List RawLine) → AreIn s.source hs → IfOk (replaced s hs) (ByRecursion (LineLies s.source))
     unfolding replaced
     replaced_lines_in hs h = over Made (ByRecursion (LineLies s.source)) (λ r. r.lines) (lines_replaced s hs nothing_replaced) (lines_made hs h nothing_replaced tt) (λ r k. k)
 
@@ -437,7 +437,7 @@ module _ (s : ContextView) where
 expansion_in : (source : List ℕ) (constants : Table) (rules : RulesView) → IfOk (expansion_of source constants rules) (ByRecursion (LineLies source))
 unfolding expansion_of
 expansion_in source constants rules =
-    after (λ r. TreeIn source r.blocks × Bodies source r.equs) (ByRecursion (LineLies source)) (expansion_by source constants rules) (heads_of source constants rules) (heads_in source constants rules)
+    after (λ r. TreeIn source r.blocks × Bodies source r.equs) (ByRecursion (LineLies source)) (expansion_by source constants rules) (first_pass source constants rules) (first_pass_in source constants rules)
     (λ r h. let s = context_of source constants rules r in
     after (AreIn source) (ByRecursion (LineLies source)) (replaced s) (unrolled s r.blocks) (unrolled_lines_in s r.blocks h.0) (λ hs i. replaced_lines_in s h.1 hs i))
 

@@ -1,6 +1,6 @@
 -- Trees of blocks, by how many lines and blocks they have.
 use Rattle.std.proofs.Common.{ℕ, suc, ◌+◌}
-use Rattle.rc_expand.specs.Heads.Tree.{BlockTree, NoLine, OneLine, Block}
+use Rattle.rc_expand.specs.Read.Tree.{BlockTree, NoLine, OneLine, Block}
 
 abbrev pub size : BlockTree → ℕ
 size NoLine = 0

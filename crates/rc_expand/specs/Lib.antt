@@ -6,7 +6,7 @@ pub mod Results
 pub mod Names
 pub mod Contexts
 pub mod NameTables
-pub mod Heads
+pub mod Read
 pub mod Unroll
 pub mod Replace
 pub mod Expansion

@@ -5,12 +5,12 @@ use Rattle.rc_text.specs.declared.token.Token.{Token}
 use Rattle.rc_text.specs.Symbols.{name_of}
 use Rattle.rc_expand.specs.declared.fault.ExpandFault.{ExpandFault}
 use Rattle.rc_expand.specs.declared.fault.ExpandKind.TheVariants.{EquTooDeep, TooManyTokens}
-use Rattle.rc_expand.specs.declared.heads.head.HeadWord.{HeadWord}
-use Rattle.rc_expand.specs.declared.heads.head.HeadWord.TheVariants as word
+use Rattle.rc_expand.specs.declared.read.raw_line.RawWord.{RawWord}
+use Rattle.rc_expand.specs.declared.read.raw_line.RawWord.TheVariants as word
 use Rattle.rc_expand.specs.Limits.{MOST_TOKENS, MOST_REPLACEMENTS, DEEPEST_EQU}
 use Rattle.rc_instr.specs.Results.{mapped, ◌>>=◌}
 use Rattle.rc_expand.specs.Results.{at_line}
-use Rattle.rc_expand.specs.Heads.Lines.{is_name_token, has_modifier}
+use Rattle.rc_expand.specs.Read.Lines.{is_name_token, has_modifier}
 use Rattle.rc_expand.specs.Names.{entry_of}
 
 -- The tokens of an EQU name, and the line that defines it.
@@ -57,7 +57,7 @@ module _ (source : List ℕ) where
 
   -- The number of tokens at the front of a line that stay as they are: in code the first, or an
   -- opcode, a dot and a modifier.
-  abbrev pub exempt_len : HeadWord → List Token → ℕ
+  abbrev pub exempt_len : RawWord → List Token → ℕ
   exempt_len word.Code ts = exempt_len_of_code ts
   exempt_len _ ts = 0
 
@@ -96,5 +96,5 @@ module _ (source : List ℕ) (equs : Equs) where
       mapped (λ r. r.tokens) (tokens_within DEEPEST_EQU ts (record { line = line; tokens = front; replacements = 0 }))
 
   -- The tokens of a line by its word: those at its front that are exempt stay as they are.
-  abbrev pub line_tokens : ℕ → HeadWord → List Token → Result (List Token) ExpandFault
+  abbrev pub line_tokens : ℕ → RawWord → List Token → Result (List Token) ExpandFault
   line_tokens line w ts = replaced_tokens line (take (exempt_len source w ts) ts) (drop (exempt_len source w ts) ts)

@@ -6,23 +6,23 @@ pub mod Reached
 pub mod Steps
 use Rattle.std.specs.Prelude.{ℕ, zero, suc, Bool, true, false, ◌&&◌, not, ◌+◌, ◌==◌, nat_lt, List, [], ◌∷◌, ◌++◌, length, Option, if◌then◌else◌, Result, Ok, Err}
 use Rattle.rc_text.specs.declared.token.Token.{Token}
-use Rattle.rc_expand.specs.declared.heads.head.Head.{Head}
-use Rattle.rc_expand.specs.declared.heads.head.HeadWord.{HeadWord}
-use Rattle.rc_expand.specs.declared.heads.head.HeadWord.TheVariants as word
+use Rattle.rc_expand.specs.declared.read.raw_line.RawLine.{RawLine}
+use Rattle.rc_expand.specs.declared.read.raw_line.RawWord.{RawWord}
+use Rattle.rc_expand.specs.declared.read.raw_line.RawWord.TheVariants as word
 use Rattle.rc_expand.specs.declared.fault.ExpandFault.{ExpandFault}
 use Rattle.rc_expand.specs.declared.fault.ExpandKind.TheVariants.{BadDirective, TooManyLines}
 use Rattle.rc_expand.specs.Limits.{MOST_LINES}
 use Rattle.rc_instr.specs.Results.{mapped, ◌>>=◌}
 use Rattle.rc_expand.specs.Results.{at_line}
 use Rattle.rc_expand.specs.Contexts.{ContextView}
-use Rattle.rc_expand.specs.Heads.Lines.{bare_line}
-use Rattle.rc_expand.specs.Heads.Tree.{BlockTree, NoLine, OneLine, Block}
+use Rattle.rc_expand.specs.Read.Lines.{bare_line}
+use Rattle.rc_expand.specs.Read.Tree.{BlockTree, NoLine, OneLine, Block}
 use Rattle.rc_expand.specs.Unroll.Copies.{BlockCopyView, is_in_block, line_in}
 use Rattle.rc_expand.specs.Unroll.Openings.{opening}
 
 -- The lines that were unrolled so far, and the number of copies of blocks that were begun.
 pub record UnrolledSoFarView : Type 0 where
-  pub lines : List Head
+  pub lines : List RawLine
   pub copy_count : ℕ
 
 abbrev pub nothing_unrolled : UnrolledSoFarView
@@ -37,8 +37,8 @@ abbrev pub has_room : UnrolledSoFarView → Bool
 has_room u = nat_lt (length u.lines + u.copy_count) MOST_LINES
 
 -- One more line, within the limit.
-abbrev pub with_line : Head → Step
-with_line h u = if has_room u then Ok (record u { lines = u.lines ++ (h ∷ []) }) else Err (at_line h.number TooManyLines)
+abbrev pub with_line : RawLine → Step
+with_line raw u = if has_room u then Ok (record u { lines = u.lines ++ (raw ∷ []) }) else Err (at_line raw.number TooManyLines)
 
 -- Counts one more copy of the block whose FOR is at this line, within the limit.
 abbrev pub with_copy : (line : ℕ) → Step
@@ -55,22 +55,22 @@ with_earlier line [] u = Ok u
 with_earlier line (l ∷ ls) u = with_line (bare_line line (l ∷ ls)) u
 
 -- A ROF has nothing before or after it on its line.
-abbrev pub is_bare_rof : Head → Bool
-is_bare_rof h = not h.spoiled && ((length h.labels == 0) && (length h.rest == 0))
+abbrev pub is_bare_rof : RawLine → Bool
+is_bare_rof raw = not raw.spoiled && ((length raw.labels == 0) && (length raw.rest == 0))
 
 -- Refuses a ROF with anything else on its line. A ROF adds no line.
-abbrev pub rof_check : Head → Step
+abbrev pub rof_check : RawLine → Step
 rof_check rof u = if is_bare_rof rof then Ok u else Err (at_line rof.number BadDirective)
 
 -- Refuses an EQU line in a block, and a spoiled line, which has a name to which a ninth counter was
 -- joined. FOR and ROF have checks of their own.
-abbrev pub word_check : (line : ℕ) → HeadWord → (in_block spoiled : Bool) → Result (Unit {0}) ExpandFault
+abbrev pub word_check : (line : ℕ) → RawWord → (in_block spoiled : Bool) → Result (Unit {0}) ExpandFault
 word_check line word.Equ true s = Err (at_line line BadDirective)
 word_check line _ b s = if s then Err (at_line line BadDirective) else Ok tt
 
 -- `word_check` of a whole line.
-abbrev pub line_check : (in_block : Bool) → Head → Result (Unit {0}) ExpandFault
-line_check b h = word_check h.number h.word b h.spoiled
+abbrev pub line_check : (in_block : Bool) → RawLine → Result (Unit {0}) ExpandFault
+line_check b raw = word_check raw.number raw.word b raw.spoiled
 
 -- One copy of a block, for its counter's number `k`. The block is in `copies`, and its FOR is at
 -- `line`; `inside` unrolls its lines.
@@ -81,13 +81,13 @@ one_copy inside copies line counter k u = do
 
 module _ (s : ContextView) where
   -- Adds a line other than FOR and ROF as it is in these copies, unless it has a fault.
-  abbrev pub one_line : List BlockCopyView → Head → Step
-  one_line copies h u = do
-    _ ← line_check (is_in_block copies) (line_in s.source copies h)
-    with_line (line_in s.source copies h) u
+  abbrev pub one_line : List BlockCopyView → RawLine → Step
+  one_line copies raw u = do
+    _ ← line_check (is_in_block copies) (line_in s.source copies raw)
+    with_line (line_in s.source copies raw) u
 
   -- A block in these copies: its FOR, the labels before the counter, its copies, and then its ROF.
-  abbrev pub one_block : (inside : List BlockCopyView → Step) → List BlockCopyView → (f rof : Head) → Step
+  abbrev pub one_block : (inside : List BlockCopyView → Step) → List BlockCopyView → (f rof : RawLine) → Step
   one_block inside copies f rof u = do
     o ← opening s (line_in s.source copies f)
     v ← with_earlier f.number o.earlier u
@@ -97,13 +97,13 @@ module _ (s : ContextView) where
   -- Lines in these copies, the outermost first.
   abbrev pub unrolled_in : BlockTree → List BlockCopyView → Step
   unrolled_in NoLine copies u = Ok u
-  unrolled_in (OneLine h rest) copies u = do
-    v ← one_line copies h u
+  unrolled_in (OneLine raw rest) copies u = do
+    v ← one_line copies raw u
     unrolled_in rest copies v
   unrolled_in (Block f inside rof rest) copies u = do
     v ← one_block (unrolled_in inside) copies f rof u
     unrolled_in rest copies v
 
   -- The second pass.
-  unfoldable pub unrolled : BlockTree → Result (List Head) ExpandFault
+  unfoldable pub unrolled : BlockTree → Result (List RawLine) ExpandFault
   unrolled b = mapped (λ u. u.lines) (unrolled_in b [] nothing_unrolled)

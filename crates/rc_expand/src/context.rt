@@ -1,9 +1,9 @@
 //! What the second and the third pass of the expansion share.
 ghost use Rattle.rc_expand.specs.NameTables.{AreLinks};
 
-use crate::heads::equs::Equ;
 use crate::name_table::NameTable;
 use crate::names::GivenNames;
+use crate::read::equs::Equ;
 use std::alloc::Global;
 
 // The source, the names given from outside of it, and its EQU names. For each EQU name the links

@@ -7,9 +7,9 @@ use crate::constants::Constants;
 use crate::context::Context;
 use crate::equ_tokens::links::link_equs;
 use crate::fault::ExpandFault;
-use crate::heads::read_heads;
 use crate::line::{Expanded, Lines};
 use crate::names::GivenNames;
+use crate::read::first_pass;
 use crate::replace::replace_lines;
 use crate::unroll::unroll;
 use rc_instr::Rules;
@@ -53,7 +53,7 @@ pub fn expand(
     ensures { Returns (λ e. e.lines) result (expansion_of source.now (table_in constants.now) rules.now) }
 {
     let names = GivenNames { constants, rules };
-    let (blocks, equs) = read_heads(alloc, source, &names)?;
+    let (blocks, equs) = first_pass(alloc, source, &names)?;
     let links = link_equs(alloc, source, &equs)?;
     let context = Context {
         alloc,

@@ -4,12 +4,12 @@ ghost use Rattle.rc_text.specs.declared.token.Token.{Token};
 ghost use Rattle.rc_instr.specs.Rules.{RulesView};
 ghost use Rattle.rc_expand.specs.declared.line.Line.{Line};
 ghost use Rattle.rc_expand.specs.declared.fault.ExpandFault.{ExpandFault};
-ghost use Rattle.rc_expand.specs.declared.heads.head.Head.{Head};
+ghost use Rattle.rc_expand.specs.declared.read.raw_line.RawLine.{RawLine};
 ghost use Rattle.rc_expand.specs.Names.{Table};
 ghost use Rattle.rc_expand.specs.Expansion.{IsExpansion, LineLies};
-ghost use Rattle.rc_expand.specs.Heads.Lines.{label_split};
-ghost use Rattle.rc_expand.specs.Heads.Tree.{BlockTree, blocks_of};
-ghost use Rattle.rc_expand.specs.Heads.Nesting.{AreBlocks};
+ghost use Rattle.rc_expand.specs.Read.Lines.{label_split};
+ghost use Rattle.rc_expand.specs.Read.Tree.{BlockTree, blocks_of};
+ghost use Rattle.rc_expand.specs.Read.Nesting.{AreBlocks};
 
 /// A text has at most one expansion.
 pub fn one_expansion()
@@ -27,7 +27,7 @@ pub fn tokens_lie_in_the_text()
 /// FOR that is open. Each text has exactly one of these.
 #[tactic(auto, using(crate::proofs::Reading::NestingSteps::said, crate::proofs::Reading::NestingSteps::found))]
 pub fn blocks_are_closed_or_have_a_fault()
-    ensures { (hs : List Head) (r : Result BlockTree ExpandFault) → blocks_of hs ≡ r ↔ AreBlocks hs r }
+    ensures { (hs : List RawLine) (r : Result BlockTree ExpandFault) → blocks_of hs ≡ r ↔ AreBlocks hs r }
 {}
 
 /// The labels of a line and the tokens after them are its tokens, in order.

@@ -1,6 +1,6 @@
 //! Expansion of Redcode: to lines without EQU names, FOR blocks and joined names.
 //!
-//! It goes in three passes, each over the whole text: `heads` reads the lines, `unroll` copies the
+//! It goes in three passes, each over the whole text: `read` reads the lines, `unroll` copies the
 //! lines of blocks, and `replace` puts the tokens of EQU names in place.
 #![tactic(auto)]
 
@@ -9,12 +9,12 @@ mod context;
 mod equ_tokens;
 mod expander;
 mod fault;
-mod heads;
 pub mod laws;
 mod limits;
 mod line;
 mod name_table;
 mod names;
+mod read;
 mod replace;
 mod tokens;
 mod unroll;

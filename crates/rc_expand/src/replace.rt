@@ -11,10 +11,10 @@ pub(crate) mod finish;
 
 use crate::context::Context;
 use crate::fault::{ExpandFault, ExpandKind, at_line};
-use crate::heads::head::{Head, HeadWord};
 use crate::line::Line;
 use crate::name_table::NameTable;
 use crate::names::is_taken;
+use crate::read::raw_line::{RawLine, RawWord};
 use crate::replace::finish::{line_of, split_labels};
 use crate::unroll::reached::Reached;
 use rc_text::Token;
@@ -62,11 +62,11 @@ fn replace_reached<'a>(
 ) -> Result<(), ExpandFault>
     ensures { Returns (λ u. out.new) result (line_replaced (seen_context context.now) reached.now out.old) }
 {
-    if let Some(head) = reached.as_written() {
-        return replace_line(out, context, head);
+    if let Some(raw) = reached.as_written() {
+        return replace_line(out, context, raw);
     }
-    let head = reached.make(context.alloc)?;
-    replace_line(out, context, &head)
+    let raw = reached.make(context.alloc)?;
+    replace_line(out, context, &raw)
 }
 
 // Defines the names of a line, and adds the line with its EQU names replaced, unless it is an EQU
@@ -74,16 +74,16 @@ fn replace_reached<'a>(
 fn replace_line<'a>(
     out: &mut LinesSoFar<'a>,
     context: &Context<'a>,
-    head: &Head,
+    raw: &RawLine,
 ) -> Result<(), ExpandFault>
-    ensures { Returns (λ u. out.new) result (line_replaced (seen_context context.now) head.now out.old) }
+    ensures { Returns (λ u. out.new) result (line_replaced (seen_context context.now) raw.now out.old) }
 {
-    let (labels, others) = split_labels(context.alloc, context.source, head.labels.as_slice())?;
-    define_names(&mut out.names, context, labels.as_slice(), head.number)?;
-    match head.word {
-        HeadWord::Equ => Ok(()),
+    let (labels, others) = split_labels(context.alloc, context.source, raw.labels.as_slice())?;
+    define_names(&mut out.names, context, labels.as_slice(), raw.number)?;
+    match raw.word {
+        RawWord::Equ => Ok(()),
         _ => {
-            let line = line_of(context, head, labels, others)?;
+            let line = line_of(context, raw, labels, others)?;
             out.lines.push(line)?;
             Ok(())
         }

@@ -1,6 +1,6 @@
 //! Tokens: copies of them, and tests of their kinds.
 ghost use Rattle.std.specs.Prelude.{◌≡◌, ◌++◌, map, ◌<◌, ◌≤◌, length, IfOk};
-ghost use Rattle.rc_expand.specs.Heads.Lines.{is_name_token, is_ampersand, is_colon, is_dot, is_unjoined};
+ghost use Rattle.rc_expand.specs.Read.Lines.{is_name_token, is_ampersand, is_colon, is_dot, is_unjoined};
 
 use crate::line::Tokens;
 use rc_text::{Kind, Sign, Token};

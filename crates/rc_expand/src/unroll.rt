@@ -4,7 +4,7 @@
 ghost use Rattle.std.specs.Prelude.{◌≡◌};
 ghost use Rattle.rc_expand.specs.Results.{Returns};
 ghost use Rattle.rc_expand.specs.Contexts.{seen_context};
-ghost use Rattle.rc_expand.specs.Heads.Tree.{tree_of};
+ghost use Rattle.rc_expand.specs.Read.Tree.{tree_of};
 ghost use Rattle.rc_expand.specs.Unroll.{with_line, with_earlier, copies_from, word_check, line_check, one_line, one_block, unrolled_in, unrolled};
 ghost use Rattle.rc_expand.specs.Unroll.Copies.{is_in_block, line_in};
 ghost use Rattle.rc_expand.specs.Unroll.Openings.{earlier_of};
@@ -18,8 +18,8 @@ pub(crate) mod unrolling;
 
 use crate::context::Context;
 use crate::fault::{ExpandFault, ExpandKind, at_line};
-use crate::heads::blocks::BlockSlice;
-use crate::heads::head::{Head, HeadWord};
+use crate::read::blocks::BlockSlice;
+use crate::read::raw_line::{RawLine, RawWord};
 use crate::unroll::opening::{check_rof, read_opening};
 use crate::unroll::reached::{
     BlockCopy, Reached, have_no_counter, inner_copies, is_short_line, line_in,
@@ -30,12 +30,12 @@ use crate::unroll::unrolling::{BlockToCopy, UnrolledSoFar};
 #[tactic(auto, unfolding(crate::specs::Unroll::unrolled))]
 pub(crate) fn unroll<'a>(
     context: &Context<'a>,
-    lines: &BlockSlice<'a>,
+    blocks: &BlockSlice<'a>,
 ) -> Result<Vec<Reached<'a>>, ExpandFault>
-    ensures { Returns (λ v. v.items) result (unrolled (seen_context context.now) (tree_of lines.now.heads.now)) }
+    ensures { Returns (λ v. v.items) result (unrolled (seen_context context.now) (tree_of blocks.now.lines.now)) }
 {
     let mut out = UnrolledSoFar::new(context.alloc);
-    append_lines(&mut out, context, &[], lines)?;
+    append_lines(&mut out, context, &[], blocks)?;
     Ok(out.into_lines())
 }
 
@@ -45,15 +45,15 @@ fn append_lines<'a>(
     out: &mut UnrolledSoFar<'a>,
     context: &Context<'a>,
     copies: &[BlockCopy<'a>],
-    lines: &BlockSlice<'a>,
+    blocks: &BlockSlice<'a>,
 ) -> Result<(), ExpandFault>
-    ensures { Returns (λ u. out.new) result (unrolled_in (seen_context context.now) (tree_of lines.now.heads.now) (copies_in copies.now) out.old) }
+    ensures { Returns (λ u. out.new) result (unrolled_in (seen_context context.now) (tree_of blocks.now.lines.now) (copies_in copies.now) out.old) }
 {
-    let mut rest = *lines;
-    while let Some((head, block, after)) = rest.split_first() {
+    let mut rest = *blocks;
+    while let Some((raw, block, after)) = rest.split_first() {
         match block {
-            None => append_line(out, context, copies, head)?,
-            Some((inside, rof)) => append_block(out, context, copies, head, &inside, rof)?,
+            None => append_line(out, context, copies, raw)?,
+            Some((inside, rof)) => append_block(out, context, copies, raw, &inside, rof)?,
         }
         rest = after;
     }
@@ -65,22 +65,22 @@ fn append_reached<'a>(
     out: &mut UnrolledSoFar<'a>,
     context: &Context<'a>,
     copies: &[BlockCopy<'a>],
-    head: &'a Head,
+    raw: &'a RawLine,
     is_earlier: bool,
 ) -> Result<(), ExpandFault>
-    ensures { Returns (λ u. out.new) result (with_line (reached_part is_earlier (line_in context.now.source.now (copies_in copies.now) head.now)) out.old) }
+    ensures { Returns (λ u. out.new) result (with_line (reached_part is_earlier (line_in context.now.source.now (copies_in copies.now) raw.now)) out.old) }
 {
-    let line = Reached::new(context, copies, head, is_earlier)?;
+    let line = Reached::new(context, copies, raw, is_earlier)?;
     out.push(line)
 }
 
 // Refuses an EQU in a block and a spoiled line. Reads only the number, the word and `spoiled`.
 // Copying changes none of these in a short line, so the line of the text will do.
-fn check_word(head: &Head, in_block: bool) -> Result<(), ExpandFault>
-    ensures { Returns (λ u. u) result (word_check head.now.number head.now.word in_block head.now.spoiled) }
+fn check_word(raw: &RawLine, in_block: bool) -> Result<(), ExpandFault>
+    ensures { Returns (λ u. u) result (word_check raw.now.number raw.now.word in_block raw.now.spoiled) }
 {
-    if head.spoiled || (in_block && head.word == HeadWord::Equ) {
-        return Err(at_line(head.number, ExpandKind::BadDirective));
+    if raw.spoiled || (in_block && raw.word == RawWord::Equ) {
+        return Err(at_line(raw.number, ExpandKind::BadDirective));
     }
     Ok(())
 }
@@ -90,15 +90,15 @@ fn check_word(head: &Head, in_block: bool) -> Result<(), ExpandFault>
 fn check_copied_line(
     context: &Context,
     copies: &[BlockCopy],
-    head: &Head,
+    raw: &RawLine,
 ) -> Result<(), ExpandFault>
-    ensures { Returns (λ u. u) result (line_check (is_in_block (copies_in copies.now)) (line_in context.now.source.now (copies_in copies.now) head.now)) }
+    ensures { Returns (λ u. u) result (line_check (is_in_block (copies_in copies.now)) (line_in context.now.source.now (copies_in copies.now) raw.now)) }
 {
     let in_block = !copies.is_empty();
-    if have_no_counter(copies) || is_short_line(head) {
-        return check_word(head, in_block);
+    if have_no_counter(copies) || is_short_line(raw) {
+        return check_word(raw, in_block);
     }
-    let made = line_in(context.alloc, context.source, copies, head)?;
+    let made = line_in(context.alloc, context.source, copies, raw)?;
     check_word(&made, in_block)
 }
 
@@ -107,12 +107,12 @@ fn append_line<'a>(
     out: &mut UnrolledSoFar<'a>,
     context: &Context<'a>,
     copies: &[BlockCopy<'a>],
-    head: &'a Head,
+    raw: &'a RawLine,
 ) -> Result<(), ExpandFault>
-    ensures { Returns (λ u. out.new) result (one_line (seen_context context.now) (copies_in copies.now) head.now out.old) }
+    ensures { Returns (λ u. out.new) result (one_line (seen_context context.now) (copies_in copies.now) raw.now out.old) }
 {
-    check_copied_line(context, copies, head)?;
-    append_reached(out, context, copies, head, false)
+    check_copied_line(context, copies, raw)?;
+    append_reached(out, context, copies, raw, false)
 }
 
 // Appends the labels before a counter as a line of their own, if there are any. `made` is the
@@ -122,16 +122,16 @@ fn append_earlier<'a>(
     out: &mut UnrolledSoFar<'a>,
     context: &Context<'a>,
     copies: &[BlockCopy<'a>],
-    head: &'a Head,
-    made: &Head,
+    raw: &'a RawLine,
+    made: &RawLine,
 ) -> Result<(), ExpandFault>
-    requires { made.now ≡ line_in context.now.source.now (copies_in copies.now) head.now }
-    ensures { Returns (λ u. out.new) result (with_earlier head.now.number (earlier_of made.now.labels) out.old) }
+    requires { made.now ≡ line_in context.now.source.now (copies_in copies.now) raw.now }
+    ensures { Returns (λ u. out.new) result (with_earlier raw.now.number (earlier_of made.now.labels) out.old) }
 {
     if made.labels.as_slice().len() < 2 {
         return Ok(());
     }
-    append_reached(out, context, copies, head, true)
+    append_reached(out, context, copies, raw, true)
 }
 
 // Appends the copy of a block for one `number` of its counter.
@@ -177,17 +177,17 @@ fn append_block<'a>(
     out: &mut UnrolledSoFar<'a>,
     context: &Context<'a>,
     copies: &[BlockCopy<'a>],
-    head: &'a Head,
+    raw: &'a RawLine,
     inside: &BlockSlice<'a>,
-    rof: &'a Head,
+    rof: &'a RawLine,
 ) -> Result<(), ExpandFault>
-    ensures { Returns (λ u. out.new) result (one_block (seen_context context.now) (unrolled_in (seen_context context.now) (tree_of inside.now.heads.now)) (copies_in copies.now) head.now rof.now out.old) }
+    ensures { Returns (λ u. out.new) result (one_block (seen_context context.now) (unrolled_in (seen_context context.now) (tree_of inside.now.lines.now)) (copies_in copies.now) raw.now rof.now out.old) }
 {
-    let made = line_in(context.alloc, context.source, copies, head)?;
+    let made = line_in(context.alloc, context.source, copies, raw)?;
     let opening = read_opening(context, &made)?;
-    append_earlier(out, context, copies, head, &made)?;
+    append_earlier(out, context, copies, raw, &made)?;
     let block = BlockToCopy {
-        line: head.number,
+        line: raw.number,
         counter: opening.counter,
         count: opening.count,
         inside: *inside,

@@ -2,7 +2,7 @@
 use Rattle.std.proofs.Common.{◌≡◌, ℕ, Bool, true, false, ◌&&◌, List, [], ◌∷◌, ◌++◌, refl, ◌∙◌, ap}
 use Rattle.std.specs.Prelude.{flat_map}
 use Rattle.rc_text.specs.declared.token.Token.{Token}
-use Rattle.rc_expand.specs.Heads.Lines.{LabelSplit, label_split, no_labels, begin_label, into_label, into_first, choose, is_free, is_ampersand, is_colon}
+use Rattle.rc_expand.specs.Read.Lines.{LabelSplit, label_split, no_labels, begin_label, into_label, into_first, choose, is_free, is_ampersand, is_colon}
 
 -- all tokens, in order
 abbrev all_tokens : LabelSplit → List Token

@@ -5,15 +5,15 @@ use Rattle.std.specs.Prelude.{Result, Ok, Err}
 use Rattle.std.proofs.lemmas.List.{append-nil}
 use Rattle.std.proofs.lemmas.Bool.Decides.{nat_tests}
 use Rattle.rc_expand.specs.Limits.{DEEPEST_BLOCK}
-use Rattle.rc_expand.specs.declared.heads.head.Head.{Head}
-use Rattle.rc_expand.specs.declared.heads.head.HeadWord.{HeadWord}
-use Rattle.rc_expand.specs.declared.heads.head.HeadWord.TheVariants as word
+use Rattle.rc_expand.specs.declared.read.raw_line.RawLine.{RawLine}
+use Rattle.rc_expand.specs.declared.read.raw_line.RawWord.{RawWord}
+use Rattle.rc_expand.specs.declared.read.raw_line.RawWord.TheVariants as word
 use Rattle.rc_expand.specs.declared.fault.ExpandFault.{ExpandFault}
 use Rattle.rc_expand.specs.declared.fault.ExpandKind.TheVariants.{ForTooDeep}
 use Rattle.rc_instr.specs.Results.{mapped}
 use Rattle.rc_expand.specs.Results.{at_line}
-use Rattle.rc_expand.specs.Heads.Tree.{BlockTree, NoLine, OneLine, Block, lines_of, Parts, line_before, rof_before, for_before, parts_by, parts_from, blocks_of}
-use Rattle.rc_expand.specs.Heads.Nesting.{opens_or_closes, IsNested, Open, open_lines, AreOpen, outermost_line, AreBlocks}
+use Rattle.rc_expand.specs.Read.Tree.{BlockTree, NoLine, OneLine, Block, lines_of, Parts, line_before, rof_before, for_before, parts_by, parts_from, blocks_of}
+use Rattle.rc_expand.specs.Read.Nesting.{opens_or_closes, IsNested, Open, open_lines, AreOpen, outermost_line, AreBlocks}
 
 -- ---- trees after one another
 
@@ -53,11 +53,11 @@ none_before : (n : ℕ) (p : Parts n) → tree_before NoLine n p ≡ p
 none_before zero p = refl
 none_before (suc n) p = refl
 
-line_is_tree : (h : Head) (b : BlockTree) (n : ℕ) (p : Parts n) → line_before h n (tree_before b n p) ≡ tree_before (OneLine h b) n p
+line_is_tree : (h : RawLine) (b : BlockTree) (n : ℕ) (p : Parts n) → line_before h n (tree_before b n p) ≡ tree_before (OneLine h b) n p
 line_is_tree h b zero p = refl
 line_is_tree h b (suc n) p = refl
 
-block_is_tree : (f r : Head) (i b : BlockTree) (n : ℕ) (p : Parts n) → for_before f n (tree_before i (suc n) (rof_before r n (tree_before b n p))) ≡ tree_before (Block f i r b) n p
+block_is_tree : (f r : RawLine) (i b : BlockTree) (n : ℕ) (p : Parts n) → for_before f n (tree_before i (suc n) (rof_before r n (tree_before b n p))) ≡ tree_before (Block f i r b) n p
 block_is_tree f r i b zero p = ap (λ x. Block f x r (join b p)) (join_none i)
 block_is_tree f r i b (suc n) p = ap (λ x. record { inside = Block f x r (join b p.inside); closes = p.closes; after = p.after }) (join_none i)
 
@@ -73,13 +73,13 @@ mapped_twice f g k (Err e) h = refl
 
 -- ---- one line
 
-pub at_word : (h : Head) (w : HeadWord) (n line : ℕ) (hs : List Head) → h.word ≡ w → parts_from (h ∷ hs) n line ≡ parts_by w h n line (λ m l. parts_from hs m l)
+pub at_word : (h : RawLine) (w : RawWord) (n line : ℕ) (hs : List RawLine) → h.word ≡ w → parts_from (h ∷ hs) n line ≡ parts_by w h n line (λ m l. parts_from hs m l)
 at_word h w n line hs e = ap (λ v. parts_by v h n line (λ m l. parts_from hs m l)) e
 
 -- a line that is neither FOR nor ROF
-pub at_line_alone : (h : Head) (n line : ℕ) (hs : List Head) → opens_or_closes h.word ≡ false → parts_from (h ∷ hs) n line ≡ mapped (line_before h n) (parts_from hs n line)
+pub at_line_alone : (h : RawLine) (n line : ℕ) (hs : List RawLine) → opens_or_closes h.word ≡ false → parts_from (h ∷ hs) n line ≡ mapped (line_before h n) (parts_from hs n line)
 at_line_alone h n line hs = by_word h.word where
-  by_word : (w : HeadWord) → opens_or_closes w ≡ false → parts_by w h n line (λ m l. parts_from hs m l) ≡ mapped (line_before h n) (parts_from hs n line)
+  by_word : (w : RawWord) → opens_or_closes w ≡ false → parts_by w h n line (λ m l. parts_from hs m l) ≡ mapped (line_before h n) (parts_from hs n line)
   by_word word.Bare e = refl
   by_word word.Code e = refl
   by_word word.Org e = refl
@@ -90,20 +90,20 @@ at_line_alone h n line hs = by_word h.word where
   by_word word.Rof e = cc
 
 -- the line of the outermost open block after a FOR
-abbrev pub opened_line : Head → (n line : ℕ) → ℕ
+abbrev pub opened_line : RawLine → (n line : ℕ) → ℕ
 opened_line f zero line = f.number
 opened_line f (suc n) line = line
 
 -- a FOR where there is room
-pub at_for : (f : Head) (n line : ℕ) (hs : List Head) → f.word ≡ word.For → nat_lt n DEEPEST_BLOCK ≡ true → parts_from (f ∷ hs) n line ≡ mapped (for_before f n) (parts_from hs (suc n) (opened_line f n line))
+pub at_for : (f : RawLine) (n line : ℕ) (hs : List RawLine) → f.word ≡ word.For → nat_lt n DEEPEST_BLOCK ≡ true → parts_from (f ∷ hs) n line ≡ mapped (for_before f n) (parts_from hs (suc n) (opened_line f n line))
 at_for f zero line hs w room = at_word f word.For zero line hs w
 at_for f (suc n) line hs w room = at_word f word.For (suc n) line hs w ∙ rw room refl
 
 -- where no block is open it does not matter which was the last outermost one
-any_outermost : (hs : List Head) (a b : ℕ) → parts_from hs 0 a ≡ parts_from hs 0 b
+any_outermost : (hs : List RawLine) (a b : ℕ) → parts_from hs 0 a ≡ parts_from hs 0 b
 any_outermost [] a b = refl
 any_outermost (h ∷ hs) a b = by_word h.word (any_outermost hs a b) where
-  by_word : (w : HeadWord) → parts_from hs 0 a ≡ parts_from hs 0 b → parts_by w h 0 a (λ m o. parts_from hs m o) ≡ parts_by w h 0 b (λ m o. parts_from hs m o)
+  by_word : (w : RawWord) → parts_from hs 0 a ≡ parts_from hs 0 b → parts_by w h 0 a (λ m o. parts_from hs m o) ≡ parts_by w h 0 b (λ m o. parts_from hs m o)
   by_word word.For same = refl
   by_word word.Rof same = refl
   by_word word.Bare same = ap (mapped (line_before h 0)) same
@@ -113,13 +113,13 @@ any_outermost (h ∷ hs) a b = by_word h.word (any_outermost hs a b) where
   by_word word.Assert same = ap (mapped (line_before h 0)) same
   by_word word.Equ same = ap (mapped (line_before h 0)) same
 
-after_block : (f : Head) (n line : ℕ) (hs : List Head) → parts_from hs n (opened_line f n line) ≡ parts_from hs n line
+after_block : (f : RawLine) (n line : ℕ) (hs : List RawLine) → parts_from hs n (opened_line f n line) ≡ parts_from hs n line
 after_block f zero line hs = any_outermost hs f.number line
 after_block f (suc n) line hs = refl
 
 -- ---- closed lines are passed over
 
-pub passed_over : (b : BlockTree) (k n line : ℕ) (rest : List Head) → IsNested k b → n + k ≤ DEEPEST_BLOCK → parts_from (lines_of b ++ rest) n line ≡ mapped (tree_before b n) (parts_from rest n line)
+pub passed_over : (b : BlockTree) (k n line : ℕ) (rest : List RawLine) → IsNested k b → n + k ≤ DEEPEST_BLOCK → parts_from (lines_of b ++ rest) n line ≡ mapped (tree_before b n) (parts_from rest n line)
 passed_over NoLine k n line rest i e = sym (mapped_same (tree_before NoLine n) (parts_from rest n line) (none_before n))
 passed_over (OneLine h b) k n line rest i e =
     at_line_alone h n line (lines_of b ++ rest) i.0
@@ -173,7 +173,7 @@ counted [] n i = omega (arith, i)
 counted (x ∷ xs) n i = let e : length xs + suc n ≡ DEEPEST_BLOCK = counted xs (suc n) i.0 in omega (arith, e)
 
 -- lines with open blocks lead to the state that counts them
-opened_to : (xs : List Open) (c : BlockTree) (n : ℕ) (rest : List Head) → AreOpen n xs → IsNested n c
+opened_to : (xs : List Open) (c : BlockTree) (n : ℕ) (rest : List RawLine) → AreOpen n xs → IsNested n c
     → parts_from ((open_lines xs ++ lines_of c) ++ rest) 0 0 ≡ mapped (whole xs c) (parts_from rest (length xs) (outermost_or xs 0))
 opened_to [] c n rest i j = passed_over c n 0 0 rest j (omega (arith, i))
 opened_to (x ∷ xs) c n rest i j =
@@ -200,7 +200,7 @@ opened_to (x ∷ xs) c n rest i j =
 
 -- ---- what the trees say is what is read
 
-pub found : (hs : List Head) (r : Result BlockTree ExpandFault) → AreBlocks hs r → blocks_of hs ≡ r
+pub found : (hs : List RawLine) (r : Result BlockTree ExpandFault) → AreBlocks hs r → blocks_of hs ≡ r
 found hs (Ok b) a = ap (λ ls. parts_from ls 0 0) a.1 ∙ tree_of_lines b DEEPEST_BLOCK a.0 (omega arith)
 found hs (Err f) (inl r) =
     ap (λ ls. parts_from ls 0 0) r.lines
@@ -211,7 +211,7 @@ found hs (Err f) (inr (inl r)) =
     ∙ (opened_to r.opened r.inside 0 (r.ninth ∷ r.after) r.are_open r.nests
     ∙ (ap (mapped (whole r.opened r.inside)) (ninth r.opened r.ninth r.after r.are_open r.is_for) ∙ ap (λ g. Err g) (sym r.fault)))
   where
-    ninth : (xs : List Open) (h : Head) (rest : List Head) → AreOpen 0 xs → h.word ≡ word.For → parts_from (h ∷ rest) (length xs) (outermost_or xs 0) ≡ Err (at_line h.number ForTooDeep)
+    ninth : (xs : List Open) (h : RawLine) (rest : List RawLine) → AreOpen 0 xs → h.word ≡ word.For → parts_from (h ∷ rest) (length xs) (outermost_or xs 0) ≡ Err (at_line h.number ForTooDeep)
     ninth [] h rest i w = let e : 0 ≡ DEEPEST_BLOCK = i in absurd (omega (arith, e))
     ninth (x ∷ xs) h rest i w =
         let e : suc (length xs) + 0 ≡ DEEPEST_BLOCK = counted (x ∷ xs) 0 i in
@@ -223,11 +223,11 @@ found hs (Err f) (inr (inr r)) =
 
 -- ---- what is read is what the trees say
 
-moved : (a b : List Head) (x y : Result BlockTree ExpandFault) → a ≡ b → x ≡ y → AreBlocks a x → AreBlocks b y
+moved : (a b : List RawLine) (x y : Result BlockTree ExpandFault) → a ≡ b → x ≡ y → AreBlocks a x → AreBlocks b y
 moved a b x y e f t = subst (λ l. AreBlocks l y) e (subst (AreBlocks a) f t)
 
 -- what is told of lines that were read and of those that follow
-abbrev Told : List Head → Type 0
+abbrev Told : List RawLine → Type 0
 Told hs = (xs : List Open) (c : BlockTree) (n : ℕ) → AreOpen n xs → IsNested n c → AreBlocks ((open_lines xs ++ lines_of c) ++ hs) (mapped (whole xs c) (parts_from hs (length xs) (outermost_or xs 0)))
 
 at_end : Told []
@@ -246,7 +246,7 @@ at_end (x ∷ xs) c n i j =
       fault = refl;
     })
 
-module _ (h : Head) (hs : List Head) (next : Told hs) where
+module _ (h : RawLine) (hs : List RawLine) (next : Told hs) where
   -- more closed lines in the same blocks
   closed_more : (xs : List Open) (c d : BlockTree) (n : ℕ) → AreOpen n xs → IsNested n c → IsNested n d
       → AreBlocks ((open_lines xs ++ lines_of c) ++ (lines_of d ++ hs)) (mapped (whole xs c) (mapped (tree_before d (length xs)) (parts_from hs (length xs) (outermost_or xs 0))))
@@ -348,7 +348,7 @@ module _ (h : Head) (hs : List Head) (next : Told hs) where
 
   one_more : Told (h ∷ hs)
   one_more xs c n i j = by_word h.word refl where
-    by_word : (w : HeadWord) → h.word ≡ w → AreBlocks ((open_lines xs ++ lines_of c) ++ (h ∷ hs)) (mapped (whole xs c) (parts_from (h ∷ hs) (length xs) (outermost_or xs 0)))
+    by_word : (w : RawWord) → h.word ≡ w → AreBlocks ((open_lines xs ++ lines_of c) ++ (h ∷ hs)) (mapped (whole xs c) (parts_from (h ∷ hs) (length xs) (outermost_or xs 0)))
     by_word word.For e = opening xs c n i j e
     by_word word.Rof e = closing xs c n i j e
     by_word word.Bare e = plain xs c n i j (ap opens_or_closes e)
@@ -358,12 +358,12 @@ module _ (h : Head) (hs : List Head) (next : Told hs) where
     by_word word.Assert e = plain xs c n i j (ap opens_or_closes e)
     by_word word.Equ e = plain xs c n i j (ap opens_or_closes e)
 
-told : (hs : List Head) → Told hs
+told : (hs : List RawLine) → Told hs
 told [] = at_end
 told (h ∷ hs) = one_more h hs (told hs)
 
-tree_or_fault : (hs : List Head) → AreBlocks hs (blocks_of hs)
+tree_or_fault : (hs : List RawLine) → AreBlocks hs (blocks_of hs)
 tree_or_fault hs = subst (AreBlocks hs) (mapped_same (λ b. b) (blocks_of hs) (λ b. refl)) (told hs [] NoLine DEEPEST_BLOCK refl tt)
 
-pub said : (hs : List Head) (r : Result BlockTree ExpandFault) → blocks_of hs ≡ r → AreBlocks hs r
+pub said : (hs : List RawLine) (r : Result BlockTree ExpandFault) → blocks_of hs ≡ r → AreBlocks hs r
 said hs r e = subst (AreBlocks hs) e (tree_or_fault hs)

@@ -3,12 +3,12 @@ use Rattle.std.proofs.Common.{◌≡◌, ℕ, zero, suc, false, List, [], ◌∷
 use Rattle.std.specs.Prelude.{Result, Ok, Err}
 use Rattle.std.proofs.Math.Seq.{take-append_seam, drop-append-add, get_or-append_seam}
 use Rattle.rc_expand.specs.Limits.{DEEPEST_BLOCK}
-use Rattle.rc_expand.specs.declared.heads.head.Head.{Head}
-use Rattle.rc_expand.specs.declared.heads.head.HeadWord.TheVariants as word
+use Rattle.rc_expand.specs.declared.read.raw_line.RawLine.{RawLine}
+use Rattle.rc_expand.specs.declared.read.raw_line.RawWord.TheVariants as word
 use Rattle.rc_expand.specs.declared.fault.ExpandFault.{ExpandFault}
 use Rattle.rc_instr.specs.Results.{mapped}
-use Rattle.rc_expand.specs.Heads.Tree.{BlockTree, NoLine, OneLine, Block, lines_of, distances, blocks_of, blocks_or_none, tree_of, HaveDistances}
-use Rattle.rc_expand.specs.Heads.Nesting.{opens_or_closes, IsNested}
+use Rattle.rc_expand.specs.Read.Tree.{BlockTree, NoLine, OneLine, Block, lines_of, distances, blocks_of, blocks_or_none, tree_of, HaveDistances}
+use Rattle.rc_expand.specs.Read.Nesting.{opens_or_closes, IsNested}
 use Rattle.rc_expand.proofs.Reading.NestingSteps.{said, tree_of_lines}
 
 -- there is a distance for each line
@@ -28,14 +28,14 @@ more_room zero (Block f i r b) h = absurd h
 more_room (suc n) (Block f i r b) h = (h.0, more_room n i h.1, h.2, more_room (suc n) b h.3)
 
 -- lines with a tree, and its distances
-pub record Paired (hs : List Head) (ds : List ℕ) : Type 0 where
+pub record Paired (hs : List RawLine) (ds : List ℕ) : Type 0 where
   pub tree : BlockTree
   pub nests : IsNested DEEPEST_BLOCK tree
   pub lines : hs ≡ lines_of tree
   pub distances_are : ds ≡ distances tree
 
 -- such lines are those of their tree
-pub paired : (hs : List Head) (ds : List ℕ) → HaveDistances hs ds → Paired hs ds
+pub paired : (hs : List RawLine) (ds : List ℕ) → HaveDistances hs ds → Paired hs ds
 paired hs ds h = by_result (blocks_of hs) refl h where
   or_none : Result (List ℕ) ExpandFault → List ℕ
   or_none (Ok x) = x
@@ -60,15 +60,15 @@ pub distances_found : (b : BlockTree) (n : ℕ) → IsNested n b → n ≤ DEEPE
 distances_found b n i e = ap (mapped distances) (tree_of_lines b n i e)
 
 -- the first line is a FOR, with its distance: what lies before and after its ROF
-pub record IsBlock (hs : List Head) (ds : List ℕ) (h : Head) (d : ℕ) : Type 0 where
+pub record IsBlock (hs : List RawLine) (ds : List ℕ) (h : RawLine) (d : ℕ) : Type 0 where
   pub low : 1 ≤ d
   pub high : d < length hs
   pub same : length ds ≡ length hs
   pub inside : HaveDistances (take (d - 1) (drop 1 hs)) (take (d - 1) (drop 1 ds))
   pub after : HaveDistances (drop (d + 1) hs) (drop (d + 1) ds)
-  pub tree : (x : Head) → tree_of hs ≡ Block h (tree_of (take (d - 1) (drop 1 hs))) (get_or hs d x) (tree_of (drop (d + 1) hs))
+  pub tree : (x : RawLine) → tree_of hs ≡ Block h (tree_of (take (d - 1) (drop 1 hs))) (get_or hs d x) (tree_of (drop (d + 1) hs))
 
-block_there : (f r : Head) (i b : BlockTree) → IsNested DEEPEST_BLOCK (Block f i r b)
+block_there : (f r : RawLine) (i b : BlockTree) → IsNested DEEPEST_BLOCK (Block f i r b)
     → IsBlock (lines_of (Block f i r b)) (distances (Block f i r b)) f (suc (length (distances i)))
 block_there f r i b n =
     let d = suc (length (distances i)) in
@@ -83,7 +83,7 @@ block_there f r i b n =
     let inner : take (d - 1) (distances i ++ (0 ∷ distances b)) ≡ distances i = ap (λ k. take k (distances i ++ (0 ∷ distances b))) g ∙ take-append_seam (distances i) (0 ∷ distances b) in
     let later_lines : drop (d + 1) (f ∷ (l ++ (r ∷ m))) ≡ m = ap (λ k. drop k (f ∷ (l ++ (r ∷ m)))) p ∙ drop-append-add l (r ∷ m) 1 in
     let later : drop (d + 1) (d ∷ (distances i ++ (0 ∷ distances b))) ≡ distances b = ap (λ k. drop k (d ∷ (distances i ++ (0 ∷ distances b)))) q ∙ drop-append-add (distances i) (0 ∷ distances b) 1 in
-    let closes : (x : Head) → get_or (f ∷ (l ++ (r ∷ m))) d x ≡ r = λ x. ap (λ k. get_or (l ++ (r ∷ m)) k x) s ∙ get_or-append_seam l r m x in
+    let closes : (x : RawLine) → get_or (f ∷ (l ++ (r ∷ m))) d x ≡ r = λ x. ap (λ k. get_or (l ++ (r ∷ m)) k x) s ∙ get_or-append_seam l r m x in
     record {
       low = omega arith;
       high = omega (arith, s, length-append l (r ∷ m));
@@ -98,7 +98,7 @@ block_there f r i b n =
     }
 
 -- lines that begin with a FOR begin with its block
-pub first_block : (hs : List Head) (ds : List ℕ) (h : Head) (hs' : List Head) → HaveDistances hs ds → hs ≡ h ∷ hs' → h.word ≡ word.For → IsBlock hs ds h (get_or ds 0 0)
+pub first_block : (hs : List RawLine) (ds : List ℕ) (h : RawLine) (hs' : List RawLine) → HaveDistances hs ds → hs ≡ h ∷ hs' → h.word ≡ word.For → IsBlock hs ds h (get_or ds 0 0)
 first_block hs ds h hs' k e w =
     let p = paired hs ds k in
     subst (λ l. IsBlock l ds h (get_or ds 0 0)) (sym p.lines)
@@ -115,12 +115,12 @@ first_block hs ds h hs' k e w =
         subst (λ x. IsBlock (lines_of (Block f i r b)) (distances (Block f i r b)) x (suc (length (distances i)))) same (block_there f r i b n)
 
 -- the first line is no FOR: it is alone, and the lines after it
-pub record IsLine (hs : List Head) (ds : List ℕ) (h : Head) : Type 0 where
+pub record IsLine (hs : List RawLine) (ds : List ℕ) (h : RawLine) : Type 0 where
   pub same : length ds ≡ length hs
   pub after : HaveDistances (drop 1 hs) (drop 1 ds)
   pub tree : tree_of hs ≡ OneLine h (tree_of (drop 1 hs))
 
-pub first_line : (hs : List Head) (ds : List ℕ) (h : Head) (hs' : List Head) → HaveDistances hs ds → hs ≡ h ∷ hs' → (h.word ≡ word.For → ⊥) → IsLine hs ds h
+pub first_line : (hs : List RawLine) (ds : List ℕ) (h : RawLine) (hs' : List RawLine) → HaveDistances hs ds → hs ≡ h ∷ hs' → (h.word ≡ word.For → ⊥) → IsLine hs ds h
 first_line hs ds h hs' k e w =
     let p = paired hs ds k in
     subst (λ l. IsLine l ds h) (sym p.lines)
@@ -138,6 +138,6 @@ first_line hs ds h hs' k e w =
     by_tree (Block f i r b) n l = let same : f ≡ h = ap (λ x. get_or x 0 f) l in absurd (w (ap (λ x. x.word) (sym same) ∙ n.0))
 
 -- lines without a first one
-pub no_first : (hs : List Head) → length hs ≡ 0 → tree_of hs ≡ NoLine
+pub no_first : (hs : List RawLine) → length hs ≡ 0 → tree_of hs ≡ NoLine
 no_first [] e = refl
 no_first (h ∷ hs) e = absurd (omega (arith, e))

@@ -6,7 +6,7 @@ use Rattle.rc_text.specs.Headers.{header_of}
 use Rattle.rc_text.specs.Tokens.{tokens_of, new_lexer, line_after, LexerView}
 use Rattle.rc_expand.specs.declared.fault.ExpandKind.TheVariants.{Text}
 use Rattle.rc_expand.specs.Results.{at_line}
-use Rattle.rc_expand.specs.Heads.Faults.{ending_line, text_fault}
+use Rattle.rc_expand.specs.Read.Faults.{ending_line, text_fault}
 
 -- what lies ahead ends as the text does, and at the same line
 abbrev pub Follows : List ℕ → LexerView → Type 0

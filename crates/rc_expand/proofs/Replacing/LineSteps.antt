@@ -6,16 +6,16 @@ use Rattle.rc_text.specs.declared.token.Token.{Token}
 use Rattle.rc_text.specs.Symbols.{name_of}
 use Rattle.rc_expand.specs.declared.fault.ExpandFault.{ExpandFault}
 use Rattle.rc_expand.specs.declared.fault.ExpandKind.TheVariants.{DuplicateName}
-use Rattle.rc_expand.specs.declared.heads.head.Head.{Head}
-use Rattle.rc_expand.specs.declared.heads.head.HeadWord.{HeadWord}
-use Rattle.rc_expand.specs.declared.heads.head.HeadWord.TheVariants as word
+use Rattle.rc_expand.specs.declared.read.raw_line.RawLine.{RawLine}
+use Rattle.rc_expand.specs.declared.read.raw_line.RawWord.{RawWord}
+use Rattle.rc_expand.specs.declared.read.raw_line.RawWord.TheVariants as word
 use Rattle.rc_expand.specs.declared.line.Line.{Line}
 use Rattle.rc_instr.specs.Results.{mapped, and_then}
 use Rattle.rc_expand.specs.Results.{at_line}
 use Rattle.rc_expand.specs.Contexts.{ContextView}
 use Rattle.rc_expand.specs.Names.{entry_of, is_among, is_taken}
 use Rattle.rc_expand.specs.NameTables.{with_name, names_in}
-use Rattle.rc_expand.specs.Heads.Lines.{label_token}
+use Rattle.rc_expand.specs.Read.Lines.{label_token}
 use Rattle.rc_expand.specs.Replace.Lines.{own_labels, own_label_then, other_labels, others_here_or_later, line_of, names_of, with_names, LinesSoFarView, with_expanded_line, line_added, line_replaced, lines_replaced, nothing_replaced, replaced}
 use Rattle.rc_expand.proofs.Each.{split_at}
 use Rattle.rc_expand.proofs.Reading.TableFound.{seen_found, name_new as is_pushed}
@@ -74,7 +74,7 @@ module _ {A : Type 0} (s : ContextView) (number : ℕ) (name : List ℕ) (table 
 
 module _ (s : ContextView) where
   -- the names of a line are new, and the line is made
-  pub line_made : (h : Head) (r : LinesSoFarView) (names : List (List ℕ)) (l : Line) (lines : List Line) → with_names s h.number (names_of s.source h) r.names ≡ Ok names → h.word ≢ word.Equ → line_of s.source s.equs h ≡ Ok l
+  pub line_made : (h : RawLine) (r : LinesSoFarView) (names : List (List ℕ)) (l : Line) (lines : List Line) → with_names s h.number (names_of s.source h) r.names ≡ Ok names → h.word ≢ word.Equ → line_of s.source s.equs h ≡ Ok l
       → lines ≡ r.lines ++ (l ∷ []) → line_replaced s h r ≡ Ok (record { names = names; lines = lines })
   line_made h r names l lines d w e p =
       ap (and_then (line_added s h.word h r.lines)) d
@@ -82,12 +82,12 @@ module _ (s : ContextView) where
       ∙ ap (mapped (with_expanded_line r.lines names)) e
       ∙ (λ x. Ok (record { names = names; lines = sym p x }))
     where
-      by_word : (v : HeadWord) → v ≢ word.Equ → line_added s v h r.lines names ≡ mapped (with_expanded_line r.lines names) (line_of s.source s.equs h)
+      by_word : (v : RawWord) → v ≢ word.Equ → line_added s v h r.lines names ≡ mapped (with_expanded_line r.lines names) (line_of s.source s.equs h)
       by_word word.Equ w = absurd (w refl)
       by_word _ w = refl
 
-  module _ (hs : List Head) (i : ℕ) (r : LinesSoFarView) where
-    module _ (one : Head) (some : i < length hs) (is : one ≡ get_or hs i one) where
+  module _ (hs : List RawLine) (i : ℕ) (r : LinesSoFarView) where
+    module _ (one : RawLine) (some : i < length hs) (is : one ≡ get_or hs i one) where
       -- one line, and the lines after it
       line_step : lines_replaced s (drop i hs) r ≡ and_then (lines_replaced s (drop (i + 1) hs)) (line_replaced s one r)
       line_step = ap (λ ls. lines_replaced s ls r) (split_at hs i one some is)
@@ -103,6 +103,6 @@ module _ (s : ContextView) where
     lines_end h = ap (λ ls. lines_replaced s ls r) (drop_all i hs h)
 
   -- the lines of the definition
-  pub all_replaced : (hs : List Head) (r : Result LinesSoFarView ExpandFault) (o : Result (List Line) ExpandFault) → lines_replaced s hs nothing_replaced ≡ r → mapped (λ x. x.lines) r ≡ o → replaced s hs ≡ o
+  pub all_replaced : (hs : List RawLine) (r : Result LinesSoFarView ExpandFault) (o : Result (List Line) ExpandFault) → lines_replaced s hs nothing_replaced ≡ r → mapped (λ x. x.lines) r ≡ o → replaced s hs ≡ o
   unfolding replaced
   all_replaced hs r o h k = ap (mapped (λ x. x.lines)) h ∙ k

@@ -5,7 +5,7 @@ use Rattle.std.proofs.lemmas.List.{drop-drop}
 use Rattle.std.proofs.lemmas.Bool.Decides.{nat_tests}
 use Rattle.rc_text.specs.declared.token.Token.{Token}
 use Rattle.rc_expand.specs.Limits.{MOST_JOINED}
-use Rattle.rc_expand.specs.Heads.Lines.{is_name_token, is_ampersand, has_modifier}
+use Rattle.rc_expand.specs.Read.Lines.{is_name_token, is_ampersand, has_modifier}
 use Rattle.rc_expand.specs.Unroll.Copies.{is_counter, with_number, joins, with_counter, copied_from, copied_tokens, copied_code}
 
 -- an item and what follows it

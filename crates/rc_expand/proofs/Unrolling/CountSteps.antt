@@ -7,14 +7,14 @@ use Rattle.rc_text.specs.declared.fault.EvalFault.{EvalFault}
 use Rattle.rc_text.specs.Symbols.{symbols_of}
 use Rattle.rc_text.specs.Values.{Meaning}
 use Rattle.rc_text.specs.Reading.{evaluation_of}
-use Rattle.rc_expand.specs.declared.heads.head.Head.{Head}
+use Rattle.rc_expand.specs.declared.read.raw_line.RawLine.{RawLine}
 use Rattle.rc_expand.specs.declared.fault.ExpandFault.{ExpandFault}
 use Rattle.rc_expand.specs.declared.fault.ExpandKind.TheVariants.{BadDirective, CountRefused}
 use Rattle.rc_instr.specs.Results.{mapped, and_then}
 use Rattle.rc_expand.specs.Results.{at_line}
 use Rattle.rc_expand.specs.Replace.{replaced_tokens}
 use Rattle.rc_expand.specs.Contexts.{ContextView}
-use Rattle.rc_expand.specs.Heads.Lines.{plain_token}
+use Rattle.rc_expand.specs.Read.Lines.{plain_token}
 use Rattle.rc_expand.specs.Unroll.Openings.{counter_fault_kind, counter_of, earlier_of, limited_count, opening_with_counter, count_of, opening, counter_name}
 use Rattle.rc_expand.specs.Names.{given_names}
 
@@ -51,7 +51,7 @@ module _ (s : ContextView) (line : ℕ) (ts : List Token) where
   unfolding count_of
   count_refused f e = ap (and_then counted_in) e
 
-module _ (s : ContextView) (f : Head) where
+module _ (s : ContextView) (f : RawLine) where
   -- a spoiled FOR
   pub opening_spoiled : f.spoiled ≡ true → opening s f ≡ Err (at_line f.number BadDirective)
   unfolding opening

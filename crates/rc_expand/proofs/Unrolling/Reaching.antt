@@ -5,58 +5,58 @@ use Rattle.std.proofs.lemmas.Bool.{and_parts}
 use Rattle.std.proofs.lemmas.Bool.Decides.{nat_tests}
 use Rattle.std.specs.Prelude.{Ok, option_map, is_none, not, ◌==◌}
 use Rattle.rc_text.specs.declared.token.Token.{Token}
-use Rattle.rc_expand.specs.declared.heads.head.Head.{Head}
+use Rattle.rc_expand.specs.declared.read.raw_line.RawLine.{RawLine}
 use Rattle.rc_expand.specs.declared.unroll.reached.BlockCopy.{BlockCopy}
-use Rattle.rc_expand.specs.Heads.Lines.{bare_line}
+use Rattle.rc_expand.specs.Read.Lines.{bare_line}
 use Rattle.rc_expand.specs.Unroll.{word_check, line_check, UnrolledSoFarView, with_line, with_earlier}
 use Rattle.rc_expand.specs.Unroll.Copies.{BlockCopyView, is_in_block, or_spoiled, copied_line, line_in_copy, line_in, all_of, copied_tokens, copied_rest}
 use Rattle.rc_expand.specs.Unroll.Reached.{seen_block_copy, copies_in, have_no_counter, reached_part}
 use Rattle.rc_expand.specs.Unroll.Openings.{earlier_of}
 
 module _ (source : List ℕ) where
-  spoiled_word : (h : Head) (a : Option (List (List Token))) (b : Option (List Token)) → (or_spoiled source h a b).word ≡ h.word
+  spoiled_word : (h : RawLine) (a : Option (List (List Token))) (b : Option (List Token)) → (or_spoiled source h a b).word ≡ h.word
   spoiled_word h None b = refl
   spoiled_word h (Some a) None = refl
   spoiled_word h (Some a) (Some b) = refl
 
-  copied_word : (counter : Option (List ℕ)) (k : ℕ) (h : Head) → (line_in_copy source counter k h).word ≡ h.word
+  copied_word : (counter : Option (List ℕ)) (k : ℕ) (h : RawLine) → (line_in_copy source counter k h).word ≡ h.word
   unfolding copied_line
   copied_word None k h = refl
   copied_word (Some counter) k h = spoiled_word h (all_of (copied_tokens source counter k) h.labels) (copied_rest source counter k h.word h.rest)
 
   -- a copy has the word of its line
-  pub word_in : (cs : List BlockCopyView) (h : Head) → (line_in source cs h).word ≡ h.word
+  pub word_in : (cs : List BlockCopyView) (h : RawLine) → (line_in source cs h).word ≡ h.word
   word_in [] h = refl
   word_in (c ∷ cs) h = word_in cs (line_in_copy source c.counter c.number h) ∙ copied_word c.counter c.number h
 
   -- and its number
-  spoiled_number : (h : Head) (a : Option (List (List Token))) (b : Option (List Token)) → (or_spoiled source h a b).number ≡ h.number
+  spoiled_number : (h : RawLine) (a : Option (List (List Token))) (b : Option (List Token)) → (or_spoiled source h a b).number ≡ h.number
   spoiled_number h None b = refl
   spoiled_number h (Some a) None = refl
   spoiled_number h (Some a) (Some b) = refl
 
-  copied_number : (counter : Option (List ℕ)) (k : ℕ) (h : Head) → (line_in_copy source counter k h).number ≡ h.number
+  copied_number : (counter : Option (List ℕ)) (k : ℕ) (h : RawLine) → (line_in_copy source counter k h).number ≡ h.number
   unfolding copied_line
   copied_number None k h = refl
   copied_number (Some counter) k h = spoiled_number h (all_of (copied_tokens source counter k) h.labels) (copied_rest source counter k h.word h.rest)
 
-  pub number_in : (cs : List BlockCopyView) (h : Head) → (line_in source cs h).number ≡ h.number
+  pub number_in : (cs : List BlockCopyView) (h : RawLine) → (line_in source cs h).number ≡ h.number
   number_in [] h = refl
   number_in (c ∷ cs) h = number_in cs (line_in_copy source c.counter c.number h) ∙ copied_number c.counter c.number h
 
-  pub part_number : (cs : List BlockCopyView) (b : Bool) (h : Head) → (reached_part b (line_in source cs h)).number ≡ h.number
+  pub part_number : (cs : List BlockCopyView) (b : Bool) (h : RawLine) → (reached_part b (line_in source cs h)).number ≡ h.number
   part_number cs true h = number_in cs h
   part_number cs false h = number_in cs h
 
   -- so a line that is as spoiled as before is checked as before
-  pub checked_in : (cs : List BlockCopyView) (b : Bool) (h : Head) → (line_in source cs h).spoiled ≡ h.spoiled → word_check h.number h.word b h.spoiled ≡ line_check b (line_in source cs h)
+  pub checked_in : (cs : List BlockCopyView) (b : Bool) (h : RawLine) → (line_in source cs h).spoiled ≡ h.spoiled → word_check h.number h.word b h.spoiled ≡ line_check b (line_in source cs h)
   checked_in cs b h e =
       ap (λ n. word_check n h.word b h.spoiled) (sym (number_in cs h))
       ∙ (ap (λ w. word_check (line_in source cs h).number w b h.spoiled) (sym (word_in cs h))
       ∙ ap (λ s. word_check (line_in source cs h).number (line_in source cs h).word b s) (sym e))
 
   -- one copy more
-  pub line_more : (cs : List BlockCopyView) (c : BlockCopyView) (h : Head) → line_in source (cs ++ (c ∷ [])) h ≡ line_in_copy source c.counter c.number (line_in source cs h)
+  pub line_more : (cs : List BlockCopyView) (c : BlockCopyView) (h : RawLine) → line_in source (cs ++ (c ∷ [])) h ≡ line_in_copy source c.counter c.number (line_in source cs h)
   line_more [] c h = refl
   line_more (d ∷ cs) c h = line_more cs c (line_in_copy source d.counter d.number h)
 
@@ -83,19 +83,19 @@ no_earlier number (l ∷ []) u h = refl
 no_earlier number (l ∷ m ∷ ls) u h = absurd (omega arith)
 
 -- a line in one copy more
-pub copies_more : (source : List ℕ) (cs : List BlockCopy) (i : ℕ) (c : BlockCopy) (h : Head) → i < length cs
+pub copies_more : (source : List ℕ) (cs : List BlockCopy) (i : ℕ) (c : BlockCopy) (h : RawLine) → i < length cs
     → line_in source (copies_in (take (i + 1) cs)) h ≡ line_in_copy source (option_map (λ b. b.now) (get_or cs i c).counter) (get_or cs i c).number (line_in source (copies_in (take i cs)) h)
 copies_more source cs i c h e =
     ap (λ l. line_in source (copies_in l) h) (take_more cs i c e)
     ∙ (ap (λ l. line_in source l h) (seen_more (take i cs) (get_or cs i c))
     ∙ line_more source (copies_in (take i cs)) (seen_block_copy (get_or cs i c)) h)
 
-no_counter : {A : Type 0} (f : A → List ℕ) (o : Option A) (source : List ℕ) (k : ℕ) (h : Head) → is_none o ≡ true → line_in_copy source (option_map f o) k h ≡ h
+no_counter : {A : Type 0} (f : A → List ℕ) (o : Option A) (source : List ℕ) (k : ℕ) (h : RawLine) → is_none o ≡ true → line_in_copy source (option_map f o) k h ≡ h
 no_counter f None source k h e = refl
 no_counter f (Some counter) source k h e = absurd (cc)
 
 -- in copies without a counter it is the line itself
-pub uncounted : (source : List ℕ) (cs : List BlockCopy) (h : Head) → have_no_counter cs ≡ true → line_in source (copies_in cs) h ≡ h
+pub uncounted : (source : List ℕ) (cs : List BlockCopy) (h : RawLine) → have_no_counter cs ≡ true → line_in source (copies_in cs) h ≡ h
 uncounted source [] h e = refl
 uncounted source (c ∷ cs) h e =
     let p = and_parts (is_none c.counter) (have_no_counter cs) e in

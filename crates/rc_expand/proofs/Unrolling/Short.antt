@@ -6,11 +6,11 @@ use Rattle.std.proofs.lemmas.Bool.{and_parts, le-leb, leb-true, lt-ltb}
 use Rattle.rc_text.specs.declared.token.Token.{Token}
 use Rattle.rc_text.specs.declared.token.Kind.TheVariants.{Number}
 use Rattle.rc_expand.specs.Limits.{MOST_JOINED}
-use Rattle.rc_expand.specs.declared.heads.head.Head.{Head}
-use Rattle.rc_expand.specs.declared.heads.head.HeadWord.{HeadWord}
-use Rattle.rc_expand.specs.declared.heads.head.HeadWord.TheVariants as word
+use Rattle.rc_expand.specs.declared.read.raw_line.RawLine.{RawLine}
+use Rattle.rc_expand.specs.declared.read.raw_line.RawWord.{RawWord}
+use Rattle.rc_expand.specs.declared.read.raw_line.RawWord.TheVariants as word
 use Rattle.rc_expand.specs.declared.unroll.reached.BlockCopy.{BlockCopy}
-use Rattle.rc_expand.specs.Heads.Lines.{has_modifier}
+use Rattle.rc_expand.specs.Read.Lines.{has_modifier}
 use Rattle.rc_expand.specs.Unroll.Copies.{BlockCopyView, line_in_copy, line_in, is_counter, with_number, joins, with_counter, copied_from, copied_tokens, copied_code, copied_rest, copied_line, or_spoiled, all_of, stays_joinable, is_short, is_short_line}
 use Rattle.rc_expand.specs.Unroll.Reached.{copies_in}
 use Rattle.rc_expand.proofs.Unrolling.Copies.{from_list, passed_list}
@@ -155,7 +155,7 @@ module _ (source counter : List ℕ) (k : ℕ) where
               (both_have m v c.tokens (omega (arith, room_of n v r.0, c.shorter)) (ap (λ y. all_have_room y c.tokens) x ∙ c.room)));
         }
 
-  short_rest : (w : HeadWord) (ts : List Token) → is_short ts ≡ true → Shortened (copied_rest source counter k w ts)
+  short_rest : (w : RawWord) (ts : List Token) → is_short ts ≡ true → Shortened (copied_rest source counter k w ts)
   short_rest word.Code ts h = short_code ts h
   short_rest _ ts h = short_tokens ts h
 
@@ -178,16 +178,16 @@ module _ (source counter : List ℕ) (k : ℕ) where
       }
 
   -- a copy of a short line is as spoiled as the line, and short
-  copied_is : (h : Head) (ls : List (List Token)) (ts : List Token) → all_of (copied_tokens source counter k) h.labels ≡ Some ls → copied_rest source counter k h.word h.rest ≡ Some ts
+  copied_is : (h : RawLine) (ls : List (List Token)) (ts : List Token) → all_of (copied_tokens source counter k) h.labels ≡ Some ls → copied_rest source counter k h.word h.rest ≡ Some ts
       → copied_line source counter k h ≡ record h { labels = ls; rest = ts }
   unfolding copied_line
   copied_is h ls ts e f = ap (λ a. or_spoiled source h a (copied_rest source counter k h.word h.rest)) e ∙ ap (or_spoiled source h (Some ls)) f
 
-  pub record StaysShort (h : Head) : Type 0 where
+  pub record StaysShort (h : RawLine) : Type 0 where
     pub spoiled : (copied_line source counter k h).spoiled ≡ h.spoiled
     pub short : is_short_line (copied_line source counter k h) ≡ true
 
-  stays_short : (h : Head) → is_short_line h ≡ true → StaysShort h
+  stays_short : (h : RawLine) → is_short_line h ≡ true → StaysShort h
   stays_short h s =
       let p = and_parts (list_all is_short h.labels) (is_short h.rest) s in
       let a = short_labels h.labels p.0 in
@@ -197,10 +197,10 @@ module _ (source counter : List ℕ) (k : ℕ) where
       record { spoiled = ap (λ x. x.spoiled) e; short = ap is_short_line e ∙ t }
 
 -- a short line is as spoiled as it was, in whatever copies
-pub short_in : (source : List ℕ) (cs : List BlockCopyView) (h : Head) → is_short_line h ≡ true → (line_in source cs h).spoiled ≡ h.spoiled
+pub short_in : (source : List ℕ) (cs : List BlockCopyView) (h : RawLine) → is_short_line h ≡ true → (line_in source cs h).spoiled ≡ h.spoiled
 short_in source [] h s = refl
 short_in source (c ∷ cs) h s = by_counter c.counter (λ g t. short_in source cs g t) where
-  by_counter : (o : Option (List ℕ)) → ((g : Head) → is_short_line g ≡ true → (line_in source cs g).spoiled ≡ g.spoiled) → (line_in source cs (line_in_copy source o c.number h)).spoiled ≡ h.spoiled
+  by_counter : (o : Option (List ℕ)) → ((g : RawLine) → is_short_line g ≡ true → (line_in source cs g).spoiled ≡ g.spoiled) → (line_in source cs (line_in_copy source o c.number h)).spoiled ≡ h.spoiled
   by_counter None ih = ih h s
   by_counter (Some counter) ih =
       let st = stays_short source counter c.number h s in

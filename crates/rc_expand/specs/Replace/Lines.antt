@@ -3,9 +3,9 @@
 use Rattle.std.specs.Prelude.{ℕ, ◌||◌, List, [], ◌∷◌, ◌++◌, map, Option, Some, None, if◌then◌else◌, option_to_list, flat_map, Result, Ok, Err}
 use Rattle.rc_text.specs.declared.token.Token.{Token}
 use Rattle.rc_text.specs.Symbols.{name_of}
-use Rattle.rc_expand.specs.declared.heads.head.Head.{Head}
-use Rattle.rc_expand.specs.declared.heads.head.HeadWord.{HeadWord}
-use Rattle.rc_expand.specs.declared.heads.head.HeadWord.TheVariants as word
+use Rattle.rc_expand.specs.declared.read.raw_line.RawLine.{RawLine}
+use Rattle.rc_expand.specs.declared.read.raw_line.RawWord.{RawWord}
+use Rattle.rc_expand.specs.declared.read.raw_line.RawWord.TheVariants as word
 use Rattle.rc_expand.specs.declared.line.Line.{Line}
 use Rattle.rc_expand.specs.declared.line.LineWord.{LineWord}
 use Rattle.rc_expand.specs.declared.line.LineWord.TheVariants as line
@@ -15,10 +15,10 @@ use Rattle.rc_instr.specs.Results.{mapped, ◌>>=◌}
 use Rattle.rc_expand.specs.Results.{at_line}
 use Rattle.rc_expand.specs.Contexts.{ContextView}
 use Rattle.rc_expand.specs.Names.{is_among, is_taken}
-use Rattle.rc_expand.specs.Heads.Lines.{label_token}
+use Rattle.rc_expand.specs.Read.Lines.{label_token}
 use Rattle.rc_expand.specs.Replace.{Equs, line_tokens}
 
-abbrev pub line_word : HeadWord → LineWord
+abbrev pub line_word : RawWord → LineWord
 line_word word.Bare = line.Bare
 line_word word.Org = line.Org
 line_word word.End = line.End
@@ -44,25 +44,25 @@ module _ (source : List ℕ) where
   other_labels [] = []
   other_labels (l ∷ ls) = others_here_or_later (label_token source l) (l ∷ ls) (other_labels ls)
 
-  abbrev pub expanded_line : Head → HeadWord → List Token → Line
-  expanded_line h w tokens = record { number = h.number; labels = own_labels h.labels; word = line_word w; tokens = tokens }
+  abbrev pub expanded_line : RawLine → RawWord → List Token → Line
+  expanded_line raw w tokens = record { number = raw.number; labels = own_labels raw.labels; word = line_word w; tokens = tokens }
 
-  abbrev pub made_line : Equs → Head → HeadWord → List Token → Result Line ExpandFault
-  made_line equs h w tokens = mapped (expanded_line h w) (line_tokens source equs h.number w tokens)
+  abbrev pub made_line : Equs → RawLine → RawWord → List Token → Result Line ExpandFault
+  made_line equs raw w tokens = mapped (expanded_line raw w) (line_tokens source equs raw.number w tokens)
 
   -- If a would-be label is not a single name, the line is code, and begins with the tokens of that
   -- label.
-  abbrev pub line_with_others : Equs → Head → List (List Token) → Result Line ExpandFault
-  line_with_others equs h [] = made_line equs h h.word h.rest
-  line_with_others equs h (l ∷ ls) = made_line equs h word.Code (flat_map (λ x. x) (l ∷ ls) ++ (option_to_list h.directive ++ h.rest))
+  abbrev pub line_with_others : Equs → RawLine → List (List Token) → Result Line ExpandFault
+  line_with_others equs raw [] = made_line equs raw raw.word raw.rest
+  line_with_others equs raw (l ∷ ls) = made_line equs raw word.Code (flat_map (λ x. x) (l ∷ ls) ++ (option_to_list raw.directive ++ raw.rest))
 
   -- A line with its EQU names replaced.
-  unfoldable pub line_of : Equs → Head → Result Line ExpandFault
-  line_of equs h = line_with_others equs h (other_labels h.labels)
+  unfoldable pub line_of : Equs → RawLine → Result Line ExpandFault
+  line_of equs raw = line_with_others equs raw (other_labels raw.labels)
 
   -- The names that a line defines: its labels, or its EQU name.
-  abbrev pub names_of : Head → List (List ℕ)
-  names_of h = map (name_of source) (own_labels h.labels)
+  abbrev pub names_of : RawLine → List (List ℕ)
+  names_of raw = map (name_of source) (own_labels raw.labels)
 
 -- The names defined so far, and the lines of the expansion.
 pub record LinesSoFarView : Type 0 where
@@ -84,22 +84,22 @@ module _ (s : ContextView) where
       if is_taken s.constants s.rules n || is_among before n then Err (at_line number DuplicateName) else with_names number ns (before ++ (n ∷ []))
 
   -- Drops an EQU line, and adds any other.
-  abbrev pub line_added : HeadWord → Head → List Line → List (List ℕ) → Result LinesSoFarView ExpandFault
-  line_added word.Equ h lines names = Ok (record { names = names; lines = lines })
-  line_added _ h lines names = mapped (with_expanded_line lines names) (line_of s.source s.equs h)
+  abbrev pub line_added : RawWord → RawLine → List Line → List (List ℕ) → Result LinesSoFarView ExpandFault
+  line_added word.Equ raw lines names = Ok (record { names = names; lines = lines })
+  line_added _ raw lines names = mapped (with_expanded_line lines names) (line_of s.source s.equs raw)
 
   -- Adds a line: first its names, then its tokens.
-  abbrev pub line_replaced : Head → LinesSoFarView → Result LinesSoFarView ExpandFault
-  line_replaced h r = do
-    names ← with_names h.number (names_of s.source h) r.names
-    line_added h.word h r.lines names
+  abbrev pub line_replaced : RawLine → LinesSoFarView → Result LinesSoFarView ExpandFault
+  line_replaced raw r = do
+    names ← with_names raw.number (names_of s.source raw) r.names
+    line_added raw.word raw r.lines names
 
-  abbrev pub lines_replaced : List Head → LinesSoFarView → Result LinesSoFarView ExpandFault
+  abbrev pub lines_replaced : List RawLine → LinesSoFarView → Result LinesSoFarView ExpandFault
   lines_replaced [] r = Ok r
-  lines_replaced (h ∷ hs) r = do
-    next ← line_replaced h r
-    lines_replaced hs next
+  lines_replaced (raw ∷ raws) r = do
+    next ← line_replaced raw r
+    lines_replaced raws next
 
   -- The third pass.
-  unfoldable pub replaced : List Head → Result (List Line) ExpandFault
-  replaced hs = mapped (λ r. r.lines) (lines_replaced hs nothing_replaced)
+  unfoldable pub replaced : List RawLine → Result (List Line) ExpandFault
+  replaced raws = mapped (λ r. r.lines) (lines_replaced raws nothing_replaced)

@@ -6,11 +6,11 @@ use Rattle.std.specs.Str.{bytes_eq}
 use Rattle.rc_text.specs.declared.token.Kind.TheVariants.{Number}
 use Rattle.rc_text.specs.declared.token.Token.{Token}
 use Rattle.rc_text.specs.Symbols.{name_of}
-use Rattle.rc_expand.specs.declared.heads.head.Head.{Head}
-use Rattle.rc_expand.specs.declared.heads.head.HeadWord.{HeadWord}
-use Rattle.rc_expand.specs.declared.heads.head.HeadWord.TheVariants as word
+use Rattle.rc_expand.specs.declared.read.raw_line.RawLine.{RawLine}
+use Rattle.rc_expand.specs.declared.read.raw_line.RawWord.{RawWord}
+use Rattle.rc_expand.specs.declared.read.raw_line.RawWord.TheVariants as word
 use Rattle.rc_expand.specs.Limits.{MOST_JOINED}
-use Rattle.rc_expand.specs.Heads.Lines.{choose, is_name_token, is_ampersand, has_modifier}
+use Rattle.rc_expand.specs.Read.Lines.{choose, is_name_token, is_ampersand, has_modifier}
 
 -- A copy of a block: the counter of the block, if it has one, and the counter's number.
 pub record BlockCopyView : Type 0 where
@@ -74,29 +74,29 @@ module _ (source : List ℕ) where
   copied_code counter k ts = copied_tokens counter k ts
 
   -- What comes after the labels, by the word of the line.
-  abbrev pub copied_rest : List ℕ → ℕ → HeadWord → List Token → Option (List Token)
+  abbrev pub copied_rest : List ℕ → ℕ → RawWord → List Token → Option (List Token)
   copied_rest counter k word.Code ts = copied_code counter k ts
   copied_rest counter k _ ts = copied_tokens counter k ts
 
   -- If a ninth counter would be joined to a name, the line is spoiled: its labels and what comes
   -- after them are dropped.
-  abbrev pub or_spoiled : Head → Option (List (List Token)) → Option (List Token) → Head
-  or_spoiled h (Some labels) (Some rest) = record h { labels = labels; rest = rest }
-  or_spoiled h _ _ = record h { labels = []; rest = []; spoiled = true }
+  abbrev pub or_spoiled : RawLine → Option (List (List Token)) → Option (List Token) → RawLine
+  or_spoiled raw (Some labels) (Some rest) = record raw { labels = labels; rest = rest }
+  or_spoiled raw _ _ = record raw { labels = []; rest = []; spoiled = true }
 
   -- A line in the copy for `k`.
-  unfoldable pub copied_line : List ℕ → ℕ → Head → Head
-  copied_line counter k h = or_spoiled h (all_of (copied_tokens counter k) h.labels) (copied_rest counter k h.word h.rest)
+  unfoldable pub copied_line : List ℕ → ℕ → RawLine → RawLine
+  copied_line counter k raw = or_spoiled raw (all_of (copied_tokens counter k) raw.labels) (copied_rest counter k raw.word raw.rest)
 
   -- A line in one copy of a block; without a counter it stays as it is.
-  abbrev pub line_in_copy : Option (List ℕ) → ℕ → Head → Head
-  line_in_copy None k h = h
-  line_in_copy (Some counter) k h = copied_line counter k h
+  abbrev pub line_in_copy : Option (List ℕ) → ℕ → RawLine → RawLine
+  line_in_copy None k raw = raw
+  line_in_copy (Some counter) k raw = copied_line counter k raw
 
   -- A line in copies, the outermost first.
-  abbrev pub line_in : List BlockCopyView → Head → Head
-  line_in [] h = h
-  line_in (c ∷ cs) h = line_in cs (line_in_copy c.counter c.number h)
+  abbrev pub line_in : List BlockCopyView → RawLine → RawLine
+  line_in [] raw = raw
+  line_in (c ∷ cs) raw = line_in cs (line_in_copy c.counter c.number raw)
 
 -- No ninth counter can be joined to the token, one of `n` tokens, in however many copies: each
 -- counter that is joined takes two tokens away.
@@ -108,5 +108,5 @@ abbrev pub is_short : List Token → Bool
 is_short ts = list_all (stays_joinable (length ts)) ts
 
 -- The line is too short for a ninth counter to be joined to a name of it.
-abbrev pub is_short_line : Head → Bool
-is_short_line h = list_all is_short h.labels && is_short h.rest
+abbrev pub is_short_line : RawLine → Bool
+is_short_line raw = list_all is_short raw.labels && is_short raw.rest

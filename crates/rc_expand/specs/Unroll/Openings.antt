@@ -7,7 +7,7 @@ use Rattle.rc_text.specs.declared.token.Kind.TheVariants.{Number}
 use Rattle.rc_text.specs.declared.token.Token.{Token}
 use Rattle.rc_text.specs.Symbols.{name_of, symbols_of}
 use Rattle.rc_text.specs.Reading.{evaluation_of}
-use Rattle.rc_expand.specs.declared.heads.head.Head.{Head}
+use Rattle.rc_expand.specs.declared.read.raw_line.RawLine.{RawLine}
 use Rattle.rc_expand.specs.declared.fault.ExpandFault.{ExpandFault}
 use Rattle.rc_expand.specs.declared.fault.ExpandKind.{ExpandKind}
 use Rattle.rc_expand.specs.declared.fault.ExpandKind.TheVariants.{DuplicateName, BadDirective, CountRefused}
@@ -17,7 +17,7 @@ use Rattle.rc_instr.specs.Results.{mapped, ◌>>=◌}
 use Rattle.rc_expand.specs.Results.{at_line}
 use Rattle.rc_expand.specs.Names.{entry_of, given_names, is_taken}
 use Rattle.rc_expand.specs.Contexts.{ContextView}
-use Rattle.rc_expand.specs.Heads.Lines.{is_colon, is_unjoined, plain_token}
+use Rattle.rc_expand.specs.Read.Lines.{is_colon, is_unjoined, plain_token}
 use Rattle.rc_expand.specs.Replace.{EquView, replaced_tokens}
 
 -- What a FOR says.
@@ -33,7 +33,7 @@ earlier_of (l ∷ []) = []
 earlier_of (l ∷ m ∷ ls) = l ∷ earlier_of (m ∷ ls)
 
 -- The view of an opening. Its earlier labels are those of its FOR `f`.
-abbrev pub seen_opening : (f : Head) → Opening → OpeningView
+abbrev pub seen_opening : (f : RawLine) → Opening → OpeningView
 seen_opening f s = record { counter = option_map (λ b. b.now) s.counter; earlier = earlier_of f.labels; count = s.count }
 
 -- The count of a value: 0 if that is below 1, None if it is above the limit.
@@ -87,12 +87,12 @@ module _ (s : ContextView) where
       unless_equ line (name_of s.source t) (entry_of s.equs (name_of s.source t))
 
   -- What a FOR with this counter says, unless its count is refused.
-  abbrev pub opening_with_counter : Head → Option (List ℕ) → Result OpeningView ExpandFault
+  abbrev pub opening_with_counter : RawLine → Option (List ℕ) → Result OpeningView ExpandFault
   opening_with_counter f name = mapped (λ n. record { counter = name; earlier = earlier_of f.labels; count = n }) (count_of f.number f.rest)
 
   -- What a FOR says, or its fault: that of the counter comes before that of the count. A FOR is
   -- spoiled if a ninth counter would be joined to a name in it; that is `BadDirective`.
-  unfoldable pub opening : Head → Result OpeningView ExpandFault
+  unfoldable pub opening : RawLine → Result OpeningView ExpandFault
   opening f =
       if f.spoiled then Err (at_line f.number BadDirective) else
       counter_of s.source f.number f.labels >>= counter_name f.number >>= opening_with_counter f

@@ -2,9 +2,9 @@
 -- it is in.
 use Rattle.std.specs.Prelude.{Bool, true, false, List, map, option_map, is_none}
 use Rattle.std.specs.List.{list_all}
-use Rattle.rc_expand.specs.declared.heads.head.Head.{Head}
+use Rattle.rc_expand.specs.declared.read.raw_line.RawLine.{RawLine}
 use Rattle.rc_expand.specs.declared.unroll.reached.BlockCopy.{BlockCopy}
-use Rattle.rc_expand.specs.Heads.Lines.{bare_line}
+use Rattle.rc_expand.specs.Read.Lines.{bare_line}
 use Rattle.rc_expand.specs.Unroll.Copies.{BlockCopyView}
 use Rattle.rc_expand.specs.Unroll.Openings.{earlier_of}
 
@@ -20,6 +20,6 @@ abbrev pub have_no_counter : List BlockCopy → Bool
 have_no_counter cs = list_all (λ c. is_none c.counter) cs
 
 -- A line itself, or the line of the labels before the counter of a FOR.
-abbrev pub reached_part : (is_earlier : Bool) → Head → Head
-reached_part true h = bare_line h.number (earlier_of h.labels)
-reached_part false h = h
+abbrev pub reached_part : (is_earlier : Bool) → RawLine → RawLine
+reached_part true raw = bare_line raw.number (earlier_of raw.labels)
+reached_part false raw = raw

@@ -4,8 +4,8 @@ ghost use Rattle.std.specs.Prelude.{◌≡◌, All, IfOk, IfSome, option_map, ma
 ghost use Rattle.rc_expand.specs.Replace.{equ_in};
 ghost use Rattle.rc_expand.specs.NameTables.{at_index, AreIndices, AreLinks};
 
-use crate::heads::equs::Equ;
 use crate::name_table::NameTable;
+use crate::read::equs::Equ;
 use crate::tokens::is_name_token;
 use rc_text::Token;
 use std::alloc::{AllocError, Global};

@@ -7,10 +7,10 @@ ghost use Rattle.rc_expand.specs.Replace.Lines.{line_word, own_labels, other_lab
 use crate::context::Context;
 use crate::equ_tokens::replace_tokens;
 use crate::fault::ExpandFault;
-use crate::heads::head::{Head, HeadWord};
-use crate::heads::labels::label_token;
-use crate::heads::words::has_modifier;
 use crate::line::{Line, LineWord, Tokens};
+use crate::read::labels::label_token;
+use crate::read::raw_line::{RawLine, RawWord};
+use crate::read::words::has_modifier;
 use crate::tokens::clone_token;
 use rc_text::Token;
 use std::alloc::{AllocError, Global};
@@ -42,19 +42,19 @@ pub(crate) fn split_labels<'a>(
 #[tactic(auto, unfolding(crate::specs::Replace::Lines::line_of))]
 pub(crate) fn line_of(
     context: &Context,
-    head: &Head,
+    raw: &RawLine,
     labels: Tokens,
     others: &[Tokens],
 ) -> Result<Line, ExpandFault>
-    requires labels { labels ≡ own_labels context.now.source.now head.now.labels }
-    requires others { others.now ≡ other_labels context.now.source.now head.now.labels }
-    ensures { Returns (λ l. l) result (line_of context.now.source.now context.now.equs.now head.now) }
+    requires labels { labels ≡ own_labels context.now.source.now raw.now.labels }
+    requires others { others.now ≡ other_labels context.now.source.now raw.now.labels }
+    ensures { Returns (λ l. l) result (line_of context.now.source.now context.now.equs.now raw.now) }
 {
     if others.is_empty() {
-        return made_line(context, head, labels, head.word, head.rest.as_slice());
+        return made_line(context, raw, labels, raw.word, raw.rest.as_slice());
     }
-    let tokens = as_code_tokens(context.alloc, others, &head.directive, head.rest.as_slice())?;
-    made_line(context, head, labels, HeadWord::Code, &tokens)
+    let tokens = as_code_tokens(context.alloc, others, &raw.directive, raw.rest.as_slice())?;
+    made_line(context, raw, labels, RawWord::Code, &tokens)
 }
 
 // Concatenates the tokens of a line whose would-be labels are code: theirs, then the directive,
@@ -97,17 +97,17 @@ fn push_tokens(all: &mut Vec<Token>, tokens: &[Token]) -> Result<(), AllocError>
 // Makes a line of the expansion from `tokens`, with their EQU names replaced.
 fn made_line(
     context: &Context,
-    head: &Head,
+    raw: &RawLine,
     labels: Tokens,
-    word: HeadWord,
+    word: RawWord,
     tokens: &[Token],
 ) -> Result<Line, ExpandFault>
-    requires { labels ≡ own_labels context.now.source.now head.now.labels }
-    ensures { Returns (λ l. l) result (made_line context.now.source.now context.now.equs.now head.now word tokens.now) }
+    requires { labels ≡ own_labels context.now.source.now raw.now.labels }
+    ensures { Returns (λ l. l) result (made_line context.now.source.now context.now.equs.now raw.now word tokens.now) }
 {
-    let tokens = line_tokens(context, head.number, word, tokens)?;
+    let tokens = line_tokens(context, raw.number, word, tokens)?;
     Ok(Line {
-        number: head.number,
+        number: raw.number,
         labels,
         word: line_word(word),
         tokens,
@@ -118,7 +118,7 @@ fn made_line(
 fn line_tokens(
     context: &Context,
     line: u64,
-    word: HeadWord,
+    word: RawWord,
     tokens: &[Token],
 ) -> Result<Tokens, ExpandFault>
     ensures { Returns (λ t. t) result (line_tokens context.now.source.now context.now.equs.now line word tokens.now) }
@@ -130,12 +130,12 @@ fn line_tokens(
 }
 
 // Counts the tokens that EQU names do not replace at the front of a line.
-fn exempt_len(source: &[u8], word: HeadWord, tokens: &[Token]) -> usize
+fn exempt_len(source: &[u8], word: RawWord, tokens: &[Token]) -> usize
     ensures exempt { result ≡ exempt_len source.now word tokens.now }
     ensures room { result ≤ length tokens.now }
 {
     match word {
-        HeadWord::Code => exempt_len_of_code(source, tokens),
+        RawWord::Code => exempt_len_of_code(source, tokens),
         _ => 0,
     }
 }
@@ -158,14 +158,14 @@ fn exempt_len_of_code(source: &[u8], tokens: &[Token]) -> usize
 }
 
 // Converts the word of a line. Anything that is left and not a directive is code.
-fn line_word(word: HeadWord) -> LineWord
+fn line_word(word: RawWord) -> LineWord
     ensures { result ≡ line_word word }
 {
     match word {
-        HeadWord::Bare => LineWord::Bare,
-        HeadWord::Org => LineWord::Org,
-        HeadWord::End => LineWord::End,
-        HeadWord::Assert => LineWord::Assert,
+        RawWord::Bare => LineWord::Bare,
+        RawWord::Org => LineWord::Org,
+        RawWord::End => LineWord::End,
+        RawWord::Assert => LineWord::Assert,
         _ => LineWord::Code,
     }
 }

@@ -1,13 +1,13 @@
 //! Copying the lines of a block, with the number of its counter put in.
 ghost use Rattle.std.specs.Prelude.{◌≡◌, List, ℕ, ◌++◌, ◌∷◌, ◌+◌, ◌<◌, ◌≤◌, ◌^◌, ◌&&◌, length, drop, map, option_map, option_and_then, IsTrue, All, IfOk, IfSome};
-ghost use Rattle.rc_expand.specs.Heads.Lines.{is_name_token, is_ampersand};
+ghost use Rattle.rc_expand.specs.Read.Lines.{is_name_token, is_ampersand};
 ghost use Rattle.rc_expand.specs.Unroll.Copies.{is_counter, with_number, joins, copied_tokens, BeginsCopy, copied_code, copied_rest, copied_line, all_of};
 
-use crate::heads::head::{Head, HeadWord, Labels};
-use crate::heads::words::has_modifier;
 use crate::limits::MOST_JOINED;
 use crate::line::Tokens;
 use crate::names::spells;
+use crate::read::raw_line::{Labels, RawLine, RawWord};
+use crate::read::words::has_modifier;
 use crate::tokens::{clone_token, clone_tokens, is_ampersand, is_name_token, with_front};
 use rc_text::{Kind, Token};
 use std::alloc::{AllocError, Global};
@@ -81,26 +81,26 @@ pub(crate) fn copy_line(
     source: &[u8],
     counter: &[u8],
     number: u16,
-    head: &Head,
-) -> Result<Head, AllocError>
-    ensures { IfOk result (λ h. h ≡ copied_line source.now counter.now number head.now) }
+    raw: &RawLine,
+) -> Result<RawLine, AllocError>
+    ensures { IfOk result (λ h. h ≡ copied_line source.now counter.now number raw.now) }
 {
-    let directive = clone_directive(&head.directive)?;
-    let labels = copy_labels(alloc, source, counter, number, &head.labels)?;
-    let rest = copy_rest(alloc, source, counter, number, head)?;
+    let directive = clone_directive(&raw.directive)?;
+    let labels = copy_labels(alloc, source, counter, number, &raw.labels)?;
+    let rest = copy_rest(alloc, source, counter, number, raw)?;
     match (labels, rest) {
-        (Some(labels), Some(rest)) => Ok(Head {
-            number: head.number,
+        (Some(labels), Some(rest)) => Ok(RawLine {
+            number: raw.number,
             labels,
-            word: head.word,
+            word: raw.word,
             directive,
             rest,
-            spoiled: head.spoiled,
+            spoiled: raw.spoiled,
         }),
-        _ => Ok(Head {
-            number: head.number,
+        _ => Ok(RawLine {
+            number: raw.number,
             labels: Labels::none(alloc),
-            word: head.word,
+            word: raw.word,
             directive,
             rest: Tokens::from_vec(Vec::new(alloc)),
             spoiled: true,
@@ -118,19 +118,19 @@ pub(crate) fn clone_labels(alloc: Global, labels: &[Tokens]) -> Result<Labels, A
     Ok(cloned)
 }
 
-pub(crate) fn clone_head(alloc: Global, head: &Head) -> Result<Head, AllocError>
-    ensures { IfOk result (λ h. h ≡ head.now) }
+pub(crate) fn clone_raw_line(alloc: Global, raw: &RawLine) -> Result<RawLine, AllocError>
+    ensures { IfOk result (λ h. h ≡ raw.now) }
 {
-    let labels = clone_labels(alloc, head.labels.as_slice())?;
-    let directive = clone_directive(&head.directive)?;
-    let rest = clone_tokens(alloc, head.rest.as_slice())?;
-    Ok(Head {
-        number: head.number,
+    let labels = clone_labels(alloc, raw.labels.as_slice())?;
+    let directive = clone_directive(&raw.directive)?;
+    let rest = clone_tokens(alloc, raw.rest.as_slice())?;
+    Ok(RawLine {
+        number: raw.number,
         labels,
-        word: head.word,
+        word: raw.word,
         directive,
         rest,
-        spoiled: head.spoiled,
+        spoiled: raw.spoiled,
     })
 }
 
@@ -195,13 +195,13 @@ fn copy_rest(
     source: &[u8],
     counter: &[u8],
     number: u16,
-    head: &Head,
+    raw: &RawLine,
 ) -> Result<Option<Tokens>, AllocError>
-    ensures { IfOk result (λ o. o ≡ copied_rest source.now counter.now number head.now.word head.now.rest) }
+    ensures { IfOk result (λ o. o ≡ copied_rest source.now counter.now number raw.now.word raw.now.rest) }
 {
-    match head.word {
-        HeadWord::Code => copy_code(alloc, source, counter, number, head.rest.as_slice()),
-        _ => copy_tokens(alloc, source, counter, number, head.rest.as_slice()),
+    match raw.word {
+        RawWord::Code => copy_code(alloc, source, counter, number, raw.rest.as_slice()),
+        _ => copy_tokens(alloc, source, counter, number, raw.rest.as_slice()),
     }
 }
 

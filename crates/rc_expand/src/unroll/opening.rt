@@ -9,12 +9,12 @@ ghost use Rattle.rc_expand.specs.Unroll.Openings.{is_plain_number, is_enclosing_
 use crate::context::Context;
 use crate::equ_tokens::replace_tokens;
 use crate::fault::{ExpandFault, ExpandKind, at_line};
-use crate::heads::equs::equ_line;
-use crate::heads::head::{Head, Labels};
-use crate::heads::labels::plain_token;
 use crate::limits::MOST_COPIES;
 use crate::line::Tokens;
 use crate::names::is_taken;
+use crate::read::equs::equ_line;
+use crate::read::labels::plain_token;
+use crate::read::raw_line::{Labels, RawLine};
 use crate::tokens::{is_colon, is_unjoined};
 use crate::unroll::copy::clone_labels;
 use rc_text::{Kind, Token, eval, text_of};
@@ -31,16 +31,16 @@ pub(crate) struct Opening<'a> {
 #[tactic(auto, unfolding(crate::specs::Unroll::Openings::opening))]
 pub(crate) fn read_opening<'a>(
     context: &Context<'a>,
-    head: &Head,
+    raw: &RawLine,
 ) -> Result<Opening<'a>, ExpandFault>
-    ensures { Returns (seen_opening head.now) result (opening (seen_context context.now) head.now) }
+    ensures { Returns (seen_opening raw.now) result (opening (seen_context context.now) raw.now) }
 {
-    if head.spoiled {
-        return Err(at_line(head.number, ExpandKind::BadDirective));
+    if raw.spoiled {
+        return Err(at_line(raw.number, ExpandKind::BadDirective));
     }
-    let token = counter_token(context.source, head)?;
-    let counter = counter_name(context, token, head.number)?;
-    let count = count_of(context, head)?;
+    let token = counter_token(context.source, raw)?;
+    let counter = counter_name(context, token, raw.number)?;
+    let count = count_of(context, raw)?;
     Ok(Opening { counter, count })
 }
 
@@ -79,18 +79,18 @@ fn counter_fault(line: u64, label: &[Token]) -> ExpandFault
 }
 
 // Returns the counter, which is the last label before FOR.
-fn counter_token<'a>(source: &[u8], head: &'a Head) -> Result<Option<&'a Token>, ExpandFault>
-    ensures token { Returns (λ o. option_map (λ t. t.now) o) result (counter_of source.now head.now.number head.now.labels) }
+fn counter_token<'a>(source: &[u8], raw: &'a RawLine) -> Result<Option<&'a Token>, ExpandFault>
+    ensures token { Returns (λ o. option_map (λ t. t.now) o) result (counter_of source.now raw.now.number raw.now.labels) }
     ensures written { IfOk result (λ o. IfSome o (λ t. t.now.joined ≡ [])) }
 {
-    let labels = head.labels.as_slice();
+    let labels = raw.labels.as_slice();
     if labels.len() == 0 {
         return Ok(None);
     }
     let label = labels[labels.len() - 1].as_slice();
     match plain_token(source, label) {
         Some(token) => Ok(Some(token)),
-        None => Err(counter_fault(head.number, label)),
+        None => Err(counter_fault(raw.number, label)),
     }
 }
 
@@ -111,22 +111,22 @@ fn limited_count(value: i64) -> Option<u16>
 
 // Evaluates the count of a block, after replacing its EQU names.
 #[tactic(auto, unfolding(crate::specs::Unroll::Openings::count_of))]
-fn count_of(context: &Context, head: &Head) -> Result<u16, ExpandFault>
-    ensures { Returns (λ n. n) result (count_of (seen_context context.now) head.now.number head.now.rest) }
+fn count_of(context: &Context, raw: &RawLine) -> Result<u16, ExpandFault>
+    ensures { Returns (λ n. n) result (count_of (seen_context context.now) raw.now.number raw.now.rest) }
 {
     let front = Vec::new(context.alloc);
-    let tokens = replace_tokens(context, head.number, front, head.rest.as_slice())?;
+    let tokens = replace_tokens(context, raw.number, front, raw.rest.as_slice())?;
     match eval(context.source, tokens.as_slice(), context.names) {
         Ok(value) => match limited_count(value) {
             Some(count) => Ok(count),
-            None => Err(at_line(head.number, ExpandKind::CountRefused)),
+            None => Err(at_line(raw.number, ExpandKind::CountRefused)),
         },
-        Err(_) => Err(at_line(head.number, ExpandKind::CountRefused)),
+        Err(_) => Err(at_line(raw.number, ExpandKind::CountRefused)),
     }
 }
 
 // Refuses a ROF with something before or after it on its line.
-pub(crate) fn check_rof(rof: &Head) -> Result<(), ExpandFault>
+pub(crate) fn check_rof(rof: &RawLine) -> Result<(), ExpandFault>
     ensures { (u : UnrolledSoFarView) → Returns (λ i. u) result (rof_check rof.now u) }
 {
     if is_bare_rof(rof) {
@@ -136,7 +136,7 @@ pub(crate) fn check_rof(rof: &Head) -> Result<(), ExpandFault>
     }
 }
 
-fn is_bare_rof(rof: &Head) -> bool
+fn is_bare_rof(rof: &RawLine) -> bool
     ensures { result ≡ is_bare_rof rof.now }
 {
     !rof.spoiled && rof.labels.as_slice().is_empty() && rof.rest.as_slice().is_empty()

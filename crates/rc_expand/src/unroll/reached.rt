@@ -1,17 +1,17 @@
 //! Lines that the unrolling has reached: each is kept as a line of the text and the copies that it
 //! is in, and made when it is needed.
 ghost use Rattle.std.specs.Prelude.{◌≡◌, ◌++◌, ◌∷◌, [], IfOk, IfSome};
-ghost use Rattle.rc_expand.specs.Heads.Lines.{bare_line};
+ghost use Rattle.rc_expand.specs.Read.Lines.{bare_line};
 ghost use Rattle.rc_expand.specs.Unroll.Copies.{line_in, stays_joinable, is_short, is_short_line};
 ghost use Rattle.rc_expand.specs.Unroll.Openings.{earlier_of};
 ghost use Rattle.rc_expand.specs.Unroll.Reached.{copies_in, have_no_counter, reached_part};
 ghost use Rattle.std.specs.List.{list_all};
 
 use crate::context::Context;
-use crate::heads::head::Head;
 use crate::limits::MOST_JOINED;
 use crate::line::Tokens;
-use crate::unroll::copy::{clone_head, copy_line};
+use crate::read::raw_line::RawLine;
+use crate::unroll::copy::{clone_raw_line, copy_line};
 use crate::unroll::opening::earlier_labels;
 use rc_text::Token;
 use std::alloc::{AllocError, Global};
@@ -29,19 +29,19 @@ pub(crate) struct BlockCopy<'a> {
 #[derive(Drop)]
 pub(crate) struct Reached<'a> {
     source: &'a [u8],
-    head: &'a Head,
+    raw: &'a RawLine,
     copies: Vec<BlockCopy<'a>>,
     is_earlier: bool,
 }
 
 impl<'a> Model for Reached<'a> {
-    ghost use Rattle.rc_expand.specs.declared.heads.head.Head.{Head};
+    ghost use Rattle.rc_expand.specs.declared.read.raw_line.RawLine.{RawLine};
     ghost use Rattle.rc_expand.specs.Unroll.Copies.{line_in};
     ghost use Rattle.rc_expand.specs.Unroll.Reached.{copies_in, reached_part};
 
-    ghost Value = { Head };
+    ghost Value = { RawLine };
 
-    ghost view = { λ r. reached_part r.is_earlier (line_in r.source.now (copies_in r.copies.items) r.head.now) };
+    ghost view = { λ r. reached_part r.is_earlier (line_in r.source.now (copies_in r.copies.items) r.raw.now) };
 }
 
 // Makes a line as it is in `copies`, the outermost first. The first copy with a counter is made of
@@ -50,16 +50,16 @@ pub(crate) fn line_in(
     alloc: Global,
     source: &[u8],
     copies: &[BlockCopy],
-    head: &Head,
-) -> Result<Head, AllocError>
-    ensures { IfOk result (λ h. h ≡ line_in source.now (copies_in copies.now) head.now) }
+    raw: &RawLine,
+) -> Result<RawLine, AllocError>
+    ensures { IfOk result (λ h. h ≡ line_in source.now (copies_in copies.now) raw.now) }
 {
     match copies.split_first() {
-        None => clone_head(alloc, head),
+        None => clone_raw_line(alloc, raw),
         Some((copy, inner)) => match copy.counter {
-            None => line_in(alloc, source, inner, head),
+            None => line_in(alloc, source, inner, raw),
             Some(counter) => {
-                let made = copy_line(alloc, source, counter, copy.number, head)?;
+                let made = copy_line(alloc, source, counter, copy.number, raw)?;
                 copy_for_each(alloc, source, inner, made)
             }
         },
@@ -72,8 +72,8 @@ fn copy_for_each(
     alloc: Global,
     source: &[u8],
     copies: &[BlockCopy],
-    line: Head,
-) -> Result<Head, AllocError>
+    line: RawLine,
+) -> Result<RawLine, AllocError>
     ensures { IfOk result (λ h. h ≡ line_in source.now (copies_in copies.now) line) }
 {
     let mut made = line;
@@ -120,10 +120,10 @@ pub(crate) fn have_no_counter(copies: &[BlockCopy]) -> bool
 
 // Checks for a line that is too short for a ninth counter to be joined to a name of it, in however
 // many copies.
-pub(crate) fn is_short_line(head: &Head) -> bool
-    ensures { result ≡ is_short_line head.now }
+pub(crate) fn is_short_line(raw: &RawLine) -> bool
+    ensures { result ≡ is_short_line raw.now }
 {
-    are_short(head.labels.as_slice()) && is_short(head.rest.as_slice())
+    are_short(raw.labels.as_slice()) && is_short(raw.rest.as_slice())
 }
 
 fn are_short(labels: &[Tokens]) -> bool
@@ -155,15 +155,15 @@ impl<'a> Reached<'a> {
     pub(crate) fn new(
         context: &Context<'a>,
         copies: &[BlockCopy<'a>],
-        head: &'a Head,
+        raw: &'a RawLine,
         is_earlier: bool,
     ) -> Result<Reached<'a>, AllocError>
-        ensures { IfOk result (λ r. r ≡ reached_part is_earlier (line_in context.now.source.now (copies_in copies.now) head.now)) }
+        ensures { IfOk result (λ r. r ≡ reached_part is_earlier (line_in context.now.source.now (copies_in copies.now) raw.now)) }
     {
         let copies = clone_copies(context.alloc, copies)?;
         Ok(Reached {
             source: context.source,
-            head,
+            raw,
             copies,
             is_earlier,
         })
@@ -172,27 +172,27 @@ impl<'a> Reached<'a> {
     pub(crate) fn number(&self) -> u64
         ensures { result ≡ self.now.number }
     {
-        self.head.number
+        self.raw.number
     }
 
     // Returns the line if it is as the text has it: no copy that it is in has a counter, and it is
     // not of earlier labels alone.
     #[tactic(auto, using(crate::proofs::Unrolling::Reaching::uncounted))]
-    pub(crate) fn as_written(&self) -> Option<&'a Head>
+    pub(crate) fn as_written(&self) -> Option<&'a RawLine>
         ensures { IfSome result (λ h. h.now ≡ self.now) }
     {
         if !self.is_earlier && have_no_counter(&self.copies) {
-            Some(self.head)
+            Some(self.raw)
         } else {
             None
         }
     }
 
     // Makes the line as it is in its copies.
-    pub(crate) fn make(&self, alloc: Global) -> Result<Head, AllocError>
+    pub(crate) fn make(&self, alloc: Global) -> Result<RawLine, AllocError>
         ensures { IfOk result (λ h. h ≡ self.now) }
     {
-        let made = line_in(alloc, self.source, &self.copies, self.head)?;
+        let made = line_in(alloc, self.source, &self.copies, self.raw)?;
         if !self.is_earlier {
             return Ok(made);
         }
@@ -201,9 +201,9 @@ impl<'a> Reached<'a> {
 }
 
 // Makes the line of the labels before a counter.
-fn earlier_line(alloc: Global, head: &Head) -> Result<Head, AllocError>
-    ensures { IfOk result (λ h. h ≡ bare_line head.now.number (earlier_of head.now.labels)) }
+fn earlier_line(alloc: Global, raw: &RawLine) -> Result<RawLine, AllocError>
+    ensures { IfOk result (λ h. h ≡ bare_line raw.now.number (earlier_of raw.now.labels)) }
 {
-    let labels = earlier_labels(alloc, head.labels.as_slice())?;
-    Ok(Head::bare(alloc, head.number, labels))
+    let labels = earlier_labels(alloc, raw.labels.as_slice())?;
+    Ok(RawLine::bare(alloc, raw.number, labels))
 }

@@ -4,8 +4,8 @@ ghost use Rattle.rc_expand.specs.Results.{Returns};
 ghost use Rattle.rc_expand.specs.Unroll.{nothing_unrolled, with_line, with_copy};
 
 use crate::fault::{ExpandFault, ExpandKind, at_line};
-use crate::heads::blocks::BlockSlice;
 use crate::limits::MOST_LINES;
+use crate::read::blocks::BlockSlice;
 use crate::unroll::reached::Reached;
 use std::alloc::Global;
 use std::marker::Model;

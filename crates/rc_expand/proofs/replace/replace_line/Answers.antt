@@ -10,7 +10,7 @@ pub returns-in_ok-push-in_default : goal.returns-in_ok-push-in_default
 returns-in_ok-push-in_default c =
     let k = seen_context c.args.context.now in
     let s = k.source in
-    let h = c.args.head.now in
+    let h = c.args.raw.now in
     let own : c.as_slice-2.result.now ≡ own_labels s h.labels = c.as_slice-2.ensures ∙ (c.in_ok-labels.ensures.own ∙ ap (own_labels s) c.as_slice.ensures) in
     let old : LinesSoFarView = record { names = names_in c.out.inside.names; lines = c.out.inside.lines.items } in
     let names = ap (λ ts. with_names k h.number (map (name_of s) ts) old.names) (sym own) ∙ c.in_ok-define_names.ensures in

@@ -1,6 +1,6 @@
 use Rattle.std.proofs.Common.{sym, ◌∙◌, ap, subst, arith, length}
 use Rattle.rc_expand.specs.Results.{Returns}
-use Rattle.rc_expand.specs.Heads.Lines.{bare_line}
+use Rattle.rc_expand.specs.Read.Lines.{bare_line}
 use Rattle.rc_expand.specs.Unroll.{with_line}
 use Rattle.rc_expand.specs.Unroll.Copies.{line_in}
 use Rattle.rc_expand.specs.Unroll.Openings.{earlier_of}
@@ -11,7 +11,7 @@ use Rattle.rc_expand.proofs.unroll.append_earlier.Goals as goal
 pub returns : goal.returns
 returns c =
     let s = c.args.context.now.source.now in
-    let f = c.args.head.now in
+    let f = c.args.raw.now in
     let cs = copies_in c.args.copies.now in
     let u = c.args.out.now in
     let same = ap (λ n. with_line (bare_line n (earlier_of (line_in s cs f).labels)) u) (number_in s cs f)

@@ -1,6 +1,6 @@
 use Rattle.std.proofs.Common.{◌≡◌, sym, ◌∙◌, ap, subst}
 use Rattle.std.specs.Prelude.{not}
-use Rattle.rc_expand.specs.declared.heads.head.Head.{Head}
+use Rattle.rc_expand.specs.declared.read.raw_line.RawLine.{RawLine}
 use Rattle.rc_expand.specs.Results.{Returns}
 use Rattle.rc_expand.specs.Unroll.{word_check, line_check}
 use Rattle.rc_expand.specs.Unroll.Copies.{is_in_block, line_in}
@@ -13,11 +13,11 @@ use Rattle.rc_expand.proofs.unroll.check_copied_line.Goals.{then-have_no_counter
 pub returns-then-have_no_counter : goal.returns-then-have_no_counter
 returns-then-have_no_counter c =
     let s = c.args.context.now.source.now in
-    let h = c.args.head.now in
+    let h = c.args.raw.now in
     let cs = c.args.copies.now in
     let same : (line_in s (copies_in cs) h).spoiled ≡ h.spoiled =
     elim c.then-have_no_counter.branch [
-      | then-have_no_counter-via-then-have_no_counter w ↦ ap (λ (x : Head). x.spoiled) (uncounted s cs h (sym w.if-have_no_counter.ensures))
+      | then-have_no_counter-via-then-have_no_counter w ↦ ap (λ (x : RawLine). x.spoiled) (uncounted s cs h (sym w.if-have_no_counter.ensures))
       | then-have_no_counter-via-else-have_no_counter+then-is_short_line w ↦ short_in s (copies_in cs) h (sym w.if-is_short_line.ensures)
     ]
     in

@@ -1,6 +1,6 @@
 use Rattle.std.proofs.Common.{◌≡◌, ◌∙◌, ap}
 use Rattle.std.specs.Prelude.{Some}
-use Rattle.rc_expand.specs.Heads.Lines.{label_token}
+use Rattle.rc_expand.specs.Read.Lines.{label_token}
 use Rattle.rc_expand.proofs.Replacing.LineSteps.{own_more, other_more}
 use Rattle.rc_expand.proofs.replace.finish.split_labels.Goals as goal
 

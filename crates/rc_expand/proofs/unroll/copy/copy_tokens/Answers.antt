@@ -1,7 +1,7 @@
 use Rattle.std.proofs.Common.{◌≡◌, sym, ◌∙◌, ap, ◌+◌, ◌++◌, ◌∷◌, drop, List, ℕ, Option, get_or}
 use Rattle.std.specs.Prelude.{option_map, option_and_then}
 use Rattle.rc_text.specs.declared.token.Token.{Token}
-use Rattle.rc_expand.specs.Heads.Lines.{is_name_token}
+use Rattle.rc_expand.specs.Read.Lines.{is_name_token}
 use Rattle.rc_expand.specs.Unroll.Copies.{copied_tokens}
 use Rattle.rc_expand.proofs.Each.{more}
 use Rattle.rc_expand.proofs.Unrolling.Copies.{kept_at, same_read}
